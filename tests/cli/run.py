@@ -1,0 +1,151 @@
+#!/usr/bin/env python3
+"""Black-box cases on the built program.
+
+Each folder below cases/ is one run of `ti`, in a folder of its own:
+
+    args      the words after `ti`, one a line
+    env       NAME=VALUE a line; beside these only PATH is set
+    stdin     what standard input holds (none: nothing)
+    data/     the files that lie in the folder that it runs in
+    needs     programs that the case wants, one a line; where one is not
+              installed the case is skipped, and said to be
+    stdout    what standard output must hold (none: nothing)
+    stdout-begins, stderr-begins
+              where a text is not held to the letter (usage and help), how it
+              begins; it must also fit in 80 columns
+    stderr    what standard error must hold (none: nothing)
+    status    the exit status that is wanted (none: 0)
+    files/    the files that must lie there afterwards beside data/, each with
+              its bytes in hexadecimal (white space apart) as PATH.hex; no
+              other file may
+    then      a command, run by sh in that folder afterwards with `ti` on PATH;
+              its standard output must be that of the file then-stdout, and its
+              status 0
+
+With names of cases as arguments only those are run. The last line is
+`cli: N passed, M failed`.
+"""
+
+import os
+import shutil
+import subprocess
+import sys
+import tempfile
+
+HERE = os.path.dirname(os.path.abspath(__file__))
+TOP = os.path.dirname(os.path.dirname(HERE))
+PROGRAM = os.path.join(TOP, "crates", "ti", "out", "ti")
+SECONDS = 120
+
+
+def bytes_of(path, default=b""):
+    try:
+        with open(path, "rb") as file:
+            return file.read()
+    except FileNotFoundError:
+        return default
+
+
+def tree(folder):
+    """The files below a folder, by their path in it."""
+    found = {}
+    for at, _, names in os.walk(folder):
+        for name in names:
+            path = os.path.join(at, name)
+            found[os.path.relpath(path, folder)] = bytes_of(path)
+    return found
+
+
+def lines_of(path):
+    return [it for it in bytes_of(path).decode().split("\n") if it]
+
+
+def text_fault(what, got, case):
+    """What is wrong with the text that came on standard output or error, or None."""
+    begins = os.path.join(case, what + "-begins")
+    if os.path.isfile(begins):
+        wanted = bytes_of(begins).rstrip(b"\n")
+        if not got.startswith(wanted):
+            return f"{what} begins {got[:200]!r}, wanted {wanted!r}"
+        if any(len(it) > 80 for it in got.decode(errors="replace").split("\n")):
+            return f"{what} has a line over 80 columns"
+        return None
+    wanted = bytes_of(os.path.join(case, what))
+    return None if got == wanted else f"{what} is {got[:400]!r}, wanted {wanted[:400]!r}"
+
+
+def run(case):
+    """The faults of one case."""
+    part = lambda name: os.path.join(case, name)
+    with tempfile.TemporaryDirectory(prefix="ti-cli-") as room:
+        folder, tools = os.path.join(room, "here"), os.path.join(room, "bin")
+        if os.path.isdir(part("data")):
+            shutil.copytree(part("data"), folder)
+        else:
+            os.mkdir(folder)
+        os.mkdir(tools)
+        os.symlink(PROGRAM, os.path.join(tools, "ti"))
+        path = tools + ":/usr/local/bin:/usr/bin:/bin"
+        env = {"PATH": path, **dict(it.split("=", 1) for it in lines_of(part("env")))}
+        words = bytes_of(part("args")).decode().split("\n")
+        if words and words[-1] == "":
+            words.pop()
+        done = subprocess.run(
+            [os.path.join(tools, "ti"), *words], input=bytes_of(part("stdin")), cwd=folder, env=env,
+            stdout=subprocess.PIPE, stderr=subprocess.PIPE, timeout=SECONDS,
+        )
+        faults = [text_fault("stdout", done.stdout, case), text_fault("stderr", done.stderr, case)]
+        status = int(bytes_of(part("status"), b"0"))
+        if done.returncode != status:
+            faults.append(f"status is {done.returncode}, wanted {status}")
+        wanted = {**(tree(part("data")) if os.path.isdir(part("data")) else {})}
+        for name, text in tree(part("files")).items():
+            if not name.endswith(".hex"):
+                faults.append(f"files/{name} does not end in .hex")
+                continue
+            wanted[name[: -len(".hex")]] = bytes.fromhex("".join(text.decode().split()))
+        got = tree(folder)
+        for name in sorted({*wanted, *got}):
+            if wanted.get(name) != got.get(name):
+                say = lambda it: "not there" if it is None else it[:64].hex(" ") + f" ({len(it)} bytes)"
+                faults.append(f"file {name}: {say(got.get(name))}, wanted {say(wanted.get(name))}")
+        if os.path.isfile(part("then")):
+            after = subprocess.run(
+                ["sh", "-c", bytes_of(part("then")).decode()], cwd=folder, env=env, stdin=subprocess.DEVNULL,
+                stdout=subprocess.PIPE, stderr=subprocess.STDOUT, timeout=SECONDS,
+            )
+            if after.returncode != 0 or after.stdout != bytes_of(part("then-stdout")):
+                faults.append(f"then: status {after.returncode}, output {after.stdout[:800].decode(errors='replace')}")
+    return [it for it in faults if it]
+
+
+def main():
+    if not os.access(PROGRAM, os.X_OK):
+        print(f"{PROGRAM} is not there: run `make` first")
+        print("cli: 0 passed, 1 failed")
+        return 1
+    cases = os.path.join(HERE, "cases")
+    passed = failed = 0
+    for name in sys.argv[1:] or sorted(os.listdir(cases)):
+        case = os.path.join(cases, name)
+        lacking = [it for it in lines_of(os.path.join(case, "needs")) if not shutil.which(it)]
+        if lacking:
+            print(f"{name}: skipped, since {lacking[0]} is not installed")
+            continue
+        try:
+            faults = run(case)
+        except (subprocess.TimeoutExpired, OSError, ValueError) as fault:
+            faults = [str(fault)]
+        if faults:
+            failed += 1
+            print(f"{name}: FAILED")
+            for it in faults:
+                print(f"    {it}")
+        else:
+            passed += 1
+    print(f"cli: {passed} passed, {failed} failed")
+    return 1 if failed else 0
+
+
+if __name__ == "__main__":
+    sys.exit(main())
