@@ -1,0 +1,3 @@
+pub mod WhiteSpace
+pub mod Lines
+pub mod Blocks

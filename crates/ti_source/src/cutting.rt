@@ -1,0 +1,91 @@
+//! Cutting a source into blocks, and the laws of the cut.
+ghost use Rattle.std.specs.Prelude.{◌≡◌, ◌≤◌, ◌↔◌, IsTrue, length};
+ghost use Rattle.ti_source.specs.Blocks as spec;
+
+use crate::heads::{begins_with_head, ends_with_newline, next_head, preface_len};
+use crate::walk::Blocks;
+
+/// The preface and the blocks of `source`, as parts of it: a block is a line that is not empty and begins with neither
+/// white space nor `#`, with the lines after it up to the next such line (X/Open Curses Issue 7, "Terminfo Source Format").
+/// A last line without a newline belongs to the last block as it stands.
+pub fn blocks(source: &[u8]) -> Blocks<'_>
+    ensures cut { spec.Cut source.now result.preface result.blocks }
+    ensures preface { result.preface ≡ spec.front_of 10 source.now }
+    ensures blocks { result.blocks ≡ spec.blocks_of 10 source.now }
+    ensures len { length result.blocks ≤ length source.now }
+{
+    let (preface, rest) = source.split_at(preface_len(source));
+    Blocks::new(preface, rest)
+}
+
+/// Whether `text` is one block, with nothing before it, and ends with a newline.
+pub fn is_block(text: &[u8]) -> bool
+    ensures { IsTrue result ↔ spec.OneBlock text.now }
+{
+    begins_with_head(text) && ends_with_newline(text) && next_head(text) == text.len()
+}
+
+/// Each source has a cut.
+pub fn each_has_cut()
+    ensures { spec.EachHasCut }
+{}
+
+/// A source has one cut alone.
+pub fn one_cut()
+    ensures { spec.OneCut }
+{}
+
+/// Each block of a source that ends with a newline is one block by itself.
+pub fn blocks_are_single()
+    ensures { spec.BlocksAreSingle }
+{}
+
+/// Each block of a source is one block by itself, once a newline ends its last line.
+pub fn blocks_are_single_once_ended()
+    ensures { spec.BlocksAreSingleOnceEnded }
+{}
+
+#[cfg(test)]
+mod tests {
+    use super::*;
+
+    #[test]
+    fn cuts_a_source(rt: HostRuntime) {
+        let source =
+            b"# a comment\n\n\tindented\nfirst|one,\n\tam,\n# between\n\n \nsecond,\n\r\n\0,\nlast, it#8";
+        let mut cut = blocks(source);
+        assert_eq!(rt; cut.preface(), b"# a comment\n\n\tindented\n".as_slice());
+        for block in [
+            b"first|one,\n\tam,\n# between\n\n \n".as_slice(),
+            b"second,\n".as_slice(),
+            b"\r\n".as_slice(),
+            b"\0,\n".as_slice(),
+            b"last, it#8".as_slice(),
+        ] {
+            assert_eq!(rt; cut.next(), Some(block));
+        }
+        assert_eq!(rt; cut.next(), None);
+        assert_eq!(rt; cut.preface().len(), 23);
+    }
+
+    #[test]
+    fn tells_blocks(rt: HostRuntime) {
+        for text in [
+            b"x,\n".as_slice(),
+            b"a|b,\n\tam,\n# end\n".as_slice(),
+            b"\r\n".as_slice(),
+        ] {
+            assert!(rt; is_block(text));
+        }
+        for text in [
+            b"".as_slice(),
+            b"# only\n".as_slice(),
+            b"a,\nb,\n".as_slice(),
+            b"x,".as_slice(),
+            b"\nx,\n".as_slice(),
+            b" x,\n".as_slice(),
+        ] {
+            assert!(rt; !is_block(text));
+        }
+    }
+}

@@ -1,0 +1,17 @@
+//! The terminfo source format, as terminfo(5) and X/Open Curses Issue 7 ("Terminfo Source Format") describe it: what a
+//! source says, with no files and no memory of what was read before.
+//!
+//! - `cutting` and `walk`: a source as a preface and blocks, one for each entry; `heads` finds where they begin.
+//! - `lines`: the law of counting lines.
+#![tactic(auto)]
+
+mod cutting;
+mod heads;
+mod lines;
+mod walk;
+
+pub use cutting::{
+    blocks, blocks_are_single, blocks_are_single_once_ended, each_has_cut, is_block, one_cut,
+};
+pub use lines::lines_add;
+pub use walk::Blocks;
