@@ -1,0 +1,28 @@
+-- The jobs of the program, as plain data, and why words ask for none.
+use Rattle.std.specs.Prelude.{◌≡◌, ◌⊎◌, [], None, Option, option_map}
+use Rattle.std.specs.String.{string_bytes}
+use Rattle.clap.specs.Kinds.{IsAmong, Kinds}
+use Rattle.clap.specs.declared.error.kind.ErrorKind.{ErrorKind}
+use Rattle.clap.specs.declared.error.kind.ErrorKind.TheVariants as kind
+use Rattle.ti_tools.specs.Arguments.{Task, task_tic}
+use Rattle.ti_tools.specs.declared.arguments.UsageError.{UsageError}
+use Rattle.ti_tools.specs.declared.arguments.UsageError.TheVariants as usage
+use Rattle.ti_tools.specs.declared.jobs.Job.{Job}
+use Rattle.ti_tools.specs.declared.jobs.Job.TheVariants.{Tic}
+
+abbrev pub task_of : Job → Task
+task_of (Tic check dir file) =
+    task_tic check (option_map string_bytes dir) (option_map string_bytes file)
+
+-- what a fault that clap finds is to the program
+abbrev pub refusal_of : ErrorKind → UsageError
+refusal_of kind.DisplayHelp = usage.Help
+refusal_of kind.OutOfMemory = usage.Memory
+refusal_of _ = usage.Usage
+
+-- why words are refused in which clap's definition finds these faults, and which ask for this job:
+-- by one of the faults, or as no job
+abbrev pub IsRefusal : Kinds → Option Task → UsageError → Type 0
+IsRefusal faults job e =
+    (e ≡ usage.Memory) ⊎ ((k : ErrorKind) × IsAmong k faults × (e ≡ refusal_of k))
+    ⊎ ((faults ≡ []) × (job ≡ None) × (e ≡ usage.Usage))

@@ -1,0 +1,11 @@
+-- The files that a tool made, as paths and bytes.
+use Rattle.std.specs.Prelude.{List, map}
+use Rattle.std.specs.String.{string_bytes}
+use Rattle.ti_tools.specs.Tree.{Entry}
+use Rattle.ti_tools.specs.declared.placing.File.{File}
+
+abbrev pub entry_of : File → Entry
+entry_of file = (string_bytes file.path, file.bytes.items)
+
+abbrev pub entries : List File → List Entry
+entries files = map entry_of files

@@ -1,0 +1,49 @@
+-- Trees of files. Where it is known what a tree holds, it is a map from paths to bytes; of a real
+-- disk that is not known, so what a tree holds is an option of such a map. (own)
+use Rattle.std.specs.Prelude.{◌≡◌, ◌≢◌, ℕ, List, [], ◌∷◌, Option, Some, None, take, drop, option_map}
+use Rattle.std.specs.Map.{update}
+use Rattle.std.specs.Str.{bytes_eq}
+
+-- the bytes of the file at each path, and none where there is no such file
+abbrev pub Files : Type 0
+Files = List ℕ → Option (List ℕ)
+
+-- a path and the bytes that stand at it
+abbrev pub Entry : Type 0
+Entry = List ℕ × List ℕ
+
+-- the files with these bytes at this path
+abbrev pub put : Files → List ℕ → List ℕ → Files
+put files path bytes = update bytes_eq files path (Some bytes)
+
+-- no file
+abbrev pub IsBare : Files → Type 0
+IsBare files = (path : List ℕ) → files path ≡ None
+
+-- the bytes of the entry stand at its path afterwards, and each other path holds what it held
+abbrev pub Sets : Entry → Option Files → Option Files → Type 0
+Sets entry None new = Unit {0}
+Sets entry (Some old) None = ⊥
+Sets entry (Some old) (Some new) = (path : List ℕ) → new path ≡ put old entry.0 entry.1 path
+
+-- every path but this one holds what it held
+abbrev pub ChangesOnly : List ℕ → Option Files → Option Files → Type 0
+ChangesOnly at None new = Unit {0}
+ChangesOnly at (Some old) None = ⊥
+ChangesOnly at (Some old) (Some new) = (path : List ℕ) → path ≢ at → new path ≡ old path
+
+-- what was found at the path: its first `count` bytes, or none where there is no such file
+abbrev pub Reads : List ℕ → ℕ → Option Files → Option (List ℕ) → Type 0
+Reads path count None found = Unit {0}
+Reads path count (Some files) found = found ≡ option_map (take count) (files path)
+
+-- each entry was written, one after the other
+abbrev pub Writes : List Entry → Option Files → Option Files → Type 0
+Writes [] old new = new ≡ old
+Writes (entry ∷ entries) old new = (mid : Option Files) × Sets entry old mid × Writes entries mid new
+
+-- the first `count` entries were written, and of the rest at most the path of the next one changed
+abbrev pub WritesUpTo : ℕ → List Entry → Option Files → Option Files → Type 0
+WritesUpTo count entries old new = (mid : Option Files) × (next : Entry) × (rest : List Entry)
+    × (drop count entries ≡ next ∷ rest) × Writes (take count entries) old mid
+    × ChangesOnly next.0 mid new

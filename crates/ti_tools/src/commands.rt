@@ -1,0 +1,86 @@
+//! The command lines of the program, for clap: each tool with its options, their help and one
+//! example.
+ghost use Rattle.std.specs.Prelude.{◌≡◌, IfOk, false};
+ghost use Rattle.clap.specs.Words.{app_of, rule_of};
+ghost use Rattle.clap.specs.declared.builder.Command.TheViews.{out-Command as fields_of};
+ghost use Rattle.ti_tools.specs.Commands.{flag_rule, operand_rule, option_rule, ti_app, tic_app};
+
+use clap::{Arg, ArgAction, Command};
+use std::alloc::{AllocError, Global};
+
+// An option that is on or off.
+fn flag<'a>(alloc: Global, id: &'a str, short: char, help: &'a str) -> Arg<'a>
+    ensures rule { rule_of result ≡ flag_rule id.entry.now short }
+    ensures local { result.global ≡ false }
+{
+    Arg::new(alloc, id)
+        .short(short)
+        .action(ArgAction::SetTrue)
+        .help(help)
+}
+
+// An option with one value.
+fn option<'a>(alloc: Global, id: &'a str, short: char, value: &'a str, help: &'a str) -> Arg<'a>
+    ensures rule { rule_of result ≡ option_rule id.entry.now short }
+    ensures local { result.global ≡ false }
+{
+    Arg::new(alloc, id)
+        .short(short)
+        .action(ArgAction::Set)
+        .value_name(value)
+        .help(help)
+}
+
+// A word of its own.
+fn operand<'a>(alloc: Global, id: &'a str, value: &'a str, help: &'a str) -> Arg<'a>
+    ensures rule { rule_of result ≡ operand_rule id.entry.now }
+    ensures local { result.global ≡ false }
+{
+    Arg::new(alloc, id)
+        .action(ArgAction::Set)
+        .value_name(value)
+        .help(help)
+}
+
+// `tic [-c] [-o DIR] [FILE]`.
+fn tic<'a>(alloc: Global) -> Result<Command<'a>, AllocError>
+    ensures app { IfOk result (λ command. app_of command ≡ tic_app) }
+    ensures local { IfOk result (λ command. (fields_of command).has_globals ≡ false) }
+{
+    let check = flag(alloc, "check", 'c', "Check only: report, and write no file");
+    let dir = option(
+        alloc,
+        "dir",
+        'o',
+        "DIR",
+        "Write below DIR [default: $TERMINFO, else /usr/share/terminfo]",
+    );
+    let file = operand(
+        alloc,
+        "file",
+        "FILE",
+        "The source [default: standard input]",
+    );
+    Command::new(alloc, "tic")
+        .about("Compile terminfo source into entries, one file for each name.")
+        .after_help("Example:\n  ti tic -o ~/.terminfo dumb.ti")
+        .arg(check)?
+        .arg(dir)?
+        .arg(file)
+}
+
+/// The program's command line, with a subcommand for each tool.
+///
+/// # Errors
+/// Want of memory.
+#[tactic(auto, unfolding(crate::specs::Commands::ti_app))]
+pub fn command<'a>(alloc: Global) -> Result<Command<'a>, AllocError>
+    ensures app { IfOk result (λ command. app_of command ≡ ti_app) }
+    ensures local { IfOk result (λ command. (fields_of command).has_globals ≡ false) }
+{
+    Command::new(alloc, "ti")
+        .about("Tools for terminfo, the database of terminals.")
+        .after_help("Example:\n  ti tic -o ~/.terminfo dumb.ti")
+        .subcommand_required(true)
+        .subcommand(tic(alloc)?)
+}

@@ -1,0 +1,132 @@
+//! Worked command lines and trees, with answers from the manuals and by hand.
+use crate::{File, Job, MemTree, Tree, UsageError, job, place};
+use std::alloc::{AllocError, Global};
+use std::test::Fail;
+
+fn words(alloc: Global, texts: &[&str]) -> Result<Vec<String>, AllocError> {
+    let mut words = Vec::new(alloc);
+    for text in texts {
+        words.push(String::from_str(alloc, text)?)?;
+    }
+    Ok(words)
+}
+
+fn some(alloc: Global, text: &str) -> Result<Option<String>, AllocError> {
+    Ok(Some(String::from_str(alloc, text)?))
+}
+
+fn file(alloc: Global, path: &str, bytes: &[u8]) -> Result<File, AllocError> {
+    Ok(File {
+        path: String::from_str(alloc, path)?,
+        bytes: Vec::from_slice(alloc, bytes)?,
+    })
+}
+
+#[test]
+fn a_check_of_a_file(rt: HostRuntime) -> Result<(), Fail> {
+    let alloc = rt.alloc();
+    let words = words(alloc, &["ti", "tic", "-c", "f.ti"])?;
+    let expected = Job::Tic {
+        check: true,
+        dir: None,
+        file: some(alloc, "f.ti")?,
+    };
+    assert!(rt; job(alloc, words.as_slice())? == expected);
+    Ok(())
+}
+
+#[test]
+fn an_empty_folder_is_taken_as_it_is(rt: HostRuntime) -> Result<(), Fail> {
+    let alloc = rt.alloc();
+    let words = words(alloc, &["ti", "tic", "-o", ""])?;
+    let expected = Job::Tic {
+        check: false,
+        dir: some(alloc, "")?,
+        file: None,
+    };
+    assert!(rt; job(alloc, words.as_slice())? == expected);
+    Ok(())
+}
+
+#[test]
+fn words_that_ask_for_no_job(rt: HostRuntime) -> Result<(), Fail> {
+    let alloc = rt.alloc();
+    let usage = words(alloc, &["ti", "tic", "-x"])?;
+    assert!(rt; job(alloc, usage.as_slice()) == Err(UsageError::Usage));
+    let bare = words(alloc, &["ti"])?;
+    assert!(rt; job(alloc, bare.as_slice()) == Err(UsageError::Usage));
+    let unknown = words(alloc, &["ti", "toc"])?;
+    assert!(rt; job(alloc, unknown.as_slice()) == Err(UsageError::Usage));
+    let help = words(alloc, &["ti", "tic", "--help"])?;
+    assert!(rt; job(alloc, help.as_slice()) == Err(UsageError::Help));
+    Ok(())
+}
+
+#[test]
+fn help_reads_well_at_80_columns(rt: HostRuntime) -> Result<(), Fail> {
+    let alloc = rt.alloc();
+    for tool in ["tic"] {
+        let words = words(alloc, &["ti", tool, "--help"])?;
+        let Err(error) = crate::commands::command(alloc)?.try_get_matches_from(words.as_slice())
+        else {
+            return Err(Fail::from("no help"));
+        };
+        let text = format!(in alloc; "{error}")?;
+        for line in text.as_str().lines() {
+            assert!(rt; line.len() <= 80, "{line}");
+        }
+        assert!(rt; text.as_str().contains("Example:\n  ti "), "{text}");
+    }
+    Ok(())
+}
+
+#[test]
+fn the_help_of_tic(rt: HostRuntime) -> Result<(), Fail> {
+    let alloc = rt.alloc();
+    let words = words(alloc, &["ti", "tic", "--help"])?;
+    let Err(error) = crate::commands::command(alloc)?.try_get_matches_from(words.as_slice()) else {
+        return Err(Fail::from("no help"));
+    };
+    let text = format!(in alloc; "{error}")?;
+    let expected = "Compile terminfo source into entries, one file for each name.
+
+Usage: ti tic [OPTIONS] [FILE]
+
+Arguments:
+  [FILE]  The source [default: standard input]
+
+Options:
+  -c          Check only: report, and write no file
+  -o <DIR>    Write below DIR [default: $TERMINFO, else /usr/share/terminfo]
+  -h, --help  Print help
+
+Example:
+  ti tic -o ~/.terminfo dumb.ti
+";
+    assert!(rt; text.as_str() == expected, "{text}");
+    Ok(())
+}
+
+#[test]
+fn placed_files_are_found(rt: HostRuntime) -> Result<(), Fail> {
+    let alloc = rt.alloc();
+    let mut tree = MemTree::new(alloc);
+    let mut files = Vec::new(alloc);
+    files.push(file(alloc, "out/a/a", b"first")?)?;
+    files.push(file(alloc, "out/b/b", b"")?)?;
+    files.push(file(alloc, "out/a/a", b"again")?)?;
+    let placed = place(&mut tree, files.as_slice());
+    assert!(rt; placed == Ok(()));
+    assert!(rt; tree.file("out/a/a") == Some(b"again".as_slice()));
+    assert!(rt; tree.file("out/b/b") == Some(b"".as_slice()));
+    assert!(rt; tree.file("out/b").is_none());
+    let front = tree.read(alloc, "out/a/a", 3)?;
+    let front = front.expect(&rt, "a file");
+    assert!(rt; front.as_slice() == b"agai".as_slice());
+    let whole = tree.read(alloc, "out/a/a", 5)?;
+    let whole = whole.expect(&rt, "a file");
+    assert!(rt; whole.as_slice() == b"again".as_slice());
+    let none = tree.read(alloc, "out/b", 5)?;
+    assert!(rt; none.is_none());
+    Ok(())
+}
