@@ -1,0 +1,85 @@
+-- What a binary search finds in rows whose names are in order.
+use Rattle.std.proofs.Common.{◌≡◌, ◌≢◌, ℕ, zero, suc, ◌+◌, ◌<◌, ◌≤◌, Bool, true, ◌&&◌, inl, inr, List, [], ◌∷◌, map, length, get_or, Err, Bor, refl, ◌∙◌, ap, subst, arith}
+use Rattle.std.specs.Ordering.{nat_cmp, ordering_index, is_lt, is_eq}
+use Rattle.std.specs.declared.cmp.Ordering.TheVariants.{Less, Equal, Greater}
+use Rattle.std.specs.Cmp.Lexicographic.{slice_cmp, texts_ties}
+use Rattle.std.specs.List.Sorted.{IsBinarySearchResult, IsNonDecreasingBy}
+use Rattle.std.proofs.lemmas.Bool.{and_parts, cases_lt}
+use Rattle.std.proofs.lemmas.Cmp.{nat_list_cmp_total, tied_itself}
+use Rattle.std.proofs.lemmas.List.{get_or-map, length-map}
+use Rattle.std.proofs.lemmas.List.Elements.{All-map}
+use Rattle.std.proofs.lemmas.List.Sorted.{searchable_from_sorted}
+use Rattle.std.proofs.lemmas.Map.Keys.{Less-from_sorted, sorted_from_all_adjacent}
+use Rattle.std.proofs.lemmas.Slice.Eq.{bytes_eq-Decides}
+use native.Mathlib.Numerals.{unary_clauses}
+use Rattle.ti_caps.specs.declared.capability.Kind.{Kind}
+use Rattle.ti_caps.specs.ByName.{Row, rows_of, IsInNameOrder, IsRowOf, HasNoRow}
+
+-- texts that compare as equal are equal, and no text is below itself
+pub text_from_equal : (x y : List ℕ) → slice_cmp nat_cmp x y ≡ Equal → x ≡ y
+text_from_equal x y e = (bytes_eq-Decides x y).0 (texts_ties x y ∙ ap is_eq e)
+
+pub unequal_from_less : (x y : List ℕ) → slice_cmp nat_cmp x y ≡ Less → x ≢ y
+unequal_from_less x y e same = let tied = tied_itself nat_list_cmp_total y in let low : slice_cmp nat_cmp y y ≡ Less = subst (λ t. slice_cmp nat_cmp t y ≡ Less) same e in cc
+
+pub unequal_from_greater : (x y : List ℕ) → slice_cmp nat_cmp x y ≡ Greater → x ≢ y
+unequal_from_greater x y e same = let tied = tied_itself nat_list_cmp_total y in let high : slice_cmp nat_cmp y y ≡ Greater = subst (λ t. slice_cmp nat_cmp t y ≡ Greater) same e in cc
+
+-- names that rise from one to the next are in order
+abbrev pub rising_from : List ℕ → List (List ℕ) → Bool
+rising_from x [] = true
+rising_from x (y ∷ ys) = is_lt (slice_cmp nat_cmp x y) && rising_from y ys
+
+less_from_test : (x y : List ℕ) → is_lt (slice_cmp nat_cmp x y) ≡ true → slice_cmp nat_cmp x y ≡ Less
+less_from_test x y e = elim (slice_cmp nat_cmp x y) as (λ o. is_lt o ≡ true → o ≡ Less) [ Less ↦ λ _. refl | Equal ↦ λ h. cc | Greater ↦ λ h. cc ] e
+
+adjacent_from_rising : (x : List ℕ) (xs : List (List ℕ)) → rising_from x xs ≡ true → (k : ℕ) → k + 1 < length (x ∷ xs) → slice_cmp nat_cmp (get_or (x ∷ xs) k []) (get_or (x ∷ xs) (k + 1) []) ≡ Less
+adjacent_from_rising x [] h k l = absurd (omega arith)
+adjacent_from_rising x (y ∷ ys) h zero l = less_from_test x y (and_parts _ _ h).0
+adjacent_from_rising x (y ∷ ys) h (suc k) l = simp unary_clauses (simp unary_clauses at (adjacent_from_rising y ys (and_parts _ _ h).1 k (omega arith)))
+
+pub order_from_rising : (r : Row) (rs : List Row) → rising_from r.0 (map (λ q. q.0) rs) ≡ true → IsInNameOrder (r ∷ rs)
+order_from_rising r rs h = record { sorted = sorted_from_all_adjacent nat_list_cmp_total (map (λ q. q.0) (r ∷ rs)) [] (adjacent_from_rising r.0 (map (λ q. q.0) rs) h) }
+
+-- in rows that are in order, a name stands in one place
+pub names_apart : (rows : List Row) → IsInNameOrder rows → (i j : ℕ) (d : Row) → i < j → j < length rows → (get_or rows i d).0 ≢ (get_or rows j d).0
+names_apart rows order i j d l within =
+    let name = λ (r : Row). r.0 in
+    let low : i < length rows = omega arith in
+    unequal_from_less _ _ (rw (← get_or-map name rows i d d.0 low, ← get_or-map name rows j d d.0 within)
+    (Less-from_sorted _ (map name rows) i j d.0 order.sorted l (rw length-map within)))
+
+module _ (rs : List (Bor (List ℕ) × Kind × ℕ)) (order : IsInNameOrder (rows_of rs)) (x : List ℕ) where
+  rises : (k : ℕ) (d : Bor (List ℕ) × Kind × ℕ) → k + 1 < length rs → slice_cmp nat_cmp (get_or rs k d).0.now (get_or rs (k + 1) d).0.now ≡ Less
+  rises k d within =
+      let plain : Bor (List ℕ) × Kind × ℕ → Row = λ r. (r.0.now, r.1, r.2) in
+      let name = λ (r : Row). r.0 in
+      let here : k < length rs = omega arith in
+      let near : k < length (map plain rs) = rw length-map here in
+      let far : k + 1 < length (map plain rs) = rw length-map within in
+      let at_k : get_or (map name (map plain rs)) k [] ≡ (get_or rs k d).0.now = get_or-map name (map plain rs) k (plain d) [] near ∙ ap name (get_or-map plain rs k d (plain d) here) in
+      let at_next : get_or (map name (map plain rs)) (k + 1) [] ≡ (get_or rs (k + 1) d).0.now = get_or-map name (map plain rs) (k + 1) (plain d) [] far ∙ ap name (get_or-map plain rs (k + 1) d (plain d) within) in
+      let less = Less-from_sorted (slice_cmp nat_cmp) (map name (map plain rs)) k (k + 1) [] order.sorted (omega arith) (rw length-map far) in
+      cc
+
+  -- the comparisons with a name rise along the rows, as a binary search asks
+  comparisons_rise : IsNonDecreasingBy (λ r. ordering_index (slice_cmp nat_cmp r.0.now x)) rs
+  comparisons_rise = searchable_from_sorted nat_list_cmp_total (λ r. r.0.now) rs x (λ k d low within.
+      let name = λ (r : Bor (List ℕ) × Kind × ℕ). r.0.now in
+      let here : k < length rs = omega arith in
+      let below : slice_cmp nat_cmp (name (get_or rs k d)) (name (get_or rs (k + 1) d)) ≡ Less = rises k d within in
+      rw (nat_list_cmp_total.antisymm (name (get_or rs (k + 1) d)) (name (get_or rs k d)), below))
+
+  -- a binary search ends at the row of the name, or shows that there is none
+  pub found_row : (i : ℕ) (d : Bor (List ℕ) × Kind × ℕ) → i < length rs → slice_cmp nat_cmp (get_or rs i d).0.now x ≡ Equal → IsRowOf (rows_of rs) x (get_or rs i d).1 (get_or rs i d).2
+  found_row i d within equal =
+      let kind = (get_or rs i d).1 in
+      let index = (get_or rs i d).2 in
+      let same = text_from_equal _ _ equal in
+      (i, rw length-map within, get_or-map (λ r. (r.0.now, r.1, r.2)) rs i d (x, kind, index) within ∙ ap (λ n. (n, kind, index)) same)
+
+  pub no_row : (i : ℕ) → i ≤ length rs → IsBinarySearchResult (λ r. slice_cmp nat_cmp r.0.now x) rs (Err i) → HasNoRow (rows_of rs) x
+  no_row i within parted =
+      let parts = parted comparisons_rise in
+      All-map (λ r. r.0 ≢ x) (λ r. (r.0.now, r.1, r.2)) rs (λ k d l.
+      elim (cases_lt k i) [ inl below ↦ unequal_from_less _ _ (parts.0 k d (omega arith) below) | inr above ↦ unequal_from_greater _ _ (parts.1 k d above l) ])

@@ -1,0 +1,36 @@
+-- The table of all capabilities in the order of the bytes of their names, which a look-up searches.
+use Rattle.std.specs.Prelude.{◌≢◌, ℕ, List, map, All, Contains}
+use Rattle.std.specs.Ordering.{nat_cmp}
+use Rattle.std.specs.Cmp.Lexicographic.{slice_cmp}
+use Rattle.std.specs.List.Sorted.{IsStrictlySortedBy}
+use Rattle.std.specs.Borrow.{Bor}
+use Rattle.ti_caps.specs.declared.capability.Kind.{Kind}
+use Rattle.ti_caps.specs.declared.tables.TheConstants.{BY_NAME}
+
+-- the texts of a slice of texts
+abbrev pub texts_of : List (Bor (List ℕ)) → List (List ℕ)
+texts_of ts = map (λ t. t.now) ts
+
+-- own: a row has a name, the kind and the index
+abbrev pub Row : Type 0
+Row = List ℕ × Kind × ℕ
+
+-- the rows of a slice of rows
+abbrev pub rows_of : List (Bor (List ℕ) × Kind × ℕ) → List Row
+rows_of rs = map (λ r. (r.0.now, r.1, r.2)) rs
+
+-- the table that is searched
+unfoldable pub by_name : List Row
+by_name = map (λ r. (r.0.now, r.1, r.2)) BY_NAME
+
+-- each name comes before the next, byte by byte
+pub record IsInNameOrder (rows : List Row) : Type 0 where
+  pub sorted : IsStrictlySortedBy (slice_cmp nat_cmp) (map (λ r. r.0) rows)
+
+-- the table has this row
+abbrev pub IsRowOf : List Row → List ℕ → Kind → ℕ → Type 0
+IsRowOf rows name kind index = Contains rows (name, kind, index)
+
+-- no row has this name
+abbrev pub HasNoRow : List Row → List ℕ → Type 0
+HasNoRow rows name = All (λ r. r.0 ≢ name) rows

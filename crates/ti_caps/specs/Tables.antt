@@ -1,0 +1,59 @@
+-- The capabilities and their names: terminfo(5), "Predefined Capabilities", in the order of the compiled entry.
+use Rattle.std.specs.Prelude.{◌≡◌, ℕ, ◌<◌, List, [], ◌∷◌, map, slice_index_or, Option, Some, None, option_map, if◌then◌else◌, bytes_eq, suc}
+use Rattle.ti_caps.specs.declared.capability.Kind.{Kind}
+use Rattle.ti_caps.specs.declared.capability.Kind.TheVariants.{Flag, Number, Text}
+use Rattle.ti_caps.specs.declared.tables.TheConstants.{FLAGS, NUMBERS, TEXTS}
+
+-- own: a capability is a kind and a place in the list of that kind, counted from 0
+pub record Capability : Type 0 where
+  pub kind : Kind
+  pub index : ℕ
+
+abbrev pub capability : Kind → ℕ → Capability
+capability k i = record { kind = k; index = i }
+
+-- the names of a kind, by index
+unfoldable pub names : Kind → List (List ℕ)
+names Flag = map (λ t. t.now) FLAGS
+names Number = map (λ t. t.now) NUMBERS
+names Text = map (λ t. t.now) TEXTS
+
+-- how many capabilities of a kind there are: the length of its list of names
+abbrev pub count_of : Kind → ℕ
+count_of Flag = 44
+count_of Number = 39
+count_of Text = 414
+
+-- the place is within the list of the kind
+abbrev pub IsCapability : Capability → Type 0
+IsCapability c = c.index < count_of c.kind
+
+-- the name of a capability, as the tables give it
+abbrev pub name_of : Capability → List ℕ
+name_of c = slice_index_or (names c.kind) c.index []
+
+-- the place of a name in a list of names
+abbrev pub place_of : List ℕ → List (List ℕ) → Option ℕ
+place_of x [] = None
+place_of x (n ∷ ns) = if bytes_eq n x then Some 0 else option_map (λ i. suc i) (place_of x ns)
+
+-- the capability of a kind that has the name
+abbrev pub named_in : List ℕ → Kind → Option Capability
+named_in x k = option_map (capability k) (place_of x (names k))
+
+-- the first of two that is there
+abbrev pub first_of_two : Option Capability → Option Capability → Option Capability
+first_of_two (Some c) d = Some c
+first_of_two None d = d
+
+-- the capability that has the name, if one has it
+unfoldable pub capability_named : List ℕ → Option Capability
+capability_named x = first_of_two (named_in x Flag) (first_of_two (named_in x Number) (named_in x Text))
+
+-- no two capabilities have one name, over all three lists
+abbrev pub NamesAreDistinct : Type 0
+NamesAreDistinct = (c d : Capability) → IsCapability c → IsCapability d → name_of c ≡ name_of d → c ≡ d
+
+-- the name of each capability leads back to it
+abbrev pub EveryNameIsFound : Type 0
+EveryNameIsFound = (c : Capability) → IsCapability c → capability_named (name_of c) ≡ Some c

@@ -1,0 +1,14 @@
+//! The capabilities of a terminal description, as terminfo(5) lists them: 44 flags, 39 numbers and
+//! 414 texts, each with its name and its place in the compiled entry.
+//!
+//! - `capability`: what a capability is, its kind and its index
+//! - `tables`: the names in the order of the compiled entry, and all of them by name
+//! - `lookup`: from a name to its capability, and back
+#![tactic(auto)]
+
+mod capability;
+mod lookup;
+mod tables;
+
+pub use capability::{Cap, Kind};
+pub use lookup::{count, every_name_is_found, find, name, names_are_distinct};

@@ -1,0 +1,132 @@
+// From the name of a capability to the capability, and back.
+ghost use Rattle.std.specs.Prelude.{◌≡◌, ◌≢◌, ◌<◌, length, [], IfSome, IfNone};
+ghost use Rattle.std.specs.List.{slice_index_or};
+ghost use Rattle.ti_caps.specs.Tables.{Capability, IsCapability, capability, capability_named, count_of, name_of, names, EveryNameIsFound, NamesAreDistinct};
+ghost use Rattle.ti_caps.specs.ByName.{IsInNameOrder, IsRowOf, HasNoRow, by_name, rows_of, texts_of};
+
+use crate::capability::{Cap, Kind};
+use crate::tables::{BY_NAME, FLAG_COUNT, FLAGS, NUMBER_COUNT, NUMBERS, TEXT_COUNT, TEXTS};
+
+/// How many capabilities of a kind there are: 44 flags, 39 numbers, 414 texts.
+pub fn count(kind: Kind) -> usize
+    ensures value { result ≡ count_of kind }
+    ensures names { result ≡ length (names kind) }
+{
+    match kind {
+        Kind::Flag => FLAG_COUNT,
+        Kind::Number => NUMBER_COUNT,
+        Kind::Text => TEXT_COUNT,
+    }
+}
+
+/// The name of a capability.
+pub fn name(cap: Cap) -> &'static str
+    ensures { result.now ≡ name_of cap }
+{
+    match cap.kind() {
+        Kind::Flag => text_at(&FLAGS, cap.index()),
+        Kind::Number => text_at(&NUMBERS, cap.index()),
+        Kind::Text => text_at(&TEXTS, cap.index()),
+    }
+}
+
+/// The capability of a name, byte for byte; `None` where no capability has it.
+pub fn find(name: &[u8]) -> Option<Cap>
+    ensures found { IfSome result (λ c. IsCapability c × (name_of c ≡ name.now)) }
+    ensures none { IfNone result ((c : Capability) → IsCapability c → name_of c ≢ name.now) }
+    ensures is { result ≡ capability_named name.now }
+{
+    let (kind, index) = listed(name)?;
+    Cap::at(kind, index)
+}
+
+// The kind and the index that the table gives to a name.
+fn listed(name: &[u8]) -> Option<(Kind, usize)>
+    ensures found { IfSome result (λ r. IsRowOf by_name name.now r.0 r.1) }
+    ensures none { IfNone result (HasNoRow by_name name.now) }
+{
+    row_of(&BY_NAME, name)
+}
+
+/// No two capabilities have one name.
+pub fn names_are_distinct()
+    ensures { NamesAreDistinct }
+{}
+
+/// The name of each capability leads back to it.
+pub fn every_name_is_found()
+    ensures { EveryNameIsFound }
+{}
+
+// The name at a place of a list.
+fn text_at(names: &'static [&'static str], index: usize) -> &'static str
+    requires { index < length names.now }
+    ensures { result.now ≡ slice_index_or (texts_of names.now) index [] }
+{
+    names[index]
+}
+
+// The kind and the index in the row of a name, by a binary search.
+fn row_of(rows: &[(&str, Kind, u16)], name: &[u8]) -> Option<(Kind, usize)>
+    requires { IsInNameOrder (rows_of rows.now) }
+    ensures found { IfSome result (λ r. IsRowOf (rows_of rows.now) name.now r.0 r.1) }
+    ensures none { IfNone result (HasNoRow (rows_of rows.now) name.now) }
+{
+    match rows.binary_search_by(|row| row.0.as_bytes().cmp(&name)) {
+        Ok(place) => {
+            let (_, kind, index) = rows[place];
+            Some((kind, index as usize))
+        }
+        Err(_) => None,
+    }
+}
+
+#[cfg(test)]
+mod tests {
+    use super::*;
+
+    #[test]
+    fn leads_from_each_name_back_to_the_capability(rt: HostRuntime) {
+        let mut seen: usize = 0;
+        for kind in [Kind::Flag, Kind::Number, Kind::Text] {
+            for index in 0..count(kind) {
+                if let Some(cap) = Cap::at(kind, index) {
+                    assert!(rt; find(name(cap).as_bytes()) == Some(cap), "at {index}");
+                    seen = seen.saturating_add(1);
+                }
+            }
+            assert!(rt; Cap::at(kind, count(kind)).is_none());
+        }
+        assert_eq!(rt; seen, 497);
+    }
+
+    #[test]
+    fn has_the_names_at_their_places(rt: HostRuntime) {
+        let rows = [
+            ("bw", Kind::Flag, 0),
+            ("OTxr", Kind::Flag, 43),
+            ("cols", Kind::Number, 0),
+            ("OTkn", Kind::Number, 38),
+            ("cbt", Kind::Text, 0),
+            ("bel", Kind::Text, 1),
+            ("cr", Kind::Text, 2),
+            ("cud1", Kind::Text, 11),
+            ("ind", Kind::Text, 129),
+            ("kf11", Kind::Text, 216),
+            ("kf63", Kind::Text, 268),
+            ("box1", Kind::Text, 413),
+        ];
+        for (word, kind, index) in rows {
+            let cap = find(word.as_bytes());
+            assert!(rt; cap == Cap::at(kind, index), "{word}");
+            let place = cap.map(|c| c.index());
+            assert!(rt; place == Some(index), "{word}");
+            assert!(rt; cap.map(|c| c.kind()) == Some(kind), "{word}");
+        }
+        for word in ["", "a", "bw ", "BW", "kf64", "zz"] {
+            assert!(rt; find(word.as_bytes()).is_none(), "{word}");
+        }
+        names_are_distinct();
+        every_name_is_found();
+    }
+}
