@@ -1,2 +1,6 @@
 pub mod CutLemmas
 pub mod WalkLemmas
+pub mod OctalDigits
+pub mod PieceLemmas
+pub mod SpellingLaws
+pub mod WritingLaws

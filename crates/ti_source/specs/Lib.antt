@@ -1,3 +1,5 @@
 pub mod WhiteSpace
 pub mod Lines
 pub mod Blocks
+pub mod Spelling
+pub mod Pieces

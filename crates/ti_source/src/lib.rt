@@ -3,15 +3,20 @@
 //!
 //! - `cutting` and `walk`: a source as a preface and blocks, one for each entry; `heads` finds where they begin.
 //! - `lines`: the law of counting lines.
+//! - `spelling`: from the text of a string value to the bytes that it spells, or why it spells none; `writing`: back.
 #![tactic(auto)]
 
 mod cutting;
 mod heads;
 mod lines;
+mod spelling;
 mod walk;
+mod writing;
 
 pub use cutting::{
     blocks, blocks_are_single, blocks_are_single_once_ended, each_has_cut, is_block, one_cut,
 };
 pub use lines::lines_add;
+pub use spelling::{UnescapeError, Unescaped, one_outcome, unescape};
 pub use walk::Blocks;
+pub use writing::{escape, written_spells};

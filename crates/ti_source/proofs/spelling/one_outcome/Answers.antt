@@ -1,0 +1,8 @@
+use Rattle.ti_source.proofs.SpellingLaws.{one_outcome, unescaped_agrees}
+use Rattle.ti_source.proofs.spelling.one_outcome.Goals as goal
+
+pub returns-clause-outcome : goal.returns-clause-outcome
+returns-clause-outcome c = one_outcome
+
+pub returns-clause-computed : goal.returns-clause-computed
+returns-clause-computed c = unescaped_agrees
