@@ -1,0 +1,5 @@
+pub mod Search
+pub mod ViewLemmas
+pub mod Whole
+pub mod Parts
+pub mod OneReading

@@ -1,0 +1,6 @@
+use Rattle.std.proofs.Common.{ℕ, ◌*◌, ◌<◌, ◌⊎◌}
+use Rattle.ti_compiled.specs.Reading.{word_at, IsPlain, IsVoid}
+use Rattle.ti_compiled.proofs.sections.are_numbers.Given as goal
+
+abbrev pub invariant-loop-index : goal.invariant-loop-index
+invariant-loop-index l = (k : ℕ) → k < l.index → IsPlain (word_at (2 * k) l.numbers) ⊎ IsVoid (word_at (2 * k) l.numbers)

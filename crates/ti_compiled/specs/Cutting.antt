@@ -1,0 +1,43 @@
+-- What the steps of reading know: the header's numbers, and the sections that they cut.
+use Rattle.std.specs.Prelude.{◌≡◌, ◌≢◌, ℕ, suc, ◌<◌, ◌≤◌, List, length, slice_index, ◌⊎◌}
+use Rattle.ti_compiled.specs.declared.sections.Sizes.{Sizes}
+use Rattle.ti_compiled.specs.declared.sections.Sections.{Sections}
+use Rattle.ti_compiled.specs.Reading.{word_at, names_size, flag_count, number_count, text_count, strings_size, end_place, names_section, flags_section, numbers_section, offsets_section, strings_section, IsFlagByte, IsPlain, IsVoid, HasEnd, EachWord}
+
+pub record HasHeader (bytes : List ℕ) (sizes : Sizes) : Type 0 where
+  pub long : 12 ≤ length bytes
+  pub magic : word_at 0 bytes ≡ 282
+  pub names : sizes.names ≡ names_size bytes
+  pub flags : sizes.flags ≡ flag_count bytes
+  pub numbers : sizes.numbers ≡ number_count bytes
+  pub texts : sizes.texts ≡ text_count bytes
+  pub strings : sizes.strings ≡ strings_size bytes
+  pub names_fit : names_size bytes < 32768
+  pub flags_fit : flag_count bytes ≤ 44
+  pub numbers_fit : number_count bytes ≤ 39
+  pub texts_fit : text_count bytes ≤ 414
+  pub strings_fit : strings_size bytes < 32768
+
+pub record IsCut (bytes : List ℕ) (s : Sections) : Type 0 where
+  pub sizes : Sizes
+  pub header : HasHeader bytes sizes
+  pub whole : end_place bytes ≤ length bytes
+  pub names : s.names.now ≡ names_section bytes
+  pub flags : s.flags.now ≡ flags_section bytes
+  pub numbers : s.numbers.now ≡ numbers_section bytes
+  pub offsets : s.offsets.now ≡ offsets_section bytes
+  pub strings : s.strings.now ≡ strings_section bytes
+
+pub record AreNames (names : List ℕ) : Type 0 where
+  pub some : 2 ≤ length names
+  pub no_nul : (k : ℕ) → suc k < length names → slice_index names k ≢ 0
+  pub ended : (k : ℕ) → suc k ≡ length names → slice_index names k ≡ 0
+
+abbrev pub AreFlags : List ℕ → Type 0
+AreFlags flags = (k : ℕ) → k < length flags → IsFlagByte (slice_index flags k)
+
+abbrev pub AreNumbers : List ℕ → Type 0
+AreNumbers numbers = EachWord numbers (λ w. IsPlain w ⊎ IsVoid w)
+
+abbrev pub AreOffsets : List ℕ → List ℕ → Type 0
+AreOffsets offsets strings = EachWord offsets (λ w. (IsPlain w × HasEnd strings w) ⊎ IsVoid w)

@@ -1,0 +1,5 @@
+pub mod Values
+pub mod Reading
+pub mod Cutting
+pub mod Shown
+pub mod Sound

@@ -1,0 +1,8 @@
+// Laws of the definitions that the calls of this crate stand on. They compute nothing.
+ghost use Rattle.ti_compiled.specs.Reading.{OneReading};
+
+/// Bytes are an entry in one way at most, are refused in one way at most, and never both; so what
+/// [`View::read`](crate::View::read) answers is settled by the bytes.
+pub fn one_reading()
+    ensures { OneReading }
+{}

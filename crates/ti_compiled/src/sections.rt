@@ -1,0 +1,151 @@
+// The sections of a compiled entry: cut by the header's numbers, and each looked through once.
+ghost use Rattle.std.specs.Prelude.{◌≡◌, ◌≢◌, ℕ, ◌+◌, ◌*◌, ◌<◌, ◌≤◌, length, slice_index, IsTrue, MatchBool, IfOk, IfErr};
+ghost use Rattle.ti_compiled.specs.Reading.{word_at, Refused, HasEnd, EachWord, IsPlain, IsVoid, IsFlagByte, HasBadNames, HasBadFlag, HasBadNumber, HasBadOffset};
+ghost use Rattle.ti_compiled.specs.Cutting.{HasHeader, IsCut, AreNames, AreFlags, AreNumbers, AreOffsets};
+
+use crate::fault::ReadError;
+use byteorder::{ByteOrder, LittleEndian};
+use memchr::{memchr, memrchr};
+
+/// The bytes of a header.
+const HEADER_SIZE: usize = 12;
+/// 0432 octal, as term(5) has it.
+const MAGIC: usize = 0x011a;
+/// The first number that is negative as a signed number of 16 bits.
+const NEGATIVE: usize = 0x8000;
+/// -2, a cancelled value; -1 is an absent one.
+const CANCELLED: usize = 0xfffe;
+
+const FLAGS_MAX: usize = 44;
+
+const NUMBERS_MAX: usize = 39;
+
+const TEXTS_MAX: usize = 414;
+
+/// The sizes that a header names.
+#[derive(Clone, Copy)]
+struct Sizes {
+    names: usize,
+    flags: usize,
+    numbers: usize,
+    texts: usize,
+    strings: usize,
+}
+
+/// The sections of an entry, as they lie in its bytes; the names with their NUL.
+#[derive(Clone, Copy)]
+pub struct Sections<'a> {
+    pub names: &'a [u8],
+    pub flags: &'a [u8],
+    pub numbers: &'a [u8],
+    pub offsets: &'a [u8],
+    pub strings: &'a [u8],
+}
+
+/// The 16-bit number that stands at a place, its low byte first.
+pub fn word(bytes: &[u8], at: usize) -> usize
+    requires { at + 2 ≤ length bytes.now }
+    ensures value { result ≡ word_at at bytes.now }
+    ensures fits { result < 65536 }
+{
+    LittleEndian::read_u16(&bytes[at..]) as usize
+}
+
+/// The header's numbers, or the first of Short, Magic and Counts that holds.
+fn header(bytes: &[u8]) -> Result<Sizes, ReadError>
+    ensures found { IfOk result (λ sizes. HasHeader bytes.now sizes) }
+    ensures refused { IfErr result (λ e. Refused bytes.now e) }
+{
+    if bytes.len() < HEADER_SIZE {
+        return Err(ReadError::Short);
+    }
+    if word(bytes, 0) != MAGIC {
+        return Err(ReadError::Magic);
+    }
+    let sizes = Sizes {
+        names: word(bytes, 2),
+        flags: word(bytes, 4),
+        numbers: word(bytes, 6),
+        texts: word(bytes, 8),
+        strings: word(bytes, 10),
+    };
+    if sizes.names >= NEGATIVE
+        || sizes.flags > FLAGS_MAX
+        || sizes.numbers > NUMBERS_MAX
+        || sizes.texts > TEXTS_MAX
+        || sizes.strings >= NEGATIVE
+    {
+        return Err(ReadError::Counts);
+    }
+    Ok(sizes)
+}
+
+/// The sections, or the first of Short, Magic, Counts and Truncated that holds.
+pub fn cut(bytes: &[u8]) -> Result<Sections<'_>, ReadError>
+    ensures found { IfOk result (λ s. IsCut bytes.now s) }
+    ensures refused { IfErr result (λ e. Refused bytes.now e) }
+{
+    let sizes = header(bytes)?;
+    let flags = HEADER_SIZE + sizes.names;
+    let gap = (sizes.names + sizes.flags) % 2;
+    let numbers = flags + sizes.flags + gap;
+    let offsets = numbers + 2 * sizes.numbers;
+    let strings = offsets + 2 * sizes.texts;
+    let end = strings + sizes.strings;
+    if bytes.len() < end {
+        return Err(ReadError::Truncated);
+    }
+    Ok(Sections {
+        names: &bytes[HEADER_SIZE..flags],
+        flags: &bytes[flags..flags + sizes.flags],
+        numbers: &bytes[numbers..offsets],
+        offsets: &bytes[offsets..strings],
+        strings: &bytes[strings..end],
+    })
+}
+
+/// Whether a section is names of a byte at least, and then its only NUL.
+pub fn are_names(names: &[u8]) -> bool
+    ensures { MatchBool result (AreNames names.now) (HasBadNames names.now) }
+{
+    names.len() >= 2 && memchr(0, names) == Some(names.len() - 1)
+}
+
+pub fn are_flags(flags: &[u8]) -> bool
+    ensures { MatchBool result (AreFlags flags.now) (HasBadFlag flags.now) }
+{
+    for flag in flags {
+        if *flag >= 2 && *flag < 0xfe {
+            return false;
+        }
+    }
+    true
+}
+
+pub fn are_numbers(numbers: &[u8]) -> bool
+    ensures { MatchBool result (AreNumbers numbers.now) (HasBadNumber numbers.now) }
+{
+    for index in 0..numbers.len() / 2 {
+        let number = word(numbers, 2 * index);
+        if number >= NEGATIVE && number < CANCELLED {
+            return false;
+        }
+    }
+    true
+}
+
+/// Whether each offset is void or leads to a text with its NUL. One search serves them all: an
+/// offset does so exactly where it is not past the table's last NUL.
+pub fn are_offsets(offsets: &[u8], strings: &[u8]) -> bool
+    requires { length strings.now < 32768 }
+    ensures { MatchBool result (AreOffsets offsets.now strings.now) (HasBadOffset offsets.now strings.now) }
+{
+    let ends = memrchr(0, strings).map_or(0, |last| last + 1);
+    for index in 0..offsets.len() / 2 {
+        let offset = word(offsets, 2 * index);
+        if offset >= ends && offset < CANCELLED {
+            return false;
+        }
+    }
+    true
+}

@@ -1,0 +1,205 @@
+// The worked entries of the reader: damaged files, shared texts, values of old writers.
+ghost use Rattle.std.specs.Prelude.{◌≡◌, IfSome};
+
+use super::*;
+use std::alloc::{AllocError, Global};
+use std::test::*;
+use ti_caps::{Kind, find};
+
+/// `dumb|80-column dumb tty,` with am, cols 80, bel, cr, cud1 and ind: 308 bytes.
+fn dumb(alloc: Global) -> Result<Vec<u8>, AllocError> {
+    let mut bytes = Vec::new(alloc);
+    bytes.extend_from_slice(b"\x1a\x01\x18\x00\x02\x00\x01\x00\x82\x00\x08\x00")?;
+    bytes.extend_from_slice(b"dumb|80-column dumb tty\0\x00\x01\x50\x00")?;
+    for index in 0..130u16 {
+        let offset: [u8; 2] = match index {
+            1 => [0, 0],
+            2 => [2, 0],
+            11 => [4, 0],
+            129 => [6, 0],
+            _ => [0xff, 0xff],
+        };
+        bytes.extend_from_slice(&offset)?;
+    }
+    bytes.extend_from_slice(b"\x07\x00\x0d\x00\x0a\x00\x0a\x00")?;
+    Ok(bytes)
+}
+
+/// Two texts that overlap.
+const OVERLAP: [u8; 23] = [
+    0x1a, 0x01, 0x02, 0x00, 0x01, 0x00, 0x00, 0x00, 0x02, 0x00, 0x03, 0x00, 0x78, 0x00, 0x01, 0x00,
+    0x00, 0x00, 0x01, 0x00, 0x41, 0x42, 0x00,
+];
+
+/// The bytes with some of them changed.
+fn with(alloc: Global, bytes: &[u8], changes: &[(usize, u8)]) -> Result<Vec<u8>, AllocError> {
+    let mut changed = Vec::from_slice(alloc, bytes)?;
+    for &(at, byte) in changes {
+        if let Some(place) = changed.get_mut(at) {
+            *place = byte;
+        }
+    }
+    Ok(changed)
+}
+
+/// Why the bytes are refused, if they are.
+fn refusal(bytes: &[u8]) -> Option<ReadError> {
+    View::read(bytes).err()
+}
+
+/// The capability of a name, and of that kind.
+fn named(name: &str, kind: Kind) -> Option<Cap>
+    ensures { IfSome result (λ c. c.kind ≡ kind) }
+{
+    let cap = find(name.as_bytes())?;
+    if cap.kind() == kind { Some(cap) } else { None }
+}
+
+fn flag(view: &View<'_>, name: &str) -> bool {
+    named(name, Kind::Flag).is_some_and(|cap| view.flag(cap))
+}
+
+fn number(view: &View<'_>, name: &str) -> Option<u32> {
+    match named(name, Kind::Number) {
+        Some(cap) => view.number(cap),
+        None => None,
+    }
+}
+
+fn text<'a>(view: &View<'a>, name: &str) -> Option<&'a [u8]> {
+    match named(name, Kind::Text) {
+        Some(cap) => view.text(cap),
+        None => None,
+    }
+}
+
+#[test]
+fn an_entry_is_read(rt: HostRuntime) -> Result<(), Fail> {
+    let bytes = dumb(rt.alloc())?;
+    assert_eq!(rt; bytes.len(), 308);
+    let view = View::read(&bytes)?;
+    assert_eq!(rt; view.names(), b"dumb|80-column dumb tty".as_slice());
+    assert_eq!(rt; view.first_name(), b"dumb".as_slice());
+    assert!(rt; flag(&view, "am"));
+    assert!(rt; !flag(&view, "bw"));
+    assert!(rt; !flag(&view, "OTxr"));
+    assert_eq!(rt; number(&view, "cols"), Some(80));
+    assert_eq!(rt; number(&view, "lines"), None);
+    for (name, value) in [
+        ("bel", b"\x07"),
+        ("cr", b"\x0d"),
+        ("cud1", b"\x0a"),
+        ("ind", b"\x0a"),
+    ] {
+        assert_eq!(rt; text(&view, name), Some(value.as_slice()), "{name}");
+    }
+    assert_eq!(rt; text(&view, "cbt"), None);
+    assert_eq!(rt; text(&view, "box1"), None);
+    Ok(())
+}
+
+#[test]
+fn a_cut_entry_is_short_or_truncated(rt: HostRuntime) -> Result<(), Fail> {
+    let bytes = dumb(rt.alloc())?;
+    for len in 0..bytes.len() {
+        let wanted = if len < 12 {
+            ReadError::Short
+        } else {
+            ReadError::Truncated
+        };
+        assert_eq!(rt; refusal(&bytes[..len]), Some(wanted), "{len}");
+    }
+    Ok(())
+}
+
+#[test]
+fn damaged_entries_are_refused(rt: HostRuntime) -> Result<(), Fail> {
+    let bytes = dumb(rt.alloc())?;
+    let rows: [(&[(usize, u8)], ReadError); 5] = [
+        (&[(307, 0x78)], ReadError::BadOffset),
+        (&[(36, 2)], ReadError::BadFlag),
+        (&[(38, 0xfd), (39, 0xff)], ReadError::BadNumber),
+        (&[(40, 0xfd), (41, 0xff)], ReadError::BadOffset),
+        (&[(1, 2)], ReadError::Magic),
+    ];
+    for (changes, wanted) in rows {
+        assert_eq!(rt; refusal(&with(rt.alloc(), &bytes, changes)?), Some(wanted));
+    }
+    assert_eq!(rt; refusal(&[0xff; 12]), Some(ReadError::Magic));
+    let mut counts = [0xff; 12];
+    counts[0] = 0x1a;
+    counts[1] = 0x01;
+    assert_eq!(rt; refusal(&counts), Some(ReadError::Counts));
+    Ok(())
+}
+
+#[test]
+fn shared_texts_and_further_bytes_are_accepted(rt: HostRuntime) -> Result<(), Fail> {
+    let bytes = dumb(rt.alloc())?;
+    let shared = with(rt.alloc(), &bytes, &[(298, 4), (299, 0)])?;
+    assert_eq!(rt;
+        text(&View::read(&shared)?, "ind"),
+        Some(b"\x0a".as_slice())
+    );
+    let mut longer = with(rt.alloc(), &bytes, &[])?;
+    longer.extend_from_slice(b"\x01\x02\xff\x00anything")?;
+    assert_eq!(rt;
+        text(&View::read(&longer)?, "ind"),
+        Some(b"\x0a".as_slice())
+    );
+    Ok(())
+}
+
+#[test]
+fn overlapping_texts(rt: HostRuntime) -> Result<(), Fail> {
+    let alloc = rt.alloc();
+    for changes in [[(15, 0)], [(15, 0x7f)]] {
+        let bytes = with(alloc, &OVERLAP, &changes)?;
+        let view = View::read(&bytes)?;
+        assert_eq!(rt; view.names(), b"x".as_slice());
+        assert!(rt; flag(&view, "bw"));
+        assert_eq!(rt; text(&view, "cbt"), Some(b"AB".as_slice()));
+        assert_eq!(rt; text(&view, "bel"), Some(b"B".as_slice()));
+    }
+    let cancelled = with(alloc, &OVERLAP, &[(14, 0xff)])?;
+    assert!(rt; !flag(&View::read(&cancelled)?, "bw"));
+    let void = with(alloc, &OVERLAP, &[(18, 0xfe), (19, 0xff)])?;
+    assert_eq!(rt; text(&View::read(&void)?, "bel"), None);
+    let rows: [(&[(usize, u8)], ReadError); 4] = [
+        (&[(14, 2)], ReadError::BadFlag),
+        (&[(18, 3), (19, 0)], ReadError::BadOffset),
+        (&[(4, 0x2d)], ReadError::Counts),
+        (&[(2, 1)], ReadError::BadNames),
+    ];
+    for (changes, wanted) in rows {
+        assert_eq!(rt; refusal(&with(alloc, &OVERLAP, changes)?), Some(wanted));
+    }
+    Ok(())
+}
+
+/// Whatever a byte is changed to, reading answers, and so does every getter.
+#[test]
+fn any_changed_byte_is_answered(rt: HostRuntime) -> Result<(), Fail> {
+    let bytes = dumb(rt.alloc())?;
+    let mut read = 0;
+    for at in 0..bytes.len() {
+        for byte in [0x00, 0x01, 0x7f, 0x80, 0xff] {
+            let changed = with(rt.alloc(), &bytes, &[(at, byte)])?;
+            if let Ok(view) = View::read(&changed) {
+                read |= 1;
+                assert!(rt; view.first_name().len() <= view.names().len());
+                for name in ["am", "OTxr"] {
+                    let _ = flag(&view, name);
+                }
+                for name in ["cols", "OTkn"] {
+                    let _ = number(&view, name);
+                }
+                for name in ["cbt", "bel", "cr", "cud1", "ind", "box1"] {
+                    let _ = text(&view, name);
+                }
+            }
+        }
+    }
+    assert_eq!(rt; read, 1);
+    Ok(())
+}
