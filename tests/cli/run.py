@@ -7,6 +7,8 @@ Each folder below cases/ is one run of `ti`, in a folder of its own:
     env       NAME=VALUE a line; beside these only PATH is set
     stdin     what standard input holds (none: nothing)
     data/     the files that lie in the folder that it runs in
+    before    a command that sh runs there first, for files too large to keep;
+              what it makes must still be there afterwards, unchanged
     needs     programs that the case wants, one a line; where one is not
               installed the case is skipped, and said to be
     stdout    what standard output must hold (none: nothing)
@@ -86,10 +88,13 @@ def run(case):
         os.mkdir(tools)
         os.symlink(PROGRAM, os.path.join(tools, "ti"))
         path = tools + ":/usr/local/bin:/usr/bin:/bin"
-        env = {"PATH": path, **dict(it.split("=", 1) for it in lines_of(part("env")))}
-        words = bytes_of(part("args")).decode().split("\n")
-        if words and words[-1] == "":
+        env = {b"PATH": path.encode(), **dict(it.split(b"=", 1) for it in bytes_of(part("env")).split(b"\n") if it)}
+        words = bytes_of(part("args")).split(b"\n")
+        if words and words[-1] == b"":
             words.pop()
+        if os.path.isfile(part("before")):
+            subprocess.run(["sh", "-c", bytes_of(part("before")).decode()], cwd=folder, check=True)
+        lay = tree(folder)
         done = subprocess.run(
             [os.path.join(tools, "ti"), *words], input=bytes_of(part("stdin")), cwd=folder, env=env,
             stdout=subprocess.PIPE, stderr=subprocess.PIPE, timeout=SECONDS,
@@ -98,7 +103,7 @@ def run(case):
         status = int(bytes_of(part("status"), b"0"))
         if done.returncode != status:
             faults.append(f"status is {done.returncode}, wanted {status}")
-        wanted = {**(tree(part("data")) if os.path.isdir(part("data")) else {})}
+        wanted = dict(lay)
         for name, text in tree(part("files")).items():
             if not name.endswith(".hex"):
                 faults.append(f"files/{name} does not end in .hex")
