@@ -1,4 +1,5 @@
 pub mod CutLemmas
+pub mod HeaderLemmas
 pub mod WalkLemmas
 pub mod OctalDigits
 pub mod PieceLemmas

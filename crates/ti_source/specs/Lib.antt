@@ -1,5 +1,6 @@
 pub mod WhiteSpace
 pub mod Lines
 pub mod Blocks
+pub mod Header
 pub mod Spelling
 pub mod Pieces

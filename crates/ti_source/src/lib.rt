@@ -2,11 +2,13 @@
 //! source says, with no files and no memory of what was read before.
 //!
 //! - `cutting` and `walk`: a source as a preface and blocks, one for each entry; `heads` finds where they begin.
+//! - `header`: the names field of a block, and its lookup names.
 //! - `lines`: the law of counting lines.
 //! - `spelling`: from the text of a string value to the bytes that it spells, or why it spells none; `writing`: back.
 #![tactic(auto)]
 
 mod cutting;
+mod header;
 mod heads;
 mod lines;
 mod spelling;
@@ -16,6 +18,7 @@ mod writing;
 pub use cutting::{
     blocks, blocks_are_single, blocks_are_single_once_ended, each_has_cut, is_block, one_cut,
 };
+pub use header::{each_header_is_read, headers_have_one_reading, is_lookup_name, lookup_names};
 pub use lines::lines_add;
 pub use spelling::{UnescapeError, Unescaped, one_outcome, unescape};
 pub use walk::Blocks;

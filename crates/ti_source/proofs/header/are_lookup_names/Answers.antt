@@ -1,0 +1,11 @@
+use Rattle.std.proofs.Common.{◌==◌, rules, tests}
+use Rattle.std.proofs.lemmas.Iterator.Search.{all_from_yields_List}
+use Rattle.std.proofs.lemmas.Iterator.Splits.{YieldsList-from_slice_split}
+use Rattle.ti_source.specs.Header.{is_lookup_name}
+use Rattle.ti_source.proofs.header.are_lookup_names.Goals as goal
+
+pub returns : goal.returns
+returns c =
+    all_from_yields_List is_lookup_name _ _ _ c.all.ensures.ran
+    (YieldsList-from_slice_split _ (λ b. b == 124) c.args.joined.now c.split.ensures.rest c.split.ensures.done c.split.ensures.closure (λ x r q k. search (rules, tests)))
+    (λ x r q k. search (rules, tests))

@@ -1,0 +1,19 @@
+use Rattle.std.proofs.Common.{◌≡◌, ◌==◌, List, Option, None, map, ◌∙◌, rules, tests}
+use Rattle.std.specs.Iterator.{Yields}
+use Rattle.std.proofs.lemmas.Iterator.{YieldsList}
+use Rattle.std.proofs.lemmas.Iterator.Consumers.{YieldsList-at, YieldsList-end}
+use Rattle.std.proofs.lemmas.Iterator.Splits.{YieldsList-from_slice_split}
+use Rattle.ti_source.proofs.header.parts.Goals as goal
+
+-- `YieldsList-end` with the loop's facts first, which settle what the chain proof is of
+ended : {S A B : Type 0} {steps : S → Option A → S → Type 0} (v : A → B) {s : S} (all : List B) (xs : List A) (t : S) → Yields steps s xs t
+    → (r : Option A) (u : S) → r ≡ None → steps t r u → YieldsList steps v s all → map v xs ≡ all
+ended v all xs t y r u e n chain = (YieldsList-end chain xs t y r u e n).0
+
+pub returns : goal.returns
+returns c =
+    c.loop-part.invariant
+    ∙ ended _ _ c.loop-part.yielded _ c.loop-part.yielded_by _ _ c.in-None.is c.next.ensures.steps
+    (YieldsList-at c.into_iter-part-iterator.ensures.into_iter_gives
+    (YieldsList-from_slice_split _ (λ b. b == 124) c.args.joined.now c.split-part-items.ensures.rest c.split-part-items.ensures.done
+    c.split-part-items.ensures.closure (λ x r q k. search (rules, tests))))

@@ -1,0 +1,164 @@
+//! The names field of a block, and the names that a terminal can be looked up by.
+ghost use Rattle.std.specs.Prelude.{◌≡◌, ◌==◌, ◌↔◌, IsTrue, IfOk, map, not, length};
+ghost use Rattle.std.specs.List.{list_all};
+ghost use Rattle.std.specs.Option.{option_map};
+ghost use Rattle.std.specs.Rc.{rc_slice_items};
+ghost use Rattle.ti_source.specs.Header as spec;
+
+use memchr::memrchr;
+use std::alloc::{AllocError, Global};
+use std::rc::RcSlice;
+
+fn is_name_byte(byte: u8) -> bool
+    ensures { result ≡ spec.is_name_byte byte }
+{
+    matches!(byte, b'!'..=b'~') && !matches!(byte, b',' | b'/' | b'|')
+}
+
+fn has_name_bytes(text: &[u8]) -> bool
+    ensures { result ≡ list_all spec.is_name_byte text.now }
+{
+    text.iter().all(|byte| is_name_byte(*byte))
+}
+
+/// Whether a terminal can have `name`: it is not empty, has only printable bytes without space, comma, `/` and `|`, and is
+/// neither `.` nor `..`.
+pub fn is_lookup_name(name: &[u8]) -> bool
+    ensures rule { IsTrue result ↔ spec.IsLookupName name.now }
+    ensures computed { result ≡ spec.is_lookup_name name.now }
+{
+    !name.is_empty() && name != b".".as_slice() && name != b"..".as_slice() && has_name_bytes(name)
+}
+
+// The part of `field` whose parts are its lookup names.
+fn without_description(field: &[u8]) -> &[u8]
+    ensures { spec.parts_of result.now ≡ spec.lookup_parts (spec.parts_of field.now) }
+{
+    match memrchr(b'|', field) {
+        Some(last) => &field[..last],
+        None => field,
+    }
+}
+
+fn has_no_empty_part(field: &[u8]) -> bool
+    ensures { result ≡ list_all (λ part. not (length part == 0)) (spec.parts_of field.now) }
+{
+    field
+        .split(|byte| *byte == b'|')
+        .all(|part| !part.is_empty())
+}
+
+fn are_lookup_names(joined: &[u8]) -> bool
+    ensures { result ≡ list_all spec.is_lookup_name (spec.parts_of joined.now) }
+{
+    joined
+        .split(|byte| *byte == b'|')
+        .all(|name| is_lookup_name(name))
+}
+
+fn is_header(field: &[u8]) -> bool
+    ensures { result ≡ spec.is_header field.now }
+{
+    !field.contains(&0) && has_no_empty_part(field) && are_lookup_names(without_description(field))
+}
+
+fn parts(alloc: Global, joined: &[u8]) -> Result<Vec<RcSlice<u8>>, AllocError>
+    ensures { IfOk result (λ v. map rc_slice_items v.items ≡ spec.parts_of joined.now) }
+{
+    let mut parts = Vec::new(alloc);
+    for part in joined.split(|byte| *byte == b'|') {
+        parts.push(RcSlice::from_slice(alloc, part)?)?;
+    }
+    Ok(parts)
+}
+
+/// The lookup names of the names field of a block, in order, or `None` where the field is bad: it or a part of it between
+/// bytes `|` is empty, it holds a NUL, or a lookup name breaks the rule of [`is_lookup_name`]. Of two or more parts the
+/// last is a description and no lookup name (X/Open Curses Issue 7, "Terminfo Source Format").
+pub fn lookup_names(alloc: Global, field: &[u8]) -> Result<Option<Vec<RcSlice<u8>>>, AllocError>
+    ensures { IfOk result (λ names. option_map (λ v. map rc_slice_items v.items) names ≡ spec.header_names field.now) }
+{
+    if !is_header(field) {
+        return Ok(None);
+    }
+    let names = parts(alloc, without_description(field))?;
+    Ok(Some(names))
+}
+
+/// Each names field has lookup names or is bad.
+pub fn each_header_is_read()
+    ensures { spec.EachHeaderIsRead }
+{}
+
+/// A names field has one reading alone.
+pub fn headers_have_one_reading()
+    ensures { spec.HeadersHaveOneReading }
+{}
+
+#[cfg(test)]
+mod tests {
+    use super::*;
+    use std::test::Fail;
+
+    #[test]
+    fn reads_headers(rt: HostRuntime) -> Result<(), Fail> {
+        for (field, wanted) in [
+            (b"dumb".as_slice(), [b"dumb".as_slice()].as_slice()),
+            (
+                b"dumb|80-column dumb tty".as_slice(),
+                [b"dumb".as_slice()].as_slice(),
+            ),
+            (
+                b"x-1|y~|a/b, \tc".as_slice(),
+                [b"x-1".as_slice(), b"y~".as_slice()].as_slice(),
+            ),
+            (b"...|..".as_slice(), [b"...".as_slice()].as_slice()),
+        ] {
+            let found = lookup_names(rt.alloc(), field)?.ok_or("a good header")?;
+            assert_eq!(rt; found.len(), wanted.len());
+            for (name, want) in found.iter().zip(wanted) {
+                assert_eq!(rt; name.as_slice(), *want);
+            }
+        }
+        for field in [
+            b"".as_slice(),
+            b"x|".as_slice(),
+            b"|x".as_slice(),
+            b"x||y".as_slice(),
+            b"x y".as_slice(),
+            b"x y|d".as_slice(),
+            b"x|\0".as_slice(),
+            b"..|d".as_slice(),
+            b"a/b|d".as_slice(),
+            b"a,b|d".as_slice(),
+            b"\r".as_slice(),
+        ] {
+            assert!(rt; lookup_names(rt.alloc(), field)?.is_none());
+        }
+        Ok(())
+    }
+
+    #[test]
+    fn tells_lookup_names(rt: HostRuntime) {
+        for name in [
+            b"xterm-256color".as_slice(),
+            b"!~".as_slice(),
+            b"...".as_slice(),
+        ] {
+            assert!(rt; is_lookup_name(name));
+        }
+        for name in [
+            b"".as_slice(),
+            b".".as_slice(),
+            b"..".as_slice(),
+            b"a/b".as_slice(),
+            b"a b".as_slice(),
+            b"a|b".as_slice(),
+            b"a,b".as_slice(),
+            b"\x7f".as_slice(),
+            b"\x80".as_slice(),
+        ] {
+            assert!(rt; !is_lookup_name(name));
+        }
+    }
+}
