@@ -1,5 +1,7 @@
 pub mod CutLemmas
 pub mod HeaderLemmas
+pub mod NumberLemmas
+pub mod TrimLemmas
 pub mod WalkLemmas
 pub mod OctalDigits
 pub mod PieceLemmas

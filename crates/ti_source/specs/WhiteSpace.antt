@@ -1,6 +1,12 @@
 -- White space of the source format (X/Open Curses Issue 7, "Terminfo Source Format"): spaces and tabs alone. A carriage return is none (own).
-use Rattle.std.specs.Prelude.{ℕ, Bool, ◌||◌, ◌==◌}
+use Rattle.std.specs.Prelude.{ℕ, Bool, ◌||◌, ◌==◌, if◌then◌else◌, List, [], ◌∷◌}
+use Rattle.std.specs.List.{list_all}
 
 -- a space or a tab
 abbrev pub is_white_space : ℕ → Bool
 is_white_space b = b == 32 || b == 9
+
+-- a text without the white space at its end
+abbrev pub trimmed : List ℕ → List ℕ
+trimmed [] = []
+trimmed (x ∷ xs) = if list_all is_white_space (x ∷ xs) then [] else x ∷ trimmed xs

@@ -3,6 +3,7 @@
 //!
 //! - `cutting` and `walk`: a source as a preface and blocks, one for each entry; `heads` finds where they begin.
 //! - `header`: the names field of a block, and its lookup names.
+//! - `numbers`: the value of a number, or why a text is none; `white_space`: what stands after it.
 //! - `lines`: the law of counting lines.
 //! - `spelling`: from the text of a string value to the bytes that it spells, or why it spells none; `writing`: back.
 #![tactic(auto)]
@@ -11,8 +12,10 @@ mod cutting;
 mod header;
 mod heads;
 mod lines;
+mod numbers;
 mod spelling;
 mod walk;
+mod white_space;
 mod writing;
 
 pub use cutting::{
@@ -20,6 +23,10 @@ pub use cutting::{
 };
 pub use header::{each_header_is_read, headers_have_one_reading, is_lookup_name, lookup_names};
 pub use lines::lines_add;
+pub use numbers::{
+    NumberError, each_number_is_read, numbers_have_one_reading, numerals_have_one_value,
+    read_number,
+};
 pub use spelling::{UnescapeError, Unescaped, one_outcome, unescape};
 pub use walk::Blocks;
 pub use writing::{escape, written_spells};

@@ -1,0 +1,133 @@
+//! The numbers of a source.
+ghost use Rattle.std.specs.Prelude.{◌≡◌, ◌≤◌, ◌+◌, min, IfSome};
+ghost use Rattle.std.specs.Option.{option_map, option_and_then};
+ghost use Rattle.ti_source.specs.Numbers as spec;
+
+use crate::white_space::trim_end;
+use thiserror::Error;
+
+/// The greatest value of a number.
+const GREATEST: u32 = 32767;
+
+/// Why a text is no number.
+#[derive(Clone, Copy, PartialEq, Eq, Debug, Error)]
+pub enum NumberError {
+    /// It is not written as a number is.
+    #[error("bad number")]
+    Bad,
+    /// Its value is over 32,767.
+    #[error("number too large")]
+    TooLarge,
+}
+
+fn digit_value(byte: u8) -> u32
+    ensures { result ≡ spec.digit_value byte }
+{
+    match byte {
+        b'0'..=b'9' => (byte - b'0') as u32,
+        b'a'..=b'f' => (byte - b'a') as u32 + 10,
+        b'A'..=b'F' => (byte - b'A') as u32 + 10,
+        _ => 16,
+    }
+}
+
+// The digits of a number, and the base that they are in.
+fn base_and_digits(number: &[u8]) -> Option<(u32, &[u8])>
+    ensures value { spec.value_read number.now ≡ option_and_then (λ p. spec.digits_read p.0 p.1.now) result }
+    ensures base { IfSome result (λ p. p.0 ≤ 16) }
+{
+    match number {
+        [] => None,
+        [b'0', b'x' | b'X', _, ..] => Some((16, &number[2..])),
+        [b'0', ..] => Some((8, &number[1..])),
+        _ => Some((10, number)),
+    }
+}
+
+// The value of digits in a base; one that is over the limit stops just above it.
+fn digits_value(base: u32, digits: &[u8]) -> Option<u32>
+    requires { base ≤ 16 }
+    ensures { result ≡ option_map (λ value. min value (spec.greatest_number + 1)) (spec.digits_read base digits.now) }
+{
+    let mut value = 0;
+    for byte in digits {
+        let digit = digit_value(*byte);
+        if digit >= base {
+            return None;
+        }
+        value = (value * base + digit).min(GREATEST + 1);
+    }
+    Some(value)
+}
+
+fn value(number: &[u8]) -> Option<u32>
+    ensures { result ≡ option_map (λ value. min value (spec.greatest_number + 1)) (spec.value_read number.now) }
+{
+    let (base, digits) = base_and_digits(number)?;
+    digits_value(base, digits)
+}
+
+/// The number that `text` writes, as C does: `0` and octal digits, `0x` or `0X` and hexadecimal digits, or decimal digits, with
+/// any white space after it (X/Open Curses Issue 7, "Terminfo Source Format").
+///
+/// # Errors
+///
+/// `Bad` where the text is not written so, and `TooLarge` where its value, of however many digits, is over 32,767.
+pub fn read_number(text: &[u8]) -> Result<u32, NumberError>
+    ensures reading { spec.ReadsAs text.now result }
+    ensures computed { result ≡ spec.number_read text.now }
+{
+    match value(trim_end(text)) {
+        None => Err(NumberError::Bad),
+        Some(value) if value > GREATEST => Err(NumberError::TooLarge),
+        Some(value) => Ok(value),
+    }
+}
+
+/// A text has one value at most.
+pub fn numerals_have_one_value()
+    ensures { spec.NumeralsHaveOneValue }
+{}
+
+/// Each text reads as the computing definition says.
+pub fn each_number_is_read()
+    ensures { spec.EachTextIsRead }
+{}
+
+/// A text has no other reading.
+pub fn numbers_have_one_reading()
+    ensures { spec.OneReading }
+{}
+
+#[cfg(test)]
+mod tests {
+    use super::*;
+
+    #[test]
+    fn reads_numbers(rt: HostRuntime) {
+        for (text, wanted) in [
+            (b"0".as_slice(), Ok(0)),
+            (b"00".as_slice(), Ok(0)),
+            (b"010".as_slice(), Ok(8)),
+            (b"80 ".as_slice(), Ok(80)),
+            (b"32767\t \t".as_slice(), Ok(32767)),
+            (b"0x7fff".as_slice(), Ok(32767)),
+            (b"0X1F".as_slice(), Ok(31)),
+            (b"32768".as_slice(), Err(NumberError::TooLarge)),
+            (b"0x8000".as_slice(), Err(NumberError::TooLarge)),
+            (
+                b"99999999999999999999".as_slice(),
+                Err(NumberError::TooLarge),
+            ),
+            (b"".as_slice(), Err(NumberError::Bad)),
+            (b" 5".as_slice(), Err(NumberError::Bad)),
+            (b"0x".as_slice(), Err(NumberError::Bad)),
+            (b"09".as_slice(), Err(NumberError::Bad)),
+            (b"1f".as_slice(), Err(NumberError::Bad)),
+            (b"+1".as_slice(), Err(NumberError::Bad)),
+            (b"7\r".as_slice(), Err(NumberError::Bad)),
+        ] {
+            assert_eq!(rt; read_number(text), wanted);
+        }
+    }
+}
