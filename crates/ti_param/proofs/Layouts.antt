@@ -2,7 +2,7 @@
 use Rattle.ti_param.specs.declared.printf.Conversion.{Conversion}
 use Rattle.ti_param.specs.declared.printf.Conversion.TheVariants.{Decimal, Octal, LowerHex, UpperHex, Text}
 use Rattle.ti_param.specs.declared.printf.Directive.{Directive}
-use Rattle.std.proofs.Common.{◌≢◌, ℤ, ◌≡◌, ℕ, ◌+◌, ◌-◌, ◌<◌, ◌≤◌, List, [], ◌∷◌, ◌++◌, length, replicate, refl, sym, ap, ◌∙◌, arith}
+use Rattle.std.proofs.Common.{◌≢◌, ℤ, ◌≡◌, ℕ, ◌+◌, ◌-◌, List, [], ◌++◌, length, replicate, refl, sym, ap, ◌∙◌, arith}
 use Rattle.std.proofs.lemmas.List.{append_assoc, append-nil, length-append, length-replicate, replicate-append-replicate}
 use Rattle.ti_param.specs.Printf.{printed_by, printed_number, laid, at_least}
 

@@ -1,6 +1,7 @@
 -- What a printf form of a parameter string prints: terminfo(5), "Parameterized Strings", and printf(3) for
 -- the flags, the width and the precision that it takes over.
-use Rattle.std.specs.Prelude.{◌≡◌, ℕ, ◌+◌, ◌-◌, ◌^◌, ◌<◌, ◌≤◌, Bool, true, false, not, ◌&&◌, List, [], ◌∷◌, ◌++◌, length, map, take, replicate, ℤ, pos, negsuc, if◌then◌else◌, ◌==◌, unsigned_abs, Option, Some, None, unwrap_or, is_none, ◌↔◌}
+-- The bytes are 32 a blank, 43 `+`, 45 `-`, 48 `0`, 88 `X` and 120 `x`.
+use Rattle.std.specs.Prelude.{◌≡◌, ℕ, ◌-◌, ◌^◌, ◌<◌, ◌≤◌, Bool, true, false, not, ◌&&◌, List, [], ◌∷◌, ◌++◌, length, map, take, replicate, ℤ, pos, negsuc, if◌then◌else◌, ◌==◌, unsigned_abs, Option, Some, None, unwrap_or, is_none, ◌↔◌}
 use Rattle.std.specs.Fmt.{digit_glyph}
 use Rattle.std.specs.Int.{int_rem_euclid}
 use Rattle.std.specs.Int.Digits.{digits_of, number_from_digits, AllBelowBase}

@@ -72,7 +72,8 @@ pub fn print(
     }
 }
 
-/// The law of numerals that `print` rests on.
+/// The law of numerals that `print` rests on: to each base a number has exactly one numeral, the digits
+/// without a leading 0 whose number it is.
 pub fn one_numeral()
     ensures { OneNumeral }
 {}

@@ -1,7 +1,7 @@
-use Rattle.std.proofs.Common.{arith, rules, ◌≡◌, ◌++◌, ◌∙◌, ◌-◌, ap, drop, take, List, ℕ, OnOk, subst, FitsSigned, w32}
+use Rattle.std.proofs.Common.{arith, ◌≡◌, ◌++◌, ◌∙◌, ◌-◌, ap, drop, OnOk, subst, FitsSigned, w32}
 use Rattle.std.proofs.lemmas.Int.{to_z-of_z}
 use Rattle.std.proofs.lemmas.List.{length-drop, take_all}
-use Rattle.ti_param.specs.Printf.{laid, printed_number, numeral, digits_in, in_width, sign_in, prefix_in}
+use Rattle.ti_param.specs.Printf.{laid, printed_number, numeral, digits_in, in_width}
 use Rattle.ti_param.proofs.printf.print_number.Goals as goal
 
 pub returns-clause-ok : goal.returns-clause-ok

@@ -1,0 +1,127 @@
+use super::*;
+use std::process::Abort;
+use std::test::Fail;
+
+/// 9,600 bits a second, no xon, padding at any rate, by NUL bytes.
+const PLAIN: Line = Line {
+    rate: 9600,
+    xon: false,
+    pad_from: 0,
+    pad_byte: Some(0),
+};
+
+const XON: Line = Line {
+    rate: 9600,
+    xon: true,
+    pad_from: 0,
+    pad_byte: Some(0),
+};
+
+const FROM_9600: Line = Line {
+    rate: 9600,
+    xon: false,
+    pad_from: 9600,
+    pad_byte: Some(0),
+};
+
+const FROM_9601: Line = Line {
+    rate: 9600,
+    xon: false,
+    pad_from: 9601,
+    pad_byte: Some(0),
+};
+
+const NO_PAD_BYTE: Line = Line {
+    rate: 9600,
+    xon: false,
+    pad_from: 0,
+    pad_byte: None,
+};
+
+const NO_RATE: Line = Line {
+    rate: 0,
+    xon: false,
+    pad_from: 0,
+    pad_byte: Some(0),
+};
+
+const FASTEST: Line = Line {
+    rate: u32::MAX,
+    xon: false,
+    pad_from: 0,
+    pad_byte: Some(0),
+};
+
+/// A text, lines, the line, what is literal at the front of the padded text, and the NUL bytes after it.
+type Row = (&'static str, u32, Line, &'static str, usize);
+
+static ROWS: [Row; 24] = [
+    ("\x1b[H$<50*/>", 2, XON, "\x1b[H", 96),
+    ("$<50*>", 1, XON, "", 0),
+    ("$<5.5>", 1, PLAIN, "", 6),
+    ("$<50>", 1, FROM_9600, "", 48),
+    ("$<50>", 1, FROM_9601, "", 0),
+    ("$<50/>", 1, FROM_9601, "", 48),
+    ("$<x>", 1, PLAIN, "$<x>", 0),
+    ("$<68266.6>", 1, PLAIN, "", 65536),
+    ("$<$<5>", 1, PLAIN, "$<", 5),
+    ("$$<5>", 1, PLAIN, "$", 5),
+    ("$<5**>", 1, PLAIN, "$<5**>", 0),
+    ("$<5/*/>", 1, PLAIN, "$<5/*/>", 0),
+    ("$<123456>", 1, PLAIN, "$<123456>", 0),
+    ("$<00005>", 1, PLAIN, "", 5),
+    ("$<5./>", 1, PLAIN, "$<5./>", 0),
+    ("$<5.55>", 1, PLAIN, "$<5.55>", 0),
+    ("$<.5>", 1, PLAIN, "$<.5>", 0),
+    ("$<>", 1, PLAIN, "$<>", 0),
+    ("$<5", 1, PLAIN, "$<5", 0),
+    ("$<5/*>", 3, XON, "", 15),
+    ("$<50*>", 0, PLAIN, "", 0),
+    ("a$<50/>", 1, NO_PAD_BYTE, "a", 0),
+    ("a$<50/>", 1, NO_RATE, "a", 0),
+    ("", 1, PLAIN, "", 0),
+];
+
+fn check_rows(rt: &(impl Abort + AllocGlobal), rows: &[Row]) -> Result<(), PadError> {
+    for (text, lines, line, literal, zeros) in rows {
+        let padded = pad(rt.alloc(), text.as_bytes(), *lines, line)?;
+        let (front, rest) = padded.as_slice().split_at(literal.len().min(padded.len()));
+        assert_eq!(rt; front, literal.as_bytes(), "at {text}");
+        assert_eq!(rt; rest.len(), *zeros, "at {text}");
+        assert!(rt; rest.iter().all(|byte| *byte == 0), "at {text}");
+    }
+    Ok(())
+}
+
+#[test]
+fn pads_by_the_line(rt: HostRuntime) -> Result<(), Fail> {
+    check_rows(&rt, &ROWS)?;
+    Ok(())
+}
+
+#[test]
+fn writes_the_pad_byte_between_the_pieces(rt: HostRuntime) -> Result<(), Fail> {
+    let line = Line {
+        pad_byte: Some(b'.'),
+        ..PLAIN
+    };
+    let padded = pad(rt.alloc(), b"ab$<1>cd$<2.1>e", 1, &line)?;
+    assert_eq!(rt; padded.as_slice(), b"ab.cd...e".as_slice());
+    Ok(())
+}
+
+#[test]
+fn refuses_too_much(rt: HostRuntime) {
+    assert_eq!(rt;
+        pad(rt.alloc(), b"$<68266.7>", 1, &PLAIN).err(),
+        Some(PadError::TooMuch)
+    );
+    assert_eq!(rt;
+        pad(rt.alloc(), b"$<68266.6>$<0.1>", 1, &PLAIN).err(),
+        Some(PadError::TooMuch)
+    );
+    assert_eq!(rt;
+        pad(rt.alloc(), b"$<99999.9*/>", u32::MAX, &FASTEST).err(),
+        Some(PadError::TooMuch)
+    );
+}
