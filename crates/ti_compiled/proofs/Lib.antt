@@ -3,3 +3,5 @@ pub mod ViewLemmas
 pub mod Whole
 pub mod Parts
 pub mod OneReading
+pub mod Held
+pub mod Places

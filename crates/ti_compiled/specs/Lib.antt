@@ -3,3 +3,4 @@ pub mod Reading
 pub mod Cutting
 pub mod Shown
 pub mod Sound
+pub mod Image

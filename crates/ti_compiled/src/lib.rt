@@ -1,5 +1,6 @@
 //! Compiled terminfo entries, as term(5) lays them out.
 //!
+//! - `values`: the values of an entry, a finite map from capabilities
 //! - `view`: an entry read where it lies, each name and value a slice of the caller's bytes
 //! - `sections`: the sections of an entry, cut by its header and each looked through once
 //! - `fault`: why bytes are no entry
@@ -9,8 +10,10 @@
 mod fault;
 mod laws;
 mod sections;
+mod values;
 mod view;
 
 pub use fault::ReadError;
 pub use laws::one_reading;
+pub use values::{Table, Value};
 pub use view::View;
