@@ -7,3 +7,9 @@ pub mod OctalDigits
 pub mod PieceLemmas
 pub mod SpellingLaws
 pub mod WritingLaws
+pub mod FoldLemmas
+pub mod ItemLemmas
+pub mod TextLemmas
+pub mod ReadLemmas
+pub mod ItemLaws
+pub mod ReadingLaws

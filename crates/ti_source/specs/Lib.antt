@@ -5,3 +5,8 @@ pub mod Header
 pub mod Numbers
 pub mod Spelling
 pub mod Pieces
+pub mod Folding
+pub mod Items
+pub mod Codes
+pub mod Reading
+pub mod Parsing

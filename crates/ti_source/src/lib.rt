@@ -1,23 +1,31 @@
 //! The terminfo source format, as terminfo(5) and X/Open Curses Issue 7 ("Terminfo Source Format") describe it: what a
 //! source says, with no files and no memory of what was read before.
 //!
+//! - `code`: the codes of the faults that a description may have.
 //! - `cutting` and `walk`: a source as a preface and blocks, one for each entry; `heads` finds where they begin.
 //! - `header`: the names field of a block, and its lookup names.
 //! - `numbers`: the value of a number, or why a text is none; `white_space`: what stands after it.
 //! - `lines`: the law of counting lines.
+//! - `folding`: a block without its comments and line breaks; `items`: the names field and the items of a block, and
+//!   what an item states; `parsing`: a block as it is read, with its faults.
 //! - `spelling`: from the text of a string value to the bytes that it spells, or why it spells none; `writing`: back.
 #![tactic(auto)]
 
+mod code;
 mod cutting;
+mod folding;
 mod header;
 mod heads;
+mod items;
 mod lines;
 mod numbers;
+mod parsing;
 mod spelling;
 mod walk;
 mod white_space;
 mod writing;
 
+pub use code::Code;
 pub use cutting::{
     blocks, blocks_are_single, blocks_are_single_once_ended, each_has_cut, is_block, one_cut,
 };
@@ -27,6 +35,7 @@ pub use numbers::{
     NumberError, each_number_is_read, numbers_have_one_reading, numerals_have_one_value,
     read_number,
 };
+pub use parsing::{Item, Local, Parsed, What, one_reading, parse};
 pub use spelling::{UnescapeError, Unescaped, one_outcome, unescape};
 pub use walk::Blocks;
 pub use writing::{escape, written_spells};

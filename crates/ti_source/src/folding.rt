@@ -1,0 +1,79 @@
+// The text of a block, folded: without its comments and its line breaks.
+ghost use Rattle.std.specs.Prelude.{◌≡◌, ◌≤◌, length};
+ghost use Rattle.std.specs.Iterator.{YieldsFirst, item_count};
+ghost use Rattle.ti_source.specs.Folding.{folded};
+
+use crate::white_space::is_white_space;
+use std::marker::Model;
+
+/// What is left of a folded text: its bytes, each with its line in the block, counted from 1.
+#[derive(Drop)]
+pub(crate) struct Folded<'a> {
+    rest: &'a [u8],
+    // How many newlines stand before the rest.
+    newlines: usize,
+    // The byte before the rest, or a newline where there is none.
+    before: u8,
+    // Whether that byte stands in a comment.
+    comment: bool,
+    // Whether white space at the front of the rest belongs to a line break.
+    joining: bool,
+}
+
+impl<'a> Model for Folded<'a> {
+    ghost use Rattle.std.specs.Prelude.{◌+◌, ◌<◌, ◌^◌, ℕ, List, length};
+    ghost use Rattle.ti_source.specs.Folding.{Placed, placed, without_comments, joined};
+
+    ghost Value = { List (ℕ × ℕ) };
+
+    ghost view = { λ f. joined f.joining (without_comments f.comment f.before (placed (f.newlines + 1) f.rest.now)) };
+
+    ghost invariant = { λ f. f.newlines + length f.rest.now < 2 ^ 64 };
+}
+
+impl<'a> Folded<'a> {
+    /// The folded text of a block.
+    pub(crate) fn new(block: &'a [u8]) -> Self
+        ensures value { result ≡ folded block.now }
+        ensures len { length result ≤ length block.now }
+    {
+        Folded {
+            rest: block,
+            newlines: 0,
+            before: b'\n',
+            comment: false,
+            joining: false,
+        }
+    }
+}
+
+impl<'a> Iterator for Folded<'a> {
+    type Item = (u8, usize);
+
+    ghost next_gives = { YieldsFirst (λ s. s) };
+
+    ghost remaining = { item_count (λ s. s) };
+
+    fn next(&mut self) -> Option<(u8, usize)> {
+        while let Some((byte, rest)) = self.rest.split_first() {
+            let byte = *byte;
+            let line = self.newlines + 1;
+            if self.before == b'\n' {
+                self.comment = byte == b'#';
+            }
+            self.rest = rest;
+            self.before = byte;
+            if byte == b'\n' {
+                self.newlines += 1;
+            }
+            if self.comment {
+                continue;
+            }
+            self.joining = byte == b'\n' || self.joining && is_white_space(byte);
+            if !self.joining {
+                return Some((byte, line));
+            }
+        }
+        None
+    }
+}

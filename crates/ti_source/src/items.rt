@@ -1,0 +1,192 @@
+// The names field and the items of a block, and what an item states.
+ghost use Rattle.std.specs.Prelude.{◌≡◌, ◌+◌, ◌<◌, ◌≤◌, IfOk, IfSome, OnOk, length, take, drop, slice_index, option_map};
+ghost use Rattle.ti_source.specs.Items.{
+  taken_after,
+  cuts,
+  bytes,
+  field_of,
+  after_field,
+  TakesItem,
+  piece,
+  with_byte,
+  stated,
+  statement_of,
+  valued,
+  unmarked,
+  stripped,
+};
+
+use crate::folding::Folded;
+use crate::white_space::{is_white_space, trim_end};
+use memchr::memchr2;
+use std::alloc::{AllocError, Global};
+
+/// What takes the byte that comes next.
+#[derive(Clone, Copy, PartialEq, Eq, Debug)]
+pub(crate) enum Taken {
+    Nothing,
+    Backslash,
+    Caret,
+}
+
+impl Taken {
+    // What takes the byte after `byte`, which this takes and which stands just after `before`.
+    fn after(self, before: u8, byte: u8) -> Taken
+        ensures { result ≡ taken_after self before byte }
+    {
+        match (self, byte) {
+            (Taken::Nothing, b'\\') => Taken::Backslash,
+            (Taken::Nothing, b'^') if before != b'%' => Taken::Caret,
+            _ => Taken::Nothing,
+        }
+    }
+
+    // Whether `byte`, which this takes, ends an item.
+    fn cuts(self, byte: u8) -> bool
+        ensures { result ≡ cuts self byte }
+    {
+        byte == b',' && self != Taken::Backslash
+    }
+}
+
+/// The names field of a block: its text up to the first comma, which is taken too.
+pub(crate) fn read_field(alloc: Global, source: &mut Folded<'_>) -> Result<Vec<u8>, AllocError>
+    ensures field { IfOk result (λ field. field.items ≡ bytes (field_of source.old)) }
+    ensures rest { OnOk result (source.new ≡ after_field source.old) }
+{
+    let mut field = Vec::new(alloc);
+    while let Some((byte, _)) = source.next() {
+        if byte == b',' {
+            break;
+        }
+        field.push(byte)?;
+    }
+    Ok(field)
+}
+
+/// Where an item stands, and whether the block ends with it.
+#[derive(Clone, Copy, Debug)]
+pub(crate) struct Reached {
+    /// The line of its first byte that is no white space.
+    pub(crate) line: usize,
+    /// Whether the block ends with it.
+    pub(crate) last: bool,
+}
+
+// Adds a byte to the text of an item, but for white space at its front, and gives the line of the text: `line`, or `at`,
+// the line of the byte, where the byte is the first.
+fn push_visible(text: &mut Vec<u8>, line: usize, byte: u8, at: usize) -> Result<usize, AllocError>
+    ensures { IfOk result (λ l. piece text.new.items l ≡ with_byte (piece text.old.items line) (byte, at)) }
+{
+    if !text.is_empty() {
+        text.push(byte)?;
+        return Ok(line);
+    }
+    if is_white_space(byte) {
+        return Ok(line);
+    }
+    text.push(byte)?;
+    Ok(at)
+}
+
+/// Takes the next item, and the comma that ends it, and leaves its text in `text`, without white space at its front.
+pub(crate) fn read_item(source: &mut Folded<'_>, text: &mut Vec<u8>) -> Result<Reached, AllocError>
+    ensures { IfOk result (λ item. TakesItem source.old (piece text.new.items item.line) item.last source.new) }
+{
+    text.clear();
+    let mut line = 0;
+    let mut taken = Taken::Nothing;
+    let mut before = b',';
+    while let Some((byte, at)) = source.next() {
+        if taken.cuts(byte) {
+            return Ok(Reached { line, last: false });
+        }
+        line = push_visible(text, line, byte, at)?;
+        taken = taken.after(before, byte);
+        before = byte;
+    }
+    Ok(Reached { line, last: true })
+}
+
+/// What an item states of the capability of a name.
+#[derive(Clone, Copy, Debug)]
+pub(crate) struct Statement<'a> {
+    pub(crate) name: &'a [u8],
+    pub(crate) claim: Claim<'a>,
+}
+
+/// What is stated: that a flag is there, a number or a text by its spelling, or that the capability is cancelled.
+#[derive(Clone, Copy, Debug)]
+pub(crate) enum Claim<'a> {
+    Flag,
+    Number(&'a [u8]),
+    Text(&'a [u8]),
+    Cancel,
+}
+
+/// What an item states, by its text with no white space at its front. An empty item and a disabled one, which begins
+/// with a dot, state nothing.
+pub(crate) fn statement_of(text: &[u8]) -> Option<Statement<'_>>
+    ensures { option_map stated result ≡ statement_of text.now }
+{
+    let (first, _) = text.split_first()?;
+    if *first == b'.' {
+        return None;
+    }
+    match memchr2(b'#', b'=', text) {
+        Some(end) => Some(marked(text, end)),
+        None => Some(unmarked(trim_end(text))),
+    }
+}
+
+// What an item states in which the first mark stands at `end`: a number behind `#`, a text behind `=`.
+fn marked(text: &[u8], end: usize) -> Statement<'_>
+    requires { end < length text.now }
+    ensures { stated result ≡ valued (take end text.now) (slice_index text.now end) (drop (end + 1) text.now) }
+{
+    let value = &text[end + 1..];
+    Statement {
+        name: &text[..end],
+        claim: if text[end] == b'#' {
+            Claim::Number(value)
+        } else {
+            Claim::Text(value)
+        },
+    }
+}
+
+#[tactic(auto, using(crate::proofs::TextLemmas::unmarked_lemmas))]
+// What an item with no mark states: a cancel where it ends in `@`, else a flag.
+fn unmarked(text: &[u8]) -> Statement<'_>
+    ensures { stated result ≡ unmarked text.now }
+{
+    let flag = Statement {
+        name: text,
+        claim: Claim::Flag,
+    };
+    let Some((last, name)) = text.split_last() else {
+        return flag;
+    };
+    if *last == b'@' {
+        Statement {
+            name,
+            claim: Claim::Cancel,
+        }
+    } else {
+        flag
+    }
+}
+
+/// A text without the white space at both ends.
+pub(crate) fn stripped(text: &[u8]) -> &[u8]
+    ensures { result.now ≡ stripped text.now }
+{
+    let mut kept = text;
+    while let Some((first, rest)) = kept.split_first() {
+        if !is_white_space(*first) {
+            break;
+        }
+        kept = rest;
+    }
+    trim_end(kept)
+}

@@ -1,0 +1,274 @@
+// A block as it is read.
+ghost use Rattle.std.specs.Prelude.{◌≡◌, ◌<◌, ◌+◌, ◌^◌, IfOk, OnOk, length};
+ghost use Rattle.ti_source.specs.Blocks.{OneBlock};
+ghost use Rattle.ti_source.specs.Items.{stated, piece};
+ghost use Rattle.ti_source.specs.Numbers.{number_read};
+ghost use Rattle.ti_source.specs.Parsing.{
+  Parses,
+  parsed,
+  HasReading,
+  OneReading,
+  verdict_in_memory,
+  verdict_of,
+  number_verdict,
+  text_verdict,
+  AddsItem,
+  AddsItems,
+  ReadsField,
+  header_fault,
+};
+ghost use Rattle.ti_source.specs.Reading.{fault_of, reading_of};
+ghost use Rattle.ti_source.specs.Spelling.{unescaped};
+
+use crate::code::Code;
+use crate::folding::Folded;
+use crate::header::lookup_names;
+use crate::items::{Claim, Statement, read_field, read_item, statement_of, stripped};
+use crate::numbers::{NumberError, read_number};
+use crate::spelling::{UnescapeError, one_outcome, unescape};
+use std::alloc::{AllocError, Global};
+use std::rc::RcSlice;
+use ti_caps::{Cap, Kind, find};
+
+/// The most bytes that a names field may have.
+const NAMES_LIMIT: usize = 127;
+
+/// What an accepted item says.
+#[derive(Debug, Drop)]
+pub enum What {
+    /// A flag is there.
+    Flag(Cap),
+    /// A number has this value, at most 32,767.
+    Number(Cap, u32),
+    /// A text has these bytes, none of them a NUL.
+    Text(Cap, RcSlice<u8>),
+    /// A capability is cancelled.
+    Cancel(Cap),
+    /// `use=`: the items of the entry of this name stand here.
+    Import(RcSlice<u8>),
+}
+
+/// An accepted item of a block.
+#[derive(Debug, Drop)]
+pub struct Item {
+    /// Its place among the items of the block, counted from 0; empty and disabled items count.
+    pub ordinal: usize,
+    /// The line of its first byte, counted from 1 in the block.
+    pub line: usize,
+    /// What it says.
+    pub what: What,
+}
+
+/// A fault of a block by itself, whatever stands in other blocks.
+#[derive(Debug, Drop)]
+pub struct Local {
+    /// The place of the item, as in `Item`; 0 for a fault of the names field.
+    pub ordinal: usize,
+    /// The line of the item, as in `Item`; 1 for a fault of the names field.
+    pub line: usize,
+    /// What is wrong.
+    pub code: Code,
+    /// The name of the item as it stands; `None` for a fault of the names field.
+    pub detail: Option<RcSlice<u8>>,
+}
+
+/// A block as it is read.
+#[derive(Debug, Drop)]
+pub struct Parsed {
+    /// The names field, as it stands.
+    pub field: Vec<u8>,
+    /// The lookup names in their order; none where the names field is bad.
+    pub names: Vec<RcSlice<u8>>,
+    /// The accepted items in their order.
+    pub items: Vec<Item>,
+    /// The faults: that of the names field, and then those of items in their order.
+    pub faults: Vec<Local>,
+}
+
+/// What comes of a statement: it is accepted, accepted though an escape in it is odd, or refused by a fault.
+#[derive(Debug, Drop)]
+enum Verdict {
+    Accepted(What),
+    AcceptedOdd(What),
+    Refused(Code),
+}
+
+/// What a block says: its names field, its lookup names, its accepted items and its own faults, by X/Open Curses
+/// Issue 7, "Terminfo Source Format", and terminfo(5). What stands in other blocks plays no part.
+///
+/// A description may be wrong in many ways, and each is a fault of the answer. `AllocError` is the only error: that
+/// there was no memory for the answer.
+pub fn parse(alloc: Global, block: &[u8]) -> Result<Parsed, AllocError>
+    requires { OneBlock block.now }
+    ensures reading { IfOk result (λ p. Parses block.now (reading_of p)) }
+    ensures computed { IfOk result (λ p. reading_of p ≡ parsed block.now) }
+{
+    let mut source = Folded::new(block);
+    let field = read_field(alloc, &mut source)?;
+    let mut parsed = read_header(alloc, field)?;
+    read_items(alloc, &mut source, &mut parsed)?;
+    Ok(parsed)
+}
+
+// A fault of the names field, which stands on the first line.
+fn header_fault(code: Code) -> Local
+    ensures { fault_of result ≡ header_fault code }
+{
+    Local {
+        ordinal: 0,
+        line: 1,
+        code,
+        detail: None,
+    }
+}
+
+// The names of a block by its names field, and the fault of the field; no items yet.
+fn read_header(alloc: Global, field: Vec<u8>) -> Result<Parsed, AllocError>
+    ensures { IfOk result (λ p. ReadsField field.items (reading_of p)) }
+{
+    let mut faults = Vec::new(alloc);
+    let names = match lookup_names(alloc, &field)? {
+        None => {
+            faults.push(header_fault(Code::BadHeader))?;
+            Vec::new(alloc)
+        }
+        Some(names) => {
+            if field.len() > NAMES_LIMIT {
+                faults.push(header_fault(Code::NamesTooLong))?;
+            }
+            names
+        }
+    };
+    Ok(Parsed {
+        field,
+        names,
+        items: Vec::new(alloc),
+        faults,
+    })
+}
+
+// Reads the items of a block, and adds what they say and their faults.
+fn read_items(alloc: Global, source: &mut Folded<'_>, parsed: &mut Parsed) -> Result<(), AllocError>
+    requires { length source.old < 2 ^ 64 }
+    ensures { OnOk result (AddsItems source.old (reading_of parsed.old) (reading_of parsed.new)) }
+{
+    let mut text = Vec::new(alloc);
+    let mut ordinal = 0;
+    loop {
+        let item = read_item(source, &mut text)?;
+        add_item(alloc, &text, ordinal, item.line, parsed)?;
+        if item.last {
+            return Ok(());
+        }
+        ordinal += 1;
+    }
+}
+
+// Adds what an item says, and its fault. An empty or a disabled item adds nothing.
+fn add_item(
+    alloc: Global,
+    text: &[u8],
+    ordinal: usize,
+    line: usize,
+    parsed: &mut Parsed,
+) -> Result<(), AllocError>
+    ensures { OnOk result (AddsItem ordinal (piece text.now line) (reading_of parsed.old) (reading_of parsed.new)) }
+{
+    let Some(statement) = statement_of(text) else {
+        return Ok(());
+    };
+    match judge(alloc, &statement)? {
+        Verdict::Accepted(what) => {
+            parsed.items.push(Item {
+                ordinal,
+                line,
+                what,
+            })?;
+            Ok(())
+        }
+        Verdict::AcceptedOdd(what) => {
+            parsed.items.push(Item {
+                ordinal,
+                line,
+                what,
+            })?;
+            let detail = RcSlice::from_slice(alloc, statement.name)?;
+            parsed.faults.push(Local {
+                ordinal,
+                line,
+                code: Code::UnknownEscape,
+                detail: Some(detail),
+            })?;
+            Ok(())
+        }
+        Verdict::Refused(code) => {
+            let detail = RcSlice::from_slice(alloc, statement.name)?;
+            parsed.faults.push(Local {
+                ordinal,
+                line,
+                code,
+                detail: Some(detail),
+            })?;
+            Ok(())
+        }
+    }
+}
+
+// The verdict on a statement: first a name that is not in the tables, then one of another kind, then a value that cannot
+// be read.
+fn judge(alloc: Global, statement: &Statement<'_>) -> Result<Verdict, AllocError>
+    ensures { IfOk result (λ v. verdict_in_memory v ≡ verdict_of (stated statement.now).name (stated statement.now).claim) }
+{
+    let name = statement.name;
+    if let Claim::Text(value) = statement.claim
+        && name == b"use".as_slice()
+    {
+        let owner = RcSlice::from_slice(alloc, stripped(value))?;
+        return Ok(Verdict::Accepted(What::Import(owner)));
+    }
+    let Some(cap) = find(name) else {
+        return Ok(Verdict::Refused(Code::UnknownCapability));
+    };
+    match (statement.claim, cap.kind()) {
+        (Claim::Flag, Kind::Flag) => Ok(Verdict::Accepted(What::Flag(cap))),
+        (Claim::Number(text), Kind::Number) => Ok(judge_number(cap, text)),
+        (Claim::Text(value), Kind::Text) => judge_text(alloc, cap, value),
+        (Claim::Cancel, _) => Ok(Verdict::Accepted(What::Cancel(cap))),
+        _ => Ok(Verdict::Refused(Code::WrongKind)),
+    }
+}
+
+fn judge_number(cap: Cap, text: &[u8]) -> Verdict
+    ensures { verdict_in_memory result ≡ number_verdict cap (number_read text.now) }
+{
+    match read_number(text) {
+        Ok(number) => Verdict::Accepted(What::Number(cap, number)),
+        Err(NumberError::Bad) => Verdict::Refused(Code::BadNumber),
+        Err(NumberError::TooLarge) => Verdict::Refused(Code::NumberTooLarge),
+    }
+}
+
+fn judge_text(alloc: Global, cap: Cap, value: &[u8]) -> Result<Verdict, AllocError>
+    ensures { IfOk result (λ v. verdict_in_memory v ≡ text_verdict cap (unescaped value.now)) }
+{
+    match unescape(alloc, value) {
+        Ok(found) => {
+            let what = What::Text(cap, RcSlice::from_vec(found.bytes)?);
+            if found.odd {
+                Ok(Verdict::AcceptedOdd(what))
+            } else {
+                Ok(Verdict::Accepted(what))
+            }
+        }
+        Err(UnescapeError::Memory) => Err(AllocError),
+        Err(_) => Ok(Verdict::Refused(Code::BadString)),
+    }
+}
+
+/// Each block has one reading, which `parse` gives.
+pub fn one_reading()
+    ensures computed { HasReading }
+    ensures only { OneReading }
+{
+    one_outcome();
+}
