@@ -6,6 +6,7 @@ pub mod WalkLemmas
 pub mod OctalDigits
 pub mod PieceLemmas
 pub mod SpellingLaws
+pub mod ValueLaws
 pub mod WritingLaws
 pub mod FoldLemmas
 pub mod ItemLemmas

@@ -1,16 +1,14 @@
 -- What is computed of a text is what the relations say, so a text has one outcome.
 use Rattle.std.proofs.Common.{◌≡◌, ◌≢◌, ℕ, zero, suc, ◌+◌, ◌-◌, ◌<◌, ◌≤◌, Bool, true, false, cond, eqb, List, [], ◌∷◌, ◌++◌, length, Option, Some, None, Result, Ok, Err, refl, ap, subst, sym, ◌∙◌, add-one, arith, ◌⊎◌, inl, inr}
-use Rattle.std.specs.Prelude.{◌&&◌, ◌||◌, not, bit_and, MatchResult, nat_le, is_some, IfOk, IfErr, IsOk}
-use Rattle.std.specs.Map.{lookup}
-use Rattle.std.proofs.lemmas.List.Elements.{All-nil, All-cons}
+use Rattle.std.specs.Prelude.{◌&&◌, ◌||◌, bit_and, MatchResult, nat_le, is_some, IfOk, IfErr, IsOk}
 use Rattle.ti_source.specs.declared.spelling.Unescaped.{Unescaped}
-use Rattle.std.proofs.lemmas.Bool.{ne_eqb, le-leb, lt-leb, and_parts, agree_below_at, false_from_ne_true, cond_both, eqb-false, not-true}
+use Rattle.std.proofs.lemmas.Bool.{ne_eqb, le-leb, lt-leb, agree_below_at, false_from_ne_true}
 use Rattle.std.proofs.lemmas.Result.{MatchResult-at_ok, MatchResult-at_err}
 use Rattle.std.proofs.lemmas.List.{length-append}
 use Rattle.ti_source.specs.declared.spelling.Piece.{Piece}
 use Rattle.ti_source.specs.declared.spelling.UnescapeError.{UnescapeError}
 use Rattle.ti_source.specs.declared.spelling.UnescapeError.TheVariants.{BadOctal, BadControl, BadByte, Memory}
-use Rattle.ti_source.specs.Spelling.{named_escape, is_octal_digit, octal_digits, octal_digits_up_to, octal_value, octal_piece, unnamed_piece, named_piece, escape_piece, is_control_letter, control_piece, first_piece, is_percent, last_byte, not_nul, with_piece, then_later, unescaped_from, unescaped, IsEscape, escape_named, escape_octal, escape_unknown, escape_missing, IsControl, control_delete, control_masked, IsPiece, piece_escape, piece_control, piece_caret, piece_plain, IsRefused, refused_octal, refused_control, refused_control_at_end, refused_nul, refused_escaped_nul, SpellsAfter, spells_nothing, spells_piece, FailsAfter, fails_here, fails_later, named_escapes, Spells, Fails, CanBeSpelled, Explains, GivesUnescaped, HasNoNul, OneOutcome, UnescapedAgrees}
+use Rattle.ti_source.specs.Spelling.{named_escape, is_octal_digit, octal_digits, octal_digits_up_to, octal_value, octal_piece, unnamed_piece, named_piece, escape_piece, is_control_letter, control_piece, first_piece, is_percent, last_byte, not_nul, with_piece, then_later, unescaped_from, unescaped, IsEscape, escape_named, escape_octal, escape_unknown, escape_missing, IsControl, control_delete, control_masked, IsPiece, piece_escape, piece_control, piece_caret, piece_plain, IsRefused, refused_octal, refused_control, refused_control_at_end, refused_nul, refused_escaped_nul, SpellsAfter, spells_nothing, spells_piece, FailsAfter, fails_here, fails_later, Spells, Fails, CanBeSpelled, Explains, GivesUnescaped, OneOutcome, UnescapedAgrees}
 use Rattle.ti_source.proofs.OctalDigits.{digit_bounds}
 use Rattle.ti_source.proofs.PieceLemmas.{is_letter, control_letter, Found, first_right, piece_some, refuses}
 
@@ -227,53 +225,7 @@ one_outcome raw = record {
   not_both = λ value odd cause s f. not_both_ways (unescaped raw) (value, odd) cause (spells_unescaped s) (fails_unescaped f);
 }
 
--- ---- what is spelled holds no NUL, and is no longer than its text
-
-all_some : List (ℕ × ℕ) → Bool
-all_some [] = true
-all_some (row ∷ rows) = not (eqb row.1 0) && all_some rows
-
-some_value : (x byte : ℕ) (rows : List (ℕ × ℕ)) → all_some rows ≡ true → lookup (λ row. eqb row x) rows ≡ Some byte → byte ≢ 0
-unfolding all_some
-some_value x byte [] all e = absurd cc
-some_value x byte (row ∷ rows) all e = by_test (eqb row.0 x) e (some_value x byte rows (and_parts _ _ all).1)
-  where
-    by_test : (b : Bool) → cond b (Some row.1) (lookup (λ row. eqb row x) rows) ≡ Some byte → (lookup (λ row. eqb row x) rows ≡ Some byte → byte ≢ 0) → byte ≢ 0
-    by_test true h later is =
-        let row_is : row.1 ≡ byte = cc in
-        eqb-false row.1 0 (not-true _ (and_parts _ _ all).0) (row_is ∙ is)
-    by_test false h later is = later h is
-
-named_some : (x byte : ℕ) → named_escape x ≡ Some byte → byte ≢ 0
-unfolding all_some
-named_some x byte e = some_value x byte named_escapes refl e
-
-not_nul_some : (x : ℕ) → not_nul x ≢ 0
-not_nul_some x = cond_both (eqb x 0) 128 x (λ y. y ≢ 0) (λ e is. absurd cc) (λ e is. eqb-false x 0 e is)
-
-escape_some : {text rest : List ℕ} {byte : ℕ} {odd : Bool} → IsEscape text rest byte odd → byte ≢ 0
-escape_some (escape_named {letter = x} {byte = byte} e) = named_some x byte e
-escape_some (escape_octal {digit = x} {digits = ds} e le) = not_nul_some (octal_value (x ∷ ds))
-escape_some (escape_unknown named digit some) = some
-escape_some escape_missing = omega arith
-
-control_some : {x byte : ℕ} → IsControl x byte → byte ≢ 0
-control_some control_delete = omega arith
-control_some (control_masked {x = x} low high comma question) = not_nul_some (bit_and x 31)
-
-byte_some : {before byte : ℕ} {text rest : List ℕ} {odd : Bool} → IsPiece before text rest byte odd → byte ≢ 0
-byte_some (piece_escape e) = escape_some e
-byte_some (piece_control takes c) = control_some c
-byte_some (piece_caret literal) = omega arith
-byte_some (piece_plain ne92 ne94 ne0) = ne0
-
-pub spelled_no_nul : {before : ℕ} {raw value : List ℕ} {odd : Bool} → SpellsAfter before raw value odd → HasNoNul value
-spelled_no_nul spells_nothing = All-nil (λ byte. byte ≢ 0)
-spelled_no_nul (spells_piece {byte = byte} {value = value} p later) = All-cons (λ byte. byte ≢ 0) byte value (byte_some p) (spelled_no_nul later)
-
-pub spelled_no_longer : {before : ℕ} {raw value : List ℕ} {odd : Bool} → SpellsAfter before raw value odd → length value ≤ length raw
-spelled_no_longer spells_nothing = omega arith
-spelled_no_longer (spells_piece {text = text} {rest = rest} p later) = omega (arith, piece_some p, spelled_no_longer later, length-append text rest)
+-- ---- an answer
 
 -- no refusal is want of memory
 fails_not_memory : {before : ℕ} {raw : List ℕ} {cause : UnescapeError} → FailsAfter before raw cause → cause ≢ Memory
@@ -283,8 +235,6 @@ fails_not_memory (fails_here (refused_control_at_end takes)) e = cc
 fails_not_memory (fails_here refused_nul) e = cc
 fails_not_memory (fails_here refused_escaped_nul) e = cc
 fails_not_memory (fails_later p later) e = fails_not_memory later e
-
--- ---- an answer
 
 pub answer_spells : (raw : List ℕ) (r : Result Unescaped UnescapeError) → GivesUnescaped raw r → IfOk r (λ found. Spells raw found.bytes.items found.odd)
 answer_spells raw (Ok found) e = unescaped_spells e
@@ -307,11 +257,3 @@ fault_answers raw Memory e = absurd (fails_not_memory (unescaped_fails e) refl)
 fault_answers raw BadOctal e = e
 fault_answers raw BadControl e = e
 fault_answers raw BadByte e = e
-
-pub answer_no_nul : (raw : List ℕ) (r : Result Unescaped UnescapeError) → GivesUnescaped raw r → IfOk r (λ found. HasNoNul found.bytes.items)
-answer_no_nul raw (Ok found) e = spelled_no_nul (unescaped_spells e)
-answer_no_nul raw (Err cause) e = tt
-
-pub answer_no_longer : (raw : List ℕ) (r : Result Unescaped UnescapeError) → GivesUnescaped raw r → IfOk r (λ found. length found.bytes.items ≤ length raw)
-answer_no_longer raw (Ok found) e = spelled_no_longer (unescaped_spells e)
-answer_no_longer raw (Err cause) e = tt

@@ -6,7 +6,7 @@
 --   Spells, Fails       the same as relations, one constructor for each row of the manual's table
 --   written value       the text that `escape` writes
 --   HasNoNul, AreBytes  what a value holds
--- The laws: OneOutcome, UnescapedAgrees, WrittenSpells.
+-- The laws: OneOutcome, UnescapedAgrees, ValuesAreSound, WrittenSpells, WrittenReadsBack.
 use Rattle.std.specs.Prelude.{◌≡◌, ◌≢◌, ℕ, zero, suc, ◌+◌, ◌-◌, ◌*◌, ◌/◌, ◌%◌, ◌<◌, ◌≤◌, ◌==◌, Bool, true, false, not, ◌&&◌, ◌||◌, ◌⊎◌, ◌↔◌, if◌then◌else◌, nat_le, nat_lt, List, [], ◌∷◌, ◌++◌, length, bit_and, IsOk}
 use Rattle.std.specs.Prelude.{Option, Some, None, Result, Ok, Err}
 use Rattle.std.specs.List.{All}
@@ -250,6 +250,18 @@ pub record IsComputed (raw : List ℕ) : Type 0 where
 abbrev pub UnescapedAgrees : Type 0
 UnescapedAgrees = (raw : List ℕ) → IsComputed raw
 
+-- what is known of a value by its text alone
+pub record IsValueOf (raw value : List ℕ) : Type 0 where
+  pub no_nul : HasNoNul value
+  pub no_longer : length value ≤ length raw
+  pub bytes : AreBytes raw → AreBytes value
+
+abbrev pub ValuesAreSound : Type 0
+ValuesAreSound = (raw value : List ℕ) (odd : Bool) → unescaped raw ≡ Ok (value, odd) → IsValueOf raw value
+
 -- what is written reads back
 abbrev pub WrittenSpells : Type 0
 WrittenSpells = (value : List ℕ) → AreBytes value → HasNoNul value → Spells (written value) value false
+
+abbrev pub WrittenReadsBack : Type 0
+WrittenReadsBack = (value : List ℕ) → AreBytes value → HasNoNul value → unescaped (written value) ≡ Ok (value, false)

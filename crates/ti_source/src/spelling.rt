@@ -2,7 +2,7 @@
 
 ghost use Rattle.std.specs.Prelude.{◌≡◌, ◌≤◌, ◌<◌, length, true, false, IfOk, IfErr, IsOk, IsOkAnd};
 ghost use Rattle.ti_source.specs.declared.spelling.UnescapeError.TheVariants.{Memory};
-ghost use Rattle.ti_source.specs.Spelling.{named_escape, is_octal_digit, octal_digits, octal_value, octal_piece, not_nul, escape_piece, control_piece, first_piece, unescaped, GivesUnescaped, Spells, Explains, HasNoNul, OneOutcome, UnescapedAgrees};
+ghost use Rattle.ti_source.specs.Spelling.{named_escape, is_octal_digit, octal_digits, octal_value, octal_piece, not_nul, escape_piece, control_piece, first_piece, unescaped, GivesUnescaped, Spells, Explains, HasNoNul, OneOutcome, UnescapedAgrees, ValuesAreSound};
 ghost use Rattle.ti_source.specs.Pieces.{left_of, TakesPiece};
 
 use std::alloc::{AllocError, AllocFailed, Global};
@@ -112,6 +112,9 @@ fn not_nul(byte: u8) -> u8
     if byte == 0 { 0x80 } else { byte }
 }
 
+/// An octal escape takes as many digits as there are, up to this.
+const MOST_OCTAL_DIGITS: usize = 3;
+
 /// The value and the count of the octal digits at the front of `text`, at most three.
 fn octal_front(text: &[u8]) -> (u16, usize)
     ensures value { result.0 ≡ octal_value (octal_digits text.now) }
@@ -120,7 +123,7 @@ fn octal_front(text: &[u8]) -> (u16, usize)
     let mut value: u16 = 0;
     let mut count: usize = 0;
     for &digit in text {
-        if count == 3 || !is_octal_digit(digit) {
+        if count == MOST_OCTAL_DIGITS || !is_octal_digit(digit) {
             break;
         }
         value = value * 8 + u16::from(digit - b'0');
@@ -274,4 +277,8 @@ pub fn unescape(alloc: Global, raw: &[u8]) -> Result<Unescaped, UnescapeError>
 pub fn one_outcome()
     ensures outcome { OneOutcome }
     ensures computed { UnescapedAgrees }
+    ensures values { ValuesAreSound }
 {}
+
+#[cfg(test)]
+mod tests;

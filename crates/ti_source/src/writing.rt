@@ -1,7 +1,7 @@
 //! String values as terminfo(5) spells them: writing.
 
 ghost use Rattle.std.specs.Prelude.{◌≡◌, ◌≤◌, ◌++◌, length, OnOk, IfOk};
-ghost use Rattle.ti_source.specs.Spelling.{short_escape, octal_text, byte_text, is_percent, written, WrittenSpells};
+ghost use Rattle.ti_source.specs.Spelling.{short_escape, octal_text, byte_text, is_percent, written, WrittenSpells, WrittenReadsBack};
 
 use std::alloc::{AllocError, Global};
 
@@ -76,5 +76,9 @@ pub fn escape(alloc: Global, value: &[u8]) -> Result<Vec<u8>, AllocError>
 
 /// What is written reads back.
 pub fn written_spells()
-    ensures { WrittenSpells }
+    ensures spells { WrittenSpells }
+    ensures computed { WrittenReadsBack }
 {}
+
+#[cfg(test)]
+mod tests;

@@ -1,4 +1,5 @@
 use Rattle.ti_source.proofs.SpellingLaws.{one_outcome, unescaped_agrees}
+use Rattle.ti_source.proofs.ValueLaws.{values_are_sound}
 use Rattle.ti_source.proofs.spelling.one_outcome.Goals as goal
 
 pub returns-clause-outcome : goal.returns-clause-outcome
@@ -6,3 +7,6 @@ returns-clause-outcome c = one_outcome
 
 pub returns-clause-computed : goal.returns-clause-computed
 returns-clause-computed c = unescaped_agrees
+
+pub returns-clause-values : goal.returns-clause-values
+returns-clause-values c = values_are_sound

@@ -1,6 +1,7 @@
 use Rattle.std.proofs.Common.{Err}
 use Rattle.std.proofs.lemmas.Result.{err_from_is_err_and}
-use Rattle.ti_source.proofs.SpellingLaws.{answer_spells, answer_explains, answer_no_nul, answer_no_longer, fault_answers}
+use Rattle.ti_source.proofs.SpellingLaws.{answer_spells, answer_explains, fault_answers}
+use Rattle.ti_source.proofs.ValueLaws.{answer_no_nul, answer_no_longer}
 use Rattle.ti_source.proofs.spelling.unescape.Goals as goal
 
 pub returns-in_err-count-clause-err : goal.returns-in_err-count-clause-err

@@ -1,5 +1,8 @@
-use Rattle.ti_source.proofs.WritingLaws.{written_spells}
+use Rattle.ti_source.proofs.WritingLaws.{written_spells, written_reads}
 use Rattle.ti_source.proofs.writing.written_spells.Goals as goal
 
-pub returns : goal.returns
-returns c = written_spells
+pub returns-clause-spells : goal.returns-clause-spells
+returns-clause-spells c = written_spells
+
+pub returns-clause-computed : goal.returns-clause-computed
+returns-clause-computed c = written_reads
