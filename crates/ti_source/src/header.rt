@@ -103,22 +103,17 @@ mod tests {
     #[test]
     fn reads_headers(rt: HostRuntime) -> Result<(), Fail> {
         for (field, wanted) in [
-            (b"dumb".as_slice(), [b"dumb".as_slice()].as_slice()),
-            (
-                b"dumb|80-column dumb tty".as_slice(),
-                [b"dumb".as_slice()].as_slice(),
-            ),
-            (
-                b"x-1|y~|a/b, \tc".as_slice(),
-                [b"x-1".as_slice(), b"y~".as_slice()].as_slice(),
-            ),
-            (b"...|..".as_slice(), [b"...".as_slice()].as_slice()),
+            (b"dumb".as_slice(), b"dumb".as_slice()),
+            (b"dumb|80-column dumb tty".as_slice(), b"dumb".as_slice()),
+            (b"x-1|y~|a/b, \tc".as_slice(), b"x-1|y~".as_slice()),
+            (b"...|..".as_slice(), b"...".as_slice()),
         ] {
             let found = lookup_names(rt.alloc(), field)?.ok_or("a good header")?;
-            assert_eq!(rt; found.len(), wanted.len());
-            for (name, want) in found.iter().zip(wanted) {
-                assert_eq!(rt; name.as_slice(), *want);
+            let mut names = wanted.split(|byte| *byte == b'|');
+            for name in &found {
+                assert_eq!(rt; names.next(), Some(name.as_slice()));
             }
+            assert!(rt; names.next().is_none());
         }
         for field in [
             b"".as_slice(),
