@@ -1,11 +1,11 @@
 -- What the entries of a table say of a capability, and what an edit of them changes.
-use Rattle.std.proofs.Common.{◌≡◌, ◌≢◌, ℕ, zero, suc, ◌+◌, ◌-◌, ◌<◌, ◌≤◌, ◌==◌, ◌&&◌, Bool, true, false, if◌then◌else◌, List, [], ◌∷◌, ◌++◌, map, length, get_or, take, drop, set, Option, Some, None, All, refl, sym, ◌∙◌, ap, subst, inl, inr, arith, eqb-true, eq-eqb}
+use Rattle.std.proofs.Common.{◌≡◌, ◌≢◌, ℕ, zero, suc, ◌+◌, ◌<◌, Bool, true, false, if◌then◌else◌, List, [], ◌∷◌, length, get_or, set, Option, Some, None, refl, sym, ◌∙◌, ap, arith, eqb-true, eq-eqb}
 use Rattle.std.specs.List.{insert, remove}
 use Rattle.std.proofs.lemmas.Bool.{and_parts, and_from}
 use Rattle.ti_caps.specs.Tables.{Capability, IsCapability, capability, count_of}
 use Rattle.ti_caps.specs.declared.capability.Kind.{Kind}
 use Rattle.ti_caps.specs.declared.capability.Kind.TheVariants.{Flag, Number, Text}
-use Rattle.ti_compiled.specs.Values.{Content, Contents, Entry, contents, is_same, kind_place, rank_in, rank_of}
+use Rattle.ti_compiled.specs.Values.{Content, Entry, contents, is_same, kind_place, rank_in, rank_of}
 
 -- ---- whether two capabilities are one
 

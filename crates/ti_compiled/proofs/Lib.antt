@@ -5,3 +5,5 @@ pub mod Parts
 pub mod OneReading
 pub mod Held
 pub mod Places
+pub mod Joined
+pub mod ImageReading

@@ -1,20 +1,20 @@
 -- Where a binary search ends among entries that are in order, and what an edit there keeps.
-use Rattle.std.proofs.Common.{◌≡◌, ◌≢◌, ℕ, zero, suc, ◌+◌, ◌-◌, ◌<◌, ◌≤◌, List, [], ◌∷◌, ◌++◌, map, length, get_or, take, drop, set, Option, Some, None, Result, Ok, Err, IfOk, IfErr, All, refl, sym, ◌∙◌, ap, subst, inl, inr, arith, ◌⊎◌, if◌then◌else◌, Less, Equal, Greater, length-set}
+use Rattle.std.proofs.Common.{◌≡◌, ℕ, zero, suc, ◌+◌, ◌-◌, ◌<◌, ◌≤◌, List, [], ◌∷◌, map, length, get_or, take, drop, set, Option, Some, None, Result, Ok, Err, IfOk, IfErr, refl, sym, ◌∙◌, ap, subst, inl, inr, arith, if◌then◌else◌, Less, Equal, Greater, length-set}
 use Rattle.std.specs.List.{insert, remove}
 use Rattle.std.specs.List.Sorted.{IsSearchInRange, IsBinarySearchResult, IsNonDecreasingBy}
 use Rattle.std.specs.Ordering.{nat_cmp, ordering_index}
 use Rattle.std.proofs.lemmas.Cmp.{ranked}
 use Rattle.std.proofs.lemmas.Bool.{cases_lt}
 use Rattle.std.proofs.lemmas.Bool.Decides.{nat_tests}
-use Rattle.std.proofs.lemmas.List.{get_or-map, length-map, map-set, map-append, take-map, get_or-set_same}
+use Rattle.std.proofs.lemmas.List.{get_or-map, length-map, map-set}
 use Rattle.std.proofs.Math.ListN.{get_or-map as read_map}
 use Rattle.std.proofs.Math.Seq.{map-set_same}
 use Rattle.std.proofs.lemmas.List.Edits.{length-insert, get_or-insert_below, get_or-insert_at, get_or-insert_above, length-remove, get_or-remove_below, get_or-remove_above}
-use Rattle.std.proofs.lemmas.List.Elements.{All-get_or, All-set, All-append, All-cons, All-take, All-drop}
+use Rattle.std.proofs.lemmas.List.Elements.{All-set, All-append, All-cons, All-take, All-drop}
 use Rattle.ti_caps.specs.Tables.{Capability, IsCapability}
 use Rattle.ti_compiled.specs.declared.values.Value.{Value}
 use Rattle.ti_compiled.specs.declared.values.Value.TheVariants.{True}
-use Rattle.ti_compiled.specs.Values.{Content, content_true, Entry, Agrees, IsAt, IsGapFor, IsKept, SetsOnly, contents, content_of, entries_of, is_same, rank_at, rank_of}
+use Rattle.ti_compiled.specs.Values.{Content, content_true, Entry, Agrees, IsAt, IsGapFor, IsKept, SetsOnly, contents, content_of, entries_of, rank_at, rank_of}
 use Rattle.ti_compiled.proofs.Held.{Elsewhere, Nowhere, Says, one_from_rank, contents_here, contents_nowhere, says-set, says-insert, says-remove, same_from_one, test_from_other}
 
 -- the rank that a place has is that of the capability there

@@ -4,3 +4,4 @@ pub mod Cutting
 pub mod Shown
 pub mod Sound
 pub mod Image
+pub mod Laws

@@ -4,7 +4,7 @@
 //! - `view`: an entry read where it lies, each name and value a slice of the caller's bytes
 //! - `sections`: the sections of an entry, cut by its header and each looked through once
 //! - `fault`: why bytes are no entry
-//! - `laws`: what the definitions of reading settle
+//! - `laws`: what the definitions of reading settle, and that what is written is read again
 #![tactic(auto)]
 
 mod fault;
@@ -14,6 +14,6 @@ mod values;
 mod view;
 
 pub use fault::ReadError;
-pub use laws::one_reading;
+pub use laws::{images_are_read, one_reading};
 pub use values::{Table, Value};
 pub use view::View;

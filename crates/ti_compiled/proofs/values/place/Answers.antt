@@ -1,5 +1,5 @@
 -- the search goes by the place of each entry among all capabilities
-use Rattle.std.proofs.Common.{rules, sym, subst}
+use Rattle.std.proofs.Common.{rules}
 use Rattle.std.proofs.lemmas.List.Sorted.{answers_always}
 use Rattle.ti_compiled.specs.Values.{rank_of}
 use Rattle.ti_compiled.proofs.Places.{searched}

@@ -1,7 +1,6 @@
 -- no entry says anything
-use Rattle.std.proofs.Common.{refl, ap, ◌∙◌}
+use Rattle.std.proofs.Common.{ap}
 use Rattle.ti_compiled.specs.Values.{contents, entries_of}
-use Rattle.ti_compiled.proofs.Places.{rank_read}
 use Rattle.ti_compiled.proofs.values.Table.new.Goals as goal
 
 pub returns : goal.returns
