@@ -22,32 +22,37 @@ use Rattle.ti_source.specs.declared.spelling.Piece.{Piece}
 abbrev pub HasNoNul : List ℕ → Type 0
 HasNoNul value = All (λ byte. byte ≢ 0) value
 
+-- each number is a byte
 abbrev pub AreBytes : List ℕ → Type 0
 AreBytes value = All (λ byte. byte < 256) value
 
 -- ---- the rows of the table
 
--- the letter behind a backslash, and its byte: E e n l r t b f s a ^ \ , :
+-- the letter behind a backslash that terminfo(5) names, and its byte: E e n l r t b f s a ^ \ , :
 abbrev pub named_escapes : List (ℕ × ℕ)
 named_escapes =
     (69, 27) ∷ (101, 27) ∷ (110, 10) ∷ (108, 10) ∷ (114, 13) ∷ (116, 9) ∷ (98, 8) ∷ (102, 12) ∷ (115, 32) ∷ (97, 7)
     ∷ (94, 94) ∷ (92, 92) ∷ (44, 44) ∷ (58, 58) ∷ []
 
+-- the byte of a letter behind a backslash, where it has a name
 abbrev pub named_escape : ℕ → Option ℕ
 named_escape letter = lookup (λ row. row == letter) named_escapes
 
+-- `0` to `7`
 abbrev pub is_octal_digit : ℕ → Bool
 is_octal_digit x = nat_le 48 x && nat_le x 55
 
+-- the octal digits at the front, at most so many
 abbrev pub octal_digits_up_to : ℕ → List ℕ → List ℕ
 octal_digits_up_to zero xs = []
 octal_digits_up_to (suc n) [] = []
 octal_digits_up_to (suc n) (x ∷ xs) = if is_octal_digit x then x ∷ octal_digits_up_to n xs else []
 
--- as many octal digits as there are at the front, at most three
+-- terminfo(5): a byte is given as octal digits behind a backslash; as many are taken as there are, at most three
 abbrev pub octal_digits : List ℕ → List ℕ
 octal_digits text = octal_digits_up_to 3 text
 
+-- the value of more digits behind ones of this value
 abbrev pub octal_value_from : ℕ → List ℕ → ℕ
 octal_value_from value [] = value
 octal_value_from value (x ∷ xs) = octal_value_from (value * 8 + (x - 48)) xs
@@ -55,11 +60,11 @@ octal_value_from value (x ∷ xs) = octal_value_from (value * 8 + (x - 48)) xs
 abbrev pub octal_value : List ℕ → ℕ
 octal_value digits = octal_value_from 0 digits
 
--- a string can't hold a NUL, and 0200 stands for it
+-- terminfo(5): a string can't hold a NUL, and 0200 stands for it, which most terminals take as one
 abbrev pub not_nul : ℕ → ℕ
 not_nul byte = if byte == 0 then 128 else byte
 
--- the byte after a `%` of the text is literal where it is a `^`
+-- whether a byte is a `%`, after which a `^` is literal (own), so that the operator `%^` stays as it is
 abbrev pub is_percent : ℕ → Bool
 is_percent before = before == 37
 
@@ -68,7 +73,8 @@ abbrev pub last_byte : ℕ → List ℕ → ℕ
 last_byte before [] = before
 last_byte before (x ∷ xs) = last_byte x xs
 
--- `text`, which `rest` follows, stands behind a backslash, and spells `byte`
+-- `text`, which `rest` follows, stands behind a backslash, and spells `byte`: a named letter, octal digits; and (own,
+-- odd) any other byte but a NUL, which stands for itself, or nothing at all
 pub data IsEscape : (text rest : List ℕ) (byte : ℕ) (odd : Bool) → Type 0 where
   escape_named : {letter byte : ℕ} {rest : List ℕ} → named_escape letter ≡ Some byte → IsEscape (letter ∷ []) rest byte false
   escape_octal : {digit : ℕ} {digits rest : List ℕ} → octal_digits (digit ∷ (digits ++ rest)) ≡ digit ∷ digits → octal_value (digit ∷ digits) ≤ 255
@@ -76,7 +82,8 @@ pub data IsEscape : (text rest : List ℕ) (byte : ℕ) (odd : Bool) → Type 0 
   escape_unknown : {x : ℕ} {rest : List ℕ} → named_escape x ≡ None → is_octal_digit x ≡ false → x ≢ 0 → IsEscape (x ∷ []) rest x true
   escape_missing : IsEscape [] [] 92 true
 
--- `x` stands behind a `^` that takes it, and spells `byte`
+-- `x` stands behind a `^` that takes it, and spells `byte`: terminfo(5)'s control-x, and `^?`, which is DEL; a comma
+-- ends the string, and is not taken
 pub data IsControl : (x byte : ℕ) → Type 0 where
   control_delete : IsControl 63 127
   control_masked : {x : ℕ} → 32 ≤ x → x ≤ 126 → x ≢ 44 → x ≢ 63 → IsControl x (not_nul (bit_and x 31))
@@ -88,7 +95,8 @@ pub data IsPiece : (before : ℕ) (text rest : List ℕ) (byte : ℕ) (odd : Boo
   piece_caret : {before : ℕ} {rest : List ℕ} → is_percent before ≡ true → IsPiece before (94 ∷ []) rest 94 false
   piece_plain : {before x : ℕ} {rest : List ℕ} → x ≢ 92 → x ≢ 94 → x ≢ 0 → IsPiece before (x ∷ []) rest x false
 
--- `raw`, after the byte `before`, begins with the text of a refusal
+-- `raw`, after the byte `before`, begins with the text of a refusal: an octal value over 255, a `^` that takes nothing,
+-- or a NUL, plain or behind a backslash
 pub data IsRefused : (before : ℕ) (raw : List ℕ) (cause : UnescapeError) → Type 0 where
   refused_octal : {before : ℕ} {rest : List ℕ} → 255 < octal_value (octal_digits rest) → IsRefused before (92 ∷ rest) BadOctal
   refused_control : {before x : ℕ} {rest : List ℕ} → is_percent before ≡ false → ((byte : ℕ) → IsControl x byte → ⊥) → IsRefused before (94 ∷ x ∷ rest) BadControl
@@ -114,9 +122,11 @@ pub data FailsAfter : (before : ℕ) (raw : List ℕ) (cause : UnescapeError) �
 abbrev pub Spells : (raw value : List ℕ) (odd : Bool) → Type 0
 Spells raw value odd = SpellsAfter 0 raw value odd
 
+-- the first fault of the whole text
 abbrev pub Fails : (raw : List ℕ) (cause : UnescapeError) → Type 0
 Fails raw cause = FailsAfter 0 raw cause
 
+-- the text spells something
 abbrev pub CanBeSpelled : List ℕ → Type 0
 CanBeSpelled raw = (value : List ℕ) × (odd : Bool) × Spells raw value odd
 
@@ -131,9 +141,11 @@ Explains cause raw = Fails raw cause
 abbrev pub octal_piece : List ℕ → Result Piece UnescapeError
 octal_piece digits = if nat_le (octal_value digits) 255 then Ok (record { size = length digits + 1; byte = not_nul (octal_value digits); odd = false }) else Err BadOctal
 
+-- the piece of a backslash and a letter without a name, before xs
 abbrev pub unnamed_piece : ℕ → List ℕ → Result Piece UnescapeError
 unnamed_piece x xs = if is_octal_digit x then octal_piece (octal_digits (x ∷ xs)) else (if x == 0 then Err BadByte else Ok (record { size = 2; byte = x; odd = true }))
 
+-- the piece of a backslash and a letter, by the byte that its name has
 abbrev pub named_piece : Option ℕ → Result Piece UnescapeError → Result Piece UnescapeError
 named_piece (Some byte) unnamed = Ok (record { size = 2; byte = byte; odd = false })
 named_piece None unnamed = unnamed
@@ -165,6 +177,7 @@ abbrev pub with_piece : Piece → Result (List ℕ × Bool) UnescapeError → Re
 with_piece piece (Ok later) = Ok (piece.byte ∷ later.0, piece.odd || later.1)
 with_piece piece (Err cause) = Err cause
 
+-- the first piece, and then what is later; its fault comes before later ones
 abbrev pub then_later : Result Piece UnescapeError → (Piece → Result (List ℕ × Bool) UnescapeError) → Result (List ℕ × Bool) UnescapeError
 then_later (Ok piece) later = with_piece piece (later piece)
 then_later (Err cause) later = Err cause
@@ -185,12 +198,13 @@ GivesUnescaped raw (Ok found) = unescaped raw ≡ Ok (found.bytes.items, found.o
 GivesUnescaped raw (Err Memory) = IsOk (unescaped raw)
 GivesUnescaped raw (Err cause) = unescaped raw ≡ Err cause
 
--- ---- writing (own)
+-- ---- writing (own: terminfo(5) leaves open which of several spellings is chosen)
 
 -- the byte, and the letter that a backslash before it makes it: ESC newline CR tab BS FF , \ NUL
 abbrev pub short_escapes : List (ℕ × ℕ)
 short_escapes = (27, 69) ∷ (10, 110) ∷ (13, 114) ∷ (9, 116) ∷ (8, 98) ∷ (12, 102) ∷ (44, 44) ∷ (92, 92) ∷ (0, 48) ∷ []
 
+-- the letter of a byte, where it has one
 abbrev pub short_escape : ℕ → Option ℕ
 short_escape byte = lookup (λ row. row == byte) short_escapes
 
@@ -210,6 +224,7 @@ unnamed_text percent edge byte = if byte == 32 && edge then 92 ∷ 115 ∷ []
     else (if nat_lt byte 32 || byte == 127 then (if percent then octal_text byte else control_text byte)
     else byte ∷ [])))
 
+-- a letter's text, or that of a byte without one
 abbrev pub named_text : Option ℕ → List ℕ → List ℕ
 named_text (Some letter) unnamed = 92 ∷ letter ∷ []
 named_text None unnamed = unnamed
@@ -227,6 +242,7 @@ abbrev pub written_from : (first : Bool) (before : ℕ) (value : List ℕ) → L
 written_from first before [] = []
 written_from first before (x ∷ xs) = byte_text (is_percent before) (first || is_empty xs) x ++ written_from false x xs
 
+-- the whole text
 abbrev pub written : List ℕ → List ℕ
 written value = written_from true 0 value
 
@@ -263,5 +279,6 @@ ValuesAreSound = (raw value : List ℕ) (odd : Bool) → unescaped raw ≡ Ok (v
 abbrev pub WrittenSpells : Type 0
 WrittenSpells = (value : List ℕ) → AreBytes value → HasNoNul value → Spells (written value) value false
 
+-- and so does the computed reading
 abbrev pub WrittenReadsBack : Type 0
 WrittenReadsBack = (value : List ℕ) → AreBytes value → HasNoNul value → unescaped (written value) ≡ Ok (value, false)
