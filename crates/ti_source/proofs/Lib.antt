@@ -14,3 +14,4 @@ pub mod TextLemmas
 pub mod ReadLemmas
 pub mod ItemLaws
 pub mod ReadingLaws
+pub mod SoundLaws

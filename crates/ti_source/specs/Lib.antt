@@ -10,3 +10,4 @@ pub mod Items
 pub mod Codes
 pub mod Reading
 pub mod Parsing
+pub mod Sound

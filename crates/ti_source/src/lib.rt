@@ -35,7 +35,7 @@ pub use numbers::{
     NumberError, each_number_is_read, numbers_have_one_reading, numerals_have_one_value,
     read_number,
 };
-pub use parsing::{Item, Local, Parsed, What, one_reading, parse};
+pub use parsing::{Item, Local, Parsed, What, each_is_well_read, one_reading, parse};
 pub use spelling::{UnescapeError, Unescaped, one_outcome, unescape};
 pub use walk::Blocks;
 pub use writing::{escape, written_spells};

@@ -18,6 +18,7 @@ ghost use Rattle.ti_source.specs.Parsing.{
   header_fault,
 };
 ghost use Rattle.ti_source.specs.Reading.{fault_of, reading_of};
+ghost use Rattle.ti_source.specs.Sound.{EachIsWellRead, IsWellRead};
 ghost use Rattle.ti_source.specs.Spelling.{unescaped};
 
 use crate::code::Code;
@@ -28,7 +29,7 @@ use crate::numbers::{NumberError, read_number};
 use crate::spelling::{UnescapeError, one_outcome, unescape};
 use std::alloc::{AllocError, Global};
 use std::rc::RcSlice;
-use ti_caps::{Cap, Kind, find};
+use ti_caps::{Cap, Kind, count, find};
 
 /// The most bytes that a names field may have.
 const NAMES_LIMIT: usize = 127;
@@ -102,7 +103,10 @@ pub fn parse(alloc: Global, block: &[u8]) -> Result<Parsed, AllocError>
     requires { OneBlock block.now }
     ensures reading { IfOk result (λ p. Parses block.now (reading_of p)) }
     ensures computed { IfOk result (λ p. reading_of p ≡ parsed block.now) }
+    ensures sound { IfOk result (λ p. IsWellRead block.now (reading_of p)) }
 {
+    // A law with no code: it says what the clause `sound` promises.
+    each_is_well_read();
     let mut source = Folded::new(block);
     let field = read_field(alloc, &mut source)?;
     let mut parsed = read_header(alloc, field)?;
@@ -263,6 +267,16 @@ fn judge_text(alloc: Global, cap: Cap, value: &[u8]) -> Result<Verdict, AllocErr
         Err(UnescapeError::Memory) => Err(AllocError),
         Err(_) => Ok(Verdict::Refused(Code::BadString)),
     }
+}
+
+/// What is known of each block as it is read: its lookup names are such, its items set their kinds, its lines are its
+/// own, and where no error stands among its faults its names field can be written.
+pub fn each_is_well_read()
+    ensures { EachIsWellRead }
+{
+    count(Kind::Flag);
+    count(Kind::Number);
+    count(Kind::Text);
 }
 
 /// Each block has one reading, which `parse` gives.

@@ -1,6 +1,7 @@
 use Rattle.std.proofs.Common.{arith, subst, sym}
-use Rattle.ti_source.specs.Reading.{Reading, reading_of}
+use Rattle.ti_source.specs.Reading.{Reading}
 use Rattle.ti_source.specs.Parsing.{Parses}
+use Rattle.ti_source.specs.Sound.{IsWellRead}
 use Rattle.ti_source.proofs.FoldLemmas.{length-after_field}
 use Rattle.ti_source.proofs.SpellingLaws.{unescaped_agrees}
 use Rattle.ti_source.proofs.ReadingLaws.{has_reading, parsed_by_parts}
@@ -18,3 +19,8 @@ pub returns-clause-reading : goal.returns-clause-reading
 returns-clause-reading c =
     let P : Reading → Type 0 = λ r. Parses c.args.block.now r in
     subst P (sym (returns-clause-computed c)) (has_reading unescaped_agrees c.args.block.now)
+
+pub returns-clause-sound : goal.returns-clause-sound
+returns-clause-sound c =
+    let P : Reading → Type 0 = λ r. IsWellRead c.args.block.now r in
+    subst P (sym (returns-clause-computed c)) (c.each_is_well_read.ensures c.args.block.now c.requires)

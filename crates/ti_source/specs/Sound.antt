@@ -1,0 +1,42 @@
+-- What is known of every block as it is read, for those who build on it (own).
+use Rattle.std.specs.Prelude.{◌≡◌, ◌≢◌, ℕ, ◌<◌, ◌≤◌, false, List, [], ◌∷◌, ◌++◌, length, map, All}
+use Rattle.std.specs.List.{list_any}
+use Rattle.ti_caps.specs.Tables.{IsCapability}
+use Rattle.ti_caps.specs.declared.capability.Kind.TheVariants.{Flag, Number, Text}
+use Rattle.ti_source.specs.Blocks.{OneBlock}
+use Rattle.ti_source.specs.Lines.{line_count}
+use Rattle.ti_source.specs.Codes.{is_error}
+use Rattle.ti_source.specs.Header.{HeaderNames, IsLookupName}
+use Rattle.ti_source.specs.Numbers.{greatest_number}
+use Rattle.ti_source.specs.Spelling.{HasNoNul}
+use Rattle.ti_source.specs.Reading.{Reading, ReadItem, ReadFault, Said, said_flag, said_number, said_text, said_cancel, said_import}
+use Rattle.ti_source.specs.Parsing.{names_limit, parsed}
+
+-- what an item says of a capability fits it: its kind, a number within the limit, a text without NUL
+abbrev pub SetsItsKind : Said → Type 0
+SetsItsKind (said_flag c) = IsCapability c × (c.kind ≡ Flag)
+SetsItsKind (said_number c n) = IsCapability c × (c.kind ≡ Number) × (n ≤ greatest_number)
+SetsItsKind (said_text c text) = IsCapability c × (c.kind ≡ Text) × HasNoNul text
+SetsItsKind (said_cancel c) = IsCapability c
+SetsItsKind (said_import name) = Unit {0}
+
+-- a line of a block
+abbrev pub IsLineOf : List ℕ → ℕ → Type 0
+IsLineOf block line = (1 ≤ line) × (line ≤ line_count block)
+
+-- a names field that can be written: not empty, without NUL, within the limit
+pub record IsWritable (field : List ℕ) : Type 0 where
+  pub some : field ≢ []
+  pub no_nul : HasNoNul field
+  pub short : length field ≤ names_limit
+
+pub record IsWellRead (block : List ℕ) (reading : Reading) : Type 0 where
+  pub names : All IsLookupName reading.names
+  -- where no error stands among the faults, the names field can be written
+  pub named : list_any (λ (f : ReadFault). is_error f.code) reading.faults ≡ false → IsWritable reading.field
+  pub sets : All (λ (i : ReadItem). SetsItsKind i.said) reading.items
+  pub item_lines : All (λ (i : ReadItem). IsLineOf block i.line) reading.items
+  pub fault_lines : All (λ (f : ReadFault). IsLineOf block f.line) reading.faults
+
+abbrev pub EachIsWellRead : Type 0
+EachIsWellRead = (block : List ℕ) → OneBlock block → IsWellRead block (parsed block)
