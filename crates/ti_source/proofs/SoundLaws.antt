@@ -30,7 +30,7 @@ use Rattle.ti_source.specs.Sound.{SetsItsKind, IsLineOf, IsWritable, IsWellRead,
 use Rattle.ti_source.proofs.CutLemmas.{lines_add}
 use Rattle.ti_source.proofs.HeaderLemmas.{each_header}
 use Rattle.ti_source.proofs.NumberLemmas.{each_text}
-use Rattle.ti_source.proofs.SpellingLaws.{spelled_no_nul, unescaped_spells}
+use Rattle.ti_source.proofs.ValueLaws.{values_are_sound}
 
 -- what holds of each of two lists holds of both joined
 AllByRecursion-append : {A : Type 0} (P : A → Type 0) (xs ys : List A) → AllByRecursion P xs → AllByRecursion P ys → AllByRecursion P (xs ++ ys)
@@ -55,8 +55,8 @@ number_sets c text (Err Bad) valid is read = tt
 number_sets c text (Err TooLarge) valid is read = tt
 
 text_sets : (c : Capability) (raw : List ℕ) (found : Result (List ℕ × Bool) UnescapeError) → IsCapability c → c.kind ≡ kind.Text → unescaped raw ≡ found → SetsBy (text_verdict c found)
-text_sets c raw (Ok (text, true)) valid is e = (valid, is, spelled_no_nul (unescaped_spells e))
-text_sets c raw (Ok (text, false)) valid is e = (valid, is, spelled_no_nul (unescaped_spells e))
+text_sets c raw (Ok (text, true)) valid is e = (valid, is, (values_are_sound raw text true e).no_nul)
+text_sets c raw (Ok (text, false)) valid is e = (valid, is, (values_are_sound raw text false e).no_nul)
 text_sets c raw (Err cause) valid is e = tt
 
 fitting_sets : (c : Capability) (claim : Claim) (k : Kind) → IsCapability c → c.kind ≡ k → SetsBy (fitting_verdict c claim k)
