@@ -1,6 +1,6 @@
 //! String values as terminfo(5) spells them: reading.
 
-ghost use Rattle.std.specs.Prelude.{◌≡◌, ◌≤◌, ◌<◌, length, true, false, IfOk, IfErr, IsOk, IsOkAnd};
+ghost use Rattle.std.specs.Prelude.{◌≡◌, ◌≤◌, ◌<◌, length, true, false, IfOk, IfErr, IsOkAnd};
 ghost use Rattle.ti_source.specs.declared.spelling.UnescapeError.TheVariants.{Memory};
 ghost use Rattle.ti_source.specs.Spelling.{named_escape, is_octal_digit, octal_digits, octal_value, octal_piece, not_nul, escape_piece, control_piece, first_piece, unescaped, GivesUnescaped, Spells, Explains, HasNoNul, OneOutcome, UnescapedAgrees, ValuesAreSound};
 ghost use Rattle.ti_source.specs.Pieces.{left_of, TakesPiece};
@@ -238,7 +238,7 @@ fn spelled_len(raw: &[u8]) -> Result<usize, UnescapeError>
 
 /// What `raw` spells, which is known to be something, and `count` bytes long.
 fn decode(alloc: Global, raw: &[u8], count: usize) -> Result<Unescaped, UnescapeError>
-    requires { IsOk (unescaped raw.now) }
+    requires { IsOkAnd (unescaped raw.now) (λ found. length found.0 ≡ count) }
     ensures { GivesUnescaped raw.now result }
 {
     let mut pieces = Pieces::new(raw);
