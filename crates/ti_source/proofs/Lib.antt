@@ -3,11 +3,6 @@ pub mod HeaderLemmas
 pub mod NumberLemmas
 pub mod TrimLemmas
 pub mod WalkLemmas
-pub mod OctalDigits
-pub mod PieceLemmas
-pub mod SpellingLaws
-pub mod ValueLaws
-pub mod WritingLaws
 pub mod FoldLemmas
 pub mod ItemLemmas
 pub mod TextLemmas

@@ -8,9 +8,9 @@ use Rattle.ti_source.specs.declared.code.Code.TheVariants as code
 use Rattle.ti_source.specs.declared.items.Taken.TheVariants as taken
 use Rattle.ti_source.specs.declared.numbers.NumberError.{NumberError}
 use Rattle.ti_source.specs.declared.numbers.NumberError.TheVariants.{Bad, TooLarge}
-use Rattle.ti_source.specs.declared.spelling.UnescapeError.{UnescapeError}
+use Rattle.ti_spelling.specs.declared.spelling.UnescapeError.{UnescapeError}
 use Rattle.ti_source.specs.WhiteSpace.{is_white_space}
-use Rattle.ti_source.specs.Spelling.{Spells, Fails, unescaped, UnescapedAgrees}
+use Rattle.ti_spelling.specs.Spelling.{Spells, Fails, unescaped, UnescapedAgrees}
 use Rattle.ti_source.specs.Header.{header_names}
 use Rattle.ti_source.specs.Numbers.{number_read, ReadsAs}
 use Rattle.ti_source.specs.Folding.{Placed, folded}

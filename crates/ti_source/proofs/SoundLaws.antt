@@ -14,14 +14,14 @@ use Rattle.ti_source.specs.declared.items.Taken.{Taken}
 use Rattle.ti_source.specs.declared.items.Taken.TheVariants as taken
 use Rattle.ti_source.specs.declared.numbers.NumberError.{NumberError}
 use Rattle.ti_source.specs.declared.numbers.NumberError.TheVariants.{Bad, TooLarge}
-use Rattle.ti_source.specs.declared.spelling.UnescapeError.{UnescapeError}
+use Rattle.ti_spelling.specs.declared.spelling.UnescapeError.{UnescapeError}
 use Rattle.ti_source.specs.WhiteSpace.{is_white_space}
 use Rattle.ti_source.specs.Blocks.{last_byte, OneBlock}
 use Rattle.ti_source.specs.Lines.{line_count}
 use Rattle.ti_source.specs.Codes.{is_error}
 use Rattle.ti_source.specs.Header.{IsBadHeader, HeaderNames, IsLookupName, header_names}
 use Rattle.ti_source.specs.Numbers.{number_read, ReadsAs, greatest_number}
-use Rattle.ti_source.specs.Spelling.{HasNoNul, unescaped}
+use Rattle.ti_spelling.specs.Spelling.{HasNoNul, unescaped}
 use Rattle.ti_source.specs.Folding.{Placed, placed, in_comment, without_comments, joined, folded}
 use Rattle.ti_source.specs.Items.{Claim, claims_flag, claims_number, claims_text, claims_cancel, Statement, Piece, bytes, field_of, after_field, takes, taken_after, cuts, with_first, items_of, without_front, line_of, piece_of, statement_of}
 use Rattle.ti_source.specs.Reading.{ReadItem, ReadFault, Reading, Said, said_flag, said_number, said_text, said_cancel, said_import}
@@ -30,7 +30,7 @@ use Rattle.ti_source.specs.Sound.{SetsItsKind, IsLineOf, IsWritable, IsWellRead,
 use Rattle.ti_source.proofs.CutLemmas.{lines_add}
 use Rattle.ti_source.proofs.HeaderLemmas.{each_header}
 use Rattle.ti_source.proofs.NumberLemmas.{each_text}
-use Rattle.ti_source.proofs.ValueLaws.{values_are_sound}
+use Rattle.ti_spelling.proofs.ValueLaws.{values_are_sound}
 
 -- what holds of each of two lists holds of both joined
 AllByRecursion-append : {A : Type 0} (P : A → Type 0) (xs ys : List A) → AllByRecursion P xs → AllByRecursion P ys → AllByRecursion P (xs ++ ys)

@@ -3,8 +3,7 @@ pub mod Lines
 pub mod Blocks
 pub mod Header
 pub mod Numbers
-pub mod Spelling
-pub mod Pieces
+pub use Rattle.ti_spelling.specs.Spelling
 pub mod Folding
 pub mod Items
 pub mod Codes

@@ -8,7 +8,7 @@ use Rattle.ti_source.specs.Lines.{line_count}
 use Rattle.ti_source.specs.Codes.{is_error}
 use Rattle.ti_source.specs.Header.{HeaderNames, IsLookupName}
 use Rattle.ti_source.specs.Numbers.{greatest_number}
-use Rattle.ti_source.specs.Spelling.{HasNoNul}
+use Rattle.ti_spelling.specs.Spelling.{HasNoNul}
 use Rattle.ti_source.specs.Reading.{Reading, ReadItem, ReadFault, Said, said_flag, said_number, said_text, said_cancel, said_import}
 use Rattle.ti_source.specs.Parsing.{names_limit, parsed}
 

@@ -8,7 +8,8 @@
 //! - `lines`: the law of counting lines.
 //! - `folding`: a block without its comments and line breaks; `items`: the names field and the items of a block, and
 //!   what an item states; `parsing`: a block as it is read, with its faults.
-//! - `spelling`: from the text of a string value to the bytes that it spells, or why it spells none; `writing`: back.
+//!
+//! The crate `ti_spelling` below it has the spelling of string values; its calls are public here too.
 #![tactic(auto)]
 
 mod code;
@@ -20,10 +21,8 @@ mod items;
 mod lines;
 mod numbers;
 mod parsing;
-mod spelling;
 mod walk;
 mod white_space;
-mod writing;
 
 pub use code::Code;
 pub use cutting::{
@@ -36,6 +35,5 @@ pub use numbers::{
     read_number,
 };
 pub use parsing::{Item, Local, Parsed, What, each_is_well_read, one_reading, parse};
-pub use spelling::{UnescapeError, Unescaped, one_outcome, unescape};
+pub use ti_spelling::{UnescapeError, Unescaped, escape, one_outcome, unescape, written_spells};
 pub use walk::Blocks;
-pub use writing::{escape, written_spells};

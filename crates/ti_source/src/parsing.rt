@@ -19,17 +19,17 @@ ghost use Rattle.ti_source.specs.Parsing.{
 };
 ghost use Rattle.ti_source.specs.Reading.{fault_of, reading_of};
 ghost use Rattle.ti_source.specs.Sound.{EachIsWellRead, IsWellRead};
-ghost use Rattle.ti_source.specs.Spelling.{unescaped};
+ghost use Rattle.ti_spelling.specs.Spelling.{unescaped};
 
 use crate::code::Code;
 use crate::folding::Folded;
 use crate::header::lookup_names;
 use crate::items::{Claim, Statement, read_field, read_item, statement_of, stripped};
 use crate::numbers::{NumberError, read_number};
-use crate::spelling::{UnescapeError, one_outcome, unescape};
 use std::alloc::{AllocError, Global};
 use std::rc::RcSlice;
 use ti_caps::{Cap, Kind, count, find};
+use ti_spelling::{UnescapeError, one_outcome, unescape};
 
 /// The most bytes that a names field may have.
 const NAMES_LIMIT: usize = 127;

@@ -3,7 +3,7 @@ use Rattle.ti_source.specs.Reading.{Reading}
 use Rattle.ti_source.specs.Parsing.{Parses}
 use Rattle.ti_source.specs.Sound.{IsWellRead}
 use Rattle.ti_source.proofs.FoldLemmas.{length-after_field}
-use Rattle.ti_source.proofs.SpellingLaws.{unescaped_agrees}
+use Rattle.ti_spelling.proofs.SpellingLaws.{unescaped_agrees}
 use Rattle.ti_source.proofs.ReadingLaws.{has_reading, parsed_by_parts}
 use Rattle.ti_source.proofs.parsing.parse.Goals as goal
 

@@ -1,0 +1,12 @@
+//! How terminfo source spells the bytes of a string, as terminfo(5) and X/Open Curses Issue 7 ("Terminfo Source
+//! Format") describe it.
+//!
+//! - `spelling`: from the text of a string value to the bytes that it spells, or why it spells none
+//! - `writing`: back, from bytes to the text that spells them
+#![tactic(auto)]
+
+mod spelling;
+mod writing;
+
+pub use spelling::{UnescapeError, Unescaped, one_outcome, unescape};
+pub use writing::{escape, written_spells};

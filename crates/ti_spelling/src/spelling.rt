@@ -1,0 +1,284 @@
+//! String values as terminfo(5) spells them: reading.
+
+ghost use Rattle.std.specs.Prelude.{◌≡◌, ◌≤◌, ◌<◌, length, true, false, IfOk, IfErr, IsOkAnd};
+ghost use Rattle.ti_spelling.specs.declared.spelling.UnescapeError.TheVariants.{Memory};
+ghost use Rattle.ti_spelling.specs.Spelling.{named_escape, is_octal_digit, octal_digits, octal_value, octal_piece, not_nul, escape_piece, control_piece, first_piece, unescaped, GivesUnescaped, Spells, Explains, HasNoNul, OneOutcome, UnescapedAgrees, ValuesAreSound};
+ghost use Rattle.ti_spelling.specs.Pieces.{left_of, TakesPiece};
+
+use std::alloc::{AllocError, AllocFailed, Global};
+use thiserror::Error;
+
+/// What a text spells.
+#[derive(Debug, Drop)]
+pub struct Unescaped {
+    /// The bytes that it stands for, none of them a NUL.
+    pub bytes: Vec<u8>,
+    /// Whether an escape occurred that terminfo(5) does not name.
+    pub odd: bool,
+}
+
+/// Why a text spells nothing: the first cause in it, or want of memory.
+#[derive(Clone, Copy, Debug, PartialEq, Eq, Error)]
+pub enum UnescapeError {
+    /// A backslash and octal digits whose value is over 255.
+    #[error("octal escape over 255")]
+    BadOctal,
+    /// A `^` without a byte behind it that it can take.
+    #[error("bad control pair")]
+    BadControl,
+    /// A NUL, plain or behind a backslash.
+    #[error("NUL in a string")]
+    BadByte,
+    /// The text spells something, but there was no room for it.
+    #[error("out of memory")]
+    Memory,
+}
+
+impl From<AllocError> for UnescapeError {
+    ghost from_gives = { λ _ e. e ≡ Memory };
+
+    fn from(_error: AllocError) -> UnescapeError {
+        UnescapeError::Memory
+    }
+}
+
+impl<T: Drop> From<AllocFailed<T>> for UnescapeError {
+    ghost from_gives = { λ _ e. e ≡ Memory };
+
+    fn from(_error: AllocFailed<T>) -> UnescapeError {
+        UnescapeError::Memory
+    }
+}
+
+/// A piece at the front of a text: how long it is, and the byte that it stands for.
+#[derive(Clone, Copy)]
+struct Piece {
+    size: usize,
+    byte: u8,
+    odd: bool,
+}
+
+impl Piece {
+    fn new(size: usize, byte: u8) -> Piece
+        ensures { result ≡ record { size = size; byte = byte; odd = false } }
+    {
+        Piece {
+            size,
+            byte,
+            odd: false,
+        }
+    }
+
+    /// A piece of an escape that terminfo(5) does not name.
+    fn odd(size: usize, byte: u8) -> Piece
+        ensures { result ≡ record { size = size; byte = byte; odd = true } }
+    {
+        Piece {
+            size,
+            byte,
+            odd: true,
+        }
+    }
+}
+
+/// The byte that a backslash before `letter` makes it, where terminfo(5) names one.
+fn named_escape(letter: u8) -> Option<u8>
+    ensures { result ≡ named_escape letter }
+{
+    match letter {
+        b'E' | b'e' => Some(0x1b),
+        b'n' | b'l' => Some(b'\n'),
+        b'r' => Some(b'\r'),
+        b't' => Some(b'\t'),
+        b'b' => Some(0x08),
+        b'f' => Some(0x0c),
+        b's' => Some(b' '),
+        b'a' => Some(0x07),
+        b'^' | b'\\' | b',' | b':' => Some(letter),
+        _ => None,
+    }
+}
+
+fn is_octal_digit(byte: u8) -> bool
+    ensures { result ≡ is_octal_digit byte }
+{
+    matches!(byte, b'0'..=b'7')
+}
+
+/// A string can't hold a NUL: terminfo(5) has 0200 stand for it.
+fn not_nul(byte: u8) -> u8
+    ensures { result ≡ not_nul byte }
+{
+    if byte == 0 { 0x80 } else { byte }
+}
+
+/// An octal escape takes as many digits as there are, up to this.
+const MOST_OCTAL_DIGITS: usize = 3;
+
+/// The value and the count of the octal digits at the front of `text`, at most three.
+fn octal_front(text: &[u8]) -> (u16, usize)
+    ensures value { result.0 ≡ octal_value (octal_digits text.now) }
+    ensures count { result.1 ≡ length (octal_digits text.now) }
+{
+    let mut value: u16 = 0;
+    let mut count: usize = 0;
+    for &digit in text {
+        if count == MOST_OCTAL_DIGITS || !is_octal_digit(digit) {
+            break;
+        }
+        value = value * 8 + u16::from(digit - b'0');
+        count += 1;
+    }
+    (value, count)
+}
+
+/// The piece of a backslash and the octal digits at the front of `after`.
+fn octal_piece(after: &[u8]) -> Result<Piece, UnescapeError>
+    ensures { result ≡ octal_piece (octal_digits after.now) }
+{
+    let (value, count) = octal_front(after);
+    if value > 255 {
+        return Err(UnescapeError::BadOctal);
+    }
+    Ok(Piece::new(count + 1, not_nul(value as u8)))
+}
+
+/// The piece of a backslash and the front of `after`.
+#[tactic(auto, unfolding(crate::specs::Spelling::escape_piece))]
+fn escape_piece(after: &[u8]) -> Result<Piece, UnescapeError>
+    ensures { result ≡ escape_piece after.now }
+{
+    let [letter, ..] = after else {
+        return Ok(Piece::odd(1, b'\\'));
+    };
+    if let Some(byte) = named_escape(*letter) {
+        return Ok(Piece::new(2, byte));
+    }
+    if is_octal_digit(*letter) {
+        return octal_piece(after);
+    }
+    if *letter == 0 {
+        return Err(UnescapeError::BadByte);
+    }
+    Ok(Piece::odd(2, *letter))
+}
+
+/// The piece of a `^` and the front of `after`.
+#[tactic(auto, unfolding(crate::specs::Spelling::control_piece))]
+fn control_piece(after: &[u8]) -> Result<Piece, UnescapeError>
+    ensures { result ≡ control_piece after.now }
+{
+    match after {
+        [b'?', ..] => Ok(Piece::new(2, 0x7f)),
+        [letter @ b' '..=b'~', ..] if *letter != b',' => Ok(Piece::new(2, not_nul(*letter & 0x1f))),
+        _ => Err(UnescapeError::BadControl),
+    }
+}
+
+/// The piece at the front of `text`, which isn't empty; `percent` where it stands just after a `%`.
+#[tactic(auto, unfolding(crate::specs::Spelling::first_piece))]
+fn first_piece(percent: bool, text: &[u8]) -> Result<Piece, UnescapeError>
+    requires { 0 < length text.now }
+    ensures { result ≡ first_piece percent text.now }
+{
+    match text {
+        [b'\\', after @ ..] => escape_piece(after),
+        [b'^', after @ ..] if !percent => control_piece(after),
+        [0, ..] => Err(UnescapeError::BadByte),
+        [byte, ..] => Ok(Piece::new(1, *byte)),
+        [] => unreachable!(),
+    }
+}
+
+/// What is left of a text, and the byte before it.
+#[derive(Drop)]
+struct Pieces<'a> {
+    before: u8,
+    rest: &'a [u8],
+}
+
+impl<'a> Pieces<'a> {
+    #[tactic(auto, unfolding(crate::specs::Spelling::unescaped))]
+    fn new(raw: &'a [u8]) -> Pieces<'a>
+        ensures all { left_of result ≡ unescaped raw.now }
+        ensures len { length result.rest.now ≡ length raw.now }
+    {
+        Pieces {
+            before: 0,
+            rest: raw,
+        }
+    }
+
+    /// Takes the next piece, or tells that none is left.
+    fn next_piece(&mut self) -> Result<Option<Piece>, UnescapeError>
+        ensures { TakesPiece self.old result self.new }
+    {
+        if self.rest.is_empty() {
+            return Ok(None);
+        }
+        let piece = first_piece(self.before == b'%', self.rest)?;
+        self.before = self.rest[piece.size - 1];
+        self.rest = &self.rest[piece.size..];
+        Ok(Some(piece))
+    }
+}
+
+/// How many bytes `raw` stands for.
+fn spelled_len(raw: &[u8]) -> Result<usize, UnescapeError>
+    ensures ok { IfOk result (λ count. IsOkAnd (unescaped raw.now) (λ found. length found.0 ≡ count)) }
+    ensures err { IfErr result (λ cause. unescaped raw.now ≡ Err cause) }
+{
+    let mut pieces = Pieces::new(raw);
+    let mut count = 0;
+    while let Some(_) = pieces.next_piece()? {
+        count += 1;
+    }
+    Ok(count)
+}
+
+/// What `raw` spells, which is known to be something, and `count` bytes long.
+fn decode(alloc: Global, raw: &[u8], count: usize) -> Result<Unescaped, UnescapeError>
+    requires { IsOkAnd (unescaped raw.now) (λ found. length found.0 ≡ count) }
+    ensures { GivesUnescaped raw.now result }
+{
+    let mut pieces = Pieces::new(raw);
+    let mut bytes = Vec::with_capacity(alloc, count)?;
+    let mut odd = false;
+    while let Some(piece) = pieces.next_piece()? {
+        bytes.push(piece.byte)?;
+        odd |= piece.odd;
+    }
+    Ok(Unescaped { bytes, odd })
+}
+
+/// The bytes that `raw` stands for, by the escapes of terminfo(5), "Types of capabilities", and X/Open
+/// Curses Issue 7, "Terminfo Source Format".
+///
+/// A `^` just after a `%` is literal, so that the operator `%^` stays as it is. A backslash before any
+/// other byte than those that the manual names gives that byte, and at the end of the text itself;
+/// the answer is then `odd`.
+///
+/// # Errors
+///
+/// The first fault of the text: `BadOctal` for a value over 255, `BadControl` for a `^` that takes no
+/// byte, `BadByte` for a NUL outside of a pair. `Memory` only where the text has none of these.
+pub fn unescape(alloc: Global, raw: &[u8]) -> Result<Unescaped, UnescapeError>
+    ensures ok { IfOk result (λ found. Spells raw.now found.bytes.items found.odd) }
+    ensures err { IfErr result (λ cause. Explains cause raw.now) }
+    ensures computed { GivesUnescaped raw.now result }
+    ensures no_nul { IfOk result (λ found. HasNoNul found.bytes.items) }
+    ensures no_longer { IfOk result (λ found. length found.bytes.items ≤ length raw.now) }
+{
+    let count = spelled_len(raw)?;
+    decode(alloc, raw, count)
+}
+
+/// Each text spells one value or has one first fault.
+pub fn one_outcome()
+    ensures outcome { OneOutcome }
+    ensures computed { UnescapedAgrees }
+    ensures values { ValuesAreSound }
+{}
+
+#[cfg(test)]
+mod tests;
