@@ -5,3 +5,5 @@ pub mod Shown
 pub mod Sound
 pub mod Image
 pub mod Laws
+pub mod Growing
+pub mod Sizes
