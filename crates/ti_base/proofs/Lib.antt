@@ -1,0 +1,11 @@
+pub mod Lists
+pub mod Same
+pub mod Settling
+pub mod Owning
+pub mod Depth
+pub mod Leading
+pub mod Resolving
+pub mod Imaging
+pub mod Editing
+pub mod Keeping
+pub mod Running

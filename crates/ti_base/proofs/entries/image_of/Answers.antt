@@ -1,0 +1,15 @@
+use Rattle.std.proofs.Common.{◌∙◌, refl}
+use Rattle.ti_source.specs.Reading.{reading_of}
+use Rattle.ti_compiled.specs.Values.{contents}
+use Rattle.ti_base.proofs.Imaging.{image_tells, within_limit, over_limit}
+use Rattle.ti_base.proofs.entries.image_of.Goals as goal
+
+pub returns-in-Ok : goal.returns-in-Ok
+returns-in-Ok c = λ mentions tells.
+    let e = rw c.deref.ensures.value at c.in-Ok.ensures.ok in
+    within_limit (reading_of c.args.block.now) mentions c.in-Ok.bytes.items (e.0 ∙ image_tells c.args.block.now.field.items (contents c.args.table.now) mentions tells) e.2
+
+pub returns-in-Err-TooLarge : goal.returns-in-Err-TooLarge
+returns-in-Err-TooLarge c = λ mentions tells.
+    let e = rw c.deref.ensures.value at (c.in-Err-TooLarge.ensures.too_large.0 (rw c.in-Err-TooLarge.field-0-is refl)) in
+    over_limit (reading_of c.args.block.now) mentions (rw (← image_tells c.args.block.now.field.items (contents c.args.table.now) mentions tells) e.1)

@@ -1,0 +1,11 @@
+pub mod Owner
+pub mod Expansion
+pub mod Reaching
+pub mod Compiled
+pub mod Faults
+pub mod Report
+pub mod Edits
+pub mod Resolution
+pub mod Entries
+pub mod Usable
+pub mod Kept

@@ -1,0 +1,25 @@
+-- Whose a name is (own): a name belongs to the first block of the source that has it among its lookup names, whether
+-- that block is sound or broken. A block whose header is bad has no lookup names, and so owns none.
+use Rattle.std.specs.Prelude.{ℕ, suc, List, [], ◌∷◌, map, Option, Some, None, option_map, Bool, if◌then◌else◌}
+use Rattle.std.specs.List.{list_any}
+use Rattle.std.specs.Str.{bytes_eq}
+use Rattle.ti_source.specs.Reading.{Reading}
+use Rattle.ti_source.specs.Parsing.{parsed}
+
+-- the blocks of a source as they are read, from their texts
+abbrev pub readings : List (List ℕ) → List Reading
+readings texts = map parsed texts
+
+-- whether a name is one of these
+abbrev pub is_among : List ℕ → List (List ℕ) → Bool
+is_among name names = list_any (λ other. bytes_eq name other) names
+
+-- the least position of the blocks that has the name, if there is one
+abbrev pub owner : List Reading → List ℕ → Option ℕ
+owner [] name = None
+owner (block ∷ blocks) name = if is_among name block.names then Some 0 else option_map (λ at. suc at) (owner blocks name)
+
+-- the block at that position
+abbrev pub owned : List Reading → List ℕ → Option Reading
+owned [] name = None
+owned (block ∷ blocks) name = if is_among name block.names then Some block else owned blocks name

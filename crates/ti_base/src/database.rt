@@ -1,0 +1,202 @@
+// The edited source: the texts of its blocks, each as it is read, and the entries of all.
+ghost use Rattle.std.specs.Prelude.{◌≡◌, ◌<◌, ◌≤◌, [], length, map, slice_get, Some, option_map, IfOk, IfErr, OnOk};
+ghost use Rattle.ti_source.specs.Reading.{reading_of};
+ghost use Rattle.ti_source.specs.Parsing.{parsed};
+ghost use Rattle.ti_base.specs.Usable.{IsUsable};
+ghost use Rattle.ti_base.specs.Kept.{IsBlockText, IsTextRefusal};
+ghost use Rattle.ti_base.specs.Edits.{Run, change_of};
+
+use crate::changes::{compile_inserted, compile_removed, compile_replaced, insert_reserved};
+use crate::edits::{Edit, EditError, Edited, Outcome};
+use crate::entries::Entry;
+use crate::owners::find_owner;
+use std::alloc::{AllocError, Global};
+use std::marker::Model;
+use ti_source::{Parsed, is_block, parse};
+
+/// The greatest length of a block in bytes.
+const BLOCK_BYTES_MAX: usize = 1_048_576;
+
+/// The greatest number of blocks.
+const BLOCKS_MAX: usize = 65_535;
+
+/// A source of terminal descriptions as a list of blocks, which edits change one by one. It knows
+/// the compiled entry of each block and all faults, which are those of the whole current source
+/// taken afresh.
+#[derive(Drop)]
+pub struct Database {
+    alloc: Global,
+    texts: Vec<Vec<u8>>,
+    blocks: Vec<Parsed>,
+    entries: Vec<Entry>,
+}
+
+impl Model for Database {
+    ghost use Rattle.std.specs.Prelude.{List, ℕ, map};
+    ghost use Rattle.ti_source.specs.Reading.{reading_of};
+
+    ghost Value = { List (List ℕ) };
+
+    ghost use Rattle.ti_base.specs.Entries.{state_seen};
+    ghost use Rattle.ti_base.specs.Kept.{IsKept};
+
+    ghost view = { λ d. map (λ t. t.items) d.texts.items };
+
+    ghost invariant = { λ d. IsKept
+        (map (λ t. t.items) d.texts.items) (map reading_of d.blocks.items) (map state_seen d.entries.items) };
+}
+
+/// The text of a block within the limit, copied, and the block as it is read.
+fn read_block(alloc: Global, text: &[u8]) -> Result<(Vec<u8>, Parsed), AllocError>
+    requires { IsBlockText text.now }
+    ensures text { IfOk result (λ r. r.0.items ≡ text.now) }
+    ensures reading { IfOk result (λ r. reading_of r.1 ≡ parsed text.now) }
+    ensures usable { IfOk result (λ r. IsUsable (reading_of r.1)) }
+{
+    let block = parse(alloc, text)?;
+    let copy = Vec::from_slice(alloc, text)?;
+    Ok((copy, block))
+}
+
+/// Refuses a text that is too long, or no single block.
+fn check_text(text: &[u8]) -> Result<(), EditError>
+    ensures ok { OnOk result (IsBlockText text.now) }
+    ensures err { IfErr result (IsTextRefusal text.now) }
+{
+    if text.len() > BLOCK_BYTES_MAX {
+        return Err(EditError::TooLong);
+    }
+    if !is_block(text) {
+        return Err(EditError::NotOneBlock);
+    }
+    Ok(())
+}
+
+impl Database {
+    ghost use Rattle.ti_base.specs.Owner.{owner, readings};
+    ghost use Rattle.ti_base.specs.Compiled.{compiled};
+    ghost use Rattle.ti_base.specs.Edits.{Step, change_of, insertion, removal, replacement, outcome_of};
+
+    /// A source with no blocks. It takes no memory.
+    pub fn new(alloc: Global) -> Database
+        ensures { result ≡ [] }
+    {
+        Database {
+            alloc,
+            texts: Vec::new(alloc),
+            blocks: Vec::new(alloc),
+            entries: Vec::new(alloc),
+        }
+    }
+
+    /// How many blocks there are.
+    pub fn len(&self) -> usize
+        ensures { result ≡ length self.now }
+    {
+        self.texts.len()
+    }
+
+    /// The text of a block.
+    pub fn text(&self, at: usize) -> &[u8]
+        requires { at < length self.now }
+        ensures { slice_get self.now at ≡ Some result.now }
+    {
+        &self.texts[at]
+    }
+
+    /// The compiled entry of a block, as term(5) lays it out; `None` where the block does not
+    /// resolve or its entry is over the limit.
+    pub fn compiled(&self, at: usize) -> Option<&[u8]>
+        requires { at < length self.now }
+        ensures { option_map (λ bytes. bytes.now) result ≡ compiled self.now at }
+    {
+        match &self.entries[at] {
+            Entry::Compiled(bytes) => Some(bytes),
+            _ => None,
+        }
+    }
+
+    /// The position of the first block that has the name among its lookup names, if one has it.
+    pub fn owner(&self, name: &[u8]) -> Option<usize>
+        ensures { result ≡ owner (readings self.now) name.now }
+    {
+        find_owner(&self.blocks, name)
+    }
+
+    /// Puts a block in, so that it then stands at `at`. The refusals, the first that holds:
+    /// `Position` where `at` is past the end, `TooLong`, `NotOneBlock`, `TooMany`, and `Memory`
+    /// where a growth was refused. After a refusal all is as before.
+    pub fn insert(&mut self, at: usize, text: &[u8]) -> Result<Edited, EditError>
+        ensures { Step self.old (insertion at text.now) (outcome_of result) self.new }
+    {
+        if at > self.texts.len() {
+            return Err(EditError::Position);
+        }
+        check_text(text)?;
+        if self.texts.len() >= BLOCKS_MAX {
+            return Err(EditError::TooMany);
+        }
+        let (copy, block) = read_block(self.alloc, text)?;
+        self.texts.reserve(1)?;
+        let entries = compile_inserted(self.alloc, &mut self.blocks, at, block)?;
+        insert_reserved(&mut self.texts, at, copy);
+        self.entries = entries;
+        Ok(Edited {})
+    }
+
+    /// Exchanges the block at `at`. The refusals, the first that holds: `Position` where there is
+    /// no such block, `TooLong`, `NotOneBlock`, and `Memory` where a growth was refused. After a
+    /// refusal all is as before.
+    pub fn replace(&mut self, at: usize, text: &[u8]) -> Result<Edited, EditError>
+        ensures { Step self.old (replacement at text.now) (outcome_of result) self.new }
+    {
+        if at >= self.texts.len() {
+            return Err(EditError::Position);
+        }
+        check_text(text)?;
+        let (copy, block) = read_block(self.alloc, text)?;
+        let entries = compile_replaced(self.alloc, &mut self.blocks, at, block)?;
+        self.texts[at] = copy;
+        self.entries = entries;
+        Ok(Edited {})
+    }
+
+    /// Takes the block at `at` out. The refusals: `Position` where there is no such block, and
+    /// `Memory` where a growth was refused. After a refusal all is as before.
+    pub fn remove(&mut self, at: usize) -> Result<Edited, EditError>
+        ensures { Step self.old (removal at) (outcome_of result) self.new }
+    {
+        if at >= self.texts.len() {
+            return Err(EditError::Position);
+        }
+        let entries = compile_removed(self.alloc, &mut self.blocks, at)?;
+        let _ = self.texts.remove(at);
+        self.entries = entries;
+        Ok(Edited {})
+    }
+
+    /// Makes an edit: `insert`, `replace` or `remove`, with the refusals of that call.
+    pub fn apply(&mut self, edit: &Edit<'_>) -> Result<Edited, EditError>
+        ensures { Step self.old (change_of edit.now) (outcome_of result) self.new }
+    {
+        match *edit {
+            Edit::Insert { at, text } => self.insert(at, text),
+            Edit::Replace { at, text } => self.replace(at, text),
+            Edit::Remove { at } => self.remove(at),
+        }
+    }
+}
+
+/// Makes the edits in order, beginning with no blocks, and tells what came of each: a refused edit
+/// leaves the list, and the next one follows. Memory may be wanting for the outcomes, before the
+/// first edit.
+pub fn run(alloc: Global, edits: &[Edit<'_>]) -> Result<(Database, Vec<Outcome>), AllocError>
+    ensures { IfOk result (λ r. Run [] (map change_of edits.now) r.1.items r.0) }
+{
+    let mut outcomes = Vec::with_capacity(alloc, edits.len())?;
+    let mut database = Database::new(alloc);
+    for edit in edits {
+        outcomes.push_reserved(Outcome::from(database.apply(edit)));
+    }
+    Ok((database, outcomes))
+}
