@@ -1,5 +1,5 @@
 -- Each block has one reading, and it is the one that is computed.
-use Rattle.std.proofs.Common.{◌≡◌, ◌≢◌, ℕ, ◌+◌, ◌<◌, ◌≤◌, Bool, true, false, List, [], ◌∷◌, ◌++◌, length, cond, Option, Some, None, MatchOption, Result, Ok, Err, nat_lt, refl, sym, ap, subst, ◌∙◌, inl, inr, arith}
+use Rattle.std.proofs.Common.{◌≡◌, ℕ, ◌+◌, Bool, true, false, List, [], ◌∷◌, ◌++◌, length, cond, Option, Some, None, MatchOption, Result, Ok, Err, nat_lt, refl, sym, ap, ◌∙◌, inl, inr}
 use Rattle.std.proofs.lemmas.Bool.{cases_Bool, ltb-true, ltb-false, lt-ltb, le-ltb}
 use Rattle.ti_caps.specs.Tables.{Capability, capability_named}
 use Rattle.ti_caps.specs.declared.capability.Kind.{Kind}
@@ -10,13 +10,13 @@ use Rattle.ti_source.specs.declared.numbers.NumberError.{NumberError}
 use Rattle.ti_source.specs.declared.numbers.NumberError.TheVariants.{Bad, TooLarge}
 use Rattle.ti_spelling.specs.declared.spelling.UnescapeError.{UnescapeError}
 use Rattle.ti_source.specs.WhiteSpace.{is_white_space}
-use Rattle.ti_spelling.specs.Spelling.{Spells, Fails, unescaped, UnescapedAgrees}
+use Rattle.ti_spelling.specs.Spelling.{unescaped, UnescapedAgrees}
 use Rattle.ti_source.specs.Header.{header_names}
 use Rattle.ti_source.specs.Numbers.{number_read, ReadsAs}
 use Rattle.ti_source.specs.Folding.{Placed, folded}
-use Rattle.ti_source.specs.Items.{Claim, claims_flag, claims_number, claims_text, claims_cancel, Statement, States, bytes, field_of, after_field, items_of, without_front, piece_of, statement_of}
+use Rattle.ti_source.specs.Items.{Claim, claims_flag, claims_number, claims_text, claims_cancel, Statement, States, bytes, field_of, after_field, items_of, piece_of, statement_of}
 use Rattle.ti_source.specs.Reading.{ReadItem, ReadFault, Reading}
-use Rattle.ti_source.specs.Parsing.{Verdict, accepted, accepted_odd, refused, fits, is_import, Judges, judged_import, judged_unknown, judged_wrong_kind, judged_flag, judged_cancel, judged_number, judged_bad_number, judged_large_number, judged_text, judged_odd_text, judged_bad_text, number_verdict, text_verdict, fitting_verdict, named_verdict, verdict_of, items_by, faults_by, ReadsItems, reads_nothing, reads_ignored, reads_judged, items_at, faults_at, items_from, faults_from, names_limit, header_fault, ReadsHeader, bad_header, long_header, good_header, names_found, header_faults, ReadsField, AddsItems, Parses, block_field, block_items, parsed, HasReading, OneReading}
+use Rattle.ti_source.specs.Parsing.{Verdict, refused, fits, is_import, Judges, judged_import, judged_unknown, judged_wrong_kind, judged_flag, judged_cancel, judged_number, judged_bad_number, judged_large_number, judged_text, judged_odd_text, judged_bad_text, number_verdict, text_verdict, fitting_verdict, named_verdict, verdict_of, items_by, faults_by, ReadsItems, reads_nothing, reads_ignored, reads_judged, items_at, faults_at, items_from, faults_from, names_limit, header_fault, ReadsHeader, bad_header, long_header, good_header, names_found, header_faults, ReadsField, AddsItems, Parses, block_field, block_items, parsed, HasReading, OneReading}
 use Rattle.ti_source.specs.Header.{IsBadHeader, HeaderNames}
 use Rattle.ti_source.proofs.NumberLemmas.{each_text, one_reading as one_number}
 use Rattle.ti_source.proofs.HeaderLemmas.{each_header, headers_law}

@@ -1,5 +1,5 @@
 -- What is known of every block as it is read.
-use Rattle.std.proofs.Common.{◌≡◌, ◌≢◌, ℕ, zero, suc, ◌+◌, ◌<◌, ◌≤◌, Bool, true, false, ◌==◌, ◌||◌, ◌&&◌, List, [], ◌∷◌, ◌++◌, length, map, cond, Option, Some, None, MatchOption, option_map, Result, Ok, Err, All, nat_lt, refl, sym, ap, subst, ◌∙◌, inl, inr, arith}
+use Rattle.std.proofs.Common.{◌≡◌, ◌≢◌, ℕ, suc, ◌+◌, ◌<◌, ◌≤◌, Bool, true, false, ◌==◌, ◌||◌, ◌&&◌, List, [], ◌∷◌, ◌++◌, length, cond, Option, Some, None, MatchOption, option_map, Result, Ok, Err, All, nat_lt, refl, sym, subst, ◌∙◌, inl, inr, arith}
 use Rattle.std.specs.List.{list_any, AllByRecursion}
 use Rattle.std.proofs.lemmas.Bool.{cases_Bool, ltb-false}
 use Rattle.std.specs.Str.{bytes_eq}
@@ -16,21 +16,20 @@ use Rattle.ti_source.specs.declared.numbers.NumberError.{NumberError}
 use Rattle.ti_source.specs.declared.numbers.NumberError.TheVariants.{Bad, TooLarge}
 use Rattle.ti_spelling.specs.declared.spelling.UnescapeError.{UnescapeError}
 use Rattle.ti_source.specs.WhiteSpace.{is_white_space}
-use Rattle.ti_source.specs.Blocks.{last_byte, OneBlock}
+use Rattle.ti_source.specs.Blocks.{last_byte}
 use Rattle.ti_source.specs.Lines.{line_count}
 use Rattle.ti_source.specs.Codes.{is_error}
 use Rattle.ti_source.specs.Header.{IsBadHeader, HeaderNames, IsLookupName, header_names}
-use Rattle.ti_source.specs.Numbers.{number_read, ReadsAs, greatest_number}
-use Rattle.ti_spelling.specs.Spelling.{HasNoNul, unescaped}
+use Rattle.ti_source.specs.Numbers.{number_read, ReadsAs}
+use Rattle.ti_spelling.specs.Spelling.{unescaped, ValuesAreSound}
 use Rattle.ti_source.specs.Folding.{Placed, placed, in_comment, without_comments, joined, folded}
-use Rattle.ti_source.specs.Items.{Claim, claims_flag, claims_number, claims_text, claims_cancel, Statement, Piece, bytes, field_of, after_field, takes, taken_after, cuts, with_first, items_of, without_front, line_of, piece_of, statement_of}
-use Rattle.ti_source.specs.Reading.{ReadItem, ReadFault, Reading, Said, said_flag, said_number, said_text, said_cancel, said_import}
+use Rattle.ti_source.specs.Items.{Claim, claims_flag, claims_number, claims_text, claims_cancel, Statement, bytes, after_field, taken_after, cuts, with_first, items_of, without_front, line_of, piece_of, statement_of}
+use Rattle.ti_source.specs.Reading.{ReadItem, ReadFault}
 use Rattle.ti_source.specs.Parsing.{Verdict, accepted, accepted_odd, refused, is_import, number_verdict, text_verdict, fitting_verdict, named_verdict, verdict_of, items_by, faults_by, items_at, faults_at, items_from, faults_from, names_limit, header_fault, names_found, header_faults, block_field, block_items, parsed}
-use Rattle.ti_source.specs.Sound.{SetsItsKind, IsLineOf, IsWritable, IsWellRead, EachIsWellRead}
+use Rattle.ti_source.specs.Sound.{SetsItsKind, IsLineOf, IsWritable, EachIsWellRead}
 use Rattle.ti_source.proofs.CutLemmas.{lines_add}
 use Rattle.ti_source.proofs.HeaderLemmas.{each_header}
 use Rattle.ti_source.proofs.NumberLemmas.{each_text}
-use Rattle.ti_spelling.proofs.ValueLaws.{values_are_sound}
 
 -- what holds of each of two lists holds of both joined
 AllByRecursion-append : {A : Type 0} (P : A → Type 0) (xs ys : List A) → AllByRecursion P xs → AllByRecursion P ys → AllByRecursion P (xs ++ ys)
@@ -54,32 +53,32 @@ number_sets c text (Ok n) valid is read = (valid, is, read.1)
 number_sets c text (Err Bad) valid is read = tt
 number_sets c text (Err TooLarge) valid is read = tt
 
-text_sets : (c : Capability) (raw : List ℕ) (found : Result (List ℕ × Bool) UnescapeError) → IsCapability c → c.kind ≡ kind.Text → unescaped raw ≡ found → SetsBy (text_verdict c found)
-text_sets c raw (Ok (text, true)) valid is e = (valid, is, (values_are_sound raw text true e).no_nul)
-text_sets c raw (Ok (text, false)) valid is e = (valid, is, (values_are_sound raw text false e).no_nul)
-text_sets c raw (Err cause) valid is e = tt
+text_sets : ValuesAreSound → (c : Capability) (raw : List ℕ) (found : Result (List ℕ × Bool) UnescapeError) → IsCapability c → c.kind ≡ kind.Text → unescaped raw ≡ found → SetsBy (text_verdict c found)
+text_sets sound c raw (Ok (text, true)) valid is e = (valid, is, (sound raw text true e).no_nul)
+text_sets sound c raw (Ok (text, false)) valid is e = (valid, is, (sound raw text false e).no_nul)
+text_sets sound c raw (Err cause) valid is e = tt
 
-fitting_sets : (c : Capability) (claim : Claim) (k : Kind) → IsCapability c → c.kind ≡ k → SetsBy (fitting_verdict c claim k)
-fitting_sets c claims_flag kind.Flag valid is = (valid, is)
-fitting_sets c claims_flag kind.Number valid is = tt
-fitting_sets c claims_flag kind.Text valid is = tt
-fitting_sets c (claims_number text) kind.Flag valid is = tt
-fitting_sets c (claims_number text) kind.Number valid is = number_sets c text (number_read text) valid is (each_text text)
-fitting_sets c (claims_number text) kind.Text valid is = tt
-fitting_sets c (claims_text value) kind.Flag valid is = tt
-fitting_sets c (claims_text value) kind.Number valid is = tt
-fitting_sets c (claims_text value) kind.Text valid is = text_sets c value (unescaped value) valid is refl
-fitting_sets c claims_cancel k valid is = valid
+fitting_sets : ValuesAreSound → (c : Capability) (claim : Claim) (k : Kind) → IsCapability c → c.kind ≡ k → SetsBy (fitting_verdict c claim k)
+fitting_sets sound c claims_flag kind.Flag valid is = (valid, is)
+fitting_sets sound c claims_flag kind.Number valid is = tt
+fitting_sets sound c claims_flag kind.Text valid is = tt
+fitting_sets sound c (claims_number text) kind.Flag valid is = tt
+fitting_sets sound c (claims_number text) kind.Number valid is = number_sets c text (number_read text) valid is (each_text text)
+fitting_sets sound c (claims_number text) kind.Text valid is = tt
+fitting_sets sound c (claims_text value) kind.Flag valid is = tt
+fitting_sets sound c (claims_text value) kind.Number valid is = tt
+fitting_sets sound c (claims_text value) kind.Text valid is = text_sets sound c value (unescaped value) valid is refl
+fitting_sets sound c claims_cancel k valid is = valid
 
-named_sets : NamedIsCapability → (name : List ℕ) (claim : Claim) (o : Option Capability) → capability_named name ≡ o → SetsBy (named_verdict claim o)
-named_sets valid name claim None e = tt
-named_sets valid name claim (Some c) e = fitting_sets c claim c.kind (valid name c e) refl
+named_sets : NamedIsCapability → ValuesAreSound → (name : List ℕ) (claim : Claim) (o : Option Capability) → capability_named name ≡ o → SetsBy (named_verdict claim o)
+named_sets valid sound name claim None e = tt
+named_sets valid sound name claim (Some c) e = fitting_sets sound c claim c.kind (valid name c e) refl
 
-verdict_sets : NamedIsCapability → (name : List ℕ) (claim : Claim) → SetsBy (verdict_of name claim)
-verdict_sets valid name claim =
+verdict_sets : NamedIsCapability → ValuesAreSound → (name : List ℕ) (claim : Claim) → SetsBy (verdict_of name claim)
+verdict_sets valid sound name claim =
     elim (cases_Bool (is_import name claim)) [
       | inl t ↦ rw t tt
-      | inr f ↦ rw f (named_sets valid name claim (capability_named name) refl)
+      | inr f ↦ rw f (named_sets valid sound name claim (capability_named name) refl)
     ]
 
 abbrev Sets : ReadItem → Type 0
@@ -90,16 +89,16 @@ items_by-sets n line (accepted said) sets = (sets, tt)
 items_by-sets n line (accepted_odd said) sets = (sets, tt)
 items_by-sets n line (refused code) sets = tt
 
-items_at-sets : NamedIsCapability → (n line : ℕ) (o : Option Statement) → AllByRecursion Sets (items_at n line o)
-items_at-sets valid n line None = tt
-items_at-sets valid n line (Some s) = items_by-sets n line (verdict_of s.name s.claim) (verdict_sets valid s.name s.claim)
+items_at-sets : NamedIsCapability → ValuesAreSound → (n line : ℕ) (o : Option Statement) → AllByRecursion Sets (items_at n line o)
+items_at-sets valid sound n line None = tt
+items_at-sets valid sound n line (Some s) = items_by-sets n line (verdict_of s.name s.claim) (verdict_sets valid sound s.name s.claim)
 
-items_from-sets : NamedIsCapability → (n : ℕ) (items : List (List Placed)) → AllByRecursion Sets (items_from n items)
-items_from-sets valid n [] = tt
-items_from-sets valid n (item ∷ items) =
+items_from-sets : NamedIsCapability → ValuesAreSound → (n : ℕ) (items : List (List Placed)) → AllByRecursion Sets (items_from n items)
+items_from-sets valid sound n [] = tt
+items_from-sets valid sound n (item ∷ items) =
     let p = piece_of item in
     AllByRecursion-append Sets (items_at n p.line (statement_of p.text)) (items_from (n + 1) items)
-    (items_at-sets valid n p.line (statement_of p.text)) (items_from-sets valid (n + 1) items)
+    (items_at-sets valid sound n p.line (statement_of p.text)) (items_from-sets valid sound (n + 1) items)
 
 -- ---- the lines of items
 
@@ -243,9 +242,9 @@ ends_after : (block : List ℕ) → last_byte 0 block ≡ 10 → (last_byte 10 b
 ends_after [] ends = absurd (omega arith)
 ends_after (x ∷ xs) ends = (ends, some_line 0 x xs ends)
 
-pub well_read : NamedIsCapability → EachIsWellRead
+pub well_read : NamedIsCapability → ValuesAreSound → EachIsWellRead
 unfolding parsed
-well_read valid block one =
+well_read valid sound block one =
     let field = block_field block in
     let found = header_names field in
     let items = block_items block in
@@ -257,7 +256,7 @@ well_read valid block one =
     record {
       names = names-sound field found (each_header field);
       named = λ e. named-sound field found refl (each_header field) (any-front (λ (f : ReadFault). is_error f.code) (header_faults field found) (faults_from 0 items) e);
-      sets = All-from_recursion Sets (items_from 0 items) (items_from-sets valid 0 items);
+      sets = All-from_recursion Sets (items_from 0 items) (items_from-sets valid sound 0 items);
       item_lines = All-from_recursion (λ (i : ReadItem). IsLineOf block i.line) (items_from 0 items)
           (AllByRecursion-weaker (λ (i : ReadItem). InBlock i.line) (λ (i : ReadItem). IsLineOf block i.line) (λ i h. in_block i.line h) (items_from 0 items) lines.0);
       fault_lines = All-from_recursion (λ (f : ReadFault). IsLineOf block f.line) (header_faults field found ++ faults_from 0 items)

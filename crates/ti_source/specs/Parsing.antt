@@ -1,7 +1,7 @@
 -- What a block says (terminfo(5); X/Open Curses Issue 7, "Terminfo Source Format"), as a relation by cases, and as a function.
-use Rattle.std.specs.Prelude.{◌≡◌, ◌≢◌, ℕ, ◌+◌, ◌<◌, ◌≤◌, Bool, true, false, ◌||◌, ◌&&◌, ◌==◌, nat_lt, if◌then◌else◌, List, [], ◌∷◌, ◌++◌, length, map, Option, Some, None, Result, Ok, Err, option_map, option_to_list, codes}
+use Rattle.std.specs.Prelude.{◌≡◌, ℕ, ◌+◌, ◌<◌, ◌≤◌, Bool, true, false, nat_lt, if◌then◌else◌, List, [], ◌∷◌, ◌++◌, length, map, Option, Some, None, Result, Ok, Err, option_to_list, codes}
 use Rattle.std.specs.Str.{bytes_eq}
-use Rattle.ti_caps.specs.Tables.{Capability, IsCapability, capability_named}
+use Rattle.ti_caps.specs.Tables.{Capability, capability_named}
 use Rattle.ti_caps.specs.declared.capability.Kind.{Kind}
 use Rattle.ti_caps.specs.declared.capability.Kind.TheVariants as kind
 use Rattle.ti_source.specs.declared.code.Code.{Code}
@@ -12,11 +12,11 @@ use Rattle.ti_source.specs.declared.numbers.NumberError.TheVariants.{Bad, TooLar
 use Rattle.ti_spelling.specs.declared.spelling.UnescapeError.{UnescapeError}
 use Rattle.ti_source.specs.declared.parsing.Verdict.{Verdict as VerdictInMemory}
 use Rattle.ti_source.specs.declared.parsing.Verdict.TheVariants as verdict
-use Rattle.ti_spelling.specs.Spelling.{Spells, Fails, unescaped, HasNoNul}
+use Rattle.ti_spelling.specs.Spelling.{Spells, Fails, unescaped}
 use Rattle.ti_source.specs.Header.{HeaderNames, IsBadHeader, header_names}
 use Rattle.ti_source.specs.Numbers.{IsNumeral, greatest_number, number_read}
 use Rattle.ti_source.specs.Folding.{Placed, folded}
-use Rattle.ti_source.specs.Items.{Claim, claims_flag, claims_number, claims_text, claims_cancel, Statement, Piece, IsWhite, States, Begins, AreItems, bytes, field_of, after_field, items_of, piece_of, statement_of, stripped}
+use Rattle.ti_source.specs.Items.{Claim, claims_flag, claims_number, claims_text, claims_cancel, Statement, Piece, States, Begins, AreItems, bytes, field_of, after_field, items_of, piece_of, statement_of, stripped}
 use Rattle.ti_source.specs.Reading.{Said, said_flag, said_number, said_text, said_cancel, said_import, said_of, ReadItem, ReadFault, Reading}
 
 -- ---- one statement
@@ -108,12 +108,16 @@ code_by (accepted said) = None
 code_by (accepted_odd said) = Some code.UnknownEscape
 code_by (refused code) = Some code
 
--- what a verdict adds to the accepted items, and to the faults, where the detail is the name as it stands
+-- a fault of an item, where the detail is the name as it stands
+abbrev pub item_fault : ℕ → ℕ → List ℕ → Code → ReadFault
+item_fault ordinal line name code = record { ordinal = ordinal; line = line; code = code; detail = Some name }
+
+-- what a verdict adds to the accepted items, and to the faults
 abbrev pub items_by : ℕ → ℕ → Verdict → List ReadItem
 items_by ordinal line v = map (λ said. record { ordinal = ordinal; line = line; said = said }) (option_to_list (said_by v))
 
 abbrev pub faults_by : ℕ → ℕ → List ℕ → Verdict → List ReadFault
-faults_by ordinal line name v = map (λ code. record { ordinal = ordinal; line = line; code = code; detail = Some name }) (option_to_list (code_by v))
+faults_by ordinal line name v = map (item_fault ordinal line name) (option_to_list (code_by v))
 
 -- the accepted items and the faults of items in a row, of which the first has the place `ordinal`
 pub data ReadsItems : (ordinal : ℕ) (items : List (List Placed)) → List ReadItem → List ReadFault → Type 0 where

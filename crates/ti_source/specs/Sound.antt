@@ -1,12 +1,12 @@
 -- What is known of every block as it is read, for those who build on it (own).
-use Rattle.std.specs.Prelude.{◌≡◌, ◌≢◌, ℕ, ◌<◌, ◌≤◌, false, List, [], ◌∷◌, ◌++◌, length, map, All}
+use Rattle.std.specs.Prelude.{◌≡◌, ◌≢◌, ℕ, ◌≤◌, false, List, [], length, All}
 use Rattle.std.specs.List.{list_any}
 use Rattle.ti_caps.specs.Tables.{IsCapability}
 use Rattle.ti_caps.specs.declared.capability.Kind.TheVariants.{Flag, Number, Text}
 use Rattle.ti_source.specs.Blocks.{OneBlock}
 use Rattle.ti_source.specs.Lines.{line_count}
 use Rattle.ti_source.specs.Codes.{is_error}
-use Rattle.ti_source.specs.Header.{HeaderNames, IsLookupName}
+use Rattle.ti_source.specs.Header.{IsLookupName}
 use Rattle.ti_source.specs.Numbers.{greatest_number}
 use Rattle.ti_spelling.specs.Spelling.{HasNoNul}
 use Rattle.ti_source.specs.Reading.{Reading, ReadItem, ReadFault, Said, said_flag, said_number, said_text, said_cancel, said_import}

@@ -155,8 +155,8 @@ fn marked(text: &[u8], end: usize) -> Statement<'_>
     }
 }
 
-#[tactic(auto, using(crate::proofs::TextLemmas::unmarked_lemmas))]
 // What an item with no mark states: a cancel where it ends in `@`, else a flag.
+#[tactic(auto, using(crate::proofs::TextLemmas::unmarked_lemmas))]
 fn unmarked(text: &[u8]) -> Statement<'_>
     ensures { stated result ≡ unmarked text.now }
 {

@@ -16,6 +16,7 @@ ghost use Rattle.ti_source.specs.Parsing.{
   AddsItems,
   ReadsField,
   header_fault,
+  item_fault,
 };
 ghost use Rattle.ti_source.specs.Reading.{fault_of, reading_of};
 ghost use Rattle.ti_source.specs.Sound.{EachIsWellRead, IsWellRead};
@@ -105,7 +106,8 @@ pub fn parse(alloc: Global, block: &[u8]) -> Result<Parsed, AllocError>
     ensures computed { IfOk result (λ p. reading_of p ≡ parsed block.now) }
     ensures sound { IfOk result (λ p. IsWellRead block.now (reading_of p)) }
 {
-    // A law with no code: it says what the clause `sound` promises.
+    // Laws, with no code: they give the clauses `reading` and `sound` of what is computed.
+    one_reading();
     each_is_well_read();
     let mut source = Folded::new(block);
     let field = read_field(alloc, &mut source)?;
@@ -181,6 +183,7 @@ fn add_item(
     let Some(statement) = statement_of(text) else {
         return Ok(());
     };
+    let name = statement.name;
     match judge(alloc, &statement)? {
         Verdict::Accepted(what) => {
             parsed.items.push(Item {
@@ -196,26 +199,35 @@ fn add_item(
                 line,
                 what,
             })?;
-            let detail = RcSlice::from_slice(alloc, statement.name)?;
-            parsed.faults.push(Local {
-                ordinal,
-                line,
-                code: Code::UnknownEscape,
-                detail: Some(detail),
-            })?;
+            let fault = item_fault(alloc, ordinal, line, Code::UnknownEscape, name)?;
+            parsed.faults.push(fault)?;
             Ok(())
         }
         Verdict::Refused(code) => {
-            let detail = RcSlice::from_slice(alloc, statement.name)?;
-            parsed.faults.push(Local {
-                ordinal,
-                line,
-                code,
-                detail: Some(detail),
-            })?;
+            let fault = item_fault(alloc, ordinal, line, code, name)?;
+            parsed.faults.push(fault)?;
             Ok(())
         }
     }
+}
+
+// A fault of an item, with its name.
+fn item_fault(
+    alloc: Global,
+    ordinal: usize,
+    line: usize,
+    code: Code,
+    name: &[u8],
+) -> Result<Local, AllocError>
+    ensures { IfOk result (λ f. fault_of f ≡ item_fault ordinal line name.now code) }
+{
+    let detail = Some(RcSlice::from_slice(alloc, name)?);
+    Ok(Local {
+        ordinal,
+        line,
+        code,
+        detail,
+    })
 }
 
 // The verdict on a statement: first a name that is not in the tables, then one of another kind, then a value that cannot
@@ -277,6 +289,7 @@ pub fn each_is_well_read()
     count(Kind::Flag);
     count(Kind::Number);
     count(Kind::Text);
+    one_outcome();
 }
 
 /// Each block has one reading, which `parse` gives.
@@ -285,4 +298,136 @@ pub fn one_reading()
     ensures only { OneReading }
 {
     one_outcome();
+}
+
+#[cfg(test)]
+mod tests {
+    use super::*;
+    use crate::cutting::is_block;
+    use std::fmt::Write;
+    use std::test::Fail;
+    use ti_caps::name;
+
+    // What an item says, a text in hexadecimal.
+    fn say(said: &mut String, what: &What) -> Result<(), AllocError> {
+        let (cap, mark, text) = match what {
+            What::Flag(cap) => (name(*cap), "", None),
+            What::Number(cap, number) => {
+                let cap = name(*cap);
+                return write!(said, "{cap}#{number}");
+            }
+            What::Text(cap, text) => (name(*cap), "=", Some(text)),
+            What::Cancel(cap) => (name(*cap), "@", None),
+            What::Import(owner) => ("use", "=", Some(owner)),
+        };
+        write!(said, "{cap}{mark}")?;
+        if let Some(text) = text {
+            for byte in text.as_slice() {
+                let byte = *byte;
+                write!(said, "{byte:02x}")?;
+            }
+        }
+        Ok(())
+    }
+
+    // The items and the faults of a block, each with its place, its line and a semicolon.
+    fn reading(alloc: Global, parsed: &Parsed) -> Result<String, AllocError> {
+        let mut said = String::new(alloc);
+        for item in &parsed.items {
+            let ordinal = item.ordinal;
+            let line = item.line;
+            write!(said, "{ordinal}:{line} ")?;
+            say(&mut said, &item.what)?;
+            said.push_str(";")?;
+        }
+        for fault in &parsed.faults {
+            let ordinal = fault.ordinal;
+            let line = fault.line;
+            let code = fault.code;
+            write!(said, "{ordinal}:{line} {code} ")?;
+            if let Some(detail) = &fault.detail {
+                for byte in detail.as_slice() {
+                    said.push(char::from(*byte))?;
+                }
+            }
+            said.push_str(";")?;
+        }
+        Ok(said)
+    }
+
+    #[test]
+    fn reads_blocks(rt: HostRuntime) -> Result<(), Fail> {
+        for (block, wanted) in [
+            ("x,clear=\\E[H\n\t\\E[J,\n", "0:1 clear=1b5b481b5b4a;"),
+            (
+                "x,.am,am#1,cols=3,bw@,cols#09,bel=\\400,foo,kf1=\\q,\n",
+                "3:1 bw@;7:1 kf1=71;1:1 W2 WrongKind am;2:1 W2 WrongKind cols;4:1 E3 BadNumber cols;5:1 E5 BadString bel;6:1 W1 UnknownCapability foo;7:1 W3 UnknownEscape kf1;",
+            ),
+            (
+                "x,use,use#1,use@,\n",
+                "0:1 W1 UnknownCapability use;1:1 W1 UnknownCapability use;2:1 W1 UnknownCapability use;",
+            ),
+            ("x,kf1=^\\,bel=a\\,b,\n", "0:1 kf1=1c;1:1 bel=612c62;"),
+            ("x,bel=^,am,\n", "1:1 am;0:1 E5 BadString bel;"),
+            ("x,bel=%^,am,\n", "0:1 bel=255e;1:1 am;"),
+            ("x,bel=%\n\t^,am,\n", "0:1 bel=255e;1:2 am;"),
+            ("x,bel=a\n# am,\n\tb,\n", "0:1 bel=6162;"),
+            (
+                "x,\n\tam,\n# c\n\t, .bw,\n  foo, km\n",
+                "0:2 am;4:5 km;3:5 W1 UnknownCapability foo;",
+            ),
+            ("x,\n\t# x,\n", "0:2 W1 UnknownCapability ;"),
+            (
+                "x,cols #5,use =a,am @,\n",
+                "0:1 W1 UnknownCapability cols ;1:1 W1 UnknownCapability use ;2:1 W1 UnknownCapability am ;",
+            ),
+            (
+                "x,foo\\,bar,am \n",
+                "1:1 am;0:1 W1 UnknownCapability foo\\,bar;",
+            ),
+            (
+                "x,bel=x\\ ,cr=y \n",
+                "0:1 bel=7820;1:1 cr=7920;0:1 W3 UnknownEscape bel;",
+            ),
+            (
+                "x,use=,use= a ,use=\\E,\n",
+                "0:1 use=;1:1 use=61;2:1 use=5c45;",
+            ),
+            (
+                "x,cols=\\400,bel#x,am=1,\n",
+                "0:1 W2 WrongKind cols;1:1 W2 WrongKind bel;2:1 W2 WrongKind am;",
+            ),
+            (
+                "x,cols#0x7fff ,it#32768,lm#00,\n",
+                "0:1 cols#32767;2:1 lm#0;1:1 E4 NumberTooLarge it;",
+            ),
+            ("x,bel=,\n", "0:1 bel=;"),
+            ("a|,am,\n", "0:1 am;0:1 E1 BadHeader ;"),
+            ("xterm\n", ""),
+        ] {
+            assert!(rt; is_block(block.as_bytes()), "{block:?}");
+            let parsed = parse(rt.alloc(), block.as_bytes())?;
+            assert_eq!(rt; reading(rt.alloc(), &parsed)?.as_str(), wanted, "{block:?}");
+        }
+        Ok(())
+    }
+
+    #[test]
+    fn reads_names_fields(rt: HostRuntime) -> Result<(), Fail> {
+        let mut block = b"n|m|a b\\".to_vec(rt.alloc())?;
+        for (more, wanted, names) in [(119, "", 2), (1, "0:1 E2 NamesTooLong ;", 2)] {
+            for _ in 0..more {
+                block.push(b'c')?;
+            }
+            let length = block.len();
+            block.extend_from_slice(b",\n")?;
+            assert!(rt; is_block(&block));
+            let parsed = parse(rt.alloc(), &block)?;
+            assert_eq!(rt; reading(rt.alloc(), &parsed)?.as_str(), wanted);
+            assert_eq!(rt; parsed.field.as_slice(), &block[..length]);
+            assert_eq!(rt; parsed.names.len(), names);
+            block.truncate(length);
+        }
+        Ok(())
+    }
 }

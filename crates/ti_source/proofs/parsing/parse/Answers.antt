@@ -3,8 +3,7 @@ use Rattle.ti_source.specs.Reading.{Reading}
 use Rattle.ti_source.specs.Parsing.{Parses}
 use Rattle.ti_source.specs.Sound.{IsWellRead}
 use Rattle.ti_source.proofs.FoldLemmas.{length-after_field}
-use Rattle.ti_spelling.proofs.SpellingLaws.{unescaped_agrees}
-use Rattle.ti_source.proofs.ReadingLaws.{has_reading, parsed_by_parts}
+use Rattle.ti_source.proofs.ReadingLaws.{parsed_by_parts}
 use Rattle.ti_source.proofs.parsing.parse.Goals as goal
 
 pub read_items-requires : goal.read_items-requires
@@ -18,7 +17,7 @@ returns-clause-computed c =
 pub returns-clause-reading : goal.returns-clause-reading
 returns-clause-reading c =
     let P : Reading → Type 0 = λ r. Parses c.args.block.now r in
-    subst P (sym (returns-clause-computed c)) (has_reading unescaped_agrees c.args.block.now)
+    subst P (sym (returns-clause-computed c)) (c.one_reading.ensures.computed c.args.block.now)
 
 pub returns-clause-sound : goal.returns-clause-sound
 returns-clause-sound c =

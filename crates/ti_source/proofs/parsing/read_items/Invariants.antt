@@ -1,4 +1,4 @@
-use Rattle.std.proofs.Common.{◌≡◌, ◌+◌, ◌<◌, ◌^◌, length}
+use Rattle.std.proofs.Common.{length}
 use Rattle.ti_source.specs.Reading.{reading_of}
 use Rattle.ti_source.proofs.ReadLemmas.{AddsSoFar}
 use Rattle.ti_source.proofs.parsing.read_items.Given as goal
