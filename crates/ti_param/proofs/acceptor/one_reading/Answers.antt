@@ -1,0 +1,5 @@
+use Rattle.ti_param.proofs.Laws.{one_reading}
+use Rattle.ti_param.proofs.acceptor.one_reading.Goals as goal
+
+pub returns : goal.returns
+returns c = one_reading

@@ -1,0 +1,13 @@
+use Rattle.std.proofs.Common.{◌≡◌, ◌+◌, ◌<◌, ◌^◌, length}
+use Rattle.ti_param.specs.Formats.{skipped}
+use Rattle.ti_param.proofs.expansion.skip.Given as goal
+
+-- what is skipped of the tokens that are left is what is skipped of all
+abbrev pub invariant-loop-token : goal.invariant-loop-token
+invariant-loop-token l = record {
+  left : skipped l.level l.to_else l.lexer.tokens ≡ skipped 0 l.to_else l.fn.lexer.tokens;
+  room : l.level + length l.lexer.tokens < 2 ^ 64;
+}
+
+abbrev pub decreases-loop-token : goal.decreases-loop-token
+decreases-loop-token l = length l.lexer.tokens

@@ -1,0 +1,59 @@
+-- What an expansion gives, by the tree of its format and the tree's meaning: terminfo(5), "Parameterized Strings".
+use Rattle.std.specs.Prelude.{◌≡◌, ℕ, List, Option, Some, None, ℤ, Result, Ok, Err}
+use Rattle.ti_param.specs.declared.errors.ParamError.{ParamError}
+use Rattle.ti_param.specs.declared.errors.ParamError.TheVariants.{BadFormat, StackFull, Memory}
+use Rattle.ti_param.specs.Formats.{Tree, IsTree, stuck_place, tree_of}
+use Rattle.ti_param.specs.Meaning.{Argument, State, Outcome, start, meaning}
+
+-- the format has a tree, which runs to this output and these static variables
+pub record Expands (format : List ℕ) (parameters : List Argument) (before : List ℤ) (output : List ℕ) (after : List ℤ) : Type 0 where
+  pub tree : Tree
+  pub is_tree : IsTree format tree
+  pub final : State
+  pub runs : meaning tree (start parameters before) ≡ Ok final
+  pub output_is : output ≡ final.output
+  pub statics_are : after ≡ final.statics
+
+-- the format has a tree, which runs until the code at the place finds the stack full
+pub record Overflows (format : List ℕ) (parameters : List Argument) (before : List ℤ) (place : ℕ) : Type 0 where
+  pub tree : Tree
+  pub is_tree : IsTree format tree
+  pub runs : meaning tree (start parameters before) ≡ Err place
+
+-- ---- the computing form
+
+pub data Expansion : Type 0 where
+  expanded : (output : List ℕ) (statics : List ℤ) → Expansion
+  bad_format : (place : ℕ) → Expansion
+  stack_full : (place : ℕ) → Expansion
+
+abbrev pub ended : Outcome → Expansion
+ended (Ok final) = expanded final.output final.statics
+ended (Err place) = stack_full place
+
+abbrev pub unless_stuck : Option ℕ → Outcome → Expansion
+unless_stuck None outcome = ended outcome
+unless_stuck (Some place) outcome = bad_format place
+
+unfoldable pub expansion : List ℕ → List Argument → List ℤ → Expansion
+expansion format parameters statics = unless_stuck (stuck_place format) (meaning (tree_of format) (start parameters statics))
+
+-- the error that an expansion ends with; want of memory may come where the format is not stuck
+abbrev pub EndsWith : ParamError → Expansion → Type 0
+EndsWith (BadFormat place) e = e ≡ bad_format place
+EndsWith (StackFull place) e = e ≡ stack_full place
+EndsWith Memory (bad_format place) = ⊥
+EndsWith Memory e = Unit {0}
+
+-- how a step of the machine ended and left it, where this is what it is to do; want of memory leaves it anyhow
+abbrev pub Ran : Result (Unit {0}) ParamError → State → Outcome → Type 0
+Ran (Ok done) after outcome = outcome ≡ Ok after
+Ran (Err (StackFull place)) after outcome = outcome ≡ Err place
+Ran (Err Memory) after outcome = Unit {0}
+Ran (Err (BadFormat place)) after outcome = ⊥
+
+-- the acceptor's error names the place where the format is stuck
+abbrev pub IsRefusal : ParamError → Option ℕ → Type 0
+IsRefusal (BadFormat place) stuck = stuck ≡ Some place
+IsRefusal (StackFull place) stuck = ⊥
+IsRefusal Memory stuck = ⊥

@@ -1,0 +1,77 @@
+//! Whether a format is whole: conditionals in order, and at most 64 open at once.
+ghost use Rattle.std.specs.Prelude.{◌≡◌, ℕ, ◌≤◌, List, MatchResult, MatchBool, reverse};
+ghost use Rattle.arrayvec.specs.ArrayVec.{array_vec_len};
+ghost use Rattle.ti_param.specs.Expansion.{IsRefusal};
+ghost use Rattle.ti_param.specs.Formats.{stuck_place, advanced, OneReading, IsComputed};
+
+use crate::codes::Token;
+use crate::errors::ParamError;
+use crate::lexer::{Lexer, Placed};
+use arrayvec::ArrayVec;
+
+/// How many conditionals may be open at once.
+const MOST: usize = 64;
+
+/// What may come in an open conditional.
+#[derive(Clone, Copy, Default)]
+pub(crate) enum Phase {
+    /// The test, which a `%t` ends.
+    #[default]
+    Testing,
+    /// The part taken, which an `%e` ends.
+    Taken,
+}
+
+/// Accepts a whole format; else the error is `BadFormat`, with the place where the format is stuck.
+pub(crate) fn accept(format: &[u8]) -> Result<(), ParamError>
+    ensures { MatchResult result (λ _. stuck_place format.now ≡ None) (λ error. IsRefusal error (stuck_place format.now)) }
+{
+    let mut open: ArrayVec<Phase, MOST> = ArrayVec::new();
+    let mut lexer = Lexer::new(format);
+    while let Some(Placed { place, token }) = lexer.next_token() {
+        if !advance(&mut open, token) {
+            return Err(ParamError::BadFormat(place));
+        }
+    }
+    match lexer.stop() {
+        None => Ok(()),
+        Some(place) => Err(ParamError::BadFormat(place)),
+    }
+}
+
+/// Whether the token may stand in the open conditionals, which are then those after it.
+fn advance(open: &mut ArrayVec<Phase, MOST>, token: Token) -> bool
+    requires { array_vec_len open.old ≤ 64 }
+    ensures phases { MatchBool result (advanced (reverse open.old.items) token ≡ Some (reverse open.new.items)) (advanced (reverse open.old.items) token ≡ None) }
+    ensures bound { array_vec_len open.new ≤ 64 }
+{
+    match token {
+        Token::Literal(_) | Token::Operation(_) => true,
+        Token::If => open.try_push(Phase::Testing).is_ok(),
+        Token::Then => match open.pop() {
+            Some(Phase::Testing) => {
+                open.push(Phase::Taken);
+                true
+            }
+            _ => false,
+        },
+        Token::Else => match open.pop() {
+            Some(Phase::Taken) => {
+                open.push(Phase::Testing);
+                true
+            }
+            _ => false,
+        },
+        Token::EndIf => open.pop().is_some(),
+    }
+}
+
+/// The law of formats: each has exactly one tree, or exactly one place where it is stuck.
+pub fn one_reading()
+    ensures { (format : List ℕ) → OneReading format }
+{}
+
+/// The law of the computing reader: it gives the tree, and the place, that there are.
+pub fn reading_is_computed()
+    ensures { (format : List ℕ) → IsComputed format }
+{}

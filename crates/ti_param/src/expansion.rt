@@ -1,0 +1,99 @@
+//! The bytes that a parameter string sends to the terminal.
+ghost use Rattle.std.specs.Prelude.{◌≡◌, ℕ, ◌+◌, ◌^◌, ◌<◌, ◌↔◌, IfOk, IfErr, OnErr, IsErrOf, map, length, MatchResult};
+ghost use Rattle.ti_param.specs.Formats.{Tree, IsTree, IsStuck, skipped, deeper};
+ghost use Rattle.ti_param.specs.Meaning.{argument_of, meaning};
+ghost use Rattle.ti_param.specs.Expansion.{Expands, Overflows, Ran, EndsWith, expansion, expanded};
+
+use crate::acceptor::accept;
+use crate::codes::Token;
+use crate::errors::ParamError;
+use crate::lexer::{Lexer, Placed};
+use crate::machine::Machine;
+use crate::values::{Statics, Value};
+
+#[cfg(test)]
+mod tests;
+
+use std::alloc::Global;
+
+/// The bytes of a format for its parameters, as terminfo(5) has them under "Parameterized Strings". A parameter that is
+/// not given is the number 0.
+///
+/// The static variables are left as the format sets them, and after an error as they were.
+///
+/// # Errors
+///
+/// The first of these: `BadFormat` where a `%` begins no code that may stand there, in parts that are run or not;
+/// `StackFull` where a code pushes on 20 values; `Memory` where room for the bytes was refused.
+pub fn expand(
+    alloc: Global,
+    format: &[u8],
+    params: &[Value<'_>; 9],
+    statics: &mut Statics,
+) -> Result<Vec<u8>, ParamError>
+    ensures ok { IfOk result (λ output. Expands format.now (map argument_of params.now) statics.old output.items statics.new) }
+    ensures bad_format { (place : ℕ) → IsErrOf result (ParamError.BadFormat place) ↔ IsStuck format.now place }
+    ensures stack_full { (place : ℕ) → IsErrOf result (ParamError.StackFull place) → Overflows format.now (map argument_of params.now) statics.old place }
+    ensures memory { IsErrOf result ParamError.Memory → (t : Tree) × IsTree format.now t }
+    ensures err { OnErr result (statics.new ≡ statics.old) }
+
+    // the same, computed
+    ensures computed { MatchResult result
+        (λ output. expansion format.now (map argument_of params.now) statics.old ≡ expanded output.items statics.new)
+        (λ error. EndsWith error (expansion format.now (map argument_of params.now) statics.old)) }
+{
+    accept(format)?;
+    let mut machine = Machine::new(alloc, params, statics);
+    run(format, &mut machine)?;
+    Ok(machine.finish(statics))
+}
+
+/// Runs a format that was accepted.
+fn run(format: &[u8], machine: &mut Machine<'_>) -> Result<(), ParamError>
+    ensures { (t : Tree) → IsTree format.now t → Ran result machine.new (meaning t machine.old) }
+{
+    let mut lexer = Lexer::new(format);
+    while let Some(Placed { place, token }) = lexer.next_token() {
+        match token {
+            Token::Literal(byte) => machine.write(byte)?,
+            Token::Operation(code) => machine.perform(place, code)?,
+            Token::If | Token::EndIf => {}
+            Token::Then => {
+                if machine.pop_number() == 0 {
+                    skip(&mut lexer, true);
+                }
+            }
+            Token::Else => skip(&mut lexer, false),
+        }
+    }
+    Ok(())
+}
+
+/// Skips the part of a conditional that is not taken, by a count of the conditionals in it: to after the `%;` that ends
+/// it, or where `to_else` is set to after its `%e`, whichever comes first, or to the end of the format.
+fn skip(lexer: &mut Lexer<'_>, to_else: bool)
+    requires { length lexer.old.tokens < 2 ^ 64 }
+    ensures { lexer.new.tokens ≡ skipped 0 to_else lexer.old.tokens }
+{
+    let mut level = 0;
+    while let Some(Placed { token, .. }) = lexer.next_token() {
+        let Some(next) = level_after(level, to_else, token) else {
+            break;
+        };
+        level = next;
+    }
+}
+
+/// How many conditionals are open in the skipped part after one more token; None where the token ends the part.
+fn level_after(level: usize, to_else: bool, token: Token) -> Option<usize>
+    requires { level + 1 < 2 ^ 64 }
+    ensures { result ≡ deeper level to_else token }
+{
+    match token {
+        Token::If => Some(level + 1),
+        Token::EndIf if level == 0 => None,
+        Token::EndIf => Some(level - 1),
+        Token::Else if level == 0 && to_else => None,
+        _ => Some(level),
+    }
+}

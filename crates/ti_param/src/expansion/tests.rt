@@ -1,0 +1,224 @@
+use super::*;
+use std::alloc::AllocError;
+use std::process::Abort;
+use std::test::Fail;
+
+/// A format, its first three parameters, the others being 0, and its expansion.
+type Row = (&'static str, [i32; 3], &'static str);
+
+/// The usual way to one of 256 colours: 8 plain ones, 8 bright ones, and the rest by number.
+const COLOUR: &str = "\x1b[%?%p1%{8}%<%t3%p1%d%e%p1%{16}%<%t9%p1%{8}%-%d%e38;5;%p1%d%;m";
+
+/// A conditional in the part taken of another.
+const NESTED: &str = "%?%p1%t%?%p2%tA%eB%;C%eD%;E";
+
+/// A conditional in the rest of another.
+const CHAINED: &str = "%?%p1%tA%e%?%p2%tB%eC%;D%;E";
+
+static ROWS: [Row; 52] = [
+    ("\x1b[%i%p1%d;%p2%dH", [4, 9, 0], "\x1b[5;10H"),
+    (COLOUR, [3, 0, 0], "\x1b[33m"),
+    (COLOUR, [12, 0, 0], "\x1b[94m"),
+    (COLOUR, [200, 0, 0], "\x1b[38;5;200m"),
+    (NESTED, [0, 0, 0], "DE"),
+    (NESTED, [1, 0, 0], "BCE"),
+    (NESTED, [1, 1, 0], "ACE"),
+    (CHAINED, [1, 0, 0], "AE"),
+    (CHAINED, [0, 1, 0], "BDE"),
+    (CHAINED, [0, 0, 0], "CDE"),
+    ("%?%p1%tA%e%p2%tB%e%p3%tC%eD%;", [0, 0, 1], "C"),
+    ("%?%p1%tA", [1, 0, 0], "A"),
+    ("%?%p1%tA", [0, 0, 0], ""),
+    ("%?%;", [0, 0, 0], ""),
+    ("%?%p1%;%d", [7, 0, 0], "7"),
+    ("%{2147483647}%{1}%+%d", [0, 0, 0], "-2147483648"),
+    ("%p1%{1}%-%d", [i32::MIN, 0, 0], "2147483647"),
+    ("%p1%p2%*%d", [65536, 65536, 0], "0"),
+    ("%{5}%{0}%/%d", [0, 0, 0], "0"),
+    ("%{5}%{0}%m%d", [0, 0, 0], "0"),
+    ("%p1%p2%/%d", [i32::MIN, -1, 0], "-2147483648"),
+    ("%p1%p2%m%d", [i32::MIN, -1, 0], "0"),
+    ("%p1%{2}%/%d", [-7, 0, 0], "-3"),
+    ("%p1%{2}%m%d", [-7, 0, 0], "-1"),
+    ("%p1%p2%&%d", [-2, 7, 0], "6"),
+    ("%p1%p2%|%d", [-8, 5, 0], "-3"),
+    ("%p1%p2%^%d", [-1, 5, 0], "-6"),
+    ("%p1%~%d", [5, 0, 0], "-6"),
+    ("%p1%!%p2%!%d%d", [0, 5, 0], "01"),
+    ("%p1%p2%=%d", [3, 3, 0], "1"),
+    ("%p1%p2%>%d", [3, 2, 0], "1"),
+    ("%p1%p2%<%d", [-3, 2, 0], "1"),
+    ("%p1%p2%A%d", [2, 0, 0], "0"),
+    ("%p1%p2%O%d", [2, 0, 0], "1"),
+    ("%i%p1%d", [i32::MAX, 0, 0], "-2147483648"),
+    ("%d", [0, 0, 0], "0"),
+    ("%%%p1%c%'a'%c", [65, 0, 0], "%Aa"),
+    ("%'''%d%'%'%d", [0, 0, 0], "3937"),
+    ("%p1%:-5d|", [-7, 0, 0], "-7   |"),
+    ("%p1%:-05d|", [7, 0, 0], "7    |"),
+    ("%p1%.3d", [-7, 0, 0], "-007"),
+    ("%p1%03d", [7, 0, 0], "007"),
+    ("%p1%x", [-1, 0, 0], "ffffffff"),
+    ("%p1%#o", [8, 0, 0], "010"),
+    ("%p1%#x", [255, 0, 0], "0xff"),
+    ("%p1%#x", [0, 0, 0], "0"),
+    ("%p1% d", [5, 0, 0], " 5"),
+    ("%p1%:+d", [5, 0, 0], "+5"),
+    ("%p1%.0d", [0, 0, 0], ""),
+    ("%p1%#.0o", [0, 0, 0], "0"),
+    ("%p1%:d%p1%.d%p1%0d", [5, 0, 0], "555"),
+    ("%p1%Pz%gz%gz%+%d", [21, 0, 0], "42"),
+];
+
+/// A format that is stuck, and where.
+static STUCK: [(&str, usize); 20] = [
+    ("a%e", 1),
+    ("%t", 0),
+    ("%;", 0),
+    ("ab%", 2),
+    ("%q", 0),
+    ("%{2147483648}%d", 0),
+    ("%{}", 0),
+    ("%{5", 0),
+    ("%1000d", 0),
+    ("%.1000d", 0),
+    ("%5c", 0),
+    ("%5%", 0),
+    ("%'a", 0),
+    ("%p0", 0),
+    ("%P1", 0),
+    ("%?%e", 2),
+    ("%?%t%t", 4),
+    ("%?%t%e%e", 6),
+    ("%?%p1%t%q%;", 7),
+    ("%d%?%;%;", 6),
+];
+
+fn numbers(first: &[i32; 3]) -> [Value<'static>; 9] {
+    let zero = Value::Number(0);
+    let [a, b, c] = *first;
+    [
+        Value::Number(a),
+        Value::Number(b),
+        Value::Number(c),
+        zero,
+        zero,
+        zero,
+        zero,
+        zero,
+        zero,
+    ]
+}
+
+/// The piece, so many times.
+fn repeated(alloc: Global, piece: &[u8], count: usize) -> Result<Vec<u8>, AllocError> {
+    let mut text = Vec::new(alloc);
+    for _ in 0..count {
+        text.extend_from_slice(piece)?;
+    }
+    Ok(text)
+}
+
+fn check_rows(rt: &(impl Abort + AllocGlobal), rows: &[Row]) -> Result<(), ParamError> {
+    for (format, first, wanted) in rows {
+        let mut statics = Statics::new();
+        let bytes = expand(rt.alloc(), format.as_bytes(), &numbers(first), &mut statics)?;
+        assert_eq!(rt; bytes.as_slice(), wanted.as_bytes(), "at {format}");
+    }
+    Ok(())
+}
+
+#[test]
+fn expands_by_the_manual(rt: HostRuntime) -> Result<(), Fail> {
+    check_rows(&rt, &ROWS)?;
+    Ok(())
+}
+
+#[test]
+fn names_the_place_where_a_format_is_stuck(rt: HostRuntime) {
+    let none = numbers(&[0, 0, 0]);
+    for (format, place) in STUCK.iter() {
+        let mut statics = Statics::new();
+        let refused = expand(rt.alloc(), format.as_bytes(), &none, &mut statics).err();
+        assert_eq!(rt; refused, Some(ParamError::BadFormat(*place)), "at {format}");
+    }
+}
+
+#[test]
+fn writes_the_low_byte_of_a_number(rt: HostRuntime) -> Result<(), Fail> {
+    for (number, byte) in [(256, 0x80u8), (0, 0x80), (321, 65), (-1, 255)] {
+        let mut statics = Statics::new();
+        let bytes = expand(
+            rt.alloc(),
+            b"%p1%c",
+            &numbers(&[number, 0, 0]),
+            &mut statics,
+        )?;
+        assert_eq!(rt; bytes.as_slice(), [byte].as_slice(), "of {number}");
+    }
+    Ok(())
+}
+
+#[test]
+fn takes_texts_as_parameters(rt: HostRuntime) -> Result<(), Fail> {
+    let zero = Value::Number(0);
+    let text = Value::Text(b"abc");
+    let params = [text, text, zero, zero, zero, zero, zero, zero, zero];
+    for (format, wanted) in [
+        ("%p1%s|%p1%l%d", "abc|3"),
+        ("%p1%5.2s|", "   ab|"),
+        ("%p1%05s|", "  abc|"),
+        ("%p3%s|%p3%l%d", "|0"),
+        ("%i%p1%s%p3%d", "abc0"),
+        ("%p1%p2%=%d", "1"),
+        ("%p1%d", "0"),
+    ] {
+        let mut statics = Statics::new();
+        let bytes = expand(rt.alloc(), format.as_bytes(), &params, &mut statics)?;
+        assert_eq!(rt; bytes.as_slice(), wanted.as_bytes(), "at {format}");
+    }
+    Ok(())
+}
+
+#[test]
+fn keeps_static_variables_but_after_an_error(rt: HostRuntime) -> Result<(), Fail> {
+    let mut statics = Statics::new();
+    expand(rt.alloc(), b"%p1%PA", &numbers(&[6, 0, 0]), &mut statics)?;
+    let mut full = repeated(rt.alloc(), b"%p1%PA", 1)?;
+    full.extend_from_slice(repeated(rt.alloc(), b"%p1", 21)?.as_slice())?;
+    let nine = numbers(&[9, 0, 0]);
+    assert_eq!(rt;
+        expand(rt.alloc(), full.as_slice(), &nine, &mut statics).err(),
+        Some(ParamError::StackFull(66))
+    );
+    assert_eq!(rt;
+        expand(rt.alloc(), b"%gA%PA%q", &nine, &mut statics).err(),
+        Some(ParamError::BadFormat(6))
+    );
+    let bytes = expand(rt.alloc(), b"%gA%d%gB%d%ga%d", &nine, &mut statics)?;
+    assert_eq!(rt; bytes.as_slice(), b"600".as_slice());
+    Ok(())
+}
+
+#[test]
+fn bounds_the_stack_and_the_conditionals(rt: HostRuntime) -> Result<(), Fail> {
+    let none = numbers(&[0, 0, 0]);
+    for (piece, count, wanted) in [
+        ("%p1", 20, None),
+        ("%p1", 21, Some(ParamError::StackFull(60))),
+        ("%?", 64, None),
+        ("%?", 65, Some(ParamError::BadFormat(128))),
+        ("%?", 1_000_000, Some(ParamError::BadFormat(128))),
+    ] {
+        let format = repeated(rt.alloc(), piece.as_bytes(), count)?;
+        let mut statics = Statics::new();
+        let expansion = expand(rt.alloc(), format.as_slice(), &none, &mut statics);
+        assert_eq!(rt; expansion.err(), wanted, "at {count} times {piece}");
+    }
+    let mut skipped = repeated(rt.alloc(), b"%?%p1%t", 1)?;
+    skipped.extend_from_slice(repeated(rt.alloc(), b"%%", 100_000)?.as_slice())?;
+    let mut statics = Statics::new();
+    let bytes = expand(rt.alloc(), skipped.as_slice(), &none, &mut statics)?;
+    assert_eq!(rt; bytes.len(), 0);
+    Ok(())
+}

@@ -1,0 +1,80 @@
+//! A format as its tokens.
+ghost use Rattle.std.specs.Prelude.{◌≡◌, ◌^◌, ◌<◌, [], ◌∷◌, MatchOption, IfNone, length};
+ghost use Rattle.ti_param.specs.Formats.{scan_of};
+
+use crate::codes::{Token, read_token};
+use std::marker::Model;
+
+/// A token, and where in the format it begins.
+#[derive(Clone, Copy)]
+pub(crate) struct Placed {
+    pub(crate) place: usize,
+    pub(crate) token: Token,
+}
+
+/// The tokens of a format that are left, up to the first `%` that begins no code.
+#[derive(Drop)]
+pub(crate) struct Lexer<'a> {
+    place: usize,
+    rest: &'a [u8],
+}
+
+impl<'a> Model for Lexer<'a> {
+    ghost use Rattle.std.specs.Prelude.{◌+◌, ◌^◌, ◌<◌, length};
+    ghost use Rattle.ti_param.specs.Formats.{Scan, scan};
+
+    ghost Value = { Scan };
+
+    ghost view = { λ lexer. scan 0 lexer.place lexer.rest.now };
+
+    ghost invariant = { λ lexer. lexer.place + length lexer.rest.now < 2 ^ 64 };
+}
+
+impl<'a> Lexer<'a> {
+    /// At the start of a format.
+    pub(crate) fn new(format: &'a [u8]) -> Self
+        ensures value { result ≡ scan_of format.now }
+        ensures bound { length result.tokens < 2 ^ 64 }
+    {
+        Lexer {
+            place: 0,
+            rest: format,
+        }
+    }
+
+    /// Takes the next token; None at the end, and at a `%` that begins no code.
+    pub(crate) fn next_token(&mut self) -> Option<Placed>
+        ensures token { MatchOption result (self.old.tokens ≡ []) (λ found. self.old.tokens ≡ found ∷ self.new.tokens) }
+        ensures stop { self.new.stop ≡ self.old.stop }
+        ensures end { IfNone result (self.new ≡ self.old) }
+    {
+        let text = self.rest;
+        let (&byte, after) = text.split_first()?;
+        let piece = if byte == b'%' {
+            read_token(after)
+        } else {
+            Some((Token::Literal(byte), after))
+        };
+        match piece {
+            None => None,
+            Some((token, rest)) => {
+                let place = self.place;
+                self.place = place + (text.len() - rest.len());
+                self.rest = rest;
+                Some(Placed { place, token })
+            }
+        }
+    }
+
+    /// Where no token is left, the place of the `%` that begins no code, or None at the format's end.
+    pub(crate) fn stop(&self) -> Option<usize>
+        requires { self.now.tokens ≡ [] }
+        ensures { result ≡ self.now.stop }
+    {
+        if self.rest.is_empty() {
+            None
+        } else {
+            Some(self.place)
+        }
+    }
+}

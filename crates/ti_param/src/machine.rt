@@ -1,0 +1,184 @@
+//! The machine that runs a format: its stack, its parameters and variables, and what each code does to them.
+ghost use Rattle.std.specs.Prelude.{◌≡◌, ◌∷◌, [], map};
+ghost use Rattle.ti_param.specs.Meaning.{State, argument_of, start, with_print, written, pushed, popped, top, top_number, with_top, stored, performed, fetched, with_increment};
+ghost use Rattle.ti_param.specs.Expansion.{Ran};
+
+use crate::arithmetic::{character, negate, operate, turn_bits, wrapped_length};
+use crate::codes::{Code, Variable};
+use crate::errors::ParamError;
+use crate::printf::{self, Directive};
+use crate::values::{Statics, Value};
+use arrayvec::ArrayVec;
+use std::alloc::Global;
+use std::marker::Model;
+
+/// How many values the stack holds.
+const DEPTH: usize = 20;
+
+/// The state of an expansion.
+#[derive(Drop)]
+pub(crate) struct Machine<'a> {
+    output: Vec<u8>,
+    stack: ArrayVec<Value<'a>, DEPTH>,
+    parameters: [Value<'a>; 9],
+    dynamics: [i32; 26],
+    statics: [i32; 26],
+}
+
+impl<'a> Model for Machine<'a> {
+    ghost use Rattle.std.specs.Prelude.{map, reverse};
+    ghost use Rattle.ti_param.specs.Meaning.{State, argument_of};
+
+    ghost Value = { State };
+
+    ghost view = { λ machine. record {
+      output = machine.output.items;
+      stack = reverse (map argument_of machine.stack.items);
+      parameters = map argument_of machine.parameters;
+      dynamics = machine.dynamics;
+      statics = machine.statics;
+    } };
+}
+
+impl<'a> Machine<'a> {
+    /// At the start of an expansion.
+    pub(crate) fn new(alloc: Global, parameters: &[Value<'a>; 9], statics: &Statics) -> Self
+        ensures { result ≡ start (map argument_of parameters.now) statics.now }
+    {
+        Machine {
+            output: Vec::new(alloc),
+            stack: ArrayVec::new(),
+            parameters: *parameters,
+            dynamics: [0; 26],
+            statics: statics.values,
+        }
+    }
+
+    /// The bytes written; the static variables are set to what they are now.
+    pub(crate) fn finish(self, statics: &mut Statics) -> Vec<u8>
+        ensures output { result.items ≡ self.entry.output }
+        ensures statics { statics.new ≡ self.entry.statics }
+    {
+        statics.values = self.statics;
+        self.output
+    }
+
+    /// Writes a byte.
+    pub(crate) fn write(&mut self, byte: u8) -> Result<(), ParamError>
+        ensures { Ran result self.new (Ok (written (byte ∷ []) self.old)) }
+    {
+        self.output.push(byte)?;
+        Ok(())
+    }
+
+    /// Takes the number at the top of the stack; a text is 0, and so is nothing.
+    pub(crate) fn pop_number(&mut self) -> i32
+        ensures value { result ≡ top_number self.old }
+        ensures rest { self.new ≡ popped self.old }
+    {
+        self.pop().number()
+    }
+
+    /// Takes the value at the top of the stack, the number 0 where there is none.
+    fn pop(&mut self) -> Value<'a>
+        ensures value { argument_of result ≡ top self.old }
+        ensures rest { self.new ≡ popped self.old }
+    {
+        self.stack.pop().unwrap_or(Value::Number(0))
+    }
+
+    /// Pushes a value for the code at the place.
+    fn push(&mut self, place: usize, value: Value<'a>) -> Result<(), ParamError>
+        ensures { Ran result self.new (pushed place (argument_of value.entry) self.old) }
+    {
+        self.stack
+            .try_push(value)
+            .map_err(|_| ParamError::StackFull(place))
+    }
+
+    /// Sets a variable.
+    fn store(&mut self, variable: Variable, number: i32)
+        ensures { self.new ≡ stored variable number self.old }
+    {
+        match variable {
+            Variable::Dynamic(letter) => self.dynamics[letter.index()] = number,
+            Variable::Static(letter) => self.statics[letter.index()] = number,
+        }
+    }
+
+    /// The value of a variable.
+    fn fetch(&self, variable: Variable) -> i32
+        ensures { result ≡ fetched variable self.now }
+    {
+        match variable {
+            Variable::Dynamic(letter) => self.dynamics[letter.index()],
+            Variable::Static(letter) => self.statics[letter.index()],
+        }
+    }
+
+    /// Adds one to the first two parameters where they are numbers.
+    fn increment(&mut self)
+        ensures { self.new ≡ with_increment self.old }
+    {
+        self.parameters[0] = self.parameters[0].increment();
+        self.parameters[1] = self.parameters[1].increment();
+    }
+
+    /// Prints a value.
+    fn print(&mut self, form: Directive) -> Result<(), ParamError>
+        ensures { Ran result self.new (Ok (with_print form self.old)) }
+    {
+        let value = self.pop();
+        printf::print(&mut self.output, &form, value.number(), value.text())?;
+        Ok(())
+    }
+
+    /// Runs the code at the place.
+    pub(crate) fn perform(&mut self, place: usize, code: Code) -> Result<(), ParamError>
+        ensures { Ran result self.new (performed place code self.old) }
+    {
+        match code {
+            Code::Percent => self.write(b'%'),
+            Code::Character => {
+                let number = self.pop_number();
+                self.write(character(number))
+            }
+            Code::Print(form) => self.print(form),
+            Code::Parameter(ordinal) => {
+                let value = self.parameters[ordinal.index()];
+                self.push(place, value)
+            }
+            Code::Store(variable) => {
+                let number = self.pop_number();
+                self.store(variable, number);
+                Ok(())
+            }
+            Code::Fetch(variable) => {
+                let number = self.fetch(variable);
+                self.push(place, Value::Number(number))
+            }
+            Code::Constant(number) => self.push(place, Value::Number(number)),
+            Code::Length => {
+                let text = self.pop().text();
+                self.push(place, Value::Number(wrapped_length(text)))
+            }
+            Code::Binary(operator) => {
+                let y = self.pop_number();
+                let x = self.pop_number();
+                self.push(place, Value::Number(operate(operator, x, y)))
+            }
+            Code::Not => {
+                let number = self.pop_number();
+                self.push(place, Value::Number(negate(number)))
+            }
+            Code::Complement => {
+                let number = self.pop_number();
+                self.push(place, Value::Number(turn_bits(number)))
+            }
+            Code::Increment => {
+                self.increment();
+                Ok(())
+            }
+        }
+    }
+}

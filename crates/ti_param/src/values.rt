@@ -1,0 +1,80 @@
+//! What is handed to a parameter string, and the variables that outlive it.
+ghost use Rattle.std.specs.Prelude.{◌≡◌, pos, replicate};
+
+use std::marker::Model;
+
+/// A parameter, or a value on the stack of a parameter string.
+#[derive(Clone, Copy, Debug, PartialEq, Eq)]
+pub enum Value<'a> {
+    /// A number; arithmetic on numbers wraps.
+    Number(i32),
+    /// A text; as a number it is 0.
+    Text(&'a [u8]),
+}
+
+impl Default for Value<'_> {
+    /// The number 0, which stands for a value that is not there.
+    fn default() -> Self {
+        Value::Number(0)
+    }
+}
+
+impl<'a> Value<'a> {
+    ghost use Rattle.std.specs.Prelude.{◌≡◌};
+    ghost use Rattle.ti_param.specs.Meaning.{argument_of, number_of, text_of, increased};
+
+    /// As a number: a text is 0.
+    pub(crate) fn number(self) -> i32
+        ensures { result ≡ number_of (argument_of self.entry) }
+    {
+        match self {
+            Value::Number(number) => number,
+            Value::Text(_) => 0,
+        }
+    }
+
+    /// As a text: a number is empty.
+    pub(crate) fn text(self) -> &'a [u8]
+        ensures { result.now ≡ text_of (argument_of self.entry) }
+    {
+        match self {
+            Value::Number(_) => b"",
+            Value::Text(text) => text,
+        }
+    }
+
+    /// One more, where it is a number.
+    pub(crate) fn increment(self) -> Self
+        ensures { argument_of result ≡ increased (argument_of self.entry) }
+    {
+        match self {
+            Value::Number(number) => Value::Number(number.wrapping_add(1)),
+            Value::Text(text) => Value::Text(text),
+        }
+    }
+}
+
+/// The 26 static variables `A` to `Z`: each expansion finds them as the last one left them.
+#[derive(Clone, Copy)]
+pub struct Statics {
+    pub(crate) values: [i32; 26],
+}
+
+impl Model for Statics {
+    ghost use Rattle.std.specs.Prelude.{List, ℤ};
+
+    ghost Value = { List ℤ };
+
+    ghost view = { λ statics. statics.values };
+
+    ghost inverse = { λ values. record { values = values } };
+}
+
+impl Statics {
+    /// All of them 0.
+    pub fn new() -> Self
+        ensures { result ≡ replicate 26 (pos 0) }
+    {
+        Statics { values: [0; 26] }
+    }
+}
