@@ -1,5 +1,5 @@
 // The values of an entry, and the table that holds them by capability.
-ghost use Rattle.std.specs.Prelude.{◌≡◌, ◌≢◌, Option, Some, None, option_map, OnOk, OnErr, IfOk, IfErr, IfSome, vec_len, length};
+ghost use Rattle.std.specs.Prelude.{◌≡◌, ◌≢◌, Option, Some, None, option_map, OnOk, OnErr, IfOk, IfErr, IfSome, IsNone, IsOk, IsSome, vec_len, length};
 ghost use Rattle.ti_caps.specs.Tables.{Capability, IsCapability};
 ghost use Rattle.ti_compiled.specs.Values.{contents, content_of, entries_of, rank_of, Agrees, AgreesIfSome, IsAt, IsGapFor, IsKept, SetsOnly};
 
@@ -64,6 +64,10 @@ impl Table {
         ensures set { OnOk result (contents self.new cap ≡ option_map content_of value) }
         ensures others { OnOk result ((c : Capability) → c ≢ cap → contents self.new c ≡ contents self.old c) }
         ensures err { OnErr result (self.new ≡ self.old) }
+
+        // Only a value for a capability that has none needs memory.
+        ensures taken_away { IsNone value → IsOk result }
+        ensures in_place { IsSome (contents self.old cap) → IsOk result }
     {
         match value {
             Some(value) => put(&mut self.entries, cap, value),
@@ -117,6 +121,7 @@ fn put(entries: &mut Vec<(Cap, Value)>, cap: Cap, value: Value) -> Result<(), Al
     ensures kept { IsKept (entries_of entries.new.items) }
     ensures ok { OnOk result (SetsOnly (entries_of entries.old.items) (entries_of entries.new.items) cap (Some (content_of value))) }
     ensures err { OnErr result (entries.new.items ≡ entries.old.items) }
+    ensures in_place { IsSome (contents (entries_of entries.old.items) cap) → IsOk result }
 {
     match place(entries, cap) {
         Ok(at) => {

@@ -1,7 +1,9 @@
 -- the value is written over the one there, or placed in the gap
-use Rattle.std.proofs.Common.{subst}
+use Rattle.std.proofs.Common.{◌≡◌, true, subst}
+use Rattle.std.specs.Option.{is_some}
 use Rattle.ti_compiled.specs.Values.{IsAt, IsGapFor, entries_of}
-use Rattle.ti_compiled.proofs.Places.{kept-written, sets-written, kept-placed, sets-placed}
+use Rattle.ti_compiled.proofs.Held.{contents_nowhere}
+use Rattle.ti_compiled.proofs.Places.{nowhere, kept-written, sets-written, kept-placed, sets-placed}
 use Rattle.ti_compiled.proofs.values.put.Goals as goal
 
 pub returns-in-Ok-clause-kept : goal.returns-in-Ok-clause-kept
@@ -23,3 +25,9 @@ pub returns-in_ok-insert-in-Err-clause-ok : goal.returns-in_ok-insert-in-Err-cla
 returns-in_ok-insert-in-Err-clause-ok c =
     let gap = subst (λ xs. IsGapFor (entries_of xs) c.args.cap c.in-Err.at) c.deref.ensures.value c.in-Err.ensures.absent in
     rw c.in_ok-insert-in-Err.ensures.items (sets-placed _ c.requires.kept _ _ _ c.place.ensures.valid c.requires.agrees gap)
+
+pub returns-in_err-insert-in-Err-clause-in_place : goal.returns-in_err-insert-in-Err-clause-in_place
+returns-in_err-insert-in-Err-clause-in_place c found =
+    let gap = subst (λ xs. IsGapFor (entries_of xs) c.args.cap c.in-Err.at) c.deref.ensures.value c.in-Err.ensures.absent in
+    let never = subst (λ o. is_some o ≡ true) (contents_nowhere _ _ (nowhere _ c.requires.kept _ _ gap)) found in
+    cc

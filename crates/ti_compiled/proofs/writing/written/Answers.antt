@@ -5,10 +5,10 @@ use Rattle.ti_compiled.proofs.Growing.{there_below-none, there_below-here, there
 use Rattle.ti_compiled.proofs.writing.written.Goals as goal
 
 pub loop-n-preserved : goal.loop-n-preserved
-loop-n-preserved c = record { fits = omega arith; last = there_below-before _ _ _ c.loop-n-test.true c.if-not-is_present.ensures ∙ c.loop-n.invariant.last }
+loop-n-preserved c = record { fits = omega arith; last = there_below-before _ _ _ (omega arith) c.if-not-is_present.ensures ∙ c.loop-n.invariant.last }
 
 pub returns-else-not-is_present-clause-value : goal.returns-else-not-is_present-clause-value
-returns-else-not-is_present-clause-value c = sym (there_below-here _ _ _ c.loop-n-test.true c.if-not-is_present.ensures) ∙ c.loop-n.invariant.last
+returns-else-not-is_present-clause-value c = sym (there_below-here _ _ _ (omega arith) c.if-not-is_present.ensures) ∙ c.loop-n.invariant.last
 
 pub returns-after-loop-n-clause-value : goal.returns-after-loop-n-clause-value
 returns-after-loop-n-clause-value c =
