@@ -3,7 +3,7 @@
 #   make            builds the program (proving every crate that it stands on)
 #   make test       the merge gate and the black-box cases: what CI runs
 #   make cli        the black-box cases alone, on the built program
-#   make bench      times `ti tic -c` beside ncurses's tic
+#   make bench      times `ti tic -c` beside ncurses's tic, and an expansion
 #   make install    copies the program to PREFIX/bin (PREFIX is /usr/local)
 
 PREFIX ?= /usr/local
@@ -20,6 +20,7 @@ cli: all
 	python3 tests/cli/run.py
 
 bench: all
+	cd crates/ti_bench && rt run >/dev/null 2>&1
 	python3 bench/run.py
 
 install: all

@@ -3,7 +3,8 @@
 
 Prints the rate in MB/s (10^6 bytes a second) of each, the best of several runs,
 and on the largest source that of ncurses's `tic -c`, measured in the same run,
-where it is installed. The sources are made here: the items of a usual entry,
+where it is installed; then what `ti_bench` prints of expanding setaf's format. The
+sources are made here: the items of a usual entry,
 wrapped as authors wrap them, over and over. The leftmost mention of a capability
 decides, so the entry itself stays small.
 """
@@ -17,6 +18,7 @@ import time
 
 TOP = os.path.dirname(os.path.dirname(os.path.abspath(__file__)))
 PROGRAM = os.path.join(TOP, "crates", "ti", "out", "ti")
+EXPAND = os.path.join(TOP, "crates", "ti_bench", "out", "ti_bench")
 ITEMS = r"""
 	am, bce, km, mir, msgr, xenl, colors#256, cols#80, it#8, lines#24, pairs#0x7fff,
 	bel=^G, blink=\E[5m, bold=\E[1m, civis=\E[?25l, clear=\E[H\E[2J,
@@ -73,6 +75,9 @@ def main():
             print(f"ncurses tic -c, {size >> 10:5} KiB: {len(text) / took / 1e6:8.1f} MB/s")
         else:
             print("ncurses's tic is not installed here")
+    if os.access(EXPAND, os.X_OK):
+        sys.stdout.flush()
+        subprocess.run([EXPAND, "1000000"], check=True)
     return 0
 
 
