@@ -1,5 +1,5 @@
 -- What is known of every block as it is read.
-use Rattle.std.proofs.Common.{◌≡◌, ◌≢◌, ℕ, suc, ◌+◌, ◌<◌, ◌≤◌, Bool, true, false, ◌==◌, ◌||◌, ◌&&◌, List, [], ◌∷◌, ◌++◌, length, cond, Option, Some, None, MatchOption, option_map, Result, Ok, Err, All, nat_lt, refl, sym, subst, ◌∙◌, inl, inr, arith}
+use Rattle.std.proofs.Common.{◌≡◌, ◌≢◌, ℕ, suc, ◌+◌, ◌<◌, ◌≤◌, Bool, true, false, ◌==◌, ◌||◌, ◌&&◌, List, [], ◌∷◌, ◌++◌, length, cond, Option, Some, None, MatchOption, option_map, map, Result, Ok, Err, All, nat_lt, refl, sym, subst, ◌∙◌, inl, inr, arith}
 use Rattle.std.specs.List.{list_any, AllByRecursion}
 use Rattle.std.proofs.lemmas.Bool.{cases_Bool, ltb-false}
 use Rattle.std.specs.Str.{bytes_eq}
@@ -18,7 +18,7 @@ use Rattle.ti_spelling.specs.declared.spelling.UnescapeError.{UnescapeError}
 use Rattle.ti_source.specs.WhiteSpace.{is_white_space}
 use Rattle.ti_source.specs.Blocks.{last_byte}
 use Rattle.ti_source.specs.Lines.{line_count}
-use Rattle.ti_source.specs.Codes.{is_error}
+use Rattle.ti_source.specs.Codes.{is_error, is_of_header}
 use Rattle.ti_source.specs.Header.{IsBadHeader, HeaderNames, IsLookupName, header_names}
 use Rattle.ti_source.specs.Numbers.{number_read, ReadsAs}
 use Rattle.ti_spelling.specs.Spelling.{unescaped, ValuesAreSound}
@@ -26,7 +26,7 @@ use Rattle.ti_source.specs.Folding.{Placed, placed, in_comment, without_comments
 use Rattle.ti_source.specs.Items.{Claim, claims_flag, claims_number, claims_text, claims_cancel, Statement, bytes, after_field, taken_after, cuts, with_first, items_of, without_front, line_of, piece_of, statement_of}
 use Rattle.ti_source.specs.Reading.{ReadItem, ReadFault}
 use Rattle.ti_source.specs.Parsing.{Verdict, accepted, accepted_odd, refused, is_import, number_verdict, text_verdict, fitting_verdict, named_verdict, verdict_of, items_by, faults_by, items_at, faults_at, items_from, faults_from, names_limit, header_fault, names_found, header_faults, block_field, block_items, parsed}
-use Rattle.ti_source.specs.Sound.{SetsItsKind, IsLineOf, IsWritable, EachIsWellRead}
+use Rattle.ti_source.specs.Sound.{SetsItsKind, IsLineOf, IsWritable, IsRising, EachIsWellRead}
 use Rattle.ti_source.proofs.CutLemmas.{lines_add}
 use Rattle.ti_source.proofs.HeaderLemmas.{each_header}
 use Rattle.ti_source.proofs.NumberLemmas.{each_text}
@@ -46,32 +46,32 @@ NamedIsCapability = (name : List ℕ) (c : Capability) → capability_named name
 abbrev SetsBy : Verdict → Type 0
 SetsBy (accepted said) = SetsItsKind said
 SetsBy (accepted_odd said) = SetsItsKind said
-SetsBy (refused code) = Unit {0}
+SetsBy (refused code) = is_of_header code ≡ false
 
 number_sets : (c : Capability) (text : List ℕ) (read : Result ℕ NumberError) → IsCapability c → c.kind ≡ kind.Number → ReadsAs text read → SetsBy (number_verdict c read)
 number_sets c text (Ok n) valid is read = (valid, is, read.1)
-number_sets c text (Err Bad) valid is read = tt
-number_sets c text (Err TooLarge) valid is read = tt
+number_sets c text (Err Bad) valid is read = refl
+number_sets c text (Err TooLarge) valid is read = refl
 
 text_sets : ValuesAreSound → (c : Capability) (raw : List ℕ) (found : Result (List ℕ × Bool) UnescapeError) → IsCapability c → c.kind ≡ kind.Text → unescaped raw ≡ found → SetsBy (text_verdict c found)
 text_sets sound c raw (Ok (text, true)) valid is e = (valid, is, (sound raw text true e).no_nul)
 text_sets sound c raw (Ok (text, false)) valid is e = (valid, is, (sound raw text false e).no_nul)
-text_sets sound c raw (Err cause) valid is e = tt
+text_sets sound c raw (Err cause) valid is e = refl
 
 fitting_sets : ValuesAreSound → (c : Capability) (claim : Claim) (k : Kind) → IsCapability c → c.kind ≡ k → SetsBy (fitting_verdict c claim k)
 fitting_sets sound c claims_flag kind.Flag valid is = (valid, is)
-fitting_sets sound c claims_flag kind.Number valid is = tt
-fitting_sets sound c claims_flag kind.Text valid is = tt
-fitting_sets sound c (claims_number text) kind.Flag valid is = tt
+fitting_sets sound c claims_flag kind.Number valid is = refl
+fitting_sets sound c claims_flag kind.Text valid is = refl
+fitting_sets sound c (claims_number text) kind.Flag valid is = refl
 fitting_sets sound c (claims_number text) kind.Number valid is = number_sets c text (number_read text) valid is (each_text text)
-fitting_sets sound c (claims_number text) kind.Text valid is = tt
-fitting_sets sound c (claims_text value) kind.Flag valid is = tt
-fitting_sets sound c (claims_text value) kind.Number valid is = tt
+fitting_sets sound c (claims_number text) kind.Text valid is = refl
+fitting_sets sound c (claims_text value) kind.Flag valid is = refl
+fitting_sets sound c (claims_text value) kind.Number valid is = refl
 fitting_sets sound c (claims_text value) kind.Text valid is = text_sets sound c value (unescaped value) valid is refl
 fitting_sets sound c claims_cancel k valid is = valid
 
 named_sets : NamedIsCapability → ValuesAreSound → (name : List ℕ) (claim : Claim) (o : Option Capability) → capability_named name ≡ o → SetsBy (named_verdict claim o)
-named_sets valid sound name claim None e = tt
+named_sets valid sound name claim None e = refl
 named_sets valid sound name claim (Some c) e = fitting_sets sound c claim c.kind (valid name c e) refl
 
 verdict_sets : NamedIsCapability → ValuesAreSound → (name : List ℕ) (claim : Claim) → SetsBy (verdict_of name claim)
@@ -242,6 +242,89 @@ ends_after : (block : List ℕ) → last_byte 0 block ≡ 10 → (last_byte 10 b
 ends_after [] ends = absurd (omega arith)
 ends_after (x ∷ xs) ends = (ends, some_line 0 x xs ends)
 
+-- ---- the order of items and faults
+
+-- at most one, and at this place
+abbrev IsAt : {A : Type 0} → (A → ℕ) → ℕ → List A → Type 0
+IsAt place n [] = Unit {0}
+IsAt place n (x ∷ []) = place x ≡ n
+IsAt place n (x ∷ y ∷ ys) = ⊥
+
+all-places : {A : Type 0} (place : A → ℕ) (n : ℕ) (xs : List A) → AllByRecursion (λ x. n + 1 ≤ place x) xs → AllByRecursion (λ m. n < m) (map place xs)
+all-places place n [] all = tt
+all-places place n (x ∷ xs) all = (omega (arith, all.0), all-places place n xs all.1)
+
+-- what stands at a place, and what stands after it
+rising-at : {A : Type 0} (place : A → ℕ) (n : ℕ) (here later : List A) → IsAt place n here → AllByRecursion (λ x. n + 1 ≤ place x) later → IsRising (map place later)
+    → AllByRecursion (λ x. n ≤ place x) (here ++ later) × IsRising (map place (here ++ later))
+rising-at place n [] later at after rise = (AllByRecursion-weaker (λ x. n + 1 ≤ place x) (λ x. n ≤ place x) (λ x h. omega (arith, h)) later after, rise)
+rising-at place n (x ∷ []) later at after rise =
+    let rest = AllByRecursion-weaker (λ x. n + 1 ≤ place x) (λ x. n ≤ place x) (λ x h. omega (arith, h)) later after in
+    ((omega (arith, at), rest), (rw at (all-places place n later after), rise))
+rising-at place n (x ∷ y ∷ ys) later at after rise = absurd at
+
+items_by-at : (n line : ℕ) (v : Verdict) → IsAt (λ (i : ReadItem). i.ordinal) n (items_by n line v)
+items_by-at n line (accepted said) = refl
+items_by-at n line (accepted_odd said) = refl
+items_by-at n line (refused code) = tt
+
+items_at-at : (n line : ℕ) (o : Option Statement) → IsAt (λ (i : ReadItem). i.ordinal) n (items_at n line o)
+items_at-at n line None = tt
+items_at-at n line (Some s) = items_by-at n line (verdict_of s.name s.claim)
+
+faults_by-at : (n line : ℕ) (name : List ℕ) (v : Verdict) → IsAt (λ (f : ReadFault). f.ordinal) n (faults_by n line name v)
+faults_by-at n line name (accepted said) = tt
+faults_by-at n line name (accepted_odd said) = refl
+faults_by-at n line name (refused code) = refl
+
+faults_at-at : (n line : ℕ) (o : Option Statement) → IsAt (λ (f : ReadFault). f.ordinal) n (faults_at n line o)
+faults_at-at n line None = tt
+faults_at-at n line (Some s) = faults_by-at n line s.name (verdict_of s.name s.claim)
+
+items_from-rise : (n : ℕ) (items : List (List Placed))
+    → AllByRecursion (λ (i : ReadItem). n ≤ i.ordinal) (items_from n items) × IsRising (map (λ (i : ReadItem). i.ordinal) (items_from n items))
+items_from-rise n [] = (tt, tt)
+items_from-rise n (item ∷ items) =
+    let p = piece_of item in
+    let later = items_from-rise (n + 1) items in
+    rising-at (λ (i : ReadItem). i.ordinal) n (items_at n p.line (statement_of p.text)) (items_from (n + 1) items) (items_at-at n p.line (statement_of p.text)) later.0 later.1
+
+faults_from-rise : (n : ℕ) (items : List (List Placed))
+    → AllByRecursion (λ (f : ReadFault). n ≤ f.ordinal) (faults_from n items) × IsRising (map (λ (f : ReadFault). f.ordinal) (faults_from n items))
+faults_from-rise n [] = (tt, tt)
+faults_from-rise n (item ∷ items) =
+    let p = piece_of item in
+    let later = faults_from-rise (n + 1) items in
+    rising-at (λ (f : ReadFault). f.ordinal) n (faults_at n p.line (statement_of p.text)) (faults_from (n + 1) items) (faults_at-at n p.line (statement_of p.text)) later.0 later.1
+
+-- no fault of an item is one of the names field
+abbrev IsOfItem : ReadFault → Type 0
+IsOfItem f = is_of_header f.code ≡ false
+
+faults_by-item : (n line : ℕ) (name : List ℕ) (v : Verdict) → SetsBy v → AllByRecursion IsOfItem (faults_by n line name v)
+faults_by-item n line name (accepted said) sets = tt
+faults_by-item n line name (accepted_odd said) sets = (refl, tt)
+faults_by-item n line name (refused code) sets = (sets, tt)
+
+faults_at-item : NamedIsCapability → ValuesAreSound → (n line : ℕ) (o : Option Statement) → AllByRecursion IsOfItem (faults_at n line o)
+faults_at-item valid sound n line None = tt
+faults_at-item valid sound n line (Some s) = faults_by-item n line s.name (verdict_of s.name s.claim) (verdict_sets valid sound s.name s.claim)
+
+faults_from-item : NamedIsCapability → ValuesAreSound → (n : ℕ) (items : List (List Placed)) → AllByRecursion IsOfItem (faults_from n items)
+faults_from-item valid sound n [] = tt
+faults_from-item valid sound n (item ∷ items) =
+    let p = piece_of item in
+    AllByRecursion-append IsOfItem (faults_at n p.line (statement_of p.text)) (faults_from (n + 1) items)
+    (faults_at-item valid sound n p.line (statement_of p.text)) (faults_from-item valid sound (n + 1) items)
+
+header_faults-one : (field : List ℕ) (o : Option (List (List ℕ))) → (length (header_faults field o) ≤ 1) × AllByRecursion (λ (f : ReadFault). is_of_header f.code ≡ true) (header_faults field o)
+header_faults-one field None = (omega arith, (refl, tt))
+header_faults-one field (Some names) =
+    elim (nat_lt names_limit (length field)) as (λ b. (length (cond b (header_fault code.NamesTooLong ∷ []) []) ≤ 1) × AllByRecursion (λ (f : ReadFault). is_of_header f.code ≡ true) (cond b (header_fault code.NamesTooLong ∷ []) [])) [
+      | true ↦ (omega arith, (refl, tt))
+      | false ↦ (omega arith, tt)
+    ]
+
 pub well_read : NamedIsCapability → ValuesAreSound → EachIsWellRead
 unfolding parsed
 well_read valid sound block one =
@@ -257,6 +340,16 @@ well_read valid sound block one =
       names = names-sound field found (each_header field);
       named = λ e. named-sound field found refl (each_header field) (any-front (λ (f : ReadFault). is_error f.code) (header_faults field found) (faults_from 0 items) e);
       sets = All-from_recursion Sets (items_from 0 items) (items_from-sets valid sound 0 items);
+      order = record {
+        of_header = header_faults field found;
+        of_items = faults_from 0 items;
+        faults = refl;
+        one = (header_faults-one field found).0;
+        header = All-from_recursion (λ (f : ReadFault). is_of_header f.code ≡ true) (header_faults field found) (header_faults-one field found).1;
+        item = All-from_recursion IsOfItem (faults_from 0 items) (faults_from-item valid sound 0 items);
+        items_rise = (items_from-rise 0 items).1;
+        faults_rise = (faults_from-rise 0 items).1;
+      };
       item_lines = All-from_recursion (λ (i : ReadItem). IsLineOf block i.line) (items_from 0 items)
           (AllByRecursion-weaker (λ (i : ReadItem). InBlock i.line) (λ (i : ReadItem). IsLineOf block i.line) (λ i h. in_block i.line h) (items_from 0 items) lines.0);
       fault_lines = All-from_recursion (λ (f : ReadFault). IsLineOf block f.line) (header_faults field found ++ faults_from 0 items)

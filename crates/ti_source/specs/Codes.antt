@@ -41,6 +41,12 @@ is_error UnknownEscape = false
 is_error DuplicateName = false
 is_error _ = true
 
+-- whether a code is of a names field
+abbrev pub is_of_header : Code → Bool
+is_of_header BadHeader = true
+is_of_header NamesTooLong = true
+is_of_header _ = false
+
 -- a code as it is printed: its label, a space and its name
 abbrev pub code_text : Code → List ℕ
 code_text code = label_of code ++ 32 ∷ code_name code

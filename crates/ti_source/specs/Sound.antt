@@ -1,11 +1,11 @@
 -- What is known of every block as it is read, for those who build on it (own).
-use Rattle.std.specs.Prelude.{◌≡◌, ◌≢◌, ℕ, ◌≤◌, false, List, [], length, All}
-use Rattle.std.specs.List.{list_any}
+use Rattle.std.specs.Prelude.{◌≡◌, ◌≢◌, ℕ, ◌<◌, ◌≤◌, false, List, [], ◌++◌, ◌∷◌, length, true, map, All}
+use Rattle.std.specs.List.{list_any, AllByRecursion}
 use Rattle.ti_caps.specs.Tables.{IsCapability}
 use Rattle.ti_caps.specs.declared.capability.Kind.TheVariants.{Flag, Number, Text}
 use Rattle.ti_source.specs.Blocks.{OneBlock}
 use Rattle.ti_source.specs.Lines.{line_count}
-use Rattle.ti_source.specs.Codes.{is_error}
+use Rattle.ti_source.specs.Codes.{is_error, is_of_header}
 use Rattle.ti_source.specs.Header.{IsLookupName}
 use Rattle.ti_source.specs.Numbers.{greatest_number}
 use Rattle.ti_spelling.specs.Spelling.{HasNoNul}
@@ -30,11 +30,28 @@ pub record IsWritable (field : List ℕ) : Type 0 where
   pub no_nul : HasNoNul field
   pub short : length field ≤ names_limit
 
+-- numbers that rise, each over the one before
+abbrev pub IsRising : List ℕ → Type 0
+IsRising [] = Unit {0}
+IsRising (n ∷ ns) = AllByRecursion (λ m. n < m) ns × IsRising ns
+
+-- items stand in their order; faults do, at most one for an item, after at most one of the names field
+pub record IsInOrder (reading : Reading) : Type 0 where
+  pub of_header : List ReadFault
+  pub of_items : List ReadFault
+  pub faults : reading.faults ≡ of_header ++ of_items
+  pub one : length of_header ≤ 1
+  pub header : All (λ (f : ReadFault). is_of_header f.code ≡ true) of_header
+  pub item : All (λ (f : ReadFault). is_of_header f.code ≡ false) of_items
+  pub items_rise : IsRising (map (λ (i : ReadItem). i.ordinal) reading.items)
+  pub faults_rise : IsRising (map (λ (f : ReadFault). f.ordinal) of_items)
+
 pub record IsWellRead (block : List ℕ) (reading : Reading) : Type 0 where
   pub names : All IsLookupName reading.names
   -- where no error stands among the faults, the names field can be written
   pub named : list_any (λ (f : ReadFault). is_error f.code) reading.faults ≡ false → IsWritable reading.field
   pub sets : All (λ (i : ReadItem). SetsItsKind i.said) reading.items
+  pub order : IsInOrder reading
   pub item_lines : All (λ (i : ReadItem). IsLineOf block i.line) reading.items
   pub fault_lines : All (λ (f : ReadFault). IsLineOf block f.line) reading.faults
 
