@@ -40,6 +40,7 @@ impl Model for Table {
 
 impl Table {
     /// A table without values. It takes no memory.
+    #[tactic(auto, unfolding(crate::specs::Values::contents))]
     pub fn new(alloc: Global) -> Table
         ensures { (c : Capability) → contents result c ≡ None }
     {
