@@ -1,6 +1,7 @@
 -- The definitions that the contracts of this crate cite.
 pub mod Arguments
 pub mod Commands
+pub mod Counted
 pub mod Jobs
 pub mod MemTree
 pub mod Placing

@@ -3,6 +3,7 @@
 
 pub mod arguments;
 pub mod commands;
+pub mod counted;
 pub mod failures;
 pub mod jobs;
 pub mod memory_tree;
@@ -10,6 +11,7 @@ pub mod placing;
 pub mod tree;
 
 pub use arguments::{UsageError, job};
+pub use counted::Counted;
 pub use failures::Failures;
 pub use jobs::Job;
 pub use memory_tree::MemTree;
