@@ -1,4 +1,4 @@
--- The table of all capabilities in the order of the bytes of their names, which a look-up searches.
+-- The table of all capabilities in the order of the bytes of their names, which a look-up searches (own).
 use Rattle.std.specs.Prelude.{◌≢◌, ℕ, List, map, All, Contains}
 use Rattle.std.specs.Ordering.{nat_cmp}
 use Rattle.std.specs.Cmp.Lexicographic.{slice_cmp}

@@ -9,6 +9,7 @@ pub record Capability : Type 0 where
   pub kind : Kind
   pub index : ℕ
 
+-- the capability of a kind at a place in the list of that kind
 abbrev pub capability : Kind → ℕ → Capability
 capability k i = record { kind = k; index = i }
 
