@@ -1,4 +1,4 @@
--- How the reader of a spelled text walks over its pieces.
+-- How the reader of a spelled text walks over its pieces (own).
 use Rattle.std.specs.Prelude.{◌≡◌, ℕ, ◌<◌, Bool, false, List, [], length, Option, Some, None, Result, Ok, Err}
 use Rattle.ti_spelling.specs.declared.spelling.UnescapeError.{UnescapeError}
 use Rattle.ti_spelling.specs.declared.spelling.Piece.{Piece}

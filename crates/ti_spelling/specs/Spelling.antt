@@ -57,6 +57,7 @@ abbrev pub octal_value_from : ℕ → List ℕ → ℕ
 octal_value_from value [] = value
 octal_value_from value (x ∷ xs) = octal_value_from (value * 8 + (x - 48)) xs
 
+-- the value of octal digits, 0 where there are none
 abbrev pub octal_value : List ℕ → ℕ
 octal_value digits = octal_value_from 0 digits
 
@@ -233,6 +234,7 @@ named_text None unnamed = unnamed
 unfoldable pub byte_text : (percent edge : Bool) (byte : ℕ) → List ℕ
 byte_text percent edge byte = named_text (short_escape byte) (unnamed_text percent edge byte)
 
+-- whether a text has no byte
 abbrev pub is_empty : List ℕ → Bool
 is_empty [] = true
 is_empty (x ∷ xs) = false
@@ -255,6 +257,7 @@ pub record HasOneOutcome (raw : List ℕ) : Type 0 where
   pub one_cause : (cause other : UnescapeError) → Fails raw cause → Fails raw other → cause ≡ other
   pub not_both : (value : List ℕ) (odd : Bool) (cause : UnescapeError) → Spells raw value odd → Fails raw cause → ⊥
 
+-- every text spells exactly one value or has exactly one first fault, and never both
 abbrev pub OneOutcome : Type 0
 OneOutcome = (raw : List ℕ) → HasOneOutcome raw
 
@@ -263,6 +266,7 @@ pub record IsComputed (raw : List ℕ) : Type 0 where
   pub spelled : (value : List ℕ) (odd : Bool) → Spells raw value odd ↔ (unescaped raw ≡ Ok (value, odd))
   pub refused : (cause : UnescapeError) → Fails raw cause ↔ (unescaped raw ≡ Err cause)
 
+-- of every text, the value that it spells and its first fault are exactly what `unescaped` gives
 abbrev pub UnescapedAgrees : Type 0
 UnescapedAgrees = (raw : List ℕ) → IsComputed raw
 
@@ -272,6 +276,7 @@ pub record IsValueOf (raw value : List ℕ) : Type 0 where
   pub no_longer : length value ≤ length raw
   pub bytes : AreBytes raw → AreBytes value
 
+-- a value has no NUL, is no longer than the text that spells it, and is of bytes where that is
 abbrev pub ValuesAreSound : Type 0
 ValuesAreSound = (raw value : List ℕ) (odd : Bool) → unescaped raw ≡ Ok (value, odd) → IsValueOf raw value
 
