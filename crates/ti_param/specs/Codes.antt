@@ -33,6 +33,7 @@ span p (x ∷ xs) = if p x then (x ∷ (span p xs).0, (span p xs).1) else ([], x
 
 -- ---- numbers
 
+-- a decimal digit
 abbrev pub is_digit : ℕ → Bool
 is_digit x = is_ascii_digit x
 
@@ -47,12 +48,14 @@ decimal ds = decimal_from 0 ds
 
 -- ---- codes of one letter
 
+-- the codes of the operators on two numbers: + - * / m & | ^ = > < A O
 abbrev pub operators : List (ℕ × Operator)
 operators =
     (43, Add) ∷ ((45, Subtract) ∷ ((42, Multiply) ∷ ((47, Divide) ∷ ((109, Remainder) ∷ (
     (38, BitAnd) ∷ ((124, BitOr) ∷ ((94, BitXor) ∷ (
     (61, Equal) ∷ ((62, Greater) ∷ ((60, Less) ∷ ((65, And) ∷ ((79, Or) ∷ []))))))))))))
 
+-- the codes of one byte: % c l i ! ~ ? t e ; and those of the operators
 abbrev pub simple_tokens : List (ℕ × Token)
 simple_tokens =
     (37, Operation Percent) ∷ ((99, Operation Character) ∷ ((108, Operation Length) ∷ ((105, Operation Increment) ∷ (
@@ -73,6 +76,7 @@ variable_named x =
 
 -- ---- printf forms
 
+-- the conversions of a printf form, by their letters: d o x X s
 abbrev pub conversions : List (ℕ × Conversion)
 conversions = (100, Decimal) ∷ ((111, Octal) ∷ ((120, LowerHex) ∷ ((88, UpperHex) ∷ ((115, Text) ∷ []))))
 
@@ -80,6 +84,7 @@ conversions = (100, Decimal) ∷ ((111, Octal) ∷ ((120, LowerHex) ∷ ((88, Up
 abbrev pub is_flag : Bool → ℕ → Bool
 is_flag signed x = (x == 35 || x == 32) || (signed && (x == 45 || x == 43))
 
+-- none of the flags is set
 abbrev pub no_flags : Flags
 no_flags = record { left = false; sign = false; alternate = false; space = false; zero = false }
 
@@ -135,49 +140,61 @@ pub data IsCode : List ℕ → Token → Type 0 where
 
 -- ---- the computing reader: the code at the front of a text, and the text after it
 
+-- what a text has at its front, and the text after it, if it has such a thing there
 abbrev pub Front : Type 0 → Type 0
 Front T = Option (T × List ℕ)
 
+-- the code of a parameter, by the text after its `p`
 unfoldable pub parameter_after : List ℕ → Front Token
 parameter_after [] = None
 parameter_after (x ∷ rest) = option_map (λ place. (Operation (Parameter place), rest)) (parameter_numbered x)
 
+-- the code that sets a variable, by the text after its `P`
 unfoldable pub store_after : List ℕ → Front Token
 store_after [] = None
 store_after (x ∷ rest) = option_map (λ variable. (Operation (Store variable), rest)) (variable_named x)
 
+-- the code that gets a variable, by the text after its `g`
 unfoldable pub fetch_after : List ℕ → Front Token
 fetch_after [] = None
 fetch_after (x ∷ rest) = option_map (λ variable. (Operation (Fetch variable), rest)) (variable_named x)
 
+-- the code of a constant that is a byte, by the text after its first quote
 unfoldable pub byte_after : List ℕ → Front Token
 byte_after [] = None
 byte_after (x ∷ []) = None
 byte_after (x ∷ (y ∷ rest)) = if y == 39 then Some (Operation (Constant (pos x)), rest) else None
 
+-- the code of a constant with these digits, one or more and within 32 bits, where a `}` follows them
 unfoldable pub constant_before : List ℕ → List ℕ → Front Token
 constant_before ds [] = None
 constant_before ds (x ∷ rest) =
     if (x == 125 && nat_lt 0 (length ds)) && nat_le (decimal ds) 2147483647
     then Some (Operation (Constant (pos (decimal ds))), rest) else None
 
+-- the code of a constant in digits, by the text after its `{`
 unfoldable pub number_after : List ℕ → Front Token
 number_after text = constant_before (span is_digit text).0 (span is_digit text).1
 
+-- the flags that the first of two texts writes, and the second text
 abbrev pub flags_of : List ℕ × List ℕ → Flags × List ℕ
 flags_of parts = (flags_from no_flags parts.0, parts.1)
 
+-- the flags at the front of a text, and the text after them
 unfoldable pub flags_after : List ℕ → Flags × List ℕ
 flags_after [] = (no_flags, [])
 flags_after (x ∷ rest) = if x == 58 then flags_of (span (is_flag true) rest) else flags_of (span (is_flag false) (x ∷ rest))
 
+-- the precision that the digits of the first of two texts write, at most 999, and the second text
 abbrev pub precision_of : List ℕ × List ℕ → Front (Option ℕ)
 precision_of parts = if nat_le (decimal parts.0) 999 then Some (Some (decimal parts.0), parts.1) else None
 
+-- the precision at the front of a text, none where no `.` stands there, and the text after it
 unfoldable pub precision_after : List ℕ → Front (Option ℕ)
 precision_after [] = Some (None, [])
 precision_after (x ∷ rest) = if x == 46 then precision_of (span is_digit rest) else Some (None, x ∷ rest)
 
+-- the printf form of these flags, a width of these digits, at most 999, and a precision, before its conversion
 unfoldable pub directive_with : Flags → List ℕ → Front (Option ℕ) → Front Directive
 directive_with flags ds None = None
 directive_with flags ds (Some (precision, [])) = None
@@ -187,15 +204,18 @@ directive_with flags ds (Some (precision, x ∷ rest)) =
     (row_for x conversions)
     else None
 
+-- the printf form at the front of a text, and the text after it
 unfoldable pub directive_after : List ℕ → Front Directive
 directive_after text =
     let flags = flags_after text in
     let width = span is_digit flags.1 in
     directive_with flags.0 width.0 (precision_after width.1)
 
+-- whether a byte begins a printf form: `:`, a flag, a digit, `.` or a conversion
 abbrev pub begins_directive : ℕ → Bool
 begins_directive x = (x == 58 || is_flag false x) || (is_digit x || (x == 46 || is_some (row_for x conversions)))
 
+-- the code that begins with a byte that begins no printf form, by the text after that byte
 unfoldable pub letter_after : ℕ → List ℕ → Front Token
 letter_after x rest =
     if x == 112 then parameter_after rest else
@@ -205,6 +225,7 @@ letter_after x rest =
     (if x == 123 then number_after rest else
     option_map (λ token. (token, rest)) (row_for x simple_tokens)))))
 
+-- the code at the front of a text, which stands after a `%`, and the text after it
 unfoldable pub token_after : List ℕ → Front Token
 token_after [] = None
 token_after (x ∷ rest) =

@@ -22,19 +22,23 @@ pub record Overflows (format : List ℕ) (parameters : List Argument) (before : 
 
 -- ---- the computing form
 
+-- what an expansion gives: output and static variables, or the place where the format is bad or the stack full
 pub data Expansion : Type 0 where
   expanded : (output : List ℕ) (statics : List ℤ) → Expansion
   bad_format : (place : ℕ) → Expansion
   stack_full : (place : ℕ) → Expansion
 
+-- the expansion whose run has this outcome
 abbrev pub ended : Outcome → Expansion
 ended (Ok final) = expanded final.output final.statics
 ended (Err place) = stack_full place
 
+-- a bad format where there is a place at which it is stuck, else the expansion by the run's outcome
 abbrev pub unless_stuck : Option ℕ → Outcome → Expansion
 unless_stuck None outcome = ended outcome
 unless_stuck (Some place) outcome = bad_format place
 
+-- what a format expands to with these parameters and static variables
 unfoldable pub expansion : List ℕ → List Argument → List ℤ → Expansion
 expansion format parameters statics = unless_stuck (stuck_place format) (meaning (tree_of format) (start parameters statics))
 

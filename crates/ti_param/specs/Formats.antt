@@ -101,6 +101,7 @@ pub record Scan : Type 0 where
   pub tokens : List Placed
   pub stop : Option ℕ
 
+-- a scan with one more token before it, at a place
 abbrev pub with_token : ℕ → Token → Scan → Scan
 with_token place token scan = record { tokens = placed place token ∷ scan.tokens; stop = scan.stop }
 
@@ -117,6 +118,7 @@ scan zero place (b ∷ text) =
     if b == 37 then with_code place (token_after text) (λ rest. scan (length text - length rest) (suc place) text)
     else with_token place (Literal b) (scan zero (suc place) text)
 
+-- the scan of a whole format
 abbrev pub scan_of : List ℕ → Scan
 scan_of format = scan 0 0 format
 
@@ -160,9 +162,11 @@ conditional_of test ((Then, taken) ∷ ((Else, other) ∷ marks)) =
     let rest = conditional_of other marks in (choice test taken rest.0, rest.1, rest.2)
 conditional_of test (mark ∷ marks) = (test, nothing, [])
 
+-- a conditional and what follows it as one tree, and the marks after them
 abbrev pub grouped : Tree × Tree × Marks → Tree × Marks
 grouped parts = (group parts.0 parts.1, parts.2)
 
+-- the tree and the marks of a list of tokens, by its first token and those of the others
 abbrev pub with_piece : Placed → Tree × Marks → Tree × Marks
 with_piece p (next, marks) = elim p.token [
   | Literal b ↦ (byte b next, marks)
@@ -173,6 +177,7 @@ with_piece p (next, marks) = elim p.token [
   | EndIf ↦ (nothing, (EndIf, next) ∷ marks)
 ]
 
+-- the tree of a list of tokens up to its first mark, and the marks from there on
 unfoldable pub parsed : List Placed → Tree × Marks
 parsed [] = (nothing, [])
 parsed (p ∷ tokens) = with_piece p (parsed tokens)

@@ -23,6 +23,7 @@ pub data Argument : Type 0 where
   number : ℤ → Argument
   text : List ℕ → Argument
 
+-- a value that holds its text in memory, as plain data
 abbrev pub argument_of : Value → Argument
 argument_of (Number n) = number n
 argument_of (Text t) = text t.now
@@ -43,9 +44,11 @@ text_of (text t) = t
 abbrev pub wrapped : ℤ → ℤ
 wrapped n = int_wrap w32 n
 
+-- whether a number is 0
 abbrev pub is_zero : ℤ → Bool
 is_zero n = unsigned_abs n == 0
 
+-- the number of a truth value: 1 for true, 0 for false
 abbrev pub truth : Bool → ℤ
 truth b = if b then pos 1 else pos 0
 
@@ -79,6 +82,7 @@ low_byte n = let b = unsigned_abs (int_rem_euclid n (pos 256)) in if b == 0 then
 
 -- ---- states
 
+-- what the codes work on: output, stack, parameters, dynamic and static variables
 pub record State : Type 0 where
   pub output : List ℕ
   -- the top first
@@ -95,10 +99,12 @@ start parameters statics = record { output = []; stack = []; parameters = parame
 abbrev pub Outcome : Type 0
 Outcome = Result State ℕ
 
+-- what is done next, unless the stack was full before
 abbrev pub and_then : Outcome → (State → Outcome) → Outcome
 and_then (Ok s) f = f s
 and_then (Err place) f = Err place
 
+-- the state with these bytes at the end of the output
 abbrev pub written : List ℕ → State → State
 written bytes s = record s { output = s.output ++ bytes }
 
@@ -106,16 +112,20 @@ written bytes s = record s { output = s.output ++ bytes }
 abbrev pub top : State → Argument
 top s = slice_index_or s.stack 0 (number (pos 0))
 
+-- the top of the stack as a number
 abbrev pub top_number : State → ℤ
 top_number s = number_of (top s)
 
+-- a stack without its top, empty where it was empty
 abbrev pub tail_of : List Argument → List Argument
 tail_of [] = []
 tail_of (x ∷ xs) = xs
 
+-- the state with the top of the stack taken off, if there is one
 abbrev pub popped : State → State
 popped s = record s { stack = tail_of s.stack }
 
+-- the state with one more value on the stack
 abbrev pub with_top : Argument → State → State
 with_top x s = record s { stack = x ∷ s.stack }
 
@@ -123,10 +133,12 @@ with_top x s = record s { stack = x ∷ s.stack }
 abbrev pub pushed : ℕ → Argument → State → Outcome
 pushed place x s = if nat_lt (length s.stack) 20 then Ok (with_top x s) else Err place
 
+-- the number that a variable holds
 abbrev pub fetched : Variable → State → ℤ
 fetched (Dynamic i) s = slice_index_or s.dynamics i (pos 0)
 fetched (Static i) s = slice_index_or s.statics i (pos 0)
 
+-- the state with a number set in a variable
 abbrev pub stored : Variable → ℤ → State → State
 stored (Dynamic i) n s = record s { dynamics = slice_set s.dynamics i n }
 stored (Static i) n s = record s { statics = slice_set s.statics i n }
@@ -136,16 +148,19 @@ abbrev pub increased : Argument → Argument
 increased (number n) = number (wrapped (n +ℤ pos 1))
 increased (text t) = text t
 
+-- the parameters with each of the first two increased
 abbrev pub first_two_increased : List Argument → List Argument
 first_two_increased [] = []
 first_two_increased (x ∷ []) = increased x ∷ []
 first_two_increased (x ∷ (y ∷ rest)) = increased x ∷ (increased y ∷ rest)
 
+-- the state with the first two parameters increased
 abbrev pub with_increment : State → State
 with_increment s = record s { parameters = first_two_increased s.parameters }
 
 -- ---- codes and trees
 
+-- the state with the top of the stack popped and printed by a printf form
 abbrev pub with_print : Directive → State → State
 with_print form s = written (printed form (top_number s) (text_of (top s))) (popped s)
 

@@ -71,6 +71,7 @@ abbrev pub after_byte : ℕ → List ℕ → Option (List ℕ)
 after_byte byte [] = None
 after_byte byte (first ∷ rest) = if first == byte then Some rest else None
 
+-- whether a byte is a decimal digit
 abbrev pub is_decimal : ℕ → Bool
 is_decimal byte = nat_le 48 byte && nat_le byte 57
 
@@ -85,19 +86,22 @@ abbrev pub milliseconds_at : List ℕ → Option (ℕ × List ℕ)
 milliseconds_at text = let len = digits_len 5 text in
     if len == 0 then None else Some (decimal_value (take len text), drop len text)
 
+-- the tenths and what follows them, given what follows a `.`, if one is there
 abbrev pub tenths_in : Option (List ℕ) → List ℕ → ℕ × List ℕ
 tenths_in None text = (0, text)
 tenths_in (Some []) text = (0, text)
 tenths_in (Some (digit ∷ rest)) text = if is_decimal digit then (digit - 48, rest) else (0, text)
 
+-- the tenths that the text begins with, 0 where there are none, and what follows them
 abbrev pub tenths_at : List ℕ → ℕ × List ℕ
 tenths_at text = tenths_in (after_byte 46 text) text
 
--- whether the text begins with the byte, and what follows
+-- whether a mark stands at the front, given what follows it if it does, and the text that is left then
 abbrev pub mark_in : Option (List ℕ) → List ℕ → Bool × List ℕ
 mark_in None text = (false, text)
 mark_in (Some rest) text = (true, rest)
 
+-- whether the text begins with the byte, and what follows
 abbrev pub mark_at : ℕ → List ℕ → Bool × List ℕ
 mark_at byte text = mark_in (after_byte byte text) text
 
@@ -113,6 +117,7 @@ marks_at text =
 abbrev pub padding_with : ℕ → Bool × Bool × List ℕ → Option (Padding × List ℕ)
 padding_with time marks = option_and_then (λ rest. Some (record { tenths = time; proportional = marks.0; mandatory = marks.1 }, rest)) (after_byte 62 marks.2)
 
+-- the padding of these milliseconds, which the text after them goes on with, and what follows it
 abbrev pub padding_from : ℕ × List ℕ → Option (Padding × List ℕ)
 padding_from whole = let part = tenths_at whole.1 in padding_with (10 * whole.0 + part.0) (marks_at part.1)
 
@@ -120,6 +125,7 @@ padding_from whole = let part = tenths_at whole.1 in padding_with (10 * whole.0 
 unfoldable pub padding_at : List ℕ → Option (Padding × List ℕ)
 padding_at text = option_and_then (λ opened. option_and_then (λ inner. option_and_then padding_from (milliseconds_at inner)) (after_byte 60 opened)) (after_byte 36 text)
 
+-- the first part of a text: the padding that it begins with, else its first byte
 abbrev pub first_part : Option (Padding × List ℕ) → ℕ → Part
 first_part None byte = Literal byte
 first_part (Some found) byte = Delay found.0
@@ -136,6 +142,7 @@ parts_after (suc taken) (byte ∷ text) = parts_after taken text
 parts_after zero (byte ∷ text) =
     first_part (padding_at (byte ∷ text)) byte ∷ parts_after (taken_by (padding_at (byte ∷ text)) text) text
 
+-- the parts of a text: its paddings, and the bytes at which none begins
 unfoldable pub parts_of : List ℕ → List Part
 parts_of text = parts_after 0 text
 
@@ -157,11 +164,13 @@ time_of lines padding = if padding.proportional then padding.tenths * lines else
 abbrev pub pad_count : ℕ → Line → Padding → ℕ
 pad_count lines line padding = if is_written line padding then div_ceil (time_of lines padding * line.rate) 100000 else 0
 
+-- the text of the parts, with each padding as its pad bytes
 abbrev pub padded_parts : ℕ → Line → List Part → List ℕ
 padded_parts lines line [] = []
 padded_parts lines line (Literal byte ∷ parts) = byte ∷ padded_parts lines line parts
 padded_parts lines line (Delay padding ∷ parts) = replicate (pad_count lines line padding) (unwrap_or line.pad_byte 0) ++ padded_parts lines line parts
 
+-- how many pad bytes the paddings of the parts are written as in all
 abbrev pub padding_of_parts : ℕ → Line → List Part → ℕ
 padding_of_parts lines line [] = 0
 padding_of_parts lines line (Literal byte ∷ parts) = padding_of_parts lines line parts

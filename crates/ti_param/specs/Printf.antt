@@ -109,5 +109,6 @@ abbrev pub printed_by : Conversion → Directive → ℤ → List ℕ → List �
 printed_by Text directive number text = printed_text directive text
 printed_by conversion directive number text = printed_number directive number
 
+-- what a form prints of what it popped, by its conversion
 unfoldable pub printed : Directive → ℤ → List ℕ → List ℕ
 printed directive number text = printed_by directive.conversion directive number text
