@@ -1,9 +1,10 @@
--- What the steps of reading know: the header's numbers, and the sections that they cut.
+-- What the steps of reading know of an entry (term(5), "Legacy storage format"): the header's numbers, and the sections that they cut.
 use Rattle.std.specs.Prelude.{◌≡◌, ◌≢◌, ℕ, suc, ◌<◌, ◌≤◌, List, length, slice_index, ◌⊎◌}
 use Rattle.ti_compiled.specs.declared.sections.Sizes.{Sizes}
 use Rattle.ti_compiled.specs.declared.sections.Sections.{Sections}
 use Rattle.ti_compiled.specs.Reading.{word_at, names_size, flag_count, number_count, text_count, strings_size, end_place, names_section, flags_section, numbers_section, offsets_section, strings_section, IsFlagByte, IsPlain, IsVoid, HasEnd, EachWord}
 
+-- the bytes begin with a header that has these sizes and counts, each of them within its limit
 pub record HasHeader (bytes : List ℕ) (sizes : Sizes) : Type 0 where
   pub long : 12 ≤ length bytes
   pub magic : word_at 0 bytes ≡ 282
@@ -18,6 +19,7 @@ pub record HasHeader (bytes : List ℕ) (sizes : Sizes) : Type 0 where
   pub texts_fit : text_count bytes ≤ 414
   pub strings_fit : strings_size bytes < 32768
 
+-- the bytes are as long as their header says, and are cut into these sections
 pub record IsCut (bytes : List ℕ) (s : Sections) : Type 0 where
   pub sizes : Sizes
   pub header : HasHeader bytes sizes
@@ -28,16 +30,20 @@ pub record IsCut (bytes : List ℕ) (s : Sections) : Type 0 where
   pub offsets : s.offsets.now ≡ offsets_section bytes
   pub strings : s.strings.now ≡ strings_section bytes
 
+-- at least one byte and the NUL that ends the names, and no other NUL
 pub record AreNames (names : List ℕ) : Type 0 where
   pub some : 2 ≤ length names
   pub no_nul : (k : ℕ) → suc k < length names → slice_index names k ≢ 0
   pub ended : (k : ℕ) → suc k ≡ length names → slice_index names k ≡ 0
 
+-- each byte of the section may stand for a flag
 abbrev pub AreFlags : List ℕ → Type 0
 AreFlags flags = (k : ℕ) → k < length flags → IsFlagByte (slice_index flags k)
 
+-- each 16-bit number of the section is not negative, or stands for absent or cancelled
 abbrev pub AreNumbers : List ℕ → Type 0
 AreNumbers numbers = EachWord numbers (λ w. IsPlain w ⊎ IsVoid w)
 
+-- each offset leads to a text that a NUL ends in the string table, or stands for absent or cancelled
 abbrev pub AreOffsets : List ℕ → List ℕ → Type 0
 AreOffsets offsets strings = EachWord offsets (λ w. (IsPlain w × HasEnd strings w) ⊎ IsVoid w)

@@ -37,6 +37,7 @@ is_there (Some content_cancelled) = false
 abbrev pub written_count : Contents → Kind → ℕ
 written_count contents kind = last_passing (λ i. is_there (contents (capability kind i))) (count_of kind)
 
+-- the byte of a flag: 1 where it is there, else 0
 abbrev pub flag_piece : Option Content → List ℕ
 flag_piece None = 0 ∷ []
 flag_piece (Some content_true) = 1 ∷ []
@@ -44,6 +45,7 @@ flag_piece (Some (content_number n)) = 0 ∷ []
 flag_piece (Some (content_text t)) = 0 ∷ []
 flag_piece (Some content_cancelled) = 0 ∷ []
 
+-- the two bytes of a number that is there, else those of -1
 abbrev pub number_piece : Option Content → List ℕ
 number_piece None = word_of 65535
 number_piece (Some content_true) = word_of 65535
@@ -71,9 +73,11 @@ offset_piece offset (Some content_cancelled) = word_of 65535
 abbrev pub texts_below : Contents → ℕ → List ℕ
 texts_below contents n = joined_below (λ i. text_piece (contents (capability Text i))) n
 
+-- a byte for each flag, up to the last that is there
 abbrev pub flag_section : Contents → List ℕ
 flag_section contents = joined_below (λ i. flag_piece (contents (capability Flag i))) (written_count contents Flag)
 
+-- two bytes for each number, up to the last that is there
 abbrev pub number_section : Contents → List ℕ
 number_section contents = joined_below (λ i. number_piece (contents (capability Number i))) (written_count contents Number)
 
@@ -81,6 +85,7 @@ number_section contents = joined_below (λ i. number_piece (contents (capability
 abbrev pub offset_section : Contents → List ℕ
 offset_section contents = joined_below (λ i. offset_piece (length (texts_below contents i)) (contents (capability Text i))) (written_count contents Text)
 
+-- the texts that are there, one after the other, each with its NUL
 abbrev pub string_table : Contents → List ℕ
 string_table contents = texts_below contents (written_count contents Text)
 

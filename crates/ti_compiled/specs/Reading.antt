@@ -33,6 +33,7 @@ pub record Sections : Type 0 where
 abbrev pub header : ℕ → ℕ → ℕ → ℕ → ℕ → List ℕ
 header names flags numbers offsets strings = word 282 ++ word names ++ word flags ++ word numbers ++ word offsets ++ word strings
 
+-- the bytes of an entry with these sections: the header with their sizes, and then they in this order
 abbrev pub laid_out : Sections → List ℕ
 laid_out s =
     header (suc (length s.names)) (length s.flags) (length s.numbers / 2) (length s.offsets / 2) (length s.strings)
@@ -58,6 +59,7 @@ HasEnd strings offset = (i : ℕ) × (offset ≤ i) × (i < length strings) × (
 abbrev pub EachWord : List ℕ → (ℕ → Type 0) → Type 0
 EachWord section P = (k : ℕ) → 2 * k + 1 < length section → P (word_at (2 * k) section)
 
+-- the sizes of the sections are within the limits, and each flag, number and offset may stand there
 pub record AreSound (s : Sections) : Type 0 where
   pub some_names : 0 < length s.names
   pub names_size : length s.names < 32767
@@ -75,9 +77,11 @@ pub record AreSound (s : Sections) : Type 0 where
 
 -- ---- what the sections say
 
+-- what a flag's byte says: 1 is true, and any other absent
 abbrev pub flag_of : ℕ → Option Content
 flag_of b = if b == 1 then Some content_true else None
 
+-- what the 16-bit number of a place says: itself, or absent where it is negative
 abbrev pub number_of : ℕ → Option Content
 number_of w = if nat_lt w 32768 then Some (content_number w) else None
 
@@ -85,6 +89,7 @@ number_of w = if nat_lt w 32768 then Some (content_number w) else None
 abbrev pub text_from : List ℕ → ℕ → List ℕ
 text_from strings offset = before_first (λ b. b == 0) (drop offset strings)
 
+-- what an offset says: the text that begins there, or absent where it is negative
 abbrev pub text_of : List ℕ → ℕ → Option Content
 text_of strings w = if nat_lt w 32768 then Some (content_text (text_from strings w)) else None
 
@@ -92,11 +97,13 @@ text_of strings w = if nat_lt w 32768 then Some (content_text (text_from strings
 abbrev pub word_says : (ℕ → Option Content) → List ℕ → ℕ → Option Content
 word_says say section index = if nat_lt (2 * index + 1) (length section) then say (word_at (2 * index) section) else None
 
+-- what the sections say of the capability of a kind and an index
 abbrev pub says : List ℕ → List ℕ → List ℕ → List ℕ → Kind → ℕ → Option Content
 says flags numbers offsets strings Flag index = flag_of (slice_index flags index)
 says flags numbers offsets strings Number index = word_says number_of numbers index
 says flags numbers offsets strings Text index = word_says (text_of strings) offsets index
 
+-- what the sections say of each capability
 abbrev pub contents_of : List ℕ → List ℕ → List ℕ → List ℕ → Contents
 contents_of flags numbers offsets strings c = says flags numbers offsets strings c.kind c.index
 
@@ -110,50 +117,63 @@ pub record Reads (bytes names : List ℕ) (contents : Contents) : Type 0 where
 
 -- ---- why bytes are refused (own order)
 
--- where the sections begin and end by the numbers of the header
+-- where the sections begin and end by the numbers of the header: the size of the names with their NUL
 abbrev pub names_size : List ℕ → ℕ
 names_size bytes = word_at 2 bytes
 
+-- how many flags there are, by the header
 abbrev pub flag_count : List ℕ → ℕ
 flag_count bytes = word_at 4 bytes
 
+-- how many numbers there are, by the header
 abbrev pub number_count : List ℕ → ℕ
 number_count bytes = word_at 6 bytes
 
+-- how many offsets of texts there are, by the header
 abbrev pub text_count : List ℕ → ℕ
 text_count bytes = word_at 8 bytes
 
+-- the size of the string table, by the header
 abbrev pub strings_size : List ℕ → ℕ
 strings_size bytes = word_at 10 bytes
 
+-- where the flags begin: behind the header and the names
 abbrev pub flags_place : List ℕ → ℕ
 flags_place bytes = 12 + names_size bytes
 
+-- where the numbers begin: behind the flags, at an even place
 abbrev pub numbers_place : List ℕ → ℕ
 numbers_place bytes = flags_place bytes + flag_count bytes + (names_size bytes + flag_count bytes) % 2
 
+-- where the offsets begin: behind the numbers
 abbrev pub offsets_place : List ℕ → ℕ
 offsets_place bytes = numbers_place bytes + 2 * number_count bytes
 
+-- where the string table begins: behind the offsets
 abbrev pub strings_place : List ℕ → ℕ
 strings_place bytes = offsets_place bytes + 2 * text_count bytes
 
+-- where the string table ends, and with it the entry
 abbrev pub end_place : List ℕ → ℕ
 end_place bytes = strings_place bytes + strings_size bytes
 
--- the sections, where the bytes are that long
+-- the sections, where the bytes are that long: the names with their NUL
 abbrev pub names_section : List ℕ → List ℕ
 names_section bytes = slice_range bytes 12 (flags_place bytes)
 
+-- the flags, a byte each
 abbrev pub flags_section : List ℕ → List ℕ
 flags_section bytes = slice_range bytes (flags_place bytes) (flags_place bytes + flag_count bytes)
 
+-- the numbers, two bytes each
 abbrev pub numbers_section : List ℕ → List ℕ
 numbers_section bytes = slice_range bytes (numbers_place bytes) (offsets_place bytes)
 
+-- the offsets, two bytes each
 abbrev pub offsets_section : List ℕ → List ℕ
 offsets_section bytes = slice_range bytes (offsets_place bytes) (strings_place bytes)
 
+-- the string table
 abbrev pub strings_section : List ℕ → List ℕ
 strings_section bytes = slice_range bytes (strings_place bytes) (end_place bytes)
 
@@ -169,6 +189,7 @@ HasBadNames names =
     (length names < 2) ⊎ ((k : ℕ) × (suc k < length names) × (slice_index names k ≡ 0))
     ⊎ (slice_index names (length names - 1) ≢ 0)
 
+-- a byte that is neither 0 nor 1, nor the absent or cancelled of old writers
 abbrev pub HasBadFlag : List ℕ → Type 0
 HasBadFlag flags = (k : ℕ) × (k < length flags) × (2 ≤ slice_index flags k) × (slice_index flags k < 254)
 
@@ -185,6 +206,7 @@ HasBadNumber numbers = SomeWord numbers (λ w. (32768 ≤ w) × (w < 65534))
 abbrev pub HasBadOffset : List ℕ → List ℕ → Type 0
 HasBadOffset offsets strings = SomeWord offsets (λ w. (w < 65534) × ¬ HasEnd strings w)
 
+-- what each refusal says of the bytes
 abbrev pub Holds : List ℕ → ReadError → Type 0
 Holds bytes Short = length bytes < 12
 Holds bytes Magic = word_at 0 bytes ≢ 282

@@ -1,4 +1,4 @@
--- What a view shows: the names of the entry, and what it holds of each capability.
+-- What a view shows (own): the names of the entry, and what it holds of each capability.
 use Rattle.std.specs.Prelude.{ℕ, Bool, true, false, List, Option, Some, None}
 use Rattle.ti_compiled.specs.declared.view.View.{View}
 use Rattle.ti_compiled.specs.Reading.{contents_of}

@@ -1,4 +1,4 @@
--- What the writer knows of an entry before it asks for memory.
+-- What the writer knows of an entry before it asks for memory (own).
 use Rattle.std.specs.Prelude.{◌≡◌, ◌^◌, ◌-◌, ◌≤◌, ℕ, List, length, min}
 use Rattle.ti_caps.specs.declared.capability.Kind.TheVariants.{Flag, Number, Text}
 use Rattle.ti_compiled.specs.declared.writing.Sizes.{Sizes}

@@ -1,4 +1,4 @@
--- What every view keeps.
+-- What every view keeps (own).
 use Rattle.std.specs.Prelude.{ℕ, ◌<◌, List, length}
 use Rattle.ti_compiled.specs.Reading.{EachWord}
 

@@ -37,12 +37,14 @@ Agrees c (content_number n) = (c.kind ≡ Number) × (n ≤ 32767)
 Agrees c (content_text t) = (c.kind ≡ Text) × HasNoNul t
 Agrees c content_cancelled = Unit {0}
 
+-- the capability may have the content, if there is one
 abbrev pub AgreesIfSome : Capability → Option Content → Type 0
 AgreesIfSome c None = Unit {0}
 AgreesIfSome c (Some content) = Agrees c content
 
 -- ---- own: a table as a list of capabilities with what they have
 
+-- a capability, and what it has
 abbrev pub Entry : Type 0
 Entry = Capability × Content
 
