@@ -3,6 +3,7 @@ use Rattle.std.specs.Prelude.{ℕ, Bool, true, false, List, ◌∷◌, ◌++◌,
 use Rattle.ti_source.specs.declared.code.Code.{Code}
 use Rattle.ti_source.specs.declared.code.Code.TheVariants.{BadHeader, NamesTooLong, BadNumber, NumberTooLarge, BadString, MissingUse, Circular, Unresolved, TooLarge, UnknownCapability, WrongKind, UnknownEscape, DuplicateName}
 
+-- the label of a code: `E` and a digit for an error, `W` and a digit for a warning
 abbrev pub label_of : Code → List ℕ
 label_of BadHeader = codes "E1"
 label_of NamesTooLong = codes "E2"
@@ -18,6 +19,7 @@ label_of WrongKind = codes "W2"
 label_of UnknownEscape = codes "W3"
 label_of DuplicateName = codes "W4"
 
+-- the name of a code, in one word
 abbrev pub code_name : Code → List ℕ
 code_name BadHeader = codes "BadHeader"
 code_name NamesTooLong = codes "NamesTooLong"

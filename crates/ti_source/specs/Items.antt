@@ -25,11 +25,12 @@ pub data Begins : (text field rest : List Placed) → Type 0 where
   all_field : (field : List Placed) → HasNoComma field → Begins field field []
   field_and_rest : (field rest : List Placed) (line : ℕ) → HasNoComma field → Begins (field ++ (44, line) ∷ rest) field rest
 
--- what stands before the first comma, and what stands after it
+-- what stands before the first comma, all where there is none
 abbrev pub field_of : List Placed → List Placed
 field_of [] = []
 field_of (x ∷ xs) = if x.0 == 44 then [] else x ∷ field_of xs
 
+-- what stands after the first comma, nothing where there is none
 abbrev pub after_field : List Placed → List Placed
 after_field [] = []
 after_field (x ∷ xs) = if x.0 == 44 then xs else after_field xs
@@ -67,6 +68,7 @@ cuts taken.Nothing x = x == 44
 cuts taken.Backslash x = false
 cuts taken.Caret x = x == 44
 
+-- the items with a byte at the front of the first of them, which is a new one where there is none
 abbrev pub with_first : Placed → List (List Placed) → List (List Placed)
 with_first x [] = (x ∷ []) ∷ []
 with_first x (item ∷ items) = (x ∷ item) ∷ items
@@ -85,17 +87,21 @@ pub record Piece : Type 0 where
   pub text : List ℕ
   pub line : ℕ
 
+-- the item of this text on this line
 abbrev pub piece : List ℕ → ℕ → Piece
 piece text line = record { text = text; line = line }
 
+-- the bytes of an item without the white space at its front
 abbrev pub without_front : List Placed → List Placed
 without_front [] = []
 without_front (x ∷ xs) = if is_white_space x.0 then without_front xs else x ∷ xs
 
+-- the line of the first byte, 0 where there is none
 abbrev pub line_of : List Placed → ℕ
 line_of [] = 0
 line_of (x ∷ xs) = x.1
 
+-- an item's bytes from the first that is no white space on, with the line of that one
 abbrev pub piece_of : List Placed → Piece
 piece_of item = piece (bytes (without_front item)) (line_of (without_front item))
 
@@ -107,6 +113,7 @@ pub data Claim : Type 0 where
   claims_text : List ℕ → Claim
   claims_cancel : Claim
 
+-- a name, and what an item claims of it
 pub record Statement : Type 0 where
   pub name : List ℕ
   pub claim : Claim
@@ -115,10 +122,12 @@ pub record Statement : Type 0 where
 abbrev pub is_mark : ℕ → Bool
 is_mark b = b == 35 || b == 61
 
+-- no byte is a `#` or a `=`
 abbrev pub HasNoMark : List ℕ → Type 0
 HasNoMark [] = Unit {0}
 HasNoMark (x ∷ xs) = (is_mark x ≡ false) × HasNoMark xs
 
+-- each byte is white space
 abbrev pub IsWhite : List ℕ → Type 0
 IsWhite [] = Unit {0}
 IsWhite (x ∷ xs) = (is_white_space x ≡ true) × IsWhite xs
@@ -142,20 +151,22 @@ pub data States : (text : List ℕ) → Option Statement → Type 0 where
       → is_white_space (last_byte 64 name) ≡ false → last_byte 64 name ≢ 64
       → States (name ++ end) (Some (record { name = name; claim = claims_flag }))
 
--- the bytes before the first mark, and those from it on
+-- the bytes before the first mark, all where there is none
 abbrev pub before_mark : List ℕ → List ℕ
 before_mark [] = []
 before_mark (x ∷ xs) = if is_mark x then [] else x ∷ before_mark xs
 
+-- the bytes from the first mark on, nothing where there is none
 abbrev pub from_mark : List ℕ → List ℕ
 from_mark [] = []
 from_mark (x ∷ xs) = if is_mark x then x ∷ xs else from_mark xs
 
--- a text without the white space at both ends
+-- a text without the white space at its front
 abbrev pub without_white_front : List ℕ → List ℕ
 without_white_front [] = []
 without_white_front (x ∷ xs) = if is_white_space x then without_white_front xs else x ∷ xs
 
+-- a text without the white space at both ends
 abbrev pub stripped : List ℕ → List ℕ
 stripped text = trimmed (without_white_front text)
 
@@ -172,13 +183,16 @@ unmarked text =
     then record { name = without_last text; claim = claims_cancel }
     else record { name = text; claim = claims_flag }
 
+-- the statement of a name with a value: a number where the mark is a `#`, else a text
 abbrev pub valued : List ℕ → ℕ → List ℕ → Statement
 valued name mark value = record { name = name; claim = if mark == 35 then claims_number value else claims_text value }
 
+-- what a text states, given what stands from its first mark on
 abbrev pub marked : List ℕ → List ℕ → Statement
 marked text [] = unmarked (trimmed text)
 marked text (mark ∷ value) = valued (before_mark text) mark value
 
+-- what an item states, by its text with no white space at its front, computed
 abbrev pub statement_of : List ℕ → Option Statement
 statement_of [] = None
 statement_of (x ∷ xs) = if x == 46 then None else Some (marked (x ∷ xs) (from_mark (x ∷ xs)))
@@ -200,12 +214,13 @@ pub record TakesItem (text : List Placed) (piece : Piece) (last : Bool) (rest : 
   pub is_first : items_of taken.Nothing 44 text ≡ item ∷ (if last then [] else items_of taken.Nothing 44 rest)
   pub shorter : last ≡ false → length rest < length text
 
--- a statement that holds its texts in memory, as plain data
+-- a claim that holds its text in memory, as plain data
 abbrev pub claim_of : ClaimInMemory → Claim
 claim_of claims.Flag = claims_flag
 claim_of (claims.Number text) = claims_number text.now
 claim_of (claims.Text text) = claims_text text.now
 claim_of claims.Cancel = claims_cancel
 
+-- a statement that holds its texts in memory, as plain data
 abbrev pub stated : StatementInMemory → Statement
 stated s = record { name = s.name.now; claim = claim_of s.claim }

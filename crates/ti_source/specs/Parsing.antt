@@ -65,16 +65,18 @@ pub data Judges : (name : List ℕ) (claim : Claim) → Verdict → Type 0 where
   judged_bad_text : (name value : List ℕ) (c : Capability) (cause : UnescapeError) → is_import name (claims_text value) ≡ false → capability_named name ≡ Some c → c.kind ≡ kind.Text
       → Fails value cause → Judges name (claims_text value) (refused code.BadString)
 
--- the same, computed
+-- the same, computed: the verdict on a number of a capability, given what its text reads as
 abbrev pub number_verdict : Capability → Result ℕ NumberError → Verdict
 number_verdict c (Ok n) = accepted (said_number c n)
 number_verdict c (Err Bad) = refused code.BadNumber
 number_verdict c (Err TooLarge) = refused code.NumberTooLarge
 
+-- the verdict on a text of a capability, given what its value spells or the fault in it
 abbrev pub text_verdict : Capability → Result (List ℕ × Bool) UnescapeError → Verdict
 text_verdict c (Ok found) = if found.1 then accepted_odd (said_text c found.0) else accepted (said_text c found.0)
 text_verdict c (Err cause) = refused code.BadString
 
+-- the verdict on a claim of a capability, which has this kind
 abbrev pub fitting_verdict : Capability → Claim → Kind → Verdict
 fitting_verdict c claims_flag kind.Flag = accepted (said_flag c)
 fitting_verdict c (claims_number text) kind.Number = number_verdict c (number_read text)
@@ -82,14 +84,17 @@ fitting_verdict c (claims_text value) kind.Text = text_verdict c (unescaped valu
 fitting_verdict c claims_cancel k = accepted (said_cancel c)
 fitting_verdict c _ _ = refused code.WrongKind
 
+-- the verdict on a claim, given the capability of its name, if one has the name
 abbrev pub named_verdict : Claim → Option Capability → Verdict
 named_verdict claim None = refused code.UnknownCapability
 named_verdict claim (Some c) = fitting_verdict c claim c.kind
 
+-- the value of a text, nothing where the claim is another
 abbrev pub claimed_text : Claim → List ℕ
 claimed_text (claims_text value) = value
 claimed_text _ = []
 
+-- the verdict on a statement: `use=` is accepted, any other is judged by the capability of its name
 abbrev pub verdict_of : List ℕ → Claim → Verdict
 verdict_of name claim =
     if is_import name claim
@@ -98,11 +103,13 @@ verdict_of name claim =
 
 -- ---- all items of a block, each with its place among them
 
+-- what a statement says once it has this verdict, nothing where it is refused
 abbrev pub said_by : Verdict → Option Said
 said_by (accepted said) = Some said
 said_by (accepted_odd said) = Some said
 said_by (refused code) = None
 
+-- the fault that a verdict tells of, none where it accepts without an odd escape
 abbrev pub code_by : Verdict → Option Code
 code_by (accepted said) = None
 code_by (accepted_odd said) = Some code.UnknownEscape
@@ -112,10 +119,11 @@ code_by (refused code) = Some code
 abbrev pub item_fault : ℕ → ℕ → List ℕ → Code → ReadFault
 item_fault ordinal line name code = record { ordinal = ordinal; line = line; code = code; detail = Some name }
 
--- what a verdict adds to the accepted items, and to the faults
+-- what a verdict adds to the accepted items
 abbrev pub items_by : ℕ → ℕ → Verdict → List ReadItem
 items_by ordinal line v = map (λ said. record { ordinal = ordinal; line = line; said = said }) (option_to_list (said_by v))
 
+-- what a verdict adds to the faults
 abbrev pub faults_by : ℕ → ℕ → List ℕ → Verdict → List ReadFault
 faults_by ordinal line name v = map (item_fault ordinal line name) (option_to_list (code_by v))
 
@@ -129,19 +137,22 @@ pub data ReadsItems : (ordinal : ℕ) (items : List (List Placed)) → List Read
       → States (piece_of item).text (Some s) → Judges s.name s.claim v → ReadsItems (ordinal + 1) items found faults
       → ReadsItems ordinal (item ∷ items) (items_by ordinal (piece_of item).line v ++ found) (faults_by ordinal (piece_of item).line s.name v ++ faults)
 
--- the same, computed
+-- the same, computed: the accepted items of an item with this place and line, which states this
 abbrev pub items_at : ℕ → ℕ → Option Statement → List ReadItem
 items_at ordinal line None = []
 items_at ordinal line (Some s) = items_by ordinal line (verdict_of s.name s.claim)
 
+-- the faults of an item with this place and line, which states this, if it states something
 abbrev pub faults_at : ℕ → ℕ → Option Statement → List ReadFault
 faults_at ordinal line None = []
 faults_at ordinal line (Some s) = faults_by ordinal line s.name (verdict_of s.name s.claim)
 
+-- the accepted items among items in a row, of which the first has the place `ordinal`
 abbrev pub items_from : ℕ → List (List Placed) → List ReadItem
 items_from ordinal [] = []
 items_from ordinal (item ∷ items) = items_at ordinal (piece_of item).line (statement_of (piece_of item).text) ++ items_from (ordinal + 1) items
 
+-- the faults of items in a row, of which the first has the place `ordinal`
 abbrev pub faults_from : ℕ → List (List Placed) → List ReadFault
 faults_from ordinal [] = []
 faults_from ordinal (item ∷ items) = faults_at ordinal (piece_of item).line (statement_of (piece_of item).text) ++ faults_from (ordinal + 1) items
@@ -162,10 +173,12 @@ pub data ReadsHeader : (field : List ℕ) (names : List (List ℕ)) (faults : Li
   long_header : (field : List ℕ) (names : List (List ℕ)) → HeaderNames field names → names_limit < length field → ReadsHeader field names (header_fault code.NamesTooLong ∷ [])
   good_header : (field : List ℕ) (names : List (List ℕ)) → HeaderNames field names → length field ≤ names_limit → ReadsHeader field names []
 
+-- the lookup names of a names field, none where a fault stands in it
 abbrev pub names_found : Option (List (List ℕ)) → List (List ℕ)
 names_found None = []
 names_found (Some names) = names
 
+-- the fault of a names field, given its lookup names: it has none, or is over the limit
 abbrev pub header_faults : List ℕ → Option (List (List ℕ)) → List ReadFault
 header_faults field None = header_fault code.BadHeader ∷ []
 header_faults field (Some names) = if nat_lt names_limit (length field) then header_fault code.NamesTooLong ∷ [] else []
@@ -187,10 +200,11 @@ pub record Parses (block : List ℕ) (reading : Reading) : Type 0 where
   pub reads_items : ReadsItems 0 items reading.items of_items
   pub faults : reading.faults ≡ of_header ++ of_items
 
--- the names field of a block, and the items behind it
+-- the names field of a block
 abbrev pub block_field : List ℕ → List ℕ
 block_field block = bytes (field_of (folded block))
 
+-- the items behind the names field of a block
 abbrev pub block_items : List ℕ → List (List Placed)
 block_items block = items_of taken.Nothing 44 (after_field (folded block))
 
@@ -203,15 +217,17 @@ parsed block = record {
   faults = header_faults (block_field block) (header_names (block_field block)) ++ faults_from 0 (block_items block);
 }
 
--- a block has the reading that is computed, and no other
+-- a block has the reading that is computed
 abbrev pub HasReading : Type 0
 HasReading = (block : List ℕ) → Parses block (parsed block)
 
+-- a block has no two readings
 abbrev pub OneReading : Type 0
 OneReading = (block : List ℕ) (one other : Reading) → Parses block one → Parses block other → one ≡ other
 
 -- ---- what the parts of a reader do
 
+-- a verdict that holds what it accepts in memory, as plain data
 abbrev pub verdict_in_memory : VerdictInMemory → Verdict
 verdict_in_memory (verdict.Accepted what) = accepted (said_of what)
 verdict_in_memory (verdict.AcceptedOdd what) = accepted_odd (said_of what)
@@ -231,8 +247,10 @@ pub record Adds (found : List ReadItem) (faults : List ReadFault) (old new : Rea
   pub more_items : new.items ≡ old.items ++ found
   pub more_faults : new.faults ≡ old.faults ++ faults
 
+-- what an item with this place says, and its faults, were added to a reading
 abbrev pub AddsItem : ℕ → Piece → Reading → Reading → Type 0
 AddsItem ordinal p old new = Adds (items_at ordinal p.line (statement_of p.text)) (faults_at ordinal p.line (statement_of p.text)) old new
 
+-- what the items of a text say, and their faults, were added to a reading
 abbrev pub AddsItems : List Placed → Reading → Reading → Type 0
 AddsItems source old new = Adds (items_from 0 (items_of taken.Nothing 44 source)) (faults_from 0 (items_of taken.Nothing 44 source)) old new

@@ -1,4 +1,4 @@
--- What a parsed block says, as plain data: a name or a text is its bytes, wherever they lie in memory.
+-- What a parsed block says, as plain data (own): a name or a text is its bytes, wherever they lie in memory.
 use Rattle.std.specs.Prelude.{ℕ, List, map, Option, option_map}
 use Rattle.std.specs.Rc.{rc_slice_items}
 use Rattle.ti_caps.specs.Tables.{Capability}
@@ -37,6 +37,7 @@ pub record Reading : Type 0 where
   pub items : List ReadItem
   pub faults : List ReadFault
 
+-- what an item in memory says, as plain data
 abbrev pub said_of : What → Said
 said_of (Flag c) = said_flag c
 said_of (Number c n) = said_number c n
@@ -44,12 +45,15 @@ said_of (Text c text) = said_text c (rc_slice_items text)
 said_of (Cancel c) = said_cancel c
 said_of (Import name) = said_import (rc_slice_items name)
 
+-- an accepted item in memory, as plain data
 abbrev pub item_of : Item → ReadItem
 item_of i = record { ordinal = i.ordinal; line = i.line; said = said_of i.what }
 
+-- a fault in memory, as plain data
 abbrev pub fault_of : Local → ReadFault
 fault_of f = record { ordinal = f.ordinal; line = f.line; code = f.code; detail = option_map rc_slice_items f.detail }
 
+-- a parsed block in memory, as plain data
 abbrev pub reading_of : Parsed → Reading
 reading_of p = record {
   field = p.field.items;

@@ -46,6 +46,7 @@ pub record IsInOrder (reading : Reading) : Type 0 where
   pub items_rise : IsRising (map (λ (i : ReadItem). i.ordinal) reading.items)
   pub faults_rise : IsRising (map (λ (f : ReadFault). f.ordinal) of_items)
 
+-- what is read of a block is sound: its names, its field where no error stands, what it sets, its order and lines
 pub record IsWellRead (block : List ℕ) (reading : Reading) : Type 0 where
   pub names : All IsLookupName reading.names
   -- where no error stands among the faults, the names field can be written
@@ -55,5 +56,6 @@ pub record IsWellRead (block : List ℕ) (reading : Reading) : Type 0 where
   pub item_lines : All (λ (i : ReadItem). IsLineOf block i.line) reading.items
   pub fault_lines : All (λ (f : ReadFault). IsLineOf block f.line) reading.faults
 
+-- what is read of every block is sound
 abbrev pub EachIsWellRead : Type 0
 EachIsWellRead = (block : List ℕ) → OneBlock block → IsWellRead block (parsed block)
