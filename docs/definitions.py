@@ -25,7 +25,7 @@ loop again; where it is a relation, a law shows that it is determined.
 """
 NAME = r"[^\s:(){},.;]+"
 STARTS = re.compile(
-    rf"^(?:abbrev pub|pub abbrev|unfoldable pub|pub unfoldable|pub data|pub record|pub)\s+(?!use\b|mod\b|data\b|record\b)({NAME})(?=[\s:({{])"
+    rf"^(?:(?:  )?(?:abbrev pub|pub abbrev|unfoldable pub|pub unfoldable|pub data|pub record)|pub)\s+(?!use\b|mod\b|data\b|record\b)({NAME})(?=[\s:({{])"
 )
 
 
@@ -35,7 +35,7 @@ def lines_of(path):
 
 
 def sentence(comment):
-    text = " ".join(it.lstrip("- ").strip() for it in comment).strip()
+    text = " ".join(re.sub(r"^--\s?", "", it.strip()).strip() for it in comment).strip()
     text = text.replace("|", "\\|")
     return text[:1].upper() + text[1:] if text else ""
 
@@ -47,7 +47,7 @@ def definitions(path):
     for line in lines_of(path):
         if line.startswith("-- ----"):
             comment, code_since = [], False
-        elif line.startswith("--"):
+        elif line.startswith("--") or line.startswith("  --"):
             if code_since:
                 comment, code_since = [], False
             (head if at_head else comment).append(line)
@@ -66,9 +66,13 @@ def definitions(path):
 
 
 def exported(crate):
-    """The names that the crate's root file makes public."""
-    root = "\n".join(lines_of(os.path.join(TOP, "crates", crate, "src", "lib.rt")))
+    """The names that the crate's root file makes public, those of its public modules among them."""
+    source = os.path.join(TOP, "crates", crate, "src")
+    root = "\n".join(lines_of(os.path.join(source, "lib.rt")))
     found = set()
+    for it in re.findall(r"^pub mod (\w+);", root, re.M):
+        text = "\n".join(lines_of(os.path.join(source, it + ".rt")))
+        found |= set(re.findall(r"^pub (?:const )?(?:fn|struct|enum|trait) (\w+)", text, re.M))
     for it in re.findall(r"pub use [\w:]*?(?:::)?(\{[^}]*\}|\w+);", root):
         found |= set(re.findall(r"\w+", it))
     return found
@@ -84,7 +88,8 @@ def contracts(crate):
         for name in sorted(names):
             if not name.endswith(".rt") or name == "tests.rt":
                 continue
-            text = "\n".join(lines_of(os.path.join(at, name))).split("#[cfg(test)]")[0]
+            text = "\n".join(lines_of(os.path.join(at, name)))
+            text = re.split(r"^#\[cfg\(test\)\]\n(?:#.*\n)*mod \w+ \{", text, flags=re.M)[0]
             known = set()
             for path, words in re.findall(r"ghost use Rattle\.(\w+\.specs\.[\w.]+?)\.\{([^}]*)\};", text):
                 known |= {(path, it.strip()) for it in words.split(",")}
