@@ -6,7 +6,7 @@ use Rattle.ti_compiled.specs.Values.{Contents}
 use Rattle.ti_compiled.specs.Image.{image}
 use Rattle.ti_compiled.specs.Growing.{places_written, strings_below}
 
--- the greatest size that is counted
+-- a size as it is counted: no more than 2^64 - 1
 abbrev pub at_most_max : ℕ → ℕ
 at_most_max n = min n (2 ^ 64 - 1)
 

@@ -13,7 +13,7 @@ use Rattle.ti_source.specs.declared.items.Statement.{Statement as StatementInMem
 abbrev pub bytes : List Placed → List ℕ
 bytes text = map (λ x. x.0) text
 
--- The names field: the bytes before the first comma, or all of them where there is none; pairs mean nothing in it.
+-- ---- the names field: the bytes before the first comma, or all of them where there is none; pairs mean nothing in it
 
 -- no byte is a comma
 abbrev pub HasNoComma : List Placed → Type 0
@@ -35,7 +35,7 @@ abbrev pub after_field : List Placed → List Placed
 after_field [] = []
 after_field (x ∷ xs) = if x.0 == 44 then xs else after_field xs
 
--- Items: the rest is cut at each comma that no backslash takes.
+-- ---- items: the rest is cut at each comma that no backslash takes
 
 -- whether the byte `x`, which stands just after `before` and which nothing takes, takes the byte `next`: a backslash takes any byte, and a `^` that
 -- does not stand just after a `%` takes any but a comma
@@ -81,8 +81,9 @@ items_of by before (x ∷ xs) =
     then [] ∷ items_of taken.Nothing 44 xs
     else with_first x (items_of (taken_after by before x.0) x.0 xs)
 
--- An item: white space at its front is dropped, and it stands on the line of its first byte.
+-- ---- an item: white space at its front is dropped, and it stands on the line of its first byte
 
+-- an item as it is read: its bytes, and the line that the first of them stands on
 pub record Piece : Type 0 where
   pub text : List ℕ
   pub line : ℕ
@@ -105,8 +106,9 @@ line_of (x ∷ xs) = x.1
 abbrev pub piece_of : List Placed → Piece
 piece_of item = piece (bytes (without_front item)) (line_of (without_front item))
 
--- What an item states: a name, and a flag, a number or a text of that name, or that it is cancelled.
+-- ---- what an item states: a name, and a flag, a number or a text of that name, or that it is cancelled
 
+-- what an item claims of its name: a flag, a number or a text, or that it is cancelled
 pub data Claim : Type 0 where
   claims_flag : Claim
   claims_number : List ℕ → Claim

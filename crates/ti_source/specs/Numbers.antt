@@ -77,6 +77,6 @@ NumeralsHaveOneValue = (text : List ℕ) (v w : ℕ) → IsNumeral text v → Is
 abbrev pub EachTextIsRead : Type 0
 EachTextIsRead = (text : List ℕ) → ReadsAs text (number_read text)
 
--- and as nothing else
+-- no text reads as anything else
 abbrev pub OneReading : Type 0
 OneReading = (text : List ℕ) (r : Result ℕ NumberError) → ReadsAs text r → number_read text ≡ r

@@ -284,6 +284,6 @@ ValuesAreSound = (raw value : List ℕ) (odd : Bool) → unescaped raw ≡ Ok (v
 abbrev pub WrittenSpells : Type 0
 WrittenSpells = (value : List ℕ) → AreBytes value → HasNoNul value → Spells (written value) value false
 
--- and so does the computed reading
+-- what is written is read back by `unescaped`
 abbrev pub WrittenReadsBack : Type 0
 WrittenReadsBack = (value : List ℕ) → AreBytes value → HasNoNul value → unescaped (written value) ≡ Ok (value, false)
