@@ -93,6 +93,8 @@ def contracts(crate):
             known = set()
             for path, words in re.findall(r"ghost use Rattle\.(\w+\.specs\.[\w.]+?)\.\{([^}]*)\};", text):
                 known |= {(path, it.strip()) for it in words.split(",")}
+            short = dict(re.findall(r"ghost use Rattle\.(\w+\.specs\.[\w.]+) as (\w+);", text))
+            short = {name: path for path, name in short.items()}
             owner = ""
             forms = r"^impl[^{\n]*|^pub trait (\w+)|^(?: {4})?(?:pub (?:const )?)?fn (\w+)(.*?)(?=^ {0,4}\{|;$)"
             for part in re.finditer(forms, text, re.M | re.S):
@@ -109,6 +111,8 @@ def contracts(crate):
                     continue
                 words = set(re.findall(r"[^\s(){},;]+", part[3]))
                 cited = {(path, word) for path, word in known if word in words}
+                parts = [it.split(".") for it in words]
+                cited |= {(short[it[0]], it[1]) for it in parts if len(it) > 1 and it[0] in short}
                 found.append((f"{owner}::{part[2]}" if is_method else part[2], cited))
     return found
 
