@@ -9,3 +9,8 @@ pub mod Imaging
 pub mod Editing
 pub mod Keeping
 pub mod Running
+pub mod Searching
+pub mod Acyclic
+pub mod Faulting
+pub mod Bounding
+pub mod Counting

@@ -100,7 +100,7 @@ uses_at [] i item name s u = absurd (none-some item s)
 uses_at (x ∷ xs) zero item name s u = inl (rw (same_Some x item s) u)
 uses_at (x ∷ xs) (suc i) item name s u = inr (uses_at xs i item name s u)
 
-mentions_of-used : (f : List ℕ → Option (List Mention)) (said : Said) (name : List ℕ) → used_name said ≡ Some name → mentions_of f said ≡ f name
+pub mentions_of-used : (f : List ℕ → Option (List Mention)) (said : Said) (name : List ℕ) → used_name said ≡ Some name → mentions_of f said ≡ f name
 mentions_of-used f (said_flag c) name e = absurd (none-some name e)
 mentions_of-used f (said_number c n) name e = absurd (none-some name e)
 mentions_of-used f (said_text c t) name e = absurd (none-some name e)

@@ -1,14 +1,16 @@
 -- The faults of a source (own): for each block those of its header, of its names, of its items in their order and of its
 -- entry.
-use Rattle.std.specs.Prelude.{ℕ, suc, List, [], ◌∷◌, ◌++◌, map, filter, Option, Some, None, slice_get, Bool, true, false, not, nat_lt, if◌then◌else◌}
+use Rattle.std.specs.Prelude.{◌≡◌, option_map, ℕ, suc, List, [], ◌∷◌, ◌++◌, map, filter, Option, Some, None, slice_get, Bool, true, false, not, nat_lt, if◌then◌else◌}
 use Rattle.std.specs.Option.{option_map_or}
+use Rattle.std.specs.Rc.{rc_slice_items}
+use Rattle.ti_base.specs.declared.faults.Fault.{Fault}
 use Rattle.ti_source.specs.declared.code.Code.{Code}
 use Rattle.ti_source.specs.declared.code.Code.TheVariants.{BadHeader, NamesTooLong, MissingUse, Circular, Unresolved, TooLarge, DuplicateName}
 use Rattle.ti_source.specs.Reading.{Reading, ReadItem, ReadFault}
 use Rattle.ti_base.specs.Owner.{owner, owned, is_among}
-use Rattle.ti_base.specs.Expansion.{expansion, resolves}
-use Rattle.ti_base.specs.Reaching.{used_name, leads_to}
-use Rattle.ti_base.specs.Compiled.{is_too_large}
+use Rattle.ti_base.specs.Expansion.{resolves}
+use Rattle.ti_base.specs.Reaching.{used_name, Uses, leads_to}
+use Rattle.ti_base.specs.Compiled.{EntryState, unresolved, oversized, written, state_of}
 
 -- a fault of a source: the position of its block, the line in that block, counted from 1, the code and its detail
 pub record SourceFault : Type 0 where
@@ -16,6 +18,10 @@ pub record SourceFault : Type 0 where
   pub line : ℕ
   pub code : Code
   pub detail : Option (List ℕ)
+
+-- a fault of the code, as plain data
+abbrev pub fault_seen : Fault → SourceFault
+fault_seen fault = record { block = fault.block; line = fault.line; code = fault.code; detail = option_map rc_slice_items fault.detail }
 
 -- what is wrong with a use whose name belongs to this block, if it belongs to one: nobody owns the name; it lies on a
 -- ring; or the owner does not resolve
@@ -38,8 +44,14 @@ is_of_header _ = false
 abbrev pub local_fault : ℕ → ReadFault → SourceFault
 local_fault at fault = record { block = at; line = fault.line; code = fault.code; detail = fault.detail }
 
-abbrev pub header_faults : ℕ → Reading → List SourceFault
-header_faults at block = map (local_fault at) (filter (λ (fault : ReadFault). is_of_header fault.code) block.faults)
+-- whether it is one of the header, or whether it is not
+abbrev pub is_kept : Bool → ReadFault → Bool
+is_kept true fault = is_of_header fault.code
+is_kept false fault = not (is_of_header fault.code)
+
+-- those of the header, or the others
+abbrev pub local_faults : Bool → ℕ → List ReadFault → List SourceFault
+local_faults of_header at faults = map (local_fault at) (filter (is_kept of_header) faults)
 
 -- the names that stand not among those before them
 abbrev pub distinct_after : List (List ℕ) → List (List ℕ) → List (List ℕ)
@@ -56,9 +68,11 @@ abbrev pub is_owned_before : List Reading → ℕ → List ℕ → Bool
 is_owned_before blocks at name = option_map_or (λ place. nat_lt place at) (owner blocks name) false
 
 -- one for each lookup name that an earlier block owns
-abbrev pub name_faults : List Reading → ℕ → Reading → List SourceFault
-name_faults blocks at block =
-    map (λ name. record { block = at; line = 1; code = DuplicateName; detail = Some name }) (filter (is_owned_before blocks at) (distinct block.names))
+abbrev pub name_fault : ℕ → List ℕ → SourceFault
+name_fault at name = record { block = at; line = 1; code = DuplicateName; detail = Some name }
+
+abbrev pub name_faults : List Reading → ℕ → List (List ℕ) → List SourceFault
+name_faults blocks at names = map (name_fault at) (filter (is_owned_before blocks at) (distinct names))
 
 -- the fault of a use of this name by an item of that line, if it has one
 abbrev pub fault_of_use : ℕ → ℕ → List ℕ → Option Code → List SourceFault
@@ -87,19 +101,18 @@ item_faults blocks at faults (item ∷ items) =
     ++ (fault_of_item blocks at item.line (used_name item.said) ++ item_faults blocks at (faults_from item.ordinal faults) items)
 
 -- the fault of a block that resolves and whose entry is over the limit, with its first lookup name
-abbrev pub entry_faults : List Reading → ℕ → Reading → List SourceFault
-entry_faults blocks at block =
-    if option_map_or (is_too_large block) (expansion blocks block) false
-    then record { block = at; line = 1; code = TooLarge; detail = slice_get block.names 0 } ∷ []
-    else []
+abbrev pub entry_faults : ℕ → List (List ℕ) → EntryState → List SourceFault
+entry_faults at names unresolved = []
+entry_faults at names oversized = record { block = at; line = 1; code = TooLarge; detail = slice_get names 0 } ∷ []
+entry_faults at names (written bytes) = []
 
 -- the faults of a block
 abbrev pub block_faults : List Reading → ℕ → Reading → List SourceFault
 block_faults blocks at block =
-    header_faults at block
-    ++ (name_faults blocks at block
-    ++ (item_faults blocks at (filter (λ (fault : ReadFault). not (is_of_header fault.code)) block.faults) block.items
-    ++ entry_faults blocks at block))
+    local_faults true at block.faults
+    ++ (name_faults blocks at block.names
+    ++ (item_faults blocks at (filter (is_kept false) block.faults) block.items
+    ++ entry_faults at block.names (state_of blocks block)))
 
 -- those of the blocks from that position on
 abbrev pub faults_after : List Reading → ℕ → List Reading → List SourceFault
@@ -109,3 +122,7 @@ faults_after blocks at (block ∷ rest) = block_faults blocks at block ++ faults
 -- the faults of all blocks, in list order
 abbrev pub faults : List Reading → List SourceFault
 faults blocks = faults_after blocks 0 blocks
+
+-- the block at that position uses the name
+abbrev pub IsUser : List Reading → ℕ → List ℕ → Type 0
+IsUser blocks at name = (block : Reading) × (slice_get blocks at ≡ Some block) × Uses block.items name

@@ -9,7 +9,9 @@ ghost use Rattle.ti_base.specs.Edits.{Run, change_of};
 use crate::changes::{compile_inserted, compile_removed, compile_replaced, insert_reserved};
 use crate::edits::{Edit, EditError, Edited, Outcome};
 use crate::entries::Entry;
+use crate::faults::{Fault, source_faults};
 use crate::owners::find_owner;
+use crate::report::write_report;
 use std::alloc::{AllocError, Global};
 use std::marker::Model;
 use ti_source::{Parsed, is_block, parse};
@@ -75,6 +77,8 @@ fn check_text(text: &[u8]) -> Result<(), EditError>
 impl Database {
     ghost use Rattle.ti_base.specs.Owner.{owner, readings};
     ghost use Rattle.ti_base.specs.Compiled.{compiled};
+    ghost use Rattle.ti_base.specs.Faults.{fault_seen, faults};
+    ghost use Rattle.ti_base.specs.Report.{report};
     ghost use Rattle.ti_base.specs.Edits.{Step, change_of, insertion, removal, replacement, outcome_of};
 
     /// A source with no blocks. It takes no memory.
@@ -121,6 +125,27 @@ impl Database {
         ensures { result ≡ owner (readings self.now) name.now }
     {
         find_owner(&self.blocks, name)
+    }
+
+    /// All faults, in the order of the blocks: for each block those of its header, one for each
+    /// lookup name that an earlier block owns, those of its items in their order, and one where its
+    /// entry is over the limit.
+    pub fn faults(&self) -> Result<Vec<Fault>, AllocError>
+        ensures { IfOk result (λ all. map fault_seen all.items ≡ faults (readings self.now)) }
+    {
+        let faults = source_faults(self.alloc, &self.blocks, &self.entries)?;
+        Ok(faults)
+    }
+
+    /// The report of all faults: a line for each, with the line of the whole source that it stands
+    /// on, where the first line of the source has the number `first_line`.
+    pub fn report(&self, first_line: u64) -> Result<Vec<u8>, AllocError>
+        requires { first_line ≤ 9223372036854775808 }
+        ensures { IfOk result (λ text. text.items ≡ report self.now first_line) }
+    {
+        let faults = source_faults(self.alloc, &self.blocks, &self.entries)?;
+        let report = write_report(self.alloc, &self.texts, &faults, first_line)?;
+        Ok(report)
     }
 
     /// Puts a block in, so that it then stands at `at`. The refusals, the first that holds:

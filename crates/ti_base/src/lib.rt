@@ -13,6 +13,7 @@
 #![tactic(auto)]
 
 mod changes;
+mod circles;
 mod database;
 mod edits;
 mod entries;

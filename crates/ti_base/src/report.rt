@@ -1,8 +1,11 @@
 // Faults as the lines of a report.
-ghost use Rattle.std.specs.Prelude.{◌≡◌, ◌++◌, map, option_map, IfOk, OnOk};
+ghost use Rattle.std.specs.Prelude.{◌≡◌, ◌≤◌, ◌++◌, length, map, option_map, All, IfOk, OnOk};
+ghost use Rattle.std.specs.List.{flat_map, range_with_len};
 ghost use Rattle.std.specs.Rc.{rc_slice_items};
 ghost use Rattle.ti_source.specs.Codes.{code_text};
-ghost use Rattle.ti_base.specs.Report.{shown_byte, shown_detail, detail_text, fault_line};
+ghost use Rattle.ti_base.specs.Report.{shown_byte, shown_detail, detail_text, fault_line, lines_before, lines_in, reported};
+ghost use Rattle.ti_base.specs.Faults.{fault_seen};
+ghost use Rattle.ti_base.specs.Bounds.{IsPlaced};
 
 use crate::faults::Fault;
 use std::alloc::{AllocError, Global};
@@ -65,4 +68,52 @@ pub fn write_fault(
     }
     out.push(b'\n')?;
     Ok(())
+}
+
+/// How many lines a text has, each of which ends with a newline.
+fn count_lines(text: &[u8]) -> usize
+    ensures lines { result ≡ lines_in text.now }
+    ensures within { result ≤ length text.now }
+{
+    text.iter().filter(|byte| **byte == b'\n').count()
+}
+
+/// The number of lines before each of the texts.
+fn line_starts(alloc: Global, texts: &[Vec<u8>]) -> Result<Vec<u64>, AllocError>
+    requires few { length texts.now ≤ 65535 }
+    requires short { All (λ t. length t ≤ 1048576) (map (λ t. t.items) texts.now) }
+    ensures starts { IfOk result (λ starts. starts.items
+        ≡ map (lines_before (map (λ t. t.items) texts.now)) (range_with_len 0 (length texts.now))) }
+    ensures small { IfOk result (λ starts. All (λ start. start ≤ 68719476736) starts.items) }
+{
+    let mut starts = Vec::with_capacity(alloc, texts.len())?;
+    let mut lines: u64 = 0;
+    for text in texts {
+        starts.push(lines)?;
+        lines += count_lines(text) as u64;
+    }
+    Ok(starts)
+}
+
+/// The report of these faults of a source, whose first line has that number.
+pub(crate) fn write_report(
+    alloc: Global,
+    texts: &[Vec<u8>],
+    faults: &[Fault],
+    first_line: u64,
+) -> Result<Vec<u8>, AllocError>
+    requires few { length texts.now ≤ 65535 }
+    requires short { All (λ t. length t ≤ 1048576) (map (λ t. t.items) texts.now) }
+    requires placed { All (IsPlaced (length texts.now)) (map fault_seen faults.now) }
+    requires first { first_line ≤ 9223372036854775808 }
+    ensures { IfOk result (λ out. out.items
+        ≡ flat_map (reported (map (λ t. t.items) texts.now) first_line) (map fault_seen faults.now)) }
+{
+    let starts = line_starts(alloc, texts)?;
+    let mut out = Vec::new(alloc);
+    for fault in faults {
+        let number = first_line + starts[fault.block] + fault.line as u64 - 1;
+        write_fault(alloc, &mut out, number, fault)?;
+    }
+    Ok(out)
 }
