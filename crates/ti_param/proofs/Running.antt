@@ -1,5 +1,5 @@
 -- Running the tokens one after another does what the tree means.
-use Rattle.std.proofs.Common.{◌≡◌, ◌≤◌, ℕ, suc, Bool, true, false, cond, List, [], ◌∷◌, length, arith, refl, ap, sym, ◌∙◌}
+use Rattle.std.proofs.Common.{◌≡◌, ℕ, suc, Bool, true, false, cond, List, [], ◌∷◌, refl, ap, sym, ◌∙◌}
 use Rattle.std.specs.Prelude.{Option, Some, None, Ok, Err}
 use Rattle.ti_param.specs.declared.codes.Code.{Code}
 use Rattle.ti_param.specs.declared.codes.Token.TheVariants.{Literal, Operation, If, Then, Else, EndIf}
@@ -197,16 +197,6 @@ else-skipped tokens rest left p s is token gone =
 pub run-end : (tokens : List Placed) (s : State) → tokens ≡ [] → executed None tokens s ≡ Ok s
 unfolding executed
 run-end tokens s none = rw none refl
-
--- what is left of skipped tokens is no more than they were
-pub skipped-le : (level : ℕ) (to_else : Bool) (tokens : List Placed) → length (skipped level to_else tokens) ≤ length tokens
-unfolding skipped
-skipped-le level to_else [] = omega arith
-skipped-le level to_else (p ∷ tokens) =
-    elim (deeper level to_else p.token) as (λ d. length (elim d as (λ _. List Placed) [ None ↦ tokens | Some next ↦ skipped next to_else tokens ]) ≤ suc (length tokens)) [
-      | None ↦ omega arith
-      | Some next ↦ omega (arith, skipped-le next to_else tokens)
-    ]
 
 -- an error of a step is the error of the whole, where the step's full stack is the whole's
 pub error-kept : (e : ParamError) (a b : State) (o whole : Outcome) → ((place : ℕ) → o ≡ Err place → whole ≡ Err place) → Ran (Err e) a o → Ran (Err e) b whole

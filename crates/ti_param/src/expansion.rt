@@ -1,5 +1,5 @@
 //! The bytes that a parameter string sends to the terminal.
-ghost use Rattle.std.specs.Prelude.{◌≡◌, ℕ, ◌+◌, ◌^◌, ◌<◌, ◌↔◌, IfOk, IfErr, OnErr, IsErrOf, map, length, MatchResult};
+ghost use Rattle.std.specs.Prelude.{◌≡◌, ℕ, ◌+◌, ◌^◌, ◌<◌, ◌≤◌, ◌↔◌, IfOk, IfErr, OnErr, IsErrOf, map, length, MatchResult};
 ghost use Rattle.ti_param.specs.Formats.{Tree, IsTree, IsStuck, skipped, deeper};
 ghost use Rattle.ti_param.specs.Meaning.{argument_of, meaning};
 ghost use Rattle.ti_param.specs.Expansion.{Expands, Overflows, Ran, EndsWith, expansion, expanded};
@@ -16,10 +16,14 @@ mod tests;
 
 use std::alloc::Global;
 
-/// The bytes of a format for its parameters, as terminfo(5) has them under "Parameterized Strings". A parameter that is
-/// not given is the number 0.
+/// The bytes of a format for its parameters: what the format's tree means.
 ///
-/// The static variables are left as the format sets them, and after an error as they were.
+/// The codes and the conditional `%?` test `%t` part taken `%e` rest `%;` are those of terminfo(5), "Parameterized
+/// Strings"; `IsTree` of `specs/Formats.antt` is their grammar, `meaning` of `specs/Meaning.antt` what they do. A
+/// parameter that is not given is the number 0. At most 20 values are on the stack and 64 conditionals open at once.
+///
+/// The static variables are left as the format sets them, and after an error as they were. The work is in proportion to
+/// the format, the parameters and the bytes, and only the bytes take memory.
 ///
 /// # Errors
 ///
@@ -73,7 +77,8 @@ fn run(format: &[u8], machine: &mut Machine<'_>) -> Result<(), ParamError>
 /// it, or where `to_else` is set to after its `%e`, whichever comes first, or to the end of the format.
 fn skip(lexer: &mut Lexer<'_>, to_else: bool)
     requires { length lexer.old.tokens < 2 ^ 64 }
-    ensures { lexer.new.tokens ≡ skipped 0 to_else lexer.old.tokens }
+    ensures tokens { lexer.new.tokens ≡ skipped 0 to_else lexer.old.tokens }
+    ensures fewer { length lexer.new.tokens ≤ length lexer.old.tokens }
 {
     let mut level = 0;
     while let Some(Placed { token, .. }) = lexer.next_token() {

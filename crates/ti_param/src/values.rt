@@ -13,6 +13,11 @@ pub enum Value<'a> {
 }
 
 impl Default for Value<'_> {
+    ghost use Rattle.std.specs.Prelude.{◌≡◌, pos};
+    ghost use Rattle.ti_param.specs.declared.values.Value.TheVariants.{Number};
+
+    ghost is_default = { λ value. value ≡ Number (pos 0) };
+
     /// The number 0, which stands for a value that is not there.
     fn default() -> Self {
         Value::Number(0)
@@ -55,7 +60,7 @@ impl<'a> Value<'a> {
 }
 
 /// The 26 static variables `A` to `Z`: each expansion finds them as the last one left them.
-#[derive(Clone, Copy)]
+#[derive(Clone, Copy, Debug, PartialEq, Eq)]
 pub struct Statics {
     pub(crate) values: [i32; 26],
 }
@@ -76,5 +81,13 @@ impl Statics {
         ensures { result ≡ replicate 26 (pos 0) }
     {
         Statics { values: [0; 26] }
+    }
+}
+
+impl Default for Statics {
+    ghost is_default = { λ statics. statics ≡ replicate 26 (pos 0) };
+
+    fn default() -> Self {
+        Statics::new()
     }
 }

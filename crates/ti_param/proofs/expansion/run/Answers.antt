@@ -2,7 +2,7 @@ use Rattle.std.proofs.Common.{◌≡◌, ap, sym, ◌∙◌, arith, length, true
 use Rattle.std.proofs.lemmas.Result.{err_from_is_err_and}
 use Rattle.ti_param.specs.Meaning.{meaning, top_number, is_zero}
 use Rattle.ti_param.proofs.Laws.{format_runs}
-use Rattle.ti_param.proofs.Running.{literal-done, operation-done, operation-full, if-done, end-done, then-taken, then-skipped, else-skipped, run-end, skipped-le, error-kept}
+use Rattle.ti_param.proofs.Running.{literal-done, operation-done, operation-full, if-done, end-done, then-taken, then-skipped, else-skipped, run-end, error-kept}
 use Rattle.ti_param.proofs.Wrapping.{is-zero, not-zero}
 use Rattle.ti_param.proofs.expansion.run.Goals as goal
 
@@ -36,14 +36,14 @@ loop-place-preserved-in-If c = record {
 }
 
 pub loop-place-smaller-then-pop_number-eq0 : goal.loop-place-smaller-then-pop_number-eq0
-loop-place-smaller-then-pop_number-eq0 c = omega (arith, ap length c.in-Some.ensures.token, ap length c.skip.ensures, skipped-le 0 true c.next_token.new.self.tokens)
+loop-place-smaller-then-pop_number-eq0 c = omega (arith, ap length c.in-Some.ensures.token, c.skip.ensures.fewer)
 
 pub loop-place-preserved-then-pop_number-eq0 : goal.loop-place-preserved-then-pop_number-eq0
 loop-place-preserved-then-pop_number-eq0 c =
     let zero : is_zero (top_number c.loop-place.machine) ≡ true = ap is_zero (sym c.pop_number.ensures.value) ∙ is-zero c.pop_number.result (record { sfits = c.pop_number.type_inv }) c.if-pop_number-eq0.true in
     record {
-      left = then-skipped _ _ _ _ _ _ c.in-Some.ensures.token c.in-Then.is zero c.pop_number.ensures.rest c.skip.ensures ∙ c.loop-place.invariant.left;
-      bound = omega (arith, ap length c.in-Some.ensures.token, ap length c.skip.ensures, skipped-le 0 true c.next_token.new.self.tokens, c.loop-place.invariant.bound);
+      left = then-skipped _ _ _ _ _ _ c.in-Some.ensures.token c.in-Then.is zero c.pop_number.ensures.rest c.skip.ensures.tokens ∙ c.loop-place.invariant.left;
+      bound = omega (arith, ap length c.in-Some.ensures.token, c.skip.ensures.fewer, c.loop-place.invariant.bound);
     }
 
 pub loop-place-preserved-else-pop_number-eq0 : goal.loop-place-preserved-else-pop_number-eq0
@@ -55,12 +55,12 @@ loop-place-preserved-else-pop_number-eq0 c =
     }
 
 pub loop-place-smaller : goal.loop-place-smaller
-loop-place-smaller c = omega (arith, ap length c.in-Some.ensures.token, ap length c.skip-in-Else.ensures, skipped-le 0 false c.next_token.new.self.tokens)
+loop-place-smaller c = omega (arith, ap length c.in-Some.ensures.token, c.skip-in-Else.ensures.fewer)
 
 pub loop-place-preserved : goal.loop-place-preserved
 loop-place-preserved c = record {
-  left = else-skipped _ _ _ _ _ c.in-Some.ensures.token c.in-Else.is c.skip-in-Else.ensures ∙ c.loop-place.invariant.left;
-  bound = omega (arith, ap length c.in-Some.ensures.token, ap length c.skip-in-Else.ensures, skipped-le 0 false c.next_token.new.self.tokens, c.loop-place.invariant.bound);
+  left = else-skipped _ _ _ _ _ c.in-Some.ensures.token c.in-Else.is c.skip-in-Else.ensures.tokens ∙ c.loop-place.invariant.left;
+  bound = omega (arith, ap length c.in-Some.ensures.token, c.skip-in-Else.ensures.fewer, c.loop-place.invariant.bound);
 }
 
 pub returns : goal.returns

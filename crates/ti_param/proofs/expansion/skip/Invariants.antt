@@ -1,4 +1,4 @@
-use Rattle.std.proofs.Common.{◌≡◌, ◌+◌, ◌<◌, ◌^◌, length}
+use Rattle.std.proofs.Common.{◌≡◌, ◌+◌, ◌<◌, ◌^◌, ◌≤◌, length}
 use Rattle.ti_param.specs.Formats.{skipped}
 use Rattle.ti_param.proofs.expansion.skip.Given as goal
 
@@ -6,6 +6,7 @@ use Rattle.ti_param.proofs.expansion.skip.Given as goal
 abbrev pub invariant-loop-token : goal.invariant-loop-token
 invariant-loop-token l = record {
   left : skipped l.level l.to_else l.lexer.tokens ≡ skipped 0 l.to_else l.fn.lexer.tokens;
+  fewer : length l.lexer.tokens ≤ length l.fn.lexer.tokens;
   room : l.level + length l.lexer.tokens < 2 ^ 64;
 }
 
