@@ -1,5 +1,6 @@
 -- Formats, as terminfo(5) has them under "Parameterized Strings": bytes and codes, and conditionals
--- `%? test %t taken %e rest %;` of which at most 64 are open at once. A format has a tree or a place where it is stuck.
+-- `%? test %t taken %e rest %;` of which at most 64 are open at once (the bound is this project's own). A format has a tree
+-- or a place where it is stuck.
 use Rattle.std.specs.Prelude.{◌≡◌, ℕ, zero, suc, ◌+◌, ◌-◌, ◌<◌, Bool, true, false, ◌⊎◌, List, [], ◌∷◌, ◌++◌, length, if◌then◌else◌, ◌==◌, nat_lt, Option, Some, None, ◌↔◌}
 use Rattle.ti_param.specs.declared.acceptor.Phase.{Phase}
 use Rattle.ti_param.specs.declared.acceptor.Phase.TheVariants.{Testing, Taken}
@@ -75,7 +76,8 @@ pub record IsTree (format : List ℕ) (t : Tree) : Type 0 where
 abbrev pub BeginsFormat : List Placed → Type 0
 BeginsFormat tokens = (more : List Placed) × (t : Tree) × Parses (tokens ++ more) t
 
--- the text before the place is whole tokens that begin some format, a `%` stands there, and no code that may stand there begins there
+-- Own, since the manual says nothing of bad formats: the text before the place is whole tokens that begin some format, a `%`
+-- stands there, and no code that may stand there begins there.
 pub record IsStuck (format : List ℕ) (place : ℕ) : Type 0 where
   pub before : List ℕ
   pub after : List ℕ

@@ -129,7 +129,7 @@ popped s = record s { stack = tail_of s.stack }
 abbrev pub with_top : Argument → State → State
 with_top x s = record s { stack = x ∷ s.stack }
 
--- the state with a value put on the stack, unless that has 20 already, which is as many as it holds
+-- the state with a value put on the stack, unless that has 20 already, which is as many as it holds (own)
 abbrev pub pushed : ℕ → Argument → State → Outcome
 pushed place x s = if nat_lt (length s.stack) 20 then Ok (with_top x s) else Err place
 

@@ -26,10 +26,10 @@ pub(crate) enum Phase {
 pub(crate) fn accept(format: &[u8]) -> Result<(), ParamError>
     ensures { MatchResult result (λ _. stuck_place format.now ≡ None) (λ error. IsRefusal error (stuck_place format.now)) }
 {
-    let mut open: ArrayVec<Phase, MOST> = ArrayVec::new();
+    let mut phases: ArrayVec<Phase, MOST> = ArrayVec::new();
     let mut lexer = Lexer::new(format);
     while let Some(Placed { place, token }) = lexer.next_token() {
-        if !advance(&mut open, token) {
+        if !advance(&mut phases, token) {
             return Err(ParamError::BadFormat(place));
         }
     }
@@ -40,29 +40,29 @@ pub(crate) fn accept(format: &[u8]) -> Result<(), ParamError>
 }
 
 /// Whether the token may stand in the open conditionals, which are then those after it.
-fn advance(open: &mut ArrayVec<Phase, MOST>, token: Token) -> bool
-    requires { array_vec_len open.old ≤ 64 }
-    ensures phases { MatchBool result (advanced (reverse open.old.items) token ≡ Some (reverse open.new.items)) (advanced (reverse open.old.items) token ≡ None) }
-    ensures bound { array_vec_len open.new ≤ 64 }
+fn advance(phases: &mut ArrayVec<Phase, MOST>, token: Token) -> bool
+    requires { array_vec_len phases.old ≤ 64 }
+    ensures step { MatchBool result (advanced (reverse phases.old.items) token ≡ Some (reverse phases.new.items)) (advanced (reverse phases.old.items) token ≡ None) }
+    ensures bound { array_vec_len phases.new ≤ 64 }
 {
     match token {
         Token::Literal(_) | Token::Operation(_) => true,
-        Token::If => open.try_push(Phase::Testing).is_ok(),
-        Token::Then => match open.pop() {
+        Token::If => phases.try_push(Phase::Testing).is_ok(),
+        Token::Then => match phases.pop() {
             Some(Phase::Testing) => {
-                open.push(Phase::Taken);
+                phases.push(Phase::Taken);
                 true
             }
             _ => false,
         },
-        Token::Else => match open.pop() {
+        Token::Else => match phases.pop() {
             Some(Phase::Taken) => {
-                open.push(Phase::Testing);
+                phases.push(Phase::Testing);
                 true
             }
             _ => false,
         },
-        Token::EndIf => open.pop().is_some(),
+        Token::EndIf => phases.pop().is_some(),
     }
 }
 
