@@ -1,13 +1,8 @@
 pub mod Accepting
-pub mod Cuts
-pub mod Digits
 pub mod Ending
 pub mod Fronts
 pub mod Laws
-pub mod Layouts
 pub mod Numbers
-pub mod Numerals
-pub mod Paddings
 pub mod Parsing
 pub mod Reading
 pub mod Running

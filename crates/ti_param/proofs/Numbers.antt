@@ -4,9 +4,9 @@ use Rattle.std.specs.Prelude.{Option, Some, None, ◌==◌, ◌&&◌, nat_lt, na
 use Rattle.std.proofs.lemmas.Bool.Decides.{nat_tests, Decides-eqb}
 use Rattle.ti_param.specs.declared.codes.Code.TheVariants.{Constant}
 use Rattle.ti_param.specs.declared.codes.Token.TheVariants.{Operation}
-use Rattle.ti_param.specs.declared.printf.Conversion.{Conversion}
-use Rattle.ti_param.specs.declared.printf.Directive.{Directive}
-use Rattle.ti_param.specs.declared.printf.Flags.{Flags}
+use Rattle.ti_printing.specs.declared.printf.Conversion.{Conversion}
+use Rattle.ti_printing.specs.declared.printf.Directive.{Directive}
+use Rattle.ti_printing.specs.declared.printf.Flags.{Flags}
 use Rattle.ti_param.specs.Codes.{span, is_digit, decimal, decimal_from, number_after, constant_before, begins_zero, row_for, conversions, flags_after, precision_after, directive_after, directive_with}
 use Rattle.ti_param.proofs.Fronts.{span-whole, fails, braced}
 

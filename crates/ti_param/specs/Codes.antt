@@ -10,10 +10,10 @@ use Rattle.ti_param.specs.declared.codes.Token.{Token}
 use Rattle.ti_param.specs.declared.codes.Token.TheVariants.{Operation, If, Then, Else, EndIf}
 use Rattle.ti_param.specs.declared.codes.Variable.{Variable}
 use Rattle.ti_param.specs.declared.codes.Variable.TheVariants.{Dynamic, Static}
-use Rattle.ti_param.specs.declared.printf.Conversion.{Conversion}
-use Rattle.ti_param.specs.declared.printf.Conversion.TheVariants.{Decimal, Octal, LowerHex, UpperHex, Text}
-use Rattle.ti_param.specs.declared.printf.Directive.{Directive}
-use Rattle.ti_param.specs.declared.printf.Flags.{Flags}
+use Rattle.ti_printing.specs.declared.printf.Conversion.{Conversion}
+use Rattle.ti_printing.specs.declared.printf.Conversion.TheVariants.{Decimal, Octal, LowerHex, UpperHex, Text}
+use Rattle.ti_printing.specs.declared.printf.Directive.{Directive}
+use Rattle.ti_printing.specs.declared.printf.Flags.{Flags}
 
 -- ---- rows and runs
 

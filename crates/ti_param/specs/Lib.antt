@@ -2,5 +2,5 @@ pub mod Codes
 pub mod Expansion
 pub mod Formats
 pub mod Meaning
-pub mod Padding
-pub mod Printf
+pub use Rattle.ti_printing.specs.Padding
+pub use Rattle.ti_printing.specs.Printf

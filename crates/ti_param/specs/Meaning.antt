@@ -10,11 +10,11 @@ use Rattle.ti_param.specs.declared.codes.Operator.{Operator}
 use Rattle.ti_param.specs.declared.codes.Operator.TheVariants.{Add, Subtract, Multiply, Divide, Remainder, BitAnd, BitOr, BitXor, Equal, Greater, Less, And, Or}
 use Rattle.ti_param.specs.declared.codes.Variable.{Variable}
 use Rattle.ti_param.specs.declared.codes.Variable.TheVariants.{Dynamic, Static}
-use Rattle.ti_param.specs.declared.printf.Directive.{Directive}
+use Rattle.ti_printing.specs.declared.printf.Directive.{Directive}
 use Rattle.ti_param.specs.declared.values.Value.{Value}
 use Rattle.ti_param.specs.declared.values.Value.TheVariants.{Number, Text}
 use Rattle.ti_param.specs.Formats.{Tree, nothing, byte, code, group, choice}
-use Rattle.ti_param.specs.Printf.{printed}
+use Rattle.ti_printing.specs.Printf.{printed}
 
 -- ---- values
 

@@ -4,8 +4,8 @@
 ghost use Rattle.std.specs.Prelude.{◌≡◌, ◌-◌, ◌^◌, ◌<◌, min, option_map, if◌then◌else◌};
 ghost use Rattle.ti_param.specs.Codes.{OneCode, token_after, letter_after, parameter_after, store_after, fetch_after, byte_after, number_after, directive_after, directive_with, precision_after, flags_after, with_flag, span, is_digit, decimal, row_for, operators, simple_tokens, conversions, variable_named, parameter_numbered, begins_zero, is_flag, flags_of};
 
-use crate::printf::{Conversion, Directive, Flags};
 use std::marker::Model;
+use ti_printing::printf::{Conversion, Directive, Flags};
 
 /// A variable's letter, as its place in the alphabet.
 #[derive(Clone, Copy)]

@@ -6,9 +6,8 @@
 //! - `codes`: reading one code of a format; `lexer`: a format as its tokens.
 //! - `acceptor`: whether a format is whole, before any of it is run.
 //! - `machine`, `arithmetic`: the stack, the variables, and what each code does to them.
-//! - `printf`: what one of the printf forms of a parameter string prints.
-//! - `padding`: a text with its padding as pad bytes, at a line's speed.
-//! - `room`: appending to a vector in room that was made before.
+//!
+//! The crate `ti_printing` below it has what a printf form prints, and padding, whose call is public here too.
 //!
 //! A format is a tree: `specs/Formats.antt` has the grammar, `specs/Codes.antt` the table of codes and
 //! `specs/Meaning.antt` what a tree does. `one_code`, `one_reading` and `reading_is_computed` are laws of these.
@@ -21,14 +20,11 @@ mod errors;
 mod expansion;
 mod lexer;
 mod machine;
-pub mod padding;
-pub mod printf;
-mod room;
 mod values;
 
 pub use acceptor::{one_reading, reading_is_computed};
 pub use codes::one_code;
 pub use errors::ParamError;
 pub use expansion::expand;
-pub use padding::{Line, PadError, pad};
+pub use ti_printing::{Line, PadError, pad};
 pub use values::{Statics, Value};

@@ -6,11 +6,11 @@ ghost use Rattle.ti_param.specs.Expansion.{Ran};
 use crate::arithmetic::{character, negate, operate, turn_bits, wrapped_length};
 use crate::codes::{Code, Variable};
 use crate::errors::ParamError;
-use crate::printf::{self, Directive};
 use crate::values::{Statics, Value};
 use arrayvec::ArrayVec;
 use std::alloc::Global;
 use std::marker::Model;
+use ti_printing::printf::{self, Directive};
 
 /// How many values the stack holds.
 const DEPTH: usize = 20;

@@ -1,0 +1,5 @@
+pub mod Cuts
+pub mod Digits
+pub mod Layouts
+pub mod Numerals
+pub mod Paddings

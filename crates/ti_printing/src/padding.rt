@@ -1,0 +1,268 @@
+//! Padding: a capability's text as bytes for the terminal, with pad bytes at the line's speed.
+ghost use Rattle.std.specs.Prelude.{◌≡◌, ◌+◌, ◌<◌, ◌≤◌, ◌++◌, ◌↔◌, length, IfOk, IfSome, SomeIff, MatchOption, vec_len, vec_capacity};
+ghost use Rattle.std.specs.Iterator.{YieldsFirst, item_count};
+ghost use Rattle.ti_printing.specs.Padding.{OneCut, padded, padding_of, parts_of, pad_count, padding_at, after_byte, is_decimal, digits_len, milliseconds_at, tenths_at, mark_at, marks_at};
+
+#[cfg(test)]
+mod tests;
+
+use crate::room::fill;
+use std::alloc::{AllocError, Global};
+use thiserror::Error;
+
+/// The line to the terminal.
+#[derive(Clone, Copy, Debug, PartialEq, Eq)]
+pub struct Line {
+    /// The speed in bits a second; a byte takes ten bits.
+    pub rate: u32,
+    /// The terminal stops the line by itself, so that only mandatory padding is written.
+    pub xon: bool,
+    /// The least rate at which padding is written.
+    pub pad_from: u32,
+    /// The byte that passes the time; None where the terminal has none, and no padding is written.
+    pub pad_byte: Option<u8>,
+}
+
+/// Why a text was not padded.
+#[derive(Clone, Copy, Debug, PartialEq, Eq, Error)]
+pub enum PadError {
+    /// More than 65,536 pad bytes.
+    #[error("more than 65536 pad bytes")]
+    TooMuch,
+    /// The room for the padded text was refused.
+    #[error("out of memory")]
+    Memory,
+}
+
+/// The most pad bytes of one text.
+const MOST_PAD_BYTES: u128 = 65536;
+
+impl From<AllocError> for PadError {
+    ghost use Rattle.ti_printing.specs.declared.padding.PadError.TheVariants.{Memory};
+
+    ghost from_gives = { λ _ e. e ≡ Memory };
+
+    fn from(_error: AllocError) -> PadError {
+        PadError::Memory
+    }
+}
+
+/// The text with each padding `$<..>` as pad bytes, where it takes effect on `lines` lines. See "Delays
+/// and Padding" in terminfo(5).
+///
+/// # Errors
+///
+/// `TooMuch` where the text asks for more than 65,536 pad bytes, which is found before any room is made;
+/// `Memory` where the room was refused.
+pub fn pad(alloc: Global, text: &[u8], lines: u32, line: &Line) -> Result<Vec<u8>, PadError>
+    ensures ok { IfOk result (λ out. out.items ≡ padded text.now lines line.now) }
+    ensures too_much { (result ≡ Err PadError.TooMuch) ↔ (65536 < padding_of text.now lines line.now) }
+{
+    let Some(pads) = pads_in(text, lines, line) else {
+        return Err(PadError::TooMuch);
+    };
+    let mut out = Vec::with_capacity(alloc, text.len() + pads)?;
+    write(&mut out, text, lines, line);
+    Ok(out)
+}
+
+/// The law of the cut that `pad` rests on: each text is cut from the left in exactly one way, into paddings
+/// and bytes at which none begins.
+pub fn one_cut()
+    ensures { OneCut }
+{}
+
+/// A time, and when it is waited.
+#[derive(Clone, Copy)]
+struct Padding {
+    /// Tenths of a millisecond.
+    tenths: u32,
+    /// `*`: the time is for each line.
+    proportional: bool,
+    /// `/`: the padding is written under `xon` and at any rate.
+    mandatory: bool,
+}
+
+/// A part of a text.
+#[derive(Clone, Copy)]
+enum Part {
+    /// A byte at which no padding begins.
+    Literal(u8),
+    Delay(Padding),
+}
+
+/// The parts of a text, from the left.
+#[derive(Clone, Copy)]
+struct Parts<'a> {
+    rest: &'a [u8],
+}
+
+impl<'a> Iterator for Parts<'a> {
+    type Item = Part;
+
+    ghost next_gives = { YieldsFirst (λ s. parts_of s.rest.now) };
+
+    ghost remaining = { item_count (λ s. parts_of s.rest.now) };
+
+    fn next(&mut self) -> Option<Part> {
+        if let Some((padding, rest)) = padding_at(self.rest) {
+            self.rest = rest;
+            return Some(Part::Delay(padding));
+        }
+        let [first, rest @ ..] = self.rest else {
+            return None;
+        };
+        self.rest = rest;
+        Some(Part::Literal(*first))
+    }
+}
+
+/// How many pad bytes the text asks for, where they are not too many.
+#[tactic(auto, unfolding(crate::specs::Padding::padding_of))]
+fn pads_in(text: &[u8], lines: u32, line: &Line) -> Option<usize>
+    ensures { SomeIff result (padding_of text.now lines line.now ≤ 65536) (padding_of text.now lines line.now) }
+{
+    let mut total = 0;
+    let parts = Parts { rest: text };
+    for part in parts {
+        if let Part::Delay(padding) = part {
+            total += pads_for(padding, lines, line);
+        }
+        if total > MOST_PAD_BYTES {
+            return None;
+        }
+    }
+    Some(total as usize)
+}
+
+/// Appends the padded text, for which the caller has made room.
+#[tactic(auto, using(crate::proofs::Cuts::parts_fit), unfolding(crate::specs::Padding::padding_of, crate::specs::Padding::padded))]
+fn write(out: &mut Vec<u8>, text: &[u8], lines: u32, line: &Line)
+    requires { vec_len out.old + length text.now + padding_of text.now lines line.now ≤ vec_capacity out.old }
+    ensures { out.new.items ≡ out.old.items ++ padded text.now lines line.now }
+{
+    let parts = Parts { rest: text };
+    for part in parts {
+        match part {
+            Part::Literal(byte) => out.push_reserved(byte),
+            Part::Delay(padding) => {
+                let count = pads_for(padding, lines, line) as usize;
+                fill(out, line.pad_byte.unwrap_or(0), count);
+            }
+        }
+    }
+}
+
+/// How many pad bytes a padding is written as.
+fn pads_for(padding: Padding, lines: u32, line: &Line) -> u128
+    ensures { result ≡ pad_count lines line.now padding }
+{
+    let wanted = padding.mandatory || (!line.xon && line.pad_from <= line.rate);
+    if line.pad_byte.is_none() || !wanted {
+        return 0;
+    }
+    let each = u128::from(padding.tenths);
+    let time = if padding.proportional {
+        each * u128::from(lines)
+    } else {
+        each
+    };
+    (time * u128::from(line.rate)).div_ceil(100_000)
+}
+
+/// The padding that the text begins with, and what follows it.
+#[tactic(auto, unfolding(crate::specs::Padding::padding_at))]
+fn padding_at(text: &[u8]) -> Option<(Padding, &[u8])>
+    ensures { MatchOption result (padding_at text.now ≡ None) (λ found. padding_at text.now ≡ Some (found.0, found.1.now)) }
+{
+    let opened = after_byte(text, b'$')?;
+    let inner = after_byte(opened, b'<')?;
+    let (whole, rest) = milliseconds_at(inner)?;
+    let (part, rest) = tenths_at(rest);
+    let (proportional, mandatory, rest) = marks_at(rest);
+    let rest = after_byte(rest, b'>')?;
+    let tenths = 10 * whole + part;
+    let padding = Padding {
+        tenths,
+        proportional,
+        mandatory,
+    };
+    Some((padding, rest))
+}
+
+/// What follows the byte, where the text begins with it.
+fn after_byte(text: &[u8], byte: u8) -> Option<&[u8]>
+    ensures { MatchOption result (after_byte byte text.now ≡ None) (λ rest. after_byte byte text.now ≡ Some rest.now) }
+{
+    let (first, rest) = text.split_first()?;
+    if *first == byte { Some(rest) } else { None }
+}
+
+/// The number of one to five digits that the text begins with, and what follows it.
+fn milliseconds_at(text: &[u8]) -> Option<(u32, &[u8])>
+    ensures value { MatchOption result (milliseconds_at text.now ≡ None) (λ found. milliseconds_at text.now ≡ Some (found.0, found.1.now)) }
+    ensures bound { IfSome result (λ found. found.0 < 100000) }
+{
+    let (digits, rest) = text.split_at(digits_len(text));
+    if digits.is_empty() {
+        return None;
+    }
+    let mut whole = 0;
+    for digit in digits {
+        whole = 10 * whole + u32::from(*digit - b'0');
+    }
+    Some((whole, rest))
+}
+
+/// How many of the first five bytes, from the left, are digits.
+fn digits_len(text: &[u8]) -> usize
+    ensures { result ≡ digits_len 5 text.now }
+{
+    let mut len = 0;
+    while len < 5 && len < text.len() && is_decimal(text[len]) {
+        len += 1;
+    }
+    len
+}
+
+/// The digit after a `.`, or 0, and what follows.
+fn tenths_at(text: &[u8]) -> (u32, &[u8])
+    ensures value { (result.0, result.1.now) ≡ tenths_at text.now }
+    ensures bound { result.0 < 10 }
+{
+    match text {
+        [b'.', digit @ b'0'..=b'9', rest @ ..] => (u32::from(*digit - b'0'), rest),
+        _ => (0, text),
+    }
+}
+
+/// Whether `*` and `/` stand there, and what follows.
+fn marks_at(text: &[u8]) -> (bool, bool, &[u8])
+    ensures { (result.0, result.1, result.2.now) ≡ marks_at text.now }
+{
+    let (star, rest) = mark_at(text, b'*');
+    let (slash, rest) = mark_at(rest, b'/');
+    let (star, rest) = if star {
+        (true, rest)
+    } else {
+        mark_at(rest, b'*')
+    };
+    (star, slash, rest)
+}
+
+/// Whether the byte stands there, and what follows.
+fn mark_at(text: &[u8], byte: u8) -> (bool, &[u8])
+    ensures { (result.0, result.1.now) ≡ mark_at byte text.now }
+{
+    match after_byte(text, byte) {
+        Some(rest) => (true, rest),
+        None => (false, text),
+    }
+}
+
+/// Whether the byte is a decimal digit.
+fn is_decimal(byte: u8) -> bool
+    ensures { result ≡ is_decimal byte }
+{
+    matches!(byte, b'0'..=b'9')
+}
