@@ -1,4 +1,4 @@
--- Where the faults of a source stand.
+-- Where the faults of a source stand (own).
 use Rattle.std.specs.Prelude.{ℕ, ◌<◌}
 use Rattle.ti_base.specs.Faults.{SourceFault}
 use Rattle.ti_base.specs.Usable.{IsLine}

@@ -28,10 +28,12 @@ pub data EntryState : Type 0 where
   oversized : EntryState
   written : List ℕ → EntryState
 
+-- what becomes of a block, given the mentions that its expansion gives, if it resolves
 abbrev pub state_with : Reading → Option (List Mention) → EntryState
 state_with block None = unresolved
 state_with block (Some mentions) = if is_too_large block mentions then oversized else written (image_of block mentions)
 
+-- what becomes of a block of the list
 abbrev pub state_of : List Reading → Reading → EntryState
 state_of blocks block = state_with block (expansion blocks block)
 

@@ -15,6 +15,7 @@ pub data Change : Type 0 where
   replacement : ℕ → List ℕ → Change
   removal : ℕ → Change
 
+-- an edit that holds its text in memory, as plain data
 abbrev pub change_of : Edit → Change
 change_of (edit.Insert at text) = insertion at text.now
 change_of (edit.Replace at text) = replacement at text.now

@@ -16,12 +16,14 @@ pub record Mention : Type 0 where
   pub capability : Capability
   pub says : Content
 
+-- whether two kinds of capabilities are one
 abbrev pub same_kind : Kind → Kind → Bool
 same_kind Flag Flag = true
 same_kind Number Number = true
 same_kind Text Text = true
 same_kind _ _ = false
 
+-- whether two capabilities are one: of one kind, and at one place in its list
 abbrev pub same_capability : Capability → Capability → Bool
 same_capability a b = same_kind a.kind b.kind && nat_eq a.index b.index
 

@@ -19,7 +19,7 @@ pub record SourceFault : Type 0 where
   pub code : Code
   pub detail : Option (List ℕ)
 
--- a fault of the code, as plain data
+-- a fault that holds its detail in memory, as plain data
 abbrev pub fault_seen : Fault → SourceFault
 fault_seen fault = record { block = fault.block; line = fault.line; code = fault.code; detail = option_map rc_slice_items fault.detail }
 
@@ -67,10 +67,11 @@ distinct names = distinct_after [] names
 abbrev pub is_owned_before : List Reading → ℕ → List ℕ → Bool
 is_owned_before blocks at name = option_map_or (λ place. nat_lt place at) (owner blocks name) false
 
--- one for each lookup name that an earlier block owns
+-- the fault of a lookup name that an earlier block owns
 abbrev pub name_fault : ℕ → List ℕ → SourceFault
 name_fault at name = record { block = at; line = 1; code = DuplicateName; detail = Some name }
 
+-- one for each lookup name that an earlier block owns
 abbrev pub name_faults : List Reading → ℕ → List (List ℕ) → List SourceFault
 name_faults blocks at names = map (name_fault at) (filter (is_owned_before blocks at) (distinct names))
 
@@ -84,11 +85,12 @@ abbrev pub fault_of_item : List Reading → ℕ → ℕ → Option (List ℕ) �
 fault_of_item blocks at line None = []
 fault_of_item blocks at line (Some name) = fault_of_use at line name (use_fault blocks at name)
 
--- the front faults of items before that ordinal, and the rest
+-- the faults at the front that are of items before that ordinal
 abbrev pub faults_before : ℕ → List ReadFault → List ReadFault
 faults_before ordinal [] = []
 faults_before ordinal (fault ∷ faults) = if nat_lt fault.ordinal ordinal then fault ∷ faults_before ordinal faults else []
 
+-- the faults that follow those: from the first of an item at that ordinal or later on
 abbrev pub faults_from : ℕ → List ReadFault → List ReadFault
 faults_from ordinal [] = []
 faults_from ordinal (fault ∷ faults) = if nat_lt fault.ordinal ordinal then faults_from ordinal faults else fault ∷ faults

@@ -1,4 +1,4 @@
--- What a database keeps of its texts: each block as it is read, and what became of it.
+-- What a database keeps of its texts (own): each block as it is read, and what became of it.
 use Rattle.std.specs.Prelude.{ℕ, ◌≡◌, ◌≤◌, List, length, map, All}
 use Rattle.ti_source.specs.Blocks.{OneBlock}
 use Rattle.ti_source.specs.Reading.{Reading}

@@ -17,6 +17,7 @@ abbrev pub shown_detail : List ℕ → List ℕ
 shown_detail [] = 45 ∷ []
 shown_detail (byte ∷ bytes) = map shown_byte (byte ∷ bytes)
 
+-- a detail with a space before it, nothing where there is none
 abbrev pub detail_text : Option (List ℕ) → List ℕ
 detail_text None = []
 detail_text (Some detail) = 32 ∷ shown_detail detail
@@ -37,6 +38,7 @@ lines_before texts at = sum_by lines_in (take at texts)
 abbrev pub line_number : List (List ℕ) → ℕ → SourceFault → ℕ
 line_number texts first fault = first + lines_before texts fault.block + fault.line - 1
 
+-- the report's line of a fault
 abbrev pub reported : List (List ℕ) → ℕ → SourceFault → List ℕ
 reported texts first fault = fault_line (line_number texts first fault) fault.code fault.detail
 

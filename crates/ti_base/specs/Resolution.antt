@@ -1,4 +1,4 @@
--- What the passes over a source keep: a table for each block that has resolved so far, and why another has none yet.
+-- What the passes over a source keep (own): a table for each block that has resolved so far, and why another has none yet.
 use Rattle.std.specs.Prelude.{ℕ, suc, ◌≡◌, ◌⊎◌, ◌<◌, List, [], ◌∷◌, length, Option, Some, None, option_and_then, slice_get, Bool, true, false}
 use Rattle.std.specs.Option.{option_or}
 use Rattle.ti_caps.specs.Tables.{Capability, IsCapability}

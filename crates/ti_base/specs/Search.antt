@@ -1,4 +1,4 @@
--- What the search for a ring keeps.
+-- What the search for a ring keeps (own).
 use Rattle.std.specs.Prelude.{ℕ, ◌≡◌, ◌<◌, List, ◌++◌, length, Some, slice_get}
 use Rattle.ti_source.specs.Reading.{Reading, ReadItem}
 use Rattle.ti_base.specs.Owner.{owner}
