@@ -35,7 +35,8 @@ def lines_of(path):
 
 
 def sentence(comment):
-    text = " ".join(re.sub(r"^--\s?", "", it.strip()).strip() for it in comment).strip()
+    rows = (re.sub(r"^--   (\S.*?)\s{2,}(.*)$", r"-- `\1`: \2;", it.strip()) for it in comment)
+    text = " ".join(re.sub(r"^--\s?", "", it).strip() for it in rows).strip()
     text = text.replace("|", "\\|")
     return text[:1].upper() + text[1:] if text else ""
 
