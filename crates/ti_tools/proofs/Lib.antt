@@ -1,3 +1,7 @@
 pub mod Asked
 pub mod Empty
+pub mod Ending
+pub mod Filing
+pub mod Holding
 pub mod Placed
+pub mod Refusing

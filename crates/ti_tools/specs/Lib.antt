@@ -2,7 +2,11 @@
 pub mod Arguments
 pub mod Commands
 pub mod Counted
+pub mod EntryFiles
+pub mod Holding
 pub mod Jobs
 pub mod MemTree
 pub mod Placing
+pub mod Sources
+pub mod Tic
 pub mod Tree

@@ -1,4 +1,6 @@
 //! Worked command lines and trees, with answers from the manuals and by hand.
+mod compiling;
+
 use crate::{File, Job, MemTree, Tree, UsageError, job, place};
 use std::alloc::{AllocError, Global};
 use std::test::Fail;

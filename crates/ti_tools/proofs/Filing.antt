@@ -1,0 +1,166 @@
+-- The files of entries, name by name and block by block.
+use Rattle.std.proofs.Common.{◌≡◌, ℕ, suc, ◌+◌, ◌<◌, Bool, true, false, ◌&&◌, not, List, [], ◌∷◌, ◌++◌, length, map, filter, take, drop, get_or, All, None, Some, refl, sym, ap, ap₂, ◌∙◌, subst, inl, inr, arith}
+use Rattle.std.proofs.lemmas.Bool.{and_parts, cases_Bool}
+use Rattle.std.proofs.lemmas.List.{append-nil, append_assoc, get_or-map, length-map, take-map, take_more}
+use Rattle.std.proofs.lemmas.List.Elements.{All-get_or, All-nil, All-tail, All-weaker}
+use Rattle.std.proofs.Math.Seq.{drop-cons}
+use Rattle.ti_source.specs.Blocks.{OneBlock}
+use Rattle.ti_source.specs.Header.{IsLookupName, IsNameByte}
+use Rattle.ti_source.specs.Parsing.{Parses, ReadsHeader, bad_header, good_header, long_header, parsed}
+use Rattle.ti_source.specs.Reading.{ReadFault, Reading}
+use Rattle.ti_base.specs.Compiled.{compiled}
+use Rattle.ti_base.specs.Owner.{is_among, readings}
+use Rattle.ti_base.specs.Reaching.{is_owner}
+use Rattle.ti_base.specs.Faults.{distinct_after}
+use Rattle.ti_tools.specs.Tree.{Entry}
+use Rattle.ti_tools.specs.EntryFiles.{IsAsciiName, files_at, files_for, files_from, files_of, own_names, path_of}
+
+-- the files for names that stand behind others
+abbrev pub files_behind : List ℕ → List ℕ → List Reading → ℕ → List (List ℕ) → List (List ℕ) → List Entry
+files_behind dir image blocks at before rest =
+    files_for dir image (filter (λ name. is_owner blocks name at) (distinct_after before rest))
+
+-- the files for the names from that place on
+abbrev pub files_left : List ℕ → List ℕ → List Reading → ℕ → List (List ℕ) → ℕ → List Entry
+files_left dir image blocks at names index = files_behind dir image blocks at (take index names) (drop index names)
+
+files_behind-known : (dir image : List ℕ) (blocks : List Reading) (at : ℕ) (before : List (List ℕ)) (name : List ℕ) (rest : List (List ℕ))
+    → is_among name before ≡ true → files_behind dir image blocks at before (name ∷ rest) ≡ files_behind dir image blocks at (before ++ name ∷ []) rest
+files_behind-known dir image blocks at before name rest known = rw known
+
+files_behind-other : (dir image : List ℕ) (blocks : List Reading) (at : ℕ) (before : List (List ℕ)) (name : List ℕ) (rest : List (List ℕ))
+    → is_among name before ≡ false → is_owner blocks name at ≡ false
+    → files_behind dir image blocks at before (name ∷ rest) ≡ files_behind dir image blocks at (before ++ name ∷ []) rest
+files_behind-other dir image blocks at before name rest new other = rw (new, other)
+
+files_behind-own : (dir image : List ℕ) (blocks : List Reading) (at : ℕ) (before : List (List ℕ)) (name : List ℕ) (rest : List (List ℕ))
+    → is_among name before ≡ false → is_owner blocks name at ≡ true
+    → files_behind dir image blocks at before (name ∷ rest) ≡ (path_of dir name, image) ∷ files_behind dir image blocks at (before ++ name ∷ []) rest
+files_behind-own dir image blocks at before name rest new own = rw (new, own)
+
+-- the names from a place on are the name there and those behind it
+names_from : (names : List (List ℕ)) (index : ℕ) (name : List ℕ) → index < length names → name ≡ get_or names index name
+    → drop index names ≡ name ∷ drop (index + 1) names
+names_from names index name within is =
+    let next : suc index ≡ index + 1 = omega arith in
+    drop-cons names index name within ∙ ap₂ (λ n k. n ∷ drop k names) (sym is) next
+
+names_to : (names : List (List ℕ)) (index : ℕ) (name : List ℕ) → index < length names → name ≡ get_or names index name
+    → take (index + 1) names ≡ take index names ++ name ∷ []
+names_to names index name within is = take_more names index name within ∙ ap (λ n. take index names ++ n ∷ []) (sym is)
+
+-- the name there has no file of its own, since it is not new or another block's
+pub files_left-none : (dir image : List ℕ) (blocks : List Reading) (at : ℕ) (names : List (List ℕ)) (index : ℕ) (name : List ℕ)
+    → index < length names → name ≡ get_or names index name
+    → (not (is_among name (take index names)) && is_owner blocks name at) ≡ false
+    → files_left dir image blocks at names index ≡ files_left dir image blocks at names (index + 1)
+files_left-none dir image blocks at names index name within is none =
+    let front = take index names in
+    let rest = drop (index + 1) names in
+    let step : files_behind dir image blocks at front (name ∷ rest) ≡ files_behind dir image blocks at (front ++ name ∷ []) rest =
+    elim (cases_Bool (is_among name front)) [
+      | inl known ↦ files_behind-known dir image blocks at front name rest known
+      | inr new ↦ let other : is_owner blocks name at ≡ false = rw new at none in files_behind-other dir image blocks at front name rest new other
+    ] in
+    ap (files_behind dir image blocks at front) (names_from names index name within is)
+    ∙ step ∙ ap (λ names. files_behind dir image blocks at names rest) (sym (names_to names index name within is))
+
+-- the name there has a file
+pub files_left-one : (dir image : List ℕ) (blocks : List Reading) (at : ℕ) (names : List (List ℕ)) (index : ℕ) (name : List ℕ)
+    → index < length names → name ≡ get_or names index name → (not (is_among name (take index names)) && is_owner blocks name at) ≡ true
+    → files_left dir image blocks at names index ≡ (path_of dir name, image) ∷ files_left dir image blocks at names (index + 1)
+files_left-one dir image blocks at names index name within is one =
+    let front = take index names in
+    let rest = drop (index + 1) names in
+    let parts = and_parts (not (is_among name front)) (is_owner blocks name at) one in
+    let new : is_among name front ≡ false = elim (cases_Bool (is_among name front)) [
+      | inl known ↦ let bad : false ≡ true = rw known at parts.0 in absurd (cc)
+      | inr new ↦ new
+    ] in
+    ap (files_behind dir image blocks at front) (names_from names index name within is)
+    ∙ files_behind-own dir image blocks at front name rest new parts.1
+    ∙ ap (λ names. (path_of dir name, image) ∷ files_behind dir image blocks at names rest) (sym (names_to names index name within is))
+
+-- a name that is held in memory, among the names as bytes
+held_name : {A : Type 0} (f : A → List ℕ) (items : List A) (index : ℕ) (item : A) (bytes : List ℕ)
+    → index < length items → item ≡ get_or items index item → bytes ≡ f item → bytes ≡ get_or (map f items) index bytes
+held_name f items index item bytes within is_item is_bytes =
+    is_bytes ∙ ap f is_item ∙ sym (get_or-map f items index item bytes within)
+
+-- the name at a place among names that are held in memory
+pub record IsNameAt {A : Type 0} (f : A → List ℕ) (items : List A) (index : ℕ) (name : List ℕ) : Type 0 where
+  pub within : index < length (map f items)
+  pub is : name ≡ get_or (map f items) index name
+  pub front : map f (take index items) ≡ take index (map f items)
+
+pub name_at : {A : Type 0} (f : A → List ℕ) (items : List A) (index : ℕ) (item : A) (name : List ℕ)
+    → index < length items → item ≡ get_or items index item → name ≡ f item → IsNameAt f items index name
+name_at f items index item name within is_item is_name = record {
+  within = rw (length-map items f) within;
+  is = held_name f items index item name within is_item is_name;
+  front = sym (take-map f index items);
+}
+
+module _ {A : Type 0} (f : A → List ℕ) (dir image : List ℕ) (blocks : List Reading) (at : ℕ) (items : List A) (index : ℕ) (name : List ℕ)
+    (b : Bool) (place : IsNameAt f items index name) (test : b ≡ (not (is_among name (map f (take index items))) && is_owner blocks name at)) where
+  pub left_by_none : b ≡ false → files_left dir image blocks at (map f items) index ≡ files_left dir image blocks at (map f items) (index + 1)
+  left_by_none none = files_left-none dir image blocks at (map f items) index name place.within place.is (rw (← place.front) (sym test ∙ none))
+
+  pub left_by_one : b ≡ true → files_left dir image blocks at (map f items) index ≡ (path_of dir name, image) ∷ files_left dir image blocks at (map f items) (index + 1)
+  left_by_one one = files_left-one dir image blocks at (map f items) index name place.within place.is (rw (← place.front) (sym test ∙ one))
+
+pub All-at : {A : Type 0} (f : A → List ℕ) (items : List A) (index : ℕ) (name : List ℕ) → IsNameAt f items index name
+    → All IsAsciiName (map f items) → IsAsciiName name
+All-at f items index name place all = subst IsAsciiName (sym place.is) (All-get_or IsAsciiName (map f items) index name place.within all)
+
+pub files_joined : (old new : List Entry) (file : Entry) (left next wanted : List Entry) → new ≡ old ++ file ∷ [] → left ≡ file ∷ next
+    → old ++ left ≡ wanted → new ++ next ≡ wanted
+files_joined old new file left next wanted is_new is_left whole =
+    rw is_new (append_assoc old (file ∷ []) next ∙ ap (λ files. old ++ files) (sym is_left) ∙ whole)
+
+-- The files of the blocks before `at` were made, and `rest` are the blocks from there on.
+pub record IsFiledTo (dir : List ℕ) (texts : List (List ℕ)) (files : List Entry) (at : ℕ) (rest : List (List ℕ)) : Type 0 where
+  pub joined : files ++ files_from dir texts at rest ≡ files_of dir texts
+  pub count : at + length rest ≡ length texts
+  pub single : All OneBlock rest
+
+pub filed_to_start : (dir : List ℕ) (texts : List (List ℕ)) → All OneBlock texts → IsFiledTo dir texts [] 0 texts
+unfolding files_of
+filed_to_start dir texts single = record { joined = refl; count = omega arith; single = single }
+
+pub filed_to_next : (dir : List ℕ) (texts : List (List ℕ)) (old new : List Entry) (at : ℕ) (text : List ℕ) (rest : List (List ℕ))
+    → IsFiledTo dir texts old at (text ∷ rest) → new ≡ old ++ files_at dir texts at text → IsFiledTo dir texts new (at + 1) rest
+filed_to_next dir texts old new at text rest filed is_new = record {
+  joined =
+      let next : suc at ≡ at + 1 = omega arith in
+      ap (λ files. files ++ files_from dir texts (at + 1) rest) is_new
+      ∙ append_assoc old (files_at dir texts at text) (files_from dir texts (at + 1) rest)
+      ∙ ap (λ k. old ++ (files_at dir texts at text ++ files_from dir texts k rest)) (sym next) ∙ filed.joined;
+  count = let c : at + length (text ∷ rest) ≡ length texts = filed.count in omega (arith, c);
+  single = All-tail OneBlock text rest filed.single;
+}
+
+-- a block without an entry has no files
+pub files_at-none : (dir : List ℕ) (texts : List (List ℕ)) (at : ℕ) (text : List ℕ) (old : List Entry) → compiled texts at ≡ None
+    → old ≡ old ++ files_at dir texts at text
+files_at-none dir texts at text old none = rw none (sym (append-nil old))
+
+pub files_at-some : (dir : List ℕ) (texts : List (List ℕ)) (at : ℕ) (text image : List ℕ) (names : List (List ℕ)) (old new : List Entry)
+    → compiled texts at ≡ Some image → names ≡ (parsed text).names → new ≡ old ++ files_for dir image (own_names (readings texts) at names)
+    → new ≡ old ++ files_at dir texts at text
+files_at-some dir texts at text image names old new some is_names is_new =
+    is_new ∙ rw some (ap (λ ns. old ++ files_for dir image (own_names (readings texts) at ns)) is_names)
+
+-- ---- lookup names are ASCII
+
+IsAsciiName-lookup : (name : List ℕ) → IsLookupName name → IsAsciiName name
+IsAsciiName-lookup [] n = absurd (n.some refl)
+IsAsciiName-lookup (x ∷ xs) n = (omega arith, All-weaker IsNameByte (λ byte. byte < 128) (λ b p. omega arith) (x ∷ xs) n.bytes)
+
+names_read : (field : List ℕ) (names : List (List ℕ)) (faults : List ReadFault) → ReadsHeader field names faults → All IsAsciiName names
+names_read _ _ _ (bad_header field bad) = All-nil IsAsciiName
+names_read _ _ _ (long_header field names header long) = All-weaker IsLookupName IsAsciiName IsAsciiName-lookup names header.lookup
+names_read _ _ _ (good_header field names header short) = All-weaker IsLookupName IsAsciiName IsAsciiName-lookup names header.lookup
+
+pub names_ascii : (block : List ℕ) (reading : Reading) → Parses block reading → All IsAsciiName reading.names
+names_ascii block reading parses = names_read reading.field reading.names parses.of_header parses.reads_header

@@ -1,0 +1,10 @@
+use Rattle.std.proofs.Common.{◌≡◌, ◌++◌, map, length}
+use Rattle.ti_source.specs.Blocks.{blocks_of}
+use Rattle.ti_base.specs.Edits.{change_of}
+use Rattle.ti_tools.specs.Holding.{insertions_from}
+use Rattle.ti_tools.proofs.held.insertions.Given as goal
+
+-- the edits so far, and those of the blocks that are left, are those of all blocks
+abbrev pub invariant-loop-text : goal.invariant-loop-text
+invariant-loop-text l =
+    map change_of l.edits.items ++ insertions_from (length l.edits.items) l.cut.blocks ≡ insertions_from 0 (blocks_of 10 l.source)

@@ -1,0 +1,44 @@
+-- The files of compiled entries (term(5), "Storage location"): one for each lookup name that a block owns, below a folder
+-- of the name's first byte.
+use Rattle.std.specs.Prelude.{ℕ, suc, ◌<◌, All, length, List, [], ◌∷◌, ◌++◌, map, filter, take, Option, Some, None}
+use Rattle.ti_source.specs.Reading.{Reading}
+use Rattle.ti_source.specs.Parsing.{parsed}
+use Rattle.ti_base.specs.Owner.{readings}
+use Rattle.ti_base.specs.Reaching.{is_owner}
+use Rattle.ti_base.specs.Faults.{distinct}
+use Rattle.ti_base.specs.Compiled.{compiled}
+use Rattle.ti_tools.specs.Tree.{Entry}
+
+-- where the entry of a name stands below a folder
+abbrev pub path_of : List ℕ → List ℕ → List ℕ
+path_of dir name = dir ++ 47 ∷ take 1 name ++ 47 ∷ name
+
+-- those of the names that belong to the block at that position, each once
+abbrev pub own_names : List Reading → ℕ → List (List ℕ) → List (List ℕ)
+own_names blocks at names = filter (λ name. is_owner blocks name at) (distinct names)
+
+-- a file of an entry for each of the names
+abbrev pub files_for : List ℕ → List ℕ → List (List ℕ) → List Entry
+files_for dir image names = map (λ name. (path_of dir name, image)) names
+
+-- the files of a block's entry, if it has one
+abbrev pub files_of_entry : List ℕ → List (List ℕ) → Option (List ℕ) → List Entry
+files_of_entry dir names None = []
+files_of_entry dir names (Some image) = files_for dir image names
+
+-- the files of the block of this text at that position of a source, given by the texts of its blocks
+abbrev pub files_at : List ℕ → List (List ℕ) → ℕ → List ℕ → List Entry
+files_at dir texts at text = files_of_entry dir (own_names (readings texts) at (parsed text).names) (compiled texts at)
+
+-- those of these blocks, of which the first stands at that position
+abbrev pub files_from : List ℕ → List (List ℕ) → ℕ → List (List ℕ) → List Entry
+files_from dir texts at [] = []
+files_from dir texts at (text ∷ rest) = files_at dir texts at text ++ files_from dir texts (suc at) rest
+
+-- a name that is not empty and has ASCII bytes alone
+abbrev pub IsAsciiName : List ℕ → Type 0
+IsAsciiName name = (0 < length name) × All (λ byte. byte < 128) name
+
+-- the files of a source
+unfoldable pub files_of : List ℕ → List (List ℕ) → List Entry
+files_of dir texts = files_from dir texts 0 texts

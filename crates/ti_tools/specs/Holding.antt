@@ -1,0 +1,14 @@
+-- The edits that put blocks into an empty database, one after the other.
+use Rattle.std.specs.Prelude.{ℕ, suc, Bool, true, false, List, [], ◌∷◌}
+use Rattle.ti_base.specs.Edits.{Change, insertion}
+use Rattle.ti_base.specs.declared.edits.Outcome.{Outcome}
+use Rattle.ti_base.specs.declared.edits.Outcome.TheVariants.{Accepted, Refused}
+
+-- each text put in at the end, of which the first comes to stand at `at`
+abbrev pub insertions_from : ℕ → List (List ℕ) → List Change
+insertions_from at [] = []
+insertions_from at (text ∷ texts) = insertion at text ∷ insertions_from (suc at) texts
+
+abbrev pub is_accepted : Outcome → Bool
+is_accepted Accepted = true
+is_accepted (Refused error) = false

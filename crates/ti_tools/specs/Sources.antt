@@ -1,0 +1,36 @@
+-- A source as the compiler takes it: its blocks, once a missing newline is put at its end, and why it is refused before
+-- any of it is compiled (the limits are own).
+use Rattle.std.specs.Prelude.{ℕ, suc, ◌+◌, ◌==◌, List, [], ◌∷◌, ◌++◌, length, Option, Some, None, nat_le, nat_lt, if◌then◌else◌}
+use Rattle.ti_source.specs.Blocks.{blocks_of, front_of, last_byte}
+use Rattle.ti_source.specs.Lines.{line_count}
+use Rattle.ti_tools.specs.declared.tool_error.ToolError.{ToolError}
+use Rattle.ti_tools.specs.declared.tool_error.ToolError.TheVariants.{BlockTooLong, TooManyBlocks}
+
+-- a text with a newline at its end; an empty text has no line to end
+abbrev pub ended : List ℕ → List ℕ
+ended text = if last_byte 10 text == 10 then text else text ++ 10 ∷ []
+
+-- what stands before the first block
+abbrev pub preface_of : List ℕ → List ℕ
+preface_of source = front_of 10 (ended source)
+
+-- the texts of the blocks
+abbrev pub texts_of : List ℕ → List (List ℕ)
+texts_of source = blocks_of 10 (ended source)
+
+-- the number of the first block's first line
+abbrev pub first_line : List ℕ → ℕ
+first_line source = line_count (preface_of source) + 1
+
+-- why blocks are refused that stand behind this text and so many other blocks: the first that has more than 1,048,576
+-- bytes, by the number of its first line, or the first that is one block more than `most`
+abbrev pub refusal_after : ℕ → List ℕ → ℕ → List (List ℕ) → Option ToolError
+refusal_after most before count [] = None
+refusal_after most before count (text ∷ texts) =
+    if nat_lt 1048576 (length text) then Some (BlockTooLong (line_count before + 1))
+    else (if nat_le most count then Some TooManyBlocks
+    else refusal_after most (before ++ text) (suc count) texts)
+
+-- why a source of which so many blocks may be compiled is refused, if it is
+unfoldable pub refusal_of : ℕ → List ℕ → Option ToolError
+refusal_of most source = refusal_after most (preface_of source) 0 (texts_of source)

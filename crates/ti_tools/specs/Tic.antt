@@ -1,0 +1,53 @@
+-- What tic makes of a source (tic(1); the status is own): files, a report, and a status.
+use Rattle.std.specs.Prelude.{◌≡◌, ◌⊎◌, ℕ, Bool, List, [], Option, None, Some, Result, Ok, Err, IsOk, if◌then◌else◌}
+use Rattle.std.specs.List.{list_any}
+use Rattle.ti_source.specs.Codes.{is_error}
+use Rattle.ti_base.specs.Owner.{readings}
+use Rattle.ti_base.specs.Faults.{SourceFault, faults}
+use Rattle.ti_base.specs.Report.{report}
+use Rattle.ti_tools.specs.EntryFiles.{files_of}
+use Rattle.ti_tools.specs.Placing.{entries}
+use Rattle.ti_tools.specs.Sources.{first_line, refusal_of, texts_of}
+use Rattle.ti_tools.specs.Tree.{Entry}
+use Rattle.ti_tools.specs.declared.outcome.TicOutcome.{TicOutcome}
+use Rattle.ti_tools.specs.declared.tool_error.ToolError.{ToolError}
+use Rattle.ti_tools.specs.declared.tool_error.ToolError.TheVariants.{Memory}
+
+-- what comes of a source, as plain data
+pub record Compilation : Type 0 where
+  pub files : List Entry
+  pub report : List ℕ
+  pub status : ℕ
+
+-- 1 where one of the faults is an error
+abbrev pub status_of : List SourceFault → ℕ
+status_of found = if list_any (λ (fault : SourceFault). is_error fault.code) found then 1 else 0
+
+-- what comes of a source of these blocks, of which the first line has that number
+abbrev pub compilation : Bool → List ℕ → ℕ → List (List ℕ) → Compilation
+compilation check dir first texts = record {
+  files = if check then [] else files_of dir texts;
+  report = report texts first;
+  status = status_of (faults (readings texts));
+}
+
+abbrev pub unless_refused : Option ToolError → Compilation → Result Compilation ToolError
+unless_refused None made = Ok made
+unless_refused (Some error) made = Err error
+
+-- what comes of a source of which at most so many blocks may be compiled: a refusal, or all that its blocks make
+abbrev pub tic_result : ℕ → List ℕ → Bool → List ℕ → Result Compilation ToolError
+tic_result most source check dir =
+    unless_refused (refusal_of most source) (compilation check dir (first_line source) (texts_of source))
+
+abbrev pub compilation_of : TicOutcome → Compilation
+compilation_of outcome = record {
+  files = entries outcome.files.items;
+  report = outcome.report.items;
+  status = outcome.status;
+}
+
+-- the answer is what comes of the source; memory is wanting only where there is no refusal
+abbrev pub IsTicAnswer : Result Compilation ToolError → Result TicOutcome ToolError → Type 0
+IsTicAnswer wanted (Ok outcome) = wanted ≡ Ok (compilation_of outcome)
+IsTicAnswer wanted (Err error) = (wanted ≡ Err error) ⊎ ((error ≡ Memory) × IsOk wanted)

@@ -1,0 +1,121 @@
+//! Compiling a source into files.
+ghost use Rattle.std.specs.Prelude.{◌≡◌, ◌+◌, ◌≤◌, ◌^◌, [], ◌∷◌, ◌++◌, IfOk, map};
+ghost use Rattle.std.specs.List.{list_any};
+ghost use Rattle.std.specs.String.{string_bytes};
+ghost use Rattle.ti_source.specs.Blocks.{blocks_of, front_of, last_byte};
+ghost use Rattle.ti_source.specs.Codes.{is_error};
+ghost use Rattle.ti_source.specs.Lines.{line_count};
+ghost use Rattle.ti_base.specs.Faults.{fault_seen};
+ghost use Rattle.ti_tools.specs.Sources.{first_line, texts_of};
+ghost use Rattle.ti_tools.specs.Tic.{IsTicAnswer, compilation, compilation_of, status_of, tic_result};
+
+use crate::entry_files::entry_files;
+use crate::held::hold;
+use crate::outcome::{TicOptions, TicOutcome};
+use crate::sources::{BLOCKS_MAX, check, is_ended, lines};
+use crate::tool_error::ToolError;
+use std::alloc::{AllocError, Global};
+use ti_base::{Database, Fault};
+use ti_source::blocks;
+
+// The number of the line on which the first block of a source begins.
+fn first_number(source: &[u8]) -> u64
+    ensures number { result ≡ line_count (front_of 10 source.now) + 1 }
+    ensures bound { result ≤ 2 ^ 63 }
+{
+    lines(blocks(source).preface()) as u64 + 1
+}
+
+// Whether one of the faults is an error.
+fn has_error(faults: &[Fault]) -> bool
+    ensures { result ≡ list_any (λ fault. is_error fault.code) faults.now }
+{
+    faults.iter().any(|fault| fault.code.is_error())
+}
+
+// The status of a run with these faults: 1 where one of them is an error.
+fn status(faults: &[Fault]) -> u8
+    ensures { result ≡ status_of (map fault_seen faults.now) }
+{
+    if has_error(faults) { 1 } else { 0 }
+}
+
+// What comes of the source whose blocks the database holds.
+fn outcome(
+    alloc: Global,
+    source: &[u8],
+    database: &Database,
+    options: &TicOptions,
+) -> Result<TicOutcome, AllocError>
+    requires ended { last_byte 10 source.now ≡ 10 }
+    requires held { database.now ≡ blocks_of 10 source.now }
+    ensures { IfOk result (λ outcome. compilation_of outcome ≡ compilation options.now.check
+        (string_bytes options.now.dir) (line_count (front_of 10 source.now) + 1) database.now) }
+{
+    let report = database.report(first_number(source))?;
+    let faults = database.faults()?;
+    let files = if options.check {
+        Vec::new(alloc)
+    } else {
+        entry_files(alloc, source, database, options.dir.as_str())?
+    };
+    Ok(TicOutcome {
+        files,
+        report,
+        status: status(faults.as_slice()),
+    })
+}
+
+// Compiles a source whose last line has its newline.
+fn compile(alloc: Global, source: &[u8], options: &TicOptions) -> Result<TicOutcome, AllocError>
+    requires { last_byte 10 source.now ≡ 10 }
+    ensures { IfOk result (λ outcome. compilation_of outcome ≡ compilation options.now.check
+        (string_bytes options.now.dir) (line_count (front_of 10 source.now) + 1)
+        (blocks_of 10 source.now)) }
+{
+    let database = hold(alloc, source)?;
+    outcome(alloc, source, &database, options)
+}
+
+// The text with a newline after it.
+fn with_newline(alloc: Global, text: &[u8]) -> Result<Vec<u8>, AllocError>
+    ensures { IfOk result (λ ended. ended.items ≡ text.now ++ 10 ∷ []) }
+{
+    let mut ended = Vec::with_capacity(alloc, text.len() + 1)?;
+    ended.extend_from_slice(text)?;
+    ended.push(b'\n')?;
+    Ok(ended)
+}
+
+// Compiles a source that is not refused.
+fn compile_ended(
+    alloc: Global,
+    source: &[u8],
+    options: &TicOptions,
+) -> Result<TicOutcome, AllocError>
+    ensures { IfOk result (λ outcome. compilation_of outcome ≡ compilation options.now.check
+        (string_bytes options.now.dir) (first_line source.now) (texts_of source.now)) }
+{
+    if is_ended(source) {
+        return compile(alloc, source, options);
+    }
+    let ended = with_newline(alloc, source)?;
+    compile(alloc, ended.as_slice(), options)
+}
+
+/// What `tic` makes of a source: the files of its compiled entries, a report of its faults, and a
+/// status. A missing newline at its end is added. The source, the terminals' descriptions, is that of
+/// terminfo(5); a file of an entry is that of term(5), below `options.dir` as tic(1) has it.
+///
+/// # Errors
+/// `BlockTooLong` or `TooManyBlocks`, of the first block at which one of them holds; then `Memory`.
+pub fn tic(alloc: Global, source: &[u8], options: &TicOptions) -> Result<TicOutcome, ToolError>
+    ensures { IsTicAnswer (tic_result BLOCKS_MAX source.now options.now.check
+        (string_bytes options.now.dir)) result }
+{
+    check(source)?;
+    match compile_ended(alloc, source, options) {
+        Ok(outcome) => Ok(outcome),
+        Err(AllocError) => Err(ToolError::Memory),
+    }
+}

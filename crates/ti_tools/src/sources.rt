@@ -1,0 +1,67 @@
+//! Sources before they are compiled: whether they are refused.
+ghost use Rattle.std.specs.Prelude.{◌≡◌, ◌+◌, ◌==◌, ◌≤◌, length, take, MatchResult, None, Some};
+ghost use Rattle.ti_source.specs.Blocks.{last_byte};
+ghost use Rattle.ti_source.specs.Lines.{line_count};
+ghost use Rattle.ti_tools.specs.Sources.{ended, refusal_of};
+
+use crate::tool_error::ToolError;
+use ti_source::blocks;
+
+/// The most bytes of a block.
+pub const BLOCK_MAX: usize = 1_048_576;
+
+/// The most blocks of a source.
+pub const BLOCKS_MAX: usize = 65_535;
+
+/// Whether the last line of a text has its newline.
+pub fn is_ended(text: &[u8]) -> bool
+    ensures { result ≡ (last_byte 10 text.now == 10) }
+{
+    match text.last() {
+        Some(byte) => *byte == b'\n',
+        None => true,
+    }
+}
+
+/// How many lines of the text end.
+pub fn lines(text: &[u8]) -> usize
+    ensures count { result ≡ line_count text.now }
+    ensures bound { result ≤ length text.now }
+{
+    text.iter().filter(|byte| **byte == b'\n').count()
+}
+
+// The bytes of a text once its last line is ended.
+fn ended_len(text: &[u8]) -> usize
+    ensures { result ≡ length (ended text.now) }
+{
+    if is_ended(text) {
+        text.len()
+    } else {
+        text.len() + 1
+    }
+}
+
+/// Whether a source may be compiled. Takes no memory.
+///
+/// # Errors
+/// `BlockTooLong` or `TooManyBlocks`, of the first block at which one of them holds.
+pub fn check(source: &[u8]) -> Result<(), ToolError>
+    ensures { MatchResult result (λ _. refusal_of BLOCKS_MAX source.now ≡ None)
+        (λ error. refusal_of BLOCKS_MAX source.now ≡ Some error) }
+{
+    let mut cut = blocks(source);
+    let mut offset = cut.preface().len();
+    let mut count = 0;
+    while let Some(text) = cut.next() {
+        if ended_len(text) > BLOCK_MAX {
+            return Err(ToolError::BlockTooLong(lines(&source[..offset]) + 1));
+        }
+        if count >= BLOCKS_MAX {
+            return Err(ToolError::TooManyBlocks);
+        }
+        offset += text.len();
+        count += 1;
+    }
+    Ok(())
+}
