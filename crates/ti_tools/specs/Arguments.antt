@@ -18,6 +18,7 @@ pub data Task : Type 0 where
 abbrev pub is_on : Text → List Row → Bool
 is_on id rows = option_map_or (bytes_eq (codes "true")) (first_of id rows) false
 
+-- the job of `tic` with these matches: whether `-c` is there, the value of `-o` and the file, if they are
 abbrev pub tic_task : List Row → Task
 tic_task rows =
     task_tic (is_on (codes "check") rows) (first_of (codes "dir") rows) (first_of (codes "file") rows)

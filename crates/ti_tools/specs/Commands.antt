@@ -1,4 +1,4 @@
--- The command lines that the program takes, as what clap reads of them.
+-- The command lines that the program takes, as what clap reads of them (tic(1)).
 use Rattle.std.specs.Prelude.{ℕ, Some, codes, true}
 use Rattle.clap.specs.Simple.{App, new_app, new_rule, on_top, with_rule, with_subcommand}
 use Rattle.clap.specs.Walk.{Rule, Text}

@@ -21,6 +21,7 @@ none_taken zero [] = 0
 none_taken zero (b ∷ bytes) = 1
 none_taken (suc n) bytes = 0
 
+-- a write that answers a fault is one failure, as is one that takes no byte of a piece that has some
 abbrev pub failed_write : {E : Type 0} → Result ℕ E → List ℕ → ℕ
 failed_write (Ok n) bytes = none_taken n bytes
 failed_write (Err e) bytes = 1

@@ -1,4 +1,4 @@
--- The edits that put blocks into an empty database, one after the other.
+-- The edits that put blocks into an empty database, one after the other (own).
 use Rattle.std.specs.Prelude.{ℕ, suc, Bool, true, false, List, [], ◌∷◌}
 use Rattle.ti_base.specs.Edits.{Change, insertion}
 use Rattle.ti_base.specs.declared.edits.Outcome.{Outcome}
@@ -9,6 +9,7 @@ abbrev pub insertions_from : ℕ → List (List ℕ) → List Change
 insertions_from at [] = []
 insertions_from at (text ∷ texts) = insertion at text ∷ insertions_from (suc at) texts
 
+-- whether an edit was accepted
 abbrev pub is_accepted : Outcome → Bool
 is_accepted Accepted = true
 is_accepted (Refused error) = false

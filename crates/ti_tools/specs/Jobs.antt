@@ -1,4 +1,4 @@
--- The jobs of the program, as plain data, and why words ask for none.
+-- The jobs of the program, as plain data, and why words ask for none (own).
 use Rattle.std.specs.Prelude.{◌≡◌, ◌⊎◌, [], None, Option, option_map}
 use Rattle.std.specs.String.{string_bytes}
 use Rattle.clap.specs.Kinds.{IsAmong, Kinds}
@@ -10,6 +10,7 @@ use Rattle.ti_tools.specs.declared.arguments.UsageError.TheVariants as usage
 use Rattle.ti_tools.specs.declared.jobs.Job.{Job}
 use Rattle.ti_tools.specs.declared.jobs.Job.TheVariants.{Tic}
 
+-- a job that holds its words in memory, as plain data
 abbrev pub task_of : Job → Task
 task_of (Tic check dir file) =
     task_tic check (option_map string_bytes dir) (option_map string_bytes file)

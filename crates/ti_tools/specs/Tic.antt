@@ -31,6 +31,7 @@ compilation check dir first texts = record {
   status = status_of (faults (readings texts));
 }
 
+-- the refusal of a source, if there is one, else what comes of it
 abbrev pub unless_refused : Option ToolError → Compilation → Result Compilation ToolError
 unless_refused None made = Ok made
 unless_refused (Some error) made = Err error
@@ -40,6 +41,7 @@ abbrev pub tic_result : ℕ → List ℕ → Bool → List ℕ → Result Compil
 tic_result most source check dir =
     unless_refused (refusal_of most source) (compilation check dir (first_line source) (texts_of source))
 
+-- an outcome that holds files and report in memory, as plain data
 abbrev pub compilation_of : TicOutcome → Compilation
 compilation_of outcome = record {
   files = entries outcome.files.items;
