@@ -29,7 +29,7 @@ ITEMS = r"""
 	sgr=%?%p9%t\E(0%e\E(B%;\E[0%?%p6%t;1%;%?%p5%t;2%;%?%p2%t;4%;%?%p1%p3%|%t;7%;m,
 # a comment line between wrapped lines
 """
-RUNS = 7
+RUNS = 40
 
 
 def source(size):
