@@ -1,7 +1,12 @@
 pub mod Asked
 pub mod Empty
 pub mod Ending
+pub mod Feeding
 pub mod Filing
+pub mod Held
 pub mod Holding
+pub mod Lines
 pub mod Placed
+pub mod Printed
 pub mod Refusing
+pub mod Written

@@ -2,11 +2,15 @@
 pub mod Arguments
 pub mod Commands
 pub mod Counted
+pub mod Dialogue
 pub mod EntryFiles
 pub mod Holding
 pub mod Jobs
 pub mod MemTree
 pub mod Placing
+pub mod Replies
+pub mod Requests
+pub mod Session
 pub mod Sources
 pub mod Tic
 pub mod Tree

@@ -8,14 +8,19 @@
 //!   the files of the entries
 //! - `placing`: writing files into a tree; `tree` says what a tree of files is, and `memory_tree` is
 //!   one in memory
+//! - `streaming`: the session, over a reader and a writer. `dialogue` holds the source and the block
+//!   that is open, `requests` says what a line asks for, `replies` writes what it is answered, and
+//!   `buffer` holds bytes for which the room was made at the start
 //! - `counted`: readers and writers with a count of their failures, which `failures` is
 //! - `tool_error`: why a tool stops
 #![tactic(auto)]
 
 pub mod arguments;
+mod buffer;
 pub mod commands;
 pub mod compiling;
 pub mod counted;
+mod dialogue;
 mod entry_files;
 pub mod failures;
 mod held;
@@ -23,7 +28,10 @@ pub mod jobs;
 pub mod memory_tree;
 mod outcome;
 pub mod placing;
+mod replies;
+mod requests;
 mod sources;
+pub mod streaming;
 pub mod tool_error;
 pub mod tree;
 
@@ -36,6 +44,7 @@ pub use jobs::Job;
 pub use memory_tree::MemTree;
 pub use outcome::{TicOptions, TicOutcome};
 pub use placing::{File, place};
+pub use streaming::session;
 pub use tool_error::ToolError;
 pub use tree::{Tree, TreeFault};
 
