@@ -1,5 +1,5 @@
 -- What the words of a command line ask for: the job that stands for the matches that clap defines
--- for the words. (tic(1))
+-- for the words. (tic(1); the session is own)
 use Rattle.std.specs.Prelude.{Bool, false, List, Option, Some, None, codes, if◌then◌else◌, option_and_then}
 use Rattle.std.specs.Option.{option_map_or}
 use Rattle.std.specs.Str.{bytes_eq}
@@ -13,6 +13,7 @@ use Rattle.ti_tools.specs.Commands.{ti_app}
 -- a job, as plain data
 pub data Task : Type 0 where
   task_tic : Bool → Option Text → Option Text → Task
+  task_session : Task
 
 -- whether an option that is on or off is on
 abbrev pub is_on : Text → List Row → Bool
@@ -25,7 +26,10 @@ tic_task rows =
 
 -- the job of a subcommand with these matches
 abbrev pub task_at : Text → List Row → Option Task
-task_at name rows = if bytes_eq name (codes "tic") then Some (tic_task rows) else None
+task_at name rows =
+    if bytes_eq name (codes "tic") then Some (tic_task rows)
+    else if bytes_eq name (codes "session") then Some task_session
+    else None
 
 -- the job of the subcommand that was used, with its matches
 abbrev pub task_in : Option (Text × List Row) → Option Task

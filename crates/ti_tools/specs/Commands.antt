@@ -24,8 +24,14 @@ tic_app = with_rule (with_rule (with_rule (new_app (codes "tic"))
     (option_rule (codes "dir") 111))
     (operand_rule (codes "file"))
 
+-- `session`
+abbrev pub session_app : App
+session_app = new_app (codes "session")
+
 -- the program: one of its subcommands has to be there
 unfoldable pub ti_app : App
 ti_app = with_subcommand
+    (with_subcommand
     (on_top (λ top. record top { subcommand_required = true }) (new_app (codes "ti")))
-    tic_app.top
+    tic_app.top)
+    session_app.top

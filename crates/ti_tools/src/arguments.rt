@@ -92,6 +92,7 @@ fn used_job(alloc: Global, matches: &ArgMatches<'_>) -> Result<Job, UsageError>
 {
     match matches.subcommand() {
         Some(("tic", inner)) => Ok(tic_job(alloc, inner)?),
+        Some(("session", _)) => Ok(Job::Session),
         _ => Err(UsageError::Usage),
     }
 }

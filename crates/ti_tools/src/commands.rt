@@ -3,7 +3,7 @@
 ghost use Rattle.std.specs.Prelude.{◌≡◌, IfOk, false};
 ghost use Rattle.clap.specs.Words.{app_of, rule_of};
 ghost use Rattle.clap.specs.declared.builder.Command.TheViews.{out-Command as fields_of};
-ghost use Rattle.ti_tools.specs.Commands.{flag_rule, operand_rule, option_rule, ti_app, tic_app};
+ghost use Rattle.ti_tools.specs.Commands.{flag_rule, operand_rule, option_rule, session_app, ti_app, tic_app};
 
 use clap::{Arg, ArgAction, Command};
 use std::alloc::{AllocError, Global};
@@ -69,6 +69,18 @@ fn tic<'a>(alloc: Global) -> Result<Command<'a>, AllocError>
         .arg(file)
 }
 
+// `session`.
+fn session<'a>(alloc: Global) -> Result<Command<'a>, AllocError>
+    ensures app { IfOk result (λ command. app_of command ≡ session_app) }
+    ensures local { IfOk result (λ command. (fields_of command).has_globals ≡ false) }
+{
+    Ok(
+        Command::new(alloc, "session")
+            .about("Edit a source as the lines of a script on standard input ask, and answer each.")
+            .after_help("Example:\n  ti session < script.txt"),
+    )
+}
+
 /// The program's command line, with a subcommand for each tool.
 ///
 /// # Errors
@@ -82,5 +94,6 @@ pub fn command<'a>(alloc: Global) -> Result<Command<'a>, AllocError>
         .about("Tools for terminfo, the database of terminals.")
         .after_help("Example:\n  ti tic -o ~/.terminfo dumb.ti")
         .subcommand_required(true)
-        .subcommand(tic(alloc)?)
+        .subcommand(tic(alloc)?)?
+        .subcommand(session(alloc)?)
 }

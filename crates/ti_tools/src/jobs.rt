@@ -12,4 +12,6 @@ pub enum Job {
         /// The file of the source, or `None` for standard input.
         file: Option<String>,
     },
+    /// Read a script and answer it.
+    Session,
 }

@@ -146,3 +146,6 @@ pub fn session<R: Read, W: Write>(
     }
     Err(ToolError::ReadFault)
 }
+
+#[cfg(test)]
+mod tests;

@@ -51,6 +51,16 @@ fn an_empty_folder_is_taken_as_it_is(rt: HostRuntime) -> Result<(), Fail> {
 }
 
 #[test]
+fn a_session(rt: HostRuntime) -> Result<(), Fail> {
+    let alloc = rt.alloc();
+    let session = words(alloc, &["ti", "session"])?;
+    assert!(rt; job(alloc, session.as_slice())? == Job::Session);
+    let more = words(alloc, &["ti", "session", "script"])?;
+    assert!(rt; job(alloc, more.as_slice()) == Err(UsageError::Usage));
+    Ok(())
+}
+
+#[test]
 fn words_that_ask_for_no_job(rt: HostRuntime) -> Result<(), Fail> {
     let alloc = rt.alloc();
     let usage = words(alloc, &["ti", "tic", "-x"])?;
@@ -67,7 +77,7 @@ fn words_that_ask_for_no_job(rt: HostRuntime) -> Result<(), Fail> {
 #[test]
 fn help_reads_well_at_80_columns(rt: HostRuntime) -> Result<(), Fail> {
     let alloc = rt.alloc();
-    for tool in ["tic"] {
+    for tool in ["tic", "session"] {
         let words = words(alloc, &["ti", tool, "--help"])?;
         let Err(error) = crate::commands::command(alloc)?.try_get_matches_from(words.as_slice())
         else {

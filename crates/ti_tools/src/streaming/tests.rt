@@ -1,0 +1,196 @@
+//! Worked scripts, with replies from the manuals and by hand; devices that fail in mid-stream.
+use crate::{Counted, ToolError, session};
+use std::alloc::{AllocError, Global};
+use std::io::{self, ErrorKind, Read, Write};
+use std::test::Fail;
+
+/// Three blocks that are each at fault, one before them, and requests of all kinds.
+const SCRIPT: &[u8] = b"i 0\na,foo,\n.\ni 1\nb,use=zz,\n.\ni 2\nc,cols#9x,\n.\nf\n\
+i 0\nk,\n# one\n# two\n.\nf\np 0\nd 9\nzap\n";
+
+const REPLIES: &[u8] = b"ok\nok\nok\n\
+1: W1 UnknownCapability foo\n2: E6 MissingUse zz\n3: E3 BadNumber cols\n.\n\
+ok\n4: W1 UnknownCapability foo\n5: E6 MissingUse zz\n6: E3 BadNumber cols\n.\n\
+1a01020000000000000000006b00\nrefused Position\nunknown\n";
+
+/// A reader that gives one byte a read, and fails at a read.
+#[derive(Drop)]
+struct Drip<'a> {
+    rest: &'a [u8],
+    reads_left: usize,
+}
+
+impl Read for Drip<'_> {
+    fn read(&mut self, buf: &mut [u8]) -> io::Result<usize> {
+        if self.reads_left == 0 {
+            return Err(io::Error::from(ErrorKind::Other));
+        }
+        self.reads_left -= 1;
+        let Some((first, rest)) = self.rest.split_first() else {
+            return Ok(0);
+        };
+        if buf.is_empty() {
+            return Ok(0);
+        }
+        buf[0] = *first;
+        self.rest = rest;
+        Ok(1)
+    }
+}
+
+/// A writer that takes one byte a call, and fails when it has taken so many.
+#[derive(Drop)]
+struct Narrow {
+    taken: Vec<u8>,
+    room: usize,
+}
+
+impl Write for Narrow {
+    fn write(&mut self, buf: &[u8]) -> io::Result<usize> {
+        if self.taken.len() >= self.room {
+            return Err(io::Error::from(ErrorKind::Other));
+        }
+        match buf.first() {
+            Some(byte) => {
+                self.taken.push(*byte)?;
+                Ok(1)
+            }
+            None => Ok(0),
+        }
+    }
+
+    fn flush(&mut self) -> io::Result<()> {
+        Ok(())
+    }
+}
+
+// The replies to a script, and how its session ends.
+fn replies(alloc: Global, script: &[u8]) -> (Result<(), ToolError>, Vec<u8>) {
+    let mut reader = Counted::new(script);
+    let mut writer = Counted::new(Vec::new(alloc));
+    let end = session(alloc, &mut reader, &mut writer);
+    let _ = reader.into_inner();
+    (end, writer.into_inner())
+}
+
+#[test]
+fn a_session_over_faulty_blocks(rt: HostRuntime) -> Result<(), Fail> {
+    let (end, written) = replies(rt.alloc(), SCRIPT);
+    assert!(rt; end == Ok(()));
+    assert!(rt; written.as_slice() == REPLIES);
+    Ok(())
+}
+
+#[test]
+fn small_scripts(rt: HostRuntime) -> Result<(), Fail> {
+    let cases: [(&[u8], &[u8]); 12] = [
+        (b"", b""),
+        (b"\n\n", b""),
+        (
+            b"i\ni  0\ni 0 \ni 1234567890\n",
+            b"unknown\nunknown\nunknown\nunknown\n",
+        ),
+        (b"i 0\na,\n.", b"ok\n"),
+        (b"i 0\na,\n. \n.\n", b"refused NotOneBlock\n"),
+        (b"i 0\na,\n", b"unfinished\n"),
+        (b"i 0\n.\n", b"refused NotOneBlock\n"),
+        (
+            b"i 0\na,\n\n.\np 0\n",
+            b"ok\n1a01020000000000000000006100\n",
+        ),
+        (
+            b"i 000000000\na,\n.\nr 0\nb,bw,\n.\np 0\n",
+            b"ok\nok\n1a0102000100000000000000620001\n",
+        ),
+        (
+            b"i 1\na,\n.\nd 0\nr 0\nx,\n.\np 0",
+            b"refused Position\nrefused Position\nrefused Position\nrefused Position\n",
+        ),
+        (b"i 0\na,use=b,\n.\np 0\nd 0\nf\n", b"ok\nnone\nok\n.\n"),
+        (
+            b"w\nF\nf \n.\np0\n",
+            b"unknown\nunknown\nunknown\nunknown\nunknown\n",
+        ),
+    ];
+    for (script, expected) in cases {
+        let (end, written) = replies(rt.alloc(), script);
+        assert!(rt; end == Ok(()));
+        assert!(rt; written.as_slice() == expected, "{written:?}");
+    }
+    Ok(())
+}
+
+#[test]
+fn each_write_failing_in_turn(rt: HostRuntime) -> Result<(), Fail> {
+    let alloc = rt.alloc();
+    for room in 0..REPLIES.len() {
+        let mut reader = Counted::new(SCRIPT);
+        let mut writer = Counted::new(Narrow {
+            taken: Vec::new(alloc),
+            room,
+        });
+        let end = session(alloc, &mut reader, &mut writer);
+        let _ = reader.into_inner();
+        let taken = writer.into_inner().taken;
+        assert!(rt; end == Err(ToolError::WriteFault), "at {room}");
+        assert!(rt; Some(taken.as_slice()) == REPLIES.get(..room), "at {room}");
+    }
+    Ok(())
+}
+
+#[test]
+fn each_read_failing_in_turn(rt: HostRuntime) -> Result<(), Fail> {
+    let alloc = rt.alloc();
+    let commands: [(&[u8], &[u8]); 5] = [
+        (b"i 0\nk,\n# one\n.\n", b"ok\n"),
+        (b"\np 0\n", b"1a01020000000000000000006b00\n"),
+        (b"d 9\n", b"refused Position\n"),
+        (b"i 0\nk,", b""),
+        (b"", b""),
+    ];
+    let mut script = Vec::new(alloc);
+    for (lines, _) in commands {
+        script.extend_from_slice(lines)?;
+    }
+    for reads in 0..script.len() + 1 {
+        let mut reader = Counted::new(Drip {
+            rest: script.as_slice(),
+            reads_left: reads,
+        });
+        let mut writer = Counted::new(Vec::new(alloc));
+        let end = session(alloc, &mut reader, &mut writer);
+        let _ = reader.into_inner();
+        let written = writer.into_inner();
+        let mut expected = Vec::new(alloc);
+        let mut before = 0;
+        for (lines, reply) in commands {
+            before += lines.len();
+            if before <= reads {
+                expected.extend_from_slice(reply)?;
+            }
+        }
+        assert!(rt; end == Err(ToolError::ReadFault), "at {reads}");
+        assert!(rt; written.as_slice() == expected.as_slice(), "at {reads}");
+    }
+    Ok(())
+}
+
+// So many bytes `x`, and a newline.
+fn line_of(alloc: Global, count: usize) -> Result<Vec<u8>, AllocError> {
+    let mut line = vec![in alloc; b'x'; count]?;
+    line.push(b'\n')?;
+    Ok(line)
+}
+
+#[test]
+fn a_line_is_at_the_limit_or_over_it(rt: HostRuntime) -> Result<(), Fail> {
+    let longest = line_of(rt.alloc(), 65_536)?;
+    let (end, written) = replies(rt.alloc(), longest.as_slice());
+    assert!(rt; end == Ok(()));
+    assert!(rt; written.as_slice() == b"unknown\n".as_slice());
+    let over = line_of(rt.alloc(), 65_537)?;
+    let (end, written) = replies(rt.alloc(), over.as_slice());
+    assert!(rt; end == Err(ToolError::LineTooLong));
+    assert!(rt; written.is_empty());
+    Ok(())
+}
