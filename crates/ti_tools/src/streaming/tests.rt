@@ -100,7 +100,7 @@ fn small_scripts(rt: HostRuntime) -> Result<(), Fail> {
         ),
         (
             b"i 000000000\na,\n.\nr 0\nb,bw,\n.\np 0\n",
-            b"ok\nok\n1a0102000100000000000000620001\n",
+            b"ok\nok\n1a010200010000000000000062000100\n",
         ),
         (
             b"i 1\na,\n.\nd 0\nr 0\nx,\n.\np 0",
@@ -138,6 +138,24 @@ fn each_write_failing_in_turn(rt: HostRuntime) -> Result<(), Fail> {
     Ok(())
 }
 
+// The replies to the commands that are complete in so many bytes.
+fn answered(
+    alloc: Global,
+    commands: &[(&[u8], &[u8])],
+    taken: usize,
+) -> Result<Vec<u8>, AllocError> {
+    let mut replies = Vec::new(alloc);
+    let mut left = taken;
+    for (lines, reply) in commands {
+        if lines.len() > left {
+            break;
+        }
+        left -= lines.len();
+        replies.extend_from_slice(*reply)?;
+    }
+    Ok(replies)
+}
+
 #[test]
 fn each_read_failing_in_turn(rt: HostRuntime) -> Result<(), Fail> {
     let alloc = rt.alloc();
@@ -161,14 +179,7 @@ fn each_read_failing_in_turn(rt: HostRuntime) -> Result<(), Fail> {
         let end = session(alloc, &mut reader, &mut writer);
         let _ = reader.into_inner();
         let written = writer.into_inner();
-        let mut expected = Vec::new(alloc);
-        let mut before = 0;
-        for (lines, reply) in commands {
-            before += lines.len();
-            if before <= reads {
-                expected.extend_from_slice(reply)?;
-            }
-        }
+        let expected = answered(alloc, &commands, reads)?;
         assert!(rt; end == Err(ToolError::ReadFault), "at {reads}");
         assert!(rt; written.as_slice() == expected.as_slice(), "at {reads}");
     }
