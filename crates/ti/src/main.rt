@@ -2,6 +2,7 @@
 #![tactic(auto)]
 
 mod disk_tree;
+mod session_tool;
 mod source;
 mod stop;
 mod tic_tool;
@@ -27,6 +28,10 @@ fn run<R: Env + Files + Input + Print + Eprint + AllocGlobal>(rt: &R) -> u8 {
             Job::Tic { check, dir, file } => match tic_tool::run(rt, check, dir, file) {
                 Ok(status) => status,
                 Err(stop) => tell(rt, "tic", stop),
+            },
+            Job::Session => match session_tool::run(rt) {
+                Ok(()) => 0,
+                Err(error) => tell(rt, "session", Stop::Fault(error)),
             },
         },
         Err(UsageError::Memory) => tell(rt, "ti", Stop::Fault(ToolError::Memory)),

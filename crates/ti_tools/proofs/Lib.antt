@@ -3,8 +3,8 @@ pub mod Empty
 pub mod Ending
 pub mod Feeding
 pub mod Filing
-pub mod Held
 pub mod Holding
+pub mod Leading
 pub mod Lines
 pub mod Placed
 pub mod Printed

@@ -10,6 +10,7 @@ use std::io::{Read, Result, Write};
 /// A reader or a writer, and how often it has failed. The count is seen by contracts alone, takes
 /// no memory and has no greatest value. A call through it raises the count by one exactly where
 /// the device answers a fault, or takes no byte of a piece that has some.
+#[derive(Drop)]
 pub struct Counted<D> {
     device: D,
     failures: Failures,

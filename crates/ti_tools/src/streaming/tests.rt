@@ -69,7 +69,6 @@ fn replies(alloc: Global, script: &[u8]) -> (Result<(), ToolError>, Vec<u8>) {
     let mut reader = Counted::new(script);
     let mut writer = Counted::new(Vec::new(alloc));
     let end = session(alloc, &mut reader, &mut writer);
-    let _ = reader.into_inner();
     (end, writer.into_inner())
 }
 
@@ -130,8 +129,7 @@ fn each_write_failing_in_turn(rt: HostRuntime) -> Result<(), Fail> {
             room,
         });
         let end = session(alloc, &mut reader, &mut writer);
-        let _ = reader.into_inner();
-        let taken = writer.into_inner().taken;
+            let taken = writer.into_inner().taken;
         assert!(rt; end == Err(ToolError::WriteFault), "at {room}");
         assert!(rt; Some(taken.as_slice()) == REPLIES.get(..room), "at {room}");
     }
@@ -177,8 +175,7 @@ fn each_read_failing_in_turn(rt: HostRuntime) -> Result<(), Fail> {
         });
         let mut writer = Counted::new(Vec::new(alloc));
         let end = session(alloc, &mut reader, &mut writer);
-        let _ = reader.into_inner();
-        let written = writer.into_inner();
+            let written = writer.into_inner();
         let expected = answered(alloc, &commands, reads)?;
         assert!(rt; end == Err(ToolError::ReadFault), "at {reads}");
         assert!(rt; written.as_slice() == expected.as_slice(), "at {reads}");

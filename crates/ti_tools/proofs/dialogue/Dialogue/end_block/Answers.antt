@@ -2,7 +2,7 @@ use Rattle.std.proofs.Common.{◌≡◌, ℕ, List, ap, sym, ◌∙◌, refl}
 use Rattle.ti_base.specs.Edits.{change_of, insertion, replacement}
 use Rattle.ti_tools.specs.declared.requests.Opened.{Opened}
 use Rattle.ti_tools.specs.Requests.{opened_change}
-use Rattle.ti_tools.proofs.Held.{CarriesOut-of_front, Holds-closed, Led-edits}
+use Rattle.ti_tools.proofs.Leading.{CarriesOut-of_front, Holds-closed, Led-edits}
 use Rattle.ti_tools.proofs.dialogue.Dialogue.end_block.Goals as goal
 use Rattle.ti_tools.proofs.dialogue.Dialogue.end_block.Goals.{in-Insert, in-Replace}
 

@@ -1,5 +1,5 @@
 use Rattle.std.proofs.Common.{refl, rules}
-use Rattle.ti_tools.proofs.Held.{Holds-added, Led-on, Led-same, meant-at_end, meant-in_block}
+use Rattle.ti_tools.proofs.Leading.{Holds-added, Led-on, Led-same, meant-at_end, meant-in_block}
 use Rattle.ti_tools.proofs.dialogue.Dialogue.take_line.Goals as goal
 
 pub returns-then-eq : goal.returns-then-eq

@@ -1,5 +1,5 @@
 use Rattle.std.proofs.Common.{refl, sym}
-use Rattle.ti_tools.proofs.Held.{Holds-opened, Holds-outside, Led-asks, Led-edits, Led-on, Led-prints, Led-reports}
+use Rattle.ti_tools.proofs.Leading.{Holds-opened, Holds-outside, Led-asks, Led-edits, Led-on, Led-prints, Led-reports}
 use Rattle.ti_tools.proofs.dialogue.Dialogue.take_request.Goals as goal
 
 pub returns-in-Open : goal.returns-in-Open

@@ -1,0 +1,13 @@
+//! `ti session`: answers a script.
+use std::io;
+use ti_tools::{Counted, ToolError, session};
+
+/// Answers the script on standard input, on standard output.
+///
+/// # Errors
+/// Why it stopped. The replies before stand.
+pub fn run<R: Input + Print + AllocGlobal>(rt: &R) -> Result<(), ToolError> {
+    let mut reader = Counted::new(rt.reader());
+    let mut writer = Counted::new(io::writer(rt));
+    session(rt.alloc(), &mut reader, &mut writer)
+}
