@@ -24,7 +24,7 @@ tic_app = with_rule (with_rule (with_rule (new_app (codes "tic"))
     (option_rule (codes "dir") 111))
     (operand_rule (codes "file"))
 
--- `session`
+-- `session`, which takes no words
 abbrev pub session_app : App
 session_app = new_app (codes "session")
 

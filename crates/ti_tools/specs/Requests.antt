@@ -12,6 +12,7 @@ abbrev pub opened_mode : Opened → List ℕ → Mode
 opened_mode (Insert at) text = putting_in at text
 opened_mode (Replace at) text = exchanging at text
 
+-- the mode where such a block is open, or none is
 abbrev pub mode_of : Option Opened → List ℕ → Mode
 mode_of None text = outside
 mode_of (Some opened) text = opened_mode opened text

@@ -18,6 +18,7 @@ use Rattle.ti_tools.specs.declared.tool_error.ToolError.TheVariants.{ReadFault, 
 abbrev pub ended : List ℕ → List ℕ
 ended line = line ++ 10 ∷ []
 
+-- the bytes hold no newline
 abbrev pub IsOneLine : List ℕ → Type 0
 IsOneLine [] = Unit {0}
 IsOneLine (byte ∷ bytes) = (byte ≢ 10) × IsOneLine bytes
@@ -26,6 +27,7 @@ IsOneLine (byte ∷ bytes) = (byte ≢ 10) × IsOneLine bytes
 abbrev pub line_max : ℕ
 line_max = 65536
 
+-- the line is within that limit
 abbrev pub IsShortLine : List ℕ → Type 0
 IsShortLine line = length line ≤ line_max
 
@@ -48,6 +50,7 @@ pub data Mode : Type 0 where
   putting_in : ℕ → List ℕ → Mode
   exchanging : ℕ → List ℕ → Mode
 
+-- what is asked for: an edit; the entry of the block at a position; the report; or nothing that is known
 pub data Command : Type 0 where
   edits : Change → Command
   prints : ℕ → Command
@@ -59,6 +62,7 @@ pub data Meaning : Type 0 where
   goes_on : Mode → Meaning
   asks : Command → Meaning
 
+-- whether the byte is a decimal digit
 abbrev pub is_digit : ℕ → Bool
 is_digit byte = nat_le 48 byte && nat_le byte 57
 
@@ -96,6 +100,7 @@ meant (exchanging at block) line =
 
 -- ---- replies
 
+-- the name of the cause of a refusal
 abbrev pub cause_name : EditError → List ℕ
 cause_name Position = codes "Position"
 cause_name TooLong = codes "TooLong"
@@ -103,13 +108,16 @@ cause_name NotOneBlock = codes "NotOneBlock"
 cause_name TooMany = codes "TooMany"
 cause_name Memory = codes "Memory"
 
+-- the reply to what is refused
 abbrev pub refused_text : EditError → List ℕ
 refused_text error = ended (codes "refused " ++ cause_name error)
 
+-- the reply to an edit
 abbrev pub outcome_text : Outcome → List ℕ
 outcome_text Accepted = ended (codes "ok")
 outcome_text (Refused error) = refused_text error
 
+-- the hexadecimal digit of that value, in lower case
 abbrev pub hex_digit : ℕ → ℕ
 hex_digit n = if nat_lt n 10 then 48 + n else 87 + n
 
@@ -117,6 +125,7 @@ hex_digit n = if nat_lt n 10 then 48 + n else 87 + n
 abbrev pub hex_of : ℕ → List ℕ
 hex_of byte = hex_digit (byte / 16) ∷ hex_digit (byte % 16) ∷ []
 
+-- the reply that shows an entry, or that there is none
 abbrev pub entry_text : Option (List ℕ) → List ℕ
 entry_text None = ended (codes "none")
 entry_text (Some bytes) = ended (flat_map hex_of bytes)
@@ -133,10 +142,12 @@ Answers texts (prints at) next reply = (next ≡ texts) × (reply ≡ printed te
 Answers texts reports next reply = (next ≡ texts) × ((reply ≡ report texts 1 ++ ended (codes ".")) ⊎ (reply ≡ refused_text Memory))
 Answers texts unknown next reply = (next ≡ texts) × (reply ≡ ended (codes "unknown"))
 
+-- between two lines: the texts of the source's blocks, and the mode
 pub record State : Type 0 where
   pub texts : List (List ℕ)
   pub mode : Mode
 
+-- the state of these texts and that mode
 abbrev pub state : List (List ℕ) → Mode → State
 state texts mode = record { texts = texts; mode = mode }
 
@@ -158,6 +169,7 @@ closing outside = []
 closing (putting_in at block) = ended (codes "unfinished")
 closing (exchanging at block) = ended (codes "unfinished")
 
+-- at the start there are no blocks, and none is open
 abbrev pub start : State
 start = state [] outside
 
@@ -190,6 +202,7 @@ pub record Seen : Type 0 where
   pub bytes : Option (List ℕ)
   pub failures : ℕ
 
+-- these bytes, and so many failures
 abbrev pub seen : Option (List ℕ) → ℕ → Seen
 seen bytes failures = record { bytes = bytes; failures = failures }
 

@@ -129,7 +129,7 @@ fn each_write_failing_in_turn(rt: HostRuntime) -> Result<(), Fail> {
             room,
         });
         let end = session(alloc, &mut reader, &mut writer);
-            let taken = writer.into_inner().taken;
+        let taken = writer.into_inner().taken;
         assert!(rt; end == Err(ToolError::WriteFault), "at {room}");
         assert!(rt; Some(taken.as_slice()) == REPLIES.get(..room), "at {room}");
     }
@@ -175,7 +175,7 @@ fn each_read_failing_in_turn(rt: HostRuntime) -> Result<(), Fail> {
         });
         let mut writer = Counted::new(Vec::new(alloc));
         let end = session(alloc, &mut reader, &mut writer);
-            let written = writer.into_inner();
+        let written = writer.into_inner();
         let expected = answered(alloc, &commands, reads)?;
         assert!(rt; end == Err(ToolError::ReadFault), "at {reads}");
         assert!(rt; written.as_slice() == expected.as_slice(), "at {reads}");
