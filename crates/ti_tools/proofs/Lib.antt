@@ -6,6 +6,7 @@ pub mod Filing
 pub mod Holding
 pub mod Leading
 pub mod Lines
+pub mod OneSession
 pub mod Placed
 pub mod Printed
 pub mod Refusing

@@ -10,6 +10,7 @@ pub mod MemTree
 pub mod Placing
 pub mod Replies
 pub mod Requests
+pub mod ScriptLaws
 pub mod Session
 pub mod Sources
 pub mod Tic

@@ -10,7 +10,8 @@
 //!   one in memory
 //! - `streaming`: the session, over a reader and a writer. `dialogue` holds the source and the block
 //!   that is open, `requests` says what a line asks for, `replies` writes what it is answered, and
-//!   `buffer` holds bytes for which the room was made at the start
+//!   `buffer` holds bytes for which the room was made at the start. `script_laws` says that its
+//!   definition leaves nothing open but want of memory
 //! - `counted`: readers and writers with a count of their failures, which `failures` is
 //! - `tool_error`: why a tool stops
 #![tactic(auto)]
@@ -30,6 +31,7 @@ mod outcome;
 pub mod placing;
 mod replies;
 mod requests;
+pub mod script_laws;
 mod sources;
 pub mod streaming;
 pub mod tool_error;
@@ -44,6 +46,7 @@ pub use jobs::Job;
 pub use memory_tree::MemTree;
 pub use outcome::{TicOptions, TicOutcome};
 pub use placing::{File, place};
+pub use script_laws::{one_answer, one_output, one_split};
 pub use streaming::session;
 pub use tool_error::ToolError;
 pub use tree::{Tree, TreeFault};
