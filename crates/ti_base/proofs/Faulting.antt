@@ -29,13 +29,13 @@ open_between o l does_resolve b e f g = rw (e, f, g) refl
 none_between : (o : Option Reading) (l : Bool) (does_resolve : Reading → Bool) (b : Reading) → o ≡ Some b → l ≡ false → does_resolve b ≡ true → ◌≡◌ {A = Option Code} None (fault_between o l does_resolve)
 none_between o l does_resolve b e f g = rw (e, f, g) refl
 
-use_fault_ring : (bs : List Reading) (at : ℕ) (name : List ℕ) (b : Reading) → owned bs name ≡ Some b → leads_to bs name at ≡ true → ◌≡◌ {A = Option Code} (Some Circular) (use_fault bs at name)
+pub use_fault_ring : (bs : List Reading) (at : ℕ) (name : List ℕ) (b : Reading) → owned bs name ≡ Some b → leads_to bs name at ≡ true → ◌≡◌ {A = Option Code} (Some Circular) (use_fault bs at name)
 use_fault_ring bs at name b o l = ring_between (owned bs name) (leads_to bs name at) (resolves bs) b o l
 
-use_fault_open : (bs : List Reading) (at : ℕ) (name : List ℕ) (b : Reading) → owned bs name ≡ Some b → leads_to bs name at ≡ false → expansion bs b ≡ None → ◌≡◌ {A = Option Code} (Some Unresolved) (use_fault bs at name)
+pub use_fault_open : (bs : List Reading) (at : ℕ) (name : List ℕ) (b : Reading) → owned bs name ≡ Some b → leads_to bs name at ≡ false → expansion bs b ≡ None → ◌≡◌ {A = Option Code} (Some Unresolved) (use_fault bs at name)
 use_fault_open bs at name b o l x = open_between (owned bs name) (leads_to bs name at) (resolves bs) b o l (ap (λ e. is_some e) x)
 
-use_fault_none : (bs : List Reading) (at : ℕ) (name : List ℕ) (b : Reading) (ms : List Mention) → owned bs name ≡ Some b → leads_to bs name at ≡ false → expansion bs b ≡ Some ms → ◌≡◌ {A = Option Code} None (use_fault bs at name)
+pub use_fault_none : (bs : List Reading) (at : ℕ) (name : List ℕ) (b : Reading) (ms : List Mention) → owned bs name ≡ Some b → leads_to bs name at ≡ false → expansion bs b ≡ Some ms → ◌≡◌ {A = Option Code} None (use_fault bs at name)
 use_fault_none bs at name b ms o l x = none_between (owned bs name) (leads_to bs name at) (resolves bs) b o l (ap (λ e. is_some e) x)
 
 -- ---- what an entry tells of its block

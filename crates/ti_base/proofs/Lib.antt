@@ -14,3 +14,4 @@ pub mod Acyclic
 pub mod Faulting
 pub mod Bounding
 pub mod Counting
+pub mod LawProofs

@@ -5,7 +5,8 @@ use Rattle.std.specs.Option.{option_map_or}
 use Rattle.std.specs.Rc.{rc_slice_items}
 use Rattle.ti_base.specs.declared.faults.Fault.{Fault}
 use Rattle.ti_source.specs.declared.code.Code.{Code}
-use Rattle.ti_source.specs.declared.code.Code.TheVariants.{BadHeader, NamesTooLong, MissingUse, Circular, Unresolved, TooLarge, DuplicateName}
+use Rattle.ti_source.specs.declared.code.Code.TheVariants.{MissingUse, Circular, Unresolved, TooLarge, DuplicateName}
+use Rattle.ti_source.specs.Codes.{is_of_header}
 use Rattle.ti_source.specs.Reading.{Reading, ReadItem, ReadFault}
 use Rattle.ti_base.specs.Owner.{owner, owned, is_among}
 use Rattle.ti_base.specs.Expansion.{resolves}
@@ -33,12 +34,6 @@ fault_between (Some block) false does_resolve = if does_resolve block then None 
 -- what is wrong with the use of a name by the block at that position, if something is
 abbrev pub use_fault : List Reading → ℕ → List ℕ → Option Code
 use_fault blocks at name = fault_between (owned blocks name) (leads_to blocks name at) (resolves blocks)
-
--- whether a fault is one of the header
-abbrev pub is_of_header : Code → Bool
-is_of_header BadHeader = true
-is_of_header NamesTooLong = true
-is_of_header _ = false
 
 -- a fault that reading the block gave
 abbrev pub local_fault : ℕ → ReadFault → SourceFault

@@ -7,6 +7,7 @@ pub mod Report
 pub mod Edits
 pub mod Resolution
 pub mod Entries
+pub mod Laws
 pub mod Search
 pub mod Usable
 pub mod Bounds

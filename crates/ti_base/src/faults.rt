@@ -1,12 +1,13 @@
 // The faults of a source: of each block those of its header, its names, its items and its entry.
 ghost use Rattle.std.specs.Prelude.{◌≡◌, ◌≤◌, ◌<◌, ◌++◌, [], ◌∷◌, List, drop, filter, map, length, slice_get, Some, Bool, true, false, option_map, IfOk, OnOk};
 ghost use Rattle.std.specs.Rc.{rc_slice_items};
+ghost use Rattle.ti_source.specs.Codes.{is_of_header};
 ghost use Rattle.ti_source.specs.Reading.{Reading, fault_of, reading_of};
 ghost use Rattle.ti_base.specs.Owner.{owner};
 ghost use Rattle.ti_base.specs.Reaching.{Uses};
 ghost use Rattle.ti_base.specs.Compiled.{state_of};
 ghost use Rattle.ti_base.specs.Entries.{state_seen};
-ghost use Rattle.ti_base.specs.Faults.{block_faults, entry_faults, fault_of_use, fault_seen, faults, faults_before, faults_from, is_kept, is_of_header, is_owned_before, IsUser, item_faults, local_fault, local_faults, name_faults, use_fault};
+ghost use Rattle.ti_base.specs.Faults.{block_faults, entry_faults, fault_of_use, fault_seen, faults, faults_before, faults_from, is_kept, is_owned_before, IsUser, item_faults, local_fault, local_faults, name_faults, use_fault};
 
 use crate::circles::leads_to;
 use crate::entries::Entry;

@@ -18,6 +18,7 @@ mod database;
 mod edits;
 mod entries;
 mod faults;
+mod laws;
 mod laying;
 mod owners;
 mod report;
@@ -26,5 +27,8 @@ mod resolution;
 pub use database::{Database, run};
 pub use edits::{Edit, EditError, Edited, Outcome};
 pub use faults::Fault;
+pub use laws::{
+    expansions_are_found, expansions_stay, owners_are_first, use_faults_are_told, ways_are_found,
+};
 pub use laying::{lay, merge};
 pub use report::write_fault;

@@ -1,0 +1,259 @@
+use super::*;
+use std::process::Abort;
+use std::test::Fail;
+use ti_source::Code;
+
+/// A source of these blocks.
+fn source(alloc: Global, texts: &[&[u8]]) -> Result<Database, Fail> {
+    let mut database = Database::new(alloc);
+    for text in texts {
+        let end = database.len();
+        database.insert(end, *text)?;
+    }
+    Ok(database)
+}
+
+/// The entry of a block is these bytes, or there is none.
+fn expect_entry(rt: &impl Abort, database: &Database, at: usize, want: Option<&[u8]>) {
+    assert!(rt; at < database.len());
+    assert_eq!(rt; database.compiled(at), want);
+}
+
+fn expect_report(rt: &impl Abort, database: &Database, want: &str) -> Result<(), Fail> {
+    let report = database.report(1)?;
+    assert_eq!(rt; report.as_slice(), want.as_bytes());
+    Ok(())
+}
+
+/// An entry of a name of one byte with `cols` and nothing else.
+const fn with_cols(name: u8, cols: u8) -> [u8; 16] {
+    [0x1a, 1, 2, 0, 0, 0, 1, 0, 0, 0, 0, 0, name, 0, cols, 0]
+}
+
+/// An entry of a name of one byte that says nothing.
+const fn with_nothing(name: u8) -> [u8; 14] {
+    [0x1a, 1, 2, 0, 0, 0, 0, 0, 0, 0, 0, 0, name, 0]
+}
+
+#[test]
+fn the_leftmost_mention_decides(rt: HostRuntime) -> Result<(), Fail> {
+    let database = source(
+        rt.alloc(),
+        &[b"a,cols#1,\n", b"b,cols#2,\n", b"c,use=a,use=b,\n"],
+    )?;
+    expect_entry(&rt, &database, 2, Some(&with_cols(b'c', 1)));
+    expect_report(&rt, &database, "")?;
+    Ok(())
+}
+
+#[test]
+fn a_cancel_counts_in_a_used_entry(rt: HostRuntime) -> Result<(), Fail> {
+    let database = source(
+        rt.alloc(),
+        &[b"a,cols#1,\n", b"d,cols@,use=a,\n", b"e,use=d,cols#9,\n"],
+    )?;
+    expect_entry(&rt, &database, 1, Some(&with_nothing(b'd')));
+    expect_entry(&rt, &database, 2, Some(&with_nothing(b'e')));
+    Ok(())
+}
+
+#[test]
+fn faults_of_uses(rt: HostRuntime) -> Result<(), Fail> {
+    let database = source(
+        rt.alloc(),
+        &[
+            b"a,use=zz,\n",
+            b"b,use=b,\n",
+            b"c,cols#,\n",
+            b"d,use=c,\n",
+            b"g,am,\n",
+        ],
+    )?;
+    expect_report(
+        &rt,
+        &database,
+        "1: E6 MissingUse zz\n2: E7 Circular b\n3: E3 BadNumber cols\n4: E8 Unresolved c\n",
+    )?;
+    for at in 0..4 {
+        expect_entry(&rt, &database, at, None);
+    }
+    let with_am = [0x1a, 1, 2, 0, 2, 0, 0, 0, 0, 0, 0, 0, b'g', 0, 0, 1];
+    expect_entry(&rt, &database, 4, Some(&with_am));
+    Ok(())
+}
+
+#[test]
+fn owners_may_come_later_and_rings_may_come_and_go(rt: HostRuntime) -> Result<(), Fail> {
+    let mut database = source(rt.alloc(), &[b"p,use=q,\n", b"q,use=r,\n", b"r,cols#1,\n"])?;
+    for (at, name) in [(0, b'p'), (1, b'q'), (2, b'r')] {
+        expect_entry(&rt, &database, at, Some(&with_cols(name, 1)));
+    }
+    database.replace(2, b"r,use=q,\n")?;
+    expect_report(
+        &rt,
+        &database,
+        "1: E8 Unresolved q\n2: E7 Circular r\n3: E7 Circular q\n",
+    )?;
+    for at in 0..3 {
+        expect_entry(&rt, &database, at, None);
+    }
+    database.replace(2, b"r,cols#1,\n")?;
+    expect_report(&rt, &database, "")?;
+    for (at, name) in [(0, b'p'), (1, b'q'), (2, b'r')] {
+        expect_entry(&rt, &database, at, Some(&with_cols(name, 1)));
+    }
+    Ok(())
+}
+
+#[test]
+fn a_name_goes_to_the_first_block_that_has_it(rt: HostRuntime) -> Result<(), Fail> {
+    let mut database = source(rt.alloc(), &[b"n,cols#1,\n", b"u,use=n,\n"])?;
+    expect_entry(&rt, &database, 1, Some(&with_cols(b'u', 1)));
+    database.insert(0, b"n,cols#2,\n")?;
+    expect_entry(&rt, &database, 2, Some(&with_cols(b'u', 2)));
+    expect_entry(&rt, &database, 1, Some(&with_cols(b'n', 1)));
+    expect_report(&rt, &database, "2: W4 DuplicateName n\n")?;
+    assert_eq!(rt; database.owner(b"n"), Some(0));
+    database.remove(0)?;
+    expect_entry(&rt, &database, 0, Some(&with_cols(b'n', 1)));
+    expect_entry(&rt, &database, 1, Some(&with_cols(b'u', 1)));
+    expect_report(&rt, &database, "")?;
+    database.remove(0)?;
+    expect_entry(&rt, &database, 0, None);
+    expect_report(&rt, &database, "1: E6 MissingUse n\n")?;
+    assert_eq!(rt; database.owner(b"n"), None);
+    database.remove(0)?;
+    assert_eq!(rt; database.len(), 0);
+    Ok(())
+}
+
+#[test]
+fn each_refusal_by_its_name(rt: HostRuntime) -> Result<(), Fail> {
+    let mut database = source(rt.alloc(), &[b"a,\n", b"b,\n"])?;
+    assert_eq!(rt; database.insert(2, b"c,\n"), Ok(Edited {}));
+    assert_eq!(rt; database.insert(4, b"d,\n"), Err(EditError::Position));
+    assert_eq!(rt; database.replace(3, b"d,\n"), Err(EditError::Position));
+    assert_eq!(rt; database.remove(3), Err(EditError::Position));
+    let no_blocks: [&[u8]; 4] = [b"", b"# only\n", b"x,\ny,\n", b"x,"];
+    for text in no_blocks {
+        assert_eq!(rt; database.insert(0, text), Err(EditError::NotOneBlock));
+        assert_eq!(rt; database.replace(0, text), Err(EditError::NotOneBlock));
+    }
+    assert_eq!(rt; database.len(), 3);
+
+    let mut empty = Database::new(rt.alloc());
+    assert_eq!(rt; empty.insert(1, b"a,\n"), Err(EditError::Position));
+    assert_eq!(rt; empty.replace(0, b"a,\n"), Err(EditError::Position));
+    assert_eq!(rt; empty.remove(0), Err(EditError::Position));
+    Ok(())
+}
+
+/// A block of a name and a comment of so many bytes.
+fn with_comment(alloc: Global, count: usize) -> Result<Vec<u8>, AllocError> {
+    let mut text = Vec::new(alloc);
+    text.extend_from_slice(b"x,\n#")?;
+    for _ in 0..count {
+        text.push(b'a')?;
+    }
+    text.push(b'\n')?;
+    Ok(text)
+}
+
+#[test]
+fn the_longest_block(rt: HostRuntime) -> Result<(), Fail> {
+    let longest = with_comment(rt.alloc(), 1_048_571)?;
+    assert_eq!(rt; longest.len(), 1_048_576);
+    let longer = with_comment(rt.alloc(), 1_048_572)?;
+    let mut database = Database::new(rt.alloc());
+    assert_eq!(rt; database.insert(0, &longest), Ok(Edited {}));
+    assert_eq!(rt; database.replace(0, &longer), Err(EditError::TooLong));
+    assert_eq!(rt; database.replace(1, &longer), Err(EditError::Position));
+    Ok(())
+}
+
+/// A block of these names with a `cbt` of so many bytes, and further items.
+fn with_cbt(alloc: Global, names: &str, count: usize, items: &str) -> Result<Vec<u8>, AllocError> {
+    let mut text = Vec::new(alloc);
+    text.extend_from_slice(names.as_bytes())?;
+    text.extend_from_slice(b",cbt=")?;
+    for _ in 0..count {
+        text.push(b'A')?;
+    }
+    text.extend_from_slice(items.as_bytes())?;
+    text.extend_from_slice(b",\n")?;
+    Ok(text)
+}
+
+#[test]
+fn the_largest_entry(rt: HostRuntime) -> Result<(), Fail> {
+    let large = with_cbt(rt.alloc(), "x", 4080, "")?;
+    let database = source(rt.alloc(), &[&large, b"v,cbt=B,use=x,\n"])?;
+    expect_report(&rt, &database, "1: E9 TooLarge x\n")?;
+    expect_entry(&rt, &database, 0, None);
+    let with_b = [
+        0x1a, 1, 2, 0, 0, 0, 0, 0, 1, 0, 2, 0, b'v', 0, 0, 0, b'B', 0,
+    ];
+    expect_entry(&rt, &database, 1, Some(&with_b));
+    let largest = [
+        ("x", 4077, ",bw"),
+        ("xy", 4077, ""),
+        ("xy", 4077, ",bw"),
+        ("x", 4079, ""),
+    ];
+    for (names, count, items) in largest {
+        let text = with_cbt(rt.alloc(), names, count, items)?;
+        let database = source(rt.alloc(), &[&text])?;
+        assert!(rt; database.len() == 1);
+        let size = database.compiled(0).map_or(0, |entry| entry.len());
+        assert_eq!(rt; size, 4096, "{names}{items}");
+    }
+    let larger = with_cbt(rt.alloc(), "x", 4078, ",bw")?;
+    let database = source(rt.alloc(), &[&larger])?;
+    expect_entry(&rt, &database, 0, None);
+    Ok(())
+}
+
+#[test]
+fn a_run_goes_on_after_a_refusal(rt: HostRuntime) -> Result<(), Fail> {
+    let edits = [
+        Edit::Insert {
+            at: 0,
+            text: b"a,\n",
+        },
+        Edit::Remove { at: 1 },
+        Edit::Replace {
+            at: 0,
+            text: b"b,cols#3,\n",
+        },
+    ];
+    let (database, outcomes) = run(rt.alloc(), &edits)?;
+    let want = [
+        Outcome::Accepted,
+        Outcome::Refused(EditError::Position),
+        Outcome::Accepted,
+    ];
+    assert_eq!(rt; outcomes.as_slice(), want.as_slice());
+    expect_entry(&rt, &database, 0, Some(&with_cols(b'b', 3)));
+    assert!(rt; database.len() == 1);
+    assert_eq!(rt; database.text(0), b"b,cols#3,\n".as_slice());
+    Ok(())
+}
+
+#[test]
+fn faults_stand_on_lines_of_their_blocks(rt: HostRuntime) -> Result<(), Fail> {
+    let database = source(
+        rt.alloc(),
+        &[b"k,\n# one\n# two\n", b"a,foo,\n", b"b,\n\tuse=zz,\n"],
+    )?;
+    expect_report(
+        &rt,
+        &database,
+        "4: W1 UnknownCapability foo\n6: E6 MissingUse zz\n",
+    )?;
+    let faults = database.faults()?;
+    assert_eq!(rt; faults.len(), 2);
+    assert_eq!(rt; (faults[0].block, faults[0].line), (1, 1));
+    assert_eq!(rt; (faults[1].block, faults[1].line), (2, 2));
+    assert_eq!(rt; faults[1].code, Code::MissingUse);
+    Ok(())
+}
