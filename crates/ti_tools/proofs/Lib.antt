@@ -1,13 +1,6 @@
 pub mod Asked
-pub mod Empty
 pub mod Ending
-pub mod Feeding
 pub mod Filing
 pub mod Holding
-pub mod Leading
-pub mod Lines
-pub mod OneSession
 pub mod Placed
-pub mod Printed
 pub mod Refusing
-pub mod Written

@@ -10,8 +10,8 @@ use Rattle.ti_tools.specs.Placing.{entries}
 use Rattle.ti_tools.specs.Sources.{first_line, refusal_of, texts_of}
 use Rattle.ti_tools.specs.Tree.{Entry}
 use Rattle.ti_tools.specs.declared.outcome.TicOutcome.{TicOutcome}
-use Rattle.ti_tools.specs.declared.tool_error.ToolError.{ToolError}
-use Rattle.ti_tools.specs.declared.tool_error.ToolError.TheVariants.{Memory}
+use Rattle.ti_session.specs.declared.tool_error.ToolError.{ToolError}
+use Rattle.ti_session.specs.declared.tool_error.ToolError.TheVariants.{Memory}
 
 -- what comes of a source, as plain data
 pub record Compilation : Type 0 where

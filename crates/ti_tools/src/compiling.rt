@@ -13,9 +13,9 @@ use crate::entry_files::entry_files;
 use crate::held::hold;
 use crate::outcome::{TicOptions, TicOutcome};
 use crate::sources::{BLOCKS_MAX, check, is_ended, lines};
-use crate::tool_error::ToolError;
 use std::alloc::{AllocError, Global};
 use ti_base::{Database, Fault};
+use ti_session::ToolError;
 use ti_source::blocks;
 
 // The number of the line on which the first block of a source begins.

@@ -1,0 +1,186 @@
+-- What a dialogue holds before and after a line, and what the line leads to.
+use Rattle.std.proofs.Common.{◌≡◌, ℕ, zero, suc, ◌<◌, List, [], ◌∷◌, ◌++◌, length, take, Option, Some, None, Result, Ok, Bool, true, false, refl, sym, ap, ◌∙◌, subst, arith, codes, inl, inr}
+use Rattle.std.specs.Prelude.{bytes_eq, if◌then◌else◌}
+use Rattle.std.proofs.lemmas.List.{length-take-le, take_all, append_assoc}
+use native.Mathlib.Decide.{dec_le}
+use Prim.{yes, no}
+use Rattle.ti_base.specs.Edits.{Change, Step}
+use Rattle.ti_base.specs.declared.edits.EditError.TheVariants.{Position, TooLong, NotOneBlock, TooMany, Memory}
+use Rattle.ti_base.specs.declared.edits.Outcome.{Outcome}
+use Rattle.ti_base.specs.declared.edits.Outcome.TheVariants.{Accepted, Refused}
+use Rattle.ti_session.specs.declared.dialogue.Dialogue.{Dialogue}
+use Rattle.ti_session.specs.declared.requests.Opened.{Opened}
+use Rattle.ti_session.specs.declared.requests.Opened.TheVariants.{Insert, Replace}
+use Rattle.ti_session.specs.declared.tool_error.ToolError.{ToolError}
+use Rattle.ti_session.specs.Dialogue.{Holds, Led}
+use Rattle.ti_session.specs.Replies.{CarriesOut, Wrote, WroteReport}
+use Rattle.ti_session.specs.Requests.{mode_of, opened_change, opened_mode}
+use Rattle.ti_session.specs.Session.{Answers, Command, Leads, Meaning, Mode, Seen, State, alone, asks, edits, ended, goes_on, meant, outcome_text, outside, printed, prints, reports, state}
+use Rattle.ti_session.proofs.Written.{TakesAll-none}
+
+-- ---- a block of which only the front is held
+
+take-take-append : (n : ℕ) (xs ys : List ℕ) → take n (take n xs ++ ys) ≡ take n (xs ++ ys)
+take-take-append zero xs ys = refl
+take-take-append (suc n) [] ys = refl
+take-take-append (suc n) (x ∷ xs) ys = ap (λ (t : List ℕ). x ∷ t) (take-take-append n xs ys)
+
+take-none : (n : ℕ) → take {A = ℕ} n [] ≡ []
+take-none zero = refl
+take-none (suc n) = refl
+
+-- a text that is longer than a block may be is refused as its front is
+Step-of_long : (opened : Opened) (texts next : List (List ℕ)) (text front : List ℕ) (outcome : Outcome) → 1048576 < length front
+    → 1048576 < length text → Step texts (opened_change opened front) outcome next → Step texts (opened_change opened text) outcome next
+Step-of_long (Insert at) texts next text front Accepted long over step = let short = step.0.short in absurd (omega arith)
+Step-of_long (Insert at) texts next text front (Refused Position) long over step = step
+Step-of_long (Insert at) texts next text front (Refused TooLong) long over step = ((step.0.0, λ short. omega arith), step.1)
+Step-of_long (Insert at) texts next text front (Refused NotOneBlock) long over step = let short = step.0.1 in absurd (omega arith)
+Step-of_long (Insert at) texts next text front (Refused TooMany) long over step = let short = step.0.1 in absurd (omega arith)
+Step-of_long (Insert at) texts next text front (Refused Memory) long over step = let short = step.0.short in absurd (omega arith)
+Step-of_long (Replace at) texts next text front Accepted long over step = let short = step.0.short in absurd (omega arith)
+Step-of_long (Replace at) texts next text front (Refused Position) long over step = step
+Step-of_long (Replace at) texts next text front (Refused TooLong) long over step = ((step.0.0, λ short. omega arith), step.1)
+Step-of_long (Replace at) texts next text front (Refused NotOneBlock) long over step = let short = step.0.1 in absurd (omega arith)
+Step-of_long (Replace at) texts next text front (Refused TooMany) long over step = let short = step.0.1 in absurd (omega arith)
+Step-of_long (Replace at) texts next text front (Refused Memory) long over step = let short = step.0.short in absurd (omega arith)
+
+pub Step-of_front : (opened : Opened) (texts next : List (List ℕ)) (text : List ℕ) (limit : ℕ) (outcome : Outcome) → 1048576 < limit
+    → Step texts (opened_change opened (take limit text)) outcome next → Step texts (opened_change opened text) outcome next
+Step-of_front opened texts next text limit outcome room step = elim (dec_le (length text) limit) [
+  | yes fits ↦ subst (λ (t : List ℕ). Step texts (opened_change opened t) outcome next) (take_all limit text fits) step
+  | no over ↦
+      let front : length (take limit text) ≡ limit = length-take-le limit text (omega arith) in
+      Step-of_long opened texts next text (take limit text) outcome (omega arith) (omega arith) step
+]
+
+-- ---- holding
+
+pub Holds-outside : (d d2 : Dialogue) (s : State) → s.mode ≡ outside → Holds d s → d2.block ≡ d.block → d2.opened ≡ d.opened
+    → Holds d2 (state d2.database outside)
+Holds-outside d d2 s is held same_block same_opened = record {
+  text = held.text;
+  texts = refl;
+  mode = sym is ∙ held.mode ∙ ap (λ (o : Option Opened). mode_of o held.text) (sym same_opened);
+  block = rw same_block held.block;
+  room = rw same_block held.room;
+}
+
+pub Holds-closed : (d d2 : Dialogue) (s : State) → Holds d s → d2.block ≡ d.block → d2.opened ≡ None
+    → Holds d2 (state d2.database outside)
+Holds-closed d d2 s held same_block none = record {
+  text = held.text;
+  texts = refl;
+  mode = ap (λ (o : Option Opened). mode_of o held.text) (sym none);
+  block = rw same_block held.block;
+  room = rw same_block held.room;
+}
+
+pub Holds-opened : (d d2 : Dialogue) (s : State) (opened : Opened) → Holds d s → d2.database ≡ d.database → d2.block.bytes.items ≡ []
+    → d2.block.limit ≡ d.block.limit → d2.opened ≡ Some opened → Holds d2 (state s.texts (opened_mode opened []))
+Holds-opened d d2 s opened held same_texts empty same_limit is = record {
+  text = [];
+  texts = same_texts ∙ held.texts;
+  mode = ap (λ (o : Option Opened). mode_of o []) (sym is);
+  block = empty ∙ sym (take-none d2.block.limit);
+  room = rw same_limit held.room;
+}
+
+pub Holds-added : (d d2 : Dialogue) (s : State) (opened : Opened) (line : List ℕ) (held : Holds d s) → d2.database ≡ d.database
+    → d.opened ≡ Some opened → d2.opened ≡ d.opened → d2.block.limit ≡ d.block.limit
+    → d2.block.bytes.items ≡ take d.block.limit (take d.block.limit (d.block.bytes.items ++ line) ++ 10 ∷ [])
+    → Holds d2 (state s.texts (opened_mode opened (held.text ++ ended line)))
+Holds-added d d2 s opened line held same_texts is same_opened same_limit added =
+    let limit = d.block.limit in
+    let text = held.text in record {
+      text = text ++ ended line;
+      texts = same_texts ∙ held.texts;
+      mode = ap (λ (o : Option Opened). mode_of o (text ++ ended line)) (sym (same_opened ∙ is));
+      block = added ∙ ap (λ (t : List ℕ). take limit (take limit (t ++ line) ++ 10 ∷ [])) held.block
+          ∙ ap (λ (t : List ℕ). take limit (t ++ 10 ∷ [])) (take-take-append limit text line)
+          ∙ take-take-append limit (text ++ line) (10 ∷ []) ∙ ap (λ (t : List ℕ). take limit t) (append_assoc text line (10 ∷ []))
+          ∙ ap (λ (n : ℕ). take n (text ++ ended line)) (sym same_limit);
+      room = rw same_limit held.room;
+    }
+
+-- ---- what a line means within a block
+
+meant-opened : (opened : Opened) (text line : List ℕ) → meant (opened_mode opened text) line
+    ≡ (if bytes_eq line (codes ".") then asks (edits (opened_change opened text)) else goes_on (opened_mode opened (text ++ ended line)))
+meant-opened (Insert at) text line = refl
+meant-opened (Replace at) text line = refl
+
+pub meant-at_end : (mode : Mode) (now : Option Opened) (opened : Opened) (text line : List ℕ) → mode ≡ mode_of now text → now ≡ Some opened
+    → bytes_eq line (codes ".") ≡ true → meant mode line ≡ asks (edits (opened_change opened text))
+meant-at_end mode now opened text line is held dot =
+    ap (λ (m : Mode). meant m line) (is ∙ ap (λ (o : Option Opened). mode_of o text) held) ∙ meant-opened opened text line
+    ∙ ap (λ (b : Bool). if b then asks (edits (opened_change opened text)) else goes_on (opened_mode opened (text ++ ended line))) dot
+
+pub meant-in_block : (mode : Mode) (now : Option Opened) (opened : Opened) (text line : List ℕ) → mode ≡ mode_of now text → now ≡ Some opened
+    → bytes_eq line (codes ".") ≡ false → meant mode line ≡ goes_on (opened_mode opened (text ++ ended line))
+meant-in_block mode now opened text line is held other =
+    ap (λ (m : Mode). meant m line) (is ∙ ap (λ (o : Option Opened). mode_of o text) held) ∙ meant-opened opened text line
+    ∙ ap (λ (b : Bool). if b then asks (edits (opened_change opened text)) else goes_on (opened_mode opened (text ++ ended line))) other
+
+pub meant-alone : (mode : Mode) (line : List ℕ) → mode ≡ outside → meant mode line ≡ alone line
+meant-alone mode line is = ap (λ (m : Mode). meant m line) is
+
+-- ---- what a line leads to
+
+pub Led-on : (meaning : Meaning) (s : State) (d : Dialogue) (now : Seen) (mode : Mode) → meaning ≡ goes_on mode
+    → Holds d (state s.texts mode) → Led meaning s d now now (Ok tt)
+Led-on meaning s d now mode is held = record {
+  next = state s.texts mode;
+  reply = [];
+  leads = subst (λ (m : Meaning). Leads m s (state s.texts mode) []) (sym is) (refl, refl);
+  holds = held;
+  wrote = TakesAll-none now;
+}
+
+pub Led-asks : (meaning : Meaning) (s : State) (d : Dialogue) (before now : Seen) (result : Result Unit ToolError) (command : Command)
+    (reply : List ℕ) → meaning ≡ asks command → Answers s.texts command d.database reply → Holds d (state d.database outside)
+    → Wrote before now reply result → Led meaning s d before now result
+Led-asks meaning s d before now result command reply is answers held wrote = record {
+  next = state d.database outside;
+  reply = reply;
+  leads = subst (λ (m : Meaning). Leads m s (state d.database outside) reply) (sym is) (refl, answers);
+  holds = held;
+  wrote = wrote;
+}
+
+pub Led-edits : (meaning : Meaning) (s : State) (d : Dialogue) (before now : Seen) (result : Result Unit ToolError) (change : Change)
+    (texts : List (List ℕ)) → meaning ≡ asks (edits change) → texts ≡ s.texts → CarriesOut texts change d.database before now result
+    → Holds d (state d.database outside) → Led meaning s d before now result
+Led-edits meaning s d before now result change texts is same carried held =
+    Led-asks meaning s d before now result (edits change) (outcome_text carried.outcome) is
+    (carried.outcome, subst (λ (t : List (List ℕ)). Step t change carried.outcome d.database) same carried.step, refl) held carried.wrote
+
+pub Led-reports : (meaning : Meaning) (s : State) (d : Dialogue) (before now : Seen) (result : Result Unit ToolError)
+    (texts : List (List ℕ)) → meaning ≡ asks reports → texts ≡ s.texts → d.database ≡ texts → WroteReport texts before now result
+    → Holds d (state d.database outside) → Led meaning s d before now result
+Led-reports meaning s d before now result texts is same kept (inl wrote) held =
+    Led-asks meaning s d before now result reports _ is (kept ∙ same, inl (rw same refl)) held wrote
+Led-reports meaning s d before now result texts is same kept (inr wrote) held =
+    Led-asks meaning s d before now result reports _ is (kept ∙ same, inr refl) held wrote
+
+pub Led-same : (meaning other : Meaning) (s : State) (d : Dialogue) (before now : Seen) (result : Result Unit ToolError) → meaning ≡ other
+    → Led other s d before now result → Led meaning s d before now result
+Led-same meaning other s d before now result is led =
+    subst (λ (m : Meaning). Led m s d before now result) (sym is) led
+
+pub Led-prints : (meaning : Meaning) (s : State) (d : Dialogue) (before now : Seen) (result : Result Unit ToolError) (at : ℕ)
+    (texts : List (List ℕ)) → meaning ≡ asks (prints at) → texts ≡ s.texts → d.database ≡ texts → Wrote before now (printed texts at) result
+    → Holds d (state d.database outside) → Led meaning s d before now result
+Led-prints meaning s d before now result at texts is same kept wrote held =
+    Led-asks meaning s d before now result (prints at) (printed texts at) is
+    (kept ∙ same, ap (λ (t : List (List ℕ)). printed t at) same) held wrote
+
+pub CarriesOut-of_front : (opened : Opened) (text : List ℕ) (limit : ℕ) (texts : List (List ℕ)) (change : Change) (next : List (List ℕ))
+    (before now : Seen) (result : Result Unit ToolError) → 1048576 < limit → change ≡ opened_change opened (take limit text)
+    → CarriesOut texts change next before now result → CarriesOut texts (opened_change opened text) next before now result
+CarriesOut-of_front opened text limit texts change next before now result room is carried =
+    record {
+      outcome = carried.outcome;
+      step = Step-of_front opened texts next text limit carried.outcome room (subst (λ (x : Change). Step texts x carried.outcome next) is carried.step);
+      wrote = carried.wrote;
+    }

@@ -1,0 +1,197 @@
+-- The lines of a script, and the answers to them, are determined but for want of memory.
+use Rattle.std.proofs.Common.{◌≡◌, ◌⊎◌, ℕ, List, [], ◌∷◌, ◌++◌, refl, sym, ap, ◌∙◌, subst, append_assoc, inl, inr}
+use Rattle.std.specs.List.{flat_map, AllByRecursion}
+use Rattle.ti_base.specs.Edits.{Change, Step}
+use Rattle.ti_base.specs.declared.edits.EditError.TheVariants.{Position, TooLong, NotOneBlock, TooMany, Memory}
+use Rattle.ti_base.specs.declared.edits.Outcome.{Outcome}
+use Rattle.ti_base.specs.declared.edits.Outcome.TheVariants.{Accepted, Refused}
+use Rattle.ti_session.specs.ScriptLaws.{OneAnswer, OneOutput, OneSplit, Part, WantsMemory}
+use Rattle.ti_session.specs.Session.{Answers, IsOneLine, Mode, Runs, State, asks, closing, edits, ended, goes_on, meant, outcome_text, outside, prints, refused_text, reports, start, state, unknown, with_last}
+
+-- ---- lines
+
+-- two lines that begin the same bytes are one
+ended-same : (line other : List ℕ) (rest later : List ℕ) → IsOneLine line → IsOneLine other → ended line ++ rest ≡ ended other ++ later
+    → (line ≡ other) × (rest ≡ later)
+ended-same [] [] rest later a b is = (refl, cc)
+ended-same [] (byte ∷ other) rest later a b is = let newline : byte ≡ 10 = cc in absurd (b.0 newline)
+ended-same (byte ∷ line) [] rest later a b is = let newline : byte ≡ 10 = cc in absurd (a.0 newline)
+ended-same (byte ∷ line) (first ∷ other) rest later a b is =
+    let head : byte ≡ first = cc in
+    let tail : ended line ++ rest ≡ ended other ++ later = cc in
+    let same = ended-same line other rest later a.1 b.1 tail in
+    let lines : line ≡ other = same.0 in
+    (cc, same.1)
+
+-- bytes without a newline begin with no line that has one
+ended-not_one : (bytes line later : List ℕ) → IsOneLine bytes → bytes ≡ ended line ++ later → ⊥
+ended-not_one [] [] later one is = absurd (cc)
+ended-not_one [] (byte ∷ line) later one is = absurd (cc)
+ended-not_one (byte ∷ bytes) [] later one is = let newline : byte ≡ 10 = cc in one.0 newline
+ended-not_one (byte ∷ bytes) (first ∷ line) later one is =
+    let tail : bytes ≡ ended line ++ later = cc in
+    ended-not_one bytes line later one.1 tail
+
+lines-same : (lines others : List (List ℕ)) (rest other : List ℕ) → AllByRecursion IsOneLine lines → AllByRecursion IsOneLine others
+    → IsOneLine rest → IsOneLine other → flat_map ended lines ++ rest ≡ flat_map ended others ++ other
+    → (lines ≡ others) × (rest ≡ other)
+lines-same [] [] rest other a b p q is = (refl, is)
+lines-same [] (line ∷ others) rest other a b p q is =
+    absurd (ended-not_one rest line (flat_map ended others ++ other) p (is ∙ append_assoc (ended line) (flat_map ended others) other))
+lines-same (line ∷ lines) [] rest other a b p q is =
+    absurd (ended-not_one other line (flat_map ended lines ++ rest) q (sym is ∙ append_assoc (ended line) (flat_map ended lines) rest))
+lines-same (line ∷ lines) (first ∷ others) rest other a b p q is =
+    let heads = ended-same line first (flat_map ended lines ++ rest) (flat_map ended others ++ other) a.0 b.0
+    (sym (append_assoc (ended line) (flat_map ended lines) rest) ∙ is ∙ append_assoc (ended first) (flat_map ended others) other) in
+    let tails = lines-same lines others rest other a.1 b.1 p q heads.1 in
+    let one : line ≡ first = heads.0 in
+    let all : lines ≡ others = tails.0 in
+    (cc, tails.1)
+
+pub one_split-law : OneSplit
+one_split-law bytes lines others rest other a b =
+    lines-same lines others rest other a.each b.each a.partial b.partial (sym a.whole ∙ b.whole)
+
+-- ---- answers
+
+Step-one : (texts next later : List (List ℕ)) (change : Change) (outcome other : Outcome) → Step texts change outcome next
+    → Step texts change other later
+    → (outcome ≡ Refused Memory) ⊎ (other ≡ Refused Memory) ⊎ ((outcome ≡ other) × (next ≡ later))
+Step-one texts next later change (Refused Memory) other x y = inl refl
+Step-one texts next later change Accepted (Refused Memory) x y = inr (inl refl)
+Step-one texts next later change Accepted Accepted x y = inr (inr (refl, x.1 ∙ sym y.1))
+Step-one texts next later change Accepted (Refused Position) x y = absurd (y.0 x.0.in_place)
+Step-one texts next later change Accepted (Refused TooLong) x y = absurd (y.0.1 x.0.short)
+Step-one texts next later change Accepted (Refused NotOneBlock) x y = absurd (y.0.2 x.0.block)
+Step-one texts next later change Accepted (Refused TooMany) x y = absurd (y.0.3 x.0.room)
+Step-one texts next later change (Refused Position) (Refused Memory) x y = inr (inl refl)
+Step-one texts next later change (Refused Position) Accepted x y = absurd (x.0 y.0.in_place)
+Step-one texts next later change (Refused Position) (Refused Position) x y = inr (inr (refl, x.1 ∙ sym y.1))
+Step-one texts next later change (Refused Position) (Refused TooLong) x y = absurd (x.0 y.0.0)
+Step-one texts next later change (Refused Position) (Refused NotOneBlock) x y = absurd (x.0 y.0.0)
+Step-one texts next later change (Refused Position) (Refused TooMany) x y = absurd (x.0 y.0.0)
+Step-one texts next later change (Refused TooLong) (Refused Memory) x y = inr (inl refl)
+Step-one texts next later change (Refused TooLong) Accepted x y = absurd (x.0.1 y.0.short)
+Step-one texts next later change (Refused TooLong) (Refused Position) x y = absurd (y.0 x.0.0)
+Step-one texts next later change (Refused TooLong) (Refused TooLong) x y = inr (inr (refl, x.1 ∙ sym y.1))
+Step-one texts next later change (Refused TooLong) (Refused NotOneBlock) x y = absurd (x.0.1 y.0.1)
+Step-one texts next later change (Refused TooLong) (Refused TooMany) x y = absurd (x.0.1 y.0.1)
+Step-one texts next later change (Refused NotOneBlock) (Refused Memory) x y = inr (inl refl)
+Step-one texts next later change (Refused NotOneBlock) Accepted x y = absurd (x.0.2 y.0.block)
+Step-one texts next later change (Refused NotOneBlock) (Refused Position) x y = absurd (y.0 x.0.0)
+Step-one texts next later change (Refused NotOneBlock) (Refused TooLong) x y = absurd (y.0.1 x.0.1)
+Step-one texts next later change (Refused NotOneBlock) (Refused NotOneBlock) x y = inr (inr (refl, x.1 ∙ sym y.1))
+Step-one texts next later change (Refused NotOneBlock) (Refused TooMany) x y = absurd (x.0.2 y.0.2)
+Step-one texts next later change (Refused TooMany) (Refused Memory) x y = inr (inl refl)
+Step-one texts next later change (Refused TooMany) Accepted x y = absurd (x.0.3 y.0.room)
+Step-one texts next later change (Refused TooMany) (Refused Position) x y = absurd (y.0 x.0.0)
+Step-one texts next later change (Refused TooMany) (Refused TooLong) x y = absurd (y.0.1 x.0.1)
+Step-one texts next later change (Refused TooMany) (Refused NotOneBlock) x y = absurd (y.0.2 x.0.2)
+Step-one texts next later change (Refused TooMany) (Refused TooMany) x y = inr (inr (refl, x.1 ∙ sym y.1))
+
+State-same : (a b : State) → a.texts ≡ b.texts → a.mode ≡ b.mode → a ≡ b
+State-same a b texts mode = ap (λ (t : List (List ℕ)). state t a.mode) texts ∙ ap (λ (m : Mode). state b.texts m) mode
+
+Leads-same : (after other : State) → after.mode ≡ outside → other.mode ≡ outside → after.texts ≡ other.texts → after ≡ other
+Leads-same after other a b texts = State-same after other texts (a ∙ sym b)
+
+edits-one : (texts : List (List ℕ)) (after other : State) (reply answer : List ℕ) (change : Change) → after.mode ≡ outside → other.mode ≡ outside
+    → Answers texts (edits change) after.texts reply → Answers texts (edits change) other.texts answer
+    → (reply ≡ refused_text Memory) ⊎ (answer ≡ refused_text Memory) ⊎ ((after ≡ other) × (reply ≡ answer))
+edits-one texts after other reply answer change a b x y =
+    elim (Step-one texts after.texts other.texts change x.0 y.0 x.1 y.1) [
+      | inl memory ↦ inl (x.2 ∙ ap outcome_text memory)
+      | inr (inl memory) ↦ inr (inl (y.2 ∙ ap outcome_text memory))
+      | inr (inr same) ↦ inr (inr (Leads-same after other a b same.1, x.2 ∙ ap outcome_text same.0 ∙ sym y.2))
+    ]
+
+reports-one : (texts : List (List ℕ)) (after other : State) (reply answer : List ℕ) → after.mode ≡ outside → other.mode ≡ outside
+    → Answers texts reports after.texts reply → Answers texts reports other.texts answer
+    → (reply ≡ refused_text Memory) ⊎ (answer ≡ refused_text Memory) ⊎ ((after ≡ other) × (reply ≡ answer))
+reports-one texts after other reply answer a b x y =
+    elim x.1 [
+      | inr memory ↦ inl memory
+      | inl first ↦ elim y.1 [
+        | inr memory ↦ inr (inl memory)
+        | inl second ↦ inr (inr (Leads-same after other a b (x.0 ∙ sym y.0), first ∙ sym second))
+      ]
+    ]
+
+pub one_answer-law : OneAnswer
+one_answer-law (goes_on mode) before after other reply answer x y = inr (inr (x.0 ∙ sym y.0, x.1 ∙ sym y.1))
+one_answer-law (asks (edits change)) before after other reply answer x y = edits-one before.texts after other reply answer change x.0 y.0 x.1 y.1
+one_answer-law (asks (prints at)) before after other reply answer x y =
+    inr (inr (Leads-same after other x.0 y.0 (x.1.0 ∙ sym y.1.0), x.1.1 ∙ sym y.1.1))
+one_answer-law (asks reports) before after other reply answer x y = reports-one before.texts after other reply answer x.0 y.0 x.1 y.1
+one_answer-law (asks unknown) before after other reply answer x y =
+    inr (inr (Leads-same after other x.0 y.0 (x.1.0 ∙ sym y.1.0), x.1.1 ∙ sym y.1.1))
+
+-- ---- outputs
+
+Part-behind : (output other reply : List ℕ) → Part output other → Part (reply ++ output) (reply ++ other)
+Part-behind output other reply part = record {
+  front = reply ++ part.front;
+  later = part.later;
+  after = part.after;
+  one = ap (λ (x : List ℕ). reply ++ x) part.one ∙ sym (append_assoc reply part.front part.later);
+  two = ap (λ (x : List ℕ). reply ++ x) part.two ∙ sym (append_assoc reply part.front part.after);
+  wants = part.wants;
+}
+
+WantsMemory-more : (output more : List ℕ) → WantsMemory output → WantsMemory (output ++ more)
+WantsMemory-more output more wants =
+    (wants.0 ++ more, ap (λ (x : List ℕ). x ++ more) wants.1 ∙ append_assoc (refused_text Memory) wants.0 more)
+
+wants-more : (later after more most : List ℕ) → WantsMemory later ⊎ WantsMemory after
+    → WantsMemory (later ++ more) ⊎ WantsMemory (after ++ most)
+wants-more later after more most (inl wants) = inl (WantsMemory-more later more wants)
+wants-more later after more most (inr wants) = inr (WantsMemory-more after most wants)
+
+Part-before : (output other more most : List ℕ) → Part output other → Part (output ++ more) (other ++ most)
+Part-before output other more most part = record {
+  front = part.front;
+  later = part.later ++ more;
+  after = part.after ++ most;
+  one = ap (λ (x : List ℕ). x ++ more) part.one ∙ append_assoc part.front part.later more;
+  two = ap (λ (x : List ℕ). x ++ most) part.two ∙ append_assoc part.front part.after most;
+  wants = wants-more part.later part.after more most part.wants;
+}
+
+Part-here : (output other : List ℕ) → WantsMemory output ⊎ WantsMemory other → Part output other
+Part-here output other wants = record { front = []; later = output; after = other; one = refl; two = refl; wants = wants }
+
+Runs-one : (lines : List (List ℕ)) (before after last : State) (output other : List ℕ) → Runs lines before after output
+    → Runs lines before last other → ((after ≡ last) × (output ≡ other)) ⊎ Part output other
+Runs-one [] before after last output other x y = inl (x.0 ∙ sym y.0, x.1 ∙ sym y.1)
+Runs-one (line ∷ lines) before after last output other x y =
+    elim (one_answer-law (meant before.mode line) before x.0 y.0 x.1 y.1 x.3 y.3) [
+      | inl memory ↦ inr (Part-here output other (inl (x.2, x.5 ∙ ap (λ (r : List ℕ). r ++ x.2) memory)))
+      | inr (inl memory) ↦ inr (Part-here output other (inr (y.2, y.5 ∙ ap (λ (r : List ℕ). r ++ y.2) memory)))
+      | inr (inr same) ↦ elim (Runs-one lines x.0 after last x.2 y.2 x.4 (subst (λ (s : State). Runs lines s last y.2) (sym same.0) y.4)) [
+        | inl equal ↦ inl (
+          equal.0,
+          x.5 ∙ ap (λ (r : List ℕ). r ++ x.2) same.1 ∙ ap (λ (r : List ℕ). y.1 ++ r) equal.1 ∙ sym y.5,
+        )
+        | inr part ↦
+            let behind : Part (x.1 ++ x.2) (x.1 ++ y.2) = Part-behind x.2 y.2 x.1 part in
+            let other_is : other ≡ x.1 ++ y.2 = y.5 ∙ ap (λ (r : List ℕ). r ++ y.2) (sym same.1) in
+            inr (subst (λ (o : List ℕ). Part output o) (sym other_is)
+            (subst (λ (o : List ℕ). Part o (x.1 ++ y.2)) (sym x.5) behind))
+      ]
+    ]
+
+pub one_output-law : OneOutput
+one_output-law input output other a b =
+    let x = a.complete in
+    let y = b.complete in
+    let same = one_split-law input x.lines y.lines x.rest y.rest x.split y.split in
+    let lines : with_last x.lines x.rest ≡ with_last y.lines y.rest =
+    ap (λ (ls : List (List ℕ)). with_last ls x.rest) same.0 ∙ ap (λ (r : List ℕ). with_last y.lines r) same.1 in
+    elim (Runs-one (with_last x.lines x.rest) start a.end b.end a.replies b.replies x.ran
+    (subst (λ (ls : List (List ℕ)). Runs ls start b.end b.replies) (sym lines) y.ran)) [
+      | inl equal ↦ inl (a.whole ∙ ap (λ (r : List ℕ). r ++ closing a.end.mode) equal.1
+          ∙ ap (λ (s : State). b.replies ++ closing s.mode) equal.0 ∙ sym b.whole)
+      | inr part ↦ inr (subst (λ (o : List ℕ). Part output o) (sym b.whole)
+          (subst (λ (o : List ℕ). Part o (b.replies ++ closing b.end.mode)) (sym a.whole)
+          (Part-before a.replies b.replies (closing a.end.mode) (closing b.end.mode) part)))
+    ]

@@ -1,0 +1,31 @@
+use Rattle.std.proofs.Common.{◌∙◌}
+use Rattle.std.proofs.lemmas.Result.{err_from_is_err_and}
+use Rattle.ti_session.proofs.Feeding.{Goes-last, Goes-line, Goes-over, Goes-stop}
+use Rattle.ti_session.proofs.streaming.feed.Goals as goal
+
+pub returns-in_err-extend-clause-fed : goal.returns-in_err-extend-clause-fed
+returns-in_err-extend-clause-fed g c = λ taken before progress.
+    let p = err_from_is_err_and c.from_residual.result c.from_residual.ensures.1 in
+    rw (p.1, p.2) (Goes-over taken c.args.piece.now c.loop-front.rest.now _ _ before _ (c.loop-front.invariant.goes taken before progress)
+    c.in-Some.front.now _ _ c.in-Some.ensures.0 c.in-Some.ensures.1 c.in_err-extend.ensures.over)
+
+pub returns-in_err-take_line-clause-fed : goal.returns-in_err-take_line-clause-fed
+returns-in_err-take_line-clause-fed g c = λ taken before progress.
+    let p = err_from_is_err_and c.from_residual-in_err-take_line.result c.from_residual-in_err-take_line.ensures.1 in
+    rw (p.1, p.2) (Goes-stop taken c.args.piece.now c.loop-front.rest.now c.in-Some.front.now c.in-Some.later.now _ c.as_slice.result.now _ _ before _ _
+    (c.loop-front.invariant.goes taken before progress) c.in-Some.ensures.0 c.in-Some.ensures.1
+    (rw c.in_ok-extend.ensures.limit at c.as_slice.ensures.within) (c.as_slice.ensures.bytes ∙ c.in_ok-extend.ensures.bytes) _ c.in_err-take_line.ensures)
+
+pub loop-front-preserved : goal.loop-front-preserved
+loop-front-preserved g c = record {
+  limit = c.clear.ensures.limit ∙ c.in_ok-extend.ensures.limit;
+  goes = λ taken before progress.
+      Goes-line taken c.args.piece.now c.loop-front.rest.now c.in-Some.front.now c.in-Some.later.now _ c.as_slice.result.now _ _ before _ _
+      (c.loop-front.invariant.goes taken before progress) c.in-Some.ensures.0 c.in-Some.ensures.1
+      (rw c.in_ok-extend.ensures.limit at c.as_slice.ensures.within) (c.as_slice.ensures.bytes ∙ c.in_ok-extend.ensures.bytes) _ c.in_ok-take_line.ensures c.clear.ensures.bytes;
+}
+
+pub returns-clause-fed : goal.returns-clause-fed
+returns-clause-fed g c = λ taken before progress.
+    Goes-last taken c.args.piece.now c.loop-front.rest.now _ _ before _ (c.loop-front.invariant.goes taken before progress)
+    _ c.extend-2.result c.in_default.ensures c.extend-2.ensures.bytes c.extend-2.ensures.short c.extend-2.ensures.over

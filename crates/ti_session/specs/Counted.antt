@@ -1,0 +1,27 @@
+-- Devices with a count of their failures (own).
+use Rattle.std.specs.Prelude.{ℕ, List, [], ◌∷◌, zero, suc, Result, Ok, Err}
+use Rattle.ti_session.specs.declared.counted.Counted.{Counted}
+
+-- the device, as it is
+abbrev pub device_of : {D : Type 0} → Counted D → D
+device_of c = c.device
+
+-- how often it has failed
+abbrev pub failures_of : {D : Type 0} → Counted D → ℕ
+failures_of c = c.failures.count
+
+-- a call that answers a fault is one failure
+abbrev pub failed_read : {X E : Type 0} → Result X E → ℕ
+failed_read (Ok x) = 0
+failed_read (Err e) = 1
+
+-- so is a call that takes no byte of a piece that has some
+abbrev pub none_taken : ℕ → List ℕ → ℕ
+none_taken zero [] = 0
+none_taken zero (b ∷ bytes) = 1
+none_taken (suc n) bytes = 0
+
+-- a write that answers a fault is one failure, as is one that takes no byte of a piece that has some
+abbrev pub failed_write : {E : Type 0} → Result ℕ E → List ℕ → ℕ
+failed_write (Ok n) bytes = none_taken n bytes
+failed_write (Err e) bytes = 1

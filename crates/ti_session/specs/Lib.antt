@@ -1,0 +1,7 @@
+-- The definitions that the contracts of this crate cite.
+pub mod Counted
+pub mod Dialogue
+pub mod Replies
+pub mod Requests
+pub mod Session
+pub mod ScriptLaws

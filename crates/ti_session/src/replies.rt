@@ -1,0 +1,122 @@
+//! The replies of a session, written to a counted device.
+ghost use Rattle.std.specs.Prelude.{◌≡◌, ◌<◌, ◌≤◌, length};
+ghost use Rattle.std.specs.List.{flat_map};
+ghost use Rattle.ti_base.specs.Edits.{outcome_of};
+ghost use Rattle.ti_session.specs.Counted.{device_of, failures_of};
+ghost use Rattle.ti_session.specs.Replies.{Wrote};
+ghost use Rattle.ti_session.specs.Session.{hex_digit, hex_of, outcome_text, refused_text, seen};
+
+use crate::counted::Counted;
+use crate::tool_error::ToolError;
+use arrayvec::ArrayVec;
+use std::io::Write;
+use ti_base::{EditError, Edited};
+
+/// How many bytes are spelled in hexadecimal at a time.
+const PIECE: usize = 64;
+
+/// Writes bytes to the end.
+///
+/// # Errors
+/// `WriteFault` where the device fails; it then took a front part of the bytes.
+pub fn write_out<W: Write>(writer: &mut Counted<W>, bytes: &[u8]) -> Result<(), ToolError>
+    ensures { Wrote (seen (W.contents (device_of writer.old)) (failures_of writer.old))
+        (seen (W.contents (device_of writer.new)) (failures_of writer.new)) bytes.now result }
+{
+    let mut rest = bytes;
+    while !rest.is_empty() {
+        let Ok(count) = writer.write(rest) else {
+            return Err(ToolError::WriteFault);
+        };
+        if count == 0 {
+            return Err(ToolError::WriteFault);
+        }
+        rest = &rest[count..];
+    }
+    Ok(())
+}
+
+// The reply to a refused request.
+fn refusal(error: EditError) -> &'static [u8]
+    ensures { result.now ≡ refused_text error }
+{
+    match error {
+        EditError::Position => b"refused Position\n",
+        EditError::TooLong => b"refused TooLong\n",
+        EditError::NotOneBlock => b"refused NotOneBlock\n",
+        EditError::TooMany => b"refused TooMany\n",
+        EditError::Memory => b"refused Memory\n",
+    }
+}
+
+/// Writes that a request is refused, and why.
+///
+/// # Errors
+/// `WriteFault`.
+pub fn write_refusal<W: Write>(writer: &mut Counted<W>, error: EditError) -> Result<(), ToolError>
+    ensures { Wrote (seen (W.contents (device_of writer.old)) (failures_of writer.old))
+        (seen (W.contents (device_of writer.new)) (failures_of writer.new)) (refused_text error) result }
+{
+    write_out(writer, refusal(error))
+}
+
+/// Writes what came of an edit.
+///
+/// # Errors
+/// `WriteFault`.
+pub fn write_outcome<W: Write>(
+    writer: &mut Counted<W>,
+    answer: &Result<Edited, EditError>,
+) -> Result<(), ToolError>
+    ensures { Wrote (seen (W.contents (device_of writer.old)) (failures_of writer.old))
+        (seen (W.contents (device_of writer.new)) (failures_of writer.new))
+        (outcome_text (outcome_of answer.now)) result }
+{
+    match answer {
+        Ok(_) => write_out(writer, b"ok\n"),
+        Err(error) => write_refusal(writer, *error),
+    }
+}
+
+// A hexadecimal digit, in lower case.
+fn hex_digit(value: u8) -> u8
+    requires { value < 16 }
+    ensures { result ≡ hex_digit value }
+{
+    if value < 10 {
+        b'0' + value
+    } else {
+        b'a' + (value - 10)
+    }
+}
+
+// A few bytes in hexadecimal.
+fn hex_piece(piece: &[u8]) -> ArrayVec<u8, 128>
+    requires { length piece.now ≤ 64 }
+    ensures { result.items ≡ flat_map hex_of piece.now }
+{
+    let mut text = ArrayVec::new();
+    for byte in piece {
+        text.push(hex_digit(byte / 16));
+        text.push(hex_digit(byte % 16));
+    }
+    text
+}
+
+/// Writes bytes in lower-case hexadecimal. It takes no memory.
+///
+/// # Errors
+/// `WriteFault`.
+pub fn write_hex<W: Write>(writer: &mut Counted<W>, bytes: &[u8]) -> Result<(), ToolError>
+    ensures { Wrote (seen (W.contents (device_of writer.old)) (failures_of writer.old))
+        (seen (W.contents (device_of writer.new)) (failures_of writer.new))
+        (flat_map hex_of bytes.now) result }
+{
+    let mut rest = bytes;
+    while !rest.is_empty() {
+        let (piece, later) = rest.split_at(rest.len().min(PIECE));
+        write_out(writer, hex_piece(piece).as_slice())?;
+        rest = later;
+    }
+    Ok(())
+}

@@ -1,0 +1,95 @@
+//! What a line of a session asks for, outside a block.
+ghost use Rattle.std.specs.Prelude.{◌≡◌, Some};
+ghost use Rattle.ti_session.specs.Requests.{meaning_of};
+ghost use Rattle.ti_session.specs.Session.{alone, number, numbered};
+
+/// A block that lines are to follow for, and the position that it is for.
+#[derive(Clone, Copy)]
+pub enum Opened {
+    /// It is to be put in.
+    Insert {
+        /// The position.
+        at: usize,
+    },
+    /// It is to take another's place.
+    Replace {
+        /// The position.
+        at: usize,
+    },
+}
+
+/// What a line asks for.
+#[derive(Clone, Copy)]
+pub enum Request {
+    /// Nothing: the line is empty.
+    Nothing,
+    /// To take the lines that follow as a block.
+    Open(Opened),
+    /// To take the block at `at` out.
+    Remove {
+        /// The position.
+        at: usize,
+    },
+    /// To print the entry of the block at `at`.
+    Print {
+        /// The position.
+        at: usize,
+    },
+    /// To write the report.
+    Report,
+    /// It is no request.
+    Unknown,
+}
+
+// The number that one to nine decimal digits spell.
+fn number(text: &[u8]) -> Option<usize>
+    ensures { result ≡ number text.now }
+{
+    if text.is_empty() || text.len() > 9 {
+        return None;
+    }
+    let mut value = 0;
+    for byte in text {
+        if !byte.is_ascii_digit() {
+            return None;
+        }
+        value = 10 * value + (*byte - b'0') as usize;
+    }
+    Some(value)
+}
+
+// What a letter with a number asks for.
+fn numbered(letter: u8, at: usize) -> Request
+    ensures { meaning_of result ≡ numbered letter (Some at) }
+{
+    match letter {
+        b'i' => Request::Open(Opened::Insert { at }),
+        b'r' => Request::Open(Opened::Replace { at }),
+        b'd' => Request::Remove { at },
+        b'p' => Request::Print { at },
+        _ => Request::Unknown,
+    }
+}
+
+/// What a line asks for that stands outside a block.
+pub fn read_request(line: &[u8]) -> Request
+    ensures { meaning_of result ≡ alone line.now }
+{
+    let Some((letter, rest)) = line.split_first() else {
+        return Request::Nothing;
+    };
+    let Some((space, digits)) = rest.split_first() else {
+        return if *letter == b'f' {
+            Request::Report
+        } else {
+            Request::Unknown
+        };
+    };
+    if *space != b' ' {
+        return Request::Unknown;
+    }
+    match number(digits) {
+        Some(at) => numbered(*letter, at),
+        None => Request::Unknown,
+    }
+}

@@ -1,5 +1,0 @@
-use Rattle.ti_tools.proofs.OneSession.{one_answer-law}
-use Rattle.ti_tools.proofs.script_laws.one_answer.Goals as goal
-
-pub returns : goal.returns
-returns c = one_answer-law
