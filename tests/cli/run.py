@@ -17,9 +17,9 @@ Each folder below cases/ is one run of `ti`, in a folder of its own:
               begins; it must also fit in 80 columns
     stderr    what standard error must hold (none: nothing)
     status    the exit status that is wanted (none: 0)
-    files/    the files that must lie there afterwards beside data/, each with
-              its bytes in hexadecimal (white space apart) as PATH.hex; no
-              other file may
+    files     the files that must lie there afterwards beside data/: for each a
+              line `file PATH`, and then its bytes in hexadecimal, white space
+              apart; no other file may, unless there is a file any-files
     then      a command, run by sh in that folder afterwards with `ti` on PATH;
               its standard output must be that of the file then-stdout, and its
               status 0
@@ -60,6 +60,18 @@ def tree(folder):
 
 def lines_of(path):
     return [it for it in bytes_of(path).decode().split("\n") if it]
+
+
+def listed(path):
+    """The files of a list, by their path."""
+    found, name = {}, None
+    for line in lines_of(path):
+        if line.startswith("file "):
+            name = line[len("file ") :]
+            found[name] = b""
+        else:
+            found[name] += bytes.fromhex("".join(line.split()))
+    return found
 
 
 def text_fault(what, got, case):
@@ -104,11 +116,7 @@ def run(case):
         if done.returncode != status:
             faults.append(f"status is {done.returncode}, wanted {status}")
         wanted = dict(lay)
-        for name, text in tree(part("files")).items():
-            if not name.endswith(".hex"):
-                faults.append(f"files/{name} does not end in .hex")
-                continue
-            wanted[name[: -len(".hex")]] = bytes.fromhex("".join(text.decode().split()))
+        wanted.update(listed(part("files")))
         got = tree(folder)
         among = wanted if os.path.isfile(part("any-files")) else {*wanted, *got}
         for name in sorted(among):
