@@ -1,14 +1,13 @@
 -- The laws of the definitions.
-use Rattle.std.proofs.Common.{◌≡◌, ℕ, zero, suc, ◌<◌, ◌≤◌, ◌⊎◌, inl, inr, Bool, true, false, List, [], ◌∷◌, length, Option, Some, None, is_some, option_map, slice_get, refl, sym, ◌∙◌, ap, subst, arith}
+use Rattle.std.proofs.Common.{◌≡◌, ℕ, zero, suc, ◌<◌, ◌⊎◌, inl, inr, true, false, List, [], ◌∷◌, length, Option, Some, None, is_some, option_map, slice_get, refl, sym, ◌∙◌, ap, subst, arith}
 use Rattle.std.proofs.lemmas.Bool.{cases_Bool, false≢true}
 use Rattle.std.proofs.lemmas.Option.{same_Some, none-some}
 use Rattle.ti_source.specs.Reading.{Reading}
 use Rattle.ti_base.specs.Owner.{is_among, owner, owned}
-use Rattle.ti_base.specs.Expansion.{Mention, expand, Resolves, expansion, resolves}
+use Rattle.ti_base.specs.Expansion.{Mention, expand, Resolves, expansion}
 use Rattle.ti_base.specs.Reaching.{LeadsTo, leads_to}
-use Rattle.ti_base.specs.Faults.{fault_between, use_fault}
 use Rattle.ti_base.specs.Laws.{IsFirstWith, OwnersAreFirst, ExpansionsStay, ExpansionsAreFound, WaysAreFound, IsUseFault, nobody_owns, on_a_ring, owner_unresolved, owner_resolved, UseFaultsAreTold}
-use Rattle.ti_base.proofs.Owning.{IsOwnedAt, Owning, nobody, somebody, owning}
+use Rattle.ti_base.proofs.Owning.{nobody, somebody, owning}
 use Rattle.ti_base.proofs.Depth.{expand-le, bounded}
 use Rattle.ti_base.proofs.Faulting.{use_fault_missing, use_fault_ring, use_fault_open, use_fault_none}
 use Rattle.ti_base.proofs.Leading.{leads_to-LeadsTo, LeadsTo-leads_to}

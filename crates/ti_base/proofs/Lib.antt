@@ -15,3 +15,4 @@ pub mod Faulting
 pub mod Bounding
 pub mod Counting
 pub mod LawProofs
+pub mod OrderProofs

@@ -1,12 +1,12 @@
 -- Laws of the definitions, by which the computing ones say what the relations say.
-use Rattle.std.specs.Prelude.{ℕ, ◌≡◌, ◌≤◌, ◌<◌, ◌↔◌, List, length, Option, Some, None, IsTrue, slice_get}
+use Rattle.std.specs.Prelude.{[], ◌∷◌, ◌++◌, map, ℕ, ◌≡◌, ◌≤◌, ◌<◌, ◌↔◌, List, Option, Some, None, IsTrue, slice_get}
 use Rattle.ti_source.specs.declared.code.Code.{Code}
 use Rattle.ti_source.specs.declared.code.Code.TheVariants.{MissingUse, Circular, Unresolved}
-use Rattle.ti_source.specs.Reading.{Reading}
+use Rattle.ti_source.specs.Reading.{Reading, ReadItem, ReadFault}
 use Rattle.ti_base.specs.Owner.{is_among, owner, owned}
 use Rattle.ti_base.specs.Expansion.{Mention, expand, Resolves, expansion, resolves}
-use Rattle.ti_base.specs.Reaching.{LeadsTo, leads_to}
-use Rattle.ti_base.specs.Faults.{use_fault}
+use Rattle.ti_base.specs.Reaching.{used_name, LeadsTo, leads_to}
+use Rattle.ti_base.specs.Faults.{SourceFault, local_fault, use_fault, fault_of_item, faults_before, faults_from, item_faults}
 
 -- the name is the block's at that position, and no block before has it
 pub record IsFirstWith (blocks : List Reading) (name : List ℕ) (at : ℕ) : Type 0 where
@@ -46,3 +46,26 @@ pub data IsUseFault (blocks : List Reading) (at : ℕ) (name : List ℕ) : Optio
 -- each use has the fault that is computed
 abbrev pub UseFaultsAreTold : Type 0
 UseFaultsAreTold = (blocks : List Reading) (at : ℕ) (name : List ℕ) → IsUseFault blocks at name (use_fault blocks at name)
+
+-- a fault of an item with the ordinal of the item
+abbrev pub numbered : ℕ → ReadFault → ℕ × SourceFault
+numbered at fault = (fault.ordinal, local_fault at fault)
+
+-- the faults of the items, each with the ordinal of its item
+abbrev pub numbered_faults : List Reading → ℕ → List ReadFault → List ReadItem → List (ℕ × SourceFault)
+numbered_faults blocks at faults [] = map (numbered at) faults
+numbered_faults blocks at faults (item ∷ items) =
+    map (numbered at) (faults_before item.ordinal faults)
+    ++ (map (λ fault. (item.ordinal, fault)) (fault_of_item blocks at item.line (used_name item.said)) ++ numbered_faults blocks at (faults_from item.ordinal faults) items)
+
+-- numbers from a least one on, none below the one before it
+abbrev pub Climbs : ℕ → List ℕ → Type 0
+Climbs least [] = Unit {0}
+Climbs least (n ∷ ns) = (least ≤ n) × Climbs n ns
+
+-- the faults of the items stand in the order of their items, where reading gives items and faults in their order
+pub record ItemFaultsAreInOrder : Type 0 where
+  pub same : (blocks : List Reading) (at : ℕ) (faults : List ReadFault) (items : List ReadItem) → map (λ (f : ℕ × SourceFault). f.1) (numbered_faults blocks at faults items) ≡ item_faults blocks at faults items
+  pub climbs : (blocks : List Reading) (at : ℕ) (faults : List ReadFault) (items : List ReadItem)
+      → Climbs 0 (map (λ (f : ReadFault). f.ordinal) faults) → Climbs 0 (map (λ (i : ReadItem). i.ordinal) items)
+      → Climbs 0 (map (λ (f : ℕ × SourceFault). f.0) (numbered_faults blocks at faults items))

@@ -1,5 +1,5 @@
 // Laws of the definitions that the calls of this crate stand on. They compute nothing.
-ghost use Rattle.ti_base.specs.Laws.{ExpansionsAreFound, ExpansionsStay, OwnersAreFirst, UseFaultsAreTold, WaysAreFound};
+ghost use Rattle.ti_base.specs.Laws.{ItemFaultsAreInOrder, ExpansionsAreFound, ExpansionsStay, OwnersAreFirst, UseFaultsAreTold, WaysAreFound};
 
 /// A name belongs to the first block that has it.
 pub fn owners_are_first()
@@ -27,4 +27,10 @@ pub fn ways_are_found()
 /// does not resolve.
 pub fn use_faults_are_told()
     ensures { UseFaultsAreTold }
+{}
+
+/// The faults of a block's items stand in the order of their items, those that reading gave and
+/// those of uses.
+pub fn item_faults_are_in_order()
+    ensures { ItemFaultsAreInOrder }
 {}

@@ -28,7 +28,8 @@ pub use database::{Database, run};
 pub use edits::{Edit, EditError, Edited, Outcome};
 pub use faults::Fault;
 pub use laws::{
-    expansions_are_found, expansions_stay, owners_are_first, use_faults_are_told, ways_are_found,
+    expansions_are_found, expansions_stay, item_faults_are_in_order, owners_are_first,
+    use_faults_are_told, ways_are_found,
 };
 pub use laying::{lay, merge};
 pub use report::write_fault;
