@@ -76,7 +76,7 @@ fn session<'a>(alloc: Global) -> Result<Command<'a>, AllocError>
 {
     Ok(
         Command::new(alloc, "session")
-            .about("Edit a source as the lines of a script on standard input ask, and answer each.")
+            .about("Edit a source by a script on standard input, and answer each line.")
             .after_help("Example:\n  ti session < script.txt"),
     )
 }
