@@ -37,10 +37,8 @@ const fn with_nothing(name: u8) -> [u8; 14] {
 
 #[test]
 fn the_leftmost_mention_decides(rt: HostRuntime) -> Result<(), Fail> {
-    let database = source(
-        rt.alloc(),
-        &[b"a,cols#1,\n", b"b,cols#2,\n", b"c,use=a,use=b,\n"],
-    )?;
+    let blocks: [&[u8]; 3] = [b"a,cols#1,\n", b"b,cols#2,\n", b"c,use=a,use=b,\n"];
+    let database = source(rt.alloc(), &blocks)?;
     expect_entry(&rt, &database, 2, Some(&with_cols(b'c', 1)));
     expect_report(&rt, &database, "")?;
     Ok(())
@@ -48,10 +46,8 @@ fn the_leftmost_mention_decides(rt: HostRuntime) -> Result<(), Fail> {
 
 #[test]
 fn a_cancel_counts_in_a_used_entry(rt: HostRuntime) -> Result<(), Fail> {
-    let database = source(
-        rt.alloc(),
-        &[b"a,cols#1,\n", b"d,cols@,use=a,\n", b"e,use=d,cols#9,\n"],
-    )?;
+    let blocks: [&[u8]; 3] = [b"a,cols#1,\n", b"d,cols@,use=a,\n", b"e,use=d,cols#9,\n"];
+    let database = source(rt.alloc(), &blocks)?;
     expect_entry(&rt, &database, 1, Some(&with_nothing(b'd')));
     expect_entry(&rt, &database, 2, Some(&with_nothing(b'e')));
     Ok(())
@@ -69,11 +65,8 @@ fn faults_of_uses(rt: HostRuntime) -> Result<(), Fail> {
             b"g,am,\n",
         ],
     )?;
-    expect_report(
-        &rt,
-        &database,
-        "1: E6 MissingUse zz\n2: E7 Circular b\n3: E3 BadNumber cols\n4: E8 Unresolved c\n",
-    )?;
+    let want = "1: E6 MissingUse zz\n2: E7 Circular b\n3: E3 BadNumber cols\n4: E8 Unresolved c\n";
+    expect_report(&rt, &database, want)?;
     for at in 0..4 {
         expect_entry(&rt, &database, at, None);
     }
@@ -89,11 +82,8 @@ fn owners_may_come_later_and_rings_may_come_and_go(rt: HostRuntime) -> Result<()
         expect_entry(&rt, &database, at, Some(&with_cols(name, 1)));
     }
     database.replace(2, b"r,use=q,\n")?;
-    expect_report(
-        &rt,
-        &database,
-        "1: E8 Unresolved q\n2: E7 Circular r\n3: E7 Circular q\n",
-    )?;
+    let want = "1: E8 Unresolved q\n2: E7 Circular r\n3: E7 Circular q\n";
+    expect_report(&rt, &database, want)?;
     for at in 0..3 {
         expect_entry(&rt, &database, at, None);
     }
@@ -241,15 +231,10 @@ fn a_run_goes_on_after_a_refusal(rt: HostRuntime) -> Result<(), Fail> {
 
 #[test]
 fn faults_stand_on_lines_of_their_blocks(rt: HostRuntime) -> Result<(), Fail> {
-    let database = source(
-        rt.alloc(),
-        &[b"k,\n# one\n# two\n", b"a,foo,\n", b"b,\n\tuse=zz,\n"],
-    )?;
-    expect_report(
-        &rt,
-        &database,
-        "4: W1 UnknownCapability foo\n6: E6 MissingUse zz\n",
-    )?;
+    let blocks: [&[u8]; 3] = [b"k,\n# one\n# two\n", b"a,foo,\n", b"b,\n\tuse=zz,\n"];
+    let database = source(rt.alloc(), &blocks)?;
+    let want = "4: W1 UnknownCapability foo\n6: E6 MissingUse zz\n";
+    expect_report(&rt, &database, want)?;
     let faults = database.faults()?;
     assert_eq!(rt; faults.len(), 2);
     assert_eq!(rt; (faults[0].block, faults[0].line), (1, 1));
