@@ -28,6 +28,7 @@ pub use code::Code;
 pub use cutting::{
     blocks, blocks_are_single, blocks_are_single_once_ended, each_has_cut, is_block, one_cut,
 };
+pub use folding::one_folding;
 pub use header::{each_header_is_read, headers_have_one_reading, is_lookup_name, lookup_names};
 pub use lines::lines_add;
 pub use numbers::{
