@@ -7,7 +7,8 @@ use Rattle.ti_param.specs.declared.acceptor.Phase.TheVariants.{Testing, Taken}
 use Rattle.ti_param.specs.declared.codes.Token.{Token}
 use Rattle.ti_param.specs.declared.codes.Token.TheVariants.{Literal, Operation, If, Then, Else, EndIf}
 use Rattle.ti_param.specs.declared.lexer.Placed.{Placed}
-use Rattle.ti_param.specs.Formats.{Tree, nothing, byte, code, group, choice, placed, Closes, by_mark, by_end, IsSequence, no_piece, byte_piece, code_piece, conditional_piece, IsConditional, test_alone, test_then, test_then_else, Parses, advanced, refusal}
+use Rattle.ti_param.specs.Formats.{Tree, nothing, byte, code, group, choice, placed, Closes, by_mark, by_end, IsSequence, no_piece, byte_piece, code_piece, conditional_piece, IsConditional, test_alone, test_then, test_then_else, Parses}
+use Rattle.ti_param.specs.inside.Formats.{advanced, refusal}
 use Rattle.ti_param.proofs.Fronts.{chosen}
 
 -- ---- the acceptor over a list of tokens

@@ -3,7 +3,8 @@ use Rattle.std.proofs.Common.{◌≡◌, ℕ, List, refl, ap, sym, ◌∙◌, su
 use Rattle.std.specs.Prelude.{Some, None, Result, Ok, Err, IsErrOf, ◌↔◌, ℤ}
 use Rattle.ti_param.specs.declared.errors.ParamError.{ParamError}
 use Rattle.ti_param.specs.declared.errors.ParamError.TheVariants.{BadFormat, StackFull, Memory}
-use Rattle.ti_param.specs.Formats.{Tree, IsTree, IsStuck, stuck_place, tree_of}
+use Rattle.ti_param.specs.Formats.{Tree, IsTree, IsStuck}
+use Rattle.ti_param.specs.inside.Formats.{stuck_place, tree_of}
 use Rattle.ti_param.specs.Meaning.{Argument, State, Outcome, start, meaning}
 use Rattle.ti_param.specs.Expansion.{Expands, Overflows, expanded, ended, unless_stuck, expansion, EndsWith, Ran, IsRefusal}
 use Rattle.ti_param.proofs.Laws.{is_computed}

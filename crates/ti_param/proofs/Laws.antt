@@ -7,8 +7,10 @@ use Rattle.ti_param.specs.declared.acceptor.Phase.{Phase}
 use Rattle.ti_param.specs.declared.codes.Token.{Token}
 use Rattle.ti_param.specs.declared.codes.Token.TheVariants.{Literal}
 use Rattle.ti_param.specs.declared.lexer.Placed.{Placed}
-use Rattle.ti_param.specs.Codes.{IsCode, Front, token_after}
-use Rattle.ti_param.specs.Formats.{Tree, placed, IsCut, no_tokens, then_byte, then_code, Parses, IsTree, BeginsFormat, IsStuck, OneReading, Scan, with_token, scan, scan_of, advanced, refusal, stuck_place, parsed, tree_of, IsComputed}
+use Rattle.ti_param.specs.Codes.{IsCode}
+use Rattle.ti_param.specs.inside.Codes.{Front, token_after}
+use Rattle.ti_param.specs.Formats.{Tree, placed, IsCut, no_tokens, then_byte, then_code, Parses, IsTree, BeginsFormat, IsStuck, OneReading}
+use Rattle.ti_param.specs.inside.Formats.{Scan, with_token, scan, scan_of, advanced, refusal, stuck_place, parsed, tree_of, IsComputed}
 use Rattle.ti_param.specs.Meaning.{State, Outcome, and_then, meaning}
 use Rattle.ti_param.proofs.Reading.{code_read, code_so}
 use Rattle.ti_param.proofs.Scanning.{scan-byte, scan-stop, scan-code}

@@ -2,7 +2,8 @@
 use Rattle.std.proofs.Common.{◌≡◌, ℕ, List, ◌∷◌, refl, ap, ◌∙◌}
 use Rattle.ti_param.specs.declared.codes.Token.TheVariants.{Literal, Operation, Then}
 use Rattle.ti_param.specs.declared.lexer.Placed.{Placed}
-use Rattle.ti_param.specs.Formats.{Tree, nothing, group, choice, placed, Closes, by_mark, by_end, IsSequence, no_piece, byte_piece, code_piece, conditional_piece, IsConditional, test_alone, test_then, test_then_else, Marks, conditional_of, grouped, with_piece, parsed}
+use Rattle.ti_param.specs.Formats.{Tree, nothing, group, choice, placed, Closes, by_mark, by_end, IsSequence, no_piece, byte_piece, code_piece, conditional_piece, IsConditional, test_alone, test_then, test_then_else}
+use Rattle.ti_param.specs.inside.Formats.{Marks, conditional_of, grouped, with_piece, parsed}
 
 -- a sequence stops before a `%t`, an `%e`, a `%;` or the end
 abbrev pub Stopped : List Placed → Type 0

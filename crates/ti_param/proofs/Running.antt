@@ -6,7 +6,8 @@ use Rattle.ti_param.specs.declared.codes.Token.TheVariants.{Literal, Operation, 
 use Rattle.ti_param.specs.declared.errors.ParamError.{ParamError}
 use Rattle.ti_param.specs.declared.errors.ParamError.TheVariants.{BadFormat, StackFull, Memory}
 use Rattle.ti_param.specs.declared.lexer.Placed.{Placed}
-use Rattle.ti_param.specs.Formats.{Tree, nothing, placed, Closes, by_mark, by_end, IsSequence, no_piece, byte_piece, code_piece, conditional_piece, IsConditional, test_alone, test_then, test_then_else, deeper, skipped}
+use Rattle.ti_param.specs.Formats.{Tree, nothing, placed, Closes, by_mark, by_end, IsSequence, no_piece, byte_piece, code_piece, conditional_piece, IsConditional, test_alone, test_then, test_then_else}
+use Rattle.ti_param.specs.inside.Formats.{deeper, skipped}
 use Rattle.ti_param.specs.Meaning.{State, Outcome, and_then, written, popped, top_number, is_zero, performed, meaning}
 use Rattle.ti_param.specs.Expansion.{Ran}
 

@@ -4,8 +4,8 @@ use Rattle.std.specs.Prelude.{Some, None, ◌==◌, if◌then◌else◌}
 use Rattle.std.proofs.lemmas.Bool.Decides.{Decides-eqb}
 use Rattle.ti_param.specs.declared.codes.Token.{Token}
 use Rattle.ti_param.specs.declared.codes.Token.TheVariants.{Literal}
-use Rattle.ti_param.specs.Codes.{Front, token_after}
-use Rattle.ti_param.specs.Formats.{Scan, first_token, with_token, with_code, scan}
+use Rattle.ti_param.specs.inside.Codes.{Front, token_after}
+use Rattle.ti_param.specs.inside.Formats.{Scan, first_token, with_token, with_code, scan}
 use Rattle.ti_param.proofs.Reading.{code_so}
 use Rattle.ti_param.proofs.Fronts.{fails}
 

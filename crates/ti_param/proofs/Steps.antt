@@ -5,7 +5,7 @@ use Rattle.ti_param.specs.declared.acceptor.Phase.{Phase}
 use Rattle.ti_param.specs.declared.codes.Token.{Token}
 use Rattle.ti_param.specs.declared.codes.Token.TheVariants.{Literal, Operation, If, Then, Else, EndIf}
 use Rattle.ti_param.specs.declared.lexer.Placed.{Placed}
-use Rattle.ti_param.specs.Formats.{advanced, refusal, deeper, skipped}
+use Rattle.ti_param.specs.inside.Formats.{advanced, refusal, deeper, skipped}
 
 pub refusal-go : (phases opened : List Phase) (tokens rest : List Placed) (p : Placed) (stop : Option ℕ) → tokens ≡ p ∷ rest →
     advanced phases p.token ≡ Some opened → refusal phases tokens stop ≡ refusal opened rest stop

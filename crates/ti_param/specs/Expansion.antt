@@ -2,7 +2,8 @@
 use Rattle.std.specs.Prelude.{◌≡◌, ℕ, List, Option, Some, None, ℤ, Result, Ok, Err}
 use Rattle.ti_param.specs.declared.errors.ParamError.{ParamError}
 use Rattle.ti_param.specs.declared.errors.ParamError.TheVariants.{BadFormat, StackFull, Memory}
-use Rattle.ti_param.specs.Formats.{Tree, IsTree, stuck_place, tree_of}
+use Rattle.ti_param.specs.Formats.{Tree, IsTree}
+use Rattle.ti_param.specs.inside.Formats.{stuck_place, tree_of}
 use Rattle.ti_param.specs.Meaning.{Argument, State, Outcome, start, meaning}
 
 -- the format has a tree, which runs to this output and these static variables

@@ -15,6 +15,7 @@ use Rattle.ti_param.specs.declared.values.Value.{Value}
 use Rattle.ti_param.specs.declared.values.Value.TheVariants.{Number, Text}
 use Rattle.ti_param.specs.Formats.{Tree, nothing, byte, code, group, choice}
 use Rattle.ti_printing.specs.Printf.{printed}
+use Rattle.ti_text.specs.Ascii as ascii
 
 -- ---- values
 
@@ -129,9 +130,13 @@ popped s = record s { stack = tail_of s.stack }
 abbrev pub with_top : Argument → State → State
 with_top x s = record s { stack = x ∷ s.stack }
 
--- the state with a value put on the stack, unless that has 20 already, which is as many as it holds (own)
+-- how many values the stack holds (own)
+abbrev pub stack_size : ℕ
+stack_size = 20
+
+-- the state with a value put on the stack, unless that is full
 abbrev pub pushed : ℕ → Argument → State → Outcome
-pushed place x s = if nat_lt (length s.stack) 20 then Ok (with_top x s) else Err place
+pushed place x s = if nat_lt (length s.stack) stack_size then Ok (with_top x s) else Err place
 
 -- the number that a variable holds
 abbrev pub fetched : Variable → State → ℤ
@@ -166,7 +171,7 @@ with_print form s = written (printed form (top_number s) (text_of (top s))) (pop
 
 -- what the code at the place does
 abbrev pub performed : ℕ → Code → State → Outcome
-performed place Percent s = Ok (written (37 ∷ []) s)
+performed place Percent s = Ok (written (ascii.percent ∷ []) s)
 performed place Character s = Ok (written (low_byte (top_number s) ∷ []) (popped s))
 performed place (Print form) s = Ok (with_print form s)
 performed place (Parameter i) s = pushed place (slice_index_or s.parameters i (number (pos 0))) s

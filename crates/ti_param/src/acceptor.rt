@@ -2,7 +2,8 @@
 ghost use Rattle.std.specs.Prelude.{◌≡◌, ℕ, ◌≤◌, List, MatchResult, MatchBool, reverse};
 ghost use Rattle.arrayvec.specs.ArrayVec.{array_vec_len};
 ghost use Rattle.ti_param.specs.Expansion.{IsRefusal};
-ghost use Rattle.ti_param.specs.Formats.{stuck_place, advanced, OneReading, IsComputed};
+ghost use Rattle.ti_param.specs.Formats.{OneReading};
+ghost use Rattle.ti_param.specs.inside.Formats.{stuck_place, advanced, IsComputed};
 
 use crate::codes::Token;
 use crate::errors::ParamError;

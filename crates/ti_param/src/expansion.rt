@@ -1,6 +1,7 @@
 //! The bytes that a parameter string sends to the terminal.
 ghost use Rattle.std.specs.Prelude.{◌≡◌, ℕ, ◌+◌, ◌^◌, ◌<◌, ◌≤◌, ◌↔◌, IfOk, IfErr, OnErr, IsErrOf, map, length, MatchResult};
-ghost use Rattle.ti_param.specs.Formats.{Tree, IsTree, IsStuck, skipped, deeper};
+ghost use Rattle.ti_param.specs.Formats.{Tree, IsTree, IsStuck};
+ghost use Rattle.ti_param.specs.inside.Formats.{skipped, deeper};
 ghost use Rattle.ti_param.specs.Meaning.{argument_of, meaning};
 ghost use Rattle.ti_param.specs.Expansion.{Expands, Overflows, Ran, EndsWith, expansion, expanded};
 

@@ -1,5 +1,5 @@
 use Rattle.std.proofs.Common.{◌≡◌, ◌+◌, ◌<◌, ◌^◌, ◌≤◌, length}
-use Rattle.ti_param.specs.Formats.{skipped}
+use Rattle.ti_param.specs.inside.Formats.{skipped}
 use Rattle.ti_param.proofs.expansion.skip.Given as goal
 
 -- what is skipped of the tokens that are left is what is skipped of all

@@ -1,0 +1,3 @@
+-- Computed forms of what the other files define by relations.
+pub mod Codes
+pub mod Formats
