@@ -336,9 +336,9 @@ directive_so text found h =
     let (ps, precision_is, is_precision) = precision_so (span is_digit after).1 (form.count, form.letter ∷ found.1) form.read in
     let parts : text ≡ fs ++ (ds ++ (ps ++ (form.letter ∷ found.1))) =
     flags_is ∙ ap (λ t. fs ++ t) (span-whole is_digit after) ∙ ap (λ t. fs ++ (ds ++ t)) precision_is in
-    let grouped : (fs ++ (ds ++ (ps ++ form.letter ∷ []))) ++ found.1 ≡ fs ++ (ds ++ (ps ++ (form.letter ∷ found.1))) = simp append_assoc in (
+    let grouped_tree : (fs ++ (ds ++ (ps ++ form.letter ∷ []))) ++ found.1 ≡ fs ++ (ds ++ (ps ++ (form.letter ∷ found.1))) = simp append_assoc in (
       fs ++ (ds ++ (ps ++ form.letter ∷ [])),
-      parts ∙ sym grouped,
+      parts ∙ sym grouped_tree,
       subst (IsDirective (fs ++ (ds ++ (ps ++ form.letter ∷ [])))) form.form
           (directive fs ds ps form.letter is_flags (span-all is_digit after) form.small is_precision form.row),
     )

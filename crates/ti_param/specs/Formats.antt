@@ -12,16 +12,16 @@ use Rattle.ti_param.specs.Codes.{IsCode}
 -- ---- tokens
 
 -- a token at a place
-abbrev pub placed : ℕ → Token → Placed
-placed place token = record { place = place; token = token }
+abbrev pub placed_token : ℕ → Token → Placed
+placed_token place token = record { place = place; token = token }
 
 -- the text, which begins at the place, is these tokens: a byte other than `%` stands for itself, a `%` begins a code
 pub data IsCut : ℕ → List ℕ → List Placed → Type 0 where
   no_tokens : {place : ℕ} → IsCut place [] []
   then_byte : {place : ℕ} (b : ℕ) {text : List ℕ} {tokens : List Placed} → (b == ascii.percent) ≡ false →
-      IsCut (suc place) text tokens → IsCut place (b ∷ text) (placed place (Literal b) ∷ tokens)
+      IsCut (suc place) text tokens → IsCut place (b ∷ text) (placed_token place (Literal b) ∷ tokens)
   then_code : {place : ℕ} (front : List ℕ) {token : Token} {rest : List ℕ} {tokens : List Placed} → IsCode front token →
-      IsCut (suc place + length front) rest tokens → IsCut place (ascii.percent ∷ (front ++ rest)) (placed place token ∷ tokens)
+      IsCut (suc place + length front) rest tokens → IsCut place (ascii.percent ∷ (front ++ rest)) (placed_token place token ∷ tokens)
 
 -- ---- trees
 
@@ -40,7 +40,7 @@ pub data Tree : Type 0 where
 
 -- A conditional is closed by a `%;`, or by the end of the format: what is left after it.
 pub data Closes : List Placed → List Placed → Type 0 where
-  by_mark : (place : ℕ) {rest : List Placed} → Closes (placed place EndIf ∷ rest) rest
+  by_mark : (place : ℕ) {rest : List Placed} → Closes (placed_token place EndIf ∷ rest) rest
   by_end : Closes [] []
 
 mutual
@@ -48,21 +48,21 @@ mutual
   pub data IsSequence : ℕ → List Placed → List Placed → Tree → Type 0 where
     no_piece : {depth : ℕ} {left : List Placed} → IsSequence depth left left nothing
     byte_piece : {depth : ℕ} (place b : ℕ) {tokens left : List Placed} {next : Tree} →
-        IsSequence depth tokens left next → IsSequence depth (placed place (Literal b) ∷ tokens) left (byte b next)
+        IsSequence depth tokens left next → IsSequence depth (placed_token place (Literal b) ∷ tokens) left (byte b next)
     code_piece : {depth : ℕ} (place : ℕ) (c : Code) {tokens left : List Placed} {next : Tree} →
-        IsSequence depth tokens left next → IsSequence depth (placed place (Operation c) ∷ tokens) left (code place c next)
+        IsSequence depth tokens left next → IsSequence depth (placed_token place (Operation c) ∷ tokens) left (code place c next)
     conditional_piece : {depth : ℕ} (place : ℕ) {tokens inner after left : List Placed} {conditional next : Tree} → depth < most_open →
         IsConditional (suc depth) tokens inner conditional → Closes inner after → IsSequence depth after left next →
-        IsSequence depth (placed place If ∷ tokens) left (group conditional next)
+        IsSequence depth (placed_token place If ∷ tokens) left (group conditional next)
 
   -- what stands in a conditional: S, or S `%t` S, or S `%t` S `%e` and again what stands in a conditional
   pub data IsConditional : ℕ → List Placed → List Placed → Tree → Type 0 where
     test_alone : {depth : ℕ} {tokens left : List Placed} {test : Tree} → IsSequence depth tokens left test → IsConditional depth tokens left test
     test_then : {depth : ℕ} (place : ℕ) {tokens more left : List Placed} {test taken : Tree} →
-        IsSequence depth tokens (placed place Then ∷ more) test → IsSequence depth more left taken →
+        IsSequence depth tokens (placed_token place Then ∷ more) test → IsSequence depth more left taken →
         IsConditional depth tokens left (choice test taken nothing)
     test_then_else : {depth : ℕ} (place at : ℕ) {tokens more others left : List Placed} {test taken rest : Tree} →
-        IsSequence depth tokens (placed place Then ∷ more) test → IsSequence depth more (placed at Else ∷ others) taken →
+        IsSequence depth tokens (placed_token place Then ∷ more) test → IsSequence depth more (placed_token at Else ∷ others) taken →
         IsConditional depth others left rest → IsConditional depth tokens left (choice test taken rest)
 
 -- the tree of a list of tokens
@@ -90,7 +90,7 @@ pub record IsStuck (format : List ℕ) (place : ℕ) : Type 0 where
   pub cut : IsCut 0 before tokens
   pub begins : BeginsFormat tokens
   pub none : (front rest : List ℕ) (token : Token) → after ≡ front ++ rest → IsCode front token →
-      BeginsFormat (tokens ++ placed place token ∷ []) → ⊥
+      BeginsFormat (tokens ++ placed_token place token ∷ []) → ⊥
 
 -- the law of formats: each has exactly one tree, or exactly one place where it is stuck
 pub record OneReading (format : List ℕ) : Type 0 where

@@ -7,7 +7,7 @@ use Rattle.ti_param.specs.declared.codes.Token.TheVariants.{Literal, Operation, 
 use Rattle.ti_param.specs.declared.lexer.Placed.{Placed}
 use Rattle.ti_text.specs.Ascii as ascii
 use Rattle.ti_param.specs.inside.Codes.{Front, token_after}
-use Rattle.ti_param.specs.Formats.{IsStuck, IsTree, Tree, byte, choice, code, group, most_open, nothing, placed}
+use Rattle.ti_param.specs.Formats.{IsStuck, IsTree, Tree, byte, choice, code, group, most_open, nothing, placed_token}
 
 -- the tokens up to the first `%` that begins no code, and that place, where there is one
 pub record Scan : Type 0 where
@@ -20,7 +20,7 @@ first_token b after = if b == ascii.percent then token_after after else Some (Li
 
 -- a scan with one more token before it, at a place
 abbrev pub with_token : ℕ → Token → Scan → Scan
-with_token place token scan = record { tokens = placed place token ∷ scan.tokens; stop = scan.stop }
+with_token place token scan = record { tokens = placed_token place token ∷ scan.tokens; stop = scan.stop }
 
 -- the code at a place, where one was found, and the tokens of the text after it
 abbrev pub with_code : ℕ → Front Token → (List ℕ → Scan) → Scan
@@ -28,9 +28,9 @@ with_code place None scan_rest = record { tokens = []; stop = Some place }
 with_code place (Some found) scan_rest = with_token place found.0 (scan_rest found.1)
 
 -- the scan of a text that begins at a place, whose first bytes belong to a code that was read
-unfoldable pub scan : (skipped place : ℕ) → List ℕ → Scan
-scan skipped place [] = record { tokens = []; stop = None }
-scan (suc skipped) place (b ∷ text) = scan skipped (suc place) text
+unfoldable pub scan : (passed place : ℕ) → List ℕ → Scan
+scan passed place [] = record { tokens = []; stop = None }
+scan (suc passed) place (b ∷ text) = scan passed (suc place) text
 scan zero place (b ∷ text) =
     if b == ascii.percent then with_code place (token_after text) (λ rest. scan (length text - length rest) (suc place) text)
     else with_token place (Literal b) (scan zero (suc place) text)
@@ -41,24 +41,24 @@ scan_of format = scan 0 0 format
 
 -- The open conditionals after one more token, the innermost first, each with what may come in it: a `%t` in its test, an
 -- `%e` in the part taken. None where the token may not stand there.
-abbrev pub advanced : List Phase → Token → Option (List Phase)
-advanced phases (Literal b) = Some phases
-advanced phases (Operation c) = Some phases
-advanced phases If = if nat_lt (length phases) most_open then Some (Testing ∷ phases) else None
-advanced [] Then = None
-advanced (Testing ∷ phases) Then = Some (Taken ∷ phases)
-advanced (Taken ∷ phases) Then = None
-advanced [] Else = None
-advanced (Testing ∷ phases) Else = None
-advanced (Taken ∷ phases) Else = Some (Testing ∷ phases)
-advanced [] EndIf = None
-advanced (phase ∷ phases) EndIf = Some phases
+abbrev pub phases_after : List Phase → Token → Option (List Phase)
+phases_after phases (Literal b) = Some phases
+phases_after phases (Operation c) = Some phases
+phases_after phases If = if nat_lt (length phases) most_open then Some (Testing ∷ phases) else None
+phases_after [] Then = None
+phases_after (Testing ∷ phases) Then = Some (Taken ∷ phases)
+phases_after (Taken ∷ phases) Then = None
+phases_after [] Else = None
+phases_after (Testing ∷ phases) Else = None
+phases_after (Taken ∷ phases) Else = Some (Testing ∷ phases)
+phases_after [] EndIf = None
+phases_after (phase ∷ phases) EndIf = Some phases
 
 -- the place of the first token that may not stand where it does, else the last argument
 unfoldable pub refusal : List Phase → List Placed → Option ℕ → Option ℕ
 refusal phases [] stop = stop
 refusal phases (p ∷ tokens) stop =
-    elim (advanced phases p.token) [ None ↦ Some p.place | Some opened ↦ refusal opened tokens stop ]
+    elim (phases_after phases p.token) [ None ↦ Some p.place | Some opened ↦ refusal opened tokens stop ]
 
 -- where a format is stuck
 unfoldable pub stuck_place : List ℕ → Option ℕ
@@ -80,28 +80,28 @@ conditional_of test ((Then, taken) ∷ ((Else, other) ∷ marks)) =
 conditional_of test (mark ∷ marks) = (test, nothing, [])
 
 -- a conditional and what follows it as one tree, and the marks after them
-abbrev pub grouped : Tree × Tree × Marks → Tree × Marks
-grouped parts = (group parts.0 parts.1, parts.2)
+abbrev pub grouped_tree : Tree × Tree × Marks → Tree × Marks
+grouped_tree parts = (group parts.0 parts.1, parts.2)
 
 -- the tree and the marks of a list of tokens, by its first token and those of the others
 abbrev pub with_piece : Placed → Tree × Marks → Tree × Marks
 with_piece p (next, marks) = elim p.token [
   | Literal b ↦ (byte b next, marks)
   | Operation c ↦ (code p.place c next, marks)
-  | If ↦ grouped (conditional_of next marks)
+  | If ↦ grouped_tree (conditional_of next marks)
   | Then ↦ (nothing, (Then, next) ∷ marks)
   | Else ↦ (nothing, (Else, next) ∷ marks)
   | EndIf ↦ (nothing, (EndIf, next) ∷ marks)
 ]
 
 -- the tree of a list of tokens up to its first mark, and the marks from there on
-unfoldable pub parsed : List Placed → Tree × Marks
-parsed [] = (nothing, [])
-parsed (p ∷ tokens) = with_piece p (parsed tokens)
+unfoldable pub tree_and_marks : List Placed → Tree × Marks
+tree_and_marks [] = (nothing, [])
+tree_and_marks (p ∷ tokens) = with_piece p (tree_and_marks tokens)
 
 -- the tree of a format that is not stuck
 abbrev pub tree_of : List ℕ → Tree
-tree_of format = (parsed (scan_of format).tokens).0
+tree_of format = (tree_and_marks (scan_of format).tokens).0
 
 -- the law of the computing reader: it gives the tree, and the place, that there are
 pub record IsComputed (format : List ℕ) : Type 0 where
@@ -110,19 +110,19 @@ pub record IsComputed (format : List ℕ) : Type 0 where
 
 -- How many conditionals are open in a skipped part after one more token. None where the token ends the part: its `%;`, or
 -- where that may end it its `%e`.
-abbrev pub deeper : ℕ → Bool → Token → Option ℕ
-deeper level to_else (Literal b) = Some level
-deeper level to_else (Operation c) = Some level
-deeper level to_else If = Some (suc level)
-deeper level to_else Then = Some level
-deeper zero true Else = None
-deeper zero false Else = Some zero
-deeper (suc level) to_else Else = Some (suc level)
-deeper zero to_else EndIf = None
-deeper (suc level) to_else EndIf = Some level
+abbrev pub level_after : ℕ → Bool → Token → Option ℕ
+level_after level to_else (Literal b) = Some level
+level_after level to_else (Operation c) = Some level
+level_after level to_else If = Some (suc level)
+level_after level to_else Then = Some level
+level_after zero true Else = None
+level_after zero false Else = Some zero
+level_after (suc level) to_else Else = Some (suc level)
+level_after zero to_else EndIf = None
+level_after (suc level) to_else EndIf = Some level
 
 -- the tokens after the part that is skipped
-unfoldable pub skipped : ℕ → Bool → List Placed → List Placed
-skipped level to_else [] = []
-skipped level to_else (p ∷ tokens) =
-    elim (deeper level to_else p.token) [ None ↦ tokens | Some next ↦ skipped next to_else tokens ]
+unfoldable pub after_part : ℕ → Bool → List Placed → List Placed
+after_part level to_else [] = []
+after_part level to_else (p ∷ tokens) =
+    elim (level_after level to_else p.token) [ None ↦ tokens | Some next ↦ after_part next to_else tokens ]
