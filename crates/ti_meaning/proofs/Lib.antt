@@ -16,3 +16,4 @@ pub mod KeptWays
 pub mod Exchanging
 pub mod KeptFaults
 pub mod ExchangeLaws
+pub mod UseLawProofs

@@ -12,3 +12,4 @@ pub mod Bounds
 pub mod Exchange
 pub mod Dependents
 pub mod KeptBlocks
+pub mod UseLaws
