@@ -17,3 +17,6 @@ pub mod Exchanging
 pub mod KeptFaults
 pub mod ExchangeLaws
 pub mod UseLawProofs
+pub mod ItemLawProofs
+pub mod ReadOrder
+pub mod DistinctNames

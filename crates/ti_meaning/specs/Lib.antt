@@ -13,3 +13,4 @@ pub mod Exchange
 pub mod Dependents
 pub mod KeptBlocks
 pub mod UseLaws
+pub mod ItemLaws

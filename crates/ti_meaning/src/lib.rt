@@ -6,6 +6,7 @@
 //! - `edits`: what an edit is, and why one is refused
 //! - `edit_laws`: laws on edits, and on what they leave
 //! - `faults`: a fault of a source
+//! - `item_laws`: laws on the faults of items and on names
 //! - `laws`: laws of the definitions
 //! - `use_laws`: laws on what blocks reach, and on the faults of their uses
 #![tactic(auto)]
@@ -13,6 +14,7 @@
 mod edit_laws;
 mod edits;
 mod faults;
+mod item_laws;
 mod laws;
 mod use_laws;
 
@@ -22,6 +24,7 @@ pub use edit_laws::{
 };
 pub use edits::{Edit, EditError, Edited, Outcome};
 pub use faults::Fault;
+pub use item_laws::{item_faults_go_by_ordinal, names_are_distinct, read_items_are_ordered};
 pub use laws::{
     expansions_are_found, expansions_stay, item_faults_are_in_order, owners_are_first,
     use_faults_are_told, ways_are_found,
