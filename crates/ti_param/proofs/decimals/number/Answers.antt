@@ -2,8 +2,8 @@ use Rattle.std.proofs.Common.{◌≡◌, min, true, false, [], ◌∷◌, ap, sy
 use Rattle.std.proofs.lemmas.List.{nil_from_length}
 use Rattle.ti_param.specs.Codes.{span, is_digit, decimal_from}
 use Rattle.ti_param.proofs.Numbers.{span-go, span-end, number-step, number-ends}
-use Rattle.ti_param.proofs.codes.number.Goals as goal
-use Rattle.ti_param.proofs.codes.number.Goals.{in-Some+then-not-is_ascii_digit, in_default}
+use Rattle.ti_param.proofs.decimals.number.Goals as goal
+use Rattle.ti_param.proofs.decimals.number.Goals.{in-Some+then-not-is_ascii_digit, in_default}
 
 pub loop-byte-preserved : goal.loop-byte-preserved
 loop-byte-preserved c =

@@ -3,7 +3,7 @@ use Rattle.std.specs.Int.{w32}
 use Rattle.std.proofs.lemmas.Int.{to_z_pos}
 use Rattle.std.proofs.lemmas.List.{nil_from_length}
 use Rattle.ti_param.proofs.Numbers.{number-none, number-refused, number-read}
-use Rattle.ti_param.proofs.codes.number_constant.Goals as goal
+use Rattle.ti_param.proofs.reader.number_constant.Goals as goal
 
 pub returns-in_err-brace : goal.returns-in_err-brace
 returns-in_err-brace c = rw c.from_residual.ensures (sym (number-none c.args.text.now (sym c.number-value.ensures.rest ∙ nil_from_length _ c.in_err-brace.ensures.cases)))

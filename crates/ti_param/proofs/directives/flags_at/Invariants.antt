@@ -1,6 +1,6 @@
 use Rattle.std.proofs.Common.{◌≡◌, length}
 use Rattle.ti_param.specs.Codes.{span, is_flag, flags_from, flags_of}
-use Rattle.ti_param.proofs.codes.flags_at.Given as goal
+use Rattle.ti_param.proofs.directives.flags_at.Given as goal
 
 -- the flags that are left complete the flags
 abbrev pub invariant-loop-byte : goal.invariant-loop-byte
