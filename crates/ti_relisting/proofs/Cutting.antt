@@ -31,7 +31,7 @@ plain-takes before x y p =
     let none = or_parts (x == 92) (x == 94 && not (before == 37)) (not-true (x == 92 || (x == 94 && not (before == 37))) parts.1) in
     rw (none.0, none.1) refl
 
-clear-cons : (before x : ℕ) (w : List ℕ) → is_plain before x ≡ true → is_clear x w ≡ true → is_clear before (x ∷ w) ≡ true
+pub clear-cons : (before x : ℕ) (w : List ℕ) → is_plain before x ≡ true → is_clear x w ≡ true → is_clear before (x ∷ w) ≡ true
 clear-cons before x [] p c = p
 clear-cons before x (y ∷ w) p c = rw (plain-takes before x y p, p) c
 

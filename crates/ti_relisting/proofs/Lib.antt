@@ -1,3 +1,5 @@
 pub mod Bytes
 pub mod Cutting
 pub mod Unfolding
+pub mod Words
+pub mod Stating
