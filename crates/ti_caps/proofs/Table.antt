@@ -8,12 +8,13 @@ use Rattle.std.proofs.lemmas.Slice.Eq.{bytes_eq-Decides}
 use Rattle.ti_caps.specs.declared.capability.Kind.{Kind}
 use Rattle.ti_caps.specs.declared.capability.Kind.TheVariants.{Flag, Number, Text}
 use Rattle.ti_caps.specs.Tables.{Capability, IsCapability, capability, count_of, name_of, names, NamesAreDistinct}
+use Rattle.ti_caps.specs.Names.{flag_names, number_names, text_names}
 use Rattle.ti_caps.specs.ByName.{Row, by_name, IsInNameOrder, IsRowOf, HasNoRow}
 use Rattle.ti_caps.proofs.Order.{order_from_rising, names_apart}
 
 -- each list is as long as its count
 pub length-names : (k : Kind) → length (names k) ≡ count_of k
-unfolding names
+unfolding names flag_names number_names text_names
 length-names Flag = refl
 length-names Number = refl
 length-names Text = refl
@@ -28,7 +29,7 @@ abbrev row_is_right : Row → Bool
 row_is_right r = nat_lt r.2 (count_of r.1) && bytes_eq (get_or (names r.1) r.2 []) r.0
 
 rows_are_right : list_all row_is_right by_name ≡ true
-unfolding by_name names
+unfolding by_name names flag_names number_names text_names
 rows_are_right = refl
 
 -- each capability has a row
@@ -47,7 +48,7 @@ covered k i [] = true
 covered k i (n ∷ ns) = has_row k i by_name && covered k (i + 1) ns
 
 all_covered : (k : Kind) → covered k 0 (names k) ≡ true
-unfolding by_name names
+unfolding by_name names flag_names number_names text_names
 all_covered Flag = refl
 all_covered Number = refl
 all_covered Text = refl
