@@ -46,7 +46,7 @@ clear-append before (x ∷ y ∷ v) w a b =
           rw (f, parts.0) (clear-append x (y ∷ v) w parts.1 b)
     ]
 
-whole-cons : (before x : ℕ) (w : List ℕ) → is_plain before x ≡ true → is_whole x w ≡ true → is_whole before (x ∷ w) ≡ true
+pub whole-cons : (before x : ℕ) (w : List ℕ) → is_plain before x ≡ true → is_whole x w ≡ true → is_whole before (x ∷ w) ≡ true
 whole-cons before x [] p c =
     let parts = and_parts (not (x == 44)) (not (x == 92 || (x == 94 && not (before == 37)))) p in
     let none = or_parts (x == 92) (x == 94 && not (before == 37)) (not-true (x == 92 || (x == 94 && not (before == 37))) parts.1) in

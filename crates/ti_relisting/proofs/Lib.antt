@@ -3,3 +3,4 @@ pub mod Cutting
 pub mod Unfolding
 pub mod Words
 pub mod Stating
+pub mod ReadBack

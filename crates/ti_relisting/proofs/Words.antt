@@ -11,6 +11,7 @@ use Rattle.std.proofs.lemmas.List.Sums.{AllPass-from_list_all, fold_push}
 use Rattle.std.proofs.lemmas.List.{append-nil}
 use Rattle.ti_source.specs.WhiteSpace.{is_white_space}
 use Rattle.std.proofs.lemmas.List.Folds.{list_all-append}
+use Rattle.ti_caps.specs.Names.{flag_names, number_names, text_names}
 use Rattle.ti_caps.specs.Tables.{Capability, IsCapability, names, name_of, count_of}
 use Rattle.ti_caps.specs.declared.capability.Kind.{Kind}
 use Rattle.ti_caps.specs.declared.capability.Kind.TheVariants.{Flag, Number, Text}
@@ -47,13 +48,13 @@ abbrev is_name : List ℕ → Bool
 is_name n = not (is_empty n) && is_word n && not (bytes_eq n (codes "use"))
 
 names-good : (k : Kind) → list_all is_name (names k) ≡ true
-unfolding names
+unfolding names flag_names number_names text_names
 names-good Flag = refl
 names-good Number = refl
 names-good Text = refl
 
 names-count : (k : Kind) → length (names k) ≡ count_of k
-unfolding names
+unfolding names flag_names number_names text_names
 names-count Flag = refl
 names-count Number = refl
 names-count Text = refl

@@ -1,5 +1,8 @@
-//! The two laws of recompiling a listing. They compute nothing: each is the contract of an empty function.
+//! The laws of compiling what was listed. They compute nothing: each is the contract of a function with no code.
 //!
-//! - `reading_back`: each text that is laid out as a listing is read as the items that it lists.
+//! - `reading_back`: a listing is read as what it lists.
 #![tactic(auto)]
 
+mod reading_back;
+
+pub use reading_back::parts_are_read;
