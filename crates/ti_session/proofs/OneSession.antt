@@ -1,10 +1,10 @@
 -- The lines of a script, and the answers to them, are determined but for want of memory.
 use Rattle.std.proofs.Common.{◌≡◌, ◌⊎◌, ℕ, List, [], ◌∷◌, ◌++◌, refl, sym, ap, ◌∙◌, subst, append_assoc, inl, inr}
 use Rattle.std.specs.List.{flat_map, AllByRecursion}
-use Rattle.ti_base.specs.Edits.{Change, Step}
-use Rattle.ti_base.specs.declared.edits.EditError.TheVariants.{Position, TooLong, NotOneBlock, TooMany, Memory}
-use Rattle.ti_base.specs.declared.edits.Outcome.{Outcome}
-use Rattle.ti_base.specs.declared.edits.Outcome.TheVariants.{Accepted, Refused}
+use Rattle.ti_meaning.specs.Edits.{Change, Step}
+use Rattle.ti_meaning.specs.declared.edits.EditError.TheVariants.{Position, TooLong, NotOneBlock, TooMany, Memory}
+use Rattle.ti_meaning.specs.declared.edits.Outcome.{Outcome}
+use Rattle.ti_meaning.specs.declared.edits.Outcome.TheVariants.{Accepted, Refused}
 use Rattle.ti_session.specs.ScriptLaws.{OneAnswer, OneOutput, OneSplit, Part, WantsMemory}
 use Rattle.ti_session.specs.Session.{Answers, IsOneLine, Mode, Runs, State, asks, closing, edits, ended, goes_on, meant, outcome_text, outside, prints, refused_text, reports, start, state, unknown, with_last}
 

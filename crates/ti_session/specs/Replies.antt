@@ -1,9 +1,9 @@
 -- What the parts of the program write of a session's replies.
 use Rattle.std.specs.Prelude.{◌≡◌, ◌++◌, ℕ, List, Result, Ok, Err, ◌⊎◌, codes}
-use Rattle.ti_base.specs.Edits.{Change, Step}
-use Rattle.ti_base.specs.Report.{report}
-use Rattle.ti_base.specs.declared.edits.EditError.TheVariants.{Memory}
-use Rattle.ti_base.specs.declared.edits.Outcome.{Outcome}
+use Rattle.ti_meaning.specs.Edits.{Change, Step}
+use Rattle.ti_meaning.specs.Report.{report}
+use Rattle.ti_meaning.specs.declared.edits.EditError.TheVariants.{Memory}
+use Rattle.ti_meaning.specs.declared.edits.Outcome.{Outcome}
 use Rattle.ti_session.specs.declared.tool_error.ToolError.{ToolError}
 use Rattle.ti_session.specs.declared.tool_error.ToolError.TheVariants.{WriteFault}
 use Rattle.ti_session.specs.Session.{Seen, TakesAll, TakesFront, ended, outcome_text, refused_text}

@@ -1,6 +1,6 @@
 -- What the definition of a session leaves open (own): nothing but where memory is wanting.
 use Rattle.std.specs.Prelude.{◌≡◌, ℕ, List, ◌++◌, ◌⊎◌}
-use Rattle.ti_base.specs.declared.edits.EditError.TheVariants.{Memory}
+use Rattle.ti_meaning.specs.declared.edits.EditError.TheVariants.{Memory}
 use Rattle.ti_session.specs.Session.{Leads, Meaning, Session, Splits, State, refused_text}
 
 -- bytes are cut into lines in one way alone

@@ -2,13 +2,13 @@
 use Rattle.std.specs.Prelude.{◌≡◌, ◌≢◌, ℕ, ◌+◌, ◌-◌, ◌*◌, ◌/◌, ◌%◌, ◌<◌, ◌≤◌, ◌&&◌, ◌==◌, nat_lt, nat_le, Bool, if◌then◌else◌, List, [], ◌∷◌, ◌++◌, length, fold, codes, bytes_eq, Option, Some, None, Result, Ok, Err, ◌⊎◌}
 use Rattle.std.specs.List.{flat_map, list_all, AllByRecursion}
 use Rattle.std.specs.Io.KnownBytes.{Appends, Consumes, IsAtEnd}
-use Rattle.ti_base.specs.Compiled.{compiled}
-use Rattle.ti_base.specs.Report.{report}
-use Rattle.ti_base.specs.Edits.{Change, insertion, replacement, removal, Step}
-use Rattle.ti_base.specs.declared.edits.EditError.{EditError}
-use Rattle.ti_base.specs.declared.edits.EditError.TheVariants.{Position, TooLong, NotOneBlock, TooMany, Memory}
-use Rattle.ti_base.specs.declared.edits.Outcome.{Outcome}
-use Rattle.ti_base.specs.declared.edits.Outcome.TheVariants.{Accepted, Refused}
+use Rattle.ti_meaning.specs.Compiled.{compiled}
+use Rattle.ti_meaning.specs.Report.{report}
+use Rattle.ti_meaning.specs.Edits.{Change, insertion, replacement, removal, Step}
+use Rattle.ti_meaning.specs.declared.edits.EditError.{EditError}
+use Rattle.ti_meaning.specs.declared.edits.EditError.TheVariants.{Position, TooLong, NotOneBlock, TooMany, Memory}
+use Rattle.ti_meaning.specs.declared.edits.Outcome.{Outcome}
+use Rattle.ti_meaning.specs.declared.edits.Outcome.TheVariants.{Accepted, Refused}
 use Rattle.ti_session.specs.declared.tool_error.ToolError.{ToolError}
 use Rattle.ti_session.specs.declared.tool_error.ToolError.TheVariants.{ReadFault, WriteFault, LineTooLong}
 

@@ -1,6 +1,6 @@
 //! A session's requests and replies: the source that is edited, and the block that is open.
 ghost use Rattle.std.specs.Prelude.{◌≡◌, IfOk, Some};
-ghost use Rattle.ti_base.specs.Edits.{change_of};
+ghost use Rattle.ti_meaning.specs.Edits.{change_of};
 ghost use Rattle.ti_session.specs.Counted.{device_of, failures_of};
 ghost use Rattle.ti_session.specs.Replies.{CarriesOut, Wrote, WroteReport};
 ghost use Rattle.ti_session.specs.Requests.{opened_change};

@@ -1,0 +1,12 @@
+pub mod Same
+pub mod Settling
+pub mod Owning
+pub mod Depth
+pub mod Leading
+pub mod Laying
+pub mod Imaging
+pub mod Acyclic
+pub mod UseFaults
+pub mod Bounding
+pub mod LawProofs
+pub mod OrderProofs

@@ -1,0 +1,20 @@
+//! What a list of blocks of terminal descriptions means, apart from any data structure that holds
+//! it: whose each name is, what a block says once its uses are expanded, its compiled entry, what is
+//! wrong with the source, and what an edit makes of the list. The definitions stand in `specs`; the
+//! crates above state their contracts in them.
+//!
+//! - `edits`: what an edit is, and why one is refused
+//! - `faults`: a fault of a source
+//! - `laws`: laws of the definitions
+#![tactic(auto)]
+
+mod edits;
+mod faults;
+mod laws;
+
+pub use edits::{Edit, EditError, Edited, Outcome};
+pub use faults::Fault;
+pub use laws::{
+    expansions_are_found, expansions_stay, item_faults_are_in_order, owners_are_first,
+    use_faults_are_told, ways_are_found,
+};
