@@ -4,3 +4,4 @@ pub mod Unfolding
 pub mod Words
 pub mod Stating
 pub mod ReadBack
+pub mod Orders
