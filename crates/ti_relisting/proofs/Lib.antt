@@ -5,3 +5,4 @@ pub mod Words
 pub mod Stating
 pub mod ReadBack
 pub mod Orders
+pub mod Laying
