@@ -153,11 +153,11 @@ same_capability-true a b e =
 abbrev told : Contents → List Capability → Contents
 told table cs c = cond (is_among cs c) (table c) None
 
-mention-same : (d c : Capability) (o x : Option Content) (b : Bool) (ms : List Mention) (later : Option Content) → same_capability d c ≡ true
+mention-same : (d c : Capability) (o : Option Content) (b : Bool) (ms : List Mention) (later : Option Content) → same_capability d c ≡ true
     → said ms c ≡ option_or (cond b o None) later → said (mention_for d o ++ ms) c ≡ option_or o later
-mention-same d c None x true ms later s e = e
-mention-same d c None x false ms later s e = e
-mention-same d c (Some content) x b ms later s e = rw s refl
+mention-same d c None true ms later s e = e
+mention-same d c None false ms later s e = e
+mention-same d c (Some content) b ms later s e = rw s refl
 
 mention-other : (d c : Capability) (o : Option Content) (ms : List Mention) → same_capability d c ≡ false → said (mention_for d o ++ ms) c ≡ said ms c
 mention-other d c None ms f = refl
@@ -171,7 +171,7 @@ items-say table (d ∷ cs) ms c =
     ∙ elim (cases_Bool (same_capability d c)) [
         | inl t ↦
             let P : Capability → Type 0 = λ x. said (mention_for d (table x) ++ (mentions_for table cs ++ ms)) c ≡ option_or (table c) (said ms c) in
-            rw t (subst P (sym (same_capability-true d c t)) (mention-same d c (table c) None (is_among cs c) (mentions_for table cs ++ ms) (said ms c) t later))
+            rw t (subst P (sym (same_capability-true d c t)) (mention-same d c (table c) (is_among cs c) (mentions_for table cs ++ ms) (said ms c) t later))
         | inr f ↦ rw f (mention-other d c (table d) (mentions_for table cs ++ ms) f ∙ later)
       ]
 

@@ -6,3 +6,5 @@ pub mod Stating
 pub mod ReadBack
 pub mod Orders
 pub mod Laying
+pub mod Compiling
+pub mod Relating

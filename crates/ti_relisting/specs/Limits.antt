@@ -11,3 +11,6 @@ limit_of contents = 4096
 abbrev pub ImagesAreOfValues : Type 0
 ImagesAreOfValues =
     (names : List ℕ) (t u : Contents) → ((c : Capability) → IsCapability c → uncancelled (t c) ≡ uncancelled (u c)) → image names t ≡ image names u
+
+abbrev pub LimitsAreOfValues : Type 0
+LimitsAreOfValues = (t u : Contents) → ((c : Capability) → IsCapability c → uncancelled (t c) ≡ uncancelled (u c)) → limit_of t ≡ limit_of u
