@@ -8,3 +8,4 @@ pub mod Orders
 pub mod Laying
 pub mod Compiling
 pub mod Relating
+pub mod TextBytes
