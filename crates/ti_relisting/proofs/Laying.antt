@@ -142,7 +142,7 @@ same_kind-true Text Flag e = cc
 same_kind-true Text Number e = cc
 same_kind-true Text Text e = refl
 
-same_capability-true : (a b : Capability) → same_capability a b ≡ true → a ≡ b
+pub same_capability-true : (a b : Capability) → same_capability a b ≡ true → a ≡ b
 same_capability-true a b e =
     let parts = and_parts (same_kind a.kind b.kind) (nat_eq a.index b.index) e in
     let kinds = same_kind-true a.kind b.kind parts.0 in

@@ -9,3 +9,6 @@ pub mod Laying
 pub mod Compiling
 pub mod Relating
 pub mod TextBytes
+pub mod Fitting
+pub mod Heading
+pub mod Entries

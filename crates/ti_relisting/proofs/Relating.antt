@@ -123,7 +123,7 @@ owned-at (b ∷ bs) name i e =
 at-place : {X Y : Type 0} (f : X → Y) (xs : List X) (i : ℕ) (x : X) → slice_get xs i ≡ Some x → slice_get (map f xs) i ≡ Some (f x)
 at-place f xs i x e = slice_get-map f xs i ∙ ap (option_map f) e
 
-All-at : {X : Type 0} (P : X → Type 0) (xs : List X) (i : ℕ) (x : X) → All P xs → slice_get xs i ≡ Some x → P x
+pub All-at : {X : Type 0} (P : X → Type 0) (xs : List X) (i : ℕ) (x : X) → All P xs → slice_get xs i ≡ Some x → P x
 All-at P [] i x all e = absurd (none-some x e)
 All-at P (y ∷ xs) zero x all e = subst P (same_Some y x e) (All-head P y xs all)
 All-at P (y ∷ xs) (suc i) x all e = All-at P xs i x (All-tail P y xs all) e

@@ -11,6 +11,7 @@ use Rattle.ti_list.specs.Items.{IsListing, CanBeListed, IsListable, IsReadAs}
 use Rattle.ti_list.specs.Listing.{listing}
 use Rattle.ti_list.specs.Relative.{Shown, first_name, with_others}
 use Rattle.ti_relisting.specs.Shown.{CanHaveAll, IsWithinLimit, CanBeShown, CanBeUsed}
+use Rattle.ti_relisting.specs.Entries.{IsEntry, IsUsedEntry}
 
 -- A names field and items that can be listed, in any layout at all, are read as that field and those items, without a fault.
 abbrev pub PartsAreRead : Type 0
@@ -34,3 +35,15 @@ abbrev pub RelativesCompile : Type 0
 RelativesCompile =
     (entry : Shown) (others : List Shown) (layout : Layout) → CanBeShown entry → All CanBeUsed others → OwnTheirNames entry others layout → IsWithinLimit entry.field entry.table
     → compiled (with_others entry others layout) 0 ≡ Some (image entry.field entry.table)
+
+-- The listing of a compiled entry, in any layout, compiles to the entry, byte for byte.
+abbrev pub Relisting : Type 0
+Relisting =
+    (bytes : List ℕ) (shown : Shown) (layout : Layout) → IsEntry bytes shown
+    → compiled (listing shown.field shown.table layout ∷ []) 0 ≡ Some bytes
+
+-- The relative source of a compiled entry, with the listings of the entries that it uses behind it, compiles to the entry, byte for byte.
+abbrev pub RelativeSource : Type 0
+RelativeSource =
+    (bytes : List ℕ) (shown : Shown) (others : List Shown) (layout : Layout) → IsEntry bytes shown → All IsUsedEntry others → OwnTheirNames shown others layout
+    → compiled (with_others shown others layout) 0 ≡ Some bytes

@@ -1,3 +1,4 @@
 pub mod Limits
 pub mod Shown
+pub mod Entries
 pub mod Laws
