@@ -1,6 +1,7 @@
 -- The definitions compute what infocmp(1) prints of small entries.
 use Rattle.std.proofs.Common.{◌≡◌, ℕ, false, [], ◌∷◌, refl}
 use Rattle.std.specs.Prelude.{codes}
+use Rattle.ti_caps.specs.Names.{flag_names, number_names, text_names}
 use Rattle.ti_caps.specs.Tables.{capability, names}
 use Rattle.ti_caps.specs.Names.{flag_names, number_names, text_names}
 use Rattle.std.specs.Fmt.{digits}

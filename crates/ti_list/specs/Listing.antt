@@ -1,12 +1,12 @@
 -- An entry as infocmp(1) lists it: its items by kind, in an order and a layout that the caller chooses (own).
-use Rattle.std.specs.Prelude.{ℕ, ◌+◌, ◌||◌, ◌==◌, nat_lt, if◌then◌else◌, List, [], ◌∷◌, ◌++◌, length, map, filter, Option, Some, None}
+use Rattle.std.specs.Prelude.{ℕ, ◌+◌, ◌||◌, ◌==◌, nat_lt, if◌then◌else◌, List, [], ◌∷◌, ◌++◌, length, map, Option, Some, None}
 use Rattle.std.specs.List.{range_with_len}
 use Rattle.ti_caps.specs.Tables.{Capability, capability, count_of}
-use Rattle.ti_caps.specs.ByName.{Row, by_name}
+use Rattle.ti_caps.specs.NameOrder.{in_name_order}
 use Rattle.ti_caps.specs.declared.capability.Kind.{Kind}
 use Rattle.ti_caps.specs.declared.capability.Kind.TheVariants.{Flag, Number, Text}
 use Rattle.ti_source.specs.Reading.{Said, said_flag, said_number, said_text, said_cancel}
-use Rattle.ti_compiled.specs.Values.{Content, content_true, content_number, content_text, content_cancelled, Contents, kind_place}
+use Rattle.ti_compiled.specs.Values.{Content, content_true, content_number, content_text, content_cancelled, Contents}
 use Rattle.ti_list.specs.declared.layout.Order.{Order}
 use Rattle.ti_list.specs.declared.layout.Order.TheVariants as order
 use Rattle.ti_list.specs.declared.layout.Layout.{Layout}
@@ -18,14 +18,10 @@ use Rattle.ti_list.specs.Items.{item_text}
 abbrev pub by_index : Kind → List Capability
 by_index kind = map (capability kind) (range_with_len 0 (count_of kind))
 
--- those of the rows that are of the kind, in the order of the rows
-abbrev pub of_kind : Kind → List Row → List Capability
-of_kind kind rows = map (λ row. capability row.1 row.2) (filter (λ row. kind_place kind == kind_place row.1) rows)
-
 -- the capabilities of a kind in an order: as in the compiled entry, or by the bytes of their names
 unfoldable pub in_order : Order → Kind → List Capability
 in_order order.Table kind = by_index kind
-in_order order.Name kind = of_kind kind by_name
+in_order order.Name kind = in_name_order kind
 
 -- ---- the items of an entry
 

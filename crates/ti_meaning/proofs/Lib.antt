@@ -10,3 +10,9 @@ pub mod UseFaults
 pub mod Bounding
 pub mod LawProofs
 pub mod OrderProofs
+pub mod EditedLists
+pub mod Placing
+pub mod KeptWays
+pub mod Exchanging
+pub mod KeptFaults
+pub mod ExchangeLaws

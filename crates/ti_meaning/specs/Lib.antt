@@ -9,3 +9,6 @@ pub mod ValueTables
 pub mod Laws
 pub mod Usable
 pub mod Bounds
+pub mod Exchange
+pub mod Dependents
+pub mod KeptBlocks

@@ -4,14 +4,20 @@
 //! crates above state their contracts in them.
 //!
 //! - `edits`: what an edit is, and why one is refused
+//! - `edit_laws`: laws on edits, and on what they leave
 //! - `faults`: a fault of a source
 //! - `laws`: laws of the definitions
 #![tactic(auto)]
 
+mod edit_laws;
 mod edits;
 mod faults;
 mod laws;
 
+pub use edit_laws::{
+    dependents_are_determined, edits_are_exchanges, touched_names_are_reached_in_both_lists,
+    untouched_blocks_are_kept, users_of_dependents_depend,
+};
 pub use edits::{Edit, EditError, Edited, Outcome};
 pub use faults::Fault;
 pub use laws::{
