@@ -1,18 +1,15 @@
 -- What a block of a source says fits its capabilities.
-use Rattle.std.proofs.Common.{◌≡◌, ◌≢◌, ℕ, zero, suc, ◌<◌, ◌≤◌, Bool, true, false, List, [], ◌∷◌, ◌++◌, map, length, cond, Option, Some, None, option_map, option_and_then, slice_get, refl, ap, sym, ◌∙◌, subst, inl, inr}
+use Rattle.std.proofs.Common.{◌≡◌, ℕ, zero, suc, false, List, [], ◌∷◌, ◌++◌, Option, Some, None, option_and_then, refl, sym, subst, inl, inr}
 use Rattle.std.specs.List.{All}
 use Rattle.std.proofs.lemmas.Bool.{cases_Bool}
 use Rattle.std.proofs.lemmas.Option.{same_Some, none-some}
 use Rattle.std.proofs.lemmas.List.Elements.{All-nil, All-cons, All-head, All-tail, All-append}
 use Rattle.ti_caps.specs.Tables.{Capability, IsCapability}
-use Rattle.ti_source.specs.Blocks.{OneBlock}
 use Rattle.ti_source.specs.Reading.{Said, said_flag, said_number, said_text, said_cancel, said_import, ReadItem, Reading}
-use Rattle.ti_source.specs.Parsing.{parsed}
-use Rattle.ti_source.specs.Sound.{SetsItsKind, EachIsWellRead}
-use Rattle.ti_spelling.specs.Spelling.{AreBytes}
-use Rattle.ti_compiled.specs.Values.{Content, content_true, content_number, content_text, content_cancelled, Contents, AgreesIfSome}
+use Rattle.ti_source.specs.Sound.{SetsItsKind}
+use Rattle.ti_compiled.specs.Values.{Content, content_true, content_number, content_text, content_cancelled, AgreesIfSome}
 use Rattle.ti_compiled.specs.Laws.{uncancelled}
-use Rattle.ti_meaning.specs.Owner.{is_among, owned, readings}
+use Rattle.ti_meaning.specs.Owner.{is_among, owned}
 use Rattle.ti_meaning.specs.Expansion.{Mention, same_capability, said, is_broken, joined, mentions_of, expand_items, expand}
 use Rattle.ti_relisting.specs.Shown.{CanHave}
 use Rattle.ti_relisting.proofs.TextBytes.{SaysBytes, ItemSaysBytes}
@@ -80,8 +77,8 @@ items-mentions-fit of_name h (item ∷ items) ms fits e =
     let parts = joined-some (mentions_of of_name item.said) (expand_items of_name items) ms e in
     subst (λ l. All MentionFits l) (sym parts.whole)
     (All-append MentionFits parts.first parts.second
-      (item-mentions-fit of_name h item.said parts.first (All-head ItemFits item items fits) parts.is_first)
-      (items-mentions-fit of_name h items parts.second (All-tail ItemFits item items fits) parts.is_second))
+    (item-mentions-fit of_name h item.said parts.first (All-head ItemFits item items fits) parts.is_first)
+    (items-mentions-fit of_name h items parts.second (All-tail ItemFits item items fits) parts.is_second))
 
 pub unbroken-expand : (env : List ℕ → Option Reading) (depth : ℕ) (block : Reading) (ms : List Mention) → expand env (suc depth) block ≡ Some ms → is_broken block ≡ false
 unbroken-expand env depth block ms e =

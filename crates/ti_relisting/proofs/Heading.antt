@@ -1,18 +1,16 @@
 -- The names field of a block that has an entry can be listed, and its first name is a lookup name.
-use Rattle.std.proofs.Common.{◌≡◌, ◌≢◌, ℕ, suc, ◌+◌, ◌-◌, ◌<◌, ◌≤◌, Bool, true, false, not, ◌==◌, ◌||◌, ◌&&◌, List, [], ◌∷◌, ◌++◌, length, take, cond, refl, ap, sym, ◌∙◌, subst, inl, inr, arith}
+use Rattle.std.proofs.Common.{◌≡◌, ◌≢◌, ℕ, suc, ◌+◌, ◌-◌, ◌≤◌, Bool, true, false, not, ◌==◌, ◌||◌, ◌&&◌, List, [], ◌∷◌, ◌++◌, length, take, refl, ap, sym, ◌∙◌, subst, inl, inr, arith}
 use Rattle.std.specs.List.{list_all, list_any, All, Contains, before_first, join_with_byte, prefix_len}
-use Rattle.std.proofs.lemmas.Bool.{cases_Bool, and_parts, and_from, or_parts, not-true, not_from_false, ne_eqb, false≢true, true≢false}
-use Rattle.std.proofs.lemmas.List.{append-nil}
+use Rattle.std.proofs.lemmas.Bool.{cases_Bool, and_parts, and_from, or_parts, not-true, not_from_false, ne_eqb, true≢false}
 use Rattle.std.proofs.lemmas.List.Elements.{All-head, All-from_get_or, All-weaker}
 use Rattle.std.proofs.lemmas.List.Sums.{list_all-from_AllPass}
-use Rattle.std.proofs.lemmas.List.Folds.{list_all-append}
 use Rattle.ti_source.specs.WhiteSpace.{is_white_space}
-use Rattle.ti_source.specs.Blocks.{begins_head, HasOneHead, OneBlock}
+use Rattle.ti_source.specs.Blocks.{HasOneHead, OneBlock}
 use Rattle.ti_source.specs.Codes.{is_error}
-use Rattle.ti_source.specs.Header.{IsLookupName, PartsOf, lookup_parts, HeaderNames}
+use Rattle.ti_source.specs.Header.{IsLookupName, lookup_parts, HeaderNames}
 use Rattle.ti_source.specs.Folding.{Placed, folded}
 use Rattle.ti_source.specs.Items.{bytes, HasNoComma, Begins, all_field, field_and_rest}
-use Rattle.ti_source.specs.Reading.{ReadFault, Reading}
+use Rattle.ti_source.specs.Reading.{ReadFault}
 use Rattle.ti_source.specs.Parsing.{names_limit, ReadsHeader, bad_header, long_header, good_header, Parses, parsed}
 use Rattle.ti_meaning.specs.Expansion.{is_broken}
 use Rattle.ti_list.specs.Items.{IsListable}

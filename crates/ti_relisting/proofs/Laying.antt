@@ -1,19 +1,18 @@
 -- A listing is laid out as the items of its entry, and says of each capability what the entry has.
-use Rattle.std.proofs.Common.{◌≡◌, ℕ, suc, ◌+◌, ◌<◌, ◌≤◌, Bool, true, false, ◌||◌, nat_lt, nat_eq, List, [], ◌∷◌, ◌++◌, map, length, cond, Option, Some, None, option_and_then, refl, ap, sym, ◌∙◌, subst, inl, inr, append_assoc}
+use Rattle.std.proofs.Common.{◌≡◌, ℕ, ◌+◌, Bool, true, false, ◌||◌, nat_lt, nat_eq, List, [], ◌∷◌, ◌++◌, map, cond, Option, Some, None, refl, ap, sym, ◌∙◌, subst, inl, inr, append_assoc}
 use Rattle.std.specs.List.{All}
 use Rattle.std.specs.Option.{option_or}
-use Rattle.std.proofs.lemmas.Bool.{cases_Bool, eqb-true, and_parts, le-ltb}
+use Rattle.std.proofs.lemmas.Bool.{cases_Bool, eqb-true, and_parts}
 use Rattle.std.proofs.lemmas.List.Elements.{All-nil, All-cons, All-head, All-tail, All-append}
 use Rattle.ti_caps.specs.Tables.{Capability, capability, IsCapability}
 use Rattle.ti_caps.specs.declared.capability.Kind.{Kind}
 use Rattle.ti_caps.specs.declared.capability.Kind.TheVariants.{Flag, Number, Text}
-use Rattle.ti_source.specs.Reading.{Said, said_flag, said_number, said_text, said_cancel, said_import, ReadItem, Reading}
+use Rattle.ti_source.specs.Reading.{Said, said_flag, said_number, said_text, said_cancel, ReadItem}
 use Rattle.ti_compiled.specs.Values.{Content, content_true, content_number, content_text, content_cancelled, Contents}
-use Rattle.ti_compiled.specs.Laws.{uncancelled}
 use Rattle.ti_meaning.specs.Expansion.{Mention, same_kind, same_capability, said, joined, mentions_of, expand_items}
 use Rattle.ti_list.specs.declared.layout.Layout.{Layout}
-use Rattle.ti_list.specs.Items.{item_text, IsTail, no_more, on_line, new_line, IsListing, CanBeListed}
-use Rattle.ti_list.specs.Listing.{item_for, items_for, kind_items, in_order, size_of, further, lines_of, listed, listing}
+use Rattle.ti_list.specs.Items.{item_text, IsTail, on_line, new_line, IsListing, CanBeListed}
+use Rattle.ti_list.specs.Listing.{item_for, items_for, kind_items, in_order, size_of, further, lines_of, listed}
 use Rattle.ti_relisting.specs.Shown.{CanHave, CanHaveAll}
 use Rattle.ti_relisting.proofs.Orders.{is_among, all_in}
 
@@ -58,8 +57,8 @@ listed-is field table layout more rest laid =
     let texts = kind_items layout table Text in
     let tail = lines_of layout flags (lines_of layout numbers (lines_of layout texts rest)) in
     let by_kind : IsTail (flags ++ (numbers ++ (texts ++ more))) tail =
-        lines-tail layout flags (numbers ++ (texts ++ more)) (lines_of layout numbers (lines_of layout texts rest))
-        (lines-tail layout numbers (texts ++ more) (lines_of layout texts rest) (lines-tail layout texts more rest laid)) in
+    lines-tail layout flags (numbers ++ (texts ++ more)) (lines_of layout numbers (lines_of layout texts rest))
+    (lines-tail layout numbers (texts ++ more) (lines_of layout texts rest) (lines-tail layout texts more rest laid)) in
     record {
       tail = tail;
       whole = refl;
@@ -169,11 +168,11 @@ items-say table (d ∷ cs) ms c =
     let later = items-say table cs ms c in
     ap (λ l. said l c) (append_assoc (mention_for d (table d)) (mentions_for table cs) ms)
     ∙ elim (cases_Bool (same_capability d c)) [
-        | inl t ↦
-            let P : Capability → Type 0 = λ x. said (mention_for d (table x) ++ (mentions_for table cs ++ ms)) c ≡ option_or (table c) (said ms c) in
-            rw t (subst P (sym (same_capability-true d c t)) (mention-same d c (table c) (is_among cs c) (mentions_for table cs ++ ms) (said ms c) t later))
-        | inr f ↦ rw f (mention-other d c (table d) (mentions_for table cs ++ ms) f ∙ later)
-      ]
+      | inl t ↦
+          let P : Capability → Type 0 = λ x. said (mention_for d (table x) ++ (mentions_for table cs ++ ms)) c ≡ option_or (table c) (said ms c) in
+          rw t (subst P (sym (same_capability-true d c t)) (mention-same d c (table c) (is_among cs c) (mentions_for table cs ++ ms) (said ms c) t later))
+      | inr f ↦ rw f (mention-other d c (table d) (mentions_for table cs ++ ms) f ∙ later)
+    ]
 
 -- where each capability is among them, what they say is what the table has, and then what follows
 pub all-say : (table : Contents) (cs : List Capability) (ms : List Mention) (c : Capability) → is_among cs c ≡ true → said (mentions_for table cs ++ ms) c ≡ option_or (table c) (said ms c)

@@ -11,4 +11,5 @@ pub mod Relating
 pub mod TextBytes
 pub mod Fitting
 pub mod Heading
-pub mod Entries
+pub mod Imaging
+pub mod EntryLaws

@@ -1,5 +1,5 @@
 -- The relative source of an entry compiles to the image of the entry.
-use Rattle.std.proofs.Common.{◌≡◌, ◌≢◌, ℕ, zero, suc, ◌+◌, ◌<◌, ◌≤◌, Bool, true, false, ◌==◌, List, [], ◌∷◌, ◌++◌, map, length, cond, Option, Some, None, option_map, option_and_then, slice_get, refl, ap, sym, ◌∙◌, subst, inl, inr, arith}
+use Rattle.std.proofs.Common.{◌≡◌, ℕ, zero, suc, true, false, List, [], ◌∷◌, ◌++◌, map, length, cond, Option, Some, None, option_map, option_and_then, slice_get, refl, ap, sym, ◌∙◌, subst, inl, inr}
 use Rattle.std.specs.List.{All}
 use Rattle.std.specs.Option.{option_or}
 use Rattle.std.specs.Str.{bytes_eq}
@@ -8,21 +8,19 @@ use Rattle.std.proofs.lemmas.Option.{slice_get-map, same_Some, none-some}
 use Rattle.std.proofs.lemmas.Slice.Eq.{bytes_eq-Decides}
 use Rattle.std.proofs.lemmas.List.Elements.{All-nil, All-cons, All-head, All-tail, All-append}
 use Rattle.ti_caps.specs.Tables.{Capability, IsCapability}
-use Rattle.ti_source.specs.Reading.{Said, said_import, ReadItem, Reading}
+use Rattle.ti_source.specs.Reading.{Said, said_import, Reading}
 use Rattle.ti_source.specs.Parsing.{parsed}
-use Rattle.ti_compiled.specs.Values.{Content, content_true, content_number, content_text, content_cancelled, Contents}
-use Rattle.ti_compiled.specs.Image.{image}
+use Rattle.ti_compiled.specs.Values.{Content, content_true, content_number, content_text, content_cancelled}
 use Rattle.ti_compiled.specs.Laws.{uncancelled}
 use Rattle.ti_meaning.specs.Owner.{is_among, owner, owned, readings}
 use Rattle.ti_meaning.specs.Expansion.{Mention, said, expand, expansion}
-use Rattle.ti_meaning.specs.Compiled.{compiled}
 use Rattle.ti_list.specs.declared.layout.Layout.{Layout}
-use Rattle.ti_list.specs.Items.{IsTail, no_more, new_line, IsListing, CanBeListed, IsListable, IsReadAs}
-use Rattle.ti_list.specs.Listing.{items_for, listing}
+use Rattle.ti_list.specs.Items.{IsTail, no_more, new_line, CanBeListed, IsReadAs}
+use Rattle.ti_list.specs.Listing.{listing}
 use Rattle.ti_list.specs.Relative.{Shown, first_name, same_content, first_of, difference, differing, use_lines, relative, with_others}
-use Rattle.ti_relisting.specs.Limits.{limit_of, ImagesAreOfValues, LimitsAreOfValues}
-use Rattle.ti_relisting.specs.Shown.{CanHave, CanHaveAll, IsWithinLimit, CanBeShown, CanBeUsed}
-use Rattle.ti_relisting.specs.Laws.{PartsAreRead, OwnTheirNames, RelativesCompile}
+use Rattle.ti_relisting.specs.Limits.{ImagesAreOfValues, LimitsAreOfValues}
+use Rattle.ti_relisting.specs.Shown.{CanHave, CanHaveAll, CanBeUsed}
+use Rattle.ti_relisting.specs.Laws.{PartsAreRead, RelativesCompile}
 use Rattle.ti_relisting.proofs.Orders.{all_in, all_in-all}
 use Rattle.ti_relisting.proofs.Laying.{entry_items, listed-is, items-can, mentions_for, expand_says, before}
 use Rattle.ti_relisting.proofs.Compiling.{used_at, own-at, entry-is, listing-expands, all-tell}
@@ -137,18 +135,18 @@ relatives_compile read images limits e others layout shown used owns within =
     let has : CanHaveAll table = λ c cap. difference-can c (e.table c) (first_of others c) (shown.holds c cap) in
     let can = All-append CanBeListed (entry_items layout table) (uses_of others) (items-can table (all_in layout.order) (all_in-all layout.order).valid has) (uses-can others used) in
     let is : IsReadAs e.field shown.names (entry_items layout table ++ uses_of others) block =
-        read e.field shown.names (entry_items layout table ++ uses_of others) text shown.listable can (listed-is e.field table layout (uses_of others) (use_lines others (10 ∷ [])) (uses-tail others)) in
+    read e.field shown.names (entry_items layout table ++ uses_of others) text shown.listable can (listed-is e.field table layout (uses_of others) (use_lines others (10 ∷ [])) (uses-tail others)) in
     let list_other : Shown → List ℕ = λ other. listing other.field other.table layout in
     let expands : (i : ℕ) (other : Shown) → slice_get others i ≡ Some other → used_at (owned blocks) (length blocks) (first_name other.field) ≡ Some (mentions_for other.table (all_in layout.order)) =
-        λ i other at.
-          let other_shown = (All-at CanBeUsed others i other used at).shown in
-          let stands : slice_get blocks (suc i) ≡ Some (parsed (list_other other)) = at-place parsed (map list_other others) i (list_other other) (at-place list_other others i other at) in
-          ap (option_and_then (expand (owned blocks) (length blocks))) (owned-at blocks (first_name other.field) (suc i) (owns i other at) ∙ stands)
-          ∙ listing-expands read (owned blocks) (length (map parsed (map list_other others))) other.field other_shown.names other.table layout other_shown.listable other_shown.holds in
+    λ i other at.
+    let other_shown = (All-at CanBeUsed others i other used at).shown in
+    let stands : slice_get blocks (suc i) ≡ Some (parsed (list_other other)) = at-place parsed (map list_other others) i (list_other other) (at-place list_other others i other at) in
+    ap (option_and_then (expand (owned blocks) (length blocks))) (owned-at blocks (first_name other.field) (suc i) (owns i other at) ∙ stands)
+    ∙ listing-expands read (owned blocks) (length (map parsed (map list_other others))) other.field other_shown.names other.table layout other_shown.listable other_shown.holds in
     let ms = mentions_for table (all_in layout.order) ++ used_mentions layout others in
     let expanded : expansion blocks block ≡ Some ms =
-        own-at (owned blocks) (length blocks) block table (all_in layout.order) (uses_of others) is.none_wrong is.says
-        ∙ ap (before (mentions_for table (all_in layout.order))) (uses-expand (used_at (owned blocks) (length blocks)) layout others expands) in
+    own-at (owned blocks) (length blocks) block table (all_in layout.order) (uses_of others) is.none_wrong is.says
+    ∙ ap (before (mentions_for table (all_in layout.order))) (uses-expand (used_at (owned blocks) (length blocks)) layout others expands) in
     let tells : (c : Capability) → IsCapability c → uncancelled (said ms c) ≡ uncancelled (e.table c) =
-        λ c cap. ap uncancelled (all-tell table layout (used_mentions layout others) c cap ∙ ap (option_or (table c)) (used-tell layout others c cap)) ∙ restores (e.table c) (first_of others c) in
+    λ c cap. ap uncancelled (all-tell table layout (used_mentions layout others) c cap ∙ ap (option_or (table c)) (used-tell layout others c cap)) ∙ restores (e.table c) (first_of others c) in
     entry-is images limits blocks block e.field e.table ms expanded is.same_field tells within

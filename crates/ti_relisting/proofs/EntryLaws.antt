@@ -1,32 +1,30 @@
 -- Compiled entries of sources can be listed, and are the images of what is listed.
-use Rattle.std.proofs.Common.{◌≡◌, ◌≢◌, ℕ, zero, suc, ◌<◌, ◌≤◌, Bool, true, false, List, [], ◌∷◌, ◌++◌, map, length, cond, nat_lt, Option, Some, None, option_map, option_and_then, slice_get, refl, ap, sym, ◌∙◌, subst, inl, inr, arith}
+use Rattle.std.proofs.Common.{◌≡◌, ◌≢◌, ℕ, suc, ◌<◌, ◌≤◌, false, List, [], ◌∷◌, length, Option, Some, None, option_map, slice_get, refl, ap, sym, ◌∙◌, subst, inl, inr, arith}
 use Rattle.std.specs.List.{All}
 use Rattle.std.proofs.lemmas.Bool.{cases_Bool, ltb-false}
 use Rattle.std.proofs.lemmas.Option.{same_Some, none-some, slice_get-map}
 use Rattle.std.proofs.lemmas.List.Elements.{All-nil, All-cons, All-head, All-tail, All-map, All-weaker}
 use Rattle.ti_caps.specs.Tables.{Capability, IsCapability}
 use Rattle.ti_source.specs.Blocks.{OneBlock}
-use Rattle.ti_source.specs.Reading.{ReadItem, Reading}
+use Rattle.ti_source.specs.Reading.{Reading}
 use Rattle.ti_source.specs.Parsing.{parsed, HasReading}
-use Rattle.ti_source.specs.Sound.{SetsItsKind, EachIsWellRead, IsWellRead}
+use Rattle.ti_source.specs.Sound.{EachIsWellRead}
 use Rattle.ti_spelling.specs.Spelling.{AreBytes, UnescapedAgrees, ValuesAreSound}
-use Rattle.ti_compiled.specs.Values.{Content, Contents, AgreesIfSome}
+use Rattle.ti_compiled.specs.Values.{Contents}
 use Rattle.ti_compiled.specs.Image.{image}
 use Rattle.ti_compiled.specs.Reading.{Reads, OneReading}
 use Rattle.ti_compiled.specs.Laws.{uncancelled, ImagesAreRead}
 use Rattle.ti_meaning.specs.Owner.{owned, readings}
-use Rattle.ti_meaning.specs.Expansion.{Mention, said, values, is_broken, expand, expansion}
+use Rattle.ti_meaning.specs.Expansion.{Mention, said, values, is_broken, expansion}
 use Rattle.ti_meaning.specs.Compiled.{image_of, is_too_large, entry_of, entry, compiled}
-use Rattle.ti_list.specs.declared.layout.Layout.{Layout}
 use Rattle.ti_list.specs.Items.{IsListable}
-use Rattle.ti_list.specs.Listing.{listing}
-use Rattle.ti_list.specs.Relative.{Shown, first_name, with_others}
+use Rattle.ti_list.specs.Relative.{Shown}
 use Rattle.ti_relisting.specs.Limits.{limit_of, ImagesAreOfValues, LimitsAreOfValues}
-use Rattle.ti_relisting.specs.Shown.{CanHave, CanHaveAll, IsWithinLimit, CanBeShown, IsUsableName, CanBeUsed}
+use Rattle.ti_relisting.specs.Shown.{CanHave, IsWithinLimit, CanBeShown, CanBeUsed}
 use Rattle.ti_relisting.specs.Entries.{IsEntry, IsUsedEntry}
 use Rattle.ti_relisting.specs.Laws.{ListingsCompile, RelativesCompile, Relisting, RelativeSource}
-use Rattle.ti_relisting.proofs.TextBytes.{ItemSaysBytes, parsed-bytes}
-use Rattle.ti_relisting.proofs.Fitting.{MentionFits, ItemFits, items-fit, unbroken-expand, Follows, follows, expand-fits, owned-has, said-has, uncancelled-has, agrees-has}
+use Rattle.ti_relisting.proofs.TextBytes.{parsed-bytes}
+use Rattle.ti_relisting.proofs.Fitting.{MentionFits, ItemFits, items-fit, unbroken-expand, follows, expand-fits, owned-has, said-has, uncancelled-has, agrees-has}
 use Rattle.ti_relisting.proofs.Heading.{block-listable, first-lookup}
 use Rattle.ti_relisting.proofs.Compiling.{uncancelled-twice}
 use Rattle.ti_relisting.proofs.Relating.{All-at}
