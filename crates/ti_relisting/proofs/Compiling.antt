@@ -4,7 +4,7 @@ use Rattle.std.specs.List.{list_any}
 use Rattle.std.specs.Option.{option_or}
 use Rattle.std.proofs.lemmas.Bool.{le-ltb}
 use Rattle.std.proofs.lemmas.List.{append-nil}
-use Rattle.std.proofs.lemmas.List.Elements.{All-append, All-nil}
+use Rattle.std.proofs.lemmas.List.Elements.{All-nil}
 use Rattle.ti_caps.specs.Tables.{Capability, IsCapability}
 use Rattle.ti_source.specs.Codes.{is_error}
 use Rattle.ti_source.specs.Reading.{Said, ReadItem, ReadFault, Reading}
@@ -22,7 +22,7 @@ use Rattle.ti_relisting.specs.Limits.{limit_of, ImagesAreOfValues, LimitsAreOfVa
 use Rattle.ti_relisting.specs.Shown.{CanHaveAll, IsWithinLimit}
 use Rattle.ti_relisting.specs.Laws.{PartsAreRead, ListingsCompile}
 use Rattle.ti_relisting.proofs.Orders.{all_in, all_in-all}
-use Rattle.ti_relisting.proofs.Laying.{entry_items, listed-is, items-can, mentions_for, expand_says, expand_items-says, before, own-expands, all-say}
+use Rattle.ti_relisting.proofs.Laying.{listed-all, all-can, mentions_for, expand_says, expand_items-says, before, own-expands, all-say}
 
 pub uncancelled-twice : (o : Option Content) → uncancelled (uncancelled o) ≡ uncancelled o
 uncancelled-twice None = refl
@@ -66,10 +66,10 @@ option_or-nothing (Some x) = refl
 
 -- a listing, as it is read
 pub listing-read : PartsAreRead → (field : List ℕ) (names : List (List ℕ)) (table : Contents) (layout : Layout) → IsListable field names → CanHaveAll table
-    → IsReadAs field names (entry_items layout table ++ []) (parsed (listing field table layout))
+    → IsReadAs field names (items_for table (all_in layout.order) ++ []) (parsed (listing field table layout))
 listing-read read field names table layout good has =
-    let can = All-append CanBeListed (entry_items layout table) [] (items-can table (all_in layout.order) (all_in-all layout.order).valid has) (All-nil CanBeListed) in
-    read field names (entry_items layout table ++ []) (listing field table layout) good can (listed-is field table layout [] (10 ∷ []) no_more)
+    read field names (items_for table (all_in layout.order) ++ []) (listing field table layout) good
+    (all-can table layout [] has (All-nil CanBeListed)) (listed-all field table layout [] (10 ∷ []) no_more)
 
 -- it expands to what its entry has, whatever stands beside it
 pub listing-expands : PartsAreRead → (env : List ℕ → Option Reading) (depth : ℕ) (field : List ℕ) (names : List (List ℕ)) (table : Contents) (layout : Layout) → IsListable field names

@@ -1,5 +1,5 @@
 -- Compiled entries of sources can be listed, and are the images of what is listed.
-use Rattle.std.proofs.Common.{◌≡◌, ◌≢◌, ℕ, suc, ◌<◌, ◌≤◌, false, List, [], ◌∷◌, length, Option, Some, None, option_map, slice_get, refl, ap, sym, ◌∙◌, subst, inl, inr, arith}
+use Rattle.std.proofs.Common.{◌++◌, map, ◌≡◌, ◌≢◌, ℕ, suc, ◌<◌, ◌≤◌, false, List, [], ◌∷◌, length, Option, Some, None, option_map, slice_get, refl, ap, sym, ◌∙◌, subst, inl, inr, arith}
 use Rattle.std.specs.List.{All}
 use Rattle.std.proofs.lemmas.Bool.{cases_Bool, ltb-false}
 use Rattle.std.proofs.lemmas.Option.{same_Some, none-some, slice_get-map}
@@ -17,17 +17,23 @@ use Rattle.ti_compiled.specs.Laws.{uncancelled, ImagesAreRead}
 use Rattle.ti_meaning.specs.Owner.{owned, readings}
 use Rattle.ti_meaning.specs.Expansion.{Mention, said, values, is_broken, expansion}
 use Rattle.ti_meaning.specs.Compiled.{image_of, is_too_large, entry_of, entry, compiled}
-use Rattle.ti_list.specs.Items.{IsListable}
-use Rattle.ti_list.specs.Relative.{Shown}
+use Rattle.ti_list.specs.Items.{no_more, CanBeListed, IsListable}
+use Rattle.ti_list.specs.declared.layout.Layout.{Layout}
+use Rattle.ti_list.specs.Relative.{Shown, differing, use_lines, relative, with_others}
 use Rattle.ti_relisting.specs.Limits.{limit_of, ImagesAreOfValues, LimitsAreOfValues}
 use Rattle.ti_relisting.specs.Shown.{CanHave, IsWithinLimit, CanBeShown, CanBeUsed}
 use Rattle.ti_relisting.specs.Entries.{IsEntry, IsUsedEntry}
-use Rattle.ti_relisting.specs.Laws.{ListingsCompile, RelativesCompile, Relisting, RelativeSource}
+use Rattle.ti_relisting.specs.Laws.{PartsAreBlocks, ListingsCompile, RelativesCompile, Relisting, RelativeSource}
 use Rattle.ti_relisting.proofs.TextBytes.{parsed-bytes}
 use Rattle.ti_relisting.proofs.Fitting.{MentionFits, ItemFits, items-fit, unbroken-expand, follows, expand-fits, owned-has, said-has, uncancelled-has, agrees-has}
 use Rattle.ti_relisting.proofs.Heading.{block-listable, first-lookup}
 use Rattle.ti_relisting.proofs.Compiling.{uncancelled-twice}
-use Rattle.ti_relisting.proofs.Relating.{All-at}
+use Rattle.ti_relisting.proofs.Relating.{All-at, uses-can, differing-can}
+use Rattle.ti_relisting.proofs.Laying.{listed-all, uses-tail, all-can}
+use Rattle.ti_relisting.proofs.Orders.{all_in}
+use Rattle.ti_relisting.proofs.Standing.{single-cut}
+use Rattle.ti_relisting.specs.Laid.{uses_of}
+use Rattle.ti_list.specs.Listing.{items_for, listing}
 
 -- the laws of the layers below
 pub record AreKnown : Type 0 where
@@ -161,17 +167,49 @@ is-shown known bytes shown entry =
       within = omega (arith, sizes, limit, is_within);
     }
 
-pub relisting : AreKnown → ListingsCompile → Relisting
-relisting known compiles bytes shown layout entry =
-    let is = is-shown known bytes shown entry in
-    compiles shown.field is.can.names shown.table layout is.can.listable is.can.holds is.within ∙ ap (λ b. Some b) is.image_is
+listing-stands : PartsAreBlocks → (shown : Shown) (layout : Layout) → CanBeShown shown → OneBlock (listing shown.field shown.table layout)
+listing-stands stands shown layout can =
+    stands shown.field can.names (items_for shown.table (all_in layout.order) ++ []) (listing shown.field shown.table layout) can.listable
+    (all-can shown.table layout [] can.holds (All-nil CanBeListed)) (listed-all shown.field shown.table layout [] (10 ∷ []) no_more)
+
+pub relisting : AreKnown → PartsAreBlocks → ListingsCompile → Relisting
+relisting known stands compiles bytes shown layout is_entry =
+    let is = is-shown known bytes shown is_entry in
+    let text = listing shown.field shown.table layout in
+    let one = listing-stands stands shown layout is.can in
+    record {
+      cut = one.cut;
+      single = All-cons OneBlock text [] one (All-nil OneBlock);
+      compiles = compiles shown.field is.can.names shown.table layout is.can.listable is.can.holds is.within ∙ ap (λ b. Some b) is.image_is;
+    }
 
 used-can : AreKnown → (shown : Shown) → IsUsedEntry shown → CanBeUsed shown
 used-can known shown used =
     let can = (is-shown known used.bytes shown used.entry).can in
     record { shown = can; first = record { lookup = first-lookup shown.field can.names can.listable.header; bare = used.bare } }
 
-pub relative_source : AreKnown → RelativesCompile → RelativeSource
-relative_source known compiles bytes shown others layout entry used owns =
-    let is = is-shown known bytes shown entry in
-    compiles shown others layout is.can (All-weaker IsUsedEntry CanBeUsed (used-can known) others used) owns is.within ∙ ap (λ b. Some b) is.image_is
+listings-stand : PartsAreBlocks → (layout : Layout) (others : List Shown) → All CanBeUsed others → All OneBlock (map (λ (other : Shown). listing other.field other.table layout) others)
+listings-stand stands layout [] used = All-nil OneBlock
+listings-stand stands layout (other ∷ others) used =
+    All-cons OneBlock (listing other.field other.table layout) (map (λ (other : Shown). listing other.field other.table layout) others)
+    (listing-stands stands other layout (All-head CanBeUsed other others used).shown) (listings-stand stands layout others (All-tail CanBeUsed other others used))
+
+relative-stands : PartsAreBlocks → (entry : Shown) (others : List Shown) (layout : Layout) → CanBeShown entry → All CanBeUsed others → All OneBlock (with_others entry others layout)
+relative-stands stands shown others layout can used =
+    let table = differing shown.table others in
+    All-cons OneBlock (relative shown others layout) (map (λ (other : Shown). listing other.field other.table layout) others)
+    (stands shown.field can.names (items_for table (all_in layout.order) ++ uses_of others) (relative shown others layout) can.listable
+    (all-can table layout (uses_of others) (differing-can shown.table others can.holds) (uses-can others used))
+    (listed-all shown.field table layout (uses_of others) (use_lines others (10 ∷ [])) (uses-tail others)))
+    (listings-stand stands layout others used)
+
+pub relative_source : AreKnown → PartsAreBlocks → RelativesCompile → RelativeSource
+relative_source known stands compiles bytes shown others layout is_entry used owns =
+    let is = is-shown known bytes shown is_entry in
+    let can = All-weaker IsUsedEntry CanBeUsed (used-can known) others used in
+    let single = relative-stands stands shown others layout is.can can in
+    record {
+      cut = single-cut (with_others shown others layout) single;
+      single = single;
+      compiles = compiles shown others layout is.can can owns is.within ∙ ap (λ b. Some b) is.image_is;
+    }

@@ -108,7 +108,7 @@ block-listable text one has sound =
 
 -- ---- the first name
 
-one_plus : (n : ℕ) → 1 + n ≡ suc n
+pub one_plus : (n : ℕ) → 1 + n ≡ suc n
 one_plus n = omega arith
 
 before_first-here : (w v : List ℕ) → list_all (λ b. not (b == 124)) w ≡ true → before_first (λ b. b == 124) (w ++ 124 ∷ v) ≡ w

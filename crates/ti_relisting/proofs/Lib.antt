@@ -11,5 +11,6 @@ pub mod Relating
 pub mod TextBytes
 pub mod Fitting
 pub mod Heading
+pub mod Standing
 pub mod Imaging
 pub mod EntryLaws

@@ -98,6 +98,9 @@ no_comma-of : (p : List Placed) → list_all (λ b. not (b == 44)) (bytes p) ≡
 no_comma-of [] h = tt
 no_comma-of (x ∷ xs) h = let parts = and_parts (not (x.0 == 44)) (list_all (λ b. not (b == 44)) (bytes xs)) h in (not-true (x.0 == 44) parts.0, no_comma-of xs parts.1)
 
+begins-at : (s field rest : List Placed) (line : ℕ) → s ≡ field ++ (44, line) ∷ rest → HasNoComma field → Begins s field rest
+begins-at s field rest line e none = subst (λ t. Begins t field rest) (sym e) (field_and_rest field rest line none)
+
 -- the text has a reading of that field and those items
 record HasListing (text : List ℕ) (field : List ℕ) (names : List (List ℕ)) (items : List Said) : Type 0 where
   pub reading : Reading
@@ -123,7 +126,7 @@ listing-parses found spells field names items text good can is =
         items = read.pieces;
         of_header = [];
         of_items = [];
-        begins = subst (λ t. Begins t parts.front comma.rest) (sym is_folded) (field_and_rest parts.front comma.rest comma.line none);
+        begins = begins-at (folded text) parts.front comma.rest comma.line is_folded none;
         cut = read.cut;
         is_field = sym parts.is_front;
         reads_header = good_header field names good.header good.short;

@@ -6,23 +6,25 @@ use Rattle.std.specs.Str.{bytes_eq}
 use Rattle.std.proofs.lemmas.Bool.{cases_Bool, eqb-true}
 use Rattle.std.proofs.lemmas.Option.{slice_get-map, same_Some, none-some}
 use Rattle.std.proofs.lemmas.Slice.Eq.{bytes_eq-Decides}
-use Rattle.std.proofs.lemmas.List.Elements.{All-nil, All-cons, All-head, All-tail, All-append}
+use Rattle.std.proofs.lemmas.List.Elements.{All-nil, All-cons, All-head, All-tail}
 use Rattle.ti_caps.specs.Tables.{Capability, IsCapability}
-use Rattle.ti_source.specs.Reading.{Said, said_import, Reading}
+use Rattle.ti_source.specs.Reading.{said_import, Reading}
 use Rattle.ti_source.specs.Parsing.{parsed}
-use Rattle.ti_compiled.specs.Values.{Content, content_true, content_number, content_text, content_cancelled}
+use Rattle.ti_compiled.specs.Values.{Content, content_true, content_number, content_text, content_cancelled, Contents}
 use Rattle.ti_compiled.specs.Laws.{uncancelled}
 use Rattle.ti_meaning.specs.Owner.{is_among, owner, owned, readings}
 use Rattle.ti_meaning.specs.Expansion.{Mention, said, expand, expansion}
 use Rattle.ti_list.specs.declared.layout.Layout.{Layout}
-use Rattle.ti_list.specs.Items.{IsTail, no_more, new_line, CanBeListed, IsReadAs}
+use Rattle.ti_list.specs.Items.{CanBeListed, IsReadAs}
 use Rattle.ti_list.specs.Listing.{listing}
 use Rattle.ti_list.specs.Relative.{Shown, first_name, same_content, first_of, difference, differing, use_lines, relative, with_others}
+use Rattle.ti_list.specs.Listing.{items_for}
+use Rattle.ti_relisting.specs.Laid.{uses_of}
 use Rattle.ti_relisting.specs.Limits.{ImagesAreOfValues, LimitsAreOfValues}
 use Rattle.ti_relisting.specs.Shown.{CanHave, CanHaveAll, CanBeUsed}
 use Rattle.ti_relisting.specs.Laws.{PartsAreRead, RelativesCompile}
-use Rattle.ti_relisting.proofs.Orders.{all_in, all_in-all}
-use Rattle.ti_relisting.proofs.Laying.{entry_items, listed-is, items-can, mentions_for, expand_says, before}
+use Rattle.ti_relisting.proofs.Orders.{all_in}
+use Rattle.ti_relisting.proofs.Laying.{listed-all, uses-tail, all-can, mentions_for, expand_says, before}
 use Rattle.ti_relisting.proofs.Compiling.{used_at, own-at, entry-is, listing-expands, all-tell}
 
 -- ---- what the entry and the others say together is what the entry says
@@ -64,18 +66,12 @@ difference-can c None (Some x) has = tt
 difference-can c (Some h) None has = has
 difference-can c (Some h) (Some x) has = elim (same_content h x) as (λ b. CanHave c (cond b None (Some h))) [ true ↦ tt | false ↦ has ]
 
+pub differing-can : (table : Contents) (others : List Shown) → CanHaveAll table → CanHaveAll (differing table others)
+differing-can table others holds c is = difference-can c (table c) (first_of others c) (holds c is)
+
 -- ---- the uses
 
--- a use of each of the others
-abbrev pub uses_of : List Shown → List Said
-uses_of [] = []
-uses_of (other ∷ others) = said_import (first_name other.field) ∷ uses_of others
-
-pub uses-tail : (others : List Shown) → IsTail (uses_of others) (use_lines others (10 ∷ []))
-uses-tail [] = no_more
-uses-tail (other ∷ others) = new_line (said_import (first_name other.field)) (uses_of others) (use_lines others (10 ∷ [])) (uses-tail others)
-
-uses-can : (others : List Shown) → All CanBeUsed others → All CanBeListed (uses_of others)
+pub uses-can : (others : List Shown) → All CanBeUsed others → All CanBeListed (uses_of others)
 uses-can [] can = All-nil CanBeListed
 uses-can (other ∷ others) can =
     let first = (All-head CanBeUsed other others can).first in
@@ -132,10 +128,11 @@ relatives_compile read images limits e others layout shown used owns within =
     let blocks = readings (with_others e others layout) in
     let block = parsed text in
     let table = differing e.table others in
-    let has : CanHaveAll table = λ c cap. difference-can c (e.table c) (first_of others c) (shown.holds c cap) in
-    let can = All-append CanBeListed (entry_items layout table) (uses_of others) (items-can table (all_in layout.order) (all_in-all layout.order).valid has) (uses-can others used) in
-    let is : IsReadAs e.field shown.names (entry_items layout table ++ uses_of others) block =
-    read e.field shown.names (entry_items layout table ++ uses_of others) text shown.listable can (listed-is e.field table layout (uses_of others) (use_lines others (10 ∷ [])) (uses-tail others)) in
+    let has : CanHaveAll table = differing-can e.table others shown.holds in
+    let own = items_for table (all_in layout.order) in
+    let is : IsReadAs e.field shown.names (own ++ uses_of others) block =
+    read e.field shown.names (own ++ uses_of others) text shown.listable
+    (all-can table layout (uses_of others) has (uses-can others used)) (listed-all e.field table layout (uses_of others) (use_lines others (10 ∷ [])) (uses-tail others)) in
     let list_other : Shown → List ℕ = λ other. listing other.field other.table layout in
     let expands : (i : ℕ) (other : Shown) → slice_get others i ≡ Some other → used_at (owned blocks) (length blocks) (first_name other.field) ≡ Some (mentions_for other.table (all_in layout.order)) =
     λ i other at.

@@ -1,11 +1,12 @@
 // The laws of relisting and of relative source: compiled entries of sources come back byte for byte.
 ghost use Rattle.ti_relisting.specs.Laws.{RelativeSource, Relisting};
 
+use crate::reading_back::parts_are_blocks;
 use crate::relisting::{listings_compile, relatives_compile};
 use ti_compiled::{images_are_read, one_reading as entries_have_one_reading};
 use ti_source::{each_is_well_read, one_outcome, one_reading};
 
-/// The listing of a compiled entry, in any layout, compiles to the entry, byte for byte.
+/// The listing of a compiled entry, in any layout, is a source of one block, which compiles to the entry, byte for byte.
 pub fn listings_compile_back()
     ensures { Relisting }
 {
@@ -14,11 +15,13 @@ pub fn listings_compile_back()
     each_is_well_read();
     images_are_read();
     entries_have_one_reading();
+    parts_are_blocks();
     listings_compile();
 }
 
-/// The relative source of a compiled entry, with the listings of the entries that it uses behind it, compiles to the entry,
-/// byte for byte, where the first names of the used ones belong to their listings and hold no backslash.
+/// The relative source of a compiled entry, with the listings of the entries that it uses behind it, is a source of these
+/// blocks, of which the first compiles to the entry, byte for byte, where the first names of the used ones belong to their
+/// listings and hold no backslash.
 pub fn relative_sources_compile_back()
     ensures { RelativeSource }
 {
@@ -27,5 +30,6 @@ pub fn relative_sources_compile_back()
     each_is_well_read();
     images_are_read();
     entries_have_one_reading();
+    parts_are_blocks();
     relatives_compile();
 }

@@ -14,4 +14,4 @@ returns c =
       images = images_of_values;
       limits = limits_of_values;
     } in
-    relisting known c.listings_compile.ensures
+    relisting known c.parts_are_blocks.ensures c.listings_compile.ensures

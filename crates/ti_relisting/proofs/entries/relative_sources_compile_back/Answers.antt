@@ -14,4 +14,4 @@ returns c =
       images = images_of_values;
       limits = limits_of_values;
     } in
-    relative_source known c.relatives_compile.ensures
+    relative_source known c.parts_are_blocks.ensures c.relatives_compile.ensures
