@@ -16,7 +16,7 @@ use Rattle.ti_base.specs.declared.entries.Entry.TheVariants.{Unresolved, TooLarg
 use Rattle.ti_meaning.specs.Usable.{IsUsable}
 use Rattle.ti_base.specs.Kept.{IsBlockText, IsKept}
 use Rattle.ti_base.proofs.Lists.{item_at, slice_get-map_item}
-use Rattle.ti_base.proofs.Editing.{map-insert, map-remove, All-insert, All-remove}
+use Rattle.ti_meaning.proofs.EditedLists.{map-insert, map-remove, All-insert, All-remove}
 
 -- the bytes that a state has
 abbrev pub shown_entry : EntryState → Option (List ℕ)

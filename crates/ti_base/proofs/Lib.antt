@@ -1,6 +1,5 @@
 pub mod Lists
 pub mod Resolving
-pub mod Editing
 pub mod Keeping
 pub mod Running
 pub mod Searching

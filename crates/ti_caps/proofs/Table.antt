@@ -71,7 +71,7 @@ row_names r among =
     let parts = and_parts _ _ (All-contains (λ q. row_is_right q ≡ true) by_name r (AllPass-from_list_all row_is_right by_name rows_are_right) among) in
     (ltb-true _ _ parts.0, (bytes_eq-Decides _ _).0 parts.1)
 
-Contains-cons : {X : Type 0} (y : X) (xs : List X) (x : X) → Contains xs x → Contains (y ∷ xs) x
+pub Contains-cons : {X : Type 0} (y : X) (xs : List X) (x : X) → Contains xs x → Contains (y ∷ xs) x
 Contains-cons y xs x (j, l, e) = (suc j, omega arith, e)
 
 row_cases : (k : Kind) (i : ℕ) (r : Row) (rs : List Row) (b : Bool) → (same_kind r.1 k && nat_eq r.2 i) ≡ b → (has_row k i rs ≡ true → (n : List ℕ) × Contains rs (n, k, i)) → elim b [ true ↦ true | false ↦ has_row k i rs ] ≡ true → (n : List ℕ) × Contains (r ∷ rs) (n, k, i)

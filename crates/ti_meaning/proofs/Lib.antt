@@ -10,3 +10,13 @@ pub mod UseFaults
 pub mod Bounding
 pub mod LawProofs
 pub mod OrderProofs
+pub mod EditedLists
+pub mod Placing
+pub mod KeptWays
+pub mod Exchanging
+pub mod KeptFaults
+pub mod ExchangeLaws
+pub mod UseLawProofs
+pub mod ItemLawProofs
+pub mod ReadOrder
+pub mod DistinctNames

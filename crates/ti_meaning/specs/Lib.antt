@@ -9,3 +9,8 @@ pub mod ValueTables
 pub mod Laws
 pub mod Usable
 pub mod Bounds
+pub mod Exchange
+pub mod Dependents
+pub mod KeptBlocks
+pub mod UseLaws
+pub mod ItemLaws
