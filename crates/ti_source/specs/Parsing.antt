@@ -1,7 +1,7 @@
 -- What a block says (terminfo(5); X/Open Curses Issue 7, "Terminfo Source Format"), as a relation by cases, and as a function.
 pub use Rattle.ti_source.specs.Verdicts.{Verdict, accepted, accepted_odd, refused, fits, is_import, Judges, judged_import, judged_unknown, judged_wrong_kind, judged_flag, judged_cancel, judged_number, judged_bad_number, judged_large_number, judged_text, judged_odd_text, judged_bad_text, said_by, code_by, item_fault, items_by, faults_by, header_fault}
 pub use Rattle.ti_source.specs.Header.{names_limit}
-pub use Rattle.ti_source.specs.inside.Parsing.{parsed}
+unfoldable pub use Rattle.ti_source.specs.inside.Parsing.{parsed}
 use Rattle.ti_text.specs.Ascii as ascii
 use Rattle.std.specs.Prelude.{◌≡◌, ℕ, ◌+◌, ◌<◌, ◌≤◌, List, [], ◌∷◌, ◌++◌, length, Some, None}
 use Rattle.ti_source.specs.declared.code.Code.TheVariants as code

@@ -10,7 +10,7 @@ use Rattle.ti_source.specs.declared.numbers.NumberError.TheVariants.{Bad, TooLar
 use Rattle.ti_spelling.specs.declared.spelling.UnescapeError.{UnescapeError}
 use Rattle.ti_source.specs.declared.verdicts.Verdict.{Verdict as VerdictInMemory}
 use Rattle.ti_source.specs.declared.verdicts.Verdict.TheVariants as verdict
-use Rattle.ti_spelling.specs.inside.Spelling.{unescaped}
+pub use Rattle.ti_spelling.specs.inside.Spelling.{unescaped}
 use Rattle.ti_source.specs.inside.Numbers.{number_read}
 use Rattle.ti_source.specs.Items.{Claim, claims_flag, claims_number, claims_text, claims_cancel, stripped}
 use Rattle.ti_source.specs.Reading.{said_flag, said_number, said_text, said_cancel, said_import, said_of}
