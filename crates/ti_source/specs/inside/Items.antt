@@ -23,7 +23,10 @@ after_field (x ∷ xs) = if x.0 == ascii.comma then xs else after_field xs
 
 -- what takes the byte after `x`, where `before` stands just before `x` and `by` takes `x` itself
 abbrev pub taken_after : Taken → ℕ → ℕ → Taken
-taken_after taken.Nothing before x = if x == ascii.backslash then taken.Backslash else if x == ascii.caret && not (before == ascii.percent) then taken.Caret else taken.Nothing
+taken_after taken.Nothing before x =
+    if x == ascii.backslash then taken.Backslash
+    else if x == ascii.caret && not (before == ascii.percent) then taken.Caret
+    else taken.Nothing
 taken_after taken.Backslash before x = taken.Nothing
 taken_after taken.Caret before x = taken.Nothing
 
