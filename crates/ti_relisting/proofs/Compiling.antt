@@ -1,10 +1,10 @@
 -- A block that is read as the items of an entry compiles to the image of the entry.
-use Rattle.std.proofs.Common.{◌≡◌, ℕ, zero, suc, ◌+◌, ◌<◌, ◌≤◌, Bool, true, false, List, [], ◌∷◌, ◌++◌, map, length, cond, nat_lt, Option, Some, None, option_and_then, slice_get, refl, ap, sym, ◌∙◌, subst, arith}
-use Rattle.std.specs.List.{All, list_any}
+use Rattle.std.proofs.Common.{◌≡◌, ℕ, suc, false, List, [], ◌∷◌, ◌++◌, map, length, cond, Option, Some, None, option_and_then, refl, ap, sym, ◌∙◌, arith}
+use Rattle.std.specs.List.{list_any}
 use Rattle.std.specs.Option.{option_or}
 use Rattle.std.proofs.lemmas.Bool.{le-ltb}
 use Rattle.std.proofs.lemmas.List.{append-nil}
-use Rattle.std.proofs.lemmas.List.Elements.{All-append, All-nil}
+use Rattle.std.proofs.lemmas.List.Elements.{All-nil}
 use Rattle.ti_caps.specs.Tables.{Capability, IsCapability}
 use Rattle.ti_source.specs.Codes.{is_error}
 use Rattle.ti_source.specs.Reading.{Said, ReadItem, ReadFault, Reading}
@@ -13,16 +13,16 @@ use Rattle.ti_compiled.specs.Values.{Content, content_true, content_number, cont
 use Rattle.ti_compiled.specs.Image.{image}
 use Rattle.ti_compiled.specs.Laws.{uncancelled}
 use Rattle.ti_meaning.specs.Owner.{owned, readings}
-use Rattle.ti_meaning.specs.Expansion.{Mention, said, values, is_broken, expand_items, expand, expansion}
-use Rattle.ti_meaning.specs.Compiled.{image_of, is_too_large, entry_of, entry, compiled}
+use Rattle.ti_meaning.specs.Expansion.{Mention, said, values, is_broken, expand, expansion}
+use Rattle.ti_meaning.specs.Compiled.{image_of, is_too_large, entry_of, entry}
 use Rattle.ti_list.specs.declared.layout.Layout.{Layout}
-use Rattle.ti_list.specs.Items.{IsTail, no_more, IsListing, CanBeListed, IsListable, IsReadAs}
+use Rattle.ti_list.specs.Items.{no_more, CanBeListed, IsListable, IsReadAs}
 use Rattle.ti_list.specs.Listing.{items_for, listing}
 use Rattle.ti_relisting.specs.Limits.{limit_of, ImagesAreOfValues, LimitsAreOfValues}
 use Rattle.ti_relisting.specs.Shown.{CanHaveAll, IsWithinLimit}
 use Rattle.ti_relisting.specs.Laws.{PartsAreRead, ListingsCompile}
-use Rattle.ti_relisting.proofs.Orders.{is_among, all_in, AreAll, all_in-all}
-use Rattle.ti_relisting.proofs.Laying.{entry_items, listed-is, items-can, mentions_for, expand_says, expand_items-says, before, own-expands, all-say}
+use Rattle.ti_relisting.proofs.Orders.{all_in, all_in-all}
+use Rattle.ti_relisting.proofs.Laying.{listed-all, all-can, mentions_for, expand_says, expand_items-says, before, own-expands, all-say}
 
 pub uncancelled-twice : (o : Option Content) → uncancelled (uncancelled o) ≡ uncancelled o
 uncancelled-twice None = refl
@@ -66,10 +66,10 @@ option_or-nothing (Some x) = refl
 
 -- a listing, as it is read
 pub listing-read : PartsAreRead → (field : List ℕ) (names : List (List ℕ)) (table : Contents) (layout : Layout) → IsListable field names → CanHaveAll table
-    → IsReadAs field names (entry_items layout table ++ []) (parsed (listing field table layout))
+    → IsReadAs field names (items_for table (all_in layout.order) ++ []) (parsed (listing field table layout))
 listing-read read field names table layout good has =
-    let can = All-append CanBeListed (entry_items layout table) [] (items-can table (all_in layout.order) (all_in-all layout.order).valid has) (All-nil CanBeListed) in
-    read field names (entry_items layout table ++ []) (listing field table layout) good can (listed-is field table layout [] (10 ∷ []) no_more)
+    read field names (items_for table (all_in layout.order) ++ []) (listing field table layout) good
+    (all-can table layout [] has (All-nil CanBeListed)) (listed-all field table layout [] (10 ∷ []) no_more)
 
 -- it expands to what its entry has, whatever stands beside it
 pub listing-expands : PartsAreRead → (env : List ℕ → Option Reading) (depth : ℕ) (field : List ℕ) (names : List (List ℕ)) (table : Contents) (layout : Layout) → IsListable field names
@@ -90,5 +90,5 @@ listings_compile read images limits field names table layout good has within =
     let is = listing-read read field names table layout good has in
     let ms = mentions_for table (all_in layout.order) in
     let tells : (c : Capability) → IsCapability c → uncancelled (said ms c) ≡ uncancelled (table c) =
-        λ c cap. ap uncancelled (ap (λ l. said l c) (sym (append-nil ms)) ∙ all-tell table layout [] c cap ∙ option_or-nothing (table c)) in
+    λ c cap. ap uncancelled (ap (λ l. said l c) (sym (append-nil ms)) ∙ all-tell table layout [] c cap ∙ option_or-nothing (table c)) in
     entry-is images limits blocks block field table ms (listing-expands read (owned blocks) (length blocks) field names table layout good has) is.same_field tells within

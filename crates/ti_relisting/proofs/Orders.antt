@@ -1,5 +1,5 @@
 -- Each order of the capabilities has each of them, and nothing else.
-use Rattle.std.proofs.Common.{◌≡◌, ℕ, ◌<◌, Bool, true, false, ◌&&◌, ◌||◌, nat_lt, List, [], ◌∷◌, ◌++◌, refl, ap, sym, ◌∙◌, inl, inr}
+use Rattle.std.proofs.Common.{◌≡◌, ℕ, ◌<◌, Bool, true, ◌||◌, nat_lt, List, [], ◌∷◌, ◌++◌, refl, ◌∙◌, inl, inr}
 use Rattle.std.specs.List.{list_all, list_any, All}
 use Rattle.std.proofs.lemmas.Bool.{cases_Bool, agree_below, agree_below_at, ltb-true, or_left, or_right}
 use Rattle.std.proofs.lemmas.List.Elements.{All-append, All-weaker}
@@ -8,7 +8,7 @@ use Rattle.ti_caps.specs.Tables.{Capability, capability, IsCapability, count_of}
 use Rattle.ti_caps.specs.ByName.{by_name}
 use Rattle.ti_caps.specs.declared.capability.Kind.{Kind}
 use Rattle.ti_caps.specs.declared.capability.Kind.TheVariants.{Flag, Number, Text}
-use Rattle.ti_meaning.specs.Expansion.{same_kind, same_capability}
+use Rattle.ti_meaning.specs.Expansion.{same_capability}
 use Rattle.ti_list.specs.declared.layout.Order.{Order}
 use Rattle.ti_list.specs.declared.layout.Order.TheVariants as order
 use Rattle.ti_list.specs.Listing.{in_order}
@@ -73,13 +73,13 @@ all_in-complete o Number i lt =
     let later = in_order o Number ++ in_order o Text in
     among-append (in_order o Flag) later c
     ∙ or_right (is_among (in_order o Flag) c) (is_among later c)
-      (among-append (in_order o Number) (in_order o Text) c ∙ or_left (is_among (in_order o Number) c) (is_among (in_order o Text) c) (kind-complete o Number i lt))
+    (among-append (in_order o Number) (in_order o Text) c ∙ or_left (is_among (in_order o Number) c) (is_among (in_order o Text) c) (kind-complete o Number i lt))
 all_in-complete o Text i lt =
     let c = capability Text i in
     let later = in_order o Number ++ in_order o Text in
     among-append (in_order o Flag) later c
     ∙ or_right (is_among (in_order o Flag) c) (is_among later c)
-      (among-append (in_order o Number) (in_order o Text) c ∙ or_right (is_among (in_order o Number) c) (is_among (in_order o Text) c) (kind-complete o Text i lt))
+    (among-append (in_order o Number) (in_order o Text) c ∙ or_right (is_among (in_order o Number) c) (is_among (in_order o Text) c) (kind-complete o Text i lt))
 
 pub all_in-all : (o : Order) → AreAll (all_in o)
 all_in-all o = record {
