@@ -110,6 +110,9 @@ impl Dialogue {
                 Ok(())
             }
             Request::Remove { at } => carry_out(&mut self.database, &Edit::Remove { at }, writer),
+            Request::Relocate { from, to } => {
+                carry_out(&mut self.database, &Edit::Relocate { from, to }, writer)
+            }
             Request::Print { at } => print(&self.database, at, writer),
             Request::Report => report(&self.database, writer),
             Request::Unknown => write_out(writer, b"unknown\n"),
