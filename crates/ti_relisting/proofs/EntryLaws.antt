@@ -4,6 +4,7 @@ use Rattle.std.specs.List.{All}
 use Rattle.std.proofs.lemmas.Bool.{cases_Bool, ltb-false}
 use Rattle.std.proofs.lemmas.Option.{same_Some, none-some, slice_get-map}
 use Rattle.std.proofs.lemmas.List.Elements.{All-nil, All-cons, All-head, All-tail, All-map, All-weaker}
+use Rattle.ti_caps.specs.NameOrder.{EachKindIsInOrder}
 use Rattle.ti_caps.specs.Tables.{Capability, IsCapability}
 use Rattle.ti_source.specs.Blocks.{OneBlock}
 use Rattle.ti_source.specs.Reading.{Reading}
@@ -45,6 +46,7 @@ pub record AreKnown : Type 0 where
   pub one : OneReading
   pub images : ImagesAreOfValues
   pub limits : LimitsAreOfValues
+  pub ordered : EachKindIsInOrder
 
 -- ---- the blocks
 
@@ -167,16 +169,16 @@ is-shown known bytes shown entry =
       within = omega (arith, sizes, limit, is_within);
     }
 
-listing-stands : PartsAreBlocks → (shown : Shown) (layout : Layout) → CanBeShown shown → OneBlock (listing shown.field shown.table layout)
-listing-stands stands shown layout can =
+listing-stands : EachKindIsInOrder → PartsAreBlocks → (shown : Shown) (layout : Layout) → CanBeShown shown → OneBlock (listing shown.field shown.table layout)
+listing-stands ordered stands shown layout can =
     stands shown.field can.names (items_for shown.table (all_in layout.order) ++ []) (listing shown.field shown.table layout) can.listable
-    (all-can shown.table layout [] can.holds (All-nil CanBeListed)) (listed-all shown.field shown.table layout [] (10 ∷ []) no_more)
+    (all-can ordered shown.table layout [] can.holds (All-nil CanBeListed)) (listed-all shown.field shown.table layout [] (10 ∷ []) no_more)
 
 pub relisting : AreKnown → PartsAreBlocks → ListingsCompile → Relisting
 relisting known stands compiles bytes shown layout is_entry =
     let is = is-shown known bytes shown is_entry in
     let text = listing shown.field shown.table layout in
-    let one = listing-stands stands shown layout is.can in
+    let one = listing-stands known.ordered stands shown layout is.can in
     record {
       cut = one.cut;
       single = All-cons OneBlock text [] one (All-nil OneBlock);
@@ -188,26 +190,26 @@ used-can known shown used =
     let can = (is-shown known used.bytes shown used.entry).can in
     record { shown = can; first = record { lookup = first-lookup shown.field can.names can.listable.header; bare = used.bare } }
 
-listings-stand : PartsAreBlocks → (layout : Layout) (others : List Shown) → All CanBeUsed others → All OneBlock (map (λ (other : Shown). listing other.field other.table layout) others)
-listings-stand stands layout [] used = All-nil OneBlock
-listings-stand stands layout (other ∷ others) used =
+listings-stand : EachKindIsInOrder → PartsAreBlocks → (layout : Layout) (others : List Shown) → All CanBeUsed others → All OneBlock (map (λ (other : Shown). listing other.field other.table layout) others)
+listings-stand ordered stands layout [] used = All-nil OneBlock
+listings-stand ordered stands layout (other ∷ others) used =
     All-cons OneBlock (listing other.field other.table layout) (map (λ (other : Shown). listing other.field other.table layout) others)
-    (listing-stands stands other layout (All-head CanBeUsed other others used).shown) (listings-stand stands layout others (All-tail CanBeUsed other others used))
+    (listing-stands ordered stands other layout (All-head CanBeUsed other others used).shown) (listings-stand ordered stands layout others (All-tail CanBeUsed other others used))
 
-relative-stands : PartsAreBlocks → (entry : Shown) (others : List Shown) (layout : Layout) → CanBeShown entry → All CanBeUsed others → All OneBlock (with_others entry others layout)
-relative-stands stands shown others layout can used =
+relative-stands : EachKindIsInOrder → PartsAreBlocks → (entry : Shown) (others : List Shown) (layout : Layout) → CanBeShown entry → All CanBeUsed others → All OneBlock (with_others entry others layout)
+relative-stands ordered stands shown others layout can used =
     let table = differing shown.table others in
     All-cons OneBlock (relative shown others layout) (map (λ (other : Shown). listing other.field other.table layout) others)
     (stands shown.field can.names (items_for table (all_in layout.order) ++ uses_of others) (relative shown others layout) can.listable
-    (all-can table layout (uses_of others) (differing-can shown.table others can.holds) (uses-can others used))
+    (all-can ordered table layout (uses_of others) (differing-can shown.table others can.holds) (uses-can others used))
     (listed-all shown.field table layout (uses_of others) (use_lines others (10 ∷ [])) (uses-tail others)))
-    (listings-stand stands layout others used)
+    (listings-stand ordered stands layout others used)
 
 pub relative_source : AreKnown → PartsAreBlocks → RelativesCompile → RelativeSource
 relative_source known stands compiles bytes shown others layout is_entry used owns =
     let is = is-shown known bytes shown is_entry in
     let can = All-weaker IsUsedEntry CanBeUsed (used-can known) others used in
-    let single = relative-stands stands shown others layout is.can can in
+    let single = relative-stands known.ordered stands shown others layout is.can can in
     record {
       cut = single-cut (with_others shown others layout) single;
       single = single;

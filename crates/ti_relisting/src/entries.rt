@@ -3,6 +3,7 @@ ghost use Rattle.ti_relisting.specs.Laws.{RelativeSource, Relisting};
 
 use crate::reading_back::parts_are_blocks;
 use crate::relisting::{listings_compile, relatives_compile};
+use ti_caps::each_kind_is_in_order;
 use ti_compiled::{images_are_read, one_reading as entries_have_one_reading};
 use ti_source::{each_is_well_read, one_outcome, one_reading};
 
@@ -10,6 +11,7 @@ use ti_source::{each_is_well_read, one_outcome, one_reading};
 pub fn listings_compile_back()
     ensures { Relisting }
 {
+    each_kind_is_in_order();
     one_outcome();
     one_reading();
     each_is_well_read();
@@ -25,6 +27,7 @@ pub fn listings_compile_back()
 pub fn relative_sources_compile_back()
     ensures { RelativeSource }
 {
+    each_kind_is_in_order();
     one_outcome();
     one_reading();
     each_is_well_read();
