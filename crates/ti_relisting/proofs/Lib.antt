@@ -14,3 +14,4 @@ pub mod Heading
 pub mod Standing
 pub mod Imaging
 pub mod EntryLaws
+pub mod Examples
