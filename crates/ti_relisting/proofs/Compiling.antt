@@ -1,10 +1,11 @@
 -- A block that is read as the items of an entry compiles to the image of the entry.
-use Rattle.std.proofs.Common.{◌≡◌, ℕ, suc, false, List, [], ◌∷◌, ◌++◌, map, length, cond, Option, Some, None, option_and_then, refl, ap, sym, ◌∙◌, arith}
+use Rattle.std.proofs.Common.{option_map, slice_get, ◌≡◌, ℕ, suc, false, List, [], ◌∷◌, ◌++◌, map, length, cond, Option, Some, None, option_and_then, refl, ap, sym, ◌∙◌, arith}
 use Rattle.std.specs.List.{list_any}
 use Rattle.std.specs.Option.{option_or}
 use Rattle.std.proofs.lemmas.Bool.{le-ltb}
 use Rattle.std.proofs.lemmas.List.{append-nil}
 use Rattle.std.proofs.lemmas.List.Elements.{All-nil}
+use Rattle.std.proofs.lemmas.Option.{slice_get-map}
 use Rattle.ti_caps.specs.NameOrder.{EachKindIsInOrder}
 use Rattle.ti_caps.specs.Tables.{Capability, IsCapability}
 use Rattle.ti_source.specs.Codes.{is_error}
@@ -84,12 +85,13 @@ pub all-tell : EachKindIsInOrder → (table : Contents) (layout : Layout) (ms : 
 all-tell ordered table layout ms c is = all-say table (all_in layout.order) ms c ((all_in-all ordered layout.order).complete c is)
 
 pub listings_compile : EachKindIsInOrder → PartsAreRead → ImagesAreOfValues → LimitsAreOfValues → ListingsCompile
-listings_compile ordered read images limits field names table layout good has within =
+listings_compile ordered read images limits field names table layout good has within texts at stands =
     let text = listing field table layout in
-    let block = parsed text in
-    let blocks = readings (text ∷ []) in
+    let blocks = readings texts in
     let is = listing-read ordered read field names table layout good has in
     let ms = mentions_for table (all_in layout.order) in
     let tells : (c : Capability) → IsCapability c → uncancelled (said ms c) ≡ uncancelled (table c) =
     λ c cap. ap uncancelled (ap (λ l. said l c) (sym (append-nil ms)) ∙ all-tell ordered table layout [] c cap ∙ option_or-nothing (table c)) in
-    entry-is images limits blocks block field table ms (listing-expands ordered read (owned blocks) (length blocks) field names table layout good has) is.same_field tells within
+    let read_there : slice_get blocks at ≡ Some (parsed text) = slice_get-map parsed texts at ∙ ap (option_map parsed) stands in
+    ap (option_and_then (entry blocks)) read_there
+    ∙ entry-is images limits blocks (parsed text) field table ms (listing-expands ordered read (owned blocks) (length blocks) field names table layout good has) is.same_field tells within

@@ -24,7 +24,7 @@ use Rattle.ti_list.specs.Relative.{Shown, differing, use_lines, relative, with_o
 use Rattle.ti_relisting.specs.Limits.{limit_of, ImagesAreOfValues, LimitsAreOfValues}
 use Rattle.ti_relisting.specs.Shown.{CanHave, IsWithinLimit, CanBeShown, CanBeUsed}
 use Rattle.ti_relisting.specs.Entries.{IsEntry, IsUsedEntry}
-use Rattle.ti_relisting.specs.Laws.{PartsAreBlocks, ListingsCompile, RelativesCompile, Relisting, RelativeSource}
+use Rattle.ti_relisting.specs.Laws.{PartsAreBlocks, ListingsCompile, RelativesCompile, ShownEntry, listings, Relisting, Relistings, RelativeSource}
 use Rattle.ti_relisting.proofs.TextBytes.{parsed-bytes}
 use Rattle.ti_relisting.proofs.Fitting.{MentionFits, ItemFits, items-fit, unbroken-expand, follows, expand-fits, owned-has, said-has, uncancelled-has, agrees-has}
 use Rattle.ti_relisting.proofs.Heading.{block-listable, first-lookup}
@@ -174,16 +174,42 @@ listing-stands ordered stands shown layout can =
     stands shown.field can.names (items_for shown.table (all_in layout.order) ++ []) (listing shown.field shown.table layout) can.listable
     (all-can ordered shown.table layout [] can.holds (All-nil CanBeListed)) (listed-all shown.field shown.table layout [] (10 ∷ []) no_more)
 
+-- a listing compiles to its entry wherever it stands
+listing-compiles : AreKnown → ListingsCompile → (bytes : List ℕ) (shown : Shown) (layout : Layout) → IsShown bytes shown
+    → (texts : List (List ℕ)) (at : ℕ) → slice_get texts at ≡ Some (listing shown.field shown.table layout) → compiled texts at ≡ Some bytes
+listing-compiles known compiles bytes shown layout is texts at stands =
+    compiles shown.field is.can.names shown.table layout is.can.listable is.can.holds is.within texts at stands ∙ ap (λ b. Some b) is.image_is
+
 pub relisting : AreKnown → PartsAreBlocks → ListingsCompile → Relisting
 relisting known stands compiles bytes shown layout is_entry =
     let is = is-shown known bytes shown is_entry in
     let text = listing shown.field shown.table layout in
     let one = listing-stands known.ordered stands shown layout is.can in
-    record {
-      cut = one.cut;
-      single = All-cons OneBlock text [] one (All-nil OneBlock);
-      compiles = compiles shown.field is.can.names shown.table layout is.can.listable is.can.holds is.within ∙ ap (λ b. Some b) is.image_is;
-    }
+    (record { cut = one.cut; single = All-cons OneBlock text [] one (All-nil OneBlock) }, listing-compiles known compiles bytes shown layout is (text ∷ []) 0 refl)
+
+-- ---- several listings
+
+abbrev IsEntryShown : ShownEntry → Type 0
+IsEntryShown entry = IsEntry entry.0 entry.1
+
+all-stand : AreKnown → PartsAreBlocks → (layout : Layout) (entries : List ShownEntry) → All IsEntryShown entries → All OneBlock (listings entries layout)
+all-stand known stands layout [] are = All-nil OneBlock
+all-stand known stands layout (entry ∷ entries) are =
+    let is = is-shown known entry.0 entry.1 (All-head IsEntryShown entry entries are) in
+    All-cons OneBlock (listing entry.1.field entry.1.table layout) (listings entries layout) (listing-stands known.ordered stands entry.1 layout is.can)
+    (all-stand known stands layout entries (All-tail IsEntryShown entry entries are))
+
+pub relistings : AreKnown → PartsAreBlocks → ListingsCompile → Relistings
+relistings known stands compiles entries layout are =
+    let single = all-stand known stands layout entries are in (
+      record { cut = single-cut (listings entries layout) single; single = single },
+      λ i entry at.
+          let is = is-shown known entry.0 entry.1 (All-at IsEntryShown entries i entry are at) in
+          listing-compiles known compiles entry.0 entry.1 layout is (listings entries layout) i
+          (slice_get-map (λ (e : ShownEntry). listing e.1.field e.1.table layout) entries i ∙ ap (option_map (λ (e : ShownEntry). listing e.1.field e.1.table layout)) at),
+    )
+
+-- ---- relative source
 
 used-can : AreKnown → (shown : Shown) → IsUsedEntry shown → CanBeUsed shown
 used-can known shown used =
@@ -209,9 +235,7 @@ pub relative_source : AreKnown → PartsAreBlocks → RelativesCompile → Relat
 relative_source known stands compiles bytes shown others layout is_entry used owns =
     let is = is-shown known bytes shown is_entry in
     let can = All-weaker IsUsedEntry CanBeUsed (used-can known) others used in
-    let single = relative-stands known.ordered stands shown others layout is.can can in
-    record {
-      cut = single-cut (with_others shown others layout) single;
-      single = single;
-      compiles = compiles shown others layout is.can can owns is.within ∙ ap (λ b. Some b) is.image_is;
-    }
+    let single = relative-stands known.ordered stands shown others layout is.can can in (
+      record { cut = single-cut (with_others shown others layout) single; single = single },
+      compiles shown others layout is.can can owns is.within ∙ ap (λ b. Some b) is.image_is,
+    )

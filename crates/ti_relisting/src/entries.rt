@@ -1,5 +1,5 @@
 // The laws of relisting and of relative source: compiled entries of sources come back byte for byte.
-ghost use Rattle.ti_relisting.specs.Laws.{RelativeSource, Relisting};
+ghost use Rattle.ti_relisting.specs.Laws.{RelativeSource, Relisting, Relistings};
 
 use crate::reading_back::parts_are_blocks;
 use crate::relisting::{listings_compile, relatives_compile};
@@ -10,6 +10,21 @@ use ti_source::{each_is_well_read, one_outcome, one_reading};
 /// The listing of a compiled entry, in any layout, is a source of one block, which compiles to the entry, byte for byte.
 pub fn listings_compile_back()
     ensures { Relisting }
+{
+    each_kind_is_in_order();
+    one_outcome();
+    one_reading();
+    each_is_well_read();
+    images_are_read();
+    entries_have_one_reading();
+    parts_are_blocks();
+    listings_compile();
+}
+
+/// The listings of several compiled entries, one behind the other, are a source of as many blocks, each of which compiles to
+/// its entry, byte for byte, whatever names the entries share.
+pub fn several_listings_compile_back()
+    ensures { Relistings }
 {
     each_kind_is_in_order();
     one_outcome();

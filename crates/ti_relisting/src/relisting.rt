@@ -4,7 +4,8 @@ ghost use Rattle.ti_relisting.specs.Laws.{ListingsCompile, RelativesCompile};
 use crate::reading_back::parts_are_read;
 use ti_caps::each_kind_is_in_order;
 
-/// The listing of a names field and contents that a source can give, in any layout, compiles to their image.
+/// The listing of a names field and contents that a source can give, in any layout, compiles to their image, in whatever
+/// source it stands.
 pub fn listings_compile()
     ensures { ListingsCompile }
 {
