@@ -1,11 +1,19 @@
 // The laws of relisting and of relative source: compiled entries of sources come back byte for byte.
 ghost use Rattle.ti_relisting.specs.Laws.{RelativeSource, Relisting, Relistings};
+ghost use Rattle.ti_relisting.specs.Entries.{EntriesOfSources};
 
 use crate::reading_back::parts_are_blocks;
 use crate::relisting::{listings_compile, relatives_compile};
 use ti_caps::each_kind_is_in_order;
 use ti_compiled::{images_are_read, one_reading as entries_have_one_reading};
-use ti_source::{each_is_well_read, one_outcome, one_reading};
+use ti_source::{blocks_are_single, each_is_well_read, one_outcome, one_reading};
+
+/// Each entry of a source of bytes that is empty or ends with a newline is one of those that the laws speak of.
+pub fn sources_have_entries()
+    ensures { EntriesOfSources }
+{
+    blocks_are_single();
+}
 
 /// The listing of a compiled entry, in any layout, is a source of one block, which compiles to the entry, byte for byte.
 pub fn listings_compile_back()
