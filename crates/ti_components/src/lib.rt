@@ -6,7 +6,9 @@
 //! - `search`: the path search that finds them, without recursion
 #![tactic(auto)]
 
+mod components;
 mod graph;
 mod search;
 
+pub use components::Components;
 pub use graph::Graph;
