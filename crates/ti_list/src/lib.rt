@@ -4,6 +4,7 @@
 //! - `layout`: how wide the lines of a listing are, and in which order its items stand
 #![tactic(auto)]
 
+mod contents;
 mod layout;
 
 pub use layout::{Layout, Mode, Order};
