@@ -2,9 +2,14 @@
 //! capability, and an entry as it differs from others.
 //!
 //! - `layout`: how wide the lines of a listing are, and in which order its items stand
+//! - `order`: the capabilities of a kind in that order
+//! - `contents`: what an entry has of a capability, and how it differs from what others have
+//! - `items`: an item as it is written
 #![tactic(auto)]
 
 mod contents;
+mod items;
 mod layout;
+mod order;
 
 pub use layout::{Layout, Mode, Order};
