@@ -1,2 +1,4 @@
 mod Examples
 pub mod Orders
+pub mod Steps
+pub mod Alone

@@ -5,11 +5,14 @@
 //! - `order`: the capabilities of a kind in that order
 //! - `contents`: what an entry has of a capability, and how it differs from what others have
 //! - `items`: an item as it is written
+//! - `listing`: an entry as source text, by itself or as it differs from others
 #![tactic(auto)]
 
 mod contents;
 mod items;
 mod layout;
+mod listing;
 mod order;
 
 pub use layout::{Layout, Mode, Order};
+pub use listing::{ListError, list, relative};
