@@ -2,3 +2,4 @@ mod Examples
 pub mod Orders
 pub mod Steps
 pub mod Alone
+pub mod Rows

@@ -69,10 +69,7 @@ pub fn same_content(one: Content<'_>, other: Content<'_>) -> bool
 }
 
 /// What a relative source says of a capability, where the entry has this of it and the others that.
-pub fn difference<'a>(
-    own: Option<Content<'a>>,
-    theirs: Option<Content<'_>>,
-) -> Option<Content<'a>>
+pub fn difference<'a>(own: Option<Content<'a>>, theirs: Option<Content<'_>>) -> Option<Content<'a>>
     ensures { option_map content_of result ≡ difference (option_map content_of own.entry) (option_map content_of theirs.entry) }
 {
     match (own, theirs) {

@@ -25,11 +25,7 @@ pub fn item_len(cap: Cap, content: Content<'_>) -> usize
 }
 
 /// Appends the item. At an error a front part of it may have been appended.
-pub fn push_item_text(
-    out: &mut Vec<u8>,
-    cap: Cap,
-    content: Content<'_>,
-) -> Result<(), AllocError>
+pub fn push_item_text(out: &mut Vec<u8>, cap: Cap, content: Content<'_>) -> Result<(), AllocError>
     ensures { OnOk result (out.new.items ≡ out.old.items ++ item_text (said_for cap (content_of content.entry))) }
 {
     out.extend_from_slice(name(cap).as_bytes())?;

@@ -13,8 +13,8 @@ use crate::items::{item_len, push_item_text};
 use crate::layout::{Layout, Order};
 use crate::order::cap_at;
 use std::alloc::{AllocError, Global};
-use ti_caps::{Cap, Kind, count};
 use thiserror::Error;
+use ti_caps::{Cap, Kind, count};
 use ti_compiled::View;
 
 /// The columns that a tab at the front of a line takes.
@@ -98,12 +98,16 @@ fn room_for<'a>(view: &View<'a>, others: &[View<'a>]) -> usize {
         for place in 0..count(kind) {
             let cap = cap_at(Order::Table, kind, place);
             if let Some(content) = said_of(view, others, cap) {
-                room = room.saturating_add(item_len(cap, content)).saturating_add(3);
+                room = room
+                    .saturating_add(item_len(cap, content))
+                    .saturating_add(3);
             }
         }
     }
     for other in others {
-        room = room.saturating_add(other.first_name().len()).saturating_add(7);
+        room = room
+            .saturating_add(other.first_name().len())
+            .saturating_add(7);
     }
     room
 }
