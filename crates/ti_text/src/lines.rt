@@ -1,5 +1,5 @@
 //! The law of counting lines.
-ghost use Rattle.ti_source.specs.Lines.{LinesAdd};
+ghost use Rattle.ti_text.specs.Texts.{LinesAdd};
 
 /// Joined texts have the lines of both.
 pub fn lines_add()

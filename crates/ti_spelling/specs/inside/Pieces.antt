@@ -3,7 +3,7 @@ use Rattle.std.specs.Prelude.{◌≡◌, ℕ, ◌<◌, Bool, false, List, [], le
 use Rattle.ti_spelling.specs.declared.spelling.UnescapeError.{UnescapeError}
 use Rattle.ti_spelling.specs.declared.spelling.Piece.{Piece}
 use Rattle.ti_spelling.specs.declared.spelling.Pieces.{Pieces}
-use Rattle.ti_spelling.specs.Spelling.{unescaped_from, with_piece}
+use Rattle.ti_spelling.specs.inside.Spelling.{unescaped_from, with_piece}
 
 -- what is still to be read spells this
 abbrev pub left_of : Pieces → Result (List ℕ × Bool) UnescapeError
