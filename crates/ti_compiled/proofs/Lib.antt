@@ -6,6 +6,4 @@ pub mod OneReading
 pub mod Held
 pub mod Places
 pub mod Joined
-pub mod Growing
 pub mod ImageReading
-pub mod ImageLemmas
