@@ -1,9 +1,11 @@
 pub mod Search
 pub mod ViewLemmas
 pub mod Whole
+pub mod Refusing
 pub mod Parts
 pub mod OneReading
 pub mod Held
 pub mod Places
-pub mod Joined
+pub mod Below
+pub mod Spelled
 pub mod ImageReading

@@ -1,6 +1,7 @@
 -- What the steps of reading know of an entry (term(5)): the header's numbers, and the sections that they cut.
-use Rattle.std.specs.Prelude.{◌≡◌, ◌≢◌, ℕ, suc, ◌<◌, ◌≤◌, List, length, slice_index, ◌⊎◌}
+use Rattle.std.specs.Prelude.{◌≡◌, ◌≢◌, ℕ, suc, ◌*◌, ◌<◌, ◌≤◌, List, length, slice_index}
 use Rattle.ti_compiled.specs.declared.layout.Format.{Format}
+use Rattle.ti_compiled.specs.declared.layout.Format.TheVariants.{Legacy}
 use Rattle.ti_compiled.specs.declared.layout.Header.{Header}
 use Rattle.ti_compiled.specs.declared.sections.Sections.{Sections}
 use Rattle.ti_compiled.specs.Layout.{magic, width}

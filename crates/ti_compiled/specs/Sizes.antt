@@ -10,9 +10,9 @@ abbrev pub at_most_max : ℕ → ℕ
 at_most_max n = min n (2 ^ 64 - 1)
 
 -- the header's numbers, of names that are short: the size of the string table as it is counted
-pub record HasSizes (names : List ℕ) (contents : Contents) (h : Header) : Type 0 where
+pub record HasSizes (field : List ℕ) (contents : Contents) (h : Header) : Type 0 where
   pub format : h.format ≡ format_of contents
-  pub names : h.names ≡ suc (length names)
+  pub names : h.names ≡ suc (length field)
   pub flags : h.flags ≡ written_count contents Flag
   pub numbers : h.numbers ≡ written_count contents Number
   pub texts : h.texts ≡ written_count contents Text
