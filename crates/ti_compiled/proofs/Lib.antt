@@ -8,4 +8,7 @@ pub mod Held
 pub mod Places
 pub mod Below
 pub mod Spelled
+pub mod Texts
+pub mod Sizes
 pub mod ImageReading
+pub mod OfValues

@@ -41,7 +41,7 @@ pub format_told : (b : List ℕ) (w : Format) → word_at 0 b ≡ magic w → fo
 format_told b Legacy e = rw e refl
 format_told b Extended e = rw e refl
 
-length-header : (w : Format) (n f m t s : ℕ) → length (header w n f m t s) ≡ 12
+pub length-header : (w : Format) (n f m t s : ℕ) → length (header w n f m t s) ≡ 12
 unfolding spelled
 length-header w n f m t s = refl
 

@@ -19,7 +19,14 @@ ImagesAreRead =
     → ((c : Capability) → IsCapability c → AgreesIfSome c (contents c)) → length (image names contents) ≤ limit_of contents
     → (read : Contents) × Reads (image names contents) names read × ((c : Capability) → IsCapability c → read c ≡ uncancelled (contents c))
 
+-- the capabilities have the same values, a cancelled one being absent
+abbrev pub ShowSame : Contents → Contents → Type 0
+ShowSame t u = (c : Capability) → IsCapability c → uncancelled (t c) ≡ uncancelled (u c)
+
 -- An image depends on the values of the capabilities alone, with cancelled as absent.
 abbrev pub ImagesAreOfValues : Type 0
-ImagesAreOfValues =
-    (names : List ℕ) (t u : Contents) → ((c : Capability) → IsCapability c → uncancelled (t c) ≡ uncancelled (u c)) → image names t ≡ image names u
+ImagesAreOfValues = (names : List ℕ) (t u : Contents) → ShowSame t u → image names t ≡ image names u
+
+-- So does its limit.
+abbrev pub LimitsAreOfValues : Type 0
+LimitsAreOfValues = (t u : Contents) → ShowSame t u → limit_of t ≡ limit_of u

@@ -1,5 +1,5 @@
 // Laws of the definitions that the calls of this crate stand on. They compute nothing.
-ghost use Rattle.ti_compiled.specs.Laws.{ImagesAreOfValues, ImagesAreRead};
+ghost use Rattle.ti_compiled.specs.Laws.{ImagesAreOfValues, ImagesAreRead, LimitsAreOfValues};
 ghost use Rattle.ti_compiled.specs.Reading.{OneReading};
 
 /// Bytes are an entry in one way at most, are refused in one way at most, and never both; so what
@@ -14,8 +14,9 @@ pub fn images_are_read()
     ensures { ImagesAreRead }
 {}
 
-/// An image depends on the values of the capabilities alone: an absent value and a cancelled one
-/// are written alike.
+/// An image and its limit depend on the values of the capabilities alone: an absent value and a
+/// cancelled one are written alike.
 pub fn images_are_of_values()
-    ensures { ImagesAreOfValues }
+    ensures images { ImagesAreOfValues }
+    ensures limits { LimitsAreOfValues }
 {}
