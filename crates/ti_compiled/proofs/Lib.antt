@@ -10,5 +10,9 @@ pub mod Below
 pub mod Spelled
 pub mod Texts
 pub mod Sizes
+pub mod Walked
+pub mod Laying
+pub mod Counting
+pub mod Assembling
 pub mod ImageReading
 pub mod OfValues

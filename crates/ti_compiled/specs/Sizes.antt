@@ -17,3 +17,6 @@ pub record HasSizes (field : List ℕ) (contents : Contents) (h : Header) : Type
   pub numbers : h.numbers ≡ written_count contents Number
   pub texts : h.texts ≡ written_count contents Text
   pub strings : h.strings ≡ at_most_max (length (texts_below contents (written_count contents Text)))
+  pub flags_fit : h.flags ≤ 44
+  pub numbers_fit : h.numbers ≤ 39
+  pub texts_fit : h.texts ≤ 414

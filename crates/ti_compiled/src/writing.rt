@@ -1,8 +1,9 @@
 // An entry written as term(5) lays it out. The entries of a table stand in the order of the entry,
 // so each section is laid in one walk over them: what is absent before a value is filled up in one
 // step, and what is absent behind the last value is not written.
-ghost use Rattle.std.specs.Prelude.{◌≡◌, ◌≢◌, ◌<◌, ◌≤◌, ◌↔◌, ◌+◌, ◌*◌, ◌++◌, [], length, replicate, IfOk, IsErrOf, OnOk, MatchBool};
+ghost use Rattle.std.specs.Prelude.{◌≡◌, ◌≢◌, ◌<◌, ◌≤◌, ◌↔◌, ◌+◌, ◌*◌, ◌++◌, [], length, replicate, Some, IfOk, IsErrOf, OnOk, MatchBool};
 ghost use Rattle.ti_caps.specs.declared.capability.Kind.TheVariants.{Flag, Number, Text};
+ghost use Rattle.ti_compiled.specs.Image.{is_wide as is_wide_content};
 ghost use Rattle.ti_compiled.specs.Image.{image, format_of, limit_of, written_count, flags_below, numbers_below, texts_below, offsets_below, even_gap, HasNoNul};
 ghost use Rattle.ti_compiled.specs.Layout as layout;
 ghost use Rattle.ti_compiled.specs.Layout.{spelled, number_bytes};
@@ -76,7 +77,9 @@ pub fn write(alloc: Global, names: &[u8], table: &Table) -> Result<Vec<u8>, Writ
 }
 
 // Whether a number is over the greatest of the legacy format.
-fn is_wide(value: &Value) -> bool {
+fn is_wide(value: &Value) -> bool
+    ensures { result ≡ is_wide_content (Some (content_of value.now)) }
+{
     matches!(value, Value::Number(number) if *number > SHORT_MAX)
 }
 
@@ -178,7 +181,8 @@ fn push_header(image: &mut Vec<u8>, header: &Header) -> Result<(), AllocError>
     push_number(image, header.flags as u32, Format::Legacy)?;
     push_number(image, header.numbers as u32, Format::Legacy)?;
     push_number(image, header.texts as u32, Format::Legacy)?;
-    push_number(image, header.strings as u32, Format::Legacy)
+    push_number(image, header.strings as u32, Format::Legacy)?;
+    Ok(())
 }
 
 // Adds a byte for each flag up to the last that is there.
