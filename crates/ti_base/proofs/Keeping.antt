@@ -7,16 +7,16 @@ use Rattle.std.proofs.lemmas.List.Elements.{All-set}
 use Rattle.std.proofs.lemmas.Option.{same_Some, slice_get-map}
 use Rattle.ti_source.specs.Reading.{Reading}
 use Rattle.ti_source.specs.Parsing.{parsed}
-use Rattle.ti_base.specs.Owner.{readings}
-use Rattle.ti_base.specs.Expansion.{Mention, expansion}
-use Rattle.ti_base.specs.Compiled.{EntryState, unresolved, oversized, written, image_of, is_too_large, entry, entry_of, state_with, state_of, compiled}
+use Rattle.ti_meaning.specs.Owner.{readings}
+use Rattle.ti_meaning.specs.Expansion.{Mention, expansion}
+use Rattle.ti_meaning.specs.Compiled.{EntryState, unresolved, oversized, written, image_of, is_too_large, entry, entry_of, state_with, state_of, compiled}
 use Rattle.ti_base.specs.Entries.{state_seen}
 use Rattle.ti_base.specs.declared.entries.Entry.{Entry}
 use Rattle.ti_base.specs.declared.entries.Entry.TheVariants.{Unresolved, TooLarge, Compiled}
-use Rattle.ti_base.specs.Usable.{IsUsable}
+use Rattle.ti_meaning.specs.Usable.{IsUsable}
 use Rattle.ti_base.specs.Kept.{IsBlockText, IsKept}
 use Rattle.ti_base.proofs.Lists.{item_at, slice_get-map_item}
-use Rattle.ti_base.proofs.Editing.{map-insert, map-remove, All-insert, All-remove}
+use Rattle.ti_meaning.proofs.EditedLists.{map-insert, map-remove, All-insert, All-remove}
 
 -- the bytes that a state has
 abbrev pub shown_entry : EntryState → Option (List ℕ)

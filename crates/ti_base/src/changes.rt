@@ -1,9 +1,9 @@
 // Changes of a list of blocks that are compiled anew, and taken back where memory is short.
 ghost use Rattle.std.specs.Prelude.{◌≡◌, ◌<◌, ◌≤◌, map, length, insert, remove, slice_set, vec_len, vec_capacity, All, IfOk, OnOk, OnErr};
 ghost use Rattle.ti_source.specs.Reading.{reading_of};
-ghost use Rattle.ti_base.specs.Compiled.{state_of};
+ghost use Rattle.ti_meaning.specs.Compiled.{state_of};
 ghost use Rattle.ti_base.specs.Entries.{state_seen};
-ghost use Rattle.ti_base.specs.Usable.{IsUsable};
+ghost use Rattle.ti_meaning.specs.Usable.{IsUsable};
 
 use crate::entries::{Entry, compile};
 use std::alloc::{AllocError, Global};

@@ -2,18 +2,18 @@
 ghost use Rattle.std.specs.Prelude.{◌≡◌, ◌<◌, ◌≤◌, [], length, map, slice_get, Some, option_map, IfOk, IfErr, OnOk};
 ghost use Rattle.ti_source.specs.Reading.{reading_of};
 ghost use Rattle.ti_source.specs.Parsing.{parsed};
-ghost use Rattle.ti_base.specs.Usable.{IsUsable};
+ghost use Rattle.ti_meaning.specs.Usable.{IsUsable};
 ghost use Rattle.ti_base.specs.Kept.{IsBlockText, IsTextRefusal};
-ghost use Rattle.ti_base.specs.Edits.{Run, change_of};
+ghost use Rattle.ti_meaning.specs.Edits.{Run, change_of};
 
 use crate::changes::{compile_inserted, compile_removed, compile_replaced, insert_reserved};
-use crate::edits::{Edit, EditError, Edited, Outcome};
 use crate::entries::Entry;
-use crate::faults::{Fault, source_faults};
+use crate::faults::source_faults;
 use crate::owners::find_owner;
 use crate::report::write_report;
 use std::alloc::{AllocError, Global};
 use std::marker::Model;
+use ti_meaning::{Edit, EditError, Edited, Fault, Outcome};
 use ti_source::{Parsed, is_block, parse};
 
 /// The greatest length of a block in bytes.
@@ -75,11 +75,11 @@ fn check_text(text: &[u8]) -> Result<(), EditError>
 }
 
 impl Database {
-    ghost use Rattle.ti_base.specs.Owner.{owner, readings};
-    ghost use Rattle.ti_base.specs.Compiled.{compiled};
-    ghost use Rattle.ti_base.specs.Faults.{fault_seen, faults};
-    ghost use Rattle.ti_base.specs.Report.{report};
-    ghost use Rattle.ti_base.specs.Edits.{Step, change_of, insertion, removal, replacement, outcome_of};
+    ghost use Rattle.ti_meaning.specs.Owner.{owner, readings};
+    ghost use Rattle.ti_meaning.specs.Compiled.{compiled};
+    ghost use Rattle.ti_meaning.specs.Faults.{fault_seen, faults};
+    ghost use Rattle.ti_meaning.specs.Report.{report};
+    ghost use Rattle.ti_meaning.specs.Edits.{Step, change_of, insertion, removal, replacement, outcome_of};
 
     /// A source with no blocks. It takes no memory.
     pub fn new(alloc: Global) -> Database

@@ -103,6 +103,10 @@ pub record Scan : Type 0 where
   pub tokens : List Placed
   pub stop : Option ℕ
 
+-- the token that a byte and the text after it begin with, and the text after the token: the code after a `%`, else the byte itself
+abbrev pub first_token : ℕ → List ℕ → Front Token
+first_token b after = if b == 37 then token_after after else Some (Literal b, after)
+
 -- a scan with one more token before it, at a place
 abbrev pub with_token : ℕ → Token → Scan → Scan
 with_token place token scan = record { tokens = placed place token ∷ scan.tokens; stop = scan.stop }

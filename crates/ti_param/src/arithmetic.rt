@@ -39,15 +39,15 @@ fn remainder(x: i32, y: i32) -> i32
     if y == 0 { 0 } else { x.wrapping_rem(y) }
 }
 
-/// Each bit turned.
-pub(crate) fn turn_bits(x: i32) -> i32
+/// The bitwise complement.
+pub(crate) fn bitwise_not(x: i32) -> i32
     ensures { result ≡ complement x }
 {
     !x
 }
 
 /// 1 for 0, 0 for any other number.
-pub(crate) fn negate(x: i32) -> i32
+pub(crate) fn logical_not(x: i32) -> i32
     ensures { result ≡ truth (is_zero x) }
 {
     i32::from(x == 0)

@@ -3,7 +3,7 @@ ghost use Rattle.std.specs.Prelude.{◌≡◌, ◌∷◌, [], map};
 ghost use Rattle.ti_param.specs.Meaning.{State, argument_of, start, with_print, written, pushed, popped, top, top_number, with_top, stored, performed, fetched, with_increment};
 ghost use Rattle.ti_param.specs.Expansion.{Ran};
 
-use crate::arithmetic::{character, negate, operate, turn_bits, wrapped_length};
+use crate::arithmetic::{character, logical_not, operate, bitwise_not, wrapped_length};
 use crate::codes::{Code, Variable};
 use crate::errors::ParamError;
 use crate::values::{Statics, Value};
@@ -169,11 +169,11 @@ impl<'a> Machine<'a> {
             }
             Code::Not => {
                 let number = self.pop_number();
-                self.push(place, Value::Number(negate(number)))
+                self.push(place, Value::Number(logical_not(number)))
             }
             Code::Complement => {
                 let number = self.pop_number();
-                self.push(place, Value::Number(turn_bits(number)))
+                self.push(place, Value::Number(bitwise_not(number)))
             }
             Code::Increment => {
                 self.increment();

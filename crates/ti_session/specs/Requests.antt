@@ -1,6 +1,6 @@
 -- What the requests of a session mean.
 use Rattle.std.specs.Prelude.{ℕ, List, [], Option, Some, None}
-use Rattle.ti_base.specs.Edits.{Change, insertion, replacement, removal}
+use Rattle.ti_meaning.specs.Edits.{Change, insertion, replacement, removal}
 use Rattle.ti_session.specs.declared.requests.Opened.{Opened}
 use Rattle.ti_session.specs.declared.requests.Opened.TheVariants.{Insert, Replace}
 use Rattle.ti_session.specs.declared.requests.Request.{Request}

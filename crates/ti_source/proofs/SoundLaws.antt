@@ -230,7 +230,7 @@ named-sound field (Some names) is read e =
       | inl long ↦ let h : true ≡ false = rw long at e in absurd cc
       | inr short ↦
           let some : field ≢ [] = λ none. let h : header_names [] ≡ Some names = rw none at is in absurd cc in
-          record { some = some; no_nul = λ k d h at. read.printable (k, h, get_or_default field k 0 d h ∙ at); short = ltb-false names_limit (length field) short }
+          record { some = some; no_nul = λ k d h at. read.no_nul (k, h, get_or_default field k 0 d h ∙ at); short = ltb-false names_limit (length field) short }
     ]
 
 any-front : (p : ReadFault → Bool) (xs ys : List ReadFault) → list_any p (xs ++ ys) ≡ false → list_any p xs ≡ false

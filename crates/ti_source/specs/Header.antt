@@ -31,7 +31,7 @@ pub record HeaderNames (field : List ℕ) (names : List (List ℕ)) : Type 0 whe
   pub cut : PartsOf field parts
   pub named : names ≡ lookup_parts parts
   pub filled : All (λ part. part ≢ []) parts
-  pub printable : ¬ Contains field 0
+  pub no_nul : ¬ Contains field 0
   pub lookup : All IsLookupName names
 
 -- a field in which a part is empty (as the one part of an empty field is), a NUL stands, or a lookup name is none

@@ -4,6 +4,7 @@ pub mod Blocks
 pub mod Header
 pub mod Numbers
 pub use Rattle.ti_spelling.specs.Spelling
+pub mod inside
 pub mod Folding
 pub mod Items
 pub mod Codes

@@ -10,8 +10,8 @@ use Rattle.ti_source.specs.declared.items.Taken.TheVariants as taken
 use Rattle.ti_source.specs.declared.numbers.NumberError.{NumberError}
 use Rattle.ti_source.specs.declared.numbers.NumberError.TheVariants.{Bad, TooLarge}
 use Rattle.ti_spelling.specs.declared.spelling.UnescapeError.{UnescapeError}
-use Rattle.ti_source.specs.declared.parsing.Verdict.{Verdict as VerdictInMemory}
-use Rattle.ti_source.specs.declared.parsing.Verdict.TheVariants as verdict
+use Rattle.ti_source.specs.declared.verdicts.Verdict.{Verdict as VerdictInMemory}
+use Rattle.ti_source.specs.declared.verdicts.Verdict.TheVariants as verdict
 use Rattle.ti_spelling.specs.Spelling.{Spells, Fails, unescaped}
 use Rattle.ti_source.specs.Header.{HeaderNames, IsBadHeader, header_names}
 use Rattle.ti_source.specs.Numbers.{IsNumeral, greatest_number, number_read}

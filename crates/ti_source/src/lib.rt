@@ -7,7 +7,7 @@
 //! - `numbers`: the value of a number, or why a text is none; `white_space`: what stands after it.
 //! - `lines`: the law of counting lines.
 //! - `folding`: a block without its comments and line breaks; `items`: the names field and the items of a block, and
-//!   what an item states; `parsing`: a block as it is read, with its faults.
+//!   what an item states; `verdicts`: what comes of that; `parsing`: a block as it is read, with its faults.
 //!
 //! The crate `ti_spelling` below it has the spelling of string values; its calls are public here too.
 #![tactic(auto)]
@@ -21,6 +21,7 @@ mod items;
 mod lines;
 mod numbers;
 mod parsing;
+mod verdicts;
 mod walk;
 mod white_space;
 
@@ -28,6 +29,7 @@ pub use code::Code;
 pub use cutting::{
     blocks, blocks_are_single, blocks_are_single_once_ended, each_has_cut, is_block, one_cut,
 };
+pub use folding::one_folding;
 pub use header::{each_header_is_read, headers_have_one_reading, is_lookup_name, lookup_names};
 pub use lines::lines_add;
 pub use numbers::{

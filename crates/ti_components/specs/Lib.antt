@@ -1,0 +1,4 @@
+pub mod Graph
+pub mod Leading
+pub mod Components
+pub mod Walk

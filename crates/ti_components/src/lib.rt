@@ -1,0 +1,14 @@
+//! The strongly connected components of a directed graph, in an order in which each component comes
+//! after those that its edges lead to.
+//!
+//! - `graph`: a graph, each node a row of edges
+//! - `components`: its components and their order
+//! - `search`: the path search that finds them, without recursion
+#![tactic(auto)]
+
+mod components;
+mod graph;
+mod search;
+
+pub use components::Components;
+pub use graph::Graph;

@@ -1,0 +1,4 @@
+pub mod Items
+pub mod Listing
+pub mod Relative
+pub mod Comparison

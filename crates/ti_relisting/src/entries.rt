@@ -1,0 +1,35 @@
+// The laws of relisting and of relative source: compiled entries of sources come back byte for byte.
+ghost use Rattle.ti_relisting.specs.Laws.{RelativeSource, Relisting};
+
+use crate::reading_back::parts_are_blocks;
+use crate::relisting::{listings_compile, relatives_compile};
+use ti_compiled::{images_are_read, one_reading as entries_have_one_reading};
+use ti_source::{each_is_well_read, one_outcome, one_reading};
+
+/// The listing of a compiled entry, in any layout, is a source of one block, which compiles to the entry, byte for byte.
+pub fn listings_compile_back()
+    ensures { Relisting }
+{
+    one_outcome();
+    one_reading();
+    each_is_well_read();
+    images_are_read();
+    entries_have_one_reading();
+    parts_are_blocks();
+    listings_compile();
+}
+
+/// The relative source of a compiled entry, with the listings of the entries that it uses behind it, is a source of these
+/// blocks, of which the first compiles to the entry, byte for byte, where the first names of the used ones belong to their
+/// listings and hold no backslash.
+pub fn relative_sources_compile_back()
+    ensures { RelativeSource }
+{
+    one_outcome();
+    one_reading();
+    each_is_well_read();
+    images_are_read();
+    entries_have_one_reading();
+    parts_are_blocks();
+    relatives_compile();
+}
