@@ -14,5 +14,6 @@ pub mod Walked
 pub mod Laying
 pub mod Counting
 pub mod Assembling
+pub mod Fronts
 pub mod ImageReading
 pub mod OfValues

@@ -7,3 +7,4 @@ pub mod Shown
 pub mod Sound
 pub mod Laws
 pub mod Sizes
+pub mod Merging

@@ -13,6 +13,7 @@
 mod fault;
 mod laws;
 mod layout;
+mod merging;
 mod sections;
 mod values;
 mod view;

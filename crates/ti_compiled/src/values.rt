@@ -1,8 +1,10 @@
 // The values of an entry, and the table that holds them by capability.
 ghost use Rattle.std.specs.Prelude.{◌≡◌, ◌≢◌, Option, Some, None, option_map, OnOk, OnErr, IfOk, IfErr, IfSome, IsNone, IsOk, IsSome, vec_len, length};
+ghost use Rattle.std.specs.Option.{option_or};
 ghost use Rattle.ti_caps.specs.Tables.{Capability, IsCapability};
 ghost use Rattle.ti_compiled.specs.Values.{contents, content_of, entries_of, rank_of, Agrees, AgreesIfSome, IsAt, IsGapFor, IsKept, SetsOnly};
 
+use crate::merging::merge;
 use std::alloc::{AllocError, Global};
 use std::marker::Model;
 use std::rc::RcSlice;
@@ -81,6 +83,18 @@ impl Table {
 }
 
 impl Table {
+    /// Gives each capability that has no value the value that it has in the other table, its text
+    /// shared: what the table has decides, a cancelled value too. One walk over both. Where memory is
+    /// short the table stays as it was.
+    pub fn merge(&mut self, other: &Table) -> Result<(), AllocError>
+        ensures merged { OnOk result ((c : Capability) → contents self.new c ≡ option_or (contents self.old c) (contents other.now c)) }
+        ensures err { OnErr result (self.new ≡ self.old) }
+    {
+        let merged = merge(*self.entries.allocator(), &self.entries, &other.entries)?;
+        self.entries = merged;
+        Ok(())
+    }
+
     // The capabilities that have a value, with it, in the order of the compiled entry.
     pub(crate) fn entries(&self) -> &[(Cap, Value)]
         ensures entries { entries_of result.now ≡ self.now }
@@ -91,7 +105,7 @@ impl Table {
 }
 
 // The place of a capability among all, in the order of the compiled entry.
-fn rank(cap: Cap) -> usize
+pub(crate) fn rank(cap: Cap) -> usize
     ensures value { result ≡ rank_of cap }
     ensures valid { IsCapability cap }
 {
