@@ -13,5 +13,6 @@ returns c =
       one = c.one_reading-2.ensures;
       images = images_of_values;
       limits = limits_of_values;
+      ordered = c.each_kind_is_in_order.ensures;
     } in
     relisting known c.parts_are_blocks.ensures c.listings_compile.ensures
