@@ -13,7 +13,7 @@ use ti_caps::{Cap, Kind, count};
 pub enum Value {
     /// A flag that is there.
     True,
-    /// A number, at most 32,767.
+    /// A number, at most 2,147,483,647.
     Number(u32),
     /// A text without NUL.
     Text(RcSlice<u8>),
@@ -58,7 +58,7 @@ impl Table {
     }
 
     /// Gives a capability a value, or with `None` takes its value away, and leaves every other one.
-    /// The kinds agree, a number is at most 32,767 and a text holds no NUL. Where memory is short the
+    /// The kinds agree, a number is at most 2,147,483,647 and a text holds no NUL. Where memory is short the
     /// table stays as it was and the value is dropped.
     pub fn set(&mut self, cap: Cap, value: Option<Value>) -> Result<(), AllocError>
         requires { AgreesIfSome cap (option_map content_of value) }
@@ -77,6 +77,16 @@ impl Table {
                 Ok(())
             }
         }
+    }
+}
+
+impl Table {
+    // The capabilities that have a value, with it, in the order of the compiled entry.
+    pub(crate) fn entries(&self) -> &[(Cap, Value)]
+        ensures entries { entries_of result.now ≡ self.now }
+        ensures kept { IsKept (entries_of result.now) }
+    {
+        &self.entries
     }
 }
 
