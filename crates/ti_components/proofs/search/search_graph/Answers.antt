@@ -1,6 +1,4 @@
-use Rattle.std.proofs.Common.{◌≡◌, ◌<◌, ◌∙◌, sym, ap, refl, length, Some, arith}
-use Rattle.std.specs.Vec.{vec_len}
-use Rattle.std.specs.List.{slice_get}
+use Rattle.std.proofs.Common.{◌<◌, ◌∙◌, sym, refl, length, arith}
 use Rattle.std.proofs.lemmas.Option.{slice_get_read, same_Some}
 use Rattle.ti_components.specs.Walk.{IsFresh}
 use Rattle.ti_components.specs.declared.search.Progress.TheVariants.{Unseen}
