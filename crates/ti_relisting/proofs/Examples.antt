@@ -5,7 +5,8 @@ use Rattle.ti_caps.specs.Names.{flag_names, number_names, text_names}
 use Rattle.ti_caps.specs.Tables.{names, capability_named}
 use Rattle.ti_source.specs.Parsing.{parsed}
 use Rattle.ti_compiled.specs.Values.{Contents}
-use Rattle.ti_compiled.specs.Image.{image, last_passing, joined_below}
+use Rattle.ti_compiled.specs.Layout.{spelled}
+use Rattle.ti_compiled.specs.Image.{image, last_passing, some_below, below, texts_below}
 use Rattle.ti_meaning.specs.Compiled.{compiled}
 use Rattle.ti_list.specs.declared.layout.Layout.{Layout}
 use Rattle.ti_list.specs.declared.layout.Order.TheVariants as order
@@ -24,7 +25,7 @@ abbrev hidden : List ℕ
 hidden = codes "\n #x,\n"
 
 hidden-compiles : compiled (hidden ∷ []) 0 ≡ Some (image (codes "#x") nothing)
-unfolding parsed capability_named names flag_names number_names text_names last_passing joined_below image
+unfolding parsed capability_named names flag_names number_names text_names last_passing some_below below texts_below spelled image
 hidden-compiles = refl
 
 -- its listing is a comment, and has no entry
