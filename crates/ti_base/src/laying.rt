@@ -3,7 +3,7 @@ ghost use Rattle.std.specs.Prelude.{◌≡◌, ◌<◌, if◌then◌else◌, Opt
 ghost use Rattle.std.specs.Option.{option_or};
 ghost use Rattle.ti_caps.specs.Tables.{Capability, IsCapability};
 ghost use Rattle.ti_compiled.specs.Values.{contents, content_of, Agrees};
-ghost use Rattle.ti_base.specs.Expansion.{same_capability, same_kind};
+ghost use Rattle.ti_meaning.specs.Expansion.{same_capability, same_kind};
 
 use std::alloc::AllocError;
 use ti_caps::{Cap, Kind, count};

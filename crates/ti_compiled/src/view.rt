@@ -1,5 +1,5 @@
 // A compiled entry read where it lies: each name and value is a slice of the caller's bytes.
-ghost use Rattle.std.specs.Prelude.{◌≡◌, ◌==◌, IfOk, IfErr};
+ghost use Rattle.std.specs.Prelude.{◌≡◌, ◌==◌, ◌<◌, length, IfOk, IfErr};
 ghost use Rattle.std.specs.List.{before_first};
 ghost use Rattle.std.specs.Option.{option_copied};
 ghost use Rattle.ti_caps.specs.declared.capability.Kind.TheVariants.{Flag, Number, Text};
@@ -26,6 +26,8 @@ pub struct View<'a> {
     strings: &'a [u8],
     // each plain offset leads into the string table
     ghost ends: { OffsetsEnd offsets.now strings.now },
+    // which is no longer than a header can tell
+    pub ghost short: { length strings.now < 32768 },
 }
 
 impl<'a> View<'a> {

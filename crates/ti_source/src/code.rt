@@ -8,7 +8,8 @@ use std::fmt;
 /// `TooLarge`, from being written, and four warnings.
 #[derive(Clone, Copy, PartialEq, Eq, Debug)]
 pub enum Code {
-    /// `E1`: the names field is empty or holds a NUL, or a part of it is no name.
+    /// `E1`: the names field or a part of it is empty, the field holds a NUL, or a lookup name breaks
+    /// the rule of `is_lookup_name`.
     BadHeader,
     /// `E2`: the names field is longer than 127 bytes.
     NamesTooLong,

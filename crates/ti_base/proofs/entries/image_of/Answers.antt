@@ -1,7 +1,7 @@
 use Rattle.std.proofs.Common.{◌∙◌, refl}
 use Rattle.ti_source.specs.Reading.{reading_of}
 use Rattle.ti_compiled.specs.Values.{contents}
-use Rattle.ti_base.proofs.Imaging.{image_tells, within_limit, over_limit}
+use Rattle.ti_meaning.proofs.Imaging.{image_tells, within_limit, over_limit}
 use Rattle.ti_base.proofs.entries.image_of.Goals as goal
 
 pub returns-in-Ok : goal.returns-in-Ok

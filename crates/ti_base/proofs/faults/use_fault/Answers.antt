@@ -1,7 +1,8 @@
 use Rattle.std.proofs.Common.{◌<◌, length, map, sym}
 use Rattle.std.proofs.lemmas.List.{length-map}
 use Rattle.ti_source.specs.Reading.{reading_of}
-use Rattle.ti_base.proofs.Faulting.{use_fault_missing, fault_on_ring, fault_off_ring, fault_of_resolved, is_resolved}
+use Rattle.ti_meaning.proofs.UseFaults.{use_fault_missing}
+use Rattle.ti_base.proofs.Faulting.{fault_on_ring, fault_off_ring, fault_of_resolved, is_resolved}
 use Rattle.ti_base.proofs.faults.use_fault.Goals as goal
 
 pub returns-in_default : goal.returns-in_default

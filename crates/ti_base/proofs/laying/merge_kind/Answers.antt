@@ -2,7 +2,7 @@ use Rattle.std.proofs.Common.{◌<◌, refl, sym, arith}
 use Rattle.std.proofs.lemmas.Bool.{false≢true}
 use Rattle.ti_caps.specs.Tables.{count_of}
 use Rattle.ti_compiled.specs.Values.{contents, content_of}
-use Rattle.ti_base.proofs.Same.{merged_found, merged_missing}
+use Rattle.ti_meaning.proofs.Same.{merged_found, merged_missing}
 use Rattle.ti_base.proofs.laying.merge_kind.Goals as goal
 use Rattle.ti_base.proofs.laying.merge_kind.Goals.{in-Some+in-Some-get+in_ok-shared+in_ok-lay, in-Some+in_default-get, in_default}
 

@@ -2,7 +2,7 @@ use Rattle.std.proofs.Common.{◌≡◌, ◌&&◌, nat_lt, if◌then◌else◌}
 use Rattle.std.specs.Option.{option_or}
 use Rattle.ti_caps.specs.Tables.{Capability, IsCapability}
 use Rattle.ti_compiled.specs.Values.{contents}
-use Rattle.ti_base.specs.Expansion.{same_kind}
+use Rattle.ti_meaning.specs.Expansion.{same_kind}
 use Rattle.ti_base.proofs.laying.merge_kind.Given as goal
 
 abbrev pub invariant-loop-index : goal.invariant-loop-index
