@@ -1,6 +1,6 @@
 use Rattle.std.proofs.Common.{sym, ◌∙◌, ap, length}
 use Rattle.ti_components.proofs.Rows.{length-rows_of}
-use Rattle.ti_components.proofs.graph.Graph.len.Goals as goal
+use Rattle.ti_components.proofs.graph.Graph.node_count.Goals as goal
 
 pub returns : goal.returns
 returns c =
