@@ -16,7 +16,7 @@ use Rattle.ti_meaning.proofs.Leading.{leads_to-LeadsTo}
 abbrev IsDeep : (List ℕ → Option Reading) → ℕ → List ℕ → Type 0
 IsDeep env k name = (ms : List Mention) × (names_at env k name ≡ Some ms)
 
-used_is_there : (f : List ℕ → Option (List Mention)) (items : List ReadItem) (name : List ℕ) (ms : List Mention) → Uses items name → expand_items f items ≡ Some ms → (ns : List Mention) × (f name ≡ Some ns)
+pub used_is_there : (f : List ℕ → Option (List Mention)) (items : List ReadItem) (name : List ℕ) (ms : List Mention) → Uses items name → expand_items f items ≡ Some ms → (ns : List Mention) × (f name ≡ Some ns)
 used_is_there f [] name ms u e = absurd u
 used_is_there f (i ∷ is) name ms (inl here) e =
     let p = joined_parts (mentions_of f i.said) (expand_items f is) ms e in
@@ -25,7 +25,7 @@ used_is_there f (i ∷ is) name ms (inr later) e =
     let p = joined_parts (mentions_of f i.said) (expand_items f is) ms e in
     used_is_there f is name p.back later p.back_is
 
-if_there : (broken : Bool) (o : Option (List Mention)) (ms : List Mention) → cond broken None o ≡ Some ms → o ≡ Some ms
+pub if_there : (broken : Bool) (o : Option (List Mention)) (ms : List Mention) → cond broken None o ≡ Some ms → o ≡ Some ms
 if_there true o ms e = absurd (none-some ms e)
 if_there false o ms e = e
 
@@ -66,7 +66,7 @@ module _ (env : List ℕ → Option Reading) (name to : List ℕ) (way : List (L
   descend zero d = never_shallow env name d
   descend (suc j) d = descend j (around (times j (suc (length way))) d)
 
-  no_ring : (k : ℕ) → IsDeep env k name → ⊥
+  pub no_ring : (k : ℕ) → IsDeep env k name → ⊥
   no_ring k d =
       let deep = times-le k (suc (length way)) (omega arith) in
       descend k (d.0, names_at-le env k (times k (suc (length way))) deep name d.0 d.1)

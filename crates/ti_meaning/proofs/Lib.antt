@@ -16,3 +16,7 @@ pub mod KeptWays
 pub mod Exchanging
 pub mod KeptFaults
 pub mod ExchangeLaws
+pub mod UseLawProofs
+pub mod ItemLawProofs
+pub mod ReadOrder
+pub mod DistinctNames

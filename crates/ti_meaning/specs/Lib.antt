@@ -12,3 +12,5 @@ pub mod Bounds
 pub mod Exchange
 pub mod Dependents
 pub mod KeptBlocks
+pub mod UseLaws
+pub mod ItemLaws

@@ -6,13 +6,17 @@
 //! - `edits`: what an edit is, and why one is refused
 //! - `edit_laws`: laws on edits, and on what they leave
 //! - `faults`: a fault of a source
+//! - `item_laws`: laws on the faults of items and on names
 //! - `laws`: laws of the definitions
+//! - `use_laws`: laws on what blocks reach, and on the faults of their uses
 #![tactic(auto)]
 
 mod edit_laws;
 mod edits;
 mod faults;
+mod item_laws;
 mod laws;
+mod use_laws;
 
 pub use edit_laws::{
     dependents_are_determined, edits_are_exchanges, touched_names_are_reached_in_both_lists,
@@ -20,7 +24,11 @@ pub use edit_laws::{
 };
 pub use edits::{Edit, EditError, Edited, Outcome};
 pub use faults::Fault;
+pub use item_laws::{item_faults_go_by_ordinal, names_are_distinct, read_items_are_ordered};
 pub use laws::{
     expansions_are_found, expansions_stay, item_faults_are_in_order, owners_are_first,
     use_faults_are_told, ways_are_found,
+};
+pub use use_laws::{
+    circles_are_components, leading_is_reaching, leading_is_walking, unresolved_blocks_have_a_cause,
 };

@@ -1,13 +1,13 @@
 -- Texts that stand in one item, told by their bytes.
-use Rattle.std.proofs.Common.{◌≡◌, ◌≢◌, ℕ, ◌<◌, Bool, true, false, not, ◌==◌, ◌||◌, ◌&&◌, List, [], ◌∷◌, ◌++◌, cond, refl, ap, sym, ◌∙◌, inl, inr}
-use Rattle.std.specs.List.{list_all, All}
+use Rattle.std.proofs.Common.{◌≡◌, ℕ, ◌<◌, Bool, true, false, not, ◌==◌, ◌||◌, ◌&&◌, List, [], ◌∷◌, ◌++◌, cond, refl, ap, sym, ◌∙◌, inl, inr}
+use Rattle.std.specs.List.{list_all}
 use mathlib.Core.Bool.{beq}
 use Rattle.std.proofs.lemmas.List.Elements.{All-head, All-tail}
 use Rattle.std.proofs.lemmas.List.Folds.{list_all-append}
-use Rattle.std.proofs.lemmas.Bool.{cases_Bool, eqb-false, and_parts, and_from, or_parts, or_from, and_right, agree_below_at, not-true, not_from_false}
+use Rattle.std.proofs.lemmas.Bool.{cases_Bool, eqb-false, and_parts, and_from, or_parts, and_right, agree_below_at, not-true}
 use Rattle.ti_source.specs.Folding.{Placed}
-use Rattle.ti_source.specs.Items.{bytes, takes, stands_alone, AreItems, last_item, item_ends, pair_of_bytes, single_byte}
-use Rattle.ti_spelling.specs.Spelling.{AreBytes, byte_text, is_percent, is_empty, last_byte, written_from, written}
+use Rattle.ti_source.specs.Items.{bytes, takes, AreItems, item_ends, pair_of_bytes, single_byte}
+use Rattle.ti_spelling.specs.Spelling.{AreBytes, byte_text, is_percent, is_empty, last_byte, written_from}
 
 -- a byte that ends no item and takes nothing, whatever follows it
 abbrev pub is_plain : ℕ → ℕ → Bool

@@ -1,21 +1,24 @@
 -- A listing is laid out as the items of its entry, and says of each capability what the entry has.
-use Rattle.std.proofs.Common.{◌≡◌, ℕ, suc, ◌+◌, ◌<◌, ◌≤◌, Bool, true, false, ◌||◌, nat_lt, nat_eq, List, [], ◌∷◌, ◌++◌, map, length, cond, Option, Some, None, option_and_then, refl, ap, sym, ◌∙◌, subst, inl, inr, append_assoc}
+use Rattle.std.proofs.Common.{◌≡◌, ℕ, ◌+◌, Bool, true, false, ◌||◌, nat_lt, nat_eq, List, [], ◌∷◌, ◌++◌, map, cond, Option, Some, None, refl, ap, sym, ◌∙◌, subst, inl, inr, append_assoc}
 use Rattle.std.specs.List.{All}
 use Rattle.std.specs.Option.{option_or}
-use Rattle.std.proofs.lemmas.Bool.{cases_Bool, eqb-true, and_parts, le-ltb}
+use Rattle.std.proofs.lemmas.Bool.{cases_Bool, eqb-true, and_parts}
 use Rattle.std.proofs.lemmas.List.Elements.{All-nil, All-cons, All-head, All-tail, All-append}
+use Rattle.std.proofs.lemmas.List.{append-nil}
+use Rattle.ti_caps.specs.NameOrder.{EachKindIsInOrder}
 use Rattle.ti_caps.specs.Tables.{Capability, capability, IsCapability}
 use Rattle.ti_caps.specs.declared.capability.Kind.{Kind}
 use Rattle.ti_caps.specs.declared.capability.Kind.TheVariants.{Flag, Number, Text}
-use Rattle.ti_source.specs.Reading.{Said, said_flag, said_number, said_text, said_cancel, said_import, ReadItem, Reading}
+use Rattle.ti_source.specs.Reading.{Said, said_flag, said_number, said_text, said_cancel, said_import, ReadItem}
 use Rattle.ti_compiled.specs.Values.{Content, content_true, content_number, content_text, content_cancelled, Contents}
-use Rattle.ti_compiled.specs.Laws.{uncancelled}
 use Rattle.ti_meaning.specs.Expansion.{Mention, same_kind, same_capability, said, joined, mentions_of, expand_items}
 use Rattle.ti_list.specs.declared.layout.Layout.{Layout}
 use Rattle.ti_list.specs.Items.{item_text, IsTail, no_more, on_line, new_line, IsListing, CanBeListed}
 use Rattle.ti_list.specs.Listing.{item_for, items_for, kind_items, in_order, size_of, further, lines_of, listed, listing}
+use Rattle.ti_list.specs.Relative.{Shown, first_name, differing, use_lines}
 use Rattle.ti_relisting.specs.Shown.{CanHave, CanHaveAll}
-use Rattle.ti_relisting.proofs.Orders.{is_among, all_in}
+use Rattle.ti_relisting.specs.Laid.{entry_items, uses_of, ListingsAreLaidOut, RelativesAreLaidOut}
+use Rattle.ti_relisting.proofs.Orders.{is_among, all_in, all_in-all}
 
 -- ---- the layout
 
@@ -35,36 +38,48 @@ lines-tail layout [] more rest laid = laid
 lines-tail layout (item ∷ items) more rest laid =
     new_line item (items ++ more) (further layout (8 + size_of item) items rest) (further-tail layout (8 + size_of item) items more rest laid)
 
--- the items of an entry
-abbrev pub entry_items : Layout → Contents → List Said
-entry_items layout table = items_for table (all_in layout.order)
-
 items_for-append : (table : Contents) (cs ds : List Capability) → items_for table (cs ++ ds) ≡ items_for table cs ++ items_for table ds
 items_for-append table [] ds = refl
 items_for-append table (c ∷ cs) ds = ap (λ l. item_for c (table c) ++ l) (items_for-append table cs ds) ∙ sym (append_assoc (item_for c (table c)) (items_for table cs) (items_for table ds))
 
-three-append : (table : Contents) (a b c : List Capability) (more : List Said)
-    → items_for table (a ++ (b ++ c)) ++ more ≡ items_for table a ++ (items_for table b ++ (items_for table c ++ more))
-three-append table a b c more =
-    ap (λ l. l ++ more) (items_for-append table a (b ++ c) ∙ ap (λ l. items_for table a ++ l) (items_for-append table b c))
-    ∙ (append_assoc (items_for table a) (items_for table b ++ items_for table c) more
-    ∙ ap (λ l. items_for table a ++ l) (append_assoc (items_for table b) (items_for table c) more))
+-- the items of an entry are those of all capabilities, in the order of the layout
+pub entry_items-all : (layout : Layout) (table : Contents) → entry_items layout table ≡ items_for table (all_in layout.order)
+entry_items-all layout table =
+    let flags = in_order layout.order Flag in
+    let numbers = in_order layout.order Number in
+    let texts = in_order layout.order Text in
+    sym (items_for-append table flags (numbers ++ texts) ∙ ap (λ l. items_for table flags ++ l) (items_for-append table numbers texts))
 
 -- a listing in any layout is one of the items of its entry, and then of those of the rest
-pub listed-is : (field : List ℕ) (table : Contents) (layout : Layout) (more : List Said) (rest : List ℕ) → IsTail more rest → IsListing field (entry_items layout table ++ more) (listed field table layout rest)
+listed-is : (field : List ℕ) (table : Contents) (layout : Layout) (more : List Said) (rest : List ℕ) → IsTail more rest → IsListing field (entry_items layout table ++ more) (listed field table layout rest)
 listed-is field table layout more rest laid =
     let flags = kind_items layout table Flag in
     let numbers = kind_items layout table Number in
     let texts = kind_items layout table Text in
     let tail = lines_of layout flags (lines_of layout numbers (lines_of layout texts rest)) in
     let by_kind : IsTail (flags ++ (numbers ++ (texts ++ more))) tail =
-        lines-tail layout flags (numbers ++ (texts ++ more)) (lines_of layout numbers (lines_of layout texts rest))
-        (lines-tail layout numbers (texts ++ more) (lines_of layout texts rest) (lines-tail layout texts more rest laid)) in
-    record {
-      tail = tail;
-      whole = refl;
-      laid = subst (λ items. IsTail items tail) (sym (three-append table (in_order layout.order Flag) (in_order layout.order Number) (in_order layout.order Text) more)) by_kind;
-    }
+    lines-tail layout flags (numbers ++ (texts ++ more)) (lines_of layout numbers (lines_of layout texts rest))
+    (lines-tail layout numbers (texts ++ more) (lines_of layout texts rest) (lines-tail layout texts more rest laid)) in
+    let together : (flags ++ (numbers ++ texts)) ++ more ≡ flags ++ (numbers ++ (texts ++ more)) =
+    append_assoc flags (numbers ++ texts) more ∙ ap (λ l. flags ++ l) (append_assoc numbers texts more) in
+    record { tail = tail; whole = refl; laid = subst (λ items. IsTail items tail) (sym together) by_kind }
+
+pub listings_laid : ListingsAreLaidOut
+listings_laid field table layout =
+    subst (λ items. IsListing field items (listing field table layout)) (append-nil (entry_items layout table)) (listed-is field table layout [] (10 ∷ []) no_more)
+
+pub uses-tail : (others : List Shown) → IsTail (uses_of others) (use_lines others (10 ∷ []))
+uses-tail [] = no_more
+uses-tail (other ∷ others) = new_line (said_import (first_name other.field)) (uses_of others) (use_lines others (10 ∷ [])) (uses-tail others)
+
+pub relatives_laid : RelativesAreLaidOut
+relatives_laid entry others layout = listed-is entry.field (differing entry.table others) layout (uses_of others) (use_lines others (10 ∷ [])) (uses-tail others)
+
+-- the same of the items of all capabilities
+pub listed-all : (field : List ℕ) (table : Contents) (layout : Layout) (more : List Said) (rest : List ℕ) → IsTail more rest
+    → IsListing field (items_for table (all_in layout.order) ++ more) (listed field table layout rest)
+listed-all field table layout more rest laid =
+    subst (λ items. IsListing field (items ++ more) (listed field table layout rest)) (entry_items-all layout table) (listed-is field table layout more rest laid)
 
 -- ---- what can be listed
 
@@ -75,11 +90,15 @@ item-can c (Some (content_number n)) is has = All-cons CanBeListed (said_number 
 item-can c (Some (content_text t)) is has = All-cons CanBeListed (said_text c t) [] (is, has.0.0, has.1, has.0.1) (All-nil CanBeListed)
 item-can c (Some content_cancelled) is has = All-cons CanBeListed (said_cancel c) [] is (All-nil CanBeListed)
 
-pub items-can : (table : Contents) (cs : List Capability) → All IsCapability cs → CanHaveAll table → All CanBeListed (items_for table cs)
+items-can : (table : Contents) (cs : List Capability) → All IsCapability cs → CanHaveAll table → All CanBeListed (items_for table cs)
 items-can table [] valid has = All-nil CanBeListed
 items-can table (c ∷ cs) valid has =
     let is : IsCapability c = All-head IsCapability c cs valid in
     All-append CanBeListed (item_for c (table c)) (items_for table cs) (item-can c (table c) is (has c is)) (items-can table cs (All-tail IsCapability c cs valid) has)
+
+pub all-can : EachKindIsInOrder → (table : Contents) (layout : Layout) (more : List Said) → CanHaveAll table → All CanBeListed more → All CanBeListed (items_for table (all_in layout.order) ++ more)
+all-can ordered table layout more has can =
+    All-append CanBeListed (items_for table (all_in layout.order)) more (items-can table (all_in layout.order) (all_in-all ordered layout.order).valid has) can
 
 -- ---- what is said
 
@@ -142,7 +161,7 @@ same_kind-true Text Flag e = cc
 same_kind-true Text Number e = cc
 same_kind-true Text Text e = refl
 
-same_capability-true : (a b : Capability) → same_capability a b ≡ true → a ≡ b
+pub same_capability-true : (a b : Capability) → same_capability a b ≡ true → a ≡ b
 same_capability-true a b e =
     let parts = and_parts (same_kind a.kind b.kind) (nat_eq a.index b.index) e in
     let kinds = same_kind-true a.kind b.kind parts.0 in
@@ -169,11 +188,11 @@ items-say table (d ∷ cs) ms c =
     let later = items-say table cs ms c in
     ap (λ l. said l c) (append_assoc (mention_for d (table d)) (mentions_for table cs) ms)
     ∙ elim (cases_Bool (same_capability d c)) [
-        | inl t ↦
-            let P : Capability → Type 0 = λ x. said (mention_for d (table x) ++ (mentions_for table cs ++ ms)) c ≡ option_or (table c) (said ms c) in
-            rw t (subst P (sym (same_capability-true d c t)) (mention-same d c (table c) (is_among cs c) (mentions_for table cs ++ ms) (said ms c) t later))
-        | inr f ↦ rw f (mention-other d c (table d) (mentions_for table cs ++ ms) f ∙ later)
-      ]
+      | inl t ↦
+          let P : Capability → Type 0 = λ x. said (mention_for d (table x) ++ (mentions_for table cs ++ ms)) c ≡ option_or (table c) (said ms c) in
+          rw t (subst P (sym (same_capability-true d c t)) (mention-same d c (table c) (is_among cs c) (mentions_for table cs ++ ms) (said ms c) t later))
+      | inr f ↦ rw f (mention-other d c (table d) (mentions_for table cs ++ ms) f ∙ later)
+    ]
 
 -- where each capability is among them, what they say is what the table has, and then what follows
 pub all-say : (table : Contents) (cs : List Capability) (ms : List Mention) (c : Capability) → is_among cs c ≡ true → said (mentions_for table cs ++ ms) c ≡ option_or (table c) (said ms c)

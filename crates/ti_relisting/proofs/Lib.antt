@@ -9,3 +9,10 @@ pub mod Laying
 pub mod Compiling
 pub mod Relating
 pub mod TextBytes
+pub mod Fitting
+pub mod Heading
+pub mod Standing
+pub mod Imaging
+pub mod Sources
+pub mod EntryLaws
+pub mod Examples

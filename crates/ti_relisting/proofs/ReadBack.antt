@@ -1,12 +1,12 @@
 -- A text that is laid out as a listing is read as its field and its items.
-use Rattle.std.proofs.Common.{◌≡◌, ℕ, ◌+◌, Bool, true, false, not, ◌==◌, ◌||◌, ◌&&◌, List, [], ◌∷◌, ◌++◌, map, Some, refl, ap, sym, ◌∙◌, subst}
+use Rattle.std.proofs.Common.{◌≡◌, ℕ, ◌+◌, true, false, not, ◌==◌, ◌||◌, List, [], ◌∷◌, ◌++◌, map, Some, refl, ap, sym, ◌∙◌, subst}
 use Rattle.std.specs.List.{list_all, All}
-use Rattle.std.proofs.lemmas.Bool.{and_parts, or_parts, and_from, not-true, not_from_false}
+use Rattle.std.proofs.lemmas.Bool.{and_parts, or_parts, not-true}
 use Rattle.std.proofs.lemmas.List.Elements.{All-head, All-tail}
 use Rattle.ti_caps.specs.Tables.{EveryNameIsFound}
 use Rattle.ti_source.specs.WhiteSpace.{is_white_space}
 use Rattle.ti_source.specs.Folding.{Placed, folded}
-use Rattle.ti_source.specs.Items.{bytes, HasNoComma, Begins, field_and_rest, AreItems, last_item, piece_of, without_front, without_white_front, States, empty_item}
+use Rattle.ti_source.specs.Items.{bytes, HasNoComma, Begins, field_and_rest, AreItems, last_item, piece_of, without_white_front, States, empty_item}
 use Rattle.ti_source.specs.Reading.{Said, said_flag, said_number, said_text, said_cancel, said_import, ReadItem, Reading}
 use Rattle.ti_source.specs.Parsing.{accepted, ReadsItems, reads_nothing, reads_ignored, reads_judged, items_by, good_header, Parses, parsed, HasReading, OneReading}
 use Rattle.ti_spelling.specs.Spelling.{WrittenSpells}
@@ -14,7 +14,7 @@ use Rattle.ti_list.specs.Items.{item_text, IsTail, no_more, on_line, new_line, I
 use Rattle.ti_relisting.specs.Laws.{PartsAreRead}
 use Rattle.ti_relisting.proofs.Bytes.{uncommented, unbroken, bytes-folded, bytes-without_front}
 use Rattle.ti_relisting.proofs.Cutting.{is_whole, is_inline, whole-cons, whole-cut}
-use Rattle.ti_relisting.proofs.Unfolding.{is_dark, unbroken-inline, unbroken-dark, is_calm, uncommented-calm, calm-inline, Parted, split-bytes, BeginsWith, split-byte}
+use Rattle.ti_relisting.proofs.Unfolding.{is_dark, unbroken-inline, unbroken-dark, is_calm, uncommented-calm, calm-inline, split-bytes, split-byte}
 use Rattle.ti_relisting.proofs.Stating.{IsReadable, flag-readable, number-readable, text-readable, cancel-readable, import-readable}
 
 pub item-readable : EveryNameIsFound → WrittenSpells → (item : Said) → CanBeListed item → IsReadable (item_text item) item
@@ -98,6 +98,9 @@ no_comma-of : (p : List Placed) → list_all (λ b. not (b == 44)) (bytes p) ≡
 no_comma-of [] h = tt
 no_comma-of (x ∷ xs) h = let parts = and_parts (not (x.0 == 44)) (list_all (λ b. not (b == 44)) (bytes xs)) h in (not-true (x.0 == 44) parts.0, no_comma-of xs parts.1)
 
+begins-at : (s field rest : List Placed) (line : ℕ) → s ≡ field ++ (44, line) ∷ rest → HasNoComma field → Begins s field rest
+begins-at s field rest line e none = subst (λ t. Begins t field rest) (sym e) (field_and_rest field rest line none)
+
 -- the text has a reading of that field and those items
 record HasListing (text : List ℕ) (field : List ℕ) (names : List (List ℕ)) (items : List Said) : Type 0 where
   pub reading : Reading
@@ -109,7 +112,7 @@ listing-parses : EveryNameIsFound → WrittenSpells → (field : List ℕ) (name
 listing-parses found spells field names items text good can is =
     let calm = text-calm field is.tail good.plain good.inline (tail-calm found spells items is.tail can is.laid) in
     let bare : unbroken false (uncommented false 10 text) ≡ field ++ 44 ∷ unbroken false is.tail =
-        ap (λ t. unbroken false (uncommented false 10 t)) is.whole ∙ ap (unbroken false) (uncommented-calm 10 (field ++ 44 ∷ is.tail) calm) ∙ unbroken-inline field (44 ∷ is.tail) good.inline in
+    ap (λ t. unbroken false (uncommented false 10 t)) is.whole ∙ ap (unbroken false) (uncommented-calm 10 (field ++ 44 ∷ is.tail) calm) ∙ unbroken-inline field (44 ∷ is.tail) good.inline in
     let parts = split-bytes (folded text) field (44 ∷ unbroken false is.tail) (bytes-folded text ∙ bare) in
     let comma = split-byte parts.rest 44 (unbroken false is.tail) parts.is_rest in
     let is_folded : folded text ≡ parts.front ++ (44, comma.line) ∷ comma.rest = parts.whole ∙ ap (λ t. parts.front ++ t) comma.whole in
@@ -123,7 +126,7 @@ listing-parses found spells field names items text good can is =
         items = read.pieces;
         of_header = [];
         of_items = [];
-        begins = subst (λ t. Begins t parts.front comma.rest) (sym is_folded) (field_and_rest parts.front comma.rest comma.line none);
+        begins = begins-at (folded text) parts.front comma.rest comma.line is_folded none;
         cut = read.cut;
         is_field = sym parts.is_front;
         reads_header = good_header field names good.header good.short;

@@ -1,10 +1,9 @@
 -- What an item says is read from the text that is written of it.
-use Rattle.std.proofs.Common.{◌≡◌, ◌≢◌, ℕ, ◌+◌, ◌<◌, ◌≤◌, ◌^◌, Bool, true, false, not, ◌==◌, ◌||◌, ◌&&◌, List, [], ◌∷◌, ◌++◌, Some, refl, ap, sym, ◌∙◌, subst, arith}
+use Rattle.std.proofs.Common.{◌≡◌, ◌≢◌, ℕ, ◌≤◌, Bool, true, false, not, ◌==◌, ◌||◌, ◌&&◌, List, [], ◌∷◌, ◌++◌, Some, refl, ap, ◌∙◌, subst, arith}
 use Rattle.std.specs.List.{list_all, All}
-use Rattle.std.specs.Str.{bytes_eq}
 use Rattle.std.specs.Prelude.{codes}
 use Rattle.std.specs.Fmt.{decimal}
-use Rattle.std.proofs.lemmas.Bool.{agree_below, and_parts, or_parts, and_from, not-true, ne_eqb, eqb-false, or_from, not_from_false}
+use Rattle.std.proofs.lemmas.Bool.{agree_below, and_parts, or_parts, and_from, not-true, ne_eqb, eqb-false, not_from_false}
 use Rattle.std.proofs.lemmas.List.{append-nil}
 use Rattle.std.proofs.lemmas.List.Elements.{All-head, All-tail}
 use Rattle.std.proofs.lemmas.List.Folds.{list_all-append}
@@ -16,11 +15,11 @@ use Rattle.ti_source.specs.Header.{IsNameByte, IsLookupName}
 use Rattle.ti_source.specs.Numbers.{greatest_number}
 use Rattle.ti_source.specs.Items.{Statement, claims_flag, claims_number, claims_text, claims_cancel, is_mark, HasNoMark, IsEnabled, States, number_item, text_item, cancel_item, flag_item, stripped}
 use Rattle.ti_source.specs.Reading.{Said, said_flag, said_number, said_text, said_cancel, said_import}
-use Rattle.ti_source.specs.Parsing.{Verdict, accepted, Judges, judged_import, judged_flag, judged_cancel, judged_number, judged_text}
+use Rattle.ti_source.specs.Parsing.{accepted, Judges, judged_import, judged_flag, judged_cancel, judged_number, judged_text}
 use Rattle.ti_spelling.specs.Spelling.{is_empty, written, AreBytes, HasNoNul, WrittenSpells}
 use Rattle.ti_relisting.proofs.Cutting.{is_clear, is_whole, is_inline, has_no_cut, no_cut-whole, clear-cons, clear-append, clear-whole, written_from-clear, written_from-inline, is_plain}
 use Rattle.ti_relisting.proofs.Unfolding.{is_dark}
-use Rattle.ti_relisting.proofs.Words.{is_word_byte, is_word, word_byte-has, word-has, IsName, capability-name, AreDigitsOf, decimal-digits, numeral-of}
+use Rattle.ti_relisting.proofs.Words.{is_word_byte, is_word, word_byte-has, word-has, capability-name, decimal-digits, numeral-of}
 
 -- a text, in one line, that stands in one item and is read as this
 pub record IsReadable (w : List ℕ) (said : Said) : Type 0 where
@@ -132,7 +131,7 @@ text-readable found spells c t is kind are none =
     let good = capability-name c is in
     let value = written t in
     let clear : (before : ℕ) → is_clear before (name ++ 61 ∷ value) ≡ true =
-        λ before. clear-append before name (61 ∷ value) (word-clear before name good.word) (clear-cons _ 61 value refl (written_from-clear true 0 61 t refl are)) in
+    λ before. clear-append before name (61 ∷ value) (word-clear before name good.word) (clear-cons _ 61 value refl (written_from-clear true 0 61 t refl are)) in
     record {
       dark = word-dark name (61 ∷ value) good.some good.word;
       inline = list_all-append (λ b. not (b == 10)) name (61 ∷ value) ∙ and_from (is_inline name) (is_inline value) (word-inline name good.word) (written_from-inline true 0 t are);

@@ -1,10 +1,10 @@
 -- The names of capabilities, and numbers in decimal: words of letters and digits.
-use Rattle.std.proofs.Common.{◌≡◌, ◌≢◌, ℕ, suc, ◌+◌, ◌*◌, ◌-◌, ◌/◌, ◌%◌, ◌<◌, ◌≤◌, ◌^◌, Bool, true, false, not, ◌==◌, ◌||◌, ◌&&◌, nat_le, nat_lt, List, [], ◌∷◌, ◌++◌, length, cond, refl, ap, sym, ◌∙◌, inl, inr, subst, arith}
-use Rattle.std.specs.List.{list_all, All, fold}
+use Rattle.std.proofs.Common.{◌≡◌, ℕ, ◌+◌, ◌*◌, ◌/◌, ◌%◌, ◌<◌, ◌≤◌, ◌^◌, Bool, true, false, not, ◌==◌, ◌||◌, ◌&&◌, nat_le, nat_lt, List, [], ◌∷◌, ◌++◌, length, refl, ap, sym, ◌∙◌, inl, inr, subst, arith}
+use Rattle.std.specs.List.{list_all, All}
 use Rattle.std.specs.Str.{bytes_eq}
 use Rattle.std.specs.Prelude.{codes}
 use Rattle.std.specs.Fmt.{decimal as decimal_text}
-use Rattle.std.proofs.lemmas.Bool.{cases_Bool, agree_below, agree_below_at, and_parts, and_from, ltb-true, eqb-true, cases_eq, not-true}
+use Rattle.std.proofs.lemmas.Bool.{agree_below, agree_below_at, and_parts, and_from, ltb-true, eqb-true, cases_eq, not-true}
 use Rattle.std.proofs.lemmas.Fmt.{decimal_by_steps}
 use Rattle.std.proofs.lemmas.List.Elements.{All-get_or, All-nil, All-cons, All-push}
 use Rattle.std.proofs.lemmas.List.Sums.{AllPass-from_list_all, fold_push}
@@ -15,7 +15,7 @@ use Rattle.ti_caps.specs.Names.{flag_names, number_names, text_names}
 use Rattle.ti_caps.specs.Tables.{Capability, IsCapability, names, name_of, count_of}
 use Rattle.ti_caps.specs.declared.capability.Kind.{Kind}
 use Rattle.ti_caps.specs.declared.capability.Kind.TheVariants.{Flag, Number, Text}
-use Rattle.ti_source.specs.Numbers.{digit_value, IsDigit, value_in, IsNumber, octal, decimal, IsNumeral, greatest_number}
+use Rattle.ti_source.specs.Numbers.{digit_value, IsDigit, value_in, IsNumber, octal, decimal, IsNumeral}
 use Rattle.ti_spelling.specs.Spelling.{is_empty}
 
 -- a letter or a digit
@@ -137,7 +137,7 @@ number-of n ds are =
       | inr some ↦
           let P : List ℕ → ℕ → Type 0 = λ l v. IsNumber l v in
           let by_first : IsNumber (are.first ∷ are.others) (value_in 10 (are.first ∷ are.others)) =
-              decimal are.first are.others (λ e. some (are.led e)) (subst (λ l. All (IsDigit 10) l) are.whole are.digits) in
+          decimal are.first are.others (λ e. some (are.led e)) (subst (λ l. All (IsDigit 10) l) are.whole are.digits) in
           subst (λ v. IsNumber ds v) are.value (subst (λ l. IsNumber l (value_in 10 l)) (sym are.whole) by_first)
     ]
 

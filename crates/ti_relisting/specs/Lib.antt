@@ -1,3 +1,5 @@
 pub mod Limits
 pub mod Shown
+pub mod Laid
+pub mod Entries
 pub mod Laws

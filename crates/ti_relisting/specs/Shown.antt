@@ -1,5 +1,5 @@
 -- What can be listed so that it compiles to itself (own).
-use Rattle.std.specs.Prelude.{◌≡◌, ◌≢◌, ◌≤◌, ℕ, List, length, All, Option, Some, None}
+use Rattle.std.specs.Prelude.{◌≢◌, ◌≤◌, ℕ, List, length, All, Option, Some, None}
 use Rattle.ti_caps.specs.Tables.{Capability, IsCapability}
 use Rattle.ti_spelling.specs.Spelling.{AreBytes}
 use Rattle.ti_source.specs.Header.{IsLookupName}

@@ -1,5 +1,5 @@
-// A listing is read as what it lists.
-ghost use Rattle.ti_relisting.specs.Laws.{PartsAreRead};
+// A listing is one block, and is read as what it lists.
+ghost use Rattle.ti_relisting.specs.Laws.{PartsAreBlocks, PartsAreRead};
 
 use ti_caps::every_name_is_found;
 use ti_source::{one_reading, written_spells};
@@ -12,4 +12,12 @@ pub fn parts_are_read()
     every_name_is_found();
     written_spells();
     one_reading();
+}
+
+/// Each text that is laid out as a listing, whatever its layout, is one block.
+pub fn parts_are_blocks()
+    ensures { PartsAreBlocks }
+{
+    every_name_is_found();
+    written_spells();
 }
