@@ -37,7 +37,7 @@ pub record IsNumeral (text : List ℕ) (value : ℕ) : Type 0 where
 
 -- the greatest value that a number of a source may have
 abbrev pub greatest_number : ℕ
-greatest_number = 32767
+greatest_number = 2147483647
 
 -- the value of digits in a base, or none where a byte is no digit of it
 abbrev pub digits_read : ℕ → List ℕ → Option ℕ
