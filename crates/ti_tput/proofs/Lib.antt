@@ -1,0 +1,4 @@
+pub mod Numbers
+pub mod Rows
+pub mod LongNames
+pub mod Named

@@ -1,0 +1,4 @@
+pub mod Entries
+pub mod Parameters
+pub mod Results
+pub mod Replies
