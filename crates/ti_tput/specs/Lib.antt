@@ -2,3 +2,6 @@ pub mod Entries
 pub mod Parameters
 pub mod Results
 pub mod Replies
+pub mod Commands
+pub mod Runs
+pub mod Streaming

@@ -1,6 +1,12 @@
 //! `tput`: the bytes that drive a terminal, from a compiled entry, as tput(1) has it.
 #![tactic(auto)]
 
+mod commands;
 mod entries;
 mod parameters;
 mod replies;
+mod streaming;
+mod words;
+
+pub use commands::tput;
+pub use replies::TputOutcome;

@@ -12,6 +12,9 @@ use std::alloc::{AllocError, Global};
 use ti_compiled::View;
 use ti_param::{Line, PadError, ParamError, Statics, expand, pad};
 
+/// The exit status of a capability that is unknown, or of which the string is bad.
+pub const BAD_COMMAND: u8 = 4;
+
 /// What a command writes, and its exit status.
 #[derive(Debug, Drop)]
 pub struct TputOutcome {
@@ -90,7 +93,7 @@ fn outcome_of(alloc: Global, made: Option<Vec<u8>>) -> TputOutcome
         Some(bytes) => TputOutcome { bytes, status: 0 },
         None => TputOutcome {
             bytes: Vec::new(alloc),
-            status: 4,
+            status: BAD_COMMAND,
         },
     }
 }
@@ -140,7 +143,7 @@ fn answer_value(
     ensures err { OnErr result (statics.new ≡ statics.old) }
 {
     match value {
-        None => Ok(status_alone(alloc, 4)),
+        None => Ok(status_alone(alloc, BAD_COMMAND)),
         Some(CapabilityValue::Flag(set)) => Ok(status_alone(alloc, if set { 0 } else { 1 })),
         Some(CapabilityValue::Number(number)) => Ok(TputOutcome {
             bytes: number_text(alloc, number)?,
@@ -191,7 +194,7 @@ fn answer_long_name(alloc: Global, names: &[u8]) -> Result<TputOutcome, AllocErr
 }
 
 // What is answered to a name with these words after it.
-fn answer_name(
+pub(crate) fn answer_name(
     alloc: Global,
     view: &View<'_>,
     cap: &[u8],
