@@ -1,18 +1,18 @@
 //! The files of the system, as a tree.
 ghost use Rattle.std.specs.Prelude.{◌≡◌, ◌<◌, ◌≤◌};
-ghost use Rattle.ti_tools.specs.declared.tree.TreeFault.TheVariants.{Failed};
+ghost use Rattle.ti_devices.specs.declared.tree.TreeFault.TheVariants.{Failed};
 
 use std::alloc::Global;
 use std::fs;
 use std::io::{self, Read};
 use std::rt::Files;
-use ti_tools::{Failures, Tree, TreeFault};
+use ti_tools::{Tally, Tree, TreeFault};
 
 /// The files of the system. What they hold is not known, so a contract sees the failures alone.
 #[derive(Drop)]
 pub struct DiskTree<'a, R: Files> {
     rt: &'a R,
-    failures: Failures,
+    failures: Tally,
 }
 
 impl<'a, R: Files> DiskTree<'a, R> {
@@ -20,7 +20,7 @@ impl<'a, R: Files> DiskTree<'a, R> {
     pub fn new(rt: &'a R) -> DiskTree<'a, R> {
         DiskTree {
             rt,
-            failures: Failures::none(),
+            failures: Tally::none(),
         }
     }
 

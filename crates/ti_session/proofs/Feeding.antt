@@ -3,23 +3,26 @@ use Rattle.std.proofs.Common.{◌≡◌, ℕ, ◌+◌, ◌<◌, ◌≤◌, List,
 use Rattle.std.specs.Prelude.{IfErr, OnOk}
 use Rattle.std.specs.Io.KnownBytes.{Consumes, IsAtEnd, Keeps}
 use Rattle.ti_session.specs.declared.dialogue.Dialogue.{Dialogue}
-use Rattle.ti_session.specs.declared.tool_error.ToolError.{ToolError}
-use Rattle.ti_session.specs.declared.tool_error.ToolError.TheVariants.{Usage, NoTerminal, ReadFault, WriteFault, LineTooLong, BlockTooLong, TooManyBlocks, Memory}
+use Rattle.ti_devices.specs.declared.tool_error.ToolError.{ToolError}
+use Rattle.ti_devices.specs.declared.tool_error.ToolError.TheVariants.{Usage, NoTerminal, BadEntry, ReadFault, WriteFault, LineTooLong, BlockTooLong, TooManyBlocks, Memory}
 use Rattle.ti_session.specs.Dialogue.{Completed, Fed, Finished, Holds, IsCause, Led, Progress, Stops}
-use Rattle.ti_session.specs.Replies.{Wrote}
-use Rattle.ti_session.specs.Session.{Ends, Gives, IsOneLine, IsShortLine, Seen, SoFar, State, closing, line_max, meant, reads_max, start}
+use Rattle.ti_devices.specs.Counted.{Observed}
+use Rattle.ti_devices.specs.Lines.{IsOneLine}
+use Rattle.ti_devices.specs.Reading.{FailsOnce, Gives}
+use Rattle.ti_devices.specs.Writing.{Wrote}
+use Rattle.ti_session.specs.Session.{Ends, IsShortLine, SoFar, State, closing, line_max, meant, reads_max, start}
 use Rattle.ti_session.proofs.Lines.{Complete-last, Complete-lines, SoFar-line, SoFar-more, SoFar-none}
-use Rattle.ti_session.proofs.Written.{Gives-none, Gives-then, TakesAll-none, TakesAll-then, TakesFront-then, TakesFront-more, Wrote-then}
+use Rattle.ti_devices.proofs.Written.{Gives-none, Gives-then, TakesAll-none, TakesAll-then, TakesFront-then, TakesFront-more, Wrote-then}
 
 -- ---- a piece
 
 -- behind the bytes that were taken, a piece was taken but for the rest
-pub record Goes (taken piece rest line : List ℕ) (d : Dialogue) (before now : Seen) : Type 0 where
+pub record Goes (taken piece rest line : List ℕ) (d : Dialogue) (before now : Observed) : Type 0 where
   pub fed : List ℕ
   pub whole : piece ≡ fed ++ rest
   pub progress : Progress (taken ++ fed) line d before now
 
-pub Goes-start : (taken piece line : List ℕ) (d : Dialogue) (before now : Seen) → Progress taken line d before now
+pub Goes-start : (taken piece line : List ℕ) (d : Dialogue) (before now : Observed) → Progress taken line d before now
     → Goes taken piece piece line d before now
 Goes-start taken piece line d before now progress = record {
   fed = [];
@@ -41,7 +44,7 @@ SoFar-past taken fed front line line2 output reply s next so_far one is on =
     subst (λ (t : List ℕ). SoFar t [] next (output ++ reply))
     (append_assoc (taken ++ fed) front (10 ∷ []) ∙ append_assoc taken fed (front ++ 10 ∷ [])) ended
 
-module _ (taken piece rest front later line line2 : List ℕ) (d d2 : Dialogue) (before mid now : Seen)
+module _ (taken piece rest front later line line2 : List ℕ) (d d2 : Dialogue) (before mid now : Observed)
     (goes : Goes taken piece rest line d before mid) (is : rest ≡ front ++ 10 ∷ later) (one : IsOneLine front) (short : IsShortLine line2)
     (line_is : line2 ≡ line ++ front) where
   pub Goes-line : (line3 : List ℕ) → ((s : State) → Holds d s → Led (meant s.mode line2) s d2 mid now (Ok tt)) → line3 ≡ []
@@ -80,7 +83,7 @@ module _ (taken piece rest front later line line2 : List ℕ) (d d2 : Dialogue) 
             (TakesFront-then before mid now p.output led.reply p.written led.wrote.1);
       }
 
-module _ (taken piece rest line : List ℕ) (d : Dialogue) (before now : Seen) (goes : Goes taken piece rest line d before now) where
+module _ (taken piece rest line : List ℕ) (d : Dialogue) (before now : Observed) (goes : Goes taken piece rest line d before now) where
   pub Goes-over : (front tail : List ℕ) (e : ToolError) → rest ≡ front ++ tail → IsOneLine front
       → (e ≡ LineTooLong) × (line_max < length (line ++ front)) → Stops taken piece before now e
   Goes-over front tail e is one over =
@@ -117,7 +120,7 @@ module _ (taken piece rest line : List ℕ) (d : Dialogue) (before now : Seen) (
 
 -- ---- the end of the script
 
-pub Completed-lines : (taken line : List ℕ) (d : Dialogue) (before now : Seen) → line ≡ [] → Progress taken line d before now
+pub Completed-lines : (taken line : List ℕ) (d : Dialogue) (before now : Observed) → line ≡ [] → Progress taken line d before now
     → Completed taken d before now (Ok tt)
 Completed-lines taken line d before now empty p = record {
   end = p.state;
@@ -127,7 +130,7 @@ Completed-lines taken line d before now empty p = record {
   wrote = p.written;
 }
 
-pub Completed-last : (taken line : List ℕ) (d d2 : Dialogue) (before mid now : Seen) (r : Result Unit ToolError) → 0 < length line
+pub Completed-last : (taken line : List ℕ) (d d2 : Dialogue) (before mid now : Observed) (r : Result Unit ToolError) → 0 < length line
     → Progress taken line d before mid → ((s : State) → Holds d s → Led (meant s.mode line) s d2 mid now r)
     → Completed taken d2 before now r
 Completed-last taken line d d2 before mid now r some p leads =
@@ -139,7 +142,7 @@ Completed-last taken line d d2 before mid now r some p leads =
       wrote = Wrote-then before mid now p.output led.reply r p.written led.wrote;
     }
 
-pub Finished-stop : (taken : List ℕ) (d : Dialogue) (before now : Seen) (e : ToolError) → Completed taken d before now (Err e)
+pub Finished-stop : (taken : List ℕ) (d : Dialogue) (before now : Observed) (e : ToolError) → Completed taken d before now (Err e)
     → Finished taken before now (Err e)
 Finished-stop taken d before now e c = record {
   output = c.replies ++ closing c.end.mode;
@@ -147,7 +150,7 @@ Finished-stop taken d before now e c = record {
   wrote = (c.wrote.0, TakesFront-more before now c.replies (closing c.end.mode) c.wrote.1);
 }
 
-pub Finished-closed : (taken : List ℕ) (d : Dialogue) (before mid now : Seen) (r : Result Unit ToolError) → Completed taken d before mid (Ok tt)
+pub Finished-closed : (taken : List ℕ) (d : Dialogue) (before mid now : Observed) (r : Result Unit ToolError) → Completed taken d before mid (Ok tt)
     → ((s : State) → Holds d s → Wrote mid now (closing s.mode) r) → Finished taken before now r
 Finished-closed taken d before mid now r c closes = record {
   output = c.replies ++ closing c.end.mode;
@@ -158,13 +161,13 @@ Finished-closed taken d before mid now r c closes = record {
 -- ---- reading
 
 -- so many reads each gave some of the bytes that were taken
-pub record Reads (turn : ℕ) (given left : Seen) (line : List ℕ) (d : Dialogue) (before now : Seen) : Type 0 where
+pub record Reads (turn : ℕ) (given left : Observed) (line : List ℕ) (d : Dialogue) (before now : Observed) : Type 0 where
   pub taken : List ℕ
   pub gives : Gives given left taken
   pub turns : turn ≤ length taken
   pub progress : Progress taken line d before now
 
-pub Reads-start : (given before : Seen) (line : List ℕ) (d : Dialogue) → line ≡ [] → Holds d start → Reads 0 given given line d before before
+pub Reads-start : (given before : Observed) (line : List ℕ) (d : Dialogue) → line ≡ [] → Holds d start → Reads 0 given given line d before before
 Reads-start given before line d empty holds = record {
   taken = [];
   gives = Gives-none given;
@@ -179,7 +182,7 @@ Reads-start given before line d empty holds = record {
   };
 }
 
-pub Reads-on : (turn : ℕ) (given mid left : Seen) (line line2 piece : List ℕ) (d d2 : Dialogue) (before now now2 : Seen)
+pub Reads-on : (turn : ℕ) (given mid left : Observed) (line line2 piece : List ℕ) (d d2 : Dialogue) (before now now2 : Observed)
     (r : Reads turn given mid line d before now) → Gives mid left piece → 0 < length piece
     → Progress (r.taken ++ piece) line2 d2 before now2 → Reads (turn + 1) given left line2 d2 before now2
 Reads-on turn given mid left line line2 piece d d2 before now now2 r gives some progress =
@@ -196,24 +199,27 @@ Consumes-kept (Some xs) None w a x y = absurd x
 Consumes-kept (Some xs) (Some ys) None a x y = absurd y
 Consumes-kept (Some xs) (Some ys) (Some zs) a x y = x ∙ ap (λ (t : List ℕ). a ++ t) (sym y)
 
-module _ (turn : ℕ) (given mid left : Seen) (line : List ℕ) (d : Dialogue) (before now : Seen)
+module _ (turn : ℕ) (given mid left : Observed) (line : List ℕ) (d : Dialogue) (before now : Observed)
     (r : Reads turn given mid line d before now) where
   gives_whole : (piece fed rest : List ℕ) → Gives mid left piece → piece ≡ fed ++ rest → Gives given left ((r.taken ++ fed) ++ rest)
   gives_whole piece fed rest gives whole =
       subst (λ (t : List ℕ). Gives given left t) (ap (λ (t : List ℕ). r.taken ++ t) whole ∙ sym (append_assoc r.taken fed rest))
       (Gives-then given mid left r.taken piece r.gives gives)
 
-  gives_none : Consumes mid.bytes left.bytes [] → left.failures ≡ mid.failures → Gives given left r.taken
-  gives_none consumes same = rw append-nil at (Gives-then given mid left r.taken [] r.gives (consumes, same))
+  gives_none : Gives mid left [] → Gives given left r.taken
+  gives_none none = rw append-nil at (Gives-then given mid left r.taken [] r.gives none)
 
-  pub Ends-read_fault : Keeps mid.bytes left.bytes → left.failures ≡ mid.failures + 1 → Ends given left before now (Err ReadFault)
-  Ends-read_fault kept rose =
-      let same : mid.failures ≡ given.failures = r.gives.1 in (
+  pub Ends-read_fault : (e : ToolError) → (e ≡ ReadFault) × FailsOnce mid left → Ends given left before now (Err e)
+  Ends-read_fault e failed =
+      let kept = failed.1.bytes in
+      let rose : left.failures ≡ mid.failures + 1 = failed.1.failures in
+      rw failed.0
+      let same : mid.failures ≡ given.failures = r.gives.failures in (
         r.taken,
         line,
         r.progress.state,
         r.progress.output,
-        Consumes-kept given.bytes mid.bytes left.bytes r.taken r.gives.0 kept,
+        Consumes-kept given.bytes mid.bytes left.bytes r.taken r.gives.bytes kept,
         r.progress.so_far,
         r.progress.partial,
         r.progress.written,
@@ -224,12 +230,13 @@ module _ (turn : ℕ) (given mid left : Seen) (line : List ℕ) (d : Dialogue) (
   Ends-reads_used used =
       let low : turn ≤ length r.taken = r.turns in
       let high : reads_max ≤ turn = used in
-      (r.taken, line, r.progress.state, r.progress.output, r.gives.0, r.progress.so_far, r.progress.partial, r.progress.written, inr (r.gives.1, omega arith))
+      (r.taken, line, r.progress.state, r.progress.output, r.gives.bytes, r.progress.so_far, r.progress.partial, r.progress.written, inr (r.gives.failures, omega arith))
 
-  pub Ends-stops : (piece : List ℕ) (now2 : Seen) (e : ToolError) → Gives mid left piece
+  pub Ends-stops : (piece : List ℕ) (now2 : Observed) (e : ToolError) → Gives mid left piece
       → Stops r.taken piece before now2 e → Ends given left before now2 (Err e)
   Ends-stops piece now2 Usage gives s = absurd s.cause
   Ends-stops piece now2 NoTerminal gives s = absurd s.cause
+  Ends-stops piece now2 (BadEntry why) gives s = absurd s.cause
   Ends-stops piece now2 ReadFault gives s = absurd s.cause
   Ends-stops piece now2 WriteFault gives s =
       (r.taken ++ s.fed, s.rest, s.output, gives_whole piece s.fed s.rest gives s.whole, inl (s.line, s.end, s.so_far), s.cause)
@@ -248,10 +255,10 @@ module _ (turn : ℕ) (given mid left : Seen) (line : List ℕ) (d : Dialogue) (
   Ends-stops piece now2 TooManyBlocks gives s = absurd s.cause
   Ends-stops piece now2 Memory gives s = absurd s.cause
 
-  pub Ends-finished : (now2 : Seen) (result : Result Unit ToolError) → Consumes mid.bytes left.bytes [] → left.failures ≡ mid.failures
+  pub Ends-finished : (now2 : Observed) (result : Result Unit ToolError) → Gives mid left []
       → IsAtEnd left.bytes → Finished r.taken before now2 result → Ends given left before now2 result
-  Ends-finished now2 (Ok tt) consumes same at_end f =
-      (r.taken, f.output, gives_none consumes same, at_end, f.session, f.wrote)
-  Ends-finished now2 (Err e) consumes same at_end f =
+  Ends-finished now2 (Ok tt) none at_end f =
+      (r.taken, f.output, gives_none none, at_end, f.session, f.wrote)
+  Ends-finished now2 (Err e) none at_end f =
       subst (λ (x : ToolError). Ends given left before now2 (Err x)) (sym f.wrote.0)
-      (r.taken, [], f.output, rw append-nil (gives_none consumes same), inr (refl, at_end, f.session), f.wrote.1)
+      (r.taken, [], f.output, rw append-nil (gives_none none), inr (refl, at_end, f.session), f.wrote.1)

@@ -11,12 +11,15 @@ use Rattle.ti_base.specs.declared.edits.Outcome.TheVariants.{Accepted, Refused}
 use Rattle.ti_session.specs.declared.dialogue.Dialogue.{Dialogue}
 use Rattle.ti_session.specs.declared.requests.Opened.{Opened}
 use Rattle.ti_session.specs.declared.requests.Opened.TheVariants.{Insert, Replace}
-use Rattle.ti_session.specs.declared.tool_error.ToolError.{ToolError}
+use Rattle.ti_devices.specs.declared.tool_error.ToolError.{ToolError}
 use Rattle.ti_session.specs.Dialogue.{Holds, Led}
-use Rattle.ti_session.specs.Replies.{CarriesOut, Wrote, WroteReport}
+use Rattle.ti_devices.specs.Counted.{Observed}
+use Rattle.ti_devices.specs.Lines.{ended}
+use Rattle.ti_devices.specs.Writing.{Wrote}
+use Rattle.ti_session.specs.Replies.{CarriesOut, WroteReport}
 use Rattle.ti_session.specs.Requests.{mode_of, opened_change, opened_mode}
-use Rattle.ti_session.specs.Session.{Answers, Command, Leads, Meaning, Mode, Seen, State, alone, asks, edits, ended, goes_on, meant, outcome_text, outside, printed, prints, reports, state}
-use Rattle.ti_session.proofs.Written.{TakesAll-none}
+use Rattle.ti_session.specs.Session.{Answers, Command, Leads, Meaning, Mode, State, alone, asks, edits, goes_on, meant, outcome_text, outside, printed, prints, reports, state}
+use Rattle.ti_devices.proofs.Written.{TakesAll-none}
 
 -- ---- a block of which only the front is held
 
@@ -76,7 +79,7 @@ Holds-closed d d2 s held same_block none = record {
   room = rw same_block held.room;
 }
 
-pub Holds-opened : (d d2 : Dialogue) (s : State) (opened : Opened) → Holds d s → d2.database ≡ d.database → d2.block.bytes.items ≡ []
+pub Holds-opened : (d d2 : Dialogue) (s : State) (opened : Opened) → Holds d s → d2.database ≡ d.database → d2.block.bytes ≡ []
     → d2.block.limit ≡ d.block.limit → d2.opened ≡ Some opened → Holds d2 (state s.texts (opened_mode opened []))
 Holds-opened d d2 s opened held same_texts empty same_limit is = record {
   text = [];
@@ -88,7 +91,7 @@ Holds-opened d d2 s opened held same_texts empty same_limit is = record {
 
 pub Holds-added : (d d2 : Dialogue) (s : State) (opened : Opened) (line : List ℕ) (held : Holds d s) → d2.database ≡ d.database
     → d.opened ≡ Some opened → d2.opened ≡ d.opened → d2.block.limit ≡ d.block.limit
-    → d2.block.bytes.items ≡ take d.block.limit (take d.block.limit (d.block.bytes.items ++ line) ++ 10 ∷ [])
+    → d2.block.bytes ≡ take d.block.limit (take d.block.limit (d.block.bytes ++ line) ++ 10 ∷ [])
     → Holds d2 (state s.texts (opened_mode opened (held.text ++ ended line)))
 Holds-added d d2 s opened line held same_texts is same_opened same_limit added =
     let limit = d.block.limit in
@@ -127,7 +130,7 @@ meant-alone mode line is = ap (λ (m : Mode). meant m line) is
 
 -- ---- what a line leads to
 
-pub Led-on : (meaning : Meaning) (s : State) (d : Dialogue) (now : Seen) (mode : Mode) → meaning ≡ goes_on mode
+pub Led-on : (meaning : Meaning) (s : State) (d : Dialogue) (now : Observed) (mode : Mode) → meaning ≡ goes_on mode
     → Holds d (state s.texts mode) → Led meaning s d now now (Ok tt)
 Led-on meaning s d now mode is held = record {
   next = state s.texts mode;
@@ -137,7 +140,7 @@ Led-on meaning s d now mode is held = record {
   wrote = TakesAll-none now;
 }
 
-pub Led-asks : (meaning : Meaning) (s : State) (d : Dialogue) (before now : Seen) (result : Result Unit ToolError) (command : Command)
+pub Led-asks : (meaning : Meaning) (s : State) (d : Dialogue) (before now : Observed) (result : Result Unit ToolError) (command : Command)
     (reply : List ℕ) → meaning ≡ asks command → Answers s.texts command d.database reply → Holds d (state d.database outside)
     → Wrote before now reply result → Led meaning s d before now result
 Led-asks meaning s d before now result command reply is answers held wrote = record {
@@ -148,14 +151,14 @@ Led-asks meaning s d before now result command reply is answers held wrote = rec
   wrote = wrote;
 }
 
-pub Led-edits : (meaning : Meaning) (s : State) (d : Dialogue) (before now : Seen) (result : Result Unit ToolError) (change : Change)
+pub Led-edits : (meaning : Meaning) (s : State) (d : Dialogue) (before now : Observed) (result : Result Unit ToolError) (change : Change)
     (texts : List (List ℕ)) → meaning ≡ asks (edits change) → texts ≡ s.texts → CarriesOut texts change d.database before now result
     → Holds d (state d.database outside) → Led meaning s d before now result
 Led-edits meaning s d before now result change texts is same carried held =
     Led-asks meaning s d before now result (edits change) (outcome_text carried.outcome) is
     (carried.outcome, subst (λ (t : List (List ℕ)). Step t change carried.outcome d.database) same carried.step, refl) held carried.wrote
 
-pub Led-reports : (meaning : Meaning) (s : State) (d : Dialogue) (before now : Seen) (result : Result Unit ToolError)
+pub Led-reports : (meaning : Meaning) (s : State) (d : Dialogue) (before now : Observed) (result : Result Unit ToolError)
     (texts : List (List ℕ)) → meaning ≡ asks reports → texts ≡ s.texts → d.database ≡ texts → WroteReport texts before now result
     → Holds d (state d.database outside) → Led meaning s d before now result
 Led-reports meaning s d before now result texts is same kept (inl wrote) held =
@@ -163,12 +166,12 @@ Led-reports meaning s d before now result texts is same kept (inl wrote) held =
 Led-reports meaning s d before now result texts is same kept (inr wrote) held =
     Led-asks meaning s d before now result reports _ is (kept ∙ same, inr refl) held wrote
 
-pub Led-same : (meaning other : Meaning) (s : State) (d : Dialogue) (before now : Seen) (result : Result Unit ToolError) → meaning ≡ other
+pub Led-same : (meaning other : Meaning) (s : State) (d : Dialogue) (before now : Observed) (result : Result Unit ToolError) → meaning ≡ other
     → Led other s d before now result → Led meaning s d before now result
 Led-same meaning other s d before now result is led =
     subst (λ (m : Meaning). Led m s d before now result) (sym is) led
 
-pub Led-prints : (meaning : Meaning) (s : State) (d : Dialogue) (before now : Seen) (result : Result Unit ToolError) (at : ℕ)
+pub Led-prints : (meaning : Meaning) (s : State) (d : Dialogue) (before now : Observed) (result : Result Unit ToolError) (at : ℕ)
     (texts : List (List ℕ)) → meaning ≡ asks (prints at) → texts ≡ s.texts → d.database ≡ texts → Wrote before now (printed texts at) result
     → Holds d (state d.database outside) → Led meaning s d before now result
 Led-prints meaning s d before now result at texts is same kept wrote held =
@@ -176,7 +179,7 @@ Led-prints meaning s d before now result at texts is same kept wrote held =
     (kept ∙ same, ap (λ (t : List (List ℕ)). printed t at) same) held wrote
 
 pub CarriesOut-of_front : (opened : Opened) (text : List ℕ) (limit : ℕ) (texts : List (List ℕ)) (change : Change) (next : List (List ℕ))
-    (before now : Seen) (result : Result Unit ToolError) → 1048576 < limit → change ≡ opened_change opened (take limit text)
+    (before now : Observed) (result : Result Unit ToolError) → 1048576 < limit → change ≡ opened_change opened (take limit text)
     → CarriesOut texts change next before now result → CarriesOut texts (opened_change opened text) next before now result
 CarriesOut-of_front opened text limit texts change next before now result room is carried =
     record {

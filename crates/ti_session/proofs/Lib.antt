@@ -1,7 +1,5 @@
-pub mod Empty
 pub mod Feeding
 pub mod Leading
 pub mod Lines
 pub mod Printed
-pub mod Written
 pub mod OneSession

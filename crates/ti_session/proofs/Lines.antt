@@ -3,7 +3,8 @@ use Rattle.std.proofs.Common.{◌≡◌, ◌≢◌, ℕ, zero, suc, ◌+◌, ◌
 use Rattle.std.proofs.Math.Seq.{drop-cons}
 use Rattle.std.proofs.lemmas.List.{take-append-drop, take_all, flat_map_more, length-drop}
 use Rattle.std.specs.List.{flat_map, AllByRecursion}
-use Rattle.ti_session.specs.Session.{Complete, IsOneLine, IsShortLine, Leads, Runs, SoFar, State, ended, meant, start}
+use Rattle.ti_devices.specs.Lines.{IsOneLine, ended}
+use Rattle.ti_session.specs.Session.{Complete, IsShortLine, Leads, Runs, SoFar, State, meant, start}
 
 pub IsOneLine-append : (a b : List ℕ) → IsOneLine a → IsOneLine b → IsOneLine (a ++ b)
 IsOneLine-append [] b x y = y

@@ -1,5 +1,4 @@
 -- The definitions that the contracts of this crate cite.
-pub mod Counted
 pub mod Dialogue
 pub mod Replies
 pub mod Requests

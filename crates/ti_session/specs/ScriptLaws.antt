@@ -1,12 +1,7 @@
 -- What the definition of a session leaves open (own): nothing but where memory is wanting.
 use Rattle.std.specs.Prelude.{◌≡◌, ℕ, List, ◌++◌, ◌⊎◌}
 use Rattle.ti_base.specs.declared.edits.EditError.TheVariants.{Memory}
-use Rattle.ti_session.specs.Session.{Leads, Meaning, Session, Splits, State, refused_text}
-
--- bytes are cut into lines in one way alone
-abbrev pub OneSplit : Type 0
-OneSplit = (bytes : List ℕ) (lines others : List (List ℕ)) (rest other : List ℕ) → Splits bytes lines rest → Splits bytes others other
-    → (lines ≡ others) × (rest ≡ other)
+use Rattle.ti_session.specs.Session.{Leads, Meaning, Session, State, refused_text}
 
 -- a line leads from a state to one state, with one reply, unless one of two replies is that memory is wanting
 abbrev pub OneAnswer : Type 0

@@ -1,7 +1,7 @@
 -- The session (own): a script whose lines edit a source and ask of it, and the replies to them.
-use Rattle.std.specs.Prelude.{◌≡◌, ◌≢◌, ℕ, ◌+◌, ◌-◌, ◌*◌, ◌/◌, ◌%◌, ◌<◌, ◌≤◌, ◌&&◌, ◌==◌, nat_lt, nat_le, Bool, if◌then◌else◌, List, [], ◌∷◌, ◌++◌, length, fold, codes, bytes_eq, Option, Some, None, Result, Ok, Err, ◌⊎◌}
+use Rattle.std.specs.Prelude.{◌≡◌, ℕ, ◌+◌, ◌-◌, ◌*◌, ◌/◌, ◌%◌, ◌<◌, ◌≤◌, ◌&&◌, ◌==◌, nat_lt, nat_le, Bool, if◌then◌else◌, List, [], ◌∷◌, ◌++◌, length, fold, codes, bytes_eq, Option, Some, None, Result, Ok, Err, ◌⊎◌}
 use Rattle.std.specs.List.{flat_map, list_all, AllByRecursion}
-use Rattle.std.specs.Io.KnownBytes.{Appends, Consumes, IsAtEnd}
+use Rattle.std.specs.Io.KnownBytes.{Consumes, IsAtEnd}
 use Rattle.ti_base.specs.Compiled.{compiled}
 use Rattle.ti_base.specs.Report.{report}
 use Rattle.ti_base.specs.Edits.{Change, insertion, replacement, removal, Step}
@@ -9,19 +9,14 @@ use Rattle.ti_base.specs.declared.edits.EditError.{EditError}
 use Rattle.ti_base.specs.declared.edits.EditError.TheVariants.{Position, TooLong, NotOneBlock, TooMany, Memory}
 use Rattle.ti_base.specs.declared.edits.Outcome.{Outcome}
 use Rattle.ti_base.specs.declared.edits.Outcome.TheVariants.{Accepted, Refused}
-use Rattle.ti_session.specs.declared.tool_error.ToolError.{ToolError}
-use Rattle.ti_session.specs.declared.tool_error.ToolError.TheVariants.{ReadFault, WriteFault, LineTooLong}
+use Rattle.ti_devices.specs.Counted.{Observed}
+use Rattle.ti_devices.specs.Lines.{Splits, ended, with_last}
+use Rattle.ti_devices.specs.Reading.{Gives}
+use Rattle.ti_devices.specs.Writing.{TakesAll, TakesFront}
+use Rattle.ti_devices.specs.declared.tool_error.ToolError.{ToolError}
+use Rattle.ti_devices.specs.declared.tool_error.ToolError.TheVariants.{ReadFault, WriteFault, LineTooLong}
 
 -- ---- lines
-
--- a line with its newline
-abbrev pub ended : List ℕ → List ℕ
-ended line = line ++ 10 ∷ []
-
--- the bytes hold no newline
-abbrev pub IsOneLine : List ℕ → Type 0
-IsOneLine [] = Unit {0}
-IsOneLine (byte ∷ bytes) = (byte ≢ 10) × IsOneLine bytes
 
 -- the greatest length of a line, without its newline
 abbrev pub line_max : ℕ
@@ -30,17 +25,6 @@ line_max = 65536
 -- the line is within that limit
 abbrev pub IsShortLine : List ℕ → Type 0
 IsShortLine line = length line ≤ line_max
-
--- the bytes are these lines, each with its newline, and then a line that has none yet
-pub record Splits (bytes : List ℕ) (lines : List (List ℕ)) (rest : List ℕ) : Type 0 where
-  pub whole : bytes ≡ flat_map ended lines ++ rest
-  pub each : AllByRecursion IsOneLine lines
-  pub partial : IsOneLine rest
-
--- a last line without newline counts, unless it is empty
-abbrev pub with_last : List (List ℕ) → List ℕ → List (List ℕ)
-with_last lines [] = lines
-with_last lines (byte ∷ rest) = lines ++ (byte ∷ rest) ∷ []
 
 -- ---- what a line says
 
@@ -195,30 +179,6 @@ pub record Session (input output : List ℕ) : Type 0 where
   pub complete : Complete input end replies
   pub whole : output ≡ replies ++ closing end.mode
 
--- ---- the devices
-
--- what is seen of a reader or a writer: the bytes that it has left or holds, where they are known, and how often it failed
-pub record Seen : Type 0 where
-  pub bytes : Option (List ℕ)
-  pub failures : ℕ
-
--- these bytes, and so many failures
-abbrev pub seen : Option (List ℕ) → ℕ → Seen
-seen bytes failures = record { bytes = bytes; failures = failures }
-
--- the reader gave these bytes, and did not fail
-abbrev pub Gives : Seen → Seen → List ℕ → Type 0
-Gives given left taken = Consumes given.bytes left.bytes taken × (left.failures ≡ given.failures)
-
--- the writer took all of the output, and did not fail
-abbrev pub TakesAll : Seen → Seen → List ℕ → Type 0
-TakesAll before now output = Appends before.bytes now.bytes output × (now.failures ≡ before.failures)
-
--- the writer took a front part of the output, and then it failed
-abbrev pub TakesFront : Seen → Seen → List ℕ → Type 0
-TakesFront before now output =
-    (front : List ℕ) × (back : List ℕ) × (output ≡ front ++ back) × Appends before.bytes now.bytes front × (before.failures < now.failures)
-
 -- ---- how a session ends
 
 -- the greatest number of reads
@@ -227,20 +187,20 @@ reads_max = 4294967296
 
 -- the replies that a session which took these bytes has begun to write: those of the lines that are complete, or, where
 -- the input has ended, all
-abbrev pub IsOutput : List ℕ → List ℕ → Seen → List ℕ → Type 0
+abbrev pub IsOutput : List ℕ → List ℕ → Observed → List ℕ → Type 0
 IsOutput taken rest left output =
     ((line : List ℕ) × (end : State) × SoFar taken line end output) ⊎ ((rest ≡ []) × IsAtEnd left.bytes × Session taken output)
 
 -- The reader gave `taken`, and at a fault of the writer or a line that is too long perhaps some bytes more. What was
 -- written are the replies to it, at a fault of the writer a front part of them. A reader is at fault only where it
 -- failed or has been read so often that each further read would be one too many; memory is wanting only at the start.
-abbrev pub Ends : Seen → Seen → Seen → Seen → Result Unit ToolError → Type 0
+abbrev pub Ends : Observed → Observed → Observed → Observed → Result Unit ToolError → Type 0
 Ends given left before now (Ok _) =
     (input : List ℕ) × (output : List ℕ) × Gives given left input × IsAtEnd left.bytes × Session input output × TakesAll before now output
 Ends given left before now (Err ReadFault) =
     (taken : List ℕ) × (line : List ℕ) × (end : State) × (output : List ℕ) × Consumes given.bytes left.bytes taken
     × SoFar taken line end output × IsShortLine line × TakesAll before now output
-    × ((given.failures < left.failures) ⊎ ((left.failures ≡ given.failures) × (reads_max ≤ length taken)))
+    × ((left.failures ≡ given.failures + 1) ⊎ ((left.failures ≡ given.failures) × (reads_max ≤ length taken)))
 Ends given left before now (Err LineTooLong) =
     (taken : List ℕ) × (rest : List ℕ) × (line : List ℕ) × (end : State) × (output : List ℕ) × Gives given left (taken ++ rest)
     × SoFar taken line end output × (line_max < length line) × TakesAll before now output

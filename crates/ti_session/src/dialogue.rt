@@ -1,19 +1,18 @@
 //! A session's requests and replies: the source that is edited, and the block that is open.
 ghost use Rattle.std.specs.Prelude.{◌≡◌, IfOk, Some};
 ghost use Rattle.ti_base.specs.Edits.{change_of};
-ghost use Rattle.ti_session.specs.Counted.{device_of, failures_of};
-ghost use Rattle.ti_session.specs.Replies.{CarriesOut, Wrote, WroteReport};
+ghost use Rattle.ti_devices.specs.Counted.{observed};
+ghost use Rattle.ti_devices.specs.Writing.{Wrote};
+ghost use Rattle.ti_session.specs.Replies.{CarriesOut, WroteReport};
 ghost use Rattle.ti_session.specs.Requests.{opened_change};
-ghost use Rattle.ti_session.specs.Session.{asks, edits, printed, seen};
+ghost use Rattle.ti_session.specs.Session.{asks, edits, printed};
 
-use crate::buffer::Buffer;
-use crate::counted::Counted;
-use crate::replies::{write_hex, write_out, write_outcome, write_refusal};
+use crate::replies::{write_hex, write_outcome, write_refusal};
 use crate::requests::{Opened, Request, read_request};
-use crate::tool_error::ToolError;
 use std::alloc::{AllocError, Global};
 use std::io::Write;
 use ti_base::{Database, Edit, EditError};
+use ti_devices::{Buffer, Counted, ToolError, write_out};
 
 /// How many bytes of a block are held: one more than a block may have.
 const BLOCK_ROOM: usize = 1_048_577;
@@ -33,8 +32,8 @@ fn carry_out<W: Write>(
     writer: &mut Counted<W>,
 ) -> Result<(), ToolError>
     ensures { CarriesOut database.old (change_of edit.now) database.new
-        (seen (W.contents (device_of writer.old)) (failures_of writer.old))
-        (seen (W.contents (device_of writer.new)) (failures_of writer.new)) result }
+        (observed W.contents writer.old)
+        (observed W.contents writer.new) result }
 {
     let answer = database.apply(edit);
     write_outcome(writer, &answer)
@@ -42,8 +41,8 @@ fn carry_out<W: Write>(
 
 // Writes the entry of a block.
 fn print<W: Write>(database: &Database, at: usize, writer: &mut Counted<W>) -> Result<(), ToolError>
-    ensures { Wrote (seen (W.contents (device_of writer.old)) (failures_of writer.old))
-        (seen (W.contents (device_of writer.new)) (failures_of writer.new))
+    ensures { Wrote (observed W.contents writer.old)
+        (observed W.contents writer.new)
         (printed database.now at) result }
 {
     if at >= database.len() {
@@ -61,8 +60,8 @@ fn print<W: Write>(database: &Database, at: usize, writer: &mut Counted<W>) -> R
 // Writes the report.
 fn report<W: Write>(database: &Database, writer: &mut Counted<W>) -> Result<(), ToolError>
     ensures { WroteReport database.now
-        (seen (W.contents (device_of writer.old)) (failures_of writer.old))
-        (seen (W.contents (device_of writer.new)) (failures_of writer.new)) result }
+        (observed W.contents writer.old)
+        (observed W.contents writer.new) result }
 {
     match database.report(1) {
         Ok(text) => {
@@ -100,8 +99,8 @@ impl Dialogue {
     ) -> Result<(), ToolError>
         ensures { (state : State) → state.mode ≡ outside → Holds self.old state
             → Led (alone line.now) state self.new
-            (seen (W.contents (device_of writer.old)) (failures_of writer.old))
-            (seen (W.contents (device_of writer.new)) (failures_of writer.new)) result }
+            (observed W.contents writer.old)
+            (observed W.contents writer.new) result }
     {
         match read_request(line) {
             Request::Nothing => Ok(()),
@@ -126,8 +125,8 @@ impl Dialogue {
         requires { self.old.opened ≡ Some opened }
         ensures { (state : State) → (holds : Holds self.old state)
             → Led (asks (edits (opened_change opened holds.text))) state self.new
-            (seen (W.contents (device_of writer.old)) (failures_of writer.old))
-            (seen (W.contents (device_of writer.new)) (failures_of writer.new)) result }
+            (observed W.contents writer.old)
+            (observed W.contents writer.new) result }
     {
         let text = self.block.as_slice();
         let edit = match opened {
@@ -149,8 +148,8 @@ impl Dialogue {
     ) -> Result<(), ToolError>
         ensures { (state : State) → Holds self.old state
             → Led (meant state.mode line.now) state self.new
-            (seen (W.contents (device_of writer.old)) (failures_of writer.old))
-            (seen (W.contents (device_of writer.new)) (failures_of writer.new)) result }
+            (observed W.contents writer.old)
+            (observed W.contents writer.new) result }
     {
         let Some(opened) = self.opened else {
             return self.take_request(line, writer);
@@ -169,8 +168,8 @@ impl Dialogue {
     /// `WriteFault`.
     pub fn close<W: Write>(&self, writer: &mut Counted<W>) -> Result<(), ToolError>
         ensures { (state : State) → Holds self.now state
-            → Wrote (seen (W.contents (device_of writer.old)) (failures_of writer.old))
-            (seen (W.contents (device_of writer.new)) (failures_of writer.new))
+            → Wrote (observed W.contents writer.old)
+            (observed W.contents writer.new)
             (closing state.mode) result }
     {
         if self.opened.is_none() {

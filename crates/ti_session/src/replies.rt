@@ -2,39 +2,17 @@
 ghost use Rattle.std.specs.Prelude.{◌≡◌, ◌<◌, ◌≤◌, length};
 ghost use Rattle.std.specs.List.{flat_map};
 ghost use Rattle.ti_base.specs.Edits.{outcome_of};
-ghost use Rattle.ti_session.specs.Counted.{device_of, failures_of};
-ghost use Rattle.ti_session.specs.Replies.{Wrote};
-ghost use Rattle.ti_session.specs.Session.{hex_digit, hex_of, outcome_text, refused_text, seen};
+ghost use Rattle.ti_devices.specs.Counted.{observed};
+ghost use Rattle.ti_devices.specs.Writing.{Wrote};
+ghost use Rattle.ti_session.specs.Session.{hex_digit, hex_of, outcome_text, refused_text};
 
-use crate::counted::Counted;
-use crate::tool_error::ToolError;
 use arrayvec::ArrayVec;
 use std::io::Write;
 use ti_base::{EditError, Edited};
+use ti_devices::{Counted, ToolError, write_out};
 
 /// How many bytes are spelled in hexadecimal at a time.
 const PIECE: usize = 64;
-
-/// Writes bytes to the end.
-///
-/// # Errors
-/// `WriteFault` where the device fails; it then took a front part of the bytes.
-pub fn write_out<W: Write>(writer: &mut Counted<W>, bytes: &[u8]) -> Result<(), ToolError>
-    ensures { Wrote (seen (W.contents (device_of writer.old)) (failures_of writer.old))
-        (seen (W.contents (device_of writer.new)) (failures_of writer.new)) bytes.now result }
-{
-    let mut rest = bytes;
-    while !rest.is_empty() {
-        let Ok(count) = writer.write(rest) else {
-            return Err(ToolError::WriteFault);
-        };
-        if count == 0 {
-            return Err(ToolError::WriteFault);
-        }
-        rest = &rest[count..];
-    }
-    Ok(())
-}
 
 // The reply to a refused request.
 fn refusal(error: EditError) -> &'static [u8]
@@ -54,8 +32,8 @@ fn refusal(error: EditError) -> &'static [u8]
 /// # Errors
 /// `WriteFault`.
 pub fn write_refusal<W: Write>(writer: &mut Counted<W>, error: EditError) -> Result<(), ToolError>
-    ensures { Wrote (seen (W.contents (device_of writer.old)) (failures_of writer.old))
-        (seen (W.contents (device_of writer.new)) (failures_of writer.new)) (refused_text error) result }
+    ensures { Wrote (observed W.contents writer.old)
+        (observed W.contents writer.new) (refused_text error) result }
 {
     write_out(writer, refusal(error))
 }
@@ -68,8 +46,8 @@ pub fn write_outcome<W: Write>(
     writer: &mut Counted<W>,
     answer: &Result<Edited, EditError>,
 ) -> Result<(), ToolError>
-    ensures { Wrote (seen (W.contents (device_of writer.old)) (failures_of writer.old))
-        (seen (W.contents (device_of writer.new)) (failures_of writer.new))
+    ensures { Wrote (observed W.contents writer.old)
+        (observed W.contents writer.new)
         (outcome_text (outcome_of answer.now)) result }
 {
     match answer {
@@ -108,8 +86,8 @@ fn hex_piece(piece: &[u8]) -> ArrayVec<u8, 128>
 /// # Errors
 /// `WriteFault`.
 pub fn write_hex<W: Write>(writer: &mut Counted<W>, bytes: &[u8]) -> Result<(), ToolError>
-    ensures { Wrote (seen (W.contents (device_of writer.old)) (failures_of writer.old))
-        (seen (W.contents (device_of writer.new)) (failures_of writer.new))
+    ensures { Wrote (observed W.contents writer.old)
+        (observed W.contents writer.new)
         (flat_map hex_of bytes.now) result }
 {
     let mut rest = bytes;

@@ -1,10 +1,5 @@
 //! What the definition of a session leaves open: nothing but where memory is wanting.
-ghost use Rattle.ti_session.specs.ScriptLaws.{OneAnswer, OneOutput, OneSplit};
-
-/// Bytes are cut into lines in one way alone.
-pub fn one_split()
-    ensures { OneSplit }
-{}
+ghost use Rattle.ti_session.specs.ScriptLaws.{OneAnswer, OneOutput};
 
 /// A line leads from a state to one state, with one reply, unless memory is wanting.
 pub fn one_answer()

@@ -1,17 +1,16 @@
 //! The session: a script read piece by piece, and its replies written as they come.
 ghost use Rattle.std.specs.Prelude.{◌≡◌, ◌∷◌, ◌<◌, ◌≤◌, ◌++◌, ◌⊎◌, [], IfErr, List, MatchOption, OnOk, ℕ, length};
-ghost use Rattle.ti_session.specs.Counted.{device_of, failures_of};
+ghost use Rattle.ti_devices.specs.Counted.{Observed, observed};
+ghost use Rattle.ti_devices.specs.Lines.{IsOneLine};
 ghost use Rattle.ti_session.specs.Dialogue.{Completed, Fed, Finished, Progress};
-ghost use Rattle.ti_session.specs.Session.{Ends, IsOneLine, IsShortLine, Seen, line_max, seen};
-ghost use Rattle.ti_session.specs.declared.tool_error.ToolError.TheVariants.{LineTooLong, Memory};
+ghost use Rattle.ti_session.specs.Session.{Ends, IsShortLine, line_max};
+ghost use Rattle.ti_devices.specs.declared.tool_error.ToolError.TheVariants.{LineTooLong};
 
-use crate::buffer::Buffer;
-use crate::counted::Counted;
 use crate::dialogue::Dialogue;
-use crate::tool_error::ToolError;
 use memchr::memchr;
-use std::alloc::{AllocError, Global};
+use std::alloc::Global;
 use std::io::{Read, Write};
+use ti_devices::{Buffer, Counted, ToolError, read_piece};
 
 /// The greatest length of a line, without its newline.
 const LINE_MAX: usize = 65_536;
@@ -21,14 +20,6 @@ const PIECE: usize = 4096;
 
 /// After so many reads a session stops.
 const READS_MAX: u64 = 4_294_967_296;
-
-impl From<AllocError> for ToolError {
-    ghost from_gives = { λ _ error. error ≡ Memory };
-
-    fn from(_error: AllocError) -> ToolError {
-        ToolError::Memory
-    }
-}
 
 // The bytes before the first newline, and those after it.
 fn split_line(bytes: &[u8]) -> Option<(&[u8], &[u8])>
@@ -42,11 +33,11 @@ fn split_line(bytes: &[u8]) -> Option<(&[u8], &[u8])>
 // Appends to the front of a line that has come.
 fn extend(line: &mut Buffer, more: &[u8]) -> Result<(), ToolError>
     requires { line.old.limit ≡ line_max }
-    ensures bytes { OnOk result (line.new.bytes.items ≡ line.old.bytes.items ++ more.now) }
+    ensures bytes { OnOk result (line.new.bytes ≡ line.old.bytes ++ more.now) }
     ensures limit { OnOk result (line.new.limit ≡ line_max) }
-    ensures short { OnOk result (IsShortLine line.new.bytes.items) }
+    ensures short { OnOk result (IsShortLine line.new.bytes) }
     ensures over { IfErr result (λ error. (error ≡ LineTooLong)
-        × (line_max < length (line.old.bytes.items ++ more.now))) }
+        × (line_max < length (line.old.bytes ++ more.now))) }
 {
     if line.room() < more.len() {
         return Err(ToolError::LineTooLong);
@@ -64,11 +55,11 @@ fn feed<W: Write>(
 ) -> Result<(), ToolError>
     requires { line.old.limit ≡ line_max }
     ensures limit { OnOk result (line.new.limit ≡ line_max) }
-    ensures fed { (taken : List ℕ) → (before : Seen)
-        → Progress taken line.old.bytes.items dialogue.old before
-        (seen (W.contents (device_of writer.old)) (failures_of writer.old))
-        → Fed taken piece.now line.new.bytes.items dialogue.new before
-        (seen (W.contents (device_of writer.new)) (failures_of writer.new)) result }
+    ensures fed { (taken : List ℕ) → (before : Observed)
+        → Progress taken line.old.bytes dialogue.old before
+        (observed W.contents writer.old)
+        → Fed taken piece.now line.new.bytes dialogue.new before
+        (observed W.contents writer.new) result }
 {
     let mut rest = piece;
     while let Some((front, later)) = split_line(rest) {
@@ -86,11 +77,11 @@ fn take_last<W: Write>(
     line: &Buffer,
     writer: &mut Counted<W>,
 ) -> Result<(), ToolError>
-    ensures { (taken : List ℕ) → (before : Seen)
-        → Progress taken line.now.bytes.items dialogue.old before
-        (seen (W.contents (device_of writer.old)) (failures_of writer.old))
+    ensures { (taken : List ℕ) → (before : Observed)
+        → Progress taken line.now.bytes dialogue.old before
+        (observed W.contents writer.old)
         → Completed taken dialogue.new before
-        (seen (W.contents (device_of writer.new)) (failures_of writer.new)) result }
+        (observed W.contents writer.new) result }
 {
     if line.as_slice().is_empty() {
         return Ok(());
@@ -104,11 +95,11 @@ fn finish<W: Write>(
     line: &Buffer,
     writer: &mut Counted<W>,
 ) -> Result<(), ToolError>
-    ensures { (taken : List ℕ) → (before : Seen)
-        → Progress taken line.now.bytes.items dialogue.old before
-        (seen (W.contents (device_of writer.old)) (failures_of writer.old))
+    ensures { (taken : List ℕ) → (before : Observed)
+        → Progress taken line.now.bytes dialogue.old before
+        (observed W.contents writer.old)
         → Finished taken before
-        (seen (W.contents (device_of writer.new)) (failures_of writer.new)) result }
+        (observed W.contents writer.new) result }
 {
     take_last(dialogue, line, writer)?;
     dialogue.close(writer)
@@ -127,18 +118,16 @@ pub fn session<R: Read, W: Write>(
     reader: &mut Counted<R>,
     writer: &mut Counted<W>,
 ) -> Result<(), ToolError>
-    ensures { Ends (seen (R.remaining (device_of reader.old)) (failures_of reader.old))
-        (seen (R.remaining (device_of reader.new)) (failures_of reader.new))
-        (seen (W.contents (device_of writer.old)) (failures_of writer.old))
-        (seen (W.contents (device_of writer.new)) (failures_of writer.new)) result }
+    ensures { Ends (observed R.remaining reader.old)
+        (observed R.remaining reader.new)
+        (observed W.contents writer.old)
+        (observed W.contents writer.new) result }
 {
     let mut line = Buffer::new(alloc, LINE_MAX)?;
     let mut dialogue = Dialogue::new(alloc)?;
     let mut piece = [0; PIECE];
     for _turn in 0..READS_MAX {
-        let Ok(count) = reader.read(&mut piece) else {
-            return Err(ToolError::ReadFault);
-        };
+        let count = read_piece(reader, &mut piece)?;
         if count == 0 {
             return finish(&mut dialogue, &line, writer);
         }

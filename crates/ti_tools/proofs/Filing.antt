@@ -12,7 +12,7 @@ use Rattle.ti_base.specs.Compiled.{compiled}
 use Rattle.ti_base.specs.Owner.{is_among, readings}
 use Rattle.ti_base.specs.Reaching.{is_owner}
 use Rattle.ti_base.specs.Faults.{distinct_after}
-use Rattle.ti_tools.specs.Tree.{Entry}
+use Rattle.ti_devices.specs.Tree.{Entry}
 use Rattle.ti_tools.specs.EntryFiles.{IsAsciiName, files_at, files_for, files_from, files_of, own_names, path_of}
 
 -- the files for names that stand behind others

@@ -2,5 +2,4 @@ pub mod Asked
 pub mod Ending
 pub mod Filing
 pub mod Holding
-pub mod Placed
 pub mod Refusing

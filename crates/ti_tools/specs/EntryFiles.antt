@@ -7,7 +7,7 @@ use Rattle.ti_base.specs.Owner.{readings}
 use Rattle.ti_base.specs.Reaching.{is_owner}
 use Rattle.ti_base.specs.Faults.{distinct}
 use Rattle.ti_base.specs.Compiled.{compiled}
-use Rattle.ti_tools.specs.Tree.{Entry}
+use Rattle.ti_devices.specs.Tree.{Entry}
 
 -- where the entry of a name stands below a folder
 abbrev pub path_of : List ℕ → List ℕ → List ℕ

@@ -3,8 +3,8 @@
 use Rattle.std.specs.Prelude.{ℕ, suc, ◌+◌, ◌==◌, List, [], ◌∷◌, ◌++◌, length, Option, Some, None, nat_le, nat_lt, if◌then◌else◌}
 use Rattle.ti_source.specs.Blocks.{blocks_of, front_of, last_byte}
 use Rattle.ti_source.specs.Lines.{line_count}
-use Rattle.ti_session.specs.declared.tool_error.ToolError.{ToolError}
-use Rattle.ti_session.specs.declared.tool_error.ToolError.TheVariants.{BlockTooLong, TooManyBlocks}
+use Rattle.ti_devices.specs.declared.tool_error.ToolError.{ToolError}
+use Rattle.ti_devices.specs.declared.tool_error.ToolError.TheVariants.{BlockTooLong, TooManyBlocks}
 
 -- a text with a newline at its end; an empty text has no line to end
 abbrev pub ended : List ℕ → List ℕ

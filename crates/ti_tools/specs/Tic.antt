@@ -6,12 +6,12 @@ use Rattle.ti_base.specs.Owner.{readings}
 use Rattle.ti_base.specs.Faults.{SourceFault, faults}
 use Rattle.ti_base.specs.Report.{report}
 use Rattle.ti_tools.specs.EntryFiles.{files_of}
-use Rattle.ti_tools.specs.Placing.{entries}
+use Rattle.ti_devices.specs.Placing.{entries}
 use Rattle.ti_tools.specs.Sources.{first_line, refusal_of, texts_of}
-use Rattle.ti_tools.specs.Tree.{Entry}
+use Rattle.ti_devices.specs.Tree.{Entry}
 use Rattle.ti_tools.specs.declared.outcome.TicOutcome.{TicOutcome}
-use Rattle.ti_session.specs.declared.tool_error.ToolError.{ToolError}
-use Rattle.ti_session.specs.declared.tool_error.ToolError.TheVariants.{Memory}
+use Rattle.ti_devices.specs.declared.tool_error.ToolError.{ToolError}
+use Rattle.ti_devices.specs.declared.tool_error.ToolError.TheVariants.{Memory}
 
 -- what comes of a source, as plain data
 pub record Compilation : Type 0 where

@@ -15,7 +15,7 @@ use crate::outcome::{TicOptions, TicOutcome};
 use crate::sources::{BLOCKS_MAX, check, is_ended, lines};
 use std::alloc::{AllocError, Global};
 use ti_base::{Database, Fault};
-use ti_session::ToolError;
+use ti_devices::ToolError;
 use ti_source::blocks;
 
 // The number of the line on which the first block of a source begins.

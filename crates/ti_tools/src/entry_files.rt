@@ -6,12 +6,12 @@ ghost use Rattle.ti_source.specs.Blocks.{OneBlock, blocks_of, last_byte};
 ghost use Rattle.ti_base.specs.Owner.{is_among, readings};
 ghost use Rattle.ti_base.specs.Reaching.{is_owner};
 ghost use Rattle.ti_tools.specs.EntryFiles.{IsAsciiName, files_at, files_for, files_of, own_names, path_of};
-ghost use Rattle.ti_tools.specs.Placing.{entries};
+ghost use Rattle.ti_devices.specs.Placing.{entries};
 
-use crate::placing::File;
 use std::alloc::{AllocError, Global};
 use std::rc::RcSlice;
 use ti_base::Database;
+use ti_devices::File;
 use ti_source::{blocks, blocks_are_single, parse};
 
 // Whether the name is one of these.

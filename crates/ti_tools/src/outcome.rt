@@ -1,5 +1,5 @@
 //! How a source is compiled, and what comes of it.
-use crate::placing::File;
+use ti_devices::File;
 
 /// How a source is compiled.
 #[derive(Debug, PartialEq, Eq, Drop)]

@@ -4,7 +4,7 @@ ghost use Rattle.ti_source.specs.Blocks.{last_byte};
 ghost use Rattle.ti_source.specs.Lines.{line_count};
 ghost use Rattle.ti_tools.specs.Sources.{ended, refusal_of};
 
-use ti_session::ToolError;
+use ti_devices::ToolError;
 use ti_source::blocks;
 
 /// The most bytes of a block.

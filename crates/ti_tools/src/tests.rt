@@ -1,7 +1,7 @@
-//! Worked command lines and trees, with answers from the manuals and by hand.
+//! Worked command lines, with answers from the manuals and by hand.
 mod compiling;
 
-use crate::{File, Job, MemTree, Tree, UsageError, job, place};
+use crate::{Job, UsageError, job};
 use std::alloc::{AllocError, Global};
 use std::test::Fail;
 
@@ -15,13 +15,6 @@ fn words(alloc: Global, texts: &[&str]) -> Result<Vec<String>, AllocError> {
 
 fn some(alloc: Global, text: &str) -> Result<Option<String>, AllocError> {
     Ok(Some(String::from_str(alloc, text)?))
-}
-
-fn file(alloc: Global, path: &str, bytes: &[u8]) -> Result<File, AllocError> {
-    Ok(File {
-        path: String::from_str(alloc, path)?,
-        bytes: Vec::from_slice(alloc, bytes)?,
-    })
 }
 
 #[test]
@@ -116,29 +109,5 @@ Example:
   ti tic -o ~/.terminfo dumb.ti
 ";
     assert!(rt; text.as_str() == expected, "{text}");
-    Ok(())
-}
-
-#[test]
-fn placed_files_are_found(rt: HostRuntime) -> Result<(), Fail> {
-    let alloc = rt.alloc();
-    let mut tree = MemTree::new(alloc);
-    let mut files = Vec::new(alloc);
-    files.push(file(alloc, "out/a/a", b"first")?)?;
-    files.push(file(alloc, "out/b/b", b"")?)?;
-    files.push(file(alloc, "out/a/a", b"again")?)?;
-    let placed = place(&mut tree, files.as_slice());
-    assert!(rt; placed == Ok(()));
-    assert!(rt; tree.file("out/a/a") == Some(b"again".as_slice()));
-    assert!(rt; tree.file("out/b/b") == Some(b"".as_slice()));
-    assert!(rt; tree.file("out/b").is_none());
-    let front = tree.read(alloc, "out/a/a", 3)?;
-    let front = front.expect(&rt, "a file");
-    assert!(rt; front.as_slice() == b"agai".as_slice());
-    let whole = tree.read(alloc, "out/a/a", 5)?;
-    let whole = whole.expect(&rt, "a file");
-    assert!(rt; whole.as_slice() == b"again".as_slice());
-    let none = tree.read(alloc, "out/b", 5)?;
-    assert!(rt; none.is_none());
     Ok(())
 }

@@ -1,7 +1,7 @@
 use Rattle.std.proofs.Common.{◌<◌, length, arith}
 use Rattle.std.proofs.lemmas.Result.{err_from_is_err_and}
 use Rattle.ti_session.proofs.Printed.{printed-some}
-use Rattle.ti_session.proofs.Written.{Wrote-short, Wrote-whole}
+use Rattle.ti_devices.proofs.Written.{Wrote-short, Wrote-whole}
 use Rattle.ti_session.proofs.dialogue.print.Goals as goal
 
 pub returns-in_err-write_hex-in-Some : goal.returns-in_err-write_hex-in-Some

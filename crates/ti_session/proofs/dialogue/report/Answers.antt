@@ -1,6 +1,6 @@
 use Rattle.std.proofs.Common.{inl, refl}
 use Rattle.std.proofs.lemmas.Result.{err_from_is_err_and}
-use Rattle.ti_session.proofs.Written.{Wrote-short, Wrote-whole}
+use Rattle.ti_devices.proofs.Written.{Wrote-short, Wrote-whole}
 use Rattle.ti_session.proofs.dialogue.report.Goals as goal
 
 pub returns-in_err-write_out-in-Ok : goal.returns-in_err-write_out-in-Ok

@@ -2,7 +2,7 @@ use Rattle.std.proofs.Common.{◌++◌}
 use Rattle.std.proofs.lemmas.Grind.{flat_map-append}
 use Rattle.std.proofs.lemmas.Result.{err_from_is_err_and}
 use Rattle.ti_session.proofs.Printed.{hex_of-front, hex_of-parts}
-use Rattle.ti_session.proofs.Written.{TakesAll-then, Wrote-over}
+use Rattle.ti_devices.proofs.Written.{TakesAll-then, Wrote-over}
 use Rattle.ti_session.proofs.replies.write_hex.Goals as goal
 
 pub returns-in_err-write_out : goal.returns-in_err-write_out

@@ -1,15 +1,16 @@
 use Rattle.std.proofs.Common.{◌≡◌, ℕ, List, ◌++◌, length}
 use Rattle.std.specs.List.{flat_map}
-use Rattle.ti_session.specs.Counted.{device_of, failures_of}
-use Rattle.ti_session.specs.Session.{TakesAll, hex_of, seen}
+use Rattle.ti_devices.specs.Counted.{observed}
+use Rattle.ti_devices.specs.Writing.{TakesAll}
+use Rattle.ti_session.specs.Session.{hex_of}
 use Rattle.ti_session.proofs.replies.write_hex.Given as goal
 
 -- the bytes before the rest are spelled
 abbrev pub invariant-loop-rest : goal.invariant-loop-rest
 invariant-loop-rest g l =
     (front : List ℕ) × (l.bytes ≡ front ++ l.rest)
-    × TakesAll (seen (g.W.Write.contents (device_of l.initial.writer)) (failures_of l.initial.writer))
-    (seen (g.W.Write.contents (device_of l.writer)) (failures_of l.writer)) (flat_map hex_of front)
+    × TakesAll (observed g.W.Write.contents l.initial.writer)
+    (observed g.W.Write.contents l.writer) (flat_map hex_of front)
 
 abbrev pub decreases-loop-rest : goal.decreases-loop-rest
 decreases-loop-rest g l = length l.rest

@@ -1,6 +1,6 @@
 use Rattle.std.proofs.Common.{◌≡◌}
-use Rattle.ti_session.specs.Counted.{device_of, failures_of}
-use Rattle.ti_session.specs.Session.{line_max, seen}
+use Rattle.ti_devices.specs.Counted.{observed}
+use Rattle.ti_session.specs.Session.{line_max}
 use Rattle.ti_session.proofs.Feeding.{Reads}
 use Rattle.ti_session.proofs.streaming.session.Given as goal
 
@@ -8,8 +8,8 @@ use Rattle.ti_session.proofs.streaming.session.Given as goal
 abbrev pub invariant-loop-turn : goal.invariant-loop-turn
 invariant-loop-turn g l = record {
   limit : l.line.limit ≡ line_max;
-  reads : Reads l._turn (seen (g.R.Read.remaining (device_of l.initial.reader)) (failures_of l.initial.reader))
-      (seen (g.R.Read.remaining (device_of l.reader)) (failures_of l.reader)) l.line.bytes.items l.dialogue
-      (seen (g.W.Write.contents (device_of l.initial.writer)) (failures_of l.initial.writer))
-      (seen (g.W.Write.contents (device_of l.writer)) (failures_of l.writer));
+  reads : Reads l._turn (observed g.R.Read.remaining l.initial.reader)
+      (observed g.R.Read.remaining l.reader) l.line.bytes l.dialogue
+      (observed g.W.Write.contents l.initial.writer)
+      (observed g.W.Write.contents l.writer);
 }

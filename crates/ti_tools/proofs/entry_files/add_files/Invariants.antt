@@ -3,7 +3,7 @@ use Rattle.std.specs.Rc.{rc_slice_items}
 use Rattle.ti_base.specs.Owner.{readings}
 use Rattle.ti_tools.proofs.Filing.{files_left}
 use Rattle.ti_tools.specs.EntryFiles.{files_for, own_names}
-use Rattle.ti_tools.specs.Placing.{entries}
+use Rattle.ti_devices.specs.Placing.{entries}
 use Rattle.ti_tools.proofs.entry_files.add_files.Given as goal
 
 -- the files so far, and those of the names that are left, are those that are wanted

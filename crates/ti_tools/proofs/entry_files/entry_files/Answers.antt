@@ -1,6 +1,6 @@
 use Rattle.std.proofs.Common.{◌∙◌, All, List, ℕ, subst, sym}
 use Rattle.ti_source.specs.Blocks.{OneBlock}
-use Rattle.ti_tools.specs.Placing.{entries}
+use Rattle.ti_devices.specs.Placing.{entries}
 use Rattle.ti_tools.proofs.Filing.{IsFiledTo, filed_to_next, filed_to_start}
 use Rattle.ti_tools.proofs.entry_files.entry_files.Goals as goal
 

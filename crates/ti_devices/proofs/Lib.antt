@@ -1,0 +1,4 @@
+pub mod CutLines
+pub mod Empty
+pub mod Placed
+pub mod Written

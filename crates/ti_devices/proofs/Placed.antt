@@ -1,0 +1,32 @@
+-- What one more file that is written adds to the files that were written before it.
+use Rattle.std.proofs.Common.{◌≡◌, ℕ, ◌+◌, ◌<◌, List, [], ◌∷◌, ◌++◌, Option, length, map, suc, take, drop, get_or, refl, subst}
+use Rattle.std.proofs.Math.Seq.{drop-cons}
+use Rattle.std.proofs.lemmas.List.{drop-map, map_more, take-map}
+use Rattle.ti_devices.specs.Placing.{entries, entry_of}
+use Rattle.ti_devices.specs.Tree.{ChangesOnly, Entry, Files, Sets, Writes, WritesUpTo}
+use Rattle.ti_devices.specs.declared.placing.File.{File}
+
+pub Writes-push : (before : List Entry) (entry : Entry) (old mid new : Option Files)
+    → Writes before old mid → Sets entry mid new → Writes (before ++ entry ∷ []) old new
+Writes-push [] entry old mid new same sets =
+    (new, subst (λ (from : Option Files). Sets entry from new) same sets, refl)
+Writes-push (e ∷ before) entry old mid new written sets =
+    (written.0, written.1, Writes-push before entry written.0 mid new written.2 sets)
+
+pub Writes-next : (files : List File) (count : ℕ) (file : File) (old mid new : Option Files)
+    → count < length files → file ≡ get_or files count file
+    → Writes (take count (entries files)) old mid → Sets (entry_of file) mid new
+    → Writes (take (count + 1) (entries files)) old new
+Writes-next files count file old mid new within is_file written sets =
+    let front : take (count + 1) (entries files) ≡ take count (entries files) ++ entry_of file ∷ [] =
+    rw (take-map entry_of (count + 1) files, map_more entry_of files count file within, ← is_file, take-map entry_of count files) in
+    rw front (Writes-push _ (entry_of file) old mid new written sets)
+
+pub Writes-stop : (files : List File) (count : ℕ) (file : File) (old mid new : Option Files)
+    → count < length files → file ≡ get_or files count file
+    → Writes (take count (entries files)) old mid → ChangesOnly (entry_of file).0 mid new
+    → WritesUpTo count (entries files) old new
+Writes-stop files count file old mid new within is_file written changes =
+    let rest : drop count (entries files) ≡ entry_of file ∷ map entry_of (drop (suc count) files) =
+    rw (drop-map entry_of count files, drop-cons files count file within, ← is_file) in
+    (mid, entry_of file, _, rest, written, changes)

@@ -1,0 +1,9 @@
+-- The definitions that the contracts of this crate cite.
+pub mod Buffer
+pub mod Counted
+pub mod Lines
+pub mod MemoryTree
+pub mod Placing
+pub mod Reading
+pub mod Tree
+pub mod Writing

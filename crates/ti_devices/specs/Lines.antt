@@ -1,0 +1,32 @@
+-- Lines of an input: bytes up to a newline, and a last line that may have none (own).
+use Rattle.std.specs.Prelude.{◌≡◌, ◌≢◌, ℕ, ◌≤◌, List, [], ◌∷◌, ◌++◌, length}
+use Rattle.std.specs.List.{flat_map, AllByRecursion}
+
+-- a line with its newline
+abbrev pub ended : List ℕ → List ℕ
+ended line = line ++ 10 ∷ []
+
+-- the bytes hold no newline
+abbrev pub IsOneLine : List ℕ → Type 0
+IsOneLine [] = Unit {0}
+IsOneLine (byte ∷ bytes) = (byte ≢ 10) × IsOneLine bytes
+
+-- a line, counted without its newline, is within a limit
+abbrev pub IsWithin : ℕ → List ℕ → Type 0
+IsWithin limit line = length line ≤ limit
+
+-- the bytes are these lines, each with its newline, and then a line that has none yet
+pub record Splits (bytes : List ℕ) (lines : List (List ℕ)) (rest : List ℕ) : Type 0 where
+  pub whole : bytes ≡ flat_map ended lines ++ rest
+  pub each : AllByRecursion IsOneLine lines
+  pub partial : IsOneLine rest
+
+-- a last line without newline counts, unless it is empty
+abbrev pub with_last : List (List ℕ) → List ℕ → List (List ℕ)
+with_last lines [] = lines
+with_last lines (byte ∷ rest) = lines ++ (byte ∷ rest) ∷ []
+
+-- bytes are cut into lines in one way alone
+abbrev pub OneSplit : Type 0
+OneSplit = (bytes : List ℕ) (lines others : List (List ℕ)) (rest other : List ℕ) → Splits bytes lines rest → Splits bytes others other
+    → (lines ≡ others) × (rest ≡ other)

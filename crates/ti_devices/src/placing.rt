@@ -1,0 +1,48 @@
+//! Writing the files that a tool made.
+ghost use Rattle.std.specs.Prelude.{◌≡◌, ◌<◌, ◌≤◌, IfErr, IsErrOf, OnErr, OnOk};
+ghost use Rattle.ti_devices.specs.Placing.{entries, entry_of};
+ghost use Rattle.ti_devices.specs.Tree.{ChangesOnly, Sets, Writes, WritesUpTo};
+
+use crate::tree::{Tree, TreeFault};
+
+/// A file to be written.
+#[derive(Debug, PartialEq, Eq, Drop)]
+pub struct File {
+    /// Where it is to stand: a path with `/` between its parts.
+    pub path: String,
+    /// What it is to hold.
+    pub bytes: Vec<u8>,
+}
+
+// Writes one file.
+fn place_one<T: Tree>(tree: &mut T, file: &File) -> Result<(), TreeFault>
+    ensures written { OnOk result (Sets (entry_of file.now) (T.files tree.old) (T.files tree.new)) }
+    ensures others { OnErr result (ChangesOnly (entry_of file.now).0 (T.files tree.old)
+        (T.files tree.new)) }
+    ensures later { T.failures tree.old ≤ T.failures tree.new }
+    ensures failed { IsErrOf result TreeFault.Failed
+        → T.failures tree.old < T.failures tree.new }
+{
+    tree.write(file.path.as_str(), file.bytes.as_slice())
+}
+
+/// Writes the files in order, and stops at the first that is not written.
+///
+/// # Errors
+/// How many files were written before the fault, and the fault. The file at the path of the next
+/// one may have changed, and no other.
+pub fn place<T: Tree>(tree: &mut T, files: &[File]) -> Result<(), (usize, TreeFault)>
+    ensures all { OnOk result (Writes (entries files.now) (T.files tree.old) (T.files tree.new)) }
+    ensures some { IfErr result (λ stop. WritesUpTo stop.0 (entries files.now) (T.files tree.old)
+        (T.files tree.new)) }
+    ensures later { T.failures tree.old ≤ T.failures tree.new }
+    ensures failed { IfErr result (λ stop. stop.1 ≡ TreeFault.Failed
+        → T.failures tree.old < T.failures tree.new) }
+{
+    for (count, file) in files.iter().enumerate() {
+        if let Err(fault) = place_one(tree, file) {
+            return Err((count, fault));
+        }
+    }
+    Ok(())
+}

@@ -1,0 +1,25 @@
+//! Bytes read from a counted device, as many as come at once.
+ghost use Rattle.std.specs.Prelude.{◌≡◌, ◌+◌, ◌<◌, length};
+ghost use Rattle.ti_devices.specs.Counted.{observed, reads_of};
+ghost use Rattle.ti_devices.specs.Reading.{ReadsOnce};
+
+use crate::counted::Counted;
+use crate::tool_error::ToolError;
+use std::io::Read;
+
+/// Reads once, into the front of a piece that has room. The answer is how many bytes came, and 0 at the
+/// end alone.
+///
+/// # Errors
+/// `ReadFault` where the device fails; it then gave no byte.
+pub fn read_piece<R: Read>(reader: &mut Counted<R>, piece: &mut [u8]) -> Result<usize, ToolError>
+    requires { 0 < length piece.old }
+    ensures bytes { ReadsOnce (observed R.remaining reader.old) (observed R.remaining reader.new)
+        piece.new result }
+    ensures reads { reads_of reader.new ≡ reads_of reader.old + 1 }
+{
+    match reader.read(piece) {
+        Ok(count) => Ok(count),
+        Err(_) => Err(ToolError::ReadFault),
+    }
+}

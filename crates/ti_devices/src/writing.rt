@@ -1,0 +1,27 @@
+//! Bytes written to a counted device, to their end.
+ghost use Rattle.ti_devices.specs.Counted.{observed};
+ghost use Rattle.ti_devices.specs.Writing.{Wrote};
+
+use crate::counted::Counted;
+use crate::tool_error::ToolError;
+use std::io::Write;
+
+/// Writes bytes to the end.
+///
+/// # Errors
+/// `WriteFault` where the device fails; it then took a front part of the bytes.
+pub fn write_out<W: Write>(writer: &mut Counted<W>, bytes: &[u8]) -> Result<(), ToolError>
+    ensures { Wrote (observed W.contents writer.old) (observed W.contents writer.new) bytes.now result }
+{
+    let mut rest = bytes;
+    while !rest.is_empty() {
+        let Ok(count) = writer.write(rest) else {
+            return Err(ToolError::WriteFault);
+        };
+        if count == 0 {
+            return Err(ToolError::WriteFault);
+        }
+        rest = &rest[count..];
+    }
+    Ok(())
+}
