@@ -6,6 +6,7 @@
 //!   count, which contracts alone see
 //! - `reading` and `writing`: bytes read as they come, and bytes written to their end
 //! - `buffer`: bytes with a limit, for which the room was made at the start
+//! - `lines`: lines that come piece by piece
 //! - `line_laws`: bytes are cut into lines in one way alone
 //! - `tree`: what a tree of files is; `memory_tree` is one in memory, and `placing` writes files into a tree
 #![tactic(auto)]
@@ -13,6 +14,7 @@
 pub mod buffer;
 pub mod counted;
 pub mod line_laws;
+pub mod lines;
 pub mod memory_tree;
 pub mod placing;
 pub mod reading;
@@ -24,6 +26,7 @@ pub mod writing;
 pub use buffer::Buffer;
 pub use counted::Counted;
 pub use line_laws::one_split;
+pub use lines::{extend_line, split_line};
 pub use memory_tree::MemTree;
 pub use placing::{File, place};
 pub use reading::read_piece;

@@ -8,7 +8,7 @@ use Rattle.ti_tput.specs.Results.{Reply, tput_result}
 use Rattle.ti_tput.specs.Runs.{Course, Step, bad_step, line_step, words_of}
 use Rattle.ti_tput.specs.Streaming.{Holds}
 use Rattle.ti_tput.specs.declared.replies.TputOutcome.{TputOutcome}
-use Rattle.ti_tput.specs.declared.streaming.Terminal.{Terminal}
+use Rattle.ti_tput.specs.declared.terminal.Terminal.{Terminal}
 use Rattle.ti_tput.proofs.Replying.{step-bad, step-good, step-usage}
 
 pub of_rate : (entry : Entry) (rate : ℕ) (t : Terminal) (course : Course) → Holds entry rate t course → t.line ≡ line_of (entry_of t.view) rate

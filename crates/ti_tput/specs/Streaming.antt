@@ -7,7 +7,7 @@ use Rattle.ti_devices.specs.declared.tool_error.ToolError.{ToolError}
 use Rattle.ti_devices.specs.declared.tool_error.ToolError.TheVariants.{WriteFault, LineTooLong, Memory}
 use Rattle.ti_tput.specs.Entries.{Entry, entry_of, line_of}
 use Rattle.ti_tput.specs.Runs.{Course, HasLines, Step, line_max, line_step, start, steps, tput_run}
-use Rattle.ti_tput.specs.declared.streaming.Terminal.{Terminal}
+use Rattle.ti_tput.specs.declared.terminal.Terminal.{Terminal}
 
 -- the terminal is that of the entry at the rate, and has what stands between two lines; it counts no more than 255 bad lines
 pub record Holds (entry : Entry) (rate : ℕ) (terminal : Terminal) (course : Course) : Type 0 where

@@ -6,6 +6,7 @@ mod entries;
 mod parameters;
 mod replies;
 mod streaming;
+mod terminal;
 mod words;
 
 pub use commands::tput;

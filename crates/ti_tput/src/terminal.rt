@@ -1,4 +1,4 @@
-//! `tput -S`: commands read line by line, and what they write as it comes.
+//! A terminal that takes commands line by line, and writes what they write.
 ghost use Rattle.std.specs.Prelude.{◌≡◌, ℕ, IfOk, IsErrOf, OnErr};
 ghost use Rattle.ti_devices.specs.Counted.{Observed, observed};
 ghost use Rattle.ti_tput.specs.Entries.{Entry, entry_of};

@@ -2,10 +2,10 @@ use Rattle.std.proofs.Common.{◌≡◌, ◌<◌, ◌∙◌, Some, List, ℕ, le
 use Rattle.std.proofs.lemmas.List.{length-map}
 use Rattle.ti_tput.specs.Runs.{line_step, words_of}
 use Rattle.ti_tput.specs.Streaming.{Holds}
-use Rattle.ti_tput.specs.declared.streaming.Terminal.{Terminal}
+use Rattle.ti_tput.specs.declared.terminal.Terminal.{Terminal}
 use Rattle.ti_tput.proofs.Terminals.{Holds-bad, Holds-good, Holds-usage, of_rate}
-use Rattle.ti_tput.proofs.streaming.Terminal.bytes_of.Goals as goal
-use Rattle.ti_tput.proofs.streaming.Terminal.bytes_of.Goals.{then-outcome-eq-BAD_COMMAND, else-outcome-eq-BAD_COMMAND}
+use Rattle.ti_tput.proofs.terminal.Terminal.bytes_of.Goals as goal
+use Rattle.ti_tput.proofs.terminal.Terminal.bytes_of.Goals.{then-outcome-eq-BAD_COMMAND, else-outcome-eq-BAD_COMMAND}
 
 pub returns-in-Err-Usage : goal.returns-in-Err-Usage
 returns-in-Err-Usage c = λ entry rate course holds.
