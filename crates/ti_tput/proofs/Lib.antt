@@ -5,3 +5,4 @@ pub mod Named
 pub mod Parting
 pub mod Replying
 pub mod Terminals
+pub mod Feeding

@@ -1,7 +1,7 @@
 -- What the parts of a run over lines keep and give (own).
 use Rattle.std.specs.Prelude.{◌≡◌, ℕ, ◌<◌, List, [], ◌++◌, length, min, Result, Ok, Err}
 use Rattle.ti_devices.specs.Counted.{Observed}
-use Rattle.ti_devices.specs.Lines.{IsWithin}
+use Rattle.ti_devices.specs.Lines.{IsWithin, with_last}
 use Rattle.ti_devices.specs.Writing.{TakesAll, TakesFront}
 use Rattle.ti_devices.specs.declared.tool_error.ToolError.{ToolError}
 use Rattle.ti_devices.specs.declared.tool_error.ToolError.TheVariants.{WriteFault, LineTooLong, Memory}
@@ -52,3 +52,15 @@ pub record Stops (entry : Entry) (rate : ℕ) (taken piece : List ℕ) (before n
 abbrev pub Fed : Entry → ℕ → List ℕ → List ℕ → List ℕ → Terminal → Observed → Observed → Result Unit ToolError → Type 0
 Fed entry rate taken piece line terminal before now (Ok _) = Progress entry rate (taken ++ piece) line terminal before now
 Fed entry rate taken piece line terminal before now (Err error) = Stops entry rate taken piece before now error
+
+-- the input has ended, and its last line is answered too
+abbrev pub Finished : Entry → ℕ → List ℕ → Observed → Observed → Result ℕ ToolError → Type 0
+Finished entry rate taken before now (Ok status) =
+    (lines : List (List ℕ)) × (line : List ℕ) × HasLines taken lines line × IsWithin line_max line
+    × TakesAll before now (tput_run entry rate (with_last lines line)).bytes × (status ≡ (tput_run entry rate (with_last lines line)).status)
+Finished entry rate taken before now (Err WriteFault) =
+    (lines : List (List ℕ)) × (line : List ℕ) × HasLines taken lines line × TakesFront before now (tput_run entry rate (with_last lines line)).bytes
+Finished entry rate taken before now (Err Memory) =
+    (lines : List (List ℕ)) × (line : List ℕ) × HasLines taken lines line × IsWithin line_max line
+    × TakesAll before now (tput_run entry rate lines).bytes
+Finished entry rate taken before now (Err _) = ⊥

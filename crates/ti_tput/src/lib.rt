@@ -11,3 +11,4 @@ mod words;
 
 pub use commands::tput;
 pub use replies::TputOutcome;
+pub use streaming::tput_lines;

@@ -15,6 +15,7 @@ use ti_devices::{Counted, ToolError, write_out};
 use ti_param::{Line, Statics};
 
 /// A terminal that takes commands: its entry and line, the static variables, and how many commands were bad, up to 255.
+#[derive(Drop)]
 pub struct Terminal<'a> {
     alloc: Global,
     view: View<'a>,
