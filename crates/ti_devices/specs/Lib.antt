@@ -3,6 +3,7 @@ pub mod Buffer
 pub mod Counted
 pub mod Lines
 pub mod MemoryTree
+pub mod Paths
 pub mod Placing
 pub mod Reading
 pub mod Tree

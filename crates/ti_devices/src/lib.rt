@@ -8,6 +8,7 @@
 //! - `buffer`: bytes with a limit, for which the room was made at the start
 //! - `lines`: lines that come piece by piece
 //! - `line_laws`: bytes are cut into lines in one way alone
+//! - `paths`: where the entries of terminals stand below a folder
 //! - `tree`: what a tree of files is; `memory_tree` is one in memory, and `placing` writes files into a tree
 #![tactic(auto)]
 
@@ -16,6 +17,7 @@ pub mod counted;
 pub mod line_laws;
 pub mod lines;
 pub mod memory_tree;
+pub mod paths;
 pub mod placing;
 pub mod reading;
 pub mod tally;
@@ -28,6 +30,7 @@ pub use counted::Counted;
 pub use line_laws::one_split;
 pub use lines::{extend_line, split_line};
 pub use memory_tree::MemTree;
+pub use paths::entry_path;
 pub use placing::{File, place};
 pub use reading::read_piece;
 pub use tally::Tally;
