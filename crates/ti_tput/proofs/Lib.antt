@@ -6,3 +6,4 @@ pub mod Parting
 pub mod Replying
 pub mod Terminals
 pub mod Feeding
+pub mod Searches

@@ -5,3 +5,4 @@ pub mod Replies
 pub mod Commands
 pub mod Runs
 pub mod Streaming
+pub mod Searching

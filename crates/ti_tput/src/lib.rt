@@ -5,10 +5,12 @@ mod commands;
 mod entries;
 mod parameters;
 mod replies;
+mod searching;
 mod streaming;
 mod terminal;
 mod words;
 
 pub use commands::tput;
 pub use replies::TputOutcome;
+pub use searching::{entry, locate, places};
 pub use streaming::tput_lines;
