@@ -14,3 +14,6 @@ pub use commands::tput;
 pub use replies::TputOutcome;
 pub use searching::{entry, locate, places};
 pub use streaming::tput_lines;
+
+#[cfg(test)]
+mod tests;
