@@ -1,5 +1,5 @@
 pub mod CutLines
 pub mod Empty
-pub mod LineParts
+pub mod LineSteps
 pub mod Placed
 pub mod Written

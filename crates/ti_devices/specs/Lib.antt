@@ -1,6 +1,7 @@
 -- The definitions that the contracts of this crate cite.
 pub mod Buffer
 pub mod Counted
+pub mod LineReader
 pub mod Lines
 pub mod MemoryTree
 pub mod Paths

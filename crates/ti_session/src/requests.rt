@@ -1,7 +1,7 @@
 //! What a line of a session asks for, outside a block.
 ghost use Rattle.std.specs.Prelude.{◌≡◌, Some};
 ghost use Rattle.ti_session.specs.Requests.{meaning_of};
-ghost use Rattle.ti_session.specs.Session.{alone, number, numbered};
+ghost use Rattle.ti_session.specs.Script.{meaning_outside, number, meaning_numbered};
 
 /// A block that lines are to follow for, and the position that it is for.
 #[derive(Clone, Copy)]
@@ -59,8 +59,8 @@ fn number(text: &[u8]) -> Option<usize>
 }
 
 // What a letter with a number asks for.
-fn numbered(letter: u8, at: usize) -> Request
-    ensures { meaning_of result ≡ numbered letter (Some at) }
+fn request_with_number(letter: u8, at: usize) -> Request
+    ensures { meaning_of result ≡ meaning_numbered letter (Some at) }
 {
     match letter {
         b'i' => Request::Open(Opened::Insert { at }),
@@ -73,7 +73,7 @@ fn numbered(letter: u8, at: usize) -> Request
 
 /// What a line asks for that stands outside a block.
 pub fn read_request(line: &[u8]) -> Request
-    ensures { meaning_of result ≡ alone line.now }
+    ensures { meaning_of result ≡ meaning_outside line.now }
 {
     let Some((letter, rest)) = line.split_first() else {
         return Request::Nothing;
@@ -89,7 +89,7 @@ pub fn read_request(line: &[u8]) -> Request
         return Request::Unknown;
     }
     match number(digits) {
-        Some(at) => numbered(*letter, at),
+        Some(at) => request_with_number(*letter, at),
         None => Request::Unknown,
     }
 }

@@ -5,5 +5,5 @@ pub mod Named
 pub mod Parting
 pub mod Replying
 pub mod Terminals
-pub mod Feeding
+pub mod Ending
 pub mod Searches

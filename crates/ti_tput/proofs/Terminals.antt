@@ -6,7 +6,7 @@ use Rattle.ti_tput.specs.Entries.{Entry, entry_of, line_of}
 use Rattle.ti_tput.specs.Replies.{reply_of}
 use Rattle.ti_tput.specs.Results.{Reply, tput_result}
 use Rattle.ti_tput.specs.Runs.{Course, Step, bad_step, line_step, words_of}
-use Rattle.ti_tput.specs.Streaming.{Holds}
+use Rattle.ti_tput.specs.Terminal.{Holds}
 use Rattle.ti_tput.specs.declared.replies.TputOutcome.{TputOutcome}
 use Rattle.ti_tput.specs.declared.terminal.Terminal.{Terminal}
 use Rattle.ti_tput.proofs.Replying.{step-bad, step-good, step-usage}

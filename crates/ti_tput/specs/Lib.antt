@@ -4,5 +4,6 @@ pub mod Results
 pub mod Replies
 pub mod Commands
 pub mod Runs
+pub mod Terminal
 pub mod Streaming
 pub mod Searching

@@ -1,13 +1,6 @@
 -- What `tput -S` answers to the lines of its input (tput(1); the count of bad lines and the status are own).
-use Rattle.std.specs.Prelude.{◌≡◌, ℕ, zero, suc, ◌+◌, ◌<◌, ◌≤◌, ◌||◌, ◌==◌, nat_lt, min, Bool, if◌then◌else◌, List, [], ◌∷◌, ◌++◌, length, filter, replicate, Option, Some, None, Result, Ok, Err, ◌⊎◌, ℤ, pos}
-use Rattle.std.specs.List.{slice_split, AllByRecursion}
-use Rattle.std.specs.Io.KnownBytes.{Consumes, IsAtEnd}
-use Rattle.ti_devices.specs.Counted.{Observed}
-use Rattle.ti_devices.specs.Lines.{IsWithin, Splits, with_last}
-use Rattle.ti_devices.specs.Reading.{Gives}
-use Rattle.ti_devices.specs.Writing.{TakesAll, TakesFront}
-use Rattle.ti_devices.specs.declared.tool_error.ToolError.{ToolError}
-use Rattle.ti_devices.specs.declared.tool_error.ToolError.TheVariants.{ReadFault, WriteFault, LineTooLong, Memory}
+use Rattle.std.specs.Prelude.{ℕ, zero, suc, ◌+◌, ◌||◌, ◌==◌, nat_lt, min, Bool, if◌then◌else◌, List, [], ◌∷◌, ◌++◌, length, filter, replicate, Option, Some, None, ℤ, pos}
+use Rattle.std.specs.List.{slice_split}
 use Rattle.ti_tput.specs.Entries.{Entry}
 use Rattle.ti_tput.specs.Results.{Reply, tput_result}
 
@@ -83,47 +76,3 @@ pub record Run : Type 0 where
 abbrev pub tput_run : Entry → ℕ → List (List ℕ) → Run
 tput_run entry rate lines =
     let all = steps entry rate start lines in record { bytes = all.bytes; status = run_status all.after.bad }
-
--- ---- the devices
-
--- the greatest length of a line, without its newline
-abbrev pub line_max : ℕ
-line_max = 4096
-
--- the greatest number of reads
-abbrev pub reads_max : ℕ
-reads_max = 4294967296
-
--- of the bytes these lines are complete, each within the limit, and of a further line this front has come
-pub record HasLines (taken : List ℕ) (lines : List (List ℕ)) (line : List ℕ) : Type 0 where
-  pub split : Splits taken lines line
-  pub short : AllByRecursion (IsWithin line_max) lines
-
--- the lines of which a run has begun to write: those that are complete, and at the end of the input all
-abbrev pub AreBegun : List ℕ → List ℕ → Observed → List (List ℕ) → Type 0
-AreBegun taken rest left begun =
-    ((line : List ℕ) × HasLines taken begun line)
-    ⊎ ((lines : List (List ℕ)) × (line : List ℕ) × HasLines taken lines line × (rest ≡ []) × IsAtEnd left.bytes × (begun ≡ with_last lines line))
-
--- How a run ends. The reader gave `taken`, and where the run stopped before the end perhaps some bytes more. What was
--- written is what the complete lines write, at a fault of the writer a front part of that. A reader is at fault only
--- where it failed, or was read from as often as it may be.
-abbrev pub Ends : Entry → ℕ → Observed → Observed → Observed → Observed → Result ℕ ToolError → Type 0
-Ends entry rate given left before now (Ok status) =
-    (input : List ℕ) × (lines : List (List ℕ)) × (line : List ℕ) × Gives given left input × IsAtEnd left.bytes
-    × HasLines input lines line × IsWithin line_max line
-    × TakesAll before now (tput_run entry rate (with_last lines line)).bytes × (status ≡ (tput_run entry rate (with_last lines line)).status)
-Ends entry rate given left before now (Err ReadFault) =
-    (taken : List ℕ) × (lines : List (List ℕ)) × (line : List ℕ) × Consumes given.bytes left.bytes taken
-    × HasLines taken lines line × IsWithin line_max line × TakesAll before now (tput_run entry rate lines).bytes
-    × ((left.failures ≡ given.failures + 1) ⊎ ((left.failures ≡ given.failures) × (left.reads ≡ given.reads + reads_max)))
-Ends entry rate given left before now (Err LineTooLong) =
-    (taken : List ℕ) × (rest : List ℕ) × (lines : List (List ℕ)) × (line : List ℕ) × Gives given left (taken ++ rest)
-    × HasLines taken lines line × (line_max < length line) × TakesAll before now (tput_run entry rate lines).bytes
-Ends entry rate given left before now (Err WriteFault) =
-    (taken : List ℕ) × (rest : List ℕ) × (begun : List (List ℕ)) × Gives given left (taken ++ rest)
-    × AreBegun taken rest left begun × TakesFront before now (tput_run entry rate begun).bytes
-Ends entry rate given left before now (Err Memory) =
-    (taken : List ℕ) × (rest : List ℕ) × (lines : List (List ℕ)) × (line : List ℕ) × Gives given left (taken ++ rest)
-    × HasLines taken lines line × IsWithin line_max line × TakesAll before now (tput_run entry rate lines).bytes
-Ends entry rate given left before now (Err _) = ⊥

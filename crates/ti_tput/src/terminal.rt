@@ -25,7 +25,7 @@ pub struct Terminal<'a> {
 }
 
 impl<'a> Terminal<'a> {
-    ghost use Rattle.ti_tput.specs.Streaming.{Holds, Took};
+    ghost use Rattle.ti_tput.specs.Terminal.{Holds, Took};
 
     /// The terminal of an entry at a rate, before any command.
     pub fn new(alloc: Global, view: &View<'a>, rate: u32) -> Terminal<'a>

@@ -1,7 +1,7 @@
 use Rattle.std.proofs.Common.{◌≡◌, ◌<◌, ◌∙◌, Some, List, ℕ, length, map, take, refl, rules, sym, subst, arith, Bor}
 use Rattle.std.proofs.lemmas.List.{length-map}
 use Rattle.ti_tput.specs.Runs.{line_step, words_of}
-use Rattle.ti_tput.specs.Streaming.{Holds}
+use Rattle.ti_tput.specs.Terminal.{Holds}
 use Rattle.ti_tput.specs.declared.terminal.Terminal.{Terminal}
 use Rattle.ti_tput.proofs.Terminals.{Holds-bad, Holds-good, Holds-usage, of_rate}
 use Rattle.ti_tput.proofs.terminal.Terminal.bytes_of.Goals as goal
