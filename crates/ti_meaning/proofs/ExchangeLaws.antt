@@ -13,18 +13,13 @@ use Rattle.ti_meaning.specs.Owner.{is_among, owner, owned, readings}
 use Rattle.ti_meaning.specs.Edits.{Change, insertion, replacement, removal, relocation, IsInPlace, after}
 use Rattle.ti_meaning.specs.Exchange.{PlacedBlock, Exchange, IsExchange, with_block, HasPlace, new_list, block_from, exchange_of, LeadsOn, EditsAreExchanges}
 use Rattle.ti_meaning.specs.Dependents.{names_of, touched_names, IsPutAt, DependentsAreDetermined, UsersOfDependentsDepend}
-use Rattle.ti_meaning.proofs.EditedLists.{map-insert, map-remove}
+use Rattle.ti_meaning.proofs.EditedLists.{map-insert, map-remove, insert-remove}
 use Rattle.ti_meaning.proofs.Owning.{owner_to_owned}
 use Rattle.ti_meaning.proofs.LawProofs.{first_owners}
 use Rattle.ti_meaning.proofs.Placing.{get-with_put}
 use Rattle.ti_meaning.proofs.Exchanging.{list_any-append}
 
 -- ---- what is taken out and put in
-
-insert-remove : {X : Type 0} (xs : List X) (at : ℕ) (x : X) → slice_get xs at ≡ Some x → insert (remove xs at) at x ≡ xs
-insert-remove [] at x e = absurd (none-some x e)
-insert-remove (y ∷ ys) zero x e = ap (λ z. z ∷ ys) (sym (same_Some y x e))
-insert-remove (y ∷ ys) (suc at) x e = ap (λ zs. y ∷ zs) (insert-remove ys at x e)
 
 insert-set : {X : Type 0} (xs : List X) (at : ℕ) (x : X) → at < length xs → insert (remove xs at) at x ≡ set xs at x
 insert-set [] at x l = absurd (omega arith)

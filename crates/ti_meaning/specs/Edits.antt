@@ -23,6 +23,7 @@ abbrev pub change_of : Edit → Change
 change_of (edit.Insert at text) = insertion at text.now
 change_of (edit.Replace at text) = replacement at text.now
 change_of (edit.Remove at) = removal at
+change_of (edit.Relocate from to) = relocation from to
 
 -- the position is one of the list, for an insertion also its end
 abbrev pub IsInPlace : List (List ℕ) → Change → Type 0
@@ -67,12 +68,16 @@ IsRefusal texts change NotOneBlock = IsInPlace texts change × IsShort change ×
 IsRefusal texts change TooMany = IsInPlace texts change × IsShort change × IsBlock change × (¬ (HasRoom texts change))
 IsRefusal texts change Memory = IsSoundEdit texts change
 
+-- the list with the item at the one position taken out and put in, so that it then stands at the other
+abbrev pub relocated : {X : Type 0} → List X → ℕ → ℕ → List X
+relocated xs from to = option_map_or (λ x. insert (remove xs from) to x) (slice_get xs from) xs
+
 -- the list with the block put in, exchanged, taken out or moved
 abbrev pub after : List (List ℕ) → Change → List (List ℕ)
 after texts (insertion at text) = insert texts at text
 after texts (replacement at text) = slice_set texts at text
 after texts (removal at) = remove texts at
-after texts (relocation from to) = option_map_or (λ text. insert (remove texts from) to text) (slice_get texts from) texts
+after texts (relocation from to) = relocated texts from to
 
 -- one edit leads from one list to the next: accepted where nothing is wrong with it, and else the list stays
 abbrev pub Step : List (List ℕ) → Change → Outcome → List (List ℕ) → Type 0

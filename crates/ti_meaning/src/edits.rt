@@ -27,12 +27,19 @@ pub enum Edit<'a> {
         /// A position.
         at: usize,
     },
+    /// Moves the block at `from`, so that it then stands at `to`.
+    Relocate {
+        /// A position.
+        from: usize,
+        /// A position.
+        to: usize,
+    },
 }
 
 /// Why an edit is refused: the first of these that holds.
 #[derive(Clone, Copy, PartialEq, Eq, Debug, Error)]
 pub enum EditError {
-    /// The position is not one of the list, nor for an insertion its end.
+    /// A position is not one of the list, nor for an insertion its end.
     #[error("no such position")]
     Position,
     /// The text has more than 1,048,576 bytes.

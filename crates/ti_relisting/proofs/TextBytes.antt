@@ -11,7 +11,7 @@ use Rattle.ti_spelling.specs.Spelling.{AreBytes}
 use Rattle.ti_spelling.specs.inside.Spelling.{UnescapedAgrees, ValuesAreSound}
 use Rattle.ti_relisting.proofs.Bytes.{uncommented, unbroken, bytes-folded}
 
-abbrev OfBytes : List ℕ → Type 0
+abbrev pub OfBytes : List ℕ → Type 0
 OfBytes s = AllByRecursion (λ b. b < 256) s
 
 -- the same of bytes that stand on lines
@@ -38,7 +38,7 @@ folded-bytes : (block : List ℕ) → AreBytes block → ArePlacedBytes (folded 
 folded-bytes block h =
     rw (bytes-folded block) (unbroken-bytes false (uncommented false 10 block) (uncommented-bytes false 10 block (recursion_from_All (λ b. b < 256) block h)))
 
-behind-bytes : (s t : List ℕ) → OfBytes (s ++ t) → OfBytes t
+pub behind-bytes : (s t : List ℕ) → OfBytes (s ++ t) → OfBytes t
 behind-bytes [] t h = h
 behind-bytes (x ∷ s) t h = behind-bytes s t h.1
 

@@ -40,7 +40,7 @@ pub record IsNumeral (text : List ℕ) (value : ℕ) : Type 0 where
 
 -- the greatest value that a number of a source may have
 abbrev pub greatest_number : ℕ
-greatest_number = 32767
+greatest_number = 2147483647
 
 -- what a reading of a text says: the value, within the limit; that there is one beyond it; or that there is none
 abbrev pub ReadsAs : List ℕ → Result ℕ NumberError → Type 0
