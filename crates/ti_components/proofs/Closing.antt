@@ -1,11 +1,10 @@
 -- The step of a path search that closes a component: the nodes from its start on leave the path.
-use Rattle.std.proofs.Common.{◌≡◌, ℕ, zero, suc, ◌+◌, ◌-◌, ◌<◌, ◌≤◌, ◌⊎◌, inl, inr, List, [], ◌∷◌, ◌++◌, length, take, drop, Option, Some, slice_get, refl, sym, ◌∙◌, ap, arith, length-append, length-drop, length-take}
+use Rattle.std.proofs.Common.{◌≡◌, ℕ, suc, ◌+◌, ◌-◌, ◌<◌, ◌≤◌, ◌⊎◌, inl, inr, List, ◌++◌, length, take, drop, Option, Some, slice_get, sym, ◌∙◌, arith, length-append, length-drop, length-take}
 use Rattle.std.proofs.lemmas.Bool.{cases_lt, cases_eq}
-use Rattle.std.proofs.lemmas.Option.{same_Some, none-some, slice_get_within}
+use Rattle.std.proofs.lemmas.Option.{slice_get_within}
 use Rattle.ti_components.specs.Graph.{Rows, HasEdge}
-use Rattle.ti_components.specs.Leading.{Leads}
 use Rattle.ti_components.specs.Components.{Has}
-use Rattle.ti_components.specs.Walk.{Rises, IsClosed, IsExplored, IsPath, AreGroups, IsOrder, IsWalk, IsMarked}
+use Rattle.ti_components.specs.Walk.{IsPath, AreGroups, IsOrder, IsWalk, IsMarked}
 use Rattle.ti_components.specs.declared.search.Progress.{Progress}
 use Rattle.ti_components.specs.declared.search.Progress.TheVariants.{Unseen, OnPath, Closed}
 use Rattle.ti_components.proofs.Lists.{get_front, get_back, get_cases, get-take, take_get, get-drop, drop_get, Rises_take, rising_last, but_last, take_last_lacks, item_at}
@@ -54,19 +53,19 @@ module _ (g : Rows) (p q : List Progress) (cursors path starts active order : Li
   was : (v c : ℕ) → slice_get q v ≡ Some (Closed c) → (slice_get p v ≡ Some (Closed c)) ⊎ ((j : ℕ) × (k ≤ j) × (slice_get path j ≡ Some v) × (c ≡ length order))
   was v c e =
       let x = item_at p v (omega (arith, slice_get_within q v (Closed c) e, m.as_many)) in from x.0 x.1 where
-    from : (x : Progress) → slice_get p v ≡ Some x → (slice_get p v ≡ Some (Closed c)) ⊎ ((j : ℕ) × (k ≤ j) × (slice_get path j ≡ Some v) × (c ≡ length order))
-    from Unseen f =
-        let same = kept v (λ j l a. unseen_on_path (slice_get p v) j f (h.walk.going.stands j v a)) in
-        absurd (unseen_closed (slice_get q v) c (same ∙ f) e)
-    from (OnPath j) f =
-        let here = h.walk.going.on v j f in
-        elim (cases_lt j k) [
-          | inl before ↦ absurd (on_path_closed (slice_get q v) j c (kept_before j v before here ∙ f) e)
-          | inr behind ↦ inr (j, behind, here, same_number (slice_get q v) c (length order) e (marked j v behind here))
-        ]
-    from (Closed d) f =
-        let same = same_number (slice_get q v) d c (kept_closed v d f) e in
-        inl (rw (← same) f)
+        from : (x : Progress) → slice_get p v ≡ Some x → (slice_get p v ≡ Some (Closed c)) ⊎ ((j : ℕ) × (k ≤ j) × (slice_get path j ≡ Some v) × (c ≡ length order))
+        from Unseen f =
+            let same = kept v (λ j l a. unseen_on_path (slice_get p v) j f (h.walk.going.stands j v a)) in
+            absurd (unseen_closed (slice_get q v) c (same ∙ f) e)
+        from (OnPath j) f =
+            let here = h.walk.going.on v j f in
+            elim (cases_lt j k) [
+              | inl before ↦ absurd (on_path_closed (slice_get q v) j c (kept_before j v before here ∙ f) e)
+              | inr behind ↦ inr (j, behind, here, same_number (slice_get q v) c (length order) e (marked j v behind here))
+            ]
+        from (Closed d) f =
+            let same = same_number (slice_get q v) d c (kept_closed v d f) e in
+            inl (rw (← same) f)
 
   path_closed : IsPath g q cursors (take k path) (take last starts) (take top active)
   path_closed =
@@ -75,51 +74,51 @@ module _ (g : Rows) (p q : List Progress) (cursors path starts active order : Li
         nodes = m.as_many ∙ w.nodes;
         cursor_each = w.cursor_each;
         on = λ v j e.
-          let same = kept v (λ i l f. on_path_closed (slice_get q v) j (length order) e (marked i v l f)) in
-          let here = w.on v j (sym same ∙ e) in
-          elim (cases_lt j k) [
-            | inl before ↦ get-take k path j v before here
-            | inr behind ↦ absurd (on_path_closed (slice_get q v) j (length order) e (marked j v behind here))
-          ];
+            let same = kept v (λ i l f. on_path_closed (slice_get q v) j (length order) e (marked i v l f)) in
+            let here = w.on v j (sym same ∙ e) in
+            elim (cases_lt j k) [
+              | inl before ↦ get-take k path j v before here
+              | inr behind ↦ absurd (on_path_closed (slice_get q v) j (length order) e (marked j v behind here))
+            ];
         stands = λ j v e. let f = take_get k path j v e in kept_before j v f.0 f.1 ∙ w.stands j v f.1;
         fresh = λ v e. w.fresh v (sym (kept v (λ i l f. unseen_closed (slice_get q v) (length order) e (marked i v l f))) ∙ e);
         first = λ l.
-          let some : 0 < k = omega (arith, length-take k path) in
-          elim (but_last starts last k 0 h.start_count h.start_last (w.first (omega (arith, within_path)))) [
-            | inl there ↦ there
-            | inr same ↦ absurd (omega arith)
-          ];
+            let some : 0 < k = omega (arith, length-take k path) in
+            elim (but_last starts last k 0 h.start_count h.start_last (w.first (omega (arith, within_path)))) [
+              | inl there ↦ there
+              | inr same ↦ absurd (omega arith)
+            ];
         starts_rise = Rises_take last starts w.starts_rise;
         active_rises = Rises_take top active w.active_rises;
         held = λ s f.
-          let l = take_last_lacks starts last k s w.starts_rise h.start_last f in
-          elim (but_last active top k s h.active_count h.active_last (w.held s l.0)) [
-            | inl there ↦ there
-            | inr same ↦ (let n = l.1 in absurd (omega arith))
-          ];
+            let l = take_last_lacks starts last k s w.starts_rise h.start_last f in
+            elim (but_last active top k s h.active_count h.active_last (w.held s l.0)) [
+              | inl there ↦ there
+              | inr same ↦ (let n = l.1 in absurd (omega arith))
+            ];
         within = λ j f. let l = take_last_lacks active top k j w.active_rises h.active_last f in omega (arith, l.1, length-take k path, within_path);
         spent = λ j v i row e lacks c r.
-          let f = take_get k path j v e in
-          w.spent j v i row f.1 (λ has. elim (but_last active top k j h.active_count h.active_last has) [
-            | inl there ↦ lacks there
-            | inr same ↦ (let n = f.0 in omega arith)
-          ]) c r;
+            let f = take_get k path j v e in
+            w.spent j v i row f.1 (λ has. elim (but_last active top k j h.active_count h.active_last has) [
+              | inl there ↦ lacks there
+              | inr same ↦ (let n = f.0 in omega arith)
+            ]) c r;
         forward = λ i j u v l a b. w.forward i j u v l (take_get k path i u a).1 (take_get k path j v b).1;
         back = λ i j u v l a b none.
-          let f = take_get k path j v b in
-          w.back i j u v l (take_get k path i u a).1 f.1 (λ s t n. elim (but_last starts last k s h.start_count h.start_last t) [
-            | inl there ↦ none s there n
-            | inr same ↦ (let o = f.0 in omega arith)
-          ]);
+            let f = take_get k path j v b in
+            w.back i j u v l (take_get k path i u a).1 f.1 (λ s t n. elim (but_last starts last k s h.start_count h.start_last t) [
+              | inl there ↦ none s there n
+              | inr same ↦ (let o = f.0 in omega arith)
+            ]);
         explored = λ j u i place v row a c l r e.
-          let f = take_get k path j u a in
-          elim (w.explored j u i place v row f.1 c l r e) [
-            | inl closed ↦ inl (closed.0, kept_closed v closed.0 closed.1)
-            | inr on ↦ elim (cases_lt on.0 k) [
-              | inl before ↦ inr (on.0, get-take k path on.0 v before on.1, λ s t. on.2 s (take_last_lacks starts last k s w.starts_rise h.start_last t).0)
-              | inr behind ↦ inl (length order, marked on.0 v behind on.1)
-            ]
-          ];
+            let f = take_get k path j u a in
+            elim (w.explored j u i place v row f.1 c l r e) [
+              | inl closed ↦ inl (closed.0, kept_closed v closed.0 closed.1)
+              | inr on ↦ elim (cases_lt on.0 k) [
+                | inl before ↦ inr (on.0, get-take k path on.0 v before on.1, λ s t. on.2 s (take_last_lacks starts last k s w.starts_rise h.start_last t).0)
+                | inr behind ↦ inl (length order, marked on.0 v behind on.1)
+              ]
+            ];
       }
 
   -- an edge from a node of the path from k on leads to what is closed now

@@ -1,18 +1,18 @@
 -- What a search of a whole graph has found.
-use Rattle.std.proofs.Common.{◌≡◌, ℕ, ◌+◌, ◌<◌, ◌≤◌, ◌⊎◌, inl, inr, List, [], ◌∷◌, ◌++◌, length, take, get_or, Option, Some, slice_get, refl, sym, ◌∙◌, ap, arith, length-append, length-take}
-use Rattle.std.proofs.lemmas.Bool.{cases_lt, cases_eq}
+use Rattle.std.proofs.Common.{◌≡◌, ℕ, ◌+◌, ◌<◌, ◌≤◌, inl, inr, List, [], ◌∷◌, ◌++◌, length, take, Some, slice_get, sym, ◌∙◌, ap, arith, length-append}
+use Rattle.std.proofs.lemmas.Bool.{cases_lt}
 use Rattle.std.proofs.lemmas.List.{take_more}
-use Rattle.std.proofs.lemmas.Option.{same_Some, none-some, slice_get_within, get_or_from_slice_get}
-use Rattle.ti_components.specs.Graph.{Rows, HasEdge}
-use Rattle.ti_components.specs.Leading.{IsWay, Leads}
+use Rattle.std.proofs.lemmas.Option.{same_Some, slice_get_within, get_or_from_slice_get}
+use Rattle.ti_components.specs.Graph.{Rows}
+use Rattle.ti_components.specs.Leading.{IsWay}
 use Rattle.ti_components.specs.Components.{AreComponents, IsClosingOrder}
-use Rattle.ti_components.specs.Walk.{AreGroups, AreNumbers, IsSearched, IsWalkOf}
+use Rattle.ti_components.specs.Walk.{AreGroups, AreNumbers, IsSearched}
 use Rattle.ti_components.specs.declared.search.Progress.{Progress}
 use Rattle.ti_components.specs.declared.search.Progress.TheVariants.{Unseen, OnPath, Closed}
 use Rattle.ti_components.specs.declared.search.Search.{Search}
-use Rattle.ti_components.proofs.Lists.{get_front, get_last, get_back, push_cases, get-take, take_get, item_at}
+use Rattle.ti_components.proofs.Lists.{get_front, get_last, push_cases, item_at}
 use Rattle.ti_components.proofs.Walking.{same_number}
-use Rattle.ti_components.proofs.Searching.{no_path, path_known}
+use Rattle.ti_components.proofs.Searching.{no_path}
 
 -- ---- numbers
 
@@ -63,19 +63,20 @@ module _ (g : Rows) (s : Search) (numbers : List ℕ) (h : IsSearched g s) (m : 
       let groups = h.idle.walk.shut in
       record {
         as_many = m.number_each ∙ h.idle.walk.going.nodes;
-        same = λ u w c d e f.
-          ((λ one.
-            let here = closed_of u c e in
-            let there : slice_get s.progress.items w ≡ Some (Closed c) = rw one (closed_of w d f) in
-            (groups.same u w c here there, groups.same w u c there here)),
+        same = λ u w c d e f. (
+          (λ one.
+              let here = closed_of u c e in
+              let there : slice_get s.progress.items w ≡ Some (Closed c) = rw one (closed_of w d f) in
+              (groups.same u w c here there, groups.same w u c there here)),
           λ lead.
-            let a = falls_along g s.progress.items (length s.order.items) groups lead.0.0 u w c d lead.0.1 (closed_of u c e) (closed_of w d f) in
-            let b = falls_along g s.progress.items (length s.order.items) groups lead.1.0 w u d c lead.1.1 (closed_of w d f) (closed_of u c e) in
-            omega arith);
+              let a = falls_along g s.progress.items (length s.order.items) groups lead.0.0 u w c d lead.0.1 (closed_of u c e) (closed_of w d f) in
+              let b = falls_along g s.progress.items (length s.order.items) groups lead.1.0 w u d c lead.1.1 (closed_of w d f) (closed_of u c e) in
+              omega arith,
+        );
         falls = λ u w c d e f edge.
-          let t = groups.edges u w c (closed_of u c e) edge in
-          let same = same_number (slice_get s.progress.items w) t.0 d t.1 (closed_of w d f) in
-          let l = t.2 in omega arith;
+            let t = groups.edges u w c (closed_of u c e) edge in
+            let same = same_number (slice_get s.progress.items w) t.0 d t.1 (closed_of w d f) in
+            let l = t.2 in omega arith;
       }
 
   pub order_found : IsClosingOrder g numbers s.order.items
@@ -86,17 +87,17 @@ module _ (g : Rows) (s : Search) (numbers : List ℕ) (h : IsSearched g s) (m : 
         nodes = λ i u e. let t = order.closed i u e in rw (← h.idle.walk.going.nodes) (slice_get_within s.progress.items u (Closed t.0) t.1);
         once = order.once;
         before = λ i j u w c d e f a b edge.
-          let t = h.idle.walk.shut.edges u w c (closed_of u c a) edge in
-          let same = same_number (slice_get s.progress.items w) t.0 d t.1 (closed_of w d b) in
-          let o = order.closed i u e in
-          let one = same_number (slice_get s.progress.items u) o.0 c o.1 (closed_of u c a) in
-          elim (cases_lt d c) [
-            | inl less ↦ inr (let early = order.early j w d u c f (closed_of w d b) (closed_of u c a) less in let late = o.2 in omega arith)
-            | inr no_less ↦ inl (let l = t.2 in omega arith)
-          ];
+            let t = h.idle.walk.shut.edges u w c (closed_of u c a) edge in
+            let same = same_number (slice_get s.progress.items w) t.0 d t.1 (closed_of w d b) in
+            let o = order.closed i u e in
+            let one = same_number (slice_get s.progress.items u) o.0 c o.1 (closed_of u c a) in
+            elim (cases_lt d c) [
+              | inl less ↦ inr (let early = order.early j w d u c f (closed_of w d b) (closed_of u c a) less in let late = o.2 in omega arith)
+              | inr no_less ↦ inl (let l = t.2 in omega arith)
+            ];
         starts = λ i u c e a.
-          let o = order.closed i u e in
-          let one = same_number (slice_get s.progress.items u) o.0 c o.1 (closed_of u c a) in
-          let late = o.2 in omega arith;
+            let o = order.closed i u e in
+            let one = same_number (slice_get s.progress.items u) o.0 c o.1 (closed_of u c a) in
+            let late = o.2 in omega arith;
         first = λ u c a. let t = order.first u c (closed_of u c a) in (t.0, t.1, m.number t.0 c t.2);
       }

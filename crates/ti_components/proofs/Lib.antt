@@ -5,3 +5,4 @@ pub mod Walking
 pub mod Closing
 pub mod Searching
 pub mod Ending
+pub mod LawProofs

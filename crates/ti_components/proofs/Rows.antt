@@ -1,5 +1,5 @@
 -- The rows of a graph that is kept as one list of edges and the places where the rows start.
-use Rattle.std.proofs.Common.{◌≡◌, ℕ, zero, suc, ◌+◌, ◌-◌, ◌<◌, ◌≤◌, ◌⊎◌, inl, inr, List, [], ◌∷◌, ◌++◌, length, take, drop, Option, Some, slice_get, refl, sym, ◌∙◌, ap, arith, length-drop, length-append}
+use Rattle.std.proofs.Common.{◌≡◌, ℕ, zero, suc, ◌-◌, ◌≤◌, ◌⊎◌, inl, inr, List, [], ◌∷◌, ◌++◌, length, take, drop, Option, Some, slice_get, refl, sym, ap, arith, length-drop, length-append}
 use Rattle.std.proofs.lemmas.List.{drop_all, take_rest, drop-append-le, take-append-le}
 use Rattle.std.proofs.lemmas.Option.{none-some, same_Some}
 use Rattle.ti_components.specs.Graph.{Rows, AddsEdge, row_from, rows_of, AreStarts, IsRow}

@@ -1,18 +1,18 @@
 -- The steps of a path search, over the search's own lists.
-use Rattle.std.proofs.Common.{◌≡◌, ℕ, zero, suc, ◌+◌, ◌-◌, ◌*◌, ◌<◌, ◌≤◌, ◌⊎◌, inl, inr, List, [], ◌∷◌, ◌++◌, length, set, take, drop, replicate, get_or, Option, Some, None, slice_get, refl, sym, ◌∙◌, ap, arith, length-set, length-append, length-take}
+use Rattle.std.proofs.Common.{◌≡◌, ℕ, zero, suc, ◌+◌, ◌-◌, ◌<◌, ◌≤◌, inl, inr, List, [], ◌∷◌, length, set, take, drop, replicate, get_or, Option, Some, None, slice_get, refl, sym, ◌∙◌, ap, arith, length-set, length-append, length-take}
 use Rattle.std.proofs.lemmas.Bool.{cases_lt, cases_eq}
 use Rattle.std.proofs.lemmas.List.{take_more}
 use Rattle.std.proofs.lemmas.Option.{same_Some, none-some, slice_get_within, slice_get-get_or, slice_get_read}
-use Rattle.ti_components.specs.Graph.{Rows, HasEdge}
+use Rattle.ti_components.specs.Graph.{Rows}
 use Rattle.ti_components.specs.Leading.{Leads}
 use Rattle.ti_components.specs.Components.{Has}
-use Rattle.ti_components.specs.Walk.{AreNodes, Closes, Enters, Follows, IsCut, IsFollowed, IsFresh, IsIdle, IsMarked, IsSearched, IsSpent, IsTop, IsWalk, IsWalkOf, IsPath, AreGroups, IsOrder, KeepsMet, Leaves, Rises, Steps, Walks, edges_left, steps_left}
+use Rattle.ti_components.specs.Walk.{AreNodes, Closes, Enters, Follows, IsCut, IsFresh, IsIdle, IsMarked, IsSearched, IsTop, IsWalkOf, KeepsMet, Leaves, Rises, Steps, Walks, edges_left}
 use Rattle.ti_components.specs.declared.search.Progress.{Progress}
 use Rattle.ti_components.specs.declared.search.Progress.TheVariants.{Unseen, OnPath, Closed}
 use Rattle.ti_components.specs.declared.search.Search.{Search}
 use Rattle.ti_components.proofs.Lists.{get_front, get_last, get-take, take_get, get-set_same, get-set_other, Has_push, Has_front, Has_last, Rises_take, rising_last, item_at}
 use Rattle.ti_components.proofs.Leading.{leads_on, leads_edge}
-use Rattle.ti_components.proofs.Walking.{unseen_on_path, unseen_closed, on_path_closed, walk_pushed, path_cut, path_advanced, path_left, no_start}
+use Rattle.ti_components.proofs.Walking.{unseen_on_path, unseen_closed, walk_pushed, path_cut, path_advanced, path_left, no_start}
 use Rattle.ti_components.proofs.Closing.{IsDone, walk_closed}
 
 -- ---- starts are taken off
@@ -38,15 +38,17 @@ pub cut_done : (xs : List ℕ) (place count : ℕ) → Rises xs → AreAbove xs 
 cut_done xs place count rises h stop = record {
   rises = Rises_take count xs rises;
   kept = λ s f.
-    let t = take_get count xs f.0 s f.1 in
-    let some : 0 < count = omega (arith, t.0) in
-    let here = slice_get-get_or xs (count - 1) 0 (omega (arith, h.within)) in
-    ((f.0, t.1), elim (cases_eq f.0 (count - 1)) [
-      | inl same ↦
-          let one : get_or xs (count - 1) 0 ≡ s = same_Some (get_or xs (count - 1) 0) s (sym here ∙ rw same at t.1) in
-          omega (arith, stop some)
-      | inr other ↦ (let m = rises f.0 (count - 1) s (get_or xs (count - 1) 0) (omega (arith, t.0)) t.1 here in omega (arith, stop some))
-    ]);
+      let t = take_get count xs f.0 s f.1 in
+      let some : 0 < count = omega (arith, t.0) in
+      let here = slice_get-get_or xs (count - 1) 0 (omega (arith, h.within)) in (
+        (f.0, t.1),
+        elim (cases_eq f.0 (count - 1)) [
+          | inl same ↦
+              let one : get_or xs (count - 1) 0 ≡ s = same_Some (get_or xs (count - 1) 0) s (sym here ∙ rw same at t.1) in
+              omega (arith, stop some)
+          | inr other ↦ (let m = rises f.0 (count - 1) s (get_or xs (count - 1) 0) (omega (arith, t.0)) t.1 here in omega (arith, stop some))
+        ],
+      );
   left = λ s f l. elim (cases_lt f.0 count) [
     | inl below ↦ (f.0, get-take count xs f.0 s below f.1)
     | inr behind ↦ (let m = h.above f.0 s behind f.1 in absurd (omega arith))
@@ -78,8 +80,8 @@ marks_more old p nodes i number h l known =
         ]
       ];
       kept = λ v none.
-        get-set_other p node v (Closed number) (λ same. none (rw same (Has_last (take i nodes) node)))
-        ∙ h.kept v (λ f. none (Has_front (take i nodes) (node ∷ []) v f));
+          get-set_other p node v (Closed number) (λ same. none (rw same (Has_last (take i nodes) node)))
+          ∙ h.kept v (λ f. none (Has_front (take i nodes) (node ∷ []) v f));
     })
 
 -- ---- the beginning
@@ -115,7 +117,7 @@ top_place active place rises top s f = rising_last active top.top place s rises 
 leads_top : (g : Rows) (s : Search) (place node : ℕ) → IsWalkOf g s → IsTop s.active.items place → slice_get s.path.items place ≡ Some node → (j u : ℕ) → slice_get s.path.items j ≡ Some u → Leads g u node
 leads_top g s place node h top here j u e = elim (cases_lt place j) [
   | inl up ↦ h.going.back place j node u (omega arith) here e (λ t f n.
-    (let below = top_place s.active.items place h.going.active_rises top t (h.going.held t f) in absurd (omega arith)))
+      (let below = top_place s.active.items place h.going.active_rises top t (h.going.held t f) in absurd (omega arith)))
   | inr down ↦ h.going.forward j place u node down e here
 ]
 
@@ -129,11 +131,15 @@ follow_entered old new target e h = record {
   few = rw h.active (omega (arith, length-append old.active.items (length old.path.items ∷ [])));
   followed = λ g place node walk top here edge. record {
     walk = rw (h.progress, h.cursors, h.path, h.starts, h.active, h.order)
-      (walk_pushed g old.progress.items old.cursors.items old.path.items old.starts.items old.active.items old.order.items target walk e
-      (λ j u f. leads_on g u node target (leads_top g old place node walk top here j u f) (leads_edge g node target (edge target refl))));
+        (walk_pushed g old.progress.items old.cursors.items old.path.items old.starts.items old.active.items old.order.items target walk e
+        (λ j u f. leads_on g u node target (leads_top g old place node walk top here j u f) (leads_edge g node target (edge target refl))));
     stays = rw h.path (get_front old.path.items (target ∷ []) place node here);
-    explored = λ t same. rw (← same_Some target t same, h.progress, h.path, h.starts) (inr (length old.path.items, get_last old.path.items target, λ s f l.
-      (let m = slice_get_within old.path.items place node here in omega arith)));
+    explored = λ t same. rw (← same_Some target t same, h.progress, h.path, h.starts) (inr (
+      length old.path.items,
+      get_last old.path.items target,
+      λ s f l.
+          (let m = slice_get_within old.path.items place node here in omega arith),
+    ));
   };
 }
 
@@ -159,17 +165,17 @@ follow_cut old new target m e cut p c path active order = record {
   met = λ v f. rw p at f;
   few = rw active (omega arith);
   followed = λ g place node walk top here edge.
-    let back = walk.going.on target m e in
-    let below : (s : ℕ) → Has old.starts.items s → s ≤ place = λ s f. top_place old.active.items place walk.going.active_rises top s (walk.going.held s f) in
-    record {
-      walk = rw (p, c, path, active, order) (record {
-        going = path_cut g old.progress.items old.cursors.items old.path.items old.starts.items new.starts.items old.active.items m place target node walk.going cut back here below (edge target refl);
-        shut = walk.shut;
-        listing = walk.listing;
-      });
-      stays = rw path here;
-      explored = λ t same. rw (← same_Some target t same, p, path) (inr (m, back, λ s f l. (cut.kept s f).1));
-    };
+      let back = walk.going.on target m e in
+      let below : (s : ℕ) → Has old.starts.items s → s ≤ place = λ s f. top_place old.active.items place walk.going.active_rises top s (walk.going.held s f) in
+      record {
+        walk = rw (p, c, path, active, order) (record {
+          going = path_cut g old.progress.items old.cursors.items old.path.items old.starts.items new.starts.items old.active.items m place target node walk.going cut back here below (edge target refl);
+          shut = walk.shut;
+          listing = walk.listing;
+        });
+        stays = rw path here;
+        explored = λ t same. rw (← same_Some target t same, p, path) (inr (m, back, λ s f l. (cut.kept s f).1));
+      };
 }
 
 -- ---- a node is left
@@ -180,14 +186,14 @@ leave_only old new top last place start n a m b other p c path starts active ord
   met = λ v f. rw p at f;
   fewer = rw active (omega (arith, length-take top old.active.items));
   left = λ g at_place walk is_top gone.
-    let same_top : is_top.top ≡ top = (let s = is_top.count in omega arith) in
-    let same : place ≡ at_place = same_Some place at_place (sym a ∙ rw same_top at is_top.stands) in
-    rw (p, c, path, starts, active, order) (record {
-      going = path_left g old.progress.items old.cursors.items old.path.items old.starts.items old.active.items top at_place walk.going n (rw same_top at is_top.stands)
-        (no_start old.starts.items old.active.items top last at_place start walk.going.starts_rise walk.going.active_rises walk.going.held n (rw same_top at is_top.stands) m b (λ s. other (s ∙ sym same))) gone;
-      shut = walk.shut;
-      listing = walk.listing;
-    });
+      let same_top : is_top.top ≡ top = (let s = is_top.count in omega arith) in
+      let same : place ≡ at_place = same_Some place at_place (sym a ∙ rw same_top at is_top.stands) in
+      rw (p, c, path, starts, active, order) (record {
+        going = path_left g old.progress.items old.cursors.items old.path.items old.starts.items old.active.items top at_place walk.going n (rw same_top at is_top.stands)
+            (no_start old.starts.items old.active.items top last at_place start walk.going.starts_rise walk.going.active_rises walk.going.held n (rw same_top at is_top.stands) m b (λ s. other (s ∙ sym same))) gone;
+        shut = walk.shut;
+        listing = walk.listing;
+      });
 }
 
 pub leave_closed : (old mid new : Search) (top last place : ℕ) → length old.active.items ≡ suc top → slice_get old.active.items top ≡ Some place → length old.starts.items ≡ suc last → slice_get old.starts.items last ≡ Some place → mid.progress.items ≡ old.progress.items → mid.cursors.items ≡ old.cursors.items → mid.path.items ≡ old.path.items → mid.starts.items ≡ take last old.starts.items → mid.active.items ≡ take top old.active.items → mid.order.items ≡ old.order.items → Closes mid new place → Leaves old new
@@ -198,18 +204,18 @@ leave_closed old mid new top last place n a m b p c path starts active order clo
       met = λ v f. sym (marked.kept v (λ has. unseen_closed (slice_get new.progress.items v) (length old.order.items) f (marked.closed v has))) ∙ f;
       fewer = rw (closes.active, active) (omega (arith, length-take top old.active.items));
       left = λ g at_place walk is_top gone.
-        let same_top : is_top.top ≡ top = (let s = is_top.count in omega arith) in
-        let same : at_place ≡ place = same_Some at_place place (sym (rw same_top at is_top.stands) ∙ a) in
-        let done : IsDone g old.progress.items old.cursors.items old.path.items old.starts.items old.active.items old.order.items top last place = record {
-          walk = walk;
-          active_count = n;
-          active_last = a;
-          start_count = m;
-          start_last = b;
-          gone = rw same at gone;
-        } in
-        rw (closes.cursors, c, closes.path, path, closes.starts, starts, closes.active, active, closes.order, order, path)
-        (walk_closed g old.progress.items new.progress.items old.cursors.items old.path.items old.starts.items old.active.items old.order.items top last place done marked);
+          let same_top : is_top.top ≡ top = (let s = is_top.count in omega arith) in
+          let same : at_place ≡ place = same_Some at_place place (sym (rw same_top at is_top.stands) ∙ a) in
+          let done : IsDone g old.progress.items old.cursors.items old.path.items old.starts.items old.active.items old.order.items top last place = record {
+            walk = walk;
+            active_count = n;
+            active_last = a;
+            start_count = m;
+            start_last = b;
+            gone = rw same at gone;
+          } in
+          rw (closes.cursors, c, closes.path, path, closes.starts, starts, closes.active, active, closes.order, order, path)
+          (walk_closed g old.progress.items new.progress.items old.cursors.items old.path.items old.starts.items old.active.items old.order.items top last place done marked);
     }
 
 -- ---- a step
@@ -231,32 +237,32 @@ step_followed g old mid new place node next row edge walk top here cursor stands
     record {
       walk = rw (p, c, path, starts, active, order) (record {
         going = path_advanced g mid.progress.items mid.cursors.items mid.path.items mid.starts.items mid.active.items place node next row f.walk.going f.stays cursor_mid stands
-          (λ w a. f.explored w (same_Some edge (Some w) (sym e ∙ a)));
+            (λ w a. f.explored w (same_Some edge (Some w) (sym e ∙ a)));
         shut = f.walk.shut;
         listing = f.walk.listing;
       });
       met = λ v a. h.met v (rw p at a);
       fewer =
-        let less = edges_left-advanced g mid.cursors.items node next row stands cursor_mid (slice_get_within row next edge e) in
-        let same : edges_left g mid.cursors.items ≡ edges_left g old.cursors.items = ap (edges_left g) h.cursors in
-        let now : edges_left g new.cursors.items ≡ edges_left g (set mid.cursors.items node (next + 1)) = ap (edges_left g) c in
-        let many : length new.active.items ≡ length mid.active.items = ap length active in
-        let few = h.few in
-        omega arith;
+          let less = edges_left-advanced g mid.cursors.items node next row stands cursor_mid (slice_get_within row next edge e) in
+          let same : edges_left g mid.cursors.items ≡ edges_left g old.cursors.items = ap (edges_left g) h.cursors in
+          let now : edges_left g new.cursors.items ≡ edges_left g (set mid.cursors.items node (next + 1)) = ap (edges_left g) c in
+          let many : length new.active.items ≡ length mid.active.items = ap length active in
+          let few = h.few in
+          omega arith;
     }
 
 pub step_left : (g : Rows) (old new : Search) (place node next : ℕ) (row : List (Option ℕ)) → IsWalkOf g old → IsTop old.active.items place → slice_get old.path.items place ≡ Some node → slice_get old.cursors.items node ≡ Some next → slice_get g node ≡ Some row → length row ≤ next → Leaves old new → Steps g old new
 step_left g old new place node next row walk top here cursor stands l h = record {
   walk = h.left g place walk top (λ v i r a c s.
-    let same : node ≡ v = same_Some node v (sym here ∙ a) in
-    let same_row : row ≡ r = same_Some row r (sym stands ∙ rw (← same) at s) in
-    let same_cursor : next ≡ i = same_Some next i (sym cursor ∙ rw (← same) at c) in
-    rw (← same_row, ← same_cursor) l);
+      let same : node ≡ v = same_Some node v (sym here ∙ a) in
+      let same_row : row ≡ r = same_Some row r (sym stands ∙ rw (← same) at s) in
+      let same_cursor : next ≡ i = same_Some next i (sym cursor ∙ rw (← same) at c) in
+      rw (← same_row, ← same_cursor) l);
   met = h.met;
   fewer =
-    let same : edges_left g new.cursors.items ≡ edges_left g old.cursors.items = ap (edges_left g) h.cursors in
-    let fewer = h.fewer in
-    omega arith;
+      let same : edges_left g new.cursors.items ≡ edges_left g old.cursors.items = ap (edges_left g) h.cursors in
+      let fewer = h.fewer in
+      omega arith;
 }
 
 -- ---- the walk from a root
@@ -279,8 +285,8 @@ walking_begun g old new root h e enters =
     let f = follow_entered old new root e enters in
     record {
       walk = rw (enters.progress, enters.cursors, enters.path, enters.starts, enters.active, enters.order)
-        (walk_pushed g old.progress.items old.cursors.items old.path.items old.starts.items old.active.items old.order.items root h.walk e
-        (λ j u a. absurd (no_path g old h.walk h.idle j u a)));
+          (walk_pushed g old.progress.items old.cursors.items old.path.items old.starts.items old.active.items old.order.items root h.walk e
+          (λ j u a. absurd (no_path g old h.walk h.idle j u a)));
       met = f.met;
       root_met = λ a. unseen_on_path (slice_get new.progress.items root) (length old.path.items) a (rw enters.progress (get-set_same old.progress.items root Unseen (OnPath (length old.path.items)) e));
     }
@@ -301,7 +307,7 @@ pub record HasMet (g : Rows) (s : Search) (count : ℕ) : Type 0 where
 pub met_none : (g : Rows) (s : Search) → IsFresh s (length g) → HasMet g s 0
 met_none g s h =
     let node : (v : ℕ) (x : Progress) → slice_get s.progress.items v ≡ Some x → x ≡ Unseen = λ v x e.
-      same_Some x Unseen (sym e ∙ h.unseen v (omega (arith, slice_get_within s.progress.items v x e, h.progress_each))) in
+    same_Some x Unseen (sym e ∙ h.unseen v (omega (arith, slice_get_within s.progress.items v x e, h.progress_each))) in
     record {
       idle = record {
         walk = rw (h.path, h.starts, h.active, h.order) (record {

@@ -1,14 +1,14 @@
 -- The steps of a path search, each over plain lists.
-use Rattle.std.proofs.Common.{◌≡◌, ℕ, zero, suc, ◌+◌, ◌-◌, ◌<◌, ◌≤◌, ◌⊎◌, inl, inr, List, [], ◌∷◌, ◌++◌, length, set, take, drop, Option, Some, slice_get, refl, sym, ◌∙◌, ap, arith, length-set, length-append}
+use Rattle.std.proofs.Common.{◌≡◌, ℕ, suc, ◌+◌, ◌<◌, ◌≤◌, inl, inr, List, [], ◌∷◌, ◌++◌, length, set, take, Option, Some, slice_get, sym, ◌∙◌, ap, arith, length-set, length-append}
 use Rattle.std.proofs.lemmas.Bool.{cases_lt, cases_eq}
-use Rattle.std.proofs.lemmas.Option.{same_Some, none-some, slice_get_within}
+use Rattle.std.proofs.lemmas.Option.{same_Some, slice_get_within}
 use Rattle.ti_components.specs.Graph.{Rows, HasEdge}
 use Rattle.ti_components.specs.Leading.{Leads}
 use Rattle.ti_components.specs.Components.{Has}
-use Rattle.ti_components.specs.Walk.{Rises, IsClosed, IsExplored, IsPath, AreGroups, IsOrder, IsWalk, IsCut}
+use Rattle.ti_components.specs.Walk.{Rises, IsExplored, IsPath, AreGroups, IsOrder, IsWalk, IsCut}
 use Rattle.ti_components.specs.declared.search.Progress.{Progress}
 use Rattle.ti_components.specs.declared.search.Progress.TheVariants.{Unseen, OnPath, Closed}
-use Rattle.ti_components.proofs.Lists.{get_front, get_back, get_last, push_cases, get-set_same, get-set_other, Has_front, Has_last, Has_push, Rises_push, Rises_take, rising_last, but_last, take_last_lacks}
+use Rattle.ti_components.proofs.Lists.{get_front, get_last, push_cases, get-set_same, get-set_other, Has_front, Has_last, Has_push, Rises_push, Rises_take, rising_last, but_last, take_last_lacks}
 use Rattle.ti_components.proofs.Leading.{leads_here, leads_edge, leads_on}
 
 -- ---- how far the search has come with a node is one thing
@@ -121,10 +121,14 @@ path_pushed g p cursors path starts active v h e leads =
         | inl old ↦ elim (h.explored j u i place w row old c l r f) [
           | inl closed ↦
               inl (closed.0, get-set_other p v w (OnPath k) (λ same. unseen_closed (slice_get p v) closed.0 e (ap (slice_get p) (sym same) ∙ closed.1)) ∙ closed.1)
-          | inr on ↦ inr (on.0, get_front path (v ∷ []) on.0 w on.1, λ s t m. elim (Has_push starts k s t) [
-            | inl before ↦ on.2 s before m
-            | inr last ↦ (let n = slice_get_within path j u old in let q = last in absurd (omega arith))
-          ])
+          | inr on ↦ inr (
+            on.0,
+            get_front path (v ∷ []) on.0 w on.1,
+            λ s t m. elim (Has_push starts k s t) [
+              | inl before ↦ on.2 s before m
+              | inr last ↦ (let n = slice_get_within path j u old in let q = last in absurd (omega arith))
+            ],
+          )
         ]
         | inr last ↦
             let same : u ≡ v = last.1 in
@@ -136,12 +140,13 @@ path_pushed g p cursors path starts active v h e leads =
 pub walk_pushed : (g : Rows) (p : List Progress) (cursors path starts active order : List ℕ) (v : ℕ) → IsWalk g p cursors path starts active order → slice_get p v ≡ Some Unseen → ((j u : ℕ) → slice_get path j ≡ Some u → Leads g u v) → IsWalk g (set p v (OnPath (length path))) cursors (path ++ v ∷ []) (starts ++ length path ∷ []) (active ++ length path ∷ []) order
 walk_pushed g p cursors path starts active order v h e leads =
     let q = set p v (OnPath (length path)) in
-    let same : SameClosed p q = λ w c.
-      ((λ f. get-set_other p v w (OnPath (length path)) (λ s. unseen_closed (slice_get p v) c e (ap (slice_get p) (sym s) ∙ f)) ∙ f),
-        λ f. elim (cases_eq w v) [
-          | inl s ↦ absurd (on_path_closed (slice_get q w) (length path) c (rw s (get-set_same p v Unseen (OnPath (length path)) e)) f)
-          | inr other ↦ sym (get-set_other p v w (OnPath (length path)) other) ∙ f
-        ]) in
+    let same : SameClosed p q = λ w c. (
+      (λ f. get-set_other p v w (OnPath (length path)) (λ s. unseen_closed (slice_get p v) c e (ap (slice_get p) (sym s) ∙ f)) ∙ f),
+      λ f. elim (cases_eq w v) [
+        | inl s ↦ absurd (on_path_closed (slice_get q w) (length path) c (rw s (get-set_same p v Unseen (OnPath (length path)) e)) f)
+        | inr other ↦ sym (get-set_other p v w (OnPath (length path)) other) ∙ f
+      ],
+    ) in
     record {
       going = path_pushed g p cursors path starts active v h.going e leads;
       shut = groups_kept g p q (length order) same h.shut;

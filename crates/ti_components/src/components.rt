@@ -57,3 +57,6 @@ fn numbers(alloc: Global, progress: &[Progress]) -> Result<Vec<usize>, AllocErro
     }
     Ok(numbers)
 }
+
+#[cfg(test)]
+mod tests;

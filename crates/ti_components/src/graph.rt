@@ -1,6 +1,6 @@
 // A directed graph in two lists: the ends of all edges, and where the edges of each node begin.
-ghost use Rattle.std.specs.Prelude.{◌≡◌, ◌<◌, ◌++◌, ◌∷◌, [], Some, slice_get, length, OnOk, OnErr, IfOk};
-ghost use Rattle.ti_components.specs.Graph.{AddsEdge, AreStarts, IsRow};
+ghost use Rattle.std.specs.Prelude.{◌≡◌, ◌<◌, ◌↔◌, ◌++◌, ◌∷◌, [], ℕ, Some, slice_get, length, IsTrue, OnOk, OnErr, IfOk};
+ghost use Rattle.ti_components.specs.Graph.{AddsEdge, AreStarts, IsGraph, IsRow};
 
 use std::alloc::{AllocError, Global};
 use std::marker::Model;
@@ -35,7 +35,7 @@ impl Graph {
     }
 
     /// The number of nodes.
-    pub fn len(&self) -> usize
+    pub fn node_count(&self) -> usize
         ensures { result ≡ length self.now }
     {
         self.starts.len()
@@ -68,6 +68,32 @@ impl Graph {
         let (start, end) = row_bounds(&self.targets, &self.starts, node);
         &self.targets[start..end]
     }
+
+    /// Whether each edge leads to a node of the graph, or nowhere.
+    pub fn is_whole(&self) -> bool
+        ensures { IsTrue result ↔ IsGraph self.now }
+    {
+        for node in 0..self.node_count() {
+            if !is_row_below(self.row(node), self.node_count()) {
+                return false;
+            }
+        }
+        true
+    }
+}
+
+/// Whether the edges of a row lead to nodes below a number, or nowhere.
+fn is_row_below(row: &[Option<usize>], nodes: usize) -> bool
+    ensures { IsTrue result ↔ ((k : ℕ) (to : ℕ) → slice_get row.now k ≡ Some (Some to) → to < nodes) }
+{
+    for edge in row {
+        if let Some(target) = edge {
+            if *target >= nodes {
+                return false;
+            }
+        }
+    }
+    true
 }
 
 /// Where the row of a node starts and ends among all edges.

@@ -3,12 +3,15 @@
 //!
 //! - `graph`: a graph, each node a row of edges
 //! - `components`: its components and their order
+//! - `laws`: what its numbers tell
 //! - `search`: the path search that finds them, without recursion
 #![tactic(auto)]
 
 mod components;
 mod graph;
+mod laws;
 mod search;
 
 pub use components::Components;
 pub use graph::Graph;
+pub use laws::{components_are_determined, numbers_fall, rings_share_a_number, walks_join};

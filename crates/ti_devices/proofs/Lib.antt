@@ -1,4 +1,5 @@
 pub mod CutLines
 pub mod Empty
+pub mod LineSteps
 pub mod Placed
 pub mod Written

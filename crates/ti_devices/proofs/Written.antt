@@ -7,21 +7,21 @@ use Rattle.ti_devices.specs.Reading.{Gives}
 use Rattle.ti_devices.specs.Writing.{TakesAll, TakesFront, Wrote}
 use Rattle.ti_devices.specs.declared.tool_error.ToolError.{ToolError}
 
-Appends-none : (u : Option (List ℕ)) → Appends u u []
+pub Appends-none : (u : Option (List ℕ)) → Appends u u []
 Appends-none None = tt
 Appends-none (Some xs) = sym (append-nil xs)
 
-Appends-then : (u v w : Option (List ℕ)) (a b : List ℕ) → Appends u v a → Appends v w b → Appends u w (a ++ b)
+pub Appends-then : (u v w : Option (List ℕ)) (a b : List ℕ) → Appends u v a → Appends v w b → Appends u w (a ++ b)
 Appends-then None v w a b x y = tt
 Appends-then (Some xs) None w a b x y = absurd x
 Appends-then (Some xs) (Some ys) None a b x y = y
 Appends-then (Some xs) (Some ys) (Some zs) a b x y = y ∙ ap (λ (t : List ℕ). t ++ b) x ∙ append_assoc xs a b
 
-Consumes-none : (u : Option (List ℕ)) → Consumes u u []
+pub Consumes-none : (u : Option (List ℕ)) → Consumes u u []
 Consumes-none None = tt
 Consumes-none (Some xs) = refl
 
-Consumes-then : (u v w : Option (List ℕ)) (a b : List ℕ) → Consumes u v a → Consumes v w b → Consumes u w (a ++ b)
+pub Consumes-then : (u v w : Option (List ℕ)) (a b : List ℕ) → Consumes u v a → Consumes v w b → Consumes u w (a ++ b)
 Consumes-then None v w a b x y = tt
 Consumes-then (Some xs) None w a b x y = absurd x
 Consumes-then (Some xs) (Some ys) None a b x y = y

@@ -1,8 +1,10 @@
 -- The definitions that the contracts of this crate cite.
 pub mod Buffer
 pub mod Counted
+pub mod LineReader
 pub mod Lines
 pub mod MemoryTree
+pub mod Paths
 pub mod Placing
 pub mod Reading
 pub mod Tree

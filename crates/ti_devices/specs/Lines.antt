@@ -3,8 +3,8 @@ use Rattle.std.specs.Prelude.{◌≡◌, ◌≢◌, ℕ, ◌≤◌, List, [], �
 use Rattle.std.specs.List.{flat_map, AllByRecursion}
 
 -- a line with its newline
-abbrev pub ended : List ℕ → List ℕ
-ended line = line ++ 10 ∷ []
+abbrev pub with_newline : List ℕ → List ℕ
+with_newline line = line ++ 10 ∷ []
 
 -- the bytes hold no newline
 abbrev pub IsOneLine : List ℕ → Type 0
@@ -17,7 +17,7 @@ IsWithin limit line = length line ≤ limit
 
 -- the bytes are these lines, each with its newline, and then a line that has none yet
 pub record Splits (bytes : List ℕ) (lines : List (List ℕ)) (rest : List ℕ) : Type 0 where
-  pub whole : bytes ≡ flat_map ended lines ++ rest
+  pub whole : bytes ≡ flat_map with_newline lines ++ rest
   pub each : AllByRecursion IsOneLine lines
   pub partial : IsOneLine rest
 

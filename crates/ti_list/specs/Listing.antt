@@ -1,5 +1,5 @@
 -- An entry as infocmp(1) lists it: its items by kind, in an order and a layout that the caller chooses (own).
-use Rattle.std.specs.Prelude.{ℕ, ◌+◌, ◌||◌, ◌==◌, nat_lt, if◌then◌else◌, List, [], ◌∷◌, ◌++◌, length, map, Option, Some, None}
+use Rattle.std.specs.Prelude.{ℕ, ◌+◌, ◌||◌, nat_lt, if◌then◌else◌, List, [], ◌∷◌, ◌++◌, length, map, Option, Some, None}
 use Rattle.std.specs.List.{range_with_len}
 use Rattle.ti_caps.specs.Tables.{Capability, capability, count_of}
 use Rattle.ti_caps.specs.NameOrder.{in_name_order}

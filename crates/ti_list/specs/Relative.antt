@@ -5,6 +5,8 @@ use Rattle.std.specs.List.{before_first}
 use Rattle.std.specs.Option.{option_or}
 use Rattle.std.specs.Str.{bytes_eq}
 use Rattle.ti_source.specs.Reading.{said_import}
+use Rattle.ti_compiled.specs.declared.view.View.{View}
+use Rattle.ti_compiled.specs.Shown.{names_of, held}
 use Rattle.ti_compiled.specs.Values.{Content, content_true, content_number, content_text, content_cancelled, Contents}
 use Rattle.ti_list.specs.declared.layout.Layout.{Layout}
 use Rattle.ti_list.specs.Items.{item_text}
@@ -14,6 +16,10 @@ use Rattle.ti_list.specs.Listing.{listed, listing}
 pub record Shown : Type 0 where
   pub field : List ℕ
   pub table : Contents
+
+-- an entry in memory, as it is shown
+abbrev pub shown : View → Shown
+shown view = record { field = names_of view; table = held view }
 
 -- the first name of a names field: all before the first `|`
 abbrev pub first_name : List ℕ → List ℕ

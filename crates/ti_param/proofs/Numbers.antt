@@ -7,7 +7,9 @@ use Rattle.ti_param.specs.declared.codes.Token.TheVariants.{Operation}
 use Rattle.ti_printing.specs.declared.printf.Conversion.{Conversion}
 use Rattle.ti_printing.specs.declared.printf.Directive.{Directive}
 use Rattle.ti_printing.specs.declared.printf.Flags.{Flags}
-use Rattle.ti_param.specs.Codes.{span, is_digit, decimal, decimal_from, number_after, constant_before, begins_zero, row_for, conversions, flags_after, precision_after, directive_after, directive_with}
+use Rattle.ti_param.specs.Codes.{span, begins_zero, row_for, conversions}
+use Rattle.ti_text.specs.Digits.{is_digit, decimal, decimal_from}
+use Rattle.ti_param.specs.inside.Codes.{number_after, constant_before, flags_after, precision_after, directive_after, directive_with}
 use Rattle.ti_param.proofs.Fronts.{span-whole, fails, braced}
 
 -- the front goes on where the byte passes, and ends where it does not

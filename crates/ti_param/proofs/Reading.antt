@@ -8,7 +8,9 @@ use Rattle.ti_param.specs.declared.codes.Token.TheVariants.{Operation}
 use Rattle.ti_printing.specs.declared.printf.Conversion.{Conversion}
 use Rattle.ti_printing.specs.declared.printf.Directive.{Directive}
 use Rattle.ti_printing.specs.declared.printf.Flags.{Flags}
-use Rattle.ti_param.specs.Codes.{row_for, AllAre, span, is_digit, decimal, simple_tokens, conversions, is_flag, IsFlags, signed_flags, plain_flags, IsPrecision, without_precision, with_precision, begins_zero, IsDirective, directive, IsCode, simple_code, parameter_code, store_code, fetch_code, byte_code, number_code, print_code, Front, parameter_after, store_after, fetch_after, byte_after, constant_before, number_after, flags_of, flags_after, precision_of, precision_after, directive_with, directive_after, begins_directive, letter_after, token_after, OneCode}
+use Rattle.ti_param.specs.Codes.{row_for, AllAre, span, simple_tokens, conversions, is_flag, IsFlags, signed_flags, plain_flags, IsPrecision, without_precision, with_precision, begins_zero, IsDirective, directive, IsCode, simple_code, parameter_code, store_code, fetch_code, byte_code, number_code, print_code}
+use Rattle.ti_text.specs.Digits.{is_digit, decimal}
+use Rattle.ti_param.specs.inside.Codes.{Front, parameter_after, store_after, fetch_after, byte_after, constant_before, number_after, flags_of, flags_after, precision_of, precision_after, directive_with, directive_after, begins_directive, letter_after, token_after, OneCode}
 use Rattle.ti_param.proofs.Fronts.{chosen, mapped, found-row, span-whole, span-all, span-append, braced}
 
 -- ---- what may stand after flags, digits and a precision
@@ -334,9 +336,9 @@ directive_so text found h =
     let (ps, precision_is, is_precision) = precision_so (span is_digit after).1 (form.count, form.letter ∷ found.1) form.read in
     let parts : text ≡ fs ++ (ds ++ (ps ++ (form.letter ∷ found.1))) =
     flags_is ∙ ap (λ t. fs ++ t) (span-whole is_digit after) ∙ ap (λ t. fs ++ (ds ++ t)) precision_is in
-    let grouped : (fs ++ (ds ++ (ps ++ form.letter ∷ []))) ++ found.1 ≡ fs ++ (ds ++ (ps ++ (form.letter ∷ found.1))) = simp append_assoc in (
+    let grouped_tree : (fs ++ (ds ++ (ps ++ form.letter ∷ []))) ++ found.1 ≡ fs ++ (ds ++ (ps ++ (form.letter ∷ found.1))) = simp append_assoc in (
       fs ++ (ds ++ (ps ++ form.letter ∷ [])),
-      parts ∙ sym grouped,
+      parts ∙ sym grouped_tree,
       subst (IsDirective (fs ++ (ds ++ (ps ++ form.letter ∷ [])))) form.form
           (directive fs ds ps form.letter is_flags (span-all is_digit after) form.small is_precision form.row),
     )

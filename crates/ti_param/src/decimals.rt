@@ -1,6 +1,7 @@
 //! Reading the decimal digits of a format.
 ghost use Rattle.std.specs.Prelude.{◌≡◌, ◌-◌, ◌^◌, min};
-ghost use Rattle.ti_param.specs.Codes.{span, is_digit, decimal};
+ghost use Rattle.ti_param.specs.Codes.{span};
+ghost use Rattle.ti_text.specs.Digits.{is_digit, decimal};
 
 /// The number that the digits at the front spell, 0 where there are none; `u32::MAX` stands for any greater one.
 pub(crate) fn number(text: &[u8]) -> (u32, &[u8])

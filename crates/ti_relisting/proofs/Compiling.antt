@@ -1,24 +1,25 @@
 -- A block that is read as the items of an entry compiles to the image of the entry.
-use Rattle.std.proofs.Common.{◌≡◌, ℕ, suc, false, List, [], ◌∷◌, ◌++◌, map, length, cond, Option, Some, None, option_and_then, refl, ap, sym, ◌∙◌, arith}
+use Rattle.std.proofs.Common.{option_map, slice_get, ◌≡◌, ℕ, suc, false, List, [], ◌∷◌, ◌++◌, map, length, cond, Option, Some, None, option_and_then, refl, ap, sym, ◌∙◌, arith}
 use Rattle.std.specs.List.{list_any}
 use Rattle.std.specs.Option.{option_or}
 use Rattle.std.proofs.lemmas.Bool.{le-ltb}
 use Rattle.std.proofs.lemmas.List.{append-nil}
 use Rattle.std.proofs.lemmas.List.Elements.{All-nil}
+use Rattle.std.proofs.lemmas.Option.{slice_get-map}
+use Rattle.ti_caps.specs.NameOrder.{EachKindIsInOrder}
 use Rattle.ti_caps.specs.Tables.{Capability, IsCapability}
 use Rattle.ti_source.specs.Codes.{is_error}
 use Rattle.ti_source.specs.Reading.{Said, ReadItem, ReadFault, Reading}
 use Rattle.ti_source.specs.Parsing.{parsed}
 use Rattle.ti_compiled.specs.Values.{Content, content_true, content_number, content_text, content_cancelled, Contents}
-use Rattle.ti_compiled.specs.Image.{image}
-use Rattle.ti_compiled.specs.Laws.{uncancelled}
+use Rattle.ti_compiled.specs.Image.{image, limit_of}
+use Rattle.ti_compiled.specs.Laws.{uncancelled, ImagesAreOfValues, LimitsAreOfValues}
 use Rattle.ti_meaning.specs.Owner.{owned, readings}
 use Rattle.ti_meaning.specs.Expansion.{Mention, said, values, is_broken, expand, expansion}
 use Rattle.ti_meaning.specs.Compiled.{image_of, is_too_large, entry_of, entry}
 use Rattle.ti_list.specs.declared.layout.Layout.{Layout}
 use Rattle.ti_list.specs.Items.{no_more, CanBeListed, IsListable, IsReadAs}
 use Rattle.ti_list.specs.Listing.{items_for, listing}
-use Rattle.ti_relisting.specs.Limits.{limit_of, ImagesAreOfValues, LimitsAreOfValues}
 use Rattle.ti_relisting.specs.Shown.{CanHaveAll, IsWithinLimit}
 use Rattle.ti_relisting.specs.Laws.{PartsAreRead, ListingsCompile}
 use Rattle.ti_relisting.proofs.Orders.{all_in, all_in-all}
@@ -65,30 +66,31 @@ option_or-nothing None = refl
 option_or-nothing (Some x) = refl
 
 -- a listing, as it is read
-pub listing-read : PartsAreRead → (field : List ℕ) (names : List (List ℕ)) (table : Contents) (layout : Layout) → IsListable field names → CanHaveAll table
+pub listing-read : EachKindIsInOrder → PartsAreRead → (field : List ℕ) (names : List (List ℕ)) (table : Contents) (layout : Layout) → IsListable field names → CanHaveAll table
     → IsReadAs field names (items_for table (all_in layout.order) ++ []) (parsed (listing field table layout))
-listing-read read field names table layout good has =
+listing-read ordered read field names table layout good has =
     read field names (items_for table (all_in layout.order) ++ []) (listing field table layout) good
-    (all-can table layout [] has (All-nil CanBeListed)) (listed-all field table layout [] (10 ∷ []) no_more)
+    (all-can ordered table layout [] has (All-nil CanBeListed)) (listed-all field table layout [] (10 ∷ []) no_more)
 
 -- it expands to what its entry has, whatever stands beside it
-pub listing-expands : PartsAreRead → (env : List ℕ → Option Reading) (depth : ℕ) (field : List ℕ) (names : List (List ℕ)) (table : Contents) (layout : Layout) → IsListable field names
+pub listing-expands : EachKindIsInOrder → PartsAreRead → (env : List ℕ → Option Reading) (depth : ℕ) (field : List ℕ) (names : List (List ℕ)) (table : Contents) (layout : Layout) → IsListable field names
     → CanHaveAll table → expand env (suc depth) (parsed (listing field table layout)) ≡ Some (mentions_for table (all_in layout.order))
-listing-expands read env depth field names table layout good has =
-    let is = listing-read read field names table layout good has in
+listing-expands ordered read env depth field names table layout good has =
+    let is = listing-read ordered read field names table layout good has in
     own-at env depth (parsed (listing field table layout)) table (all_in layout.order) [] is.none_wrong is.says
     ∙ ap (λ ms. Some ms) (append-nil (mentions_for table (all_in layout.order)))
 
-pub all-tell : (table : Contents) (layout : Layout) (ms : List Mention) (c : Capability) → IsCapability c → said (mentions_for table (all_in layout.order) ++ ms) c ≡ option_or (table c) (said ms c)
-all-tell table layout ms c is = all-say table (all_in layout.order) ms c ((all_in-all layout.order).complete c is)
+pub all-tell : EachKindIsInOrder → (table : Contents) (layout : Layout) (ms : List Mention) (c : Capability) → IsCapability c → said (mentions_for table (all_in layout.order) ++ ms) c ≡ option_or (table c) (said ms c)
+all-tell ordered table layout ms c is = all-say table (all_in layout.order) ms c ((all_in-all ordered layout.order).complete c is)
 
-pub listings_compile : PartsAreRead → ImagesAreOfValues → LimitsAreOfValues → ListingsCompile
-listings_compile read images limits field names table layout good has within =
+pub listings_compile : EachKindIsInOrder → PartsAreRead → ImagesAreOfValues → LimitsAreOfValues → ListingsCompile
+listings_compile ordered read images limits field names table layout good has within texts at stands =
     let text = listing field table layout in
-    let block = parsed text in
-    let blocks = readings (text ∷ []) in
-    let is = listing-read read field names table layout good has in
+    let blocks = readings texts in
+    let is = listing-read ordered read field names table layout good has in
     let ms = mentions_for table (all_in layout.order) in
     let tells : (c : Capability) → IsCapability c → uncancelled (said ms c) ≡ uncancelled (table c) =
-    λ c cap. ap uncancelled (ap (λ l. said l c) (sym (append-nil ms)) ∙ all-tell table layout [] c cap ∙ option_or-nothing (table c)) in
-    entry-is images limits blocks block field table ms (listing-expands read (owned blocks) (length blocks) field names table layout good has) is.same_field tells within
+    λ c cap. ap uncancelled (ap (λ l. said l c) (sym (append-nil ms)) ∙ all-tell ordered table layout [] c cap ∙ option_or-nothing (table c)) in
+    let read_there : slice_get blocks at ≡ Some (parsed text) = slice_get-map parsed texts at ∙ ap (option_map parsed) stands in
+    ap (option_and_then (entry blocks)) read_there
+    ∙ entry-is images limits blocks (parsed text) field table ms (listing-expands ordered read (owned blocks) (length blocks) field names table layout good has) is.same_field tells within

@@ -4,26 +4,27 @@ use Rattle.std.specs.List.{All}
 use Rattle.std.proofs.lemmas.Bool.{cases_Bool, ltb-false}
 use Rattle.std.proofs.lemmas.Option.{same_Some, none-some, slice_get-map}
 use Rattle.std.proofs.lemmas.List.Elements.{All-nil, All-cons, All-head, All-tail, All-map, All-weaker}
+use Rattle.ti_caps.specs.NameOrder.{EachKindIsInOrder}
 use Rattle.ti_caps.specs.Tables.{Capability, IsCapability}
 use Rattle.ti_source.specs.Blocks.{OneBlock}
 use Rattle.ti_source.specs.Reading.{Reading}
 use Rattle.ti_source.specs.Parsing.{parsed, HasReading}
 use Rattle.ti_source.specs.Sound.{EachIsWellRead}
-use Rattle.ti_spelling.specs.Spelling.{AreBytes, UnescapedAgrees, ValuesAreSound}
+use Rattle.ti_spelling.specs.Spelling.{AreBytes}
+use Rattle.ti_spelling.specs.inside.Spelling.{UnescapedAgrees, ValuesAreSound}
 use Rattle.ti_compiled.specs.Values.{Contents}
-use Rattle.ti_compiled.specs.Image.{image}
+use Rattle.ti_compiled.specs.Image.{image, limit_of}
 use Rattle.ti_compiled.specs.Reading.{Reads, OneReading}
-use Rattle.ti_compiled.specs.Laws.{uncancelled, ImagesAreRead}
+use Rattle.ti_compiled.specs.Laws.{uncancelled, ImagesAreRead, ImagesAreOfValues, LimitsAreOfValues}
 use Rattle.ti_meaning.specs.Owner.{owned, readings}
 use Rattle.ti_meaning.specs.Expansion.{Mention, said, values, is_broken, expansion}
 use Rattle.ti_meaning.specs.Compiled.{image_of, is_too_large, entry_of, entry, compiled}
 use Rattle.ti_list.specs.Items.{no_more, CanBeListed, IsListable}
 use Rattle.ti_list.specs.declared.layout.Layout.{Layout}
 use Rattle.ti_list.specs.Relative.{Shown, differing, use_lines, relative, with_others}
-use Rattle.ti_relisting.specs.Limits.{limit_of, ImagesAreOfValues, LimitsAreOfValues}
 use Rattle.ti_relisting.specs.Shown.{CanHave, IsWithinLimit, CanBeShown, CanBeUsed}
 use Rattle.ti_relisting.specs.Entries.{IsEntry, IsUsedEntry}
-use Rattle.ti_relisting.specs.Laws.{PartsAreBlocks, ListingsCompile, RelativesCompile, Relisting, RelativeSource}
+use Rattle.ti_relisting.specs.Laws.{PartsAreBlocks, ListingsCompile, RelativesCompile, ShownEntry, listings, Relisting, Relistings, RelativeSource}
 use Rattle.ti_relisting.proofs.TextBytes.{parsed-bytes}
 use Rattle.ti_relisting.proofs.Fitting.{MentionFits, ItemFits, items-fit, unbroken-expand, follows, expand-fits, owned-has, said-has, uncancelled-has, agrees-has}
 use Rattle.ti_relisting.proofs.Heading.{block-listable, first-lookup}
@@ -45,6 +46,7 @@ pub record AreKnown : Type 0 where
   pub one : OneReading
   pub images : ImagesAreOfValues
   pub limits : LimitsAreOfValues
+  pub ordered : EachKindIsInOrder
 
 -- ---- the blocks
 
@@ -167,49 +169,73 @@ is-shown known bytes shown entry =
       within = omega (arith, sizes, limit, is_within);
     }
 
-listing-stands : PartsAreBlocks → (shown : Shown) (layout : Layout) → CanBeShown shown → OneBlock (listing shown.field shown.table layout)
-listing-stands stands shown layout can =
+listing-stands : EachKindIsInOrder → PartsAreBlocks → (shown : Shown) (layout : Layout) → CanBeShown shown → OneBlock (listing shown.field shown.table layout)
+listing-stands ordered stands shown layout can =
     stands shown.field can.names (items_for shown.table (all_in layout.order) ++ []) (listing shown.field shown.table layout) can.listable
-    (all-can shown.table layout [] can.holds (All-nil CanBeListed)) (listed-all shown.field shown.table layout [] (10 ∷ []) no_more)
+    (all-can ordered shown.table layout [] can.holds (All-nil CanBeListed)) (listed-all shown.field shown.table layout [] (10 ∷ []) no_more)
+
+-- a listing compiles to its entry wherever it stands
+listing-compiles : AreKnown → ListingsCompile → (bytes : List ℕ) (shown : Shown) (layout : Layout) → IsShown bytes shown
+    → (texts : List (List ℕ)) (at : ℕ) → slice_get texts at ≡ Some (listing shown.field shown.table layout) → compiled texts at ≡ Some bytes
+listing-compiles known compiles bytes shown layout is texts at stands =
+    compiles shown.field is.can.names shown.table layout is.can.listable is.can.holds is.within texts at stands ∙ ap (λ b. Some b) is.image_is
 
 pub relisting : AreKnown → PartsAreBlocks → ListingsCompile → Relisting
 relisting known stands compiles bytes shown layout is_entry =
     let is = is-shown known bytes shown is_entry in
     let text = listing shown.field shown.table layout in
-    let one = listing-stands stands shown layout is.can in
-    record {
-      cut = one.cut;
-      single = All-cons OneBlock text [] one (All-nil OneBlock);
-      compiles = compiles shown.field is.can.names shown.table layout is.can.listable is.can.holds is.within ∙ ap (λ b. Some b) is.image_is;
-    }
+    let one = listing-stands known.ordered stands shown layout is.can in
+    (record { cut = one.cut; single = All-cons OneBlock text [] one (All-nil OneBlock) }, listing-compiles known compiles bytes shown layout is (text ∷ []) 0 refl)
+
+-- ---- several listings
+
+abbrev IsEntryShown : ShownEntry → Type 0
+IsEntryShown entry = IsEntry entry.0 entry.1
+
+all-stand : AreKnown → PartsAreBlocks → (layout : Layout) (entries : List ShownEntry) → All IsEntryShown entries → All OneBlock (listings entries layout)
+all-stand known stands layout [] are = All-nil OneBlock
+all-stand known stands layout (entry ∷ entries) are =
+    let is = is-shown known entry.0 entry.1 (All-head IsEntryShown entry entries are) in
+    All-cons OneBlock (listing entry.1.field entry.1.table layout) (listings entries layout) (listing-stands known.ordered stands entry.1 layout is.can)
+    (all-stand known stands layout entries (All-tail IsEntryShown entry entries are))
+
+pub relistings : AreKnown → PartsAreBlocks → ListingsCompile → Relistings
+relistings known stands compiles entries layout are =
+    let single = all-stand known stands layout entries are in (
+      record { cut = single-cut (listings entries layout) single; single = single },
+      λ i entry at.
+          let is = is-shown known entry.0 entry.1 (All-at IsEntryShown entries i entry are at) in
+          listing-compiles known compiles entry.0 entry.1 layout is (listings entries layout) i
+          (slice_get-map (λ (e : ShownEntry). listing e.1.field e.1.table layout) entries i ∙ ap (option_map (λ (e : ShownEntry). listing e.1.field e.1.table layout)) at),
+    )
+
+-- ---- relative source
 
 used-can : AreKnown → (shown : Shown) → IsUsedEntry shown → CanBeUsed shown
 used-can known shown used =
     let can = (is-shown known used.bytes shown used.entry).can in
     record { shown = can; first = record { lookup = first-lookup shown.field can.names can.listable.header; bare = used.bare } }
 
-listings-stand : PartsAreBlocks → (layout : Layout) (others : List Shown) → All CanBeUsed others → All OneBlock (map (λ (other : Shown). listing other.field other.table layout) others)
-listings-stand stands layout [] used = All-nil OneBlock
-listings-stand stands layout (other ∷ others) used =
+listings-stand : EachKindIsInOrder → PartsAreBlocks → (layout : Layout) (others : List Shown) → All CanBeUsed others → All OneBlock (map (λ (other : Shown). listing other.field other.table layout) others)
+listings-stand ordered stands layout [] used = All-nil OneBlock
+listings-stand ordered stands layout (other ∷ others) used =
     All-cons OneBlock (listing other.field other.table layout) (map (λ (other : Shown). listing other.field other.table layout) others)
-    (listing-stands stands other layout (All-head CanBeUsed other others used).shown) (listings-stand stands layout others (All-tail CanBeUsed other others used))
+    (listing-stands ordered stands other layout (All-head CanBeUsed other others used).shown) (listings-stand ordered stands layout others (All-tail CanBeUsed other others used))
 
-relative-stands : PartsAreBlocks → (entry : Shown) (others : List Shown) (layout : Layout) → CanBeShown entry → All CanBeUsed others → All OneBlock (with_others entry others layout)
-relative-stands stands shown others layout can used =
+relative-stands : EachKindIsInOrder → PartsAreBlocks → (entry : Shown) (others : List Shown) (layout : Layout) → CanBeShown entry → All CanBeUsed others → All OneBlock (with_others entry others layout)
+relative-stands ordered stands shown others layout can used =
     let table = differing shown.table others in
     All-cons OneBlock (relative shown others layout) (map (λ (other : Shown). listing other.field other.table layout) others)
     (stands shown.field can.names (items_for table (all_in layout.order) ++ uses_of others) (relative shown others layout) can.listable
-    (all-can table layout (uses_of others) (differing-can shown.table others can.holds) (uses-can others used))
+    (all-can ordered table layout (uses_of others) (differing-can shown.table others can.holds) (uses-can others used))
     (listed-all shown.field table layout (uses_of others) (use_lines others (10 ∷ [])) (uses-tail others)))
-    (listings-stand stands layout others used)
+    (listings-stand ordered stands layout others used)
 
 pub relative_source : AreKnown → PartsAreBlocks → RelativesCompile → RelativeSource
 relative_source known stands compiles bytes shown others layout is_entry used owns =
     let is = is-shown known bytes shown is_entry in
     let can = All-weaker IsUsedEntry CanBeUsed (used-can known) others used in
-    let single = relative-stands stands shown others layout is.can can in
-    record {
-      cut = single-cut (with_others shown others layout) single;
-      single = single;
-      compiles = compiles shown others layout is.can can owns is.within ∙ ap (λ b. Some b) is.image_is;
-    }
+    let single = relative-stands known.ordered stands shown others layout is.can can in (
+      record { cut = single-cut (with_others shown others layout) single; single = single },
+      compiles shown others layout is.can can owns is.within ∙ ap (λ b. Some b) is.image_is,
+    )

@@ -5,6 +5,7 @@ use Rattle.std.specs.Option.{option_or}
 use Rattle.std.proofs.lemmas.Bool.{cases_Bool, eqb-true, and_parts}
 use Rattle.std.proofs.lemmas.List.Elements.{All-nil, All-cons, All-head, All-tail, All-append}
 use Rattle.std.proofs.lemmas.List.{append-nil}
+use Rattle.ti_caps.specs.NameOrder.{EachKindIsInOrder}
 use Rattle.ti_caps.specs.Tables.{Capability, capability, IsCapability}
 use Rattle.ti_caps.specs.declared.capability.Kind.{Kind}
 use Rattle.ti_caps.specs.declared.capability.Kind.TheVariants.{Flag, Number, Text}
@@ -95,9 +96,9 @@ items-can table (c ∷ cs) valid has =
     let is : IsCapability c = All-head IsCapability c cs valid in
     All-append CanBeListed (item_for c (table c)) (items_for table cs) (item-can c (table c) is (has c is)) (items-can table cs (All-tail IsCapability c cs valid) has)
 
-pub all-can : (table : Contents) (layout : Layout) (more : List Said) → CanHaveAll table → All CanBeListed more → All CanBeListed (items_for table (all_in layout.order) ++ more)
-all-can table layout more has can =
-    All-append CanBeListed (items_for table (all_in layout.order)) more (items-can table (all_in layout.order) (all_in-all layout.order).valid has) can
+pub all-can : EachKindIsInOrder → (table : Contents) (layout : Layout) (more : List Said) → CanHaveAll table → All CanBeListed more → All CanBeListed (items_for table (all_in layout.order) ++ more)
+all-can ordered table layout more has can =
+    All-append CanBeListed (items_for table (all_in layout.order)) more (items-can table (all_in layout.order) (all_in-all ordered layout.order).valid has) can
 
 -- ---- what is said
 

@@ -7,11 +7,12 @@ use Rattle.std.proofs.lemmas.Bool.{cases_Bool, eqb-true}
 use Rattle.std.proofs.lemmas.Option.{slice_get-map, same_Some, none-some}
 use Rattle.std.proofs.lemmas.Slice.Eq.{bytes_eq-Decides}
 use Rattle.std.proofs.lemmas.List.Elements.{All-nil, All-cons, All-head, All-tail}
+use Rattle.ti_caps.specs.NameOrder.{EachKindIsInOrder}
 use Rattle.ti_caps.specs.Tables.{Capability, IsCapability}
 use Rattle.ti_source.specs.Reading.{said_import, Reading}
 use Rattle.ti_source.specs.Parsing.{parsed}
 use Rattle.ti_compiled.specs.Values.{Content, content_true, content_number, content_text, content_cancelled, Contents}
-use Rattle.ti_compiled.specs.Laws.{uncancelled}
+use Rattle.ti_compiled.specs.Laws.{uncancelled, ImagesAreOfValues, LimitsAreOfValues}
 use Rattle.ti_meaning.specs.Owner.{is_among, owner, owned, readings}
 use Rattle.ti_meaning.specs.Expansion.{Mention, said, expand, expansion}
 use Rattle.ti_list.specs.declared.layout.Layout.{Layout}
@@ -20,7 +21,6 @@ use Rattle.ti_list.specs.Listing.{listing}
 use Rattle.ti_list.specs.Relative.{Shown, first_name, same_content, first_of, difference, differing, use_lines, relative, with_others}
 use Rattle.ti_list.specs.Listing.{items_for}
 use Rattle.ti_relisting.specs.Laid.{uses_of}
-use Rattle.ti_relisting.specs.Limits.{ImagesAreOfValues, LimitsAreOfValues}
 use Rattle.ti_relisting.specs.Shown.{CanHave, CanHaveAll, CanBeUsed}
 use Rattle.ti_relisting.specs.Laws.{PartsAreRead, RelativesCompile}
 use Rattle.ti_relisting.proofs.Orders.{all_in}
@@ -91,9 +91,9 @@ uses-expand of_name layout (other ∷ others) h =
     let first = h 0 other refl in
     rw (first, later) refl
 
-used-tell : (layout : Layout) (others : List Shown) (c : Capability) → IsCapability c → said (used_mentions layout others) c ≡ first_of others c
-used-tell layout [] c is = refl
-used-tell layout (other ∷ others) c is = all-tell other.table layout (used_mentions layout others) c is ∙ ap (option_or (other.table c)) (used-tell layout others c is)
+used-tell : EachKindIsInOrder → (layout : Layout) (others : List Shown) (c : Capability) → IsCapability c → said (used_mentions layout others) c ≡ first_of others c
+used-tell ordered layout [] c is = refl
+used-tell ordered layout (other ∷ others) c is = all-tell ordered other.table layout (used_mentions layout others) c is ∙ ap (option_or (other.table c)) (used-tell ordered layout others c is)
 
 -- ---- the owners
 
@@ -122,8 +122,8 @@ All-at P [] i x all e = absurd (none-some x e)
 All-at P (y ∷ xs) zero x all e = subst P (same_Some y x e) (All-head P y xs all)
 All-at P (y ∷ xs) (suc i) x all e = All-at P xs i x (All-tail P y xs all) e
 
-pub relatives_compile : PartsAreRead → ImagesAreOfValues → LimitsAreOfValues → RelativesCompile
-relatives_compile read images limits e others layout shown used owns within =
+pub relatives_compile : EachKindIsInOrder → PartsAreRead → ImagesAreOfValues → LimitsAreOfValues → RelativesCompile
+relatives_compile ordered read images limits e others layout shown used owns within =
     let text = relative e others layout in
     let blocks = readings (with_others e others layout) in
     let block = parsed text in
@@ -132,18 +132,18 @@ relatives_compile read images limits e others layout shown used owns within =
     let own = items_for table (all_in layout.order) in
     let is : IsReadAs e.field shown.names (own ++ uses_of others) block =
     read e.field shown.names (own ++ uses_of others) text shown.listable
-    (all-can table layout (uses_of others) has (uses-can others used)) (listed-all e.field table layout (uses_of others) (use_lines others (10 ∷ [])) (uses-tail others)) in
+    (all-can ordered table layout (uses_of others) has (uses-can others used)) (listed-all e.field table layout (uses_of others) (use_lines others (10 ∷ [])) (uses-tail others)) in
     let list_other : Shown → List ℕ = λ other. listing other.field other.table layout in
     let expands : (i : ℕ) (other : Shown) → slice_get others i ≡ Some other → used_at (owned blocks) (length blocks) (first_name other.field) ≡ Some (mentions_for other.table (all_in layout.order)) =
     λ i other at.
     let other_shown = (All-at CanBeUsed others i other used at).shown in
     let stands : slice_get blocks (suc i) ≡ Some (parsed (list_other other)) = at-place parsed (map list_other others) i (list_other other) (at-place list_other others i other at) in
     ap (option_and_then (expand (owned blocks) (length blocks))) (owned-at blocks (first_name other.field) (suc i) (owns i other at) ∙ stands)
-    ∙ listing-expands read (owned blocks) (length (map parsed (map list_other others))) other.field other_shown.names other.table layout other_shown.listable other_shown.holds in
+    ∙ listing-expands ordered read (owned blocks) (length (map parsed (map list_other others))) other.field other_shown.names other.table layout other_shown.listable other_shown.holds in
     let ms = mentions_for table (all_in layout.order) ++ used_mentions layout others in
     let expanded : expansion blocks block ≡ Some ms =
     own-at (owned blocks) (length blocks) block table (all_in layout.order) (uses_of others) is.none_wrong is.says
     ∙ ap (before (mentions_for table (all_in layout.order))) (uses-expand (used_at (owned blocks) (length blocks)) layout others expands) in
     let tells : (c : Capability) → IsCapability c → uncancelled (said ms c) ≡ uncancelled (e.table c) =
-    λ c cap. ap uncancelled (all-tell table layout (used_mentions layout others) c cap ∙ ap (option_or (table c)) (used-tell layout others c cap)) ∙ restores (e.table c) (first_of others c) in
+    λ c cap. ap uncancelled (all-tell ordered table layout (used_mentions layout others) c cap ∙ ap (option_or (table c)) (used-tell ordered layout others c cap)) ∙ restores (e.table c) (first_of others c) in
     entry-is images limits blocks block e.field e.table ms expanded is.same_field tells within

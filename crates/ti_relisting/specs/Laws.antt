@@ -1,5 +1,5 @@
 -- What is known of a listing that is read again (own).
-use Rattle.std.specs.Prelude.{◌≡◌, ℕ, suc, List, [], ◌∷◌, All, Some, slice_get}
+use Rattle.std.specs.Prelude.{map, ◌≡◌, ℕ, suc, List, [], ◌∷◌, All, Some, slice_get}
 use Rattle.std.specs.List.{concat}
 use Rattle.ti_source.specs.Blocks.{Cut, OneBlock}
 use Rattle.ti_source.specs.Parsing.{parsed}
@@ -27,11 +27,11 @@ PartsAreBlocks =
     (field : List ℕ) (names : List (List ℕ)) (items : List Said) (text : List ℕ)
     → IsListable field names → All CanBeListed items → IsListing field items text → OneBlock text
 
--- The listing of what can be listed compiles to its image.
+-- The listing of what can be listed compiles to its image, in whatever source it stands.
 abbrev pub ListingsCompile : Type 0
 ListingsCompile =
     (field : List ℕ) (names : List (List ℕ)) (table : Contents) (layout : Layout) → IsListable field names → CanHaveAll table → IsWithinLimit field table
-    → compiled (listing field table layout ∷ []) 0 ≡ Some (image field table)
+    → (texts : List (List ℕ)) (at : ℕ) → slice_get texts at ≡ Some (listing field table layout) → compiled texts at ≡ Some (image field table)
 
 -- the first name of each of the others belongs to its listing, which stands behind the relative source of the entry
 abbrev pub OwnTheirNames : Shown → List Shown → Layout → Type 0
@@ -44,21 +44,36 @@ RelativesCompile =
     (entry : Shown) (others : List Shown) (layout : Layout) → CanBeShown entry → All CanBeUsed others → OwnTheirNames entry others layout → IsWithinLimit entry.field entry.table
     → compiled (with_others entry others layout) 0 ≡ Some (image entry.field entry.table)
 
--- A source has these texts for its blocks, each of which is a block by itself, and the first of them compiles to the entry.
-pub record Recompiles (source : List ℕ) (texts : List (List ℕ)) (entry : List ℕ) : Type 0 where
+-- the source has these texts for its blocks and nothing before them, and each of them is a block by itself
+pub record IsSourceOf (source : List ℕ) (texts : List (List ℕ)) : Type 0 where
   pub cut : Cut source [] texts
   pub single : All OneBlock texts
-  pub compiles : compiled texts 0 ≡ Some entry
 
 -- The listing of a compiled entry, in any layout, is a source of one block, which compiles to the entry, byte for byte.
 abbrev pub Relisting : Type 0
 Relisting =
     (bytes : List ℕ) (shown : Shown) (layout : Layout) → IsEntry bytes shown
-    → Recompiles (listing shown.field shown.table layout) (listing shown.field shown.table layout ∷ []) bytes
+    → IsSourceOf (listing shown.field shown.table layout) (listing shown.field shown.table layout ∷ [])
+    × (compiled (listing shown.field shown.table layout ∷ []) 0 ≡ Some bytes)
+
+-- an entry, and what it is shown as
+abbrev pub ShownEntry : Type 0
+ShownEntry = List ℕ × Shown
+
+-- the listings of entries, one behind the other
+abbrev pub listings : List ShownEntry → Layout → List (List ℕ)
+listings entries layout = map (λ (entry : ShownEntry). listing entry.1.field entry.1.table layout) entries
+
+-- The listings of compiled entries, one behind the other, are a source of as many blocks, each of which compiles to its entry, whatever names they share.
+abbrev pub Relistings : Type 0
+Relistings =
+    (entries : List ShownEntry) (layout : Layout) → All (λ (entry : ShownEntry). IsEntry entry.0 entry.1) entries
+    → IsSourceOf (concat (listings entries layout)) (listings entries layout)
+    × ((i : ℕ) (entry : ShownEntry) → slice_get entries i ≡ Some entry → compiled (listings entries layout) i ≡ Some entry.0)
 
 -- The relative source of a compiled entry, with the listings of the entries that it uses behind it, is a source of these blocks, of which the first
 -- compiles to the entry, byte for byte.
 abbrev pub RelativeSource : Type 0
 RelativeSource =
     (bytes : List ℕ) (shown : Shown) (others : List Shown) (layout : Layout) → IsEntry bytes shown → All IsUsedEntry others → OwnTheirNames shown others layout
-    → Recompiles (concat (with_others shown others layout)) (with_others shown others layout) bytes
+    → IsSourceOf (concat (with_others shown others layout)) (with_others shown others layout) × (compiled (with_others shown others layout) 0 ≡ Some bytes)

@@ -11,7 +11,10 @@ mod layouts;
 mod reading_back;
 mod relisting;
 
-pub use entries::{listings_compile_back, relative_sources_compile_back};
+pub use entries::{
+    listings_compile_back, relative_sources_compile_back, several_listings_compile_back,
+    sources_have_entries,
+};
 pub use layouts::listings_are_laid_out;
 pub use reading_back::{parts_are_blocks, parts_are_read};
 pub use relisting::{listings_compile, relatives_compile};

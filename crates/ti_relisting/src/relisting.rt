@@ -2,11 +2,16 @@
 ghost use Rattle.ti_relisting.specs.Laws.{ListingsCompile, RelativesCompile};
 
 use crate::reading_back::parts_are_read;
+use ti_caps::each_kind_is_in_order;
+use ti_compiled::images_are_of_values;
 
-/// The listing of a names field and contents that a source can give, in any layout, compiles to their image.
+/// The listing of a names field and contents that a source can give, in any layout, compiles to their image, in whatever
+/// source it stands.
 pub fn listings_compile()
     ensures { ListingsCompile }
 {
+    each_kind_is_in_order();
+    images_are_of_values();
     parts_are_read();
 }
 
@@ -15,5 +20,7 @@ pub fn listings_compile()
 pub fn relatives_compile()
     ensures { RelativesCompile }
 {
+    each_kind_is_in_order();
+    images_are_of_values();
     parts_are_read();
 }

@@ -8,17 +8,17 @@ use Rattle.ti_meaning.specs.Edits.{Change, Step}
 use Rattle.ti_meaning.specs.declared.edits.EditError.TheVariants.{Position, TooLong, NotOneBlock, TooMany, Memory}
 use Rattle.ti_meaning.specs.declared.edits.Outcome.{Outcome}
 use Rattle.ti_meaning.specs.declared.edits.Outcome.TheVariants.{Accepted, Refused}
-use Rattle.ti_session.specs.declared.dialogue.Dialogue.{Dialogue}
+use Rattle.ti_session.specs.declared.editor.Editor.{Editor}
 use Rattle.ti_session.specs.declared.requests.Opened.{Opened}
 use Rattle.ti_session.specs.declared.requests.Opened.TheVariants.{Insert, Replace}
 use Rattle.ti_devices.specs.declared.tool_error.ToolError.{ToolError}
-use Rattle.ti_session.specs.Dialogue.{Holds, Led}
+use Rattle.ti_session.specs.Editor.{Holds, ActsOn}
 use Rattle.ti_devices.specs.Counted.{Observed}
-use Rattle.ti_devices.specs.Lines.{ended}
+use Rattle.ti_devices.specs.Lines.{with_newline}
 use Rattle.ti_devices.specs.Writing.{Wrote}
 use Rattle.ti_session.specs.Replies.{CarriesOut, WroteReport}
 use Rattle.ti_session.specs.Requests.{mode_of, opened_change, opened_mode}
-use Rattle.ti_session.specs.Session.{Answers, Command, Leads, Meaning, Mode, State, alone, asks, edits, goes_on, meant, outcome_text, outside, printed, prints, reports, state}
+use Rattle.ti_session.specs.Script.{Answers, Command, Leads, Meaning, Mode, State, meaning_outside, asks, edits, goes_on, meaning_in, outcome_text, outside, print_reply, prints, reports, state}
 use Rattle.ti_devices.proofs.Written.{TakesAll-none}
 
 -- ---- a block of which only the front is held
@@ -59,7 +59,7 @@ Step-of_front opened texts next text limit outcome room step = elim (dec_le (len
 
 -- ---- holding
 
-pub Holds-outside : (d d2 : Dialogue) (s : State) → s.mode ≡ outside → Holds d s → d2.block ≡ d.block → d2.opened ≡ d.opened
+pub Holds-outside : (d d2 : Editor) (s : State) → s.mode ≡ outside → Holds d s → d2.block ≡ d.block → d2.opened ≡ d.opened
     → Holds d2 (state d2.database outside)
 Holds-outside d d2 s is held same_block same_opened = record {
   text = held.text;
@@ -69,7 +69,7 @@ Holds-outside d d2 s is held same_block same_opened = record {
   room = rw same_block held.room;
 }
 
-pub Holds-closed : (d d2 : Dialogue) (s : State) → Holds d s → d2.block ≡ d.block → d2.opened ≡ None
+pub Holds-closed : (d d2 : Editor) (s : State) → Holds d s → d2.block ≡ d.block → d2.opened ≡ None
     → Holds d2 (state d2.database outside)
 Holds-closed d d2 s held same_block none = record {
   text = held.text;
@@ -79,7 +79,7 @@ Holds-closed d d2 s held same_block none = record {
   room = rw same_block held.room;
 }
 
-pub Holds-opened : (d d2 : Dialogue) (s : State) (opened : Opened) → Holds d s → d2.database ≡ d.database → d2.block.bytes ≡ []
+pub Holds-opened : (d d2 : Editor) (s : State) (opened : Opened) → Holds d s → d2.database ≡ d.database → d2.block.bytes ≡ []
     → d2.block.limit ≡ d.block.limit → d2.opened ≡ Some opened → Holds d2 (state s.texts (opened_mode opened []))
 Holds-opened d d2 s opened held same_texts empty same_limit is = record {
   text = [];
@@ -89,50 +89,50 @@ Holds-opened d d2 s opened held same_texts empty same_limit is = record {
   room = rw same_limit held.room;
 }
 
-pub Holds-added : (d d2 : Dialogue) (s : State) (opened : Opened) (line : List ℕ) (held : Holds d s) → d2.database ≡ d.database
+pub Holds-added : (d d2 : Editor) (s : State) (opened : Opened) (line : List ℕ) (held : Holds d s) → d2.database ≡ d.database
     → d.opened ≡ Some opened → d2.opened ≡ d.opened → d2.block.limit ≡ d.block.limit
     → d2.block.bytes ≡ take d.block.limit (take d.block.limit (d.block.bytes ++ line) ++ 10 ∷ [])
-    → Holds d2 (state s.texts (opened_mode opened (held.text ++ ended line)))
+    → Holds d2 (state s.texts (opened_mode opened (held.text ++ with_newline line)))
 Holds-added d d2 s opened line held same_texts is same_opened same_limit added =
     let limit = d.block.limit in
     let text = held.text in record {
-      text = text ++ ended line;
+      text = text ++ with_newline line;
       texts = same_texts ∙ held.texts;
-      mode = ap (λ (o : Option Opened). mode_of o (text ++ ended line)) (sym (same_opened ∙ is));
+      mode = ap (λ (o : Option Opened). mode_of o (text ++ with_newline line)) (sym (same_opened ∙ is));
       block = added ∙ ap (λ (t : List ℕ). take limit (take limit (t ++ line) ++ 10 ∷ [])) held.block
           ∙ ap (λ (t : List ℕ). take limit (t ++ 10 ∷ [])) (take-take-append limit text line)
           ∙ take-take-append limit (text ++ line) (10 ∷ []) ∙ ap (λ (t : List ℕ). take limit t) (append_assoc text line (10 ∷ []))
-          ∙ ap (λ (n : ℕ). take n (text ++ ended line)) (sym same_limit);
+          ∙ ap (λ (n : ℕ). take n (text ++ with_newline line)) (sym same_limit);
       room = rw same_limit held.room;
     }
 
 -- ---- what a line means within a block
 
-meant-opened : (opened : Opened) (text line : List ℕ) → meant (opened_mode opened text) line
-    ≡ (if bytes_eq line (codes ".") then asks (edits (opened_change opened text)) else goes_on (opened_mode opened (text ++ ended line)))
-meant-opened (Insert at) text line = refl
-meant-opened (Replace at) text line = refl
+meaning_in-opened : (opened : Opened) (text line : List ℕ) → meaning_in (opened_mode opened text) line
+    ≡ (if bytes_eq line (codes ".") then asks (edits (opened_change opened text)) else goes_on (opened_mode opened (text ++ with_newline line)))
+meaning_in-opened (Insert at) text line = refl
+meaning_in-opened (Replace at) text line = refl
 
-pub meant-at_end : (mode : Mode) (now : Option Opened) (opened : Opened) (text line : List ℕ) → mode ≡ mode_of now text → now ≡ Some opened
-    → bytes_eq line (codes ".") ≡ true → meant mode line ≡ asks (edits (opened_change opened text))
-meant-at_end mode now opened text line is held dot =
-    ap (λ (m : Mode). meant m line) (is ∙ ap (λ (o : Option Opened). mode_of o text) held) ∙ meant-opened opened text line
-    ∙ ap (λ (b : Bool). if b then asks (edits (opened_change opened text)) else goes_on (opened_mode opened (text ++ ended line))) dot
+pub meaning_in-at_end : (mode : Mode) (now : Option Opened) (opened : Opened) (text line : List ℕ) → mode ≡ mode_of now text → now ≡ Some opened
+    → bytes_eq line (codes ".") ≡ true → meaning_in mode line ≡ asks (edits (opened_change opened text))
+meaning_in-at_end mode now opened text line is held dot =
+    ap (λ (m : Mode). meaning_in m line) (is ∙ ap (λ (o : Option Opened). mode_of o text) held) ∙ meaning_in-opened opened text line
+    ∙ ap (λ (b : Bool). if b then asks (edits (opened_change opened text)) else goes_on (opened_mode opened (text ++ with_newline line))) dot
 
-pub meant-in_block : (mode : Mode) (now : Option Opened) (opened : Opened) (text line : List ℕ) → mode ≡ mode_of now text → now ≡ Some opened
-    → bytes_eq line (codes ".") ≡ false → meant mode line ≡ goes_on (opened_mode opened (text ++ ended line))
-meant-in_block mode now opened text line is held other =
-    ap (λ (m : Mode). meant m line) (is ∙ ap (λ (o : Option Opened). mode_of o text) held) ∙ meant-opened opened text line
-    ∙ ap (λ (b : Bool). if b then asks (edits (opened_change opened text)) else goes_on (opened_mode opened (text ++ ended line))) other
+pub meaning_in-in_block : (mode : Mode) (now : Option Opened) (opened : Opened) (text line : List ℕ) → mode ≡ mode_of now text → now ≡ Some opened
+    → bytes_eq line (codes ".") ≡ false → meaning_in mode line ≡ goes_on (opened_mode opened (text ++ with_newline line))
+meaning_in-in_block mode now opened text line is held other =
+    ap (λ (m : Mode). meaning_in m line) (is ∙ ap (λ (o : Option Opened). mode_of o text) held) ∙ meaning_in-opened opened text line
+    ∙ ap (λ (b : Bool). if b then asks (edits (opened_change opened text)) else goes_on (opened_mode opened (text ++ with_newline line))) other
 
-pub meant-alone : (mode : Mode) (line : List ℕ) → mode ≡ outside → meant mode line ≡ alone line
-meant-alone mode line is = ap (λ (m : Mode). meant m line) is
+pub meaning_in-meaning_outside : (mode : Mode) (line : List ℕ) → mode ≡ outside → meaning_in mode line ≡ meaning_outside line
+meaning_in-meaning_outside mode line is = ap (λ (m : Mode). meaning_in m line) is
 
 -- ---- what a line leads to
 
-pub Led-on : (meaning : Meaning) (s : State) (d : Dialogue) (now : Observed) (mode : Mode) → meaning ≡ goes_on mode
-    → Holds d (state s.texts mode) → Led meaning s d now now (Ok tt)
-Led-on meaning s d now mode is held = record {
+pub ActsOn-on : (meaning : Meaning) (s : State) (d : Editor) (now : Observed) (mode : Mode) → meaning ≡ goes_on mode
+    → Holds d (state s.texts mode) → ActsOn meaning s d now now (Ok tt)
+ActsOn-on meaning s d now mode is held = record {
   next = state s.texts mode;
   reply = [];
   leads = subst (λ (m : Meaning). Leads m s (state s.texts mode) []) (sym is) (refl, refl);
@@ -140,10 +140,10 @@ Led-on meaning s d now mode is held = record {
   wrote = TakesAll-none now;
 }
 
-pub Led-asks : (meaning : Meaning) (s : State) (d : Dialogue) (before now : Observed) (result : Result Unit ToolError) (command : Command)
+pub ActsOn-asks : (meaning : Meaning) (s : State) (d : Editor) (before now : Observed) (result : Result Unit ToolError) (command : Command)
     (reply : List ℕ) → meaning ≡ asks command → Answers s.texts command d.database reply → Holds d (state d.database outside)
-    → Wrote before now reply result → Led meaning s d before now result
-Led-asks meaning s d before now result command reply is answers held wrote = record {
+    → Wrote before now reply result → ActsOn meaning s d before now result
+ActsOn-asks meaning s d before now result command reply is answers held wrote = record {
   next = state d.database outside;
   reply = reply;
   leads = subst (λ (m : Meaning). Leads m s (state d.database outside) reply) (sym is) (refl, answers);
@@ -151,32 +151,32 @@ Led-asks meaning s d before now result command reply is answers held wrote = rec
   wrote = wrote;
 }
 
-pub Led-edits : (meaning : Meaning) (s : State) (d : Dialogue) (before now : Observed) (result : Result Unit ToolError) (change : Change)
+pub ActsOn-edits : (meaning : Meaning) (s : State) (d : Editor) (before now : Observed) (result : Result Unit ToolError) (change : Change)
     (texts : List (List ℕ)) → meaning ≡ asks (edits change) → texts ≡ s.texts → CarriesOut texts change d.database before now result
-    → Holds d (state d.database outside) → Led meaning s d before now result
-Led-edits meaning s d before now result change texts is same carried held =
-    Led-asks meaning s d before now result (edits change) (outcome_text carried.outcome) is
+    → Holds d (state d.database outside) → ActsOn meaning s d before now result
+ActsOn-edits meaning s d before now result change texts is same carried held =
+    ActsOn-asks meaning s d before now result (edits change) (outcome_text carried.outcome) is
     (carried.outcome, subst (λ (t : List (List ℕ)). Step t change carried.outcome d.database) same carried.step, refl) held carried.wrote
 
-pub Led-reports : (meaning : Meaning) (s : State) (d : Dialogue) (before now : Observed) (result : Result Unit ToolError)
+pub ActsOn-reports : (meaning : Meaning) (s : State) (d : Editor) (before now : Observed) (result : Result Unit ToolError)
     (texts : List (List ℕ)) → meaning ≡ asks reports → texts ≡ s.texts → d.database ≡ texts → WroteReport texts before now result
-    → Holds d (state d.database outside) → Led meaning s d before now result
-Led-reports meaning s d before now result texts is same kept (inl wrote) held =
-    Led-asks meaning s d before now result reports _ is (kept ∙ same, inl (rw same refl)) held wrote
-Led-reports meaning s d before now result texts is same kept (inr wrote) held =
-    Led-asks meaning s d before now result reports _ is (kept ∙ same, inr refl) held wrote
+    → Holds d (state d.database outside) → ActsOn meaning s d before now result
+ActsOn-reports meaning s d before now result texts is same kept (inl wrote) held =
+    ActsOn-asks meaning s d before now result reports _ is (kept ∙ same, inl (rw same refl)) held wrote
+ActsOn-reports meaning s d before now result texts is same kept (inr wrote) held =
+    ActsOn-asks meaning s d before now result reports _ is (kept ∙ same, inr refl) held wrote
 
-pub Led-same : (meaning other : Meaning) (s : State) (d : Dialogue) (before now : Observed) (result : Result Unit ToolError) → meaning ≡ other
-    → Led other s d before now result → Led meaning s d before now result
-Led-same meaning other s d before now result is led =
-    subst (λ (m : Meaning). Led m s d before now result) (sym is) led
+pub ActsOn-same : (meaning other : Meaning) (s : State) (d : Editor) (before now : Observed) (result : Result Unit ToolError) → meaning ≡ other
+    → ActsOn other s d before now result → ActsOn meaning s d before now result
+ActsOn-same meaning other s d before now result is led =
+    subst (λ (m : Meaning). ActsOn m s d before now result) (sym is) led
 
-pub Led-prints : (meaning : Meaning) (s : State) (d : Dialogue) (before now : Observed) (result : Result Unit ToolError) (at : ℕ)
-    (texts : List (List ℕ)) → meaning ≡ asks (prints at) → texts ≡ s.texts → d.database ≡ texts → Wrote before now (printed texts at) result
-    → Holds d (state d.database outside) → Led meaning s d before now result
-Led-prints meaning s d before now result at texts is same kept wrote held =
-    Led-asks meaning s d before now result (prints at) (printed texts at) is
-    (kept ∙ same, ap (λ (t : List (List ℕ)). printed t at) same) held wrote
+pub ActsOn-prints : (meaning : Meaning) (s : State) (d : Editor) (before now : Observed) (result : Result Unit ToolError) (at : ℕ)
+    (texts : List (List ℕ)) → meaning ≡ asks (prints at) → texts ≡ s.texts → d.database ≡ texts → Wrote before now (print_reply texts at) result
+    → Holds d (state d.database outside) → ActsOn meaning s d before now result
+ActsOn-prints meaning s d before now result at texts is same kept wrote held =
+    ActsOn-asks meaning s d before now result (prints at) (print_reply texts at) is
+    (kept ∙ same, ap (λ (t : List (List ℕ)). print_reply t at) same) held wrote
 
 pub CarriesOut-of_front : (opened : Opened) (text : List ℕ) (limit : ℕ) (texts : List (List ℕ)) (change : Change) (next : List (List ℕ))
     (before now : Observed) (result : Result Unit ToolError) → 1048576 < limit → change ≡ opened_change opened (take limit text)

@@ -1,5 +1,5 @@
-pub mod Feeding
+pub mod Ending
 pub mod Leading
-pub mod Lines
+pub mod Running
 pub mod Printed
-pub mod OneSession
+pub mod OneOutput

@@ -7,11 +7,11 @@ use Rattle.std.proofs.lemmas.List.{take-append-drop}
 use Rattle.std.proofs.lemmas.Grind.{flat_map-append}
 use Rattle.ti_meaning.specs.Compiled.{compiled}
 use Rattle.ti_meaning.specs.declared.edits.EditError.TheVariants.{Position}
-use Rattle.ti_session.specs.Session.{entry_text, hex_of, printed, refused_text}
+use Rattle.ti_session.specs.Script.{entry_text, hex_of, print_reply, refused_text}
 
-pub printed-some : (texts : List (List ℕ)) (at : ℕ) (bytes : List ℕ) → at < length texts → Some bytes ≡ compiled texts at
-    → printed texts at ≡ flat_map hex_of bytes ++ 10 ∷ []
-printed-some texts at bytes low is =
+pub print_reply-some : (texts : List (List ℕ)) (at : ℕ) (bytes : List ℕ) → at < length texts → Some bytes ≡ compiled texts at
+    → print_reply texts at ≡ flat_map hex_of bytes ++ 10 ∷ []
+print_reply-some texts at bytes low is =
     ap (λ (b : _). if b then entry_text (compiled texts at) else refused_text Position) (lt-ltb at (length texts) low)
     ∙ ap entry_text (sym is)
 

@@ -1,6 +1,7 @@
 -- The definitions that the contracts of this crate cite.
-pub mod Dialogue
+pub mod Editor
 pub mod Replies
 pub mod Requests
-pub mod Session
+pub mod Script
 pub mod ScriptLaws
+pub mod Streaming

@@ -5,10 +5,10 @@ use Rattle.ti_meaning.specs.Report.{report}
 use Rattle.ti_meaning.specs.declared.edits.EditError.TheVariants.{Memory}
 use Rattle.ti_meaning.specs.declared.edits.Outcome.{Outcome}
 use Rattle.ti_devices.specs.Counted.{Observed}
-use Rattle.ti_devices.specs.Lines.{ended}
+use Rattle.ti_devices.specs.Lines.{with_newline}
 use Rattle.ti_devices.specs.Writing.{Wrote}
 use Rattle.ti_devices.specs.declared.tool_error.ToolError.{ToolError}
-use Rattle.ti_session.specs.Session.{outcome_text, refused_text}
+use Rattle.ti_session.specs.Script.{outcome_text, refused_text}
 
 -- an edit leads from one list of texts to the next, and its outcome was written
 pub record CarriesOut (texts : List (List ℕ)) (change : Change) (next : List (List ℕ)) (before now : Observed) (result : Result Unit ToolError)
@@ -20,4 +20,4 @@ pub record CarriesOut (texts : List (List ℕ)) (change : Change) (next : List (
 -- the report was written with its end, or that memory is wanting
 abbrev pub WroteReport : List (List ℕ) → Observed → Observed → Result Unit ToolError → Type 0
 WroteReport texts before now result =
-    Wrote before now (report texts 1 ++ ended (codes ".")) result ⊎ Wrote before now (refused_text Memory) result
+    Wrote before now (report texts 1 ++ with_newline (codes ".")) result ⊎ Wrote before now (refused_text Memory) result

@@ -5,7 +5,7 @@ use Rattle.ti_session.specs.declared.requests.Opened.{Opened}
 use Rattle.ti_session.specs.declared.requests.Opened.TheVariants.{Insert, Replace}
 use Rattle.ti_session.specs.declared.requests.Request.{Request}
 use Rattle.ti_session.specs.declared.requests.Request.TheVariants.{Nothing, Open, Remove, Relocate, Print, Report, Unknown}
-use Rattle.ti_session.specs.Session.{Mode, outside, putting_in, exchanging, Meaning, goes_on, asks, edits, prints, reports, unknown}
+use Rattle.ti_session.specs.Script.{Mode, outside, putting_in, exchanging, Meaning, goes_on, asks, edits, prints, reports, unknown}
 
 -- the mode of a block that was opened, with this text so far
 abbrev pub opened_mode : Opened → List ℕ → Mode

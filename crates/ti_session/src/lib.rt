@@ -1,13 +1,13 @@
 //! The session: a script that edits a source and asks of it, over any reader and writer, and its replies.
 //!
-//! - `streaming`: the session. `dialogue` holds the source and the block that is open, `requests` says
+//! - `streaming`: the session. `editor` holds the source and the block that is open, `requests` says
 //!   what a line asks for, and `replies` writes what it is answered
 //! - `script_laws`: the definition of a session leaves nothing open but want of memory
 //!
 //! The devices that it reads from and writes to are those of `ti_devices`.
 #![tactic(auto)]
 
-mod dialogue;
+mod editor;
 mod replies;
 mod requests;
 pub mod script_laws;

@@ -4,7 +4,7 @@ ghost use Rattle.std.specs.List.{flat_map};
 ghost use Rattle.ti_meaning.specs.Edits.{outcome_of};
 ghost use Rattle.ti_devices.specs.Counted.{observed};
 ghost use Rattle.ti_devices.specs.Writing.{Wrote};
-ghost use Rattle.ti_session.specs.Session.{hex_digit, hex_of, outcome_text, refused_text};
+ghost use Rattle.ti_session.specs.Script.{hex_digit, hex_of, outcome_text, refused_text};
 
 use arrayvec::ArrayVec;
 use std::io::Write;

@@ -1,7 +1,7 @@
 //! What a line of a session asks for, outside a block.
 ghost use Rattle.std.specs.Prelude.{◌≡◌, ◌==◌, ◌<◌, length, position, IfSome, Some};
 ghost use Rattle.ti_session.specs.Requests.{meaning_of};
-ghost use Rattle.ti_session.specs.Session.{alone, moves, number, numbered, two_numbers};
+ghost use Rattle.ti_session.specs.Script.{meaning_outside, moves, number, meaning_numbered, two_numbers};
 
 /// A block that lines are to follow for, and the position that it is for.
 #[derive(Clone, Copy)]
@@ -95,8 +95,8 @@ fn relocation(text: &[u8]) -> Request
 }
 
 // What a letter with a number asks for.
-fn numbered(letter: u8, at: usize) -> Request
-    ensures { meaning_of result ≡ numbered letter (Some at) }
+fn request_with_number(letter: u8, at: usize) -> Request
+    ensures { meaning_of result ≡ meaning_numbered letter (Some at) }
 {
     match letter {
         b'i' => Request::Open(Opened::Insert { at }),
@@ -109,7 +109,7 @@ fn numbered(letter: u8, at: usize) -> Request
 
 /// What a line asks for that stands outside a block.
 pub fn read_request(line: &[u8]) -> Request
-    ensures { meaning_of result ≡ alone line.now }
+    ensures { meaning_of result ≡ meaning_outside line.now }
 {
     let Some((letter, rest)) = line.split_first() else {
         return Request::Nothing;
@@ -128,7 +128,7 @@ pub fn read_request(line: &[u8]) -> Request
         return relocation(digits);
     }
     match number(digits) {
-        Some(at) => numbered(*letter, at),
+        Some(at) => request_with_number(*letter, at),
         None => Request::Unknown,
     }
 }

@@ -6,7 +6,8 @@ pub fn one_answer()
     ensures { OneAnswer }
 {}
 
-/// A script has one output, or two outputs of it part where one of them says that memory is wanting.
+/// Two outputs of one script are equal, or equal up to a place where one of them says that memory is
+/// wanting.
 pub fn one_output()
     ensures { OneOutput }
 {}

@@ -7,7 +7,8 @@ use Rattle.ti_source.specs.declared.items.Taken.TheVariants as taken
 use Rattle.ti_source.specs.WhiteSpace.{is_white_space, trimmed}
 use Rattle.ti_source.specs.Blocks.{last_byte}
 use Rattle.ti_source.specs.Folding.{Placed}
-use Rattle.ti_source.specs.Items.{HasNoComma, Begins, all_field, field_and_rest, field_of, after_field, takes, stands_alone, AreItems, last_item, item_ends, pair_of_bytes, single_byte, taken_after, cuts, with_first, items_of, is_mark, HasNoMark, IsWhite, IsEnabled, States, empty_item, disabled_item, number_item, text_item, cancel_item, flag_item, Statement, claims_flag, claims_number, claims_text, claims_cancel, before_mark, from_mark, without_last, unmarked, valued, marked, statement_of}
+use Rattle.ti_source.specs.Items.{HasNoComma, Begins, all_field, field_and_rest, takes, stands_alone, AreItems, last_item, item_ends, pair_of_bytes, single_byte, is_mark, HasNoMark, IsWhite, IsEnabled, States, empty_item, disabled_item, number_item, text_item, cancel_item, flag_item, Statement, claims_flag, claims_number, claims_text, claims_cancel}
+use Rattle.ti_source.specs.inside.Items.{field_of, after_field, taken_after, cuts, with_first, items_of, before_mark, from_mark, without_last, unmarked, valued, marked, statement_of}
 use Rattle.ti_source.proofs.ItemLemmas.{items_of-plain}
 use Rattle.ti_source.proofs.TextLemmas.{kept_before, kept_before-visible, without_end, trimmed-is, last_byte-push, without_last-push}
 

@@ -19,13 +19,19 @@ use Rattle.ti_source.specs.WhiteSpace.{is_white_space}
 use Rattle.ti_source.specs.Blocks.{last_byte}
 use Rattle.ti_source.specs.Lines.{line_count}
 use Rattle.ti_source.specs.Codes.{is_error, is_of_header}
-use Rattle.ti_source.specs.Header.{IsBadHeader, HeaderNames, IsLookupName, header_names}
-use Rattle.ti_source.specs.Numbers.{number_read, ReadsAs}
-use Rattle.ti_spelling.specs.Spelling.{unescaped, ValuesAreSound}
+use Rattle.ti_source.specs.Header.{IsBadHeader, HeaderNames, IsLookupName}
+use Rattle.ti_source.specs.inside.Header.{header_names}
+use Rattle.ti_source.specs.Numbers.{ReadsAs}
+use Rattle.ti_source.specs.inside.Numbers.{number_read}
+use Rattle.ti_spelling.specs.inside.Spelling.{unescaped, ValuesAreSound}
 use Rattle.ti_source.specs.Folding.{Placed, placed, in_comment, without_comments, joined, folded}
-use Rattle.ti_source.specs.Items.{Claim, claims_flag, claims_number, claims_text, claims_cancel, Statement, bytes, after_field, taken_after, cuts, with_first, items_of, without_front, line_of, piece_of, statement_of}
+use Rattle.ti_source.specs.Items.{Claim, claims_flag, claims_number, claims_text, claims_cancel, Statement, bytes, without_front, line_of, piece_of}
+use Rattle.ti_source.specs.inside.Items.{after_field, taken_after, cuts, with_first, items_of, statement_of}
 use Rattle.ti_source.specs.Reading.{ReadItem, ReadFault}
-use Rattle.ti_source.specs.Parsing.{Verdict, accepted, accepted_odd, refused, is_import, number_verdict, text_verdict, fitting_verdict, named_verdict, verdict_of, items_by, faults_by, items_at, faults_at, items_from, faults_from, names_limit, header_fault, names_found, header_faults, block_field, block_items, parsed}
+use Rattle.ti_source.specs.inside.Parsing.{items_at, faults_at, items_from, faults_from, names_found, header_faults, block_field, block_items, parsed}
+use Rattle.ti_source.specs.inside.Verdicts.{number_verdict, text_verdict, fitting_verdict, named_verdict, verdict_of}
+use Rattle.ti_source.specs.Header.{names_limit}
+use Rattle.ti_source.specs.Verdicts.{Verdict, accepted, accepted_odd, refused, is_import, items_by, faults_by, header_fault}
 use Rattle.ti_source.specs.Sound.{SetsItsKind, IsLineOf, IsWritable, IsRising, EachIsWellRead}
 use Rattle.ti_source.proofs.CutLemmas.{lines_add}
 use Rattle.ti_source.proofs.HeaderLemmas.{each_header}

@@ -5,7 +5,8 @@ use Rattle.std.proofs.lemmas.Bool.{ne_eqb, cases_Bool, and_parts}
 use Rattle.memchr.specs.Find.{NoneBefore}
 use Rattle.ti_source.specs.WhiteSpace.{is_white_space, trimmed}
 use Rattle.ti_source.specs.Blocks.{last_byte}
-use Rattle.ti_source.specs.Items.{is_mark, before_mark, from_mark, without_last, unmarked, valued, marked, statement_of}
+use Rattle.ti_source.specs.Items.{is_mark}
+use Rattle.ti_source.specs.inside.Items.{before_mark, from_mark, without_last, unmarked, valued, marked, statement_of}
 
 -- a text with one more byte at its front, if that is no white space before nothing
 abbrev pub kept_before : ℕ → List ℕ → List ℕ

@@ -1,20 +1,7 @@
 // The names field and the items of a block, and what an item states.
 ghost use Rattle.std.specs.Prelude.{◌≡◌, ◌+◌, ◌<◌, ◌≤◌, IfOk, IfSome, OnOk, length, take, drop, slice_index, option_map};
-ghost use Rattle.ti_source.specs.Items.{
-  taken_after,
-  cuts,
-  bytes,
-  field_of,
-  after_field,
-  TakesItem,
-  piece,
-  with_byte,
-  stated,
-  statement_of,
-  valued,
-  unmarked,
-  stripped,
-};
+ghost use Rattle.ti_source.specs.Items.{bytes, piece, stripped};
+ghost use Rattle.ti_source.specs.inside.Items.{taken_after, cuts, field_of, after_field, TakesItem, with_byte, stated, statement_of, valued, unmarked};
 
 use crate::folding::Folded;
 use crate::white_space::{is_white_space, trim_end};

@@ -2,17 +2,9 @@
 ghost use Rattle.std.specs.Prelude.{◌≡◌, ◌<◌, ◌+◌, ◌^◌, IfOk, OnOk, length};
 ghost use Rattle.ti_source.specs.Blocks.{OneBlock};
 ghost use Rattle.ti_source.specs.Items.{piece};
-ghost use Rattle.ti_source.specs.Parsing.{
-  Parses,
-  parsed,
-  HasReading,
-  OneReading,
-  AddsItem,
-  AddsItems,
-  ReadsField,
-  header_fault,
-  item_fault,
-};
+ghost use Rattle.ti_source.specs.Parsing.{Parses, HasReading, OneReading};
+ghost use Rattle.ti_source.specs.inside.Parsing.{parsed, AddsItem, AddsItems, ReadsField};
+ghost use Rattle.ti_source.specs.Verdicts.{header_fault, item_fault};
 ghost use Rattle.ti_source.specs.Reading.{fault_of, reading_of};
 ghost use Rattle.ti_source.specs.Sound.{EachIsWellRead, IsWellRead};
 
@@ -25,16 +17,14 @@ use std::alloc::{AllocError, Global};
 use std::rc::RcSlice;
 use ti_caps::{Cap, Kind, count};
 use ti_spelling::one_outcome;
-
-/// The most bytes that a names field may have.
-const NAMES_LIMIT: usize = 127;
+use ti_text::limits::NAMES_MAX;
 
 /// What an accepted item says.
 #[derive(Debug, Drop)]
 pub enum What {
     /// A flag is there.
     Flag(Cap),
-    /// A number has this value, at most 32,767.
+    /// A number has this value, at most 2,147,483,647.
     Number(Cap, u32),
     /// A text has these bytes, none of them a NUL.
     Text(Cap, RcSlice<u8>),
@@ -125,7 +115,7 @@ fn read_header(alloc: Global, field: Vec<u8>) -> Result<Parsed, AllocError>
             Vec::new(alloc)
         }
         Some(names) => {
-            if field.len() > NAMES_LIMIT {
+            if field.len() > NAMES_MAX {
                 faults.push(header_fault(Code::NamesTooLong))?;
             }
             names
@@ -333,8 +323,8 @@ mod tests {
                 "0:1 W2 WrongKind cols;1:1 W2 WrongKind bel;2:1 W2 WrongKind am;",
             ),
             (
-                "x,cols#0x7fff ,it#32768,lm#00,\n",
-                "0:1 cols#32767;2:1 lm#0;1:1 E4 NumberTooLarge it;",
+                "x,cols#0x7fffffff ,it#2147483648,lm#00,\n",
+                "0:1 cols#2147483647;2:1 lm#0;1:1 E4 NumberTooLarge it;",
             ),
             ("x,bel=,\n", "0:1 bel=;"),
             ("a|,am,\n", "0:1 am;0:1 E1 BadHeader ;"),

@@ -1,9 +1,9 @@
 // What comes of what an item states.
 ghost use Rattle.std.specs.Prelude.{◌≡◌, IfOk};
-ghost use Rattle.ti_source.specs.Items.{stated};
-ghost use Rattle.ti_source.specs.Numbers.{number_read};
-ghost use Rattle.ti_source.specs.Parsing.{verdict_in_memory, verdict_of, number_verdict, text_verdict};
-ghost use Rattle.ti_spelling.specs.Spelling.{unescaped};
+ghost use Rattle.ti_source.specs.inside.Items.{stated};
+ghost use Rattle.ti_source.specs.inside.Numbers.{number_read};
+ghost use Rattle.ti_source.specs.inside.Verdicts.{verdict_in_memory, verdict_of, number_verdict, text_verdict};
+ghost use Rattle.ti_spelling.specs.inside.Spelling.{unescaped};
 
 use crate::code::Code;
 use crate::items::{Claim, Statement, stripped};

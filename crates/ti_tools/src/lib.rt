@@ -6,6 +6,7 @@
 //! - `compiling`: what `tic` makes of a source: files, a report and a status. Before it `sources`
 //!   refuses what is over a limit, `held` puts the blocks into a database, and `entry_files` names
 //!   the files of the entries
+//! - `laws`: that the listing of an entry, and its relative source, compile back to the entry
 //!
 //! The crate `ti_session` below it has the session, and `ti_devices` the counted devices, the trees of files
 //! and the errors of the tools; their calls are public here too.
@@ -17,6 +18,7 @@ pub mod compiling;
 mod entry_files;
 mod held;
 pub mod jobs;
+pub mod laws;
 mod outcome;
 mod sources;
 

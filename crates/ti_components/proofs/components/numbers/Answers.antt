@@ -1,4 +1,4 @@
-use Rattle.std.proofs.Common.{◌≡◌, Some, ap, sym, ◌∙◌, get_or}
+use Rattle.std.proofs.Common.{Some, ap, sym, ◌∙◌, get_or}
 use Rattle.std.proofs.lemmas.Option.{slice_get-get_or, same_Some}
 use Rattle.ti_components.specs.declared.search.Progress.TheVariants.{Unseen, Closed}
 use Rattle.ti_components.proofs.Ending.{numbers_more}

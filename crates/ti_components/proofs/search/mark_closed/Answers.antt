@@ -1,4 +1,4 @@
-use Rattle.std.proofs.Common.{◌<◌, length, arith}
+use Rattle.std.proofs.Common.{length, arith}
 use Rattle.ti_components.specs.Walk.{AreNodes}
 use Rattle.ti_components.proofs.Searching.{marks_more}
 use Rattle.ti_components.proofs.search.mark_closed.Goals as goal

@@ -1,6 +1,7 @@
 use Rattle.std.proofs.Common.{◌≡◌, min, true, false, [], ◌∷◌, ap, sym, ◌∙◌, arith}
 use Rattle.std.proofs.lemmas.List.{nil_from_length}
-use Rattle.ti_param.specs.Codes.{span, is_digit, decimal_from}
+use Rattle.ti_param.specs.Codes.{span}
+use Rattle.ti_text.specs.Digits.{is_digit, decimal_from}
 use Rattle.ti_param.proofs.Numbers.{span-go, span-end, number-step, number-ends}
 use Rattle.ti_param.proofs.decimals.number.Goals as goal
 use Rattle.ti_param.proofs.decimals.number.Goals.{in-Some+then-not-is_ascii_digit, in_default}

@@ -1,5 +1,6 @@
 use Rattle.std.proofs.Common.{◌≡◌, ◌^◌, ◌-◌, ◌<◌, min, length}
-use Rattle.ti_param.specs.Codes.{span, is_digit, decimal, decimal_from}
+use Rattle.ti_param.specs.Codes.{span}
+use Rattle.ti_text.specs.Digits.{is_digit, decimal, decimal_from}
 use Rattle.ti_param.proofs.decimals.number.Given as goal
 
 -- the digits that are left finish the number

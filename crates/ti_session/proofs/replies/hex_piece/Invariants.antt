@@ -1,7 +1,7 @@
 use Rattle.std.proofs.Common.{◌≡◌, ◌*◌, take}
 use Rattle.std.specs.List.{flat_map}
 use Rattle.arrayvec.specs.ArrayVec.{array_vec_len}
-use Rattle.ti_session.specs.Session.{hex_of}
+use Rattle.ti_session.specs.Script.{hex_of}
 use Rattle.ti_session.proofs.replies.hex_piece.Given as goal
 
 -- the bytes before the next are spelled

@@ -2,7 +2,7 @@ use Rattle.std.proofs.Common.{◌≡◌, ℕ, List, ◌++◌, length}
 use Rattle.std.specs.List.{flat_map}
 use Rattle.ti_devices.specs.Counted.{observed}
 use Rattle.ti_devices.specs.Writing.{TakesAll}
-use Rattle.ti_session.specs.Session.{hex_of}
+use Rattle.ti_session.specs.Script.{hex_of}
 use Rattle.ti_session.proofs.replies.write_hex.Given as goal
 
 -- the bytes before the rest are spelled

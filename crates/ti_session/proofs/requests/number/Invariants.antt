@@ -1,6 +1,6 @@
 use Rattle.std.proofs.Common.{◌≡◌, ◌<◌, ◌^◌, take, true}
 use Rattle.std.specs.List.{list_all}
-use Rattle.ti_session.specs.Session.{decimal, is_digit}
+use Rattle.ti_session.specs.Script.{decimal, is_digit}
 use Rattle.ti_session.proofs.requests.number.Given as goal
 
 -- the digits before the next are read

@@ -1,4 +1,4 @@
-use Rattle.ti_session.proofs.OneSession.{one_answer-law}
+use Rattle.ti_session.proofs.OneOutput.{one_answer-law}
 use Rattle.ti_session.proofs.script_laws.one_answer.Goals as goal
 
 pub returns : goal.returns

@@ -1,4 +1,4 @@
-use Rattle.ti_session.proofs.OneSession.{one_output-law}
+use Rattle.ti_session.proofs.OneOutput.{one_output-law}
 use Rattle.ti_session.proofs.script_laws.one_output.Goals as goal
 
 pub returns : goal.returns

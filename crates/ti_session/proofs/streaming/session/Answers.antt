@@ -1,32 +1,49 @@
-use Rattle.std.proofs.Common.{rules}
 use Rattle.std.proofs.lemmas.Result.{err_from_is_err_and}
-use Rattle.ti_session.proofs.Feeding.{Ends-finished, Ends-read_fault, Ends-stops, Reads-on}
+use Rattle.ti_devices.specs.Counted.{observed}
+use Rattle.ti_session.proofs.Ending.{Ends-end, Ends-fault, Ends-last, Ends-last_cut, Ends-line, Progress-line, Progress-start}
 use Rattle.ti_session.proofs.streaming.session.Goals as goal
 
-pub returns-in_err-count : goal.returns-in_err-count
-returns-in_err-count g c =
-    let r = c.loop-turn.invariant.reads in
-    let p = err_from_is_err_and c.from_residual-in_err-count.result c.from_residual-in_err-count.ensures.1 in
-    rw (p.1, p.2) (Ends-read_fault _ _ _ _ _ _ _ _ r _ c.in_err-count.ensures.bytes)
+pub loop-editor-init : goal.loop-editor-init
+loop-editor-init g c =
+    Progress-start _ _ c.in_ok-lines.lines c.in_ok-editor.editor c.in_ok-lines.ensures.limit c.in_ok-lines.ensures.ahead c.in_ok-lines.ensures.reads c.in_ok-editor.ensures
 
-pub returns-then-count-eq0 : goal.returns-then-count-eq0
-returns-then-count-eq0 g c =
-    let r = c.loop-turn.invariant.reads in
-    let came = c.in_ok-count.ensures.bytes in
-    Ends-finished _ _ _ _ _ _ _ _ r _ c.finish.result (rw c.if-count-eq0.true at came.1) (came.2 c.if-count-eq0.true)
-    (c.finish.ensures r.taken _ r.progress)
+pub returns-in_err-read_line-clause-ends : goal.returns-in_err-read_line-clause-ends
+returns-in_err-read_line-clause-ends g c =
+    let p = err_from_is_err_and c.from_residual-in_err-read_line.result c.from_residual-in_err-read_line.ensures.1 in
+    rw (p.1, p.2) (Ends-fault _ _ c.loop-editor.lines c.loop-editor.editor _ _ c.loop-editor.invariant c.read_line.new.self _ _
+    c.in_err-read_line.ensures.next c.in_err-read_line.ensures.spends)
 
-pub returns-in_err-feed : goal.returns-in_err-feed
-returns-in_err-feed g c =
-    let r = c.loop-turn.invariant.reads in
-    let p = err_from_is_err_and c.from_residual-in_err-feed.result c.from_residual-in_err-feed.ensures.1 in
-    rw (p.1, p.2) (Ends-stops _ _ _ _ _ _ _ _ r _ _ _ c.in_ok-count.ensures.bytes.1
-    (c.in_err-feed.ensures.fed r.taken _ r.progress))
+pub loop-editor-preserved : goal.loop-editor-preserved
+loop-editor-preserved g c =
+    let p = c.loop-editor.invariant in
+    Progress-line _ _ c.loop-editor.lines c.loop-editor.editor _ _ p c.read_line.new.self (observed g.R.Read.remaining c.read_line.new.reader)
+    (rw c.in-Line.is at c.in_ok-read_line.ensures.next) c.take_line.new.self (observed g.W.Write.contents c.take_line.new.writer)
+    c.in_ok-read_line.ensures.spends (rw c.line.ensures at (c.in_ok-take_line-in-Line.ensures p.state p.holds))
 
-pub loop-turn-preserved : goal.loop-turn-preserved
-loop-turn-preserved g c =
-    let r = c.loop-turn.invariant.reads in record {
-      limit = c.in_ok-feed.ensures.limit;
-      reads = Reads-on c.loop-turn._turn _ _ _ _ _ _ _ _ _ _ _ r c.in_ok-count.ensures.bytes.1 (search rules)
-          (c.in_ok-feed.ensures.fed r.taken _ r.progress);
-    }
+pub returns-in_err-take_line-in-Line-clause-ends : goal.returns-in_err-take_line-in-Line-clause-ends
+returns-in_err-take_line-in-Line-clause-ends g c =
+    let p = c.loop-editor.invariant in
+    let e = err_from_is_err_and c.from_residual-in_err-take_line-in-Line.result c.from_residual-in_err-take_line-in-Line.ensures.1 in
+    rw (e.1, e.2) (Ends-line _ _ c.loop-editor.lines c.loop-editor.editor _ _ p c.read_line.new.self (observed g.R.Read.remaining c.read_line.new.reader)
+    (rw c.in-Line.is at c.in_ok-read_line.ensures.next) c.take_line.new.self (observed g.W.Write.contents c.take_line.new.writer) _
+    (rw c.line.ensures at (c.in_err-take_line-in-Line.ensures p.state p.holds)))
+
+pub returns-in_err-take_line-in-LastLine-clause-ends : goal.returns-in_err-take_line-in-LastLine-clause-ends
+returns-in_err-take_line-in-LastLine-clause-ends g c =
+    let p = c.loop-editor.invariant in
+    let e = err_from_is_err_and c.from_residual-in_err-take_line-in-LastLine.result c.from_residual-in_err-take_line-in-LastLine.ensures.1 in
+    rw (e.1, e.2) (Ends-last_cut _ _ c.loop-editor.lines c.loop-editor.editor _ _ p c.read_line.new.self (observed g.R.Read.remaining c.read_line.new.reader)
+    (rw c.in-LastLine.is at c.in_ok-read_line.ensures.next) c.take_line-in-LastLine.new.self (observed g.W.Write.contents c.take_line-in-LastLine.new.writer) _
+    (rw c.line-in-LastLine.ensures at (c.in_err-take_line-in-LastLine.ensures p.state p.holds)))
+
+pub returns-in-LastLine-clause-ends : goal.returns-in-LastLine-clause-ends
+returns-in-LastLine-clause-ends g c =
+    let p = c.loop-editor.invariant in
+    Ends-last _ _ c.loop-editor.lines c.loop-editor.editor _ _ p c.read_line.new.self (observed g.R.Read.remaining c.read_line.new.reader)
+    (rw c.in-LastLine.is at c.in_ok-read_line.ensures.next) c.take_line-in-LastLine.new.self (observed g.W.Write.contents c.take_line-in-LastLine.new.writer)
+    (rw c.line-in-LastLine.ensures at (c.in_ok-take_line-in-LastLine.ensures p.state p.holds)) _ _ c.close.ensures
+
+pub returns-in-End-clause-ends : goal.returns-in-End-clause-ends
+returns-in-End-clause-ends g c =
+    Ends-end _ _ c.loop-editor.lines c.loop-editor.editor _ _ c.loop-editor.invariant c.read_line.new.self (observed g.R.Read.remaining c.read_line.new.reader)
+    (rw c.in-End.is at c.in_ok-read_line.ensures.next) _ _ c.close-in-End.ensures

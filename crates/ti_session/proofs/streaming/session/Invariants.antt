@@ -1,15 +1,13 @@
-use Rattle.std.proofs.Common.{◌≡◌}
 use Rattle.ti_devices.specs.Counted.{observed}
-use Rattle.ti_session.specs.Session.{line_max}
-use Rattle.ti_session.proofs.Feeding.{Reads}
+use Rattle.ti_devices.specs.LineReader.{bytes_left}
+use Rattle.ti_session.proofs.Ending.{Progress}
 use Rattle.ti_session.proofs.streaming.session.Given as goal
 
--- so many reads gave what was taken
-abbrev pub invariant-loop-turn : goal.invariant-loop-turn
-invariant-loop-turn g l = record {
-  limit : l.line.limit ≡ line_max;
-  reads : Reads l._turn (observed g.R.Read.remaining l.initial.reader)
-      (observed g.R.Read.remaining l.reader) l.line.bytes l.dialogue
-      (observed g.W.Write.contents l.initial.writer)
-      (observed g.W.Write.contents l.writer);
-}
+-- the lines that were read are answered
+abbrev pub invariant-loop-editor : goal.invariant-loop-editor
+invariant-loop-editor g l =
+    Progress (observed g.R.Read.remaining l.initial.reader) (observed g.R.Read.remaining l.reader) l.lines l.editor
+    (observed g.W.Write.contents l.initial.writer) (observed g.W.Write.contents l.writer)
+
+abbrev pub decreases-loop-editor : goal.decreases-loop-editor
+decreases-loop-editor g l = bytes_left l.lines

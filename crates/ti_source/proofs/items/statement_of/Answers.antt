@@ -1,5 +1,5 @@
 use Rattle.std.proofs.Common.{Some, ap, sym, ◌∙◌}
-use Rattle.ti_source.specs.Items.{unmarked}
+use Rattle.ti_source.specs.inside.Items.{unmarked}
 use Rattle.ti_source.proofs.TextLemmas.{statement-marked, statement-plain}
 use Rattle.ti_source.proofs.items.statement_of.Goals as goal
 

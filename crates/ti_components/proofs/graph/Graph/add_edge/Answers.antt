@@ -1,4 +1,4 @@
-use Rattle.std.proofs.Common.{sym, ◌∙◌}
+use Rattle.std.proofs.Common.{◌∙◌}
 use Rattle.ti_components.proofs.Rows.{rows_of-push_target, AreStarts-push_target}
 use Rattle.ti_components.proofs.graph.Graph.add_edge.Goals as goal
 

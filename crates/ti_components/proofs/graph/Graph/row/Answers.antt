@@ -1,7 +1,6 @@
-use Rattle.std.proofs.Common.{◌≡◌, ◌∙◌, sym, ap, length, arith}
+use Rattle.std.proofs.Common.{◌∙◌, sym, ap, length, arith}
 use Rattle.std.specs.List.{slice_get}
 use Rattle.ti_components.proofs.Rows.{length-rows_of}
-use Rattle.ti_components.specs.Graph.{rows_of}
 use Rattle.ti_components.proofs.graph.Graph.row.Goals as goal
 
 pub row_bounds-start-requires-clause-within : goal.row_bounds-start-requires-clause-within

@@ -15,7 +15,7 @@ returns-in-OnPath c =
     let old = c.args.self.now in
     let here = slice_get_read old.progress.items (vec_len old.progress) c.in-Some.target c.index.result.now old.progress.ok.0 (c.requires.within c.in-Some.target c.in-Some.is) c.index.ensures in
     rw c.in-Some.is (follow_cut old (record { progress = old.progress; cursors = old.cursors; path = old.path; starts = c.cut_above.new.starts; active = old.active; order = old.order }) c.in-Some.target c.in-OnPath.place
-      (rw c.in-OnPath.is at here) c.cut_above.ensures refl refl refl refl refl)
+    (rw c.in-OnPath.is at here) c.cut_above.ensures refl refl refl refl refl)
 
 pub returns-in-Closed : goal.returns-in-Closed
 returns-in-Closed c =

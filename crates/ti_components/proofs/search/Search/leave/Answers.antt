@@ -1,6 +1,5 @@
-use Rattle.std.proofs.Common.{◌≡◌, suc, ◌-◌, ◌<◌, length, take, refl, sym, ◌∙◌, ap, arith}
+use Rattle.std.proofs.Common.{◌≡◌, suc, ◌-◌, length, refl, arith}
 use Rattle.std.specs.Vec.{vec_len}
-use Rattle.std.specs.List.{slice_get}
 use Rattle.std.proofs.lemmas.Option.{slice_get_read}
 use Rattle.ti_components.proofs.Searching.{leave_only, leave_closed}
 use Rattle.ti_components.proofs.search.Search.leave.Goals as goal
@@ -15,7 +14,7 @@ returns-else-index-place c =
     let here = slice_get_read old.active.items (vec_len old.active) top c.index-place.result.now old.active.ok.0 (omega (arith, old.active.ok.0)) c.index-place.ensures in
     let start = slice_get_read old.starts.items (vec_len old.starts) last c.index.result.now old.starts.ok.0 (omega (arith, old.starts.ok.0)) c.index.ensures in
     leave_only old (record { progress = old.progress; cursors = old.cursors; path = old.path; starts = old.starts; active = c.truncate.new.self; order = old.order })
-      top last c.index-place.result.now c.index.result.now active_count here start_count start c.if-index-place.false refl refl refl refl c.truncate.ensures.items refl
+    top last c.index-place.result.now c.index.result.now active_count here start_count start c.if-index-place.false refl refl refl refl c.truncate.ensures.items refl
 
 pub returns-in_ok-close : goal.returns-in_ok-close
 returns-in_ok-close c =
@@ -27,4 +26,4 @@ returns-in_ok-close c =
     let here = slice_get_read old.active.items (vec_len old.active) top c.index-place.result.now old.active.ok.0 (omega (arith, old.active.ok.0)) c.index-place.ensures in
     let start = slice_get_read old.starts.items (vec_len old.starts) last c.index.result.now old.starts.ok.0 (omega (arith, old.starts.ok.0)) c.index.ensures in
     leave_closed old (record { progress = old.progress; cursors = old.cursors; path = old.path; starts = c.truncate-then-index-place.new.self; active = c.truncate.new.self; order = old.order })
-      c.close.new.self top last c.index-place.result.now active_count here start_count (rw c.if-index-place.true at start) refl refl refl c.truncate-then-index-place.ensures.items c.truncate.ensures.items refl c.in_ok-close.ensures
+    c.close.new.self top last c.index-place.result.now active_count here start_count (rw c.if-index-place.true at start) refl refl refl c.truncate-then-index-place.ensures.items c.truncate.ensures.items refl c.in_ok-close.ensures

@@ -1,4 +1,4 @@
-use Rattle.ti_components.proofs.Searching.{walking_begun, walking_more}
+use Rattle.ti_components.proofs.Searching.{walking_begun}
 use Rattle.ti_components.proofs.search.Search.walk.Goals as goal
 
 pub loop-self-init : goal.loop-self-init

@@ -1,0 +1,211 @@
+-- How a session goes on with each line that is read, and how it ends.
+use Rattle.std.proofs.Common.{◌≡◌, ℕ, ◌+◌, ◌<◌, ◌≤◌, List, [], ◌∷◌, ◌++◌, length, Result, Ok, Err, refl, sym, ap, ◌∙◌, subst, arith, append_assoc, append-nil, inl, inr}
+use Rattle.std.specs.Io.KnownBytes.{Consumes, IsAtEnd}
+use Rattle.ti_devices.proofs.Written.{Consumes-then, Gives-none, Gives-then, TakesAll-none, TakesAll-then, TakesFront-more, TakesFront-then}
+use Rattle.ti_devices.specs.Counted.{Observed}
+use Rattle.ti_devices.specs.LineReader
+use Rattle.ti_devices.specs.LineReader.{ReadsLine, SpendsReads, ahead_of, limit_of, line_of, reads_left_of}
+use Rattle.ti_devices.specs.Lines.{with_newline}
+use Rattle.ti_devices.specs.Reading.{Gives}
+use Rattle.ti_devices.specs.Writing.{TakesAll, Wrote}
+use Rattle.ti_devices.specs.declared.line_reader.LineReader.{LineReader}
+use Rattle.ti_devices.specs.declared.line_reader.Next.TheVariants.{Line, LastLine, End}
+use Rattle.ti_devices.specs.declared.tool_error.ToolError.{ToolError}
+use Rattle.ti_devices.specs.declared.tool_error.ToolError.TheVariants.{Usage, NoTerminal, BadEntry, ReadFault, WriteFault, LineTooLong, BlockTooLong, TooManyBlocks, Memory}
+use Rattle.ti_session.specs.declared.editor.Editor.{Editor}
+use Rattle.ti_session.specs.Editor.{ActsOn, Holds}
+use Rattle.ti_session.specs.Script.{Complete, IsShortLine, Session, State, closing, line_max, meaning_in, start}
+use Rattle.ti_session.specs.Streaming.{CannotRead, Ends, reads_max}
+use Rattle.ti_session.proofs.Running.{Complete-last, Complete-ran, Ran, Ran-line, Ran-none, SoFar-ran, bytes_of, bytes_of-more}
+
+-- the lines that were read are answered, and what was read behind them is ahead
+pub record Progress (given left : Observed) (reading : LineReader) (editor : Editor) (before now : Observed) : Type 0 where
+  pub lines : List (List ℕ)
+  pub state : State
+  pub output : List ℕ
+  pub ran : Ran lines state output
+  pub gives : Gives given left (bytes_of lines ++ ahead_of reading)
+  pub holds : Holds editor state
+  pub written : TakesAll before now output
+  pub limit : limit_of reading ≡ line_max
+  pub reads : reads_left_of reading + left.reads ≡ reads_max + given.reads
+
+pub Progress-start : (given before : Observed) (reading : LineReader) (editor : Editor) → limit_of reading ≡ line_max
+    → ahead_of reading ≡ [] → reads_left_of reading ≡ reads_max → Holds editor start → Progress given given reading editor before before
+Progress-start given before reading editor limit ahead reads holds = record {
+  lines = [];
+  state = start;
+  output = [];
+  ran = Ran-none;
+  gives = subst (λ (t : List ℕ). Gives given given t) (sym ahead) (Gives-none given);
+  holds = holds;
+  written = TakesAll-none before;
+  limit = limit;
+  reads = ap (λ (n : ℕ). n + given.reads) reads;
+}
+
+module _ (given left : Observed) (reading : LineReader) (editor : Editor) (before now : Observed)
+    (p : Progress given left reading editor before now) where
+  -- the reader gave what was ahead and more
+  gives-more : (later : Observed) (taken : List ℕ) → Gives left later taken → Gives given later (bytes_of p.lines ++ (ahead_of reading ++ taken))
+  gives-more later taken gives =
+      subst (λ (t : List ℕ). Gives given later t) (append_assoc (bytes_of p.lines) (ahead_of reading) taken)
+      (Gives-then given left later (bytes_of p.lines ++ ahead_of reading) taken p.gives gives)
+
+  spent : (next : LineReader) (later : Observed) → SpendsReads reading next left later → reads_left_of next + later.reads ≡ reads_max + given.reads
+  spent next later s = s.reads ∙ p.reads
+
+  short : (line : List ℕ) → length line ≤ limit_of reading → IsShortLine line
+  short line low = subst (λ (n : ℕ). length line ≤ n) p.limit low
+
+  -- a line with its newline was read
+  module _ (next : LineReader) (later : Observed) (r : ReadsLine reading next left later (Ok Line)) where
+    gives-line : Gives given later ((bytes_of p.lines ++ with_newline (line_of next)) ++ ahead_of next)
+    gives-line =
+        subst (λ (t : List ℕ). Gives given later t)
+        (ap (λ (t : List ℕ). bytes_of p.lines ++ t) r.2 ∙ sym (append_assoc (bytes_of p.lines) (with_newline (line_of next)) (ahead_of next)))
+        (gives-more later r.0 r.1)
+
+    pub Progress-line : (editor2 : Editor) (now2 : Observed) → SpendsReads reading next left later
+        → ActsOn (meaning_in p.state.mode (line_of next)) p.state editor2 now now2 (Ok tt)
+        → Progress given later next editor2 before now2
+    Progress-line editor2 now2 s acts = record {
+      lines = p.lines ++ line_of next ∷ [];
+      state = acts.next;
+      output = p.output ++ acts.reply;
+      ran = Ran-line p.lines p.state acts.next (line_of next) p.output acts.reply p.ran r.3 (short (line_of next) r.4) acts.leads;
+      gives = subst (λ (t : List ℕ). Gives given later (t ++ ahead_of next)) (sym (bytes_of-more p.lines (line_of next))) gives-line;
+      holds = acts.holds;
+      written = TakesAll-then before now now2 p.output acts.reply p.written acts.wrote;
+      limit = s.limit ∙ p.limit;
+      reads = spent next later s;
+    }
+
+    pub Ends-line : (editor2 : Editor) (now2 : Observed) (e : ToolError)
+        → ActsOn (meaning_in p.state.mode (line_of next)) p.state editor2 now now2 (Err e) → Ends given later before now2 (Err e)
+    Ends-line editor2 now2 e acts =
+        let ran = Ran-line p.lines p.state acts.next (line_of next) p.output acts.reply p.ran r.3 (short (line_of next) r.4) acts.leads in
+        subst (λ (x : ToolError). Ends given later before now2 (Err x)) (sym acts.wrote.0) (record {
+          taken = bytes_of (p.lines ++ line_of next ∷ []);
+          rest = ahead_of next;
+          output = p.output ++ acts.reply;
+          gives = subst (λ (t : List ℕ). Gives given later (t ++ ahead_of next)) (sym (bytes_of-more p.lines (line_of next))) gives-line;
+          is_output = inl ([], acts.next, rw append-nil at (SoFar-ran (p.lines ++ line_of next ∷ []) acts.next [] (p.output ++ acts.reply) ran tt));
+          written = TakesFront-then before now now2 p.output acts.reply p.written acts.wrote.1;
+        })
+
+  cannot : (next : LineReader) (later : Observed) → LineReader.CannotRead next left later → SpendsReads reading next left later
+      → CannotRead given later
+  cannot next later (inl failed) s = inl (failed ∙ ap (λ (n : ℕ). n + 1) p.gives.failures)
+  cannot next later (inr used) s =
+      let spends : reads_left_of next + later.reads ≡ reads_max + given.reads = spent next later s in
+      let none : reads_left_of next ≡ 0 = used.1 in
+      inr (used.0 ∙ p.gives.failures, omega arith)
+
+  -- no more can be read, or a line is over the limit
+  pub Ends-fault : (next : LineReader) (later : Observed) (e : ToolError) → ReadsLine reading next left later (Err e)
+      → SpendsReads reading next left later → Ends given later before now (Err e)
+  Ends-fault next later Usage r s = absurd r
+  Ends-fault next later NoTerminal r s = absurd r
+  Ends-fault next later (BadEntry why) r s = absurd r
+  Ends-fault next later ReadFault r s = record {
+    taken = bytes_of p.lines ++ (ahead_of reading ++ r.0);
+    line = ahead_of reading ++ r.0;
+    end = p.state;
+    output = p.output;
+    gives = subst (λ (t : List ℕ). Consumes given.bytes later.bytes t) (append_assoc (bytes_of p.lines) (ahead_of reading) r.0)
+        (Consumes-then given.bytes left.bytes later.bytes (bytes_of p.lines ++ ahead_of reading) r.0 p.gives.bytes r.1);
+    so_far = SoFar-ran p.lines p.state (ahead_of reading ++ r.0) p.output p.ran r.2;
+    short = short (ahead_of reading ++ r.0) r.3;
+    written = p.written;
+    cause = cannot next later r.4 s;
+  }
+  Ends-fault next later WriteFault r s = absurd r
+  Ends-fault next later LineTooLong r s = record {
+    taken = bytes_of p.lines ++ r.1;
+    rest = r.2;
+    line = r.1;
+    end = p.state;
+    output = p.output;
+    gives = subst (λ (t : List ℕ). Gives given later t) (ap (λ (t : List ℕ). bytes_of p.lines ++ t) r.4 ∙ sym (append_assoc (bytes_of p.lines) r.1 r.2))
+        (gives-more later r.0 r.3);
+    so_far = SoFar-ran p.lines p.state r.1 p.output p.ran r.5;
+    long = subst (λ (n : ℕ). n < length r.1) p.limit r.6;
+    written = p.written;
+  }
+  Ends-fault next later (BlockTooLong n) r s = absurd r
+  Ends-fault next later TooManyBlocks r s = absurd r
+  Ends-fault next later Memory r s = absurd r
+
+-- all of the input was taken, with these replies
+module _ (given left before : Observed) (input : List ℕ) (gives : Gives given left input) (at_end : IsAtEnd left.bytes) (end : State)
+    (replies : List ℕ) (complete : Complete input end replies) where
+  abbrev whole : Session input (replies ++ closing end.mode)
+  whole = record { end = end; replies = replies; complete = complete; whole = refl }
+
+  Ends-written : (now : Observed) → TakesAll before now (replies ++ closing end.mode) → Ends given left before now (Ok tt)
+  Ends-written now written = record {
+    input = input;
+    output = replies ++ closing end.mode;
+    gives = gives;
+    at_end = at_end;
+    session = whole;
+    written = written;
+  }
+
+  pub Ends-cut : (now : Observed) (e : ToolError) → Wrote before now (replies ++ closing end.mode) (Err e) → Ends given left before now (Err e)
+  Ends-cut now e wrote =
+      subst (λ (x : ToolError). Ends given left before now (Err x)) (sym wrote.0) (record {
+        taken = input;
+        rest = [];
+        output = replies ++ closing end.mode;
+        gives = subst (λ (t : List ℕ). Gives given left t) (sym (append-nil input)) gives;
+        is_output = inr (refl, at_end, whole);
+        written = wrote.1;
+      })
+
+  pub Ends-closed : (middle now : Observed) (result : Result Unit ToolError) → TakesAll before middle replies
+      → Wrote middle now (closing end.mode) result → Ends given left before now result
+  Ends-closed middle now (Ok tt) written wrote = Ends-written now (TakesAll-then before middle now replies (closing end.mode) written wrote)
+  Ends-closed middle now (Err e) written wrote =
+      Ends-cut now e (wrote.0, TakesFront-then before middle now replies (closing end.mode) written wrote.1)
+
+module _ (given left : Observed) (reading : LineReader) (editor : Editor) (before now : Observed)
+    (p : Progress given left reading editor before now) (next : LineReader) (later : Observed) where
+  -- the script has ended behind a newline
+  pub Ends-end : ReadsLine reading next left later (Ok End) → (now2 : Observed) (result : Result Unit ToolError)
+      → ((s : State) → Holds editor s → Wrote now now2 (closing s.mode) result) → Ends given later before now2 result
+  Ends-end r now2 result closes =
+      let gives : Gives given later (bytes_of p.lines) =
+      subst (λ (t : List ℕ). Gives given later t)
+      (ap (λ (t : List ℕ). bytes_of p.lines ++ (t ++ [])) r.1 ∙ append-nil (bytes_of p.lines))
+      (gives-more given left reading editor before now p later [] r.0) in
+      Ends-closed given later before (bytes_of p.lines) gives r.2 p.state p.output (Complete-ran p.lines p.state p.output p.ran)
+      now now2 result p.written (closes p.state p.holds)
+
+  -- the script has ended behind a last line without newline
+  module _ (r : ReadsLine reading next left later (Ok LastLine)) where
+    gives-last : Gives given later (bytes_of p.lines ++ line_of next)
+    gives-last =
+        subst (λ (t : List ℕ). Gives given later (bytes_of p.lines ++ t)) r.2 (gives-more given left reading editor before now p later r.0 r.1)
+
+    module _ (editor2 : Editor) (middle : Observed) where
+      pub Ends-last : (acts : ActsOn (meaning_in p.state.mode (line_of next)) p.state editor2 now middle (Ok tt)) (now2 : Observed)
+          (result : Result Unit ToolError) → ((s : State) → Holds editor2 s → Wrote middle now2 (closing s.mode) result)
+          → Ends given later before now2 result
+      Ends-last acts now2 result closes =
+          let complete = Complete-last p.lines p.state acts.next (line_of next) p.output acts.reply p.ran r.4
+          (short given left reading editor before now p (line_of next) r.5) r.6 acts.leads in
+          Ends-closed given later before (bytes_of p.lines ++ line_of next) gives-last r.3 acts.next (p.output ++ acts.reply) complete
+          middle now2 result (TakesAll-then before now middle p.output acts.reply p.written acts.wrote) (closes acts.next acts.holds)
+
+      pub Ends-last_cut : (e : ToolError) → ActsOn (meaning_in p.state.mode (line_of next)) p.state editor2 now middle (Err e)
+          → Ends given later before middle (Err e)
+      Ends-last_cut e acts =
+          let complete = Complete-last p.lines p.state acts.next (line_of next) p.output acts.reply p.ran r.4
+          (short given left reading editor before now p (line_of next) r.5) r.6 acts.leads in
+          Ends-cut given later before (bytes_of p.lines ++ line_of next) gives-last r.3 acts.next (p.output ++ acts.reply) complete middle e (
+            acts.wrote.0,
+            TakesFront-more before middle (p.output ++ acts.reply) (closing acts.next.mode)
+                (TakesFront-then before now middle p.output acts.reply p.written acts.wrote.1),
+          )

@@ -1,0 +1,75 @@
+-- How a session over devices ends (own): what it has read, and what it has written.
+use Rattle.std.specs.Prelude.{◌≡◌, ℕ, ◌+◌, ◌<◌, List, [], ◌++◌, length, Result, Ok, Err, ◌⊎◌}
+use Rattle.std.specs.Io.KnownBytes.{Consumes, IsAtEnd}
+use Rattle.ti_devices.specs.Counted.{Observed}
+use Rattle.ti_devices.specs.Reading.{Gives}
+use Rattle.ti_devices.specs.Writing.{TakesAll, TakesFront}
+use Rattle.ti_devices.specs.declared.tool_error.ToolError.{ToolError}
+use Rattle.ti_devices.specs.declared.tool_error.ToolError.TheVariants.{ReadFault, WriteFault, LineTooLong, Memory}
+use Rattle.ti_session.specs.Script.{IsShortLine, Session, SoFar, State, line_max}
+
+-- the greatest number of reads
+abbrev pub reads_max : ℕ
+reads_max = 4294967296
+
+-- the script was read to its end, and all replies were written
+pub record Completes (given left before now : Observed) : Type 0 where
+  pub input : List ℕ
+  pub output : List ℕ
+  pub gives : Gives given left input
+  pub at_end : IsAtEnd left.bytes
+  pub session : Session input output
+  pub written : TakesAll before now output
+
+-- the reader failed, once, or it did not and has been read from as often as it may be
+abbrev pub CannotRead : Observed → Observed → Type 0
+CannotRead given left =
+    (left.failures ≡ given.failures + 1) ⊎ ((left.failures ≡ given.failures) × (left.reads ≡ given.reads + reads_max))
+
+-- no more can be read: the replies to the lines that are complete were written
+pub record StopsReading (given left before now : Observed) : Type 0 where
+  pub taken : List ℕ
+  pub line : List ℕ
+  pub end : State
+  pub output : List ℕ
+  pub gives : Consumes given.bytes left.bytes taken
+  pub so_far : SoFar taken line end output
+  pub short : IsShortLine line
+  pub written : TakesAll before now output
+  pub cause : CannotRead given left
+
+-- a line that has begun is over the limit: the replies to the lines before it were written, and some bytes more were read
+pub record FindsLongLine (given left before now : Observed) : Type 0 where
+  pub taken : List ℕ
+  pub rest : List ℕ
+  pub line : List ℕ
+  pub end : State
+  pub output : List ℕ
+  pub gives : Gives given left (taken ++ rest)
+  pub so_far : SoFar taken line end output
+  pub long : line_max < length line
+  pub written : TakesAll before now output
+
+-- the replies that a session which took these bytes has begun to write: those to the lines that are complete, or, where
+-- the input has ended, all
+abbrev pub IsOutput : List ℕ → List ℕ → Observed → List ℕ → Type 0
+IsOutput taken rest left output =
+    ((line : List ℕ) × (end : State) × SoFar taken line end output) ⊎ ((rest ≡ []) × IsAtEnd left.bytes × Session taken output)
+
+-- the writer failed: a front part of the replies was written, and some bytes more were read
+pub record StopsWriting (given left before now : Observed) : Type 0 where
+  pub taken : List ℕ
+  pub rest : List ℕ
+  pub output : List ℕ
+  pub gives : Gives given left (taken ++ rest)
+  pub is_output : IsOutput taken rest left output
+  pub written : TakesFront before now output
+
+-- How a session ends. Memory is wanting only at the start, with nothing read or written.
+abbrev pub Ends : Observed → Observed → Observed → Observed → Result Unit ToolError → Type 0
+Ends given left before now (Ok _) = Completes given left before now
+Ends given left before now (Err ReadFault) = StopsReading given left before now
+Ends given left before now (Err LineTooLong) = FindsLongLine given left before now
+Ends given left before now (Err WriteFault) = StopsWriting given left before now
+Ends given left before now (Err Memory) = (left ≡ given) × (now ≡ before)
+Ends given left before now (Err _) = ⊥

@@ -1,0 +1,183 @@
+//! A session's requests and replies: the source that is edited, and the block that is open.
+ghost use Rattle.std.specs.Prelude.{◌≡◌, IfOk, Some};
+ghost use Rattle.ti_meaning.specs.Edits.{change_of};
+ghost use Rattle.ti_devices.specs.Counted.{observed};
+ghost use Rattle.ti_devices.specs.Writing.{Wrote};
+ghost use Rattle.ti_session.specs.Replies.{CarriesOut, WroteReport};
+ghost use Rattle.ti_session.specs.Requests.{opened_change};
+ghost use Rattle.ti_session.specs.Script.{asks, edits, print_reply};
+
+use crate::replies::{write_hex, write_outcome, write_refusal};
+use crate::requests::{Opened, Request, read_request};
+use std::alloc::{AllocError, Global};
+use std::io::Write;
+use ti_base::{Database, Edit, EditError};
+use ti_devices::{Buffer, Counted, ToolError, write_out};
+
+/// How many bytes of a block are held: one more than a block may have.
+const BLOCK_ROOM: usize = 1_048_577;
+
+/// The source that is edited, and the block that is open, if one is.
+#[derive(Drop)]
+pub struct Editor {
+    database: Database,
+    block: Buffer,
+    opened: Option<Opened>,
+}
+
+// Makes an edit, and writes what came of it.
+fn carry_out<W: Write>(
+    database: &mut Database,
+    edit: &Edit<'_>,
+    writer: &mut Counted<W>,
+) -> Result<(), ToolError>
+    ensures { CarriesOut database.old (change_of edit.now) database.new
+        (observed W.contents writer.old)
+        (observed W.contents writer.new) result }
+{
+    let answer = database.apply(edit);
+    write_outcome(writer, &answer)
+}
+
+// Writes the entry of a block.
+fn print<W: Write>(database: &Database, at: usize, writer: &mut Counted<W>) -> Result<(), ToolError>
+    ensures { Wrote (observed W.contents writer.old)
+        (observed W.contents writer.new)
+        (print_reply database.now at) result }
+{
+    if at >= database.len() {
+        return write_refusal(writer, EditError::Position);
+    }
+    match database.compiled(at) {
+        None => write_out(writer, b"none\n"),
+        Some(entry) => {
+            write_hex(writer, entry)?;
+            write_out(writer, b"\n")
+        }
+    }
+}
+
+// Writes the report.
+fn report<W: Write>(database: &Database, writer: &mut Counted<W>) -> Result<(), ToolError>
+    ensures { WroteReport database.now
+        (observed W.contents writer.old)
+        (observed W.contents writer.new) result }
+{
+    match database.report(1) {
+        Ok(text) => {
+            write_out(writer, text.as_slice())?;
+            write_out(writer, b".\n")
+        }
+        Err(_) => write_refusal(writer, EditError::Memory),
+    }
+}
+
+impl Editor {
+    ghost use Rattle.ti_session.specs.Editor.{Holds, ActsOn};
+    ghost use Rattle.ti_session.specs.Script.{State, meaning_outside, closing, meaning_in, outside, start};
+
+    /// A source without blocks, with room for a block.
+    ///
+    /// # Errors
+    /// Want of memory.
+    pub fn new(alloc: Global) -> Result<Editor, AllocError>
+        ensures { IfOk result (λ editor. Holds editor start) }
+    {
+        let block = Buffer::new(alloc, BLOCK_ROOM)?;
+        Ok(Editor {
+            database: Database::new(alloc),
+            block,
+            opened: None,
+        })
+    }
+
+    // Takes a line that stands outside a block.
+    fn take_request<W: Write>(
+        &mut self,
+        line: &[u8],
+        writer: &mut Counted<W>,
+    ) -> Result<(), ToolError>
+        ensures { (state : State) → state.mode ≡ outside → Holds self.old state
+            → ActsOn (meaning_outside line.now) state self.new
+            (observed W.contents writer.old)
+            (observed W.contents writer.new) result }
+    {
+        match read_request(line) {
+            Request::Nothing => Ok(()),
+            Request::Open(opened) => {
+                self.block.clear();
+                self.opened = Some(opened);
+                Ok(())
+            }
+            Request::Remove { at } => carry_out(&mut self.database, &Edit::Remove { at }, writer),
+            Request::Relocate { from, to } => {
+                carry_out(&mut self.database, &Edit::Relocate { from, to }, writer)
+            }
+            Request::Print { at } => print(&self.database, at, writer),
+            Request::Report => report(&self.database, writer),
+            Request::Unknown => write_out(writer, b"unknown\n"),
+        }
+    }
+
+    // Ends the block that is open, and edits the source with it.
+    fn end_block<W: Write>(
+        &mut self,
+        opened: Opened,
+        writer: &mut Counted<W>,
+    ) -> Result<(), ToolError>
+        requires { self.old.opened ≡ Some opened }
+        ensures { (state : State) → (holds : Holds self.old state)
+            → ActsOn (asks (edits (opened_change opened holds.text))) state self.new
+            (observed W.contents writer.old)
+            (observed W.contents writer.new) result }
+    {
+        let text = self.block.as_slice();
+        let edit = match opened {
+            Opened::Insert { at } => Edit::Insert { at, text },
+            Opened::Replace { at } => Edit::Replace { at, text },
+        };
+        self.opened = None;
+        carry_out(&mut self.database, &edit, writer)
+    }
+
+    /// Takes a line, and writes its reply.
+    ///
+    /// # Errors
+    /// `WriteFault`.
+    pub fn take_line<W: Write>(
+        &mut self,
+        line: &[u8],
+        writer: &mut Counted<W>,
+    ) -> Result<(), ToolError>
+        ensures { (state : State) → Holds self.old state
+            → ActsOn (meaning_in state.mode line.now) state self.new
+            (observed W.contents writer.old)
+            (observed W.contents writer.new) result }
+    {
+        let Some(opened) = self.opened else {
+            return self.take_request(line, writer);
+        };
+        if line == b".".as_slice() {
+            return self.end_block(opened, writer);
+        }
+        self.block.add(line);
+        self.block.add(b"\n");
+        Ok(())
+    }
+
+    /// Writes what a script is answered that ends here.
+    ///
+    /// # Errors
+    /// `WriteFault`.
+    pub fn close<W: Write>(&self, writer: &mut Counted<W>) -> Result<(), ToolError>
+        ensures { (state : State) → Holds self.now state
+            → Wrote (observed W.contents writer.old)
+            (observed W.contents writer.new)
+            (closing state.mode) result }
+    {
+        if self.opened.is_none() {
+            return Ok(());
+        }
+        write_out(writer, b"unfinished\n")
+    }
+}
