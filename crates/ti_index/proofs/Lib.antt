@@ -1,0 +1,4 @@
+pub mod Lists
+pub mod Labelling
+pub mod Placing
+pub mod Keeping
