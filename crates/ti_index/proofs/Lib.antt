@@ -2,3 +2,4 @@ pub mod Lists
 pub mod Labelling
 pub mod Placing
 pub mod Keeping
+pub mod Filtering

@@ -1,6 +1,7 @@
 // The ids of blocks in the order of their list.
 ghost use Rattle.std.specs.Prelude.{◌≡◌, ◌<◌, ◌≤◌, ◌^◌, ◌++◌, ◌∷◌, ◌↔◌, [], ℕ, Some, slice_get, length, insert, remove, vec_len, vec_capacity, IsTrue, OnOk, OnErr};
 ghost use Rattle.ti_index.specs.Labels.{Has, IsDistinct};
+ghost use Rattle.ti_index.specs.Listing.{AreAmong, ListsBefore};
 
 use crate::labels::{find_place, make_label};
 use std::alloc::{AllocError, Global};
@@ -67,6 +68,28 @@ impl Order {
             → IsTrue result ↔ (i < j) }
     {
         self.labels[one as usize] < self.labels[other as usize]
+    }
+
+    /// How many ids of a list, which are in the order of all, stand before an id.
+    pub(crate) fn count_before(&self, list: &[u32], id: u32) -> usize
+        requires stands { Has self.now.listed id }
+        requires among { AreAmong list.now self.now.listed }
+        ensures within { result ≤ length list.now }
+        ensures count { ListsBefore self.now.listed list.now id result }
+        ensures distinct { IsDistinct self.now.listed }
+    {
+        let label = self.labels[id as usize];
+        let mut low = 0;
+        let mut high = list.len();
+        while low < high {
+            let middle = low + (high - low) / 2;
+            if self.labels[list[middle] as usize] < label {
+                low = middle + 1;
+            } else {
+                high = middle;
+            }
+        }
+        low
     }
 
     /// Sees to a free id, so that one can be put in. Nothing else changes; where memory is short
