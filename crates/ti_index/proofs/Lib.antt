@@ -3,3 +3,4 @@ pub mod Labelling
 pub mod Placing
 pub mod Keeping
 pub mod Filtering
+pub mod Naming

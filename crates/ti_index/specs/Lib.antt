@@ -1,3 +1,4 @@
 pub mod Labels
 pub mod Order
 pub mod Listing
+pub mod Names

@@ -2,12 +2,15 @@
 //! come and go, and names lead to the blocks that have them and to those that use them.
 //!
 //! - `listing`: lists of some ids, in the order of all
+//! - `names`: names with the blocks that have and use them
 //! - `order`: the ids in the order of the list
 //! - `labels`: labels that rise along the ids, by which two ids are compared
 #![tactic(auto)]
 
 mod labels;
 mod listing;
+mod names;
 mod order;
 
+pub use names::NameIndex;
 pub use order::Order;
