@@ -4,3 +4,4 @@ pub mod Placing
 pub mod Keeping
 pub mod Filtering
 pub mod Naming
+pub mod LawProofs
