@@ -2,4 +2,5 @@ pub mod Asked
 pub mod Ending
 pub mod Filing
 pub mod Holding
+pub mod Printing
 pub mod Refusing
