@@ -2,5 +2,6 @@ pub mod Asked
 pub mod Ending
 pub mod Filing
 pub mod Holding
+pub mod Printing
 pub mod Refusing
 pub mod Rates
