@@ -4,3 +4,4 @@ pub mod Filing
 pub mod Holding
 pub mod Refusing
 pub mod Rates
+pub mod Parts

@@ -14,6 +14,7 @@
 pub mod arguments;
 pub mod commands;
 pub mod compiling;
+pub mod stopping;
 mod entry_files;
 mod held;
 pub mod jobs;
@@ -23,10 +24,12 @@ mod sources;
 pub use arguments::{UsageError, job};
 pub use commands::command;
 pub use compiling::tic;
+pub use stopping::{message, status};
 pub use jobs::Job;
 pub use outcome::{TicOptions, TicOutcome};
 pub use ti_devices::{Counted, File, MemTree, Tally, ToolError, Tree, TreeFault, place};
 pub use ti_session::session;
+pub use ti_tput::{TputOutcome, entry, locate, places, tput, tput_lines};
 
 #[cfg(test)]
 mod tests;
