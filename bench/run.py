@@ -1,15 +1,23 @@
 #!/usr/bin/env python3
-"""Times `ti tic -c` on one-block sources of 64 KiB, 256 KiB and 1 MiB.
+"""Speed, beside ncurses's tools on the same work.
 
-Prints the rate in MB/s (10^6 bytes a second) of each, the best of several runs,
-and on the largest source that of ncurses's `tic -c`, measured in the same run,
-where it is installed; then what `ti_bench` prints of expanding setaf's format. The
-sources are made here: the items of a usual entry,
-wrapped as authors wrap them, over and over. The leftmost mention of a capability
-decides, so the entry itself stays small.
+    bench/run.py [PART..]      the parts named, or all: rates, entries, tools, machine
+
+rates     MB/s (10^6 bytes a second) of `ti tic -c` on one-block sources of 64 KiB,
+          256 KiB and 1 MiB, and of ncurses's `tic -c` on the last: the best of
+          several runs
+entries   sources of many entries: 2,000 small ones, and 1,000 of which all but the
+          first have uses, compiled into files
+tools     `ti tput` and `ti infocmp` on the system's own entries, where they are there
+machine   what `ti_bench` prints of the libraries alone
+
+Times on a shared machine are noisy; so `entries` and `tools` count instructions by
+valgrind's callgrind too, where that is installed, and give the ratio. A tool that is
+not installed, or not built yet, is left out, and that is said. The sources are made here.
 """
 
 import os
+import re
 import shutil
 import subprocess
 import sys
@@ -18,7 +26,7 @@ import time
 
 TOP = os.path.dirname(os.path.dirname(os.path.abspath(__file__)))
 PROGRAM = os.path.join(TOP, "crates", "ti", "out", "ti")
-EXPAND = os.path.join(TOP, "crates", "ti_bench", "out", "ti_bench")
+MACHINE = os.path.join(TOP, "crates", "ti_bench", "out", "ti_bench")
 ITEMS = r"""
 	am, bce, km, mir, msgr, xenl, colors#256, cols#80, it#8, lines#24, pairs#0x7fff,
 	bel=^G, blink=\E[5m, bold=\E[1m, civis=\E[?25l, clear=\E[H\E[2J,
@@ -29,7 +37,10 @@ ITEMS = r"""
 	sgr=%?%p9%t\E(0%e\E(B%;\E[0%?%p6%t;1%;%?%p5%t;2%;%?%p2%t;4%;%?%p1%p3%|%t;7%;m,
 # a comment line between wrapped lines
 """
+SMALL = "\tam, cols#80, lines#24, bel=^G, cr=\\r, cud1=\\n, ind=\\n, cub1=^H,\n"
 RUNS = 40
+SECONDS = 600
+LONG = 2.0
 
 
 def source(size):
@@ -40,44 +51,116 @@ def source(size):
     return (text + "#" * (size - len(text) - 1) + "\n").encode() if len(text) < size else text.encode()
 
 
-def best(words, file):
-    """The seconds of the fastest of several runs, without what starting the program costs."""
+def small_entries(count):
+    """So many entries that say little, none of which uses another."""
+    return "".join(f"e{i}|a small entry,\n{SMALL}" for i in range(count)).encode()
+
+
+def chained_entries(count):
+    """So many entries, each but the first with a use of one before it."""
+    rest = "".join(f"e{i}|a variant,\n\tcols#{i + 1}, use=e{i // 2},\n" for i in range(1, count))
+    return (f"e0|the root,\n{SMALL}" + rest).encode()
+
+
+def seconds(words, runs, stdin=None):
+    """The seconds of the fastest of several runs."""
     times = []
-    for _ in range(RUNS):
+    for _ in range(runs):
         begun = time.perf_counter()
-        subprocess.run([*words, file], stdout=subprocess.DEVNULL, stderr=subprocess.DEVNULL)
+        subprocess.run(words, input=stdin, stdout=subprocess.DEVNULL, stderr=subprocess.DEVNULL, timeout=SECONDS)
         times.append(time.perf_counter() - begun)
     return min(times)
 
 
-def main():
-    with tempfile.TemporaryDirectory(prefix="ti-bench-") as room:
-        path = lambda name: os.path.join(room, name)
-        with open(path("empty"), "wb") as file:
-            file.write(b"x,\n")
-        start = best([PROGRAM, "tic", "-c"], path("empty"))
-        print(f"starting ti: {start * 1000:.2f} ms (taken off below)")
-        for size in (64 << 10, 256 << 10, 1 << 20):
-            text = source(size)
-            name = path(f"{size}.ti")
-            with open(name, "wb") as file:
-                file.write(text)
-            status = subprocess.run([PROGRAM, "tic", "-c", name], stderr=subprocess.PIPE)
-            if status.returncode != 0:
-                print(f"ti tic -c failed: {status.stderr[:200]!r}")
-                return 1
-            took = max(best([PROGRAM, "tic", "-c"], name) - start, 1e-6)
-            print(f"ti tic -c, {size >> 10:5} KiB: {len(text) / took / 1e6:8.1f} MB/s")
-        other = shutil.which("tic")
-        if other:
-            start = best([other, "-c"], path("empty"))
-            took = max(best([other, "-c"], name) - start, 1e-6)
-            print(f"ncurses tic -c, {size >> 10:5} KiB: {len(text) / took / 1e6:8.1f} MB/s")
-        else:
-            print("ncurses's tic is not installed here")
-    if os.access(EXPAND, os.X_OK):
+def instructions(words, stdin=None):
+    """How many instructions a run takes, by callgrind, or None where that is not installed."""
+    valgrind = shutil.which("valgrind")
+    if not valgrind:
+        return None
+    done = subprocess.run(
+        [valgrind, "--tool=callgrind", "--callgrind-out-file=/dev/null", *words],
+        input=stdin, stdout=subprocess.DEVNULL, stderr=subprocess.PIPE, timeout=SECONDS,
+    )
+    found = re.search(rb"Collected : (\d+)", done.stderr)
+    return int(found[1]) if found else None
+
+
+def beside(what, ours, theirs, stdin=None, runs=5):
+    """A line that sets our words beside theirs: seconds, and instructions where counting them takes no minutes."""
+    took = seconds(ours, runs, stdin)
+    line = f"{what}: ti {took * 1000:.1f} ms"
+    if not shutil.which(theirs[0]):
+        print(f"{line}; {theirs[0]} is not installed here")
+        return
+    line += f", ncurses {seconds(theirs, runs, stdin) * 1000:.1f} ms"
+    mine, other = (instructions(ours, stdin), instructions(theirs, stdin)) if took < LONG else (None, None)
+    if mine and other:
+        line += f"; instructions {mine:,} and {other:,}, ratio {mine / other:.2f}"
+    print(line)
+
+
+def rates(path):
+    with open(path("empty"), "wb") as file:
+        file.write(b"x,\n")
+    start = seconds([PROGRAM, "tic", "-c", path("empty")], RUNS)
+    print(f"starting ti: {start * 1000:.2f} ms (taken off below)")
+    for size in (64 << 10, 256 << 10, 1 << 20):
+        text, name = source(size), path(f"{size}.ti")
+        with open(name, "wb") as file:
+            file.write(text)
+        status = subprocess.run([PROGRAM, "tic", "-c", name], stderr=subprocess.PIPE)
+        if status.returncode != 0:
+            raise SystemExit(f"ti tic -c failed: {status.stderr[:200]!r}")
+        took = max(seconds([PROGRAM, "tic", "-c", name], RUNS) - start, 1e-6)
+        print(f"ti tic -c, {size >> 10:5} KiB: {len(text) / took / 1e6:8.1f} MB/s")
+    if not shutil.which("tic"):
+        print("ncurses's tic is not installed here")
+        return
+    start = seconds(["tic", "-c", path("empty")], RUNS)
+    took = max(seconds(["tic", "-c", name], RUNS) - start, 1e-6)
+    print(f"ncurses tic -c, {size >> 10:5} KiB: {len(text) / took / 1e6:8.1f} MB/s")
+
+
+def entries(path):
+    for what, text in (("2,000 small entries", small_entries(2000)), ("1,000 entries with uses", chained_entries(1000))):
+        name, out = path("many.ti"), path("out")
+        with open(name, "wb") as file:
+            file.write(text)
+        beside(what, [PROGRAM, "tic", "-o", out, name], ["tic", "-o", path("theirs"), name], runs=1)
+
+
+def tools(path):
+    del path
+    for words in (["tput", "-T", "xterm-256color", "setaf", "200"], ["infocmp", "xterm-256color"]):
+        if subprocess.run([PROGRAM, *words], stdout=subprocess.DEVNULL, stderr=subprocess.DEVNULL).returncode != 0:
+            print(f"{' '.join(words)}: left out (no such tool yet, or no such entry here)")
+            continue
+        beside(" ".join(words), [PROGRAM, *words], words)
+    lines = b"cup 4 9\nsetaf 12\nbold\n" * 3334
+    words = ["tput", "-T", "xterm-256color", "-S"]
+    if subprocess.run([PROGRAM, *words], input=lines, stdout=subprocess.DEVNULL, stderr=subprocess.DEVNULL).returncode == 0:
+        beside("tput -S, 10,002 lines", [PROGRAM, *words], words, stdin=lines)
+
+
+def machine(path):
+    del path
+    if os.access(MACHINE, os.X_OK):
         sys.stdout.flush()
-        subprocess.run([EXPAND, "1000000"], check=True)
+        subprocess.run([MACHINE, "1000000"], check=True)
+
+
+PARTS = {"rates": rates, "entries": entries, "tools": tools, "machine": machine}
+
+
+def main():
+    wanted = sys.argv[1:] or list(PARTS)
+    for name in wanted:
+        if name not in PARTS:
+            print(f"no such part: {name}; the parts are {', '.join(PARTS)}")
+            return 2
+    with tempfile.TemporaryDirectory(prefix="ti-bench-") as room:
+        for name in wanted:
+            PARTS[name](lambda it: os.path.join(room, it))
     return 0
 
 

@@ -3,7 +3,8 @@
 
 Each crate's specs/ has one file a subject. The comment at its head says what it is
 about and where it comes from; the comment above a definition says what it is. This
-lists them, each with its file and with the public calls whose contracts cite it.
+lists those that public contracts cite, and those that these name, by the section of
+the manual that they come from, each with its file and with the calls that cite it.
 With --check nothing is written, and the status is 1 where the page is out of date.
 """
 
@@ -15,14 +16,16 @@ TOP = os.path.dirname(os.path.dirname(os.path.abspath(__file__)))
 PAGE = os.path.join(TOP, "docs", "DEFINITIONS.md")
 HEAD = """# Definitions
 
-Every definition that a contract of this repository cites, crate by crate and file by
-file, as `docs/definitions.py` lists them from `crates/*/specs`: its name, what it
-says, and the public calls and laws whose contracts name it (none: other definitions
-use it). The line under a file's name says where its subject comes from: X/Open Curses
-Issue 7 ("Terminfo Source Format"), the manuals terminfo(5), term(5), tic(1), or "own"
+What the contracts of public calls cite, and what is needed to read it, as
+`docs/definitions.py` lists it from `crates/*/specs`: each definition's name, what it
+says, and the calls and laws whose contracts name it (none: a definition beside it
+does). They stand under the section of the manual that they come from, or under "own"
 where this project chose. A definition by cases or by a relation is never the code's
-loop again; where it is a relation, a law shows that it is determined.
+loop again; where it is a relation, a law shows that it is determined. Definitions
+that only proofs use are not listed.
 """
+MANUALS = ["X/Open Curses Issue 7", "terminfo(5)", "term(5)", "tic(1)", "infocmp(1)", "tput(1)", "printf(3)"]
+OWN = "Own"
 NAME = r"[^\s:(){},.;]+"
 STARTS = re.compile(
     rf"^(?:(?:  )?(?:abbrev pub|pub abbrev|unfoldable pub|pub unfoldable|pub data|pub record)|pub)\s+(?!use\b|mod\b|data\b|record\b)({NAME})(?=[\s:({{])"
@@ -41,8 +44,34 @@ def sentence(comment):
     return text[:1].upper() + text[1:] if text else ""
 
 
+def source(head):
+    """The section of the manual that a file's head names first, or "own"."""
+    at = [(head.find(it), it) for it in MANUALS if it in head]
+    if not at:
+        return OWN
+    place, manual = min(at)
+    after = re.match(r',\s+"([^"]+)"', head[place + len(manual) :])
+    section = after or re.search(r'under "([^"]+)"', head)
+    return f'{manual}, "{section[1]}"' if section else manual
+
+
+def words_of(lines):
+    """The words of a definition's lines, without their comments."""
+    text = "\n".join(it.split("-- ")[0] for it in lines)
+    return set(re.findall(r"[^\s(){}\[\],;.:=λ→×↔≡¬]+", text))
+
+
+def names_in_reach(path, crate, name):
+    """The definitions that a file can name by a bare word: those that it imports."""
+    found = {}
+    for of, words in re.findall(r"^use Rattle\.(\w+\.specs\.\w+)\.\{([^}]*)\}", "\n".join(lines_of(path)), re.M):
+        for it in words.split(","):
+            found[it.strip().split(" as ")[-1]] = (of, it.strip().split(" as ")[0])
+    return found
+
+
 def definitions(path):
-    """The head of a file of definitions, and its definitions, each with its comment."""
+    """The head of a file of definitions, and its definitions: name, comment and lines of each."""
     head, comment, found, seen = [], [], [], set()
     at_head, code_since = True, False
     for line in lines_of(path):
@@ -60,8 +89,10 @@ def definitions(path):
             start = STARTS.match(line)
             if start and start[1] not in seen:
                 seen.add(start[1])
-                found.append((start[1], sentence(comment)))
+                found.append((start[1], sentence(comment), []))
                 comment = []
+            if found:
+                found[-1][2].append(line)
             code_since = True
     return sentence(head), found
 
@@ -118,32 +149,58 @@ def contracts(crate):
     return found
 
 
-def page():
-    out = [HEAD]
+def crates_in_order():
     with open(os.path.join(TOP, "crates.txt"), encoding="utf-8") as file:
-        order = [it.split(":")[0].split()[0] for it in file if it.strip() and not it.startswith("#")]
-    calls = {crate: contracts(crate) for crate in order}
+        return [it.split(":")[0].split()[0] for it in file if it.strip() and not it.startswith("#")]
+
+
+def files_of(crate):
+    """The files of a crate's definitions, by name."""
+    folder = os.path.join(TOP, "crates", crate, "specs")
+    names = sorted(os.listdir(folder)) if os.path.isdir(folder) else []
+    return [(it[:-5], os.path.join(folder, it)) for it in names if it.endswith(".antt") and it != "Lib.antt"]
+
+
+def in_order(section):
+    manual = next((i for i, it in enumerate(MANUALS) if section.startswith(it)), len(MANUALS))
+    return manual, section
+
+
+def page():
+    order = crates_in_order()
+    users = {}
+    for crate in order:
+        for call, cited in contracts(crate):
+            for it in cited:
+                users.setdefault(it, []).append(f"`{call}`")
+    files, named = {}, set()
     for crate in sorted(order):
-        folder = os.path.join(TOP, "crates", crate, "specs")
-        if not os.path.isdir(folder):
-            continue
-        out.append(f"## {crate}\n")
-        for name in sorted(os.listdir(folder)):
-            if not name.endswith(".antt") or name == "Lib.antt":
-                continue
-            head, found = definitions(os.path.join(folder, name))
-            if not found:
-                continue
-            out.append(f"### {name[:-5]}\n\n`crates/{crate}/specs/{name}`. {head}\n")
+        for name, path in files_of(crate):
+            head, found = definitions(path)
+            at = f"{crate}.specs.{name}"
+            files[at] = (crate, name, head, found)
+            reach = names_in_reach(path, crate, name)
+            reach.update({word: (at, word) for word, _, _ in found})
+            for word, _, lines in found:
+                if (at, word) in users:
+                    named |= {reach[it] for it in words_of(lines) if it in reach}
+    out, sections, rules = [HEAD], {}, []
+    for at, (crate, name, head, found) in files.items():
+        rows = [(word, says) for word, says, _ in found if (at, word) in users or (at, word) in named]
+        if rows:
+            sections.setdefault(source(head), []).append((at, crate, name, head, rows))
+    for section in sorted(sections, key=in_order):
+        out.append(f"## {section}\n")
+        for at, crate, name, head, rows in sections[section]:
+            rules.append((section, head, f"crates/{crate}/specs/{name}.antt"))
+            out.append(f"### {name} (`{crate}`)\n\n`crates/{crate}/specs/{name}.antt`. {head}\n")
             out.append("| Definition | Says | Cited by |\n|---|---|---|")
-            for word, says in found:
-                users = []
-                for other in order:
-                    for call, cited in calls[other]:
-                        if (f"{crate}.specs.{name[:-5]}", word) in cited:
-                            users.append(f"`{call}`")
-                out.append(f"| `{word}` | {says} | {', '.join(dict.fromkeys(users))} |")
+            for word, says in rows:
+                calls = dict.fromkeys(users.get((at, word), []))
+                out.append(f"| `{word}` | {says} | {', '.join(calls)} |")
             out.append("")
+    out.append("## Where each rule stands\n\n| Manual | Rule | File |\n|---|---|---|")
+    out += [f"| {section} | {head} | `{path}` |" for section, head, path in rules]
     return "\n".join(out).rstrip() + "\n"
 
 

@@ -1,81 +1,144 @@
 #!/usr/bin/env python3
-"""Reads the terminal entries that this system has, and compares with ncurses.
+"""Compares with the ncurses of this system: its entries, and its lists of names.
 
 Every file below the system's terminfo folders is read by `ti_probe`, which prints what
 a view shows; Python's curses module asks ncurses for the same entry, each of the 497
 capabilities by its name. Entries in the extended number format must be refused as
-`Magic`. Where the system has no such folder, or no curses module, nothing is compared,
-and that is said. The last line is `system: N passed, M failed`.
+`Magic`. ncurses opens no hardcopy terminal (`hc`) and no generic one (`gn`), so it is
+asked for a copy of such an entry without that flag.
+
+The names of the capabilities are compared with the arrays `boolnames`, `numnames` and
+`strnames` of the ncurses library, all of them and in order.
+
+Where the system has no such folder, no curses module or no such library, that part is
+not compared, and that is said. The last line is `system: N passed, M failed`.
 """
 
+import ctypes
+import ctypes.util
+import multiprocessing
 import os
 import re
 import subprocess
 import sys
+import tempfile
 
 HERE = os.path.dirname(os.path.abspath(__file__))
 TOP = os.path.dirname(os.path.dirname(HERE))
 PROGRAM = os.path.join(TOP, "crates", "ti_probe", "out", "ti_probe")
 FOLDERS = ("/usr/share/terminfo", "/lib/terminfo", "/etc/terminfo")
-TABLES = os.path.join(TOP, "crates", "ti_caps", "src", "tables.rt")
-ASK = """
-import curses, sys
-curses.setupterm(sys.argv[1], 1)
-flags, numbers, texts = (it.split() for it in sys.argv[2:5])
-for name in flags:
-    if curses.tigetflag(name) > 0:
-        print(name)
-for name in numbers:
-    value = curses.tigetnum(name)
-    if value >= 0:
-        print(f"{name}#{value}")
-for name in texts:
-    value = curses.tigetstr(name)
-    if value is not None:
-        print(f"{name}={value.hex()}")
-"""
+NAMES = os.path.join(TOP, "crates", "ti_caps", "specs", "Names.antt")
+HEADER_LEN = 12
+# the flags of the terminals that ncurses does not open
+REFUSED_FLAGS = ("gn", "hc")
+# how many files one run of the program is given
+AT_ONCE = 500
 
 
-def tables():
-    """The names of the three tables, in their order."""
-    with open(TABLES, encoding="utf-8") as file:
+def lists_of_names():
+    """The names of the booleans, the numbers and the strings, in their order."""
+    with open(NAMES, encoding="utf-8") as file:
         text = file.read()
     found = []
-    for name, count in (("FLAGS", 44), ("NUMBERS", 39), ("TEXTS", 414)):
-        rows = re.search(rf"static {name}: [^=]*= \[(.*?)\];", text, re.S)[1]
+    for name, count in (("flag_names", 44), ("number_names", 39), ("text_names", 414)):
+        rows = re.search(rf"^{name} =\n(.*?)\[\]", text, re.S | re.M)[1]
         names = re.findall(r'"([^"]*)"', rows)
         assert len(names) == count, name
         found.append(names)
     return found
 
 
+def ncurses_names():
+    """The arrays of the installed ncurses library, or None where it cannot be read."""
+    for name in ("tinfo", "tinfow", "ncursesw", "ncurses"):
+        path = ctypes.util.find_library(name)
+        try:
+            library = ctypes.CDLL(path) if path else None
+            return [array_of(library, it) for it in ("boolnames", "numnames", "strnames")]
+        except (OSError, ValueError, AttributeError, TypeError):
+            continue
+    return None
+
+
+def array_of(library, name):
+    """The texts of an array of the library that a null pointer ends."""
+    array = (ctypes.c_char_p * 4096).in_dll(library, name)
+    found = []
+    for text in array:
+        if text is None:
+            return found
+        found.append(text.decode())
+    raise ValueError(name)
+
+
 def shown(files):
     """What the program prints of each file, as a list of lines."""
-    done = subprocess.run([PROGRAM, *files], stdout=subprocess.PIPE, check=True, timeout=120)
     found = {}
-    for line in done.stdout.decode().split("\n"):
-        if line.startswith("file "):
-            found[line[5:]] = lines = []
-        elif line:
-            lines.append(line)
+    for at in range(0, len(files), AT_ONCE):
+        done = subprocess.run(
+            [PROGRAM, *files[at:at + AT_ONCE]], stdout=subprocess.PIPE, check=True, timeout=120,
+        )
+        for line in done.stdout.decode().split("\n"):
+            if line.startswith("file "):
+                found[line[5:]] = lines = []
+            elif line:
+                lines.append(line)
     return found
 
 
-def fault(folder, name, path, lines, names):
+def ask(question):
+    """What ncurses says of an entry of a folder, as `ti_probe` prints it; or why it does not."""
+    import curses
+
+    folder, name, (flags, numbers, texts) = question
+    os.environ["TERMINFO"] = folder
+    os.environ["TERM"] = name
+    try:
+        curses.setupterm(name, 1)
+    except curses.error as error:
+        return str(error)
+    lines = [it for it in flags if curses.tigetflag(it) > 0]
+    lines += [f"{it}#{curses.tigetnum(it)}" for it in numbers if curses.tigetnum(it) >= 0]
+    texts = [(it, curses.tigetstr(it)) for it in texts]
+    return lines + [f"{it}={value.hex()}" for it, value in texts if value is not None]
+
+
+def without_refused_flags(path, flags, room):
+    """Copies an entry below a folder without the flags of `REFUSED_FLAGS`; gives those it had."""
+    with open(path, "rb") as file:
+        content = bytearray(file.read())
+    names_len = int.from_bytes(content[2:4], "little")
+    flag_count = int.from_bytes(content[4:6], "little")
+    had = []
+    for flag in REFUSED_FLAGS:
+        index = flags.index(flag)
+        if index < flag_count and content[HEADER_LEN + names_len + index] == 1:
+            content[HEADER_LEN + names_len + index] = 0
+            had.append(flag)
+    at = os.path.join(room, *path.split("/")[-2:])
+    os.makedirs(os.path.dirname(at), exist_ok=True)
+    with open(at, "wb") as file:
+        file.write(content)
+    return had
+
+
+def fault(name, path, lines, pool, names, room):
     """What differs for one entry, or None."""
     with open(path, "rb") as file:
         magic = file.read(2)
     if magic != b"\x1a\x01":
         return None if lines == ["refused Magic"] else f"magic {magic.hex()}, but {lines[:1]}"
-    env = {"PATH": os.environ["PATH"], "TERMINFO": folder, "TERM": name}
-    asked = subprocess.run(
-        [sys.executable, "-c", ASK, name, *(" ".join(it) for it in names)],
-        stdout=subprocess.PIPE, stderr=subprocess.PIPE, env=env, timeout=60,
-    )
-    if asked.returncode != 0:
-        return f"ncurses does not answer: {asked.stderr.decode()[-200:]}"
-    wanted = asked.stdout.decode().split()
+    if any(it in lines for it in REFUSED_FLAGS):
+        folder, had = room, without_refused_flags(path, names[0], room)
+    else:
+        folder, had = os.path.dirname(os.path.dirname(path)), []
+    wanted = pool.apply(ask, ((folder, name, names),))
+    if isinstance(wanted, str):
+        return f"ncurses does not answer: {wanted}"
     got = [it for it in lines if not it.startswith(("names=", "first name="))]
+    if any(it not in got for it in had):
+        return f"{had} are not shown"
+    got = [it for it in got if it not in had]
     # where an entry has no size, ncurses answers its own default
     for size in ("cols", "lines"):
         if not any(it.startswith(f"{size}#") for it in got):
@@ -85,11 +148,38 @@ def fault(folder, name, path, lines, names):
     return None
 
 
-def main():
-    files = []
+def entries():
+    """The name and the path of each file below the system's folders."""
+    found = []
     for folder in FOLDERS:
         for at, _, names in sorted(os.walk(folder)):
-            files += [(folder, name, os.path.join(at, name)) for name in sorted(names)]
+            found += [(name, os.path.join(at, name)) for name in sorted(names)]
+    return found
+
+
+def name_fault(names):
+    """What differs in the lists of names, or None; or that there is no library."""
+    wanted = ncurses_names()
+    if wanted is None:
+        return "absent"
+    for ours, theirs in zip(names, wanted):
+        if ours != theirs:
+            return f"{[it for it in zip(ours, theirs) if it[0] != it[1]][:6]}, or the counts, differ"
+    return None
+
+
+def main():
+    passed = failed = 0
+    names = lists_of_names()
+    why = name_fault(names)
+    if why == "absent":
+        print("the arrays of names of ncurses are not here, and were not compared")
+    elif why is None:
+        passed += 1
+    else:
+        failed += 1
+        print(f"the names of the capabilities: FAILED: {why}")
+    files = entries()
     try:
         import curses  # noqa: F401
     except ImportError:
@@ -97,16 +187,17 @@ def main():
         print("there is no curses module here")
     if not files:
         print("no entry of this system was compared")
-    passed = failed = 0
-    found = shown([path for _, _, path in files]) if files else {}
-    names = tables()
-    for folder, name, path in files:
-        why = fault(folder, name, path, found.get(path, []), names)
-        if why is None:
-            passed += 1
-        else:
-            failed += 1
-            print(f"{path}: FAILED: {why}")
+    found = shown([path for _, path in files]) if files else {}
+    # a process of ncurses opens one entry
+    with tempfile.TemporaryDirectory(prefix="ti-system-") as room, \
+            multiprocessing.get_context("fork").Pool(1, maxtasksperchild=1) as pool:
+        for name, path in files:
+            why = fault(name, path, found.get(path, []), pool, names, room)
+            if why is None:
+                passed += 1
+            else:
+                failed += 1
+                print(f"{path}: FAILED: {why}")
     print(f"system: {passed} passed, {failed} failed")
     return 1 if failed else 0
 

@@ -1,42 +1,21 @@
 -- What is wrong with a use, told from the owner's entry and a search.
-use Rattle.std.proofs.Common.{◌≡◌, ℕ, suc, ◌+◌, ◌<◌, ◌⊎◌, inl, inr, Bool, true, false, cond, List, ◌∷◌, ◌++◌, length, append_assoc, drop, get_or, map, Option, Some, None, is_some, slice_get, refl, sym, ◌∙◌, ap, arith}
+use Rattle.std.proofs.Common.{◌≡◌, ℕ, suc, ◌+◌, ◌<◌, ◌⊎◌, inl, inr, Bool, true, false, List, ◌∷◌, ◌++◌, length, append_assoc, drop, get_or, map, Option, Some, None, slice_get, refl, sym, ◌∙◌, ap, arith}
 use Rattle.std.proofs.lemmas.List.{length-map}
-use Rattle.std.proofs.lemmas.Option.{same_Some, none-some, slice_get-map}
+use Rattle.std.proofs.lemmas.Option.{same_Some, slice_get-map}
 use Rattle.ti_source.specs.declared.code.Code.{Code}
-use Rattle.ti_source.specs.declared.code.Code.TheVariants.{MissingUse, Circular, Unresolved}
+use Rattle.ti_source.specs.declared.code.Code.TheVariants.{Circular, Unresolved}
 use Rattle.ti_source.specs.Reading.{Reading}
 use Rattle.ti_base.specs.declared.entries.Entry.{Entry}
 use Rattle.ti_base.specs.declared.entries.Entry.TheVariants as entry
-use Rattle.ti_base.specs.Owner.{owner, owned}
-use Rattle.ti_base.specs.Expansion.{Mention, expansion, resolves}
-use Rattle.ti_base.specs.Reaching.{leads_to}
-use Rattle.ti_base.specs.Compiled.{EntryState, unresolved, oversized, written, image_of, is_too_large, state_with, state_of}
+use Rattle.ti_meaning.specs.Owner.{owner}
+use Rattle.ti_meaning.specs.Expansion.{expansion}
+use Rattle.ti_meaning.specs.Reaching.{leads_to}
+use Rattle.ti_meaning.specs.Compiled.{unresolved, oversized, written, state_of}
 use Rattle.ti_base.specs.Entries.{state_seen}
-use Rattle.ti_base.specs.Faults.{SourceFault, fault_between, use_fault, IsUser, block_faults, faults_after}
-use Rattle.ti_base.proofs.Owning.{nobody, somebody, owning, nobody_to_none}
+use Rattle.ti_meaning.specs.Faults.{SourceFault, use_fault, IsUser, block_faults, faults_after}
 use Rattle.ti_base.proofs.Lists.{slice_get-map_item, drop_get}
-use Rattle.ti_base.proofs.Acyclic.{resolved_no_ring}
-
-pub use_fault_missing : (bs : List Reading) (at : ℕ) (name : List ℕ) → owner bs name ≡ None → ◌≡◌ {A = Option Code} (Some MissingUse) (use_fault bs at name)
-use_fault_missing bs at name o = rw (nobody_to_none bs name o) refl
-
-ring_between : (o : Option Reading) (l : Bool) (does_resolve : Reading → Bool) (b : Reading) → o ≡ Some b → l ≡ true → ◌≡◌ {A = Option Code} (Some Circular) (fault_between o l does_resolve)
-ring_between o l does_resolve b e f = rw (e, f) refl
-
-open_between : (o : Option Reading) (l : Bool) (does_resolve : Reading → Bool) (b : Reading) → o ≡ Some b → l ≡ false → does_resolve b ≡ false → ◌≡◌ {A = Option Code} (Some Unresolved) (fault_between o l does_resolve)
-open_between o l does_resolve b e f g = rw (e, f, g) refl
-
-none_between : (o : Option Reading) (l : Bool) (does_resolve : Reading → Bool) (b : Reading) → o ≡ Some b → l ≡ false → does_resolve b ≡ true → ◌≡◌ {A = Option Code} None (fault_between o l does_resolve)
-none_between o l does_resolve b e f g = rw (e, f, g) refl
-
-pub use_fault_ring : (bs : List Reading) (at : ℕ) (name : List ℕ) (b : Reading) → owned bs name ≡ Some b → leads_to bs name at ≡ true → ◌≡◌ {A = Option Code} (Some Circular) (use_fault bs at name)
-use_fault_ring bs at name b o l = ring_between (owned bs name) (leads_to bs name at) (resolves bs) b o l
-
-pub use_fault_open : (bs : List Reading) (at : ℕ) (name : List ℕ) (b : Reading) → owned bs name ≡ Some b → leads_to bs name at ≡ false → expansion bs b ≡ None → ◌≡◌ {A = Option Code} (Some Unresolved) (use_fault bs at name)
-use_fault_open bs at name b o l x = open_between (owned bs name) (leads_to bs name at) (resolves bs) b o l (ap (λ e. is_some e) x)
-
-pub use_fault_none : (bs : List Reading) (at : ℕ) (name : List ℕ) (b : Reading) (ms : List Mention) → owned bs name ≡ Some b → leads_to bs name at ≡ false → expansion bs b ≡ Some ms → ◌≡◌ {A = Option Code} None (use_fault bs at name)
-use_fault_none bs at name b ms o l x = none_between (owned bs name) (leads_to bs name at) (resolves bs) b o l (ap (λ e. is_some e) x)
+use Rattle.ti_meaning.proofs.UseFaults.{use_fault_circular, use_fault_open, use_fault_none, no_expansion, some_expansion, owner_is}
+use Rattle.ti_meaning.proofs.Acyclic.{resolved_not_circular}
 
 -- ---- what an entry tells of its block
 
@@ -49,38 +28,19 @@ state_read bs es at b e h l r s =
     let there : slice_get (map (state_of bs) bs) at ≡ Some (state_of bs b) = rw (slice_get-map (state_of bs) bs at, s) refl in
     same_Some (state_seen e) (state_of bs b) (sym here ∙ (ap (λ xs. slice_get xs at) h ∙ there))
 
-if_resolved : (large : Bool) (i : List ℕ) → unresolved ≡ cond large oversized (written i) → ⊥
-if_resolved true i e = cc
-if_resolved false i e = cc
-
 not_oversized : oversized ≡ unresolved → ⊥
 not_oversized e = cc
 
 not_written : (bytes : List ℕ) → written bytes ≡ unresolved → ⊥
 not_written bytes e = cc
 
-pub no_expansion : (b : Reading) (o : Option (List Mention)) → unresolved ≡ state_with b o → o ≡ None
-no_expansion b None e = refl
-no_expansion b (Some ms) e = absurd (if_resolved (is_too_large b ms) (image_of b ms) e)
-
-pub some_expansion : (b : Reading) (o : Option (List Mention)) (s : EntryState) → (s ≡ unresolved → ⊥) → s ≡ state_with b o → (ms : List Mention) × (o ≡ Some ms)
-some_expansion b None s n e = absurd (n e)
-some_expansion b (Some ms) s n e = (ms, refl)
-
 -- ---- the fault of a use that has an owner
 
-owner_is : (bs : List Reading) (name : List ℕ) (q : ℕ) → owner bs name ≡ Some q → (b : Reading) × (owned bs name ≡ Some b) × (slice_get bs q ≡ Some b)
-owner_is bs name q o =
-    elim (owning bs name) [
-      | nobody none _ ↦ absurd (none-some q (sym none ∙ o))
-      | somebody p b own ↦ let same : p ≡ q = same_Some p q (sym own.owns ∙ o) in (b, own.is, (rw same at own.stands))
-    ]
+pub fault_circular : (bs : List Reading) (at : ℕ) (name : List ℕ) (q : ℕ) (found : Bool) → owner bs name ≡ Some q → found ≡ leads_to bs name at → found ≡ true → ◌≡◌ {A = Option Code} (Some Circular) (use_fault bs at name)
+fault_circular bs at name q found o l t = let b = owner_is bs name q o in use_fault_circular bs at name b.0 b.1 (sym l ∙ t)
 
-pub fault_on_ring : (bs : List Reading) (at : ℕ) (name : List ℕ) (q : ℕ) (found : Bool) → owner bs name ≡ Some q → found ≡ leads_to bs name at → found ≡ true → ◌≡◌ {A = Option Code} (Some Circular) (use_fault bs at name)
-fault_on_ring bs at name q found o l t = let b = owner_is bs name q o in use_fault_ring bs at name b.0 b.1 (sym l ∙ t)
-
-pub fault_off_ring : (bs : List Reading) (es : List Entry) (at : ℕ) (name : List ℕ) (q : ℕ) (e : Entry) (found : Bool) → map state_seen es ≡ map (state_of bs) bs → q < length bs → e ≡ get_or es q e → owner bs name ≡ Some q → e ≡ entry.Unresolved → found ≡ leads_to bs name at → found ≡ false → ◌≡◌ {A = Option Code} (Some Unresolved) (use_fault bs at name)
-fault_off_ring bs es at name q e found h l r o i g t =
+pub fault_not_circular : (bs : List Reading) (es : List Entry) (at : ℕ) (name : List ℕ) (q : ℕ) (e : Entry) (found : Bool) → map state_seen es ≡ map (state_of bs) bs → q < length bs → e ≡ get_or es q e → owner bs name ≡ Some q → e ≡ entry.Unresolved → found ≡ leads_to bs name at → found ≡ false → ◌≡◌ {A = Option Code} (Some Unresolved) (use_fault bs at name)
+fault_not_circular bs es at name q e found h l r o i g t =
     let b = owner_is bs name q o in
     let state = state_read bs es q b.0 e h l r b.2 in
     use_fault_open bs at name b.0 b.1 (sym g ∙ t) (no_expansion b.0 (expansion bs b.0) (rw i at state))
@@ -89,7 +49,7 @@ pub fault_of_resolved : (bs : List Reading) (es : List Entry) (at : ℕ) (name :
 fault_of_resolved bs es at name q e h l r o n u =
     let b = owner_is bs name q o in
     let some = some_expansion b.0 (expansion bs b.0) (state_seen e) n (state_read bs es q b.0 e h l r b.2) in
-    use_fault_none bs at name b.0 some.0 b.1 (resolved_no_ring bs at u.0 b.0 name some.0 u.1 u.2 b.1 some.1) some.1
+    use_fault_none bs at name b.0 some.0 b.1 (resolved_not_circular bs at u.0 b.0 name some.0 u.1 u.2 b.1 some.1) some.1
 
 -- an entry over the limit, or one that there is, is of a block that resolves
 pub is_resolved : (e : Entry) → (e ≡ entry.TooLarge) ⊎ ((bytes : _) × (e ≡ entry.Compiled bytes)) → state_seen e ≡ unresolved → ⊥

@@ -7,16 +7,17 @@ use Rattle.std.proofs.lemmas.List.Elements.{All-set}
 use Rattle.std.proofs.lemmas.Option.{same_Some, slice_get-map}
 use Rattle.ti_source.specs.Reading.{Reading}
 use Rattle.ti_source.specs.Parsing.{parsed}
-use Rattle.ti_base.specs.Owner.{readings}
-use Rattle.ti_base.specs.Expansion.{Mention, expansion}
-use Rattle.ti_base.specs.Compiled.{EntryState, unresolved, oversized, written, image_of, is_too_large, entry, entry_of, state_with, state_of, compiled}
+use Rattle.ti_meaning.specs.Owner.{readings}
+use Rattle.ti_meaning.specs.Expansion.{Mention, expansion}
+use Rattle.ti_meaning.specs.Compiled.{EntryState, unresolved, oversized, written, image_of, is_too_large, entry, entry_of, state_with, state_of, compiled}
 use Rattle.ti_base.specs.Entries.{state_seen}
 use Rattle.ti_base.specs.declared.entries.Entry.{Entry}
 use Rattle.ti_base.specs.declared.entries.Entry.TheVariants.{Unresolved, TooLarge, Compiled}
-use Rattle.ti_base.specs.Usable.{IsUsable}
+use Rattle.ti_meaning.specs.Usable.{IsUsable}
 use Rattle.ti_base.specs.Kept.{IsBlockText, IsKept}
 use Rattle.ti_base.proofs.Lists.{item_at, slice_get-map_item}
-use Rattle.ti_base.proofs.Editing.{map-insert, map-remove, All-insert, All-remove}
+use Rattle.ti_meaning.specs.Edits.{relocated}
+use Rattle.ti_meaning.proofs.EditedLists.{map-insert, map-remove, map-relocated, All-insert, All-remove, All-relocated, length-relocated}
 
 -- the bytes that a state has
 abbrev pub shown_entry : EntryState → Option (List ℕ)
@@ -95,5 +96,15 @@ kept_removed texts blocks states at new_texts new_blocks new_states h l e f g = 
   texts_fit = rw e (All-remove IsBlockText texts at h.texts_fit);
   read = f ∙ (ap (λ bs. remove bs at) h.read ∙ (sym (map-remove parsed texts at) ∙ ap readings (sym e)));
   usable = rw f (All-remove IsUsable blocks at h.usable);
+  compiled = g;
+}
+
+-- a block was moved
+pub kept_moved : (texts : List (List ℕ)) (blocks : List Reading) (states : List EntryState) (from to : ℕ) (new_texts : List (List ℕ)) (new_blocks : List Reading) (new_states : List EntryState) → IsKept texts blocks states → from < length texts → to < length texts → new_texts ≡ relocated texts from to → new_blocks ≡ relocated blocks from to → new_states ≡ map (state_of new_blocks) new_blocks → IsKept new_texts new_blocks new_states
+kept_moved texts blocks states from to new_texts new_blocks new_states h l m e f g = record {
+  few = rw (e, length-relocated texts from to l m) h.few;
+  texts_fit = rw e (All-relocated IsBlockText texts from to h.texts_fit);
+  read = f ∙ (ap (λ bs. relocated bs from to) h.read ∙ (sym (map-relocated parsed texts from to) ∙ ap readings (sym e)));
+  usable = rw f (All-relocated IsUsable blocks from to h.usable);
   compiled = g;
 }

@@ -1,7 +1,7 @@
 -- A run of edits, one after another.
 use Rattle.std.proofs.Common.{ℕ, List, [], ◌∷◌, ◌++◌, append_assoc}
-use Rattle.ti_base.specs.declared.edits.Outcome.{Outcome}
-use Rattle.ti_base.specs.Edits.{Change, Step, Run}
+use Rattle.ti_meaning.specs.declared.edits.Outcome.{Outcome}
+use Rattle.ti_meaning.specs.Edits.{Change, Step, Run}
 
 -- what follows from a list, after these outcomes, is a run of all edits
 abbrev pub GoesOn : List Change → List Outcome → List (List ℕ) → List Change → Type 0

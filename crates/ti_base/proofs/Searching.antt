@@ -5,11 +5,11 @@ use Rattle.std.proofs.lemmas.Bool.{false≢true, or_cases, cases_lt, cases_Bool,
 use Rattle.std.proofs.lemmas.Option.{same_Some, none-some, slice_get_within}
 use Rattle.std.proofs.lemmas.Map.Steps.{length-le_from_distinct_below}
 use Rattle.ti_source.specs.Reading.{Reading, ReadItem}
-use Rattle.ti_base.specs.Owner.{owner, owned}
-use Rattle.ti_base.specs.Reaching.{used_name, Uses, IsWay, LeadsTo, leads_to}
+use Rattle.ti_meaning.specs.Owner.{owner, owned}
+use Rattle.ti_meaning.specs.Reaching.{used_name, Uses, IsWay, LeadsTo, leads_to}
 use Rattle.ti_base.specs.Search.{IsFound, AddsUsed, IsSearch}
-use Rattle.ti_base.proofs.Owning.{nobody, somebody, owning, owner_to_owned}
-use Rattle.ti_base.proofs.Leading.{leads_to-LeadsTo}
+use Rattle.ti_meaning.proofs.Owning.{nobody, somebody, owning, owner_to_owned}
+use Rattle.ti_meaning.proofs.Leading.{leads_to-LeadsTo}
 
 -- ---- what was found
 

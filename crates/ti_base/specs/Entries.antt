@@ -1,7 +1,7 @@
 -- What an entry of the database says, as plain data (own).
 use Rattle.ti_base.specs.declared.entries.Entry.{Entry}
 use Rattle.ti_base.specs.declared.entries.Entry.TheVariants.{Unresolved, TooLarge, Compiled}
-use Rattle.ti_base.specs.Compiled.{EntryState, unresolved, oversized, written}
+use Rattle.ti_meaning.specs.Compiled.{EntryState, unresolved, oversized, written}
 
 -- an entry that holds its bytes in memory, as plain data
 abbrev pub state_seen : Entry → EntryState

@@ -2,11 +2,11 @@
 use Rattle.std.specs.Prelude.{ℕ, ◌≡◌, ◌≤◌, List, length, map, All}
 use Rattle.ti_source.specs.Blocks.{OneBlock}
 use Rattle.ti_source.specs.Reading.{Reading}
-use Rattle.ti_base.specs.Owner.{readings}
-use Rattle.ti_base.specs.Usable.{IsUsable}
-use Rattle.ti_base.specs.declared.edits.EditError.{EditError}
-use Rattle.ti_base.specs.declared.edits.EditError.TheVariants.{TooLong, NotOneBlock}
-use Rattle.ti_base.specs.Compiled.{EntryState, state_of}
+use Rattle.ti_meaning.specs.Owner.{readings}
+use Rattle.ti_meaning.specs.Usable.{IsUsable}
+use Rattle.ti_meaning.specs.declared.edits.EditError.{EditError}
+use Rattle.ti_meaning.specs.declared.edits.EditError.TheVariants.{TooLong, NotOneBlock}
+use Rattle.ti_meaning.specs.Compiled.{EntryState, state_of}
 
 -- the text of one block, within the limit of 1,048,576 bytes
 pub record IsBlockText (text : List ℕ) : Type 0 where

@@ -1,8 +1,8 @@
 -- What the search for a ring keeps (own).
 use Rattle.std.specs.Prelude.{ℕ, ◌≡◌, ◌<◌, List, ◌++◌, length, Some, slice_get}
 use Rattle.ti_source.specs.Reading.{Reading, ReadItem}
-use Rattle.ti_base.specs.Owner.{owner}
-use Rattle.ti_base.specs.Reaching.{Uses, LeadsTo}
+use Rattle.ti_meaning.specs.Owner.{owner}
+use Rattle.ti_meaning.specs.Reaching.{Uses, LeadsTo}
 
 -- the place stands among those that were found
 abbrev pub IsFound : List ℕ → ℕ → Type 0

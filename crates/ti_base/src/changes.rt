@@ -1,9 +1,10 @@
 // Changes of a list of blocks that are compiled anew, and taken back where memory is short.
 ghost use Rattle.std.specs.Prelude.{◌≡◌, ◌<◌, ◌≤◌, map, length, insert, remove, slice_set, vec_len, vec_capacity, All, IfOk, OnOk, OnErr};
 ghost use Rattle.ti_source.specs.Reading.{reading_of};
-ghost use Rattle.ti_base.specs.Compiled.{state_of};
+ghost use Rattle.ti_meaning.specs.Compiled.{state_of};
+ghost use Rattle.ti_meaning.specs.Edits.{relocated};
 ghost use Rattle.ti_base.specs.Entries.{state_seen};
-ghost use Rattle.ti_base.specs.Usable.{IsUsable};
+ghost use Rattle.ti_meaning.specs.Usable.{IsUsable};
 
 use crate::entries::{Entry, compile};
 use std::alloc::{AllocError, Global};
@@ -86,6 +87,41 @@ pub(crate) fn compile_removed(
         Ok(entries) => Ok(entries),
         Err(error) => {
             insert_reserved(blocks, at, old);
+            Err(error)
+        }
+    }
+}
+
+/// Takes the item at `from` out and puts it in, so that it then stands at `to`.
+pub(crate) fn move_item<T: Drop>(items: &mut Vec<T>, from: usize, to: usize)
+    requires from { from < vec_len items.old }
+    requires to { to < vec_len items.old }
+    ensures { items.new.items ≡ relocated items.old.items from to }
+{
+    let item = items.remove(from);
+    insert_reserved(items, to, item);
+}
+
+/// Moves a block, and compiles the list. At an error the list is as before.
+pub(crate) fn compile_moved(
+    alloc: Global,
+    blocks: &mut Vec<Parsed>,
+    from: usize,
+    to: usize,
+) -> Result<Vec<Entry>, AllocError>
+    requires from { from < vec_len blocks.old }
+    requires to { to < vec_len blocks.old }
+    requires usable { All IsUsable (map reading_of blocks.old.items) }
+    ensures blocks { OnOk result (blocks.new.items ≡ relocated blocks.old.items from to) }
+    ensures entries { IfOk result (λ entries. map state_seen entries.items
+        ≡ map (state_of (map reading_of blocks.new.items)) (map reading_of blocks.new.items)) }
+    ensures err { OnErr result (blocks.new.items ≡ blocks.old.items) }
+{
+    move_item(blocks, from, to);
+    match compile(alloc, blocks) {
+        Ok(entries) => Ok(entries),
+        Err(error) => {
+            move_item(blocks, to, from);
             Err(error)
         }
     }

@@ -1,8 +1,8 @@
 // Whether a use lies on a ring: a search over the blocks that a name leads to.
 ghost use Rattle.std.specs.Prelude.{◌≡◌, ◌<◌, ℕ, List, Some, length, map, OnOk, IfOk};
 ghost use Rattle.ti_source.specs.Reading.{reading_of, item_of};
-ghost use Rattle.ti_base.specs.Owner.{owner};
-ghost use Rattle.ti_base.specs.Reaching.{leads_to};
+ghost use Rattle.ti_meaning.specs.Owner.{owner};
+ghost use Rattle.ti_meaning.specs.Reaching.{leads_to};
 ghost use Rattle.ti_base.specs.Search.{AddsUsed};
 
 use crate::owners::find_owner;

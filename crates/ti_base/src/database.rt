@@ -2,18 +2,20 @@
 ghost use Rattle.std.specs.Prelude.{◌≡◌, ◌<◌, ◌≤◌, [], length, map, slice_get, Some, option_map, IfOk, IfErr, OnOk};
 ghost use Rattle.ti_source.specs.Reading.{reading_of};
 ghost use Rattle.ti_source.specs.Parsing.{parsed};
-ghost use Rattle.ti_base.specs.Usable.{IsUsable};
+ghost use Rattle.ti_meaning.specs.Usable.{IsUsable};
 ghost use Rattle.ti_base.specs.Kept.{IsBlockText, IsTextRefusal};
-ghost use Rattle.ti_base.specs.Edits.{Run, change_of};
+ghost use Rattle.ti_meaning.specs.Edits.{Run, change_of};
 
-use crate::changes::{compile_inserted, compile_removed, compile_replaced, insert_reserved};
-use crate::edits::{Edit, EditError, Edited, Outcome};
+use crate::changes::{
+    compile_inserted, compile_moved, compile_removed, compile_replaced, insert_reserved, move_item,
+};
 use crate::entries::Entry;
-use crate::faults::{Fault, source_faults};
+use crate::faults::source_faults;
 use crate::owners::find_owner;
 use crate::report::write_report;
 use std::alloc::{AllocError, Global};
 use std::marker::Model;
+use ti_meaning::{Edit, EditError, Edited, Fault, Outcome};
 use ti_source::{Parsed, is_block, parse};
 
 /// The greatest length of a block in bytes.
@@ -75,11 +77,11 @@ fn check_text(text: &[u8]) -> Result<(), EditError>
 }
 
 impl Database {
-    ghost use Rattle.ti_base.specs.Owner.{owner, readings};
-    ghost use Rattle.ti_base.specs.Compiled.{compiled};
-    ghost use Rattle.ti_base.specs.Faults.{fault_seen, faults};
-    ghost use Rattle.ti_base.specs.Report.{report};
-    ghost use Rattle.ti_base.specs.Edits.{Step, change_of, insertion, removal, replacement, outcome_of};
+    ghost use Rattle.ti_meaning.specs.Owner.{owner, readings};
+    ghost use Rattle.ti_meaning.specs.Compiled.{compiled};
+    ghost use Rattle.ti_meaning.specs.Faults.{fault_seen, faults};
+    ghost use Rattle.ti_meaning.specs.Report.{report};
+    ghost use Rattle.ti_meaning.specs.Edits.{Step, change_of, insertion, removal, relocation, replacement, outcome_of};
 
     /// A source with no blocks. It takes no memory.
     pub fn new(alloc: Global) -> Database
@@ -200,7 +202,22 @@ impl Database {
         Ok(Edited {})
     }
 
-    /// Makes an edit: `insert`, `replace` or `remove`, with the refusals of that call.
+    /// Moves the block at `from`, so that it then stands at `to`. The refusals: `Position` where
+    /// there is no such block or no such position of one, and `Memory` where a growth was refused.
+    /// After a refusal all is as before.
+    pub fn relocate(&mut self, from: usize, to: usize) -> Result<Edited, EditError>
+        ensures { Step self.old (relocation from to) (outcome_of result) self.new }
+    {
+        if from >= self.texts.len() || to >= self.texts.len() {
+            return Err(EditError::Position);
+        }
+        let entries = compile_moved(self.alloc, &mut self.blocks, from, to)?;
+        move_item(&mut self.texts, from, to);
+        self.entries = entries;
+        Ok(Edited {})
+    }
+
+    /// Makes an edit: `insert`, `replace`, `remove` or `relocate`, with the refusals of that call.
     pub fn apply(&mut self, edit: &Edit<'_>) -> Result<Edited, EditError>
         ensures { Step self.old (change_of edit.now) (outcome_of result) self.new }
     {
@@ -208,6 +225,7 @@ impl Database {
             Edit::Insert { at, text } => self.insert(at, text),
             Edit::Replace { at, text } => self.replace(at, text),
             Edit::Remove { at } => self.remove(at),
+            Edit::Relocate { from, to } => self.relocate(from, to),
         }
     }
 }

@@ -2,11 +2,12 @@
 ghost use Rattle.std.specs.Prelude.{◌≡◌, ◌<◌, false, List, length, map, slice_get, Some, option_map, IfOk, All};
 ghost use Rattle.ti_source.specs.Reading.{Reading, reading_of};
 ghost use Rattle.ti_compiled.specs.Values.{contents};
-ghost use Rattle.ti_base.specs.Expansion.{Mention, is_broken};
-ghost use Rattle.ti_base.specs.Compiled.{entry_of, state_of};
+ghost use Rattle.ti_meaning.specs.Expansion.{Mention, is_broken};
+ghost use Rattle.ti_meaning.specs.Compiled.{entry_of, state_of};
 ghost use Rattle.ti_base.specs.Entries.{state_seen};
-ghost use Rattle.ti_base.specs.Resolution.{AreResolved, Tells};
-ghost use Rattle.ti_base.specs.Usable.{IsUsable};
+ghost use Rattle.ti_meaning.specs.ValueTables.{Tells};
+ghost use Rattle.ti_base.specs.Resolution.{AreResolved};
+ghost use Rattle.ti_meaning.specs.Usable.{IsUsable};
 
 use crate::resolution::resolve;
 use std::alloc::{AllocError, Global};

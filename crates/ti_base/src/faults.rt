@@ -3,31 +3,19 @@ ghost use Rattle.std.specs.Prelude.{◌≡◌, ◌≤◌, ◌<◌, ◌++◌, [],
 ghost use Rattle.std.specs.Rc.{rc_slice_items};
 ghost use Rattle.ti_source.specs.Codes.{is_of_header};
 ghost use Rattle.ti_source.specs.Reading.{Reading, fault_of, reading_of};
-ghost use Rattle.ti_base.specs.Owner.{owner};
-ghost use Rattle.ti_base.specs.Reaching.{Uses};
-ghost use Rattle.ti_base.specs.Compiled.{state_of};
+ghost use Rattle.ti_meaning.specs.Owner.{owner};
+ghost use Rattle.ti_meaning.specs.Reaching.{Uses};
+ghost use Rattle.ti_meaning.specs.Compiled.{state_of};
 ghost use Rattle.ti_base.specs.Entries.{state_seen};
-ghost use Rattle.ti_base.specs.Faults.{block_faults, entry_faults, fault_of_use, fault_seen, faults, faults_before, faults_from, is_kept, is_owned_before, IsUser, item_faults, local_fault, local_faults, name_faults, use_fault};
+ghost use Rattle.ti_meaning.specs.Faults.{block_faults, entry_faults, fault_of_use, fault_seen, faults, faults_before, faults_from, is_kept, is_owned_before, IsUser, item_faults, local_fault, local_faults, name_faults, use_fault};
 
 use crate::circles::leads_to;
 use crate::entries::Entry;
 use crate::owners::{find_owner, is_named};
 use std::alloc::{AllocError, Global};
 use std::rc::RcSlice;
+use ti_meaning::Fault;
 use ti_source::{Code, Local, Parsed, What};
-
-/// A fault of one block of a source.
-#[derive(Debug, Drop)]
-pub struct Fault {
-    /// The position of the block.
-    pub block: usize,
-    /// The line in the block, counted from 1.
-    pub line: usize,
-    /// What is wrong.
-    pub code: Code,
-    /// The name that it is about, where it is about one.
-    pub detail: Option<RcSlice<u8>>,
-}
 
 /// Whether a fault of this code is one of the header.
 fn is_of_header(code: Code) -> bool

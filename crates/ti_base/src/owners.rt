@@ -4,8 +4,8 @@ ghost use Rattle.std.specs.List.{list_any};
 ghost use Rattle.std.specs.Rc.{rc_slice_items};
 ghost use Rattle.ti_source.specs.Codes.{is_error};
 ghost use Rattle.ti_source.specs.Reading.{reading_of, fault_of};
-ghost use Rattle.ti_base.specs.Owner.{is_among, owner};
-ghost use Rattle.ti_base.specs.Expansion.{is_broken};
+ghost use Rattle.ti_meaning.specs.Owner.{is_among, owner};
+ghost use Rattle.ti_meaning.specs.Expansion.{is_broken};
 
 use std::rc::RcSlice;
 use ti_source::{Local, Parsed};

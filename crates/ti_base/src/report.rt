@@ -3,13 +3,13 @@ ghost use Rattle.std.specs.Prelude.{◌≡◌, ◌≤◌, ◌++◌, length, map,
 ghost use Rattle.std.specs.List.{flat_map, range_with_len};
 ghost use Rattle.std.specs.Rc.{rc_slice_items};
 ghost use Rattle.ti_source.specs.Codes.{code_text};
-ghost use Rattle.ti_base.specs.Report.{shown_byte, shown_detail, detail_text, fault_line, lines_before, lines_in, reported};
-ghost use Rattle.ti_base.specs.Faults.{fault_seen};
-ghost use Rattle.ti_base.specs.Bounds.{IsPlaced};
+ghost use Rattle.ti_meaning.specs.Report.{shown_byte, shown_detail, detail_text, fault_line, lines_before, lines_in, reported};
+ghost use Rattle.ti_meaning.specs.Faults.{fault_seen};
+ghost use Rattle.ti_meaning.specs.Bounds.{IsPlaced};
 
-use crate::faults::Fault;
 use std::alloc::{AllocError, Global};
 use std::fmt::Write;
+use ti_meaning::Fault;
 use ti_source::Code;
 
 /// What a report shows for a byte of a detail: `?` for one that does not print or is white space.

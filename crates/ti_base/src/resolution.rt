@@ -3,12 +3,13 @@ ghost use Rattle.std.specs.Prelude.{◌≡◌, ◌<◌, map, length, Bool, true,
 ghost use Rattle.std.specs.Bool.{MatchBool};
 ghost use Rattle.ti_source.specs.Reading.{reading_of, said_of, item_of};
 ghost use Rattle.ti_compiled.specs.Values.{contents};
-ghost use Rattle.ti_base.specs.Owner.{owned};
-ghost use Rattle.ti_base.specs.Expansion.{expand};
-ghost use Rattle.ti_base.specs.Resolution.{AreResolved, AreTables, IsLaid, IsOpenAt, IsOpenName, IsOpenUse, IsStuck, IsTableOf, Passed, LaysName};
-ghost use Rattle.ti_base.specs.Usable.{IsUsable, SetsWell};
+ghost use Rattle.ti_meaning.specs.Owner.{owned};
+ghost use Rattle.ti_meaning.specs.Expansion.{expand};
+ghost use Rattle.ti_meaning.specs.ValueTables.{IsLaid, IsTableOf, LaysName};
+ghost use Rattle.ti_base.specs.Resolution.{AreResolved, AreTables, IsOpenAt, IsOpenName, IsOpenUse, IsStuck, Passed};
+ghost use Rattle.ti_meaning.specs.Usable.{IsUsable, SetsWell};
 
-use crate::laying::{lay, merge};
+use crate::laying::lay;
 use crate::owners::{find_owner, has_error};
 use std::alloc::{AllocError, Global};
 use ti_compiled::{Table, Value};
@@ -33,7 +34,7 @@ fn lay_use(
     let Some(used) = &tables[at] else {
         return Ok(false);
     };
-    merge(table, used)?;
+    table.merge(used)?;
     Ok(true)
 }
 

@@ -1,3 +1,4 @@
 pub mod Order
 pub mod Table
 pub mod Named
+pub mod KindOrder

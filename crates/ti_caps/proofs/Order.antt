@@ -33,7 +33,7 @@ rising_from x (y ∷ ys) = is_lt (slice_cmp nat_cmp x y) && rising_from y ys
 less_from_test : (x y : List ℕ) → is_lt (slice_cmp nat_cmp x y) ≡ true → slice_cmp nat_cmp x y ≡ Less
 less_from_test x y e = elim (slice_cmp nat_cmp x y) as (λ o. is_lt o ≡ true → o ≡ Less) [ Less ↦ λ _. refl | Equal ↦ λ h. cc | Greater ↦ λ h. cc ] e
 
-adjacent_from_rising : (x : List ℕ) (xs : List (List ℕ)) → rising_from x xs ≡ true → (k : ℕ) → k + 1 < length (x ∷ xs) → slice_cmp nat_cmp (get_or (x ∷ xs) k []) (get_or (x ∷ xs) (k + 1) []) ≡ Less
+pub adjacent_from_rising : (x : List ℕ) (xs : List (List ℕ)) → rising_from x xs ≡ true → (k : ℕ) → k + 1 < length (x ∷ xs) → slice_cmp nat_cmp (get_or (x ∷ xs) k []) (get_or (x ∷ xs) (k + 1) []) ≡ Less
 adjacent_from_rising x [] h k l = absurd (omega arith)
 adjacent_from_rising x (y ∷ ys) h zero l = less_from_test x y (and_parts _ _ h).0
 adjacent_from_rising x (y ∷ ys) h (suc k) l = simp unary_clauses (simp unary_clauses at (adjacent_from_rising y ys (and_parts _ _ h).1 k (omega arith)))

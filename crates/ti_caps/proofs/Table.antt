@@ -7,13 +7,14 @@ use Rattle.std.proofs.lemmas.List.Elements.{All-contains, at_from_Contains}
 use Rattle.std.proofs.lemmas.Slice.Eq.{bytes_eq-Decides}
 use Rattle.ti_caps.specs.declared.capability.Kind.{Kind}
 use Rattle.ti_caps.specs.declared.capability.Kind.TheVariants.{Flag, Number, Text}
-use Rattle.ti_caps.specs.Tables.{Capability, IsCapability, capability, count_of, name_of, names, NamesAreDistinct}
+use Rattle.ti_caps.specs.Tables.{same_kind, Capability, IsCapability, capability, count_of, name_of, names, NamesAreDistinct}
+use Rattle.ti_caps.specs.Names.{flag_names, number_names, text_names}
 use Rattle.ti_caps.specs.ByName.{Row, by_name, IsInNameOrder, IsRowOf, HasNoRow}
 use Rattle.ti_caps.proofs.Order.{order_from_rising, names_apart}
 
 -- each list is as long as its count
 pub length-names : (k : Kind) → length (names k) ≡ count_of k
-unfolding names
+unfolding names flag_names number_names text_names
 length-names Flag = refl
 length-names Number = refl
 length-names Text = refl
@@ -28,16 +29,10 @@ abbrev row_is_right : Row → Bool
 row_is_right r = nat_lt r.2 (count_of r.1) && bytes_eq (get_or (names r.1) r.2 []) r.0
 
 rows_are_right : list_all row_is_right by_name ≡ true
-unfolding by_name names
+unfolding by_name names flag_names number_names text_names
 rows_are_right = refl
 
 -- each capability has a row
-abbrev same_kind : Kind → Kind → Bool
-same_kind Flag Flag = true
-same_kind Number Number = true
-same_kind Text Text = true
-same_kind _ _ = false
-
 abbrev has_row : Kind → ℕ → List Row → Bool
 has_row k i [] = false
 has_row k i (r ∷ rs) = elim (same_kind r.1 k && nat_eq r.2 i) [ true ↦ true | false ↦ has_row k i rs ]
@@ -47,7 +42,7 @@ covered k i [] = true
 covered k i (n ∷ ns) = has_row k i by_name && covered k (i + 1) ns
 
 all_covered : (k : Kind) → covered k 0 (names k) ≡ true
-unfolding by_name names
+unfolding by_name names flag_names number_names text_names
 all_covered Flag = refl
 all_covered Number = refl
 all_covered Text = refl
@@ -70,7 +65,7 @@ row_names r among =
     let parts = and_parts _ _ (All-contains (λ q. row_is_right q ≡ true) by_name r (AllPass-from_list_all row_is_right by_name rows_are_right) among) in
     (ltb-true _ _ parts.0, (bytes_eq-Decides _ _).0 parts.1)
 
-Contains-cons : {X : Type 0} (y : X) (xs : List X) (x : X) → Contains xs x → Contains (y ∷ xs) x
+pub Contains-cons : {X : Type 0} (y : X) (xs : List X) (x : X) → Contains xs x → Contains (y ∷ xs) x
 Contains-cons y xs x (j, l, e) = (suc j, omega arith, e)
 
 row_cases : (k : Kind) (i : ℕ) (r : Row) (rs : List Row) (b : Bool) → (same_kind r.1 k && nat_eq r.2 i) ≡ b → (has_row k i rs ≡ true → (n : List ℕ) × Contains rs (n, k, i)) → elim b [ true ↦ true | false ↦ has_row k i rs ] ≡ true → (n : List ℕ) × Contains (r ∷ rs) (n, k, i)

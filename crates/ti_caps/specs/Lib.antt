@@ -1,2 +1,4 @@
+pub mod Names
 pub mod Tables
 pub mod ByName
+pub mod NameOrder

@@ -4,11 +4,14 @@
 //! - `capability`: what a capability is, its kind and its index
 //! - `tables`: the names in the order of the compiled entry, and all of them by name
 //! - `lookup`: from a name to its capability, and back
+//! - `name_order`: the capabilities of each kind by name
 #![tactic(auto)]
 
 mod capability;
 mod lookup;
+mod name_order;
 mod tables;
 
 pub use capability::{Cap, Kind};
 pub use lookup::{count, every_name_is_found, find, name, names_are_distinct};
+pub use name_order::{by_name, each_kind_is_in_order};

@@ -1,5 +1,5 @@
 // A compiled entry read where it lies: each name and value is a slice of the caller's bytes.
-ghost use Rattle.std.specs.Prelude.{◌≡◌, ◌==◌, IfOk, IfErr};
+ghost use Rattle.std.specs.Prelude.{◌≡◌, ◌==◌, ◌<◌, length, IfOk, IfErr};
 ghost use Rattle.std.specs.List.{before_first};
 ghost use Rattle.std.specs.Option.{option_copied};
 ghost use Rattle.ti_caps.specs.declared.capability.Kind.TheVariants.{Flag, Number, Text};
@@ -7,11 +7,12 @@ ghost use Rattle.ti_compiled.specs.Reading.{Reads, Refused};
 ghost use Rattle.ti_compiled.specs.Sound.{OffsetsEnd};
 
 use crate::fault::ReadError;
-use crate::sections::{are_flags, are_names, are_numbers, are_offsets, cut, word};
+use crate::layout::Format;
+use crate::sections::{are_flags, are_names, are_numbers, are_offsets, cut, number, word};
 use memchr::memchr;
 use ti_caps::Cap;
 
-/// The first number that is negative as a signed number of 16 bits.
+/// The first offset that is negative as a signed number of 16 bits.
 const NEGATIVE: usize = 0x8000;
 
 /// A compiled entry of term(5), read where it lies. It holds slices of the bytes that it was read
@@ -19,6 +20,7 @@ const NEGATIVE: usize = 0x8000;
 /// capability has.
 #[derive(Clone, Copy)]
 pub struct View<'a> {
+    format: Format,
     names: &'a [u8],
     flags: &'a [u8],
     numbers: &'a [u8],
@@ -26,6 +28,8 @@ pub struct View<'a> {
     strings: &'a [u8],
     // each plain offset leads into the string table
     ghost ends: { OffsetsEnd offsets.now strings.now },
+    // which is no longer than a header can tell
+    pub ghost short: { length strings.now < 32768 },
 }
 
 impl<'a> View<'a> {
@@ -47,13 +51,14 @@ impl<'a> View<'a> {
         if !are_flags(sections.flags) {
             return Err(ReadError::BadFlag);
         }
-        if !are_numbers(sections.numbers) {
+        if !are_numbers(sections.numbers, sections.format) {
             return Err(ReadError::BadNumber);
         }
         if !are_offsets(sections.offsets, sections.strings) {
             return Err(ReadError::BadOffset);
         }
         Ok(View {
+            format: sections.format,
             names: &sections.names[..sections.names.len() - 1],
             flags: sections.flags,
             numbers: sections.numbers,
@@ -92,13 +97,13 @@ impl<'a> View<'a> {
         requires { cap.kind ≡ Number }
         ensures { result ≡ shown_number (held self.now cap) }
     {
-        let at = 2 * cap.index();
-        if at + 1 >= self.numbers.len() {
+        let width = self.format.width();
+        if cap.index() >= self.numbers.len() / width {
             return None;
         }
-        let number = word(self.numbers, at);
-        if number < NEGATIVE {
-            Some(number as u32)
+        let number = number(self.numbers, width * cap.index(), self.format);
+        if number < self.format.negative() {
+            Some(number)
         } else {
             None
         }
@@ -109,11 +114,10 @@ impl<'a> View<'a> {
         requires { cap.kind ≡ Text }
         ensures { option_copied result ≡ shown_text (held self.now cap) }
     {
-        let at = 2 * cap.index();
-        if at + 1 >= self.offsets.len() {
+        if cap.index() >= self.offsets.len() / 2 {
             return None;
         }
-        let offset = word(self.offsets, at);
+        let offset = word(self.offsets, 2 * cap.index());
         if offset >= NEGATIVE {
             return None;
         }

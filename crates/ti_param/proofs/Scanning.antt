@@ -1,11 +1,11 @@
 -- A format as its tokens.
 use Rattle.std.proofs.Common.{◌≡◌, ◌≢◌, ℕ, zero, suc, ◌+◌, ◌-◌, ◌≤◌, Bool, true, false, cond, ◌⊎◌, inl, inr, List, [], ◌∷◌, ◌++◌, length, length-append, refl, ap, sym, ◌∙◌, arith, add-zero}
-use Rattle.std.specs.Prelude.{Some, None, ◌==◌}
+use Rattle.std.specs.Prelude.{Some, None, ◌==◌, if◌then◌else◌}
 use Rattle.std.proofs.lemmas.Bool.Decides.{Decides-eqb}
 use Rattle.ti_param.specs.declared.codes.Token.{Token}
 use Rattle.ti_param.specs.declared.codes.Token.TheVariants.{Literal}
-use Rattle.ti_param.specs.Codes.{Front, token_after}
-use Rattle.ti_param.specs.Formats.{Scan, with_token, with_code, scan}
+use Rattle.ti_param.specs.inside.Codes.{Front, token_after}
+use Rattle.ti_param.specs.inside.Formats.{Scan, first_token, with_token, with_code, scan}
 use Rattle.ti_param.proofs.Reading.{code_so}
 use Rattle.ti_param.proofs.Fronts.{fails}
 
@@ -36,6 +36,27 @@ scan-code place front rest token h =
 abbrev pub IsPiece : ℕ → List ℕ → Token → List ℕ → Type 0
 IsPiece b after token rest = ((b ≡ 37) × (token_after after ≡ Some (token, rest))) ⊎ ((b ≢ 37) × (token ≡ Literal b) × (rest ≡ after))
 
+-- what a text begins with is a piece
+piece_by : (b : ℕ) (after : List ℕ) (token : Token) (rest : List ℕ) (t : Bool) → (b == 37) ≡ t →
+    (if t then token_after after else Some (Literal b, after)) ≡ Some (token, rest) → IsPiece b after token rest
+piece_by b after token rest true e h = inl ((Decides-eqb b 37).0 e, h)
+piece_by b after token rest false e h =
+    let same : ◌≡◌ {A = Token × List ℕ} (Literal b, after) (token, rest) = cc h in
+    inr ((λ s. let t = (Decides-eqb b 37).1 s in cc), sym (ap (λ p. p.0) same), sym (ap (λ p. p.1) same))
+
+pub piece_of : (b : ℕ) (after : List ℕ) (token : Token) (rest : List ℕ) → Some (token, rest) ≡ first_token b after → IsPiece b after token rest
+piece_of b after token rest h = piece_by b after token rest (b == 37) refl (sym h)
+
+-- where nothing is read, no token is left
+nothing_by : (place b : ℕ) (text after : List ℕ) (t : Bool) → (b == 37) ≡ t → text ≡ b ∷ after →
+    (if t then token_after after else Some (Literal b, after)) ≡ None → (scan 0 place text).tokens ≡ []
+nothing_by place b text after true e begins h =
+    ap (λ t. (scan 0 place t).tokens) (begins ∙ ap (λ c. c ∷ after) ((Decides-eqb b 37).0 e)) ∙ ap (λ s. s.tokens) (scan-stop place after h)
+nothing_by place b text after false e begins h = absurd (cc h)
+
+pub scan-nothing : (place b : ℕ) (text after : List ℕ) → text ≡ b ∷ after → None ≡ first_token b after → (scan 0 place text).tokens ≡ []
+scan-nothing place b text after begins h = nothing_by place b text after (b == 37) refl begins (sym h)
+
 pub piece-shorter : (b : ℕ) (after : List ℕ) (token : Token) (rest : List ℕ) → IsPiece b after token rest → length rest ≤ length after
 piece-shorter b after token rest (inl (at, read)) =
     let (front, whole, is_code) = code_so after rest token read in omega (arith, ap length whole, length-append front rest)
@@ -63,10 +84,10 @@ few place text None each = omega arith
 few place text (Some found) each = omega (arith, each (length text - length found.1))
 
 -- a text has no more tokens than bytes
-pub tokens-few : (skipped place : ℕ) (text : List ℕ) → length (scan skipped place text).tokens ≤ length text
+pub tokens-few : (after_part place : ℕ) (text : List ℕ) → length (scan after_part place text).tokens ≤ length text
 unfolding scan
-tokens-few skipped place [] = omega arith
-tokens-few (suc skipped) place (b ∷ text) = omega (arith, tokens-few skipped (suc place) text)
+tokens-few after_part place [] = omega arith
+tokens-few (suc after_part) place (b ∷ text) = omega (arith, tokens-few after_part (suc place) text)
 tokens-few zero place (b ∷ text) =
     elim (b == 37) as (λ t. length (cond t (with_code place (token_after text) (λ rest. scan (length text - length rest) (suc place) text)) (with_token place (Literal b) (scan zero (suc place) text))).tokens ≤ suc (length text)) [
       | true ↦ few place text (token_after text) (λ k. tokens-few k (suc place) text)

@@ -1,8 +1,9 @@
 //! A format as its tokens.
-ghost use Rattle.std.specs.Prelude.{◌≡◌, ◌^◌, ◌<◌, [], ◌∷◌, MatchOption, IfNone, length};
-ghost use Rattle.ti_param.specs.Formats.{scan_of};
+ghost use Rattle.std.specs.Prelude.{◌≡◌, ◌^◌, ◌<◌, [], ◌∷◌, MatchOption, IfNone, length, option_map};
+ghost use Rattle.ti_param.specs.inside.Formats.{first_token, scan_of};
 
-use crate::codes::{Token, read_token};
+use crate::codes::Token;
+use crate::reader::read_token;
 use std::marker::Model;
 
 /// A token, and where in the format it begins.
@@ -10,6 +11,17 @@ use std::marker::Model;
 pub(crate) struct Placed {
     pub(crate) place: usize,
     pub(crate) token: Token,
+}
+
+/// The token that a byte and the text after it begin with: the code after a `%`, else the byte itself.
+fn first_token(byte: u8, after: &[u8]) -> Option<(Token, &[u8])>
+    ensures { option_map (λ found. (found.0, found.1.now)) result ≡ first_token byte after.now }
+{
+    if byte == b'%' {
+        read_token(after)
+    } else {
+        Some((Token::Literal(byte), after))
+    }
 }
 
 /// The tokens of a format that are left, up to the first `%` that begins no code.
@@ -21,7 +33,7 @@ pub(crate) struct Lexer<'a> {
 
 impl<'a> Model for Lexer<'a> {
     ghost use Rattle.std.specs.Prelude.{◌+◌, ◌^◌, ◌<◌, length};
-    ghost use Rattle.ti_param.specs.Formats.{Scan, scan};
+    ghost use Rattle.ti_param.specs.inside.Formats.{Scan, scan};
 
     ghost Value = { Scan };
 
@@ -50,12 +62,7 @@ impl<'a> Lexer<'a> {
     {
         let text = self.rest;
         let (&byte, after) = text.split_first()?;
-        let piece = if byte == b'%' {
-            read_token(after)
-        } else {
-            Some((Token::Literal(byte), after))
-        };
-        match piece {
+        match first_token(byte, after) {
             None => None,
             Some((token, rest)) => {
                 let place = self.place;

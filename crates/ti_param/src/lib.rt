@@ -3,7 +3,7 @@
 //!
 //! - `values`: what is handed to a parameter string, and the static variables.
 //! - `expansion`: the bytes that a parameter string sends to the terminal; `errors`: why there are none.
-//! - `codes`: reading one code of a format; `lexer`: a format as its tokens.
+//! - `codes`: the codes of a format; `reader`, `directives` and `decimals`: reading one; `lexer`: a format as its tokens.
 //! - `acceptor`: whether a format is whole, before any of it is run.
 //! - `machine`, `arithmetic`: the stack, the variables, and what each code does to them.
 //!
@@ -16,15 +16,18 @@
 mod acceptor;
 mod arithmetic;
 mod codes;
+mod decimals;
+mod directives;
 mod errors;
 mod expansion;
 mod lexer;
 mod machine;
+mod reader;
 mod values;
 
 pub use acceptor::{one_reading, reading_is_computed};
-pub use codes::one_code;
 pub use errors::ParamError;
 pub use expansion::expand;
 pub use ti_printing::{Line, PadError, pad};
+pub use reader::one_code;
 pub use values::{Statics, Value};

@@ -1,9 +1,9 @@
 -- The lines of a script, and the answers to them, are determined but for want of memory.
 use Rattle.std.proofs.Common.{◌≡◌, ◌⊎◌, ℕ, List, [], ◌∷◌, ◌++◌, refl, sym, ap, ◌∙◌, subst, append_assoc, inl, inr}
-use Rattle.ti_base.specs.Edits.{Change, Step}
-use Rattle.ti_base.specs.declared.edits.EditError.TheVariants.{Position, TooLong, NotOneBlock, TooMany, Memory}
-use Rattle.ti_base.specs.declared.edits.Outcome.{Outcome}
-use Rattle.ti_base.specs.declared.edits.Outcome.TheVariants.{Accepted, Refused}
+use Rattle.ti_meaning.specs.Edits.{Change, Step}
+use Rattle.ti_meaning.specs.declared.edits.EditError.TheVariants.{Position, TooLong, NotOneBlock, TooMany, Memory}
+use Rattle.ti_meaning.specs.declared.edits.Outcome.{Outcome}
+use Rattle.ti_meaning.specs.declared.edits.Outcome.TheVariants.{Accepted, Refused}
 use Rattle.ti_session.specs.ScriptLaws.{OneAnswer, OneOutput, DifferAtMemory, SaysMemory}
 use Rattle.ti_devices.proofs.CutLines.{one_split-law}
 use Rattle.ti_devices.specs.Lines.{with_last}

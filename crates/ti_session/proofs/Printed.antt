@@ -5,8 +5,8 @@ use Rattle.std.specs.List.{flat_map}
 use Rattle.std.proofs.lemmas.Bool.{lt-ltb}
 use Rattle.std.proofs.lemmas.List.{take-append-drop}
 use Rattle.std.proofs.lemmas.Grind.{flat_map-append}
-use Rattle.ti_base.specs.Compiled.{compiled}
-use Rattle.ti_base.specs.declared.edits.EditError.TheVariants.{Position}
+use Rattle.ti_meaning.specs.Compiled.{compiled}
+use Rattle.ti_meaning.specs.declared.edits.EditError.TheVariants.{Position}
 use Rattle.ti_session.specs.Script.{entry_text, hex_of, print_reply, refused_text}
 
 pub print_reply-some : (texts : List (List ℕ)) (at : ℕ) (bytes : List ℕ) → at < length texts → Some bytes ≡ compiled texts at

@@ -1,9 +1,9 @@
 -- What the parts of the program write of a session's replies.
 use Rattle.std.specs.Prelude.{◌++◌, ℕ, List, Result, ◌⊎◌, codes}
-use Rattle.ti_base.specs.Edits.{Change, Step}
-use Rattle.ti_base.specs.Report.{report}
-use Rattle.ti_base.specs.declared.edits.EditError.TheVariants.{Memory}
-use Rattle.ti_base.specs.declared.edits.Outcome.{Outcome}
+use Rattle.ti_meaning.specs.Edits.{Change, Step}
+use Rattle.ti_meaning.specs.Report.{report}
+use Rattle.ti_meaning.specs.declared.edits.EditError.TheVariants.{Memory}
+use Rattle.ti_meaning.specs.declared.edits.Outcome.{Outcome}
 use Rattle.ti_devices.specs.Counted.{Observed}
 use Rattle.ti_devices.specs.Lines.{with_newline}
 use Rattle.ti_devices.specs.Writing.{Wrote}

@@ -1,10 +1,10 @@
 -- What the requests of a session mean.
 use Rattle.std.specs.Prelude.{ℕ, List, [], Option, Some, None}
-use Rattle.ti_base.specs.Edits.{Change, insertion, replacement, removal}
+use Rattle.ti_meaning.specs.Edits.{Change, insertion, replacement, removal, relocation}
 use Rattle.ti_session.specs.declared.requests.Opened.{Opened}
 use Rattle.ti_session.specs.declared.requests.Opened.TheVariants.{Insert, Replace}
 use Rattle.ti_session.specs.declared.requests.Request.{Request}
-use Rattle.ti_session.specs.declared.requests.Request.TheVariants.{Nothing, Open, Remove, Print, Report, Unknown}
+use Rattle.ti_session.specs.declared.requests.Request.TheVariants.{Nothing, Open, Remove, Relocate, Print, Report, Unknown}
 use Rattle.ti_session.specs.Script.{Mode, outside, putting_in, exchanging, Meaning, goes_on, asks, edits, prints, reports, unknown}
 
 -- the mode of a block that was opened, with this text so far
@@ -22,6 +22,7 @@ abbrev pub meaning_of : Request → Meaning
 meaning_of Nothing = goes_on outside
 meaning_of (Open opened) = goes_on (opened_mode opened [])
 meaning_of (Remove at) = asks (edits (removal at))
+meaning_of (Relocate from to) = asks (edits (relocation from to))
 meaning_of (Print at) = asks (prints at)
 meaning_of Report = asks reports
 meaning_of Unknown = asks unknown

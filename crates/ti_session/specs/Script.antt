@@ -1,13 +1,13 @@
 -- The session (own): a script whose lines edit a source and ask of it, and the replies to them.
-use Rattle.std.specs.Prelude.{◌≡◌, ℕ, ◌+◌, ◌-◌, ◌*◌, ◌/◌, ◌%◌, ◌&&◌, ◌==◌, nat_lt, nat_le, Bool, if◌then◌else◌, List, [], ◌∷◌, ◌++◌, length, fold, codes, bytes_eq, Option, Some, None, ◌⊎◌}
+use Rattle.std.specs.Prelude.{◌≡◌, ℕ, ◌+◌, ◌-◌, ◌*◌, ◌/◌, ◌%◌, ◌&&◌, ◌==◌, nat_lt, nat_le, Bool, if◌then◌else◌, List, [], ◌∷◌, ◌++◌, length, take, drop, position, fold, codes, bytes_eq, Option, Some, None, ◌⊎◌}
 use Rattle.std.specs.List.{flat_map, list_all, AllByRecursion}
-use Rattle.ti_base.specs.Compiled.{compiled}
-use Rattle.ti_base.specs.Report.{report}
-use Rattle.ti_base.specs.Edits.{Change, insertion, replacement, removal, Step}
-use Rattle.ti_base.specs.declared.edits.EditError.{EditError}
-use Rattle.ti_base.specs.declared.edits.EditError.TheVariants.{Position, TooLong, NotOneBlock, TooMany, Memory}
-use Rattle.ti_base.specs.declared.edits.Outcome.{Outcome}
-use Rattle.ti_base.specs.declared.edits.Outcome.TheVariants.{Accepted, Refused}
+use Rattle.ti_meaning.specs.Compiled.{compiled}
+use Rattle.ti_meaning.specs.Report.{report}
+use Rattle.ti_meaning.specs.Edits.{Change, insertion, replacement, removal, relocation, Step}
+use Rattle.ti_meaning.specs.declared.edits.EditError.{EditError}
+use Rattle.ti_meaning.specs.declared.edits.EditError.TheVariants.{Position, TooLong, NotOneBlock, TooMany, Memory}
+use Rattle.ti_meaning.specs.declared.edits.Outcome.{Outcome}
+use Rattle.ti_meaning.specs.declared.edits.Outcome.TheVariants.{Accepted, Refused}
 use Rattle.ti_devices.specs.Lines.{IsWithin, Splits, with_last, with_newline}
 
 -- ---- lines
@@ -62,11 +62,31 @@ meaning_numbered letter (Some n) =
     else if letter == 112 then asks (prints n)
     else asks unknown
 
--- a line between commands: an empty one says nothing; `f` stands alone; a number follows one space
+-- both numbers, where both are there
+abbrev pub both : Option ℕ → Option ℕ → Option (ℕ × ℕ)
+both (Some one) (Some other) = Some (one, other)
+both _ _ = None
+
+-- the numbers before a place of the text and behind it
+abbrev pub numbers_around : List ℕ → Option ℕ → Option (ℕ × ℕ)
+numbers_around text None = None
+numbers_around text (Some place) = both (number (take place text)) (number (drop (place + 1) text))
+
+-- two numbers with one space between them
+abbrev pub two_numbers : List ℕ → Option (ℕ × ℕ)
+two_numbers text = numbers_around text (position (λ byte. byte == 32) text)
+
+-- the letter of a move with its two numbers: `m F T`
+abbrev pub moves : Option (ℕ × ℕ) → Meaning
+moves None = asks unknown
+moves (Some places) = asks (edits (relocation places.0 places.1))
+
+-- a line between commands: an empty one says nothing; `f` stands alone; a number follows one space, or two do
 abbrev pub meaning_outside : List ℕ → Meaning
 meaning_outside [] = goes_on outside
 meaning_outside (letter ∷ []) = if letter == 102 then asks reports else asks unknown
-meaning_outside (letter ∷ space ∷ rest) = if space == 32 then meaning_numbered letter (number rest) else asks unknown
+meaning_outside (letter ∷ space ∷ rest) =
+    if space == 32 then (if letter == 109 then moves (two_numbers rest) else meaning_numbered letter (number rest)) else asks unknown
 
 -- a line in a mode: within a block, a line `.` ends it and any other belongs to it
 abbrev pub meaning_in : Mode → List ℕ → Meaning

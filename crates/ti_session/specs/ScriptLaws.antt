@@ -1,6 +1,6 @@
 -- What the definition of a session leaves open (own): nothing but where memory is wanting.
 use Rattle.std.specs.Prelude.{◌≡◌, ℕ, List, ◌++◌, ◌⊎◌}
-use Rattle.ti_base.specs.declared.edits.EditError.TheVariants.{Memory}
+use Rattle.ti_meaning.specs.declared.edits.EditError.TheVariants.{Memory}
 use Rattle.ti_session.specs.Script.{Leads, Meaning, Session, State, refused_text}
 
 -- a line leads from a state to one state, with one reply, unless one of two replies is that memory is wanting

@@ -1,6 +1,6 @@
 //! A session's requests and replies: the source that is edited, and the block that is open.
 ghost use Rattle.std.specs.Prelude.{◌≡◌, IfOk, Some};
-ghost use Rattle.ti_base.specs.Edits.{change_of};
+ghost use Rattle.ti_meaning.specs.Edits.{change_of};
 ghost use Rattle.ti_devices.specs.Counted.{observed};
 ghost use Rattle.ti_devices.specs.Writing.{Wrote};
 ghost use Rattle.ti_session.specs.Replies.{CarriesOut, WroteReport};
@@ -110,6 +110,9 @@ impl Editor {
                 Ok(())
             }
             Request::Remove { at } => carry_out(&mut self.database, &Edit::Remove { at }, writer),
+            Request::Relocate { from, to } => {
+                carry_out(&mut self.database, &Edit::Relocate { from, to }, writer)
+            }
             Request::Print { at } => print(&self.database, at, writer),
             Request::Report => report(&self.database, writer),
             Request::Unknown => write_out(writer, b"unknown\n"),

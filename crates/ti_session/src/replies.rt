@@ -1,7 +1,7 @@
 //! The replies of a session, written to a counted device.
 ghost use Rattle.std.specs.Prelude.{◌≡◌, ◌<◌, ◌≤◌, length};
 ghost use Rattle.std.specs.List.{flat_map};
-ghost use Rattle.ti_base.specs.Edits.{outcome_of};
+ghost use Rattle.ti_meaning.specs.Edits.{outcome_of};
 ghost use Rattle.ti_devices.specs.Counted.{observed};
 ghost use Rattle.ti_devices.specs.Writing.{Wrote};
 ghost use Rattle.ti_session.specs.Script.{hex_digit, hex_of, outcome_text, refused_text};

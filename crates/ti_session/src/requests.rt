@@ -1,7 +1,7 @@
 //! What a line of a session asks for, outside a block.
-ghost use Rattle.std.specs.Prelude.{◌≡◌, Some};
+ghost use Rattle.std.specs.Prelude.{◌≡◌, ◌==◌, ◌<◌, length, position, IfSome, Some};
 ghost use Rattle.ti_session.specs.Requests.{meaning_of};
-ghost use Rattle.ti_session.specs.Script.{meaning_outside, number, meaning_numbered};
+ghost use Rattle.ti_session.specs.Script.{meaning_outside, moves, number, meaning_numbered, two_numbers};
 
 /// A block that lines are to follow for, and the position that it is for.
 #[derive(Clone, Copy)]
@@ -30,6 +30,13 @@ pub enum Request {
         /// The position.
         at: usize,
     },
+    /// To move the block at `from`, so that it then stands at `to`.
+    Relocate {
+        /// The position.
+        from: usize,
+        /// The position that it is to have.
+        to: usize,
+    },
     /// To print the entry of the block at `at`.
     Print {
         /// The position.
@@ -56,6 +63,35 @@ fn number(text: &[u8]) -> Option<usize>
         value = 10 * value + (*byte - b'0') as usize;
     }
     Some(value)
+}
+
+// The place of the first space.
+fn first_space(text: &[u8]) -> Option<usize>
+    ensures place { result ≡ position (λ byte. byte == 32) text.now }
+    ensures within { IfSome result (λ place. place < length text.now) }
+{
+    text.iter().position(|byte| *byte == b' ')
+}
+
+// The two numbers with one space between them that a text spells.
+fn two_numbers(text: &[u8]) -> Option<(usize, usize)>
+    ensures { result ≡ two_numbers text.now }
+{
+    let space = first_space(text)?;
+    let from = number(&text[..space])?;
+    let to = number(&text[space + 1..])?;
+    Some((from, to))
+}
+
+// What the letter of a move asks for.
+fn relocation(text: &[u8]) -> Request
+    ensures { meaning_of result ≡ moves (two_numbers text.now) }
+{
+    if let Some((from, to)) = two_numbers(text) {
+        Request::Relocate { from, to }
+    } else {
+        Request::Unknown
+    }
 }
 
 // What a letter with a number asks for.
@@ -87,6 +123,9 @@ pub fn read_request(line: &[u8]) -> Request
     };
     if *space != b' ' {
         return Request::Unknown;
+    }
+    if *letter == b'm' {
+        return relocation(digits);
     }
     match number(digits) {
         Some(at) => request_with_number(*letter, at),

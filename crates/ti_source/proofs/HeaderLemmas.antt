@@ -10,7 +10,8 @@ use Rattle.std.proofs.lemmas.List.Elements.{All-from_recursion, recursion_from_A
 use Rattle.std.proofs.lemmas.List.Splits.{slice_split-cons_yes, slice_split-cons_no, slice_split_none, slice_split_at, length-slice_split, join_with_byte-slice_split}
 use Rattle.std.proofs.lemmas.Slice.Eq.{bytes_eq-Decides}
 use Rattle.memchr.specs.Find.{IsLastByte, is_byte}
-use Rattle.ti_source.specs.Header.{IsNameByte, IsLookupName, PartsOf, lookup_parts, HeaderNames, IsBadHeader, is_name_byte, is_lookup_name, parts_of, is_header, header_names, EachHeaderIsRead, HeadersHaveOneReading}
+use Rattle.ti_source.specs.Header.{IsNameByte, IsLookupName, PartsOf, lookup_parts, HeaderNames, IsBadHeader}
+use Rattle.ti_source.specs.inside.Header.{is_name_byte, is_lookup_name, parts_of, is_header, header_names, EachHeaderIsRead, HeadersHaveOneReading}
 
 -- ---- the tests
 leb_decides : (a b : ℕ) → Decides (nat_le a b) (a ≤ b)
@@ -129,7 +130,7 @@ each_header field =
     elim (cases_Bool (is_header field)) [
       | inl t ↦
           let h = (header_decides field).0 t in
-          rw t (record { parts = parts; cut = parts_are_parts field; named = refl; filled = h.0.1; printable = h.0.0; lookup = h.1 })
+          rw t (record { parts = parts; cut = parts_are_parts field; named = refl; filled = h.0.1; no_nul = h.0.0; lookup = h.1 })
       | inr f ↦
           rw f (record {
             parts = parts;
@@ -148,7 +149,7 @@ read_names : (field : List ℕ) (names : List (List ℕ)) → HeaderNames field 
 read_names field names h =
     let same = parts_are_computed field h.parts h.cut in
     let good : is_header field ≡ true = (header_decides field).1
-    ((h.printable, subst (All (λ part. part ≢ [])) (sym same) h.filled), subst (All IsLookupName) (h.named ∙ ap lookup_parts (sym same)) h.lookup) in
+    ((h.no_nul, subst (All (λ part. part ≢ [])) (sym same) h.filled), subst (All IsLookupName) (h.named ∙ ap lookup_parts (sym same)) h.lookup) in
     rw good (ap Some (ap lookup_parts same ∙ sym h.named))
 
 read_bad : (field : List ℕ) → IsBadHeader field → header_names field ≡ None

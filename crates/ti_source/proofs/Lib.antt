@@ -4,6 +4,7 @@ pub mod NumberLemmas
 pub mod TrimLemmas
 pub mod WalkLemmas
 pub mod FoldLemmas
+pub mod FoldingLaws
 pub mod ItemLemmas
 pub mod TextLemmas
 pub mod ReadLemmas

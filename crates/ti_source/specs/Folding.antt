@@ -1,37 +1,66 @@
 -- The text of a block as it is read (terminfo(5); X/Open Curses Issue 7, "Terminfo Source Format"): comment lines are left out, and a line may be
 -- broken anywhere, even inside a string. That a break takes the white space and the newlines after it along is this project's choice (own).
-use Rattle.std.specs.Prelude.{ℕ, ◌+◌, Bool, true, false, ◌||◌, ◌&&◌, ◌==◌, if◌then◌else◌, List, [], ◌∷◌}
+use Rattle.ti_text.specs.Ascii as ascii
+use Rattle.std.specs.Prelude.{◌≡◌, ◌≢◌, ℕ, ◌+◌, Bool, true, false, not, ◌||◌, ◌==◌, List, [], ◌∷◌, ◌++◌, map, filter, flat_map}
 use Rattle.ti_source.specs.WhiteSpace.{is_white_space}
+use Rattle.ti_source.specs.Lines.{line_count}
+pub use Rattle.ti_source.specs.inside.Folding.{Placed, placed, in_comment, without_comments, joined, folded}
 
--- a byte, and the line that it stands on
-abbrev pub Placed : Type 0
-Placed = ℕ × ℕ
+-- each byte of a block, with the line that it stands on: one more than the newlines before it
+pub record ArePlaced (block : List ℕ) (text : List Placed) : Type 0 where
+  pub bytes : map (λ x. x.0) text ≡ block
+  pub lines : (front back : List Placed) (x : Placed) → text ≡ front ++ x ∷ back → x.1 ≡ line_count (map (λ y. y.0) front) + 1
 
--- the bytes of a text that begins on a line
-abbrev pub placed : ℕ → List ℕ → List Placed
-placed line [] = []
-placed line (b ∷ bs) = (b, line) ∷ placed (if b == 10 then line + 1 else line) bs
+-- no byte is a newline
+abbrev pub HasNoNewline : List Placed → Type 0
+HasNoNewline [] = Unit {0}
+HasNoNewline (x ∷ xs) = ((x.0 == ascii.newline) ≡ false) × HasNoNewline xs
 
--- whether a byte stands in a comment, a line that begins with `#`, where `before` stands just before it and `comment` says it of that byte
-abbrev pub in_comment : Bool → ℕ → ℕ → Bool
-in_comment comment before b = if before == 10 then b == 35 else comment
+-- the lines of a text, each with the newline that ends it, which the last line may lack
+pub data AreLines : (text : List Placed) (lines : List (List Placed)) → Type 0 where
+  no_lines : AreLines [] []
+  last_line : (line : List Placed) → line ≢ [] → HasNoNewline line → AreLines line (line ∷ [])
+  line_and_rest : (line rest : List Placed) (at : ℕ) (lines : List (List Placed)) → HasNoNewline line → AreLines rest lines
+      → AreLines (line ++ (ascii.newline, at) ∷ rest) ((line ++ (ascii.newline, at) ∷ []) ∷ lines)
 
--- the bytes that stand in no comment
-abbrev pub without_comments : Bool → ℕ → List Placed → List Placed
-without_comments comment before [] = []
-without_comments comment before (x ∷ xs) =
-    if in_comment comment before x.0
-    then without_comments true x.0 xs
-    else x ∷ without_comments false x.0 xs
+-- whether a line is a comment: it begins with a `#`
+abbrev pub is_comment : List Placed → Bool
+is_comment [] = false
+is_comment (x ∷ xs) = x.0 == ascii.number_sign
 
--- the bytes without each newline and the run of white space and newlines after it, where `joining` says that such a run stands just before
-abbrev pub joined : Bool → List Placed → List Placed
-joined joining [] = []
-joined joining (x ∷ xs) =
-    if x.0 == 10 || (joining && is_white_space x.0)
-    then joined true xs
-    else x ∷ joined false xs
+-- whether a break takes a byte along: white space or a newline
+abbrev pub is_blank : ℕ → Bool
+is_blank b = b == ascii.newline || is_white_space b
 
--- the folded text of a block: comments are left out first, then line breaks; a newline stands before a block, and its lines are counted from 1
-abbrev pub folded : List ℕ → List Placed
-folded block = joined false (without_comments false 10 (placed 1 block))
+-- each byte is white space or a newline
+abbrev pub IsBlankRun : List Placed → Type 0
+IsBlankRun [] = Unit {0}
+IsBlankRun (x ∷ xs) = (is_blank x.0 ≡ true) × IsBlankRun xs
+
+-- a text is empty, or its first byte is neither white space nor a newline
+abbrev pub BeginsNoBlank : List Placed → Type 0
+BeginsNoBlank [] = Unit {0}
+BeginsNoBlank (x ∷ xs) = is_blank x.0 ≡ false
+
+-- A text is pieces without newline, and between each two of them a newline with the longest run of white space and newlines after it; `kept` is the
+-- pieces, joined.
+pub data Joins : (text kept : List Placed) → Type 0 where
+  last_piece : (piece : List Placed) → HasNoNewline piece → Joins piece piece
+  piece_and_break : (piece run rest kept : List Placed) (at : ℕ) → HasNoNewline piece → IsBlankRun run → BeginsNoBlank rest → Joins rest kept
+      → Joins (piece ++ (ascii.newline, at) ∷ (run ++ rest)) (piece ++ kept)
+
+-- the folded text of a block: its lines that are no comments, joined
+pub record Folds (block : List ℕ) (text : List Placed) : Type 0 where
+  pub whole : List Placed
+  pub lines : List (List Placed)
+  pub are_placed : ArePlaced block whole
+  pub are_lines : AreLines whole lines
+  pub joins : Joins (flat_map (λ line. line) (filter (λ line. not (is_comment line)) lines)) text
+
+-- a block has no two folded texts
+abbrev pub OneFolding : Type 0
+OneFolding = (block : List ℕ) (one other : List Placed) → Folds block one → Folds block other → one ≡ other
+
+-- a block has the folded text that is computed
+abbrev pub EachIsFolded : Type 0
+EachIsFolded = (block : List ℕ) → Folds block (folded block)

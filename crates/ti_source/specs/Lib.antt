@@ -1,5 +1,6 @@
 pub mod WhiteSpace
 pub mod Lines
+pub mod Heads
 pub mod Blocks
 pub mod Header
 pub mod Numbers
@@ -8,5 +9,7 @@ pub mod Folding
 pub mod Items
 pub mod Codes
 pub mod Reading
+pub mod Verdicts
 pub mod Parsing
 pub mod Sound
+pub mod inside

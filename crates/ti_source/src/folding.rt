@@ -1,7 +1,7 @@
 // The text of a block, folded: without its comments and its line breaks.
 ghost use Rattle.std.specs.Prelude.{◌≡◌, ◌≤◌, length};
 ghost use Rattle.std.specs.Iterator.{YieldsFirst, item_count};
-ghost use Rattle.ti_source.specs.Folding.{folded};
+ghost use Rattle.ti_source.specs.Folding.{folded, EachIsFolded, OneFolding};
 
 use crate::white_space::is_white_space;
 use std::marker::Model;
@@ -77,3 +77,9 @@ impl<'a> Iterator for Folded<'a> {
         None
     }
 }
+
+/// A block has one folded text, which a reading of it begins with.
+pub fn one_folding()
+    ensures computed { EachIsFolded }
+    ensures only { OneFolding }
+{}

@@ -5,9 +5,8 @@
 //! - `cutting` and `walk`: a source as a preface and blocks, one for each entry; `heads` finds where they begin.
 //! - `header`: the names field of a block, and its lookup names.
 //! - `numbers`: the value of a number, or why a text is none; `white_space`: what stands after it.
-//! - `lines`: the law of counting lines.
 //! - `folding`: a block without its comments and line breaks; `items`: the names field and the items of a block, and
-//!   what an item states; `parsing`: a block as it is read, with its faults.
+//!   what an item states; `verdicts`: what comes of that; `parsing`: a block as it is read, with its faults.
 //!
 //! The crate `ti_spelling` below it has the spelling of string values; its calls are public here too.
 #![tactic(auto)]
@@ -18,9 +17,9 @@ mod folding;
 mod header;
 mod heads;
 mod items;
-mod lines;
 mod numbers;
 mod parsing;
+mod verdicts;
 mod walk;
 mod white_space;
 
@@ -28,12 +27,13 @@ pub use code::Code;
 pub use cutting::{
     blocks, blocks_are_single, blocks_are_single_once_ended, each_has_cut, is_block, one_cut,
 };
+pub use folding::one_folding;
 pub use header::{each_header_is_read, headers_have_one_reading, is_lookup_name, lookup_names};
-pub use lines::lines_add;
 pub use numbers::{
     NumberError, each_number_is_read, numbers_have_one_reading, numerals_have_one_value,
     read_number,
 };
 pub use parsing::{Item, Local, Parsed, What, each_is_well_read, one_reading, parse};
 pub use ti_spelling::{UnescapeError, Unescaped, escape, one_outcome, unescape, written_spells};
+pub use ti_text::lines_add;
 pub use walk::Blocks;

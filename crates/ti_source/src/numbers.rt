@@ -2,12 +2,13 @@
 ghost use Rattle.std.specs.Prelude.{◌≡◌, ◌≤◌, ◌+◌, min, IfSome};
 ghost use Rattle.std.specs.Option.{option_map, option_and_then};
 ghost use Rattle.ti_source.specs.Numbers as spec;
+ghost use Rattle.ti_source.specs.inside.Numbers as computed;
 
 use crate::white_space::trim_end;
 use thiserror::Error;
 
 /// The greatest value of a number.
-const GREATEST: u32 = 32767;
+const GREATEST: u32 = 2_147_483_647;
 
 /// Why a text is no number.
 #[derive(Clone, Copy, PartialEq, Eq, Debug, Error)]
@@ -15,7 +16,7 @@ pub enum NumberError {
     /// It is not written as a number is.
     #[error("bad number")]
     Bad,
-    /// Its value is over 32,767.
+    /// Its value is over 2,147,483,647.
     #[error("number too large")]
     TooLarge,
 }
@@ -33,7 +34,7 @@ fn digit_value(byte: u8) -> u32
 
 // The digits of a number, and the base that they are in.
 fn base_and_digits(number: &[u8]) -> Option<(u32, &[u8])>
-    ensures value { spec.value_read number.now ≡ option_and_then (λ p. spec.digits_read p.0 p.1.now) result }
+    ensures value { computed.value_read number.now ≡ option_and_then (λ p. computed.digits_read p.0 p.1.now) result }
     ensures base { IfSome result (λ p. p.0 ≤ 16) }
 {
     match number {
@@ -47,7 +48,7 @@ fn base_and_digits(number: &[u8]) -> Option<(u32, &[u8])>
 // The value of digits in a base; one that is over the limit stops just above it.
 fn digits_value(base: u32, digits: &[u8]) -> Option<u32>
     requires { base ≤ 16 }
-    ensures { result ≡ option_map (λ value. min value (spec.greatest_number + 1)) (spec.digits_read base digits.now) }
+    ensures { result ≡ option_map (λ value. min value (spec.greatest_number + 1)) (computed.digits_read base digits.now) }
 {
     let mut value = 0;
     for byte in digits {
@@ -55,13 +56,14 @@ fn digits_value(base: u32, digits: &[u8]) -> Option<u32>
         if digit >= base {
             return None;
         }
-        value = (value * base + digit).min(GREATEST + 1);
+        let more = u64::from(value) * u64::from(base) + u64::from(digit);
+        value = more.min(u64::from(GREATEST) + 1) as u32;
     }
     Some(value)
 }
 
 fn value(number: &[u8]) -> Option<u32>
-    ensures { result ≡ option_map (λ value. min value (spec.greatest_number + 1)) (spec.value_read number.now) }
+    ensures { result ≡ option_map (λ value. min value (spec.greatest_number + 1)) (computed.value_read number.now) }
 {
     let (base, digits) = base_and_digits(number)?;
     digits_value(base, digits)
@@ -72,10 +74,10 @@ fn value(number: &[u8]) -> Option<u32>
 ///
 /// # Errors
 ///
-/// `Bad` where the text is not written so, and `TooLarge` where its value, of however many digits, is over 32,767.
+/// `Bad` where the text is not written so, and `TooLarge` where its value, of however many digits, is over 2,147,483,647.
 pub fn read_number(text: &[u8]) -> Result<u32, NumberError>
     ensures reading { spec.ReadsAs text.now result }
-    ensures computed { result ≡ spec.number_read text.now }
+    ensures computed { result ≡ computed.number_read text.now }
 {
     match value(trim_end(text)) {
         None => Err(NumberError::Bad),
@@ -91,12 +93,12 @@ pub fn numerals_have_one_value()
 
 /// Each text reads as the computing definition says.
 pub fn each_number_is_read()
-    ensures { spec.EachTextIsRead }
+    ensures { computed.EachTextIsRead }
 {}
 
 /// A text has no other reading.
 pub fn numbers_have_one_reading()
-    ensures { spec.OneReading }
+    ensures { computed.NumbersHaveOneReading }
 {}
 
 #[cfg(test)]
@@ -110,11 +112,12 @@ mod tests {
             (b"00".as_slice(), Ok(0)),
             (b"010".as_slice(), Ok(8)),
             (b"80 ".as_slice(), Ok(80)),
-            (b"32767\t \t".as_slice(), Ok(32767)),
-            (b"0x7fff".as_slice(), Ok(32767)),
+            (b"32768\t \t".as_slice(), Ok(32768)),
+            (b"2147483647".as_slice(), Ok(2_147_483_647)),
+            (b"0x7fffffff".as_slice(), Ok(2_147_483_647)),
             (b"0X1F".as_slice(), Ok(31)),
-            (b"32768".as_slice(), Err(NumberError::TooLarge)),
-            (b"0x8000".as_slice(), Err(NumberError::TooLarge)),
+            (b"2147483648".as_slice(), Err(NumberError::TooLarge)),
+            (b"0x80000000".as_slice(), Err(NumberError::TooLarge)),
             (
                 b"99999999999999999999".as_slice(),
                 Err(NumberError::TooLarge),

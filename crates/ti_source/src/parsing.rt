@@ -1,46 +1,30 @@
 // A block as it is read.
 ghost use Rattle.std.specs.Prelude.{◌≡◌, ◌<◌, ◌+◌, ◌^◌, IfOk, OnOk, length};
 ghost use Rattle.ti_source.specs.Blocks.{OneBlock};
-ghost use Rattle.ti_source.specs.Items.{stated, piece};
-ghost use Rattle.ti_source.specs.Numbers.{number_read};
-ghost use Rattle.ti_source.specs.Parsing.{
-  Parses,
-  parsed,
-  HasReading,
-  OneReading,
-  verdict_in_memory,
-  verdict_of,
-  number_verdict,
-  text_verdict,
-  AddsItem,
-  AddsItems,
-  ReadsField,
-  header_fault,
-  item_fault,
-};
+ghost use Rattle.ti_source.specs.Items.{piece};
+ghost use Rattle.ti_source.specs.Parsing.{Parses, HasReading, OneReading};
+ghost use Rattle.ti_source.specs.inside.Parsing.{parsed, AddsItem, AddsItems, ReadsField};
+ghost use Rattle.ti_source.specs.Verdicts.{header_fault, item_fault};
 ghost use Rattle.ti_source.specs.Reading.{fault_of, reading_of};
 ghost use Rattle.ti_source.specs.Sound.{EachIsWellRead, IsWellRead};
-ghost use Rattle.ti_spelling.specs.Spelling.{unescaped};
 
 use crate::code::Code;
 use crate::folding::Folded;
 use crate::header::lookup_names;
-use crate::items::{Claim, Statement, read_field, read_item, statement_of, stripped};
-use crate::numbers::{NumberError, read_number};
+use crate::items::{read_field, read_item, statement_of};
+use crate::verdicts::{Verdict, judge};
 use std::alloc::{AllocError, Global};
 use std::rc::RcSlice;
-use ti_caps::{Cap, Kind, count, find};
-use ti_spelling::{UnescapeError, one_outcome, unescape};
-
-/// The most bytes that a names field may have.
-const NAMES_LIMIT: usize = 127;
+use ti_caps::{Cap, Kind, count};
+use ti_spelling::one_outcome;
+use ti_text::limits::NAMES_MAX;
 
 /// What an accepted item says.
 #[derive(Debug, Drop)]
 pub enum What {
     /// A flag is there.
     Flag(Cap),
-    /// A number has this value, at most 32,767.
+    /// A number has this value, at most 2,147,483,647.
     Number(Cap, u32),
     /// A text has these bytes, none of them a NUL.
     Text(Cap, RcSlice<u8>),
@@ -87,14 +71,6 @@ pub struct Parsed {
     pub faults: Vec<Local>,
 }
 
-/// What comes of a statement: it is accepted, accepted though an escape in it is odd, or refused by a fault.
-#[derive(Debug, Drop)]
-enum Verdict {
-    Accepted(What),
-    AcceptedOdd(What),
-    Refused(Code),
-}
-
 /// What a block says: its names field, its lookup names, its accepted items and its own faults, by X/Open Curses
 /// Issue 7, "Terminfo Source Format", and terminfo(5). What stands in other blocks plays no part.
 ///
@@ -139,7 +115,7 @@ fn read_header(alloc: Global, field: Vec<u8>) -> Result<Parsed, AllocError>
             Vec::new(alloc)
         }
         Some(names) => {
-            if field.len() > NAMES_LIMIT {
+            if field.len() > NAMES_MAX {
                 faults.push(header_fault(Code::NamesTooLong))?;
             }
             names
@@ -228,57 +204,6 @@ fn item_fault(
         code,
         detail,
     })
-}
-
-// The verdict on a statement: first a name that is not in the tables, then one of another kind, then a value that cannot
-// be read.
-fn judge(alloc: Global, statement: &Statement<'_>) -> Result<Verdict, AllocError>
-    ensures { IfOk result (λ v. verdict_in_memory v ≡ verdict_of (stated statement.now).name (stated statement.now).claim) }
-{
-    let name = statement.name;
-    if let Claim::Text(value) = statement.claim
-        && name == b"use".as_slice()
-    {
-        let owner = RcSlice::from_slice(alloc, stripped(value))?;
-        return Ok(Verdict::Accepted(What::Import(owner)));
-    }
-    let Some(cap) = find(name) else {
-        return Ok(Verdict::Refused(Code::UnknownCapability));
-    };
-    match (statement.claim, cap.kind()) {
-        (Claim::Flag, Kind::Flag) => Ok(Verdict::Accepted(What::Flag(cap))),
-        (Claim::Number(text), Kind::Number) => Ok(judge_number(cap, text)),
-        (Claim::Text(value), Kind::Text) => judge_text(alloc, cap, value),
-        (Claim::Cancel, _) => Ok(Verdict::Accepted(What::Cancel(cap))),
-        _ => Ok(Verdict::Refused(Code::WrongKind)),
-    }
-}
-
-fn judge_number(cap: Cap, text: &[u8]) -> Verdict
-    ensures { verdict_in_memory result ≡ number_verdict cap (number_read text.now) }
-{
-    match read_number(text) {
-        Ok(number) => Verdict::Accepted(What::Number(cap, number)),
-        Err(NumberError::Bad) => Verdict::Refused(Code::BadNumber),
-        Err(NumberError::TooLarge) => Verdict::Refused(Code::NumberTooLarge),
-    }
-}
-
-fn judge_text(alloc: Global, cap: Cap, value: &[u8]) -> Result<Verdict, AllocError>
-    ensures { IfOk result (λ v. verdict_in_memory v ≡ text_verdict cap (unescaped value.now)) }
-{
-    match unescape(alloc, value) {
-        Ok(found) => {
-            let what = What::Text(cap, RcSlice::from_vec(found.bytes)?);
-            if found.odd {
-                Ok(Verdict::AcceptedOdd(what))
-            } else {
-                Ok(Verdict::Accepted(what))
-            }
-        }
-        Err(UnescapeError::Memory) => Err(AllocError),
-        Err(_) => Ok(Verdict::Refused(Code::BadString)),
-    }
 }
 
 /// What is known of each block as it is read: its lookup names are such, its items set their kinds, its lines are its
@@ -398,8 +323,8 @@ mod tests {
                 "0:1 W2 WrongKind cols;1:1 W2 WrongKind bel;2:1 W2 WrongKind am;",
             ),
             (
-                "x,cols#0x7fff ,it#32768,lm#00,\n",
-                "0:1 cols#32767;2:1 lm#0;1:1 E4 NumberTooLarge it;",
+                "x,cols#0x7fffffff ,it#2147483648,lm#00,\n",
+                "0:1 cols#2147483647;2:1 lm#0;1:1 E4 NumberTooLarge it;",
             ),
             ("x,bel=,\n", "0:1 bel=;"),
             ("a|,am,\n", "0:1 am;0:1 E1 BadHeader ;"),

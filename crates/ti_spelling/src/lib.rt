@@ -9,4 +9,4 @@ mod spelling;
 mod writing;
 
 pub use spelling::{UnescapeError, Unescaped, one_outcome, unescape};
-pub use writing::{escape, written_spells};
+pub use writing::{escape, escaped_len, push_escaped, written_spells};

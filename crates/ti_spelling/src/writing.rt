@@ -1,7 +1,8 @@
 //! String values as terminfo(5) spells them: writing.
 
-ghost use Rattle.std.specs.Prelude.{◌≡◌, ◌≤◌, ◌++◌, length, OnOk, IfOk};
-ghost use Rattle.ti_spelling.specs.Spelling.{short_escape, octal_text, byte_text, is_percent, written, WrittenSpells, WrittenReadsBack};
+ghost use Rattle.std.specs.Prelude.{◌≡◌, ◌*◌, ◌^◌, ◌<◌, ◌≤◌, ◌++◌, length, OnOk, IfOk};
+ghost use Rattle.ti_spelling.specs.Spelling.{short_escape, octal_text, byte_text, is_percent, written, WrittenSpells};
+ghost use Rattle.ti_spelling.specs.inside.Spelling.{WrittenReadsBack};
 
 use std::alloc::{AllocError, Global};
 
@@ -54,6 +55,58 @@ fn push_byte(text: &mut Vec<u8>, percent: bool, edge: bool, byte: u8) -> Result<
     }
 }
 
+/// How many bytes the text of one byte has, where `percent` and `edge` are as in [`push_byte`].
+#[tactic(auto, unfolding(crate::specs::Spelling::byte_text))]
+fn byte_len(percent: bool, edge: bool, byte: u8) -> usize
+    ensures value { result ≡ length (byte_text percent edge byte) }
+    ensures most { result ≤ 4 }
+{
+    if short_escape(byte).is_some() {
+        return 2;
+    }
+    match byte {
+        b' ' if edge => 2,
+        b'^' if !percent => 2,
+        0x1c | 0x80..=0xff => 4,
+        0x01..=0x1f | 0x7f if percent => 4,
+        0x01..=0x1f | 0x7f => 2,
+        _ => 1,
+    }
+}
+
+/// How many bytes the text has that spells `value`: one to four for each of its bytes.
+pub fn escaped_len(value: &[u8]) -> usize
+    requires { length value.now < 2 ^ 61 }
+    ensures len { result ≡ length (written value.now) }
+    ensures most { result ≤ 4 * length value.now }
+{
+    let mut len = 0;
+    let mut before = 0;
+    for (i, &byte) in value.iter().enumerate() {
+        let at_edge = i == 0 || i == value.len() - 1;
+        len += byte_len(before == b'%', at_edge, byte);
+        before = byte;
+    }
+    len
+}
+
+/// Appends the text that spells `value`, as [`escape`] gives it.
+///
+/// # Errors
+///
+/// `AllocError` where there is no room for the text; a front part of it may then have been appended.
+pub fn push_escaped(text: &mut Vec<u8>, value: &[u8]) -> Result<(), AllocError>
+    ensures { OnOk result (text.new.items ≡ text.old.items ++ written value.now) }
+{
+    let mut before = 0;
+    for (i, &byte) in value.iter().enumerate() {
+        let edge = i == 0 || i == value.len() - 1;
+        push_byte(text, before == b'%', edge, byte)?;
+        before = byte;
+    }
+    Ok(())
+}
+
 /// The text that spells `value`: what `unescape` reads as it, where it holds no NUL.
 ///
 /// A NUL is written `\0`, which reads as 0200.
@@ -65,12 +118,7 @@ pub fn escape(alloc: Global, value: &[u8]) -> Result<Vec<u8>, AllocError>
     ensures { IfOk result (λ text. text.items ≡ written value.now) }
 {
     let mut text = Vec::with_capacity(alloc, value.len())?;
-    let mut before = 0;
-    for (i, &byte) in value.iter().enumerate() {
-        let edge = i == 0 || i == value.len() - 1;
-        push_byte(&mut text, before == b'%', edge, byte)?;
-        before = byte;
-    }
+    push_escaped(&mut text, value)?;
     Ok(text)
 }
 

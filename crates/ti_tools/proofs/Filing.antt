@@ -8,10 +8,10 @@ use Rattle.ti_source.specs.Blocks.{OneBlock}
 use Rattle.ti_source.specs.Header.{IsLookupName, IsNameByte}
 use Rattle.ti_source.specs.Parsing.{Parses, ReadsHeader, bad_header, good_header, long_header, parsed}
 use Rattle.ti_source.specs.Reading.{ReadFault, Reading}
-use Rattle.ti_base.specs.Compiled.{compiled}
-use Rattle.ti_base.specs.Owner.{is_among, readings}
-use Rattle.ti_base.specs.Reaching.{is_owner}
-use Rattle.ti_base.specs.Faults.{distinct_after}
+use Rattle.ti_meaning.specs.Compiled.{compiled}
+use Rattle.ti_meaning.specs.Owner.{is_among, readings}
+use Rattle.ti_meaning.specs.Reaching.{is_owner}
+use Rattle.ti_meaning.specs.Faults.{distinct_after}
 use Rattle.ti_devices.specs.Tree.{Entry}
 use Rattle.ti_tools.specs.EntryFiles.{IsAsciiName, files_at, files_for, files_from, files_of, own_names, path_of}
 

@@ -3,10 +3,10 @@
 use Rattle.std.specs.Prelude.{ℕ, suc, ◌<◌, All, length, List, [], ◌∷◌, ◌++◌, map, filter, take, Option, Some, None}
 use Rattle.ti_source.specs.Reading.{Reading}
 use Rattle.ti_source.specs.Parsing.{parsed}
-use Rattle.ti_base.specs.Owner.{readings}
-use Rattle.ti_base.specs.Reaching.{is_owner}
-use Rattle.ti_base.specs.Faults.{distinct}
-use Rattle.ti_base.specs.Compiled.{compiled}
+use Rattle.ti_meaning.specs.Owner.{readings}
+use Rattle.ti_meaning.specs.Reaching.{is_owner}
+use Rattle.ti_meaning.specs.Faults.{distinct}
+use Rattle.ti_meaning.specs.Compiled.{compiled}
 use Rattle.ti_devices.specs.Tree.{Entry}
 
 -- where the entry of a name stands below a folder

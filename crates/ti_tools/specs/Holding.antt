@@ -1,8 +1,8 @@
 -- The edits that put blocks into an empty database, one after the other (own).
 use Rattle.std.specs.Prelude.{ℕ, suc, Bool, true, false, List, [], ◌∷◌}
-use Rattle.ti_base.specs.Edits.{Change, insertion}
-use Rattle.ti_base.specs.declared.edits.Outcome.{Outcome}
-use Rattle.ti_base.specs.declared.edits.Outcome.TheVariants.{Accepted, Refused}
+use Rattle.ti_meaning.specs.Edits.{Change, insertion}
+use Rattle.ti_meaning.specs.declared.edits.Outcome.{Outcome}
+use Rattle.ti_meaning.specs.declared.edits.Outcome.TheVariants.{Accepted, Refused}
 
 -- each text put in at the end, of which the first comes to stand at `at`
 abbrev pub insertions_from : ℕ → List (List ℕ) → List Change

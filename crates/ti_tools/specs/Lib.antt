@@ -7,3 +7,4 @@ pub mod Holding
 pub mod Jobs
 pub mod Sources
 pub mod Tic
+pub mod Infocmp

@@ -2,9 +2,9 @@
 use Rattle.std.specs.Prelude.{◌≡◌, ◌⊎◌, ℕ, Bool, List, [], Option, None, Some, Result, Ok, Err, IsOk, if◌then◌else◌}
 use Rattle.std.specs.List.{list_any}
 use Rattle.ti_source.specs.Codes.{is_error}
-use Rattle.ti_base.specs.Owner.{readings}
-use Rattle.ti_base.specs.Faults.{SourceFault, faults}
-use Rattle.ti_base.specs.Report.{report}
+use Rattle.ti_meaning.specs.Owner.{readings}
+use Rattle.ti_meaning.specs.Faults.{SourceFault, faults}
+use Rattle.ti_meaning.specs.Report.{report}
 use Rattle.ti_tools.specs.EntryFiles.{files_of}
 use Rattle.ti_devices.specs.Placing.{entries}
 use Rattle.ti_tools.specs.Sources.{first_line, refusal_of, texts_of}

@@ -5,7 +5,7 @@ ghost use Rattle.std.specs.String.{string_bytes};
 ghost use Rattle.ti_source.specs.Blocks.{blocks_of, front_of, last_byte};
 ghost use Rattle.ti_source.specs.Codes.{is_error};
 ghost use Rattle.ti_source.specs.Lines.{line_count};
-ghost use Rattle.ti_base.specs.Faults.{fault_seen};
+ghost use Rattle.ti_meaning.specs.Faults.{fault_seen};
 ghost use Rattle.ti_tools.specs.Sources.{first_line, texts_of};
 ghost use Rattle.ti_tools.specs.Tic.{IsTicAnswer, compilation, compilation_of, status_of, tic_result};
 

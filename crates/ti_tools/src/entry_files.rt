@@ -3,8 +3,8 @@ ghost use Rattle.std.specs.Prelude.{◌≡◌, ◌+◌, ◌<◌, ◌++◌, ◌�
 ghost use Rattle.std.specs.Rc.{rc_slice_items};
 ghost use Rattle.std.specs.String.{string_bytes};
 ghost use Rattle.ti_source.specs.Blocks.{OneBlock, blocks_of, last_byte};
-ghost use Rattle.ti_base.specs.Owner.{is_among, readings};
-ghost use Rattle.ti_base.specs.Reaching.{is_owner};
+ghost use Rattle.ti_meaning.specs.Owner.{is_among, readings};
+ghost use Rattle.ti_meaning.specs.Reaching.{is_owner};
 ghost use Rattle.ti_tools.specs.EntryFiles.{IsAsciiName, files_at, files_for, files_of, own_names, path_of};
 ghost use Rattle.ti_devices.specs.Placing.{entries};
 

@@ -2,7 +2,7 @@
 ghost use Rattle.std.specs.Prelude.{◌≡◌, IfOk, map};
 ghost use Rattle.std.specs.List.{list_all};
 ghost use Rattle.ti_source.specs.Blocks.{blocks_of};
-ghost use Rattle.ti_base.specs.Edits.{change_of};
+ghost use Rattle.ti_meaning.specs.Edits.{change_of};
 ghost use Rattle.ti_tools.specs.Holding.{insertions_from, is_accepted};
 
 use std::alloc::{AllocError, Global};

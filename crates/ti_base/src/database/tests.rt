@@ -118,6 +118,25 @@ fn a_name_goes_to_the_first_block_that_has_it(rt: HostRuntime) -> Result<(), Fai
 }
 
 #[test]
+fn a_move_changes_owners(rt: HostRuntime) -> Result<(), Fail> {
+    let mut database = source(rt.alloc(), &[b"n,cols#1,\n", b"n,cols#2,\n", b"u,use=n,\n"])?;
+    database.relocate(0, 2)?;
+    expect_entry(&rt, &database, 1, Some(&with_cols(b'u', 2)));
+    expect_report(&rt, &database, "3: W4 DuplicateName n\n")?;
+    for (from, to) in [(2, 0), (1, 1)] {
+        database.relocate(from, to)?;
+        expect_entry(&rt, &database, 0, Some(&with_cols(b'n', 1)));
+        expect_entry(&rt, &database, 1, Some(&with_cols(b'n', 2)));
+        expect_entry(&rt, &database, 2, Some(&with_cols(b'u', 1)));
+        expect_report(&rt, &database, "2: W4 DuplicateName n\n")?;
+    }
+    for (from, to) in [(3, 0), (0, 3)] {
+        assert_eq!(rt; database.relocate(from, to), Err(EditError::Position));
+    }
+    Ok(())
+}
+
+#[test]
 fn each_refusal_by_its_name(rt: HostRuntime) -> Result<(), Fail> {
     let mut database = source(rt.alloc(), &[b"a,\n", b"b,\n"])?;
     assert_eq!(rt; database.insert(2, b"c,\n"), Ok(Edited {}));
@@ -135,6 +154,7 @@ fn each_refusal_by_its_name(rt: HostRuntime) -> Result<(), Fail> {
     assert_eq!(rt; empty.insert(1, b"a,\n"), Err(EditError::Position));
     assert_eq!(rt; empty.replace(0, b"a,\n"), Err(EditError::Position));
     assert_eq!(rt; empty.remove(0), Err(EditError::Position));
+    assert_eq!(rt; empty.relocate(0, 0), Err(EditError::Position));
     Ok(())
 }
 
@@ -211,6 +231,7 @@ fn a_run_goes_on_after_a_refusal(rt: HostRuntime) -> Result<(), Fail> {
             text: b"a,\n",
         },
         Edit::Remove { at: 1 },
+        Edit::Relocate { from: 0, to: 0 },
         Edit::Replace {
             at: 0,
             text: b"b,cols#3,\n",
@@ -220,6 +241,7 @@ fn a_run_goes_on_after_a_refusal(rt: HostRuntime) -> Result<(), Fail> {
     let want = [
         Outcome::Accepted,
         Outcome::Refused(EditError::Position),
+        Outcome::Accepted,
         Outcome::Accepted,
     ];
     assert_eq!(rt; outcomes.as_slice(), want.as_slice());

@@ -71,7 +71,7 @@ static ROWS: [Row; 52] = [
 ];
 
 /// A format that is stuck, and where.
-static STUCK: [(&str, usize); 20] = [
+static STUCK: [(&str, usize); 21] = [
     ("a%e", 1),
     ("%t", 0),
     ("%;", 0),
@@ -81,6 +81,7 @@ static STUCK: [(&str, usize); 20] = [
     ("%{}", 0),
     ("%{5", 0),
     ("%1000d", 0),
+    ("%01000d", 0),
     ("%.1000d", 0),
     ("%5c", 0),
     ("%5%", 0),
@@ -142,6 +143,18 @@ fn names_the_place_where_a_format_is_stuck(rt: HostRuntime) {
         let refused = expand(rt.alloc(), format.as_bytes(), &none, &mut statics).err();
         assert_eq!(rt; refused, Some(ParamError::BadFormat(*place)), "at {format}");
     }
+}
+
+/// A width is at most 999 by its value, however many zeros stand before it.
+#[test]
+fn takes_a_width_with_many_zeros(rt: HostRuntime) -> Result<(), Fail> {
+    let mut statics = Statics::new();
+    let one = numbers(&[1, 0, 0]);
+    let bytes = expand(rt.alloc(), b"%p1%0000000999d", &one, &mut statics)?;
+    let mut wanted = repeated(rt.alloc(), b"0", 998)?;
+    wanted.push(b'1')?;
+    assert_eq!(rt; bytes.as_slice(), wanted.as_slice());
+    Ok(())
 }
 
 #[test]
@@ -206,7 +219,6 @@ fn bounds_the_stack_and_the_conditionals(rt: HostRuntime) -> Result<(), Fail> {
     for (piece, count, wanted) in [
         ("%p1", 20, None),
         ("%p1", 21, Some(ParamError::StackFull(60))),
-        ("%?", 64, None),
         ("%?", 65, Some(ParamError::BadFormat(128))),
         ("%?", 1_000_000, Some(ParamError::BadFormat(128))),
     ] {
@@ -215,9 +227,12 @@ fn bounds_the_stack_and_the_conditionals(rt: HostRuntime) -> Result<(), Fail> {
         let expansion = expand(rt.alloc(), format.as_slice(), &none, &mut statics);
         assert_eq!(rt; expansion.err(), wanted, "at {count} times {piece}");
     }
+    let opened = repeated(rt.alloc(), b"%?", 64)?;
+    let mut statics = Statics::new();
+    let bytes = expand(rt.alloc(), opened.as_slice(), &none, &mut statics)?;
+    assert_eq!(rt; bytes.len(), 0);
     let mut skipped = repeated(rt.alloc(), b"%?%p1%t", 1)?;
     skipped.extend_from_slice(repeated(rt.alloc(), b"%%", 100_000)?.as_slice())?;
-    let mut statics = Statics::new();
     let bytes = expand(rt.alloc(), skipped.as_slice(), &none, &mut statics)?;
     assert_eq!(rt; bytes.len(), 0);
     Ok(())

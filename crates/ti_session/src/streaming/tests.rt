@@ -73,6 +73,16 @@ fn replies(alloc: Global, script: &[u8]) -> (Result<(), ToolError>, Vec<u8>) {
 }
 
 #[test]
+fn a_session_that_moves_blocks(rt: HostRuntime) -> Result<(), Fail> {
+    let script = b"i 0\nn,cols#1,\n.\ni 1\nn,cols#2,\n.\ni 2\nu,use=n,\n.\nm 0 2\nf\nm 0 3\nm 0\n";
+    let (end, written) = replies(rt.alloc(), script);
+    assert!(rt; end == Ok(()));
+    let want = b"ok\nok\nok\nok\n3: W4 DuplicateName n\n.\nrefused Position\nunknown\n";
+    assert!(rt; written.as_slice() == want.as_slice());
+    Ok(())
+}
+
+#[test]
 fn a_session_over_faulty_blocks(rt: HostRuntime) -> Result<(), Fail> {
     let (end, written) = replies(rt.alloc(), SCRIPT);
     assert!(rt; end == Ok(()));

@@ -23,6 +23,7 @@ fn writes_values(rt: HostRuntime) -> Result<(), Fail> {
     ];
     for (value, text) in rows {
         assert_eq!(rt; escape(rt.alloc(), value)?.as_slice(), text, "{value:?}");
+        assert_eq!(rt; escaped_len(value), text.len(), "{value:?}");
     }
     Ok(())
 }

@@ -1,6 +1,6 @@
 use Rattle.std.proofs.Common.{◌≤◌, length, arith}
 use Rattle.ti_source.specs.Reading.{reading_of}
-use Rattle.ti_base.proofs.Editing.{map-insert, remove-insert}
+use Rattle.ti_meaning.proofs.EditedLists.{map-insert, remove-insert}
 use Rattle.ti_base.proofs.changes.compile_inserted.Goals as goal
 
 pub compile-requires : goal.compile-requires

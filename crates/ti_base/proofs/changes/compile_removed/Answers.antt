@@ -1,5 +1,5 @@
 use Rattle.ti_source.specs.Reading.{reading_of}
-use Rattle.ti_base.proofs.Editing.{map-remove}
+use Rattle.ti_meaning.proofs.EditedLists.{map-remove}
 use Rattle.ti_base.proofs.changes.compile_removed.Goals as goal
 
 pub compile-requires : goal.compile-requires

@@ -1,6 +1,6 @@
 use Rattle.std.proofs.lemmas.List.{map-set}
 use Rattle.ti_source.specs.Reading.{reading_of}
-use Rattle.ti_base.proofs.Editing.{set-back}
+use Rattle.ti_meaning.proofs.EditedLists.{set-back}
 use Rattle.ti_base.proofs.changes.compile_replaced.Goals as goal
 
 pub compile-requires : goal.compile-requires

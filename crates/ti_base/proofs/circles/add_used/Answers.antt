@@ -5,8 +5,8 @@ use Rattle.std.specs.declared.rc.RcSlice.{RcSlice}
 use Rattle.ti_source.specs.declared.parsing.What.{What}
 use Rattle.ti_source.specs.declared.parsing.What.TheVariants.{Flag, Number, Text, Cancel, Import}
 use Rattle.ti_source.specs.Reading.{reading_of, item_of, said_of}
-use Rattle.ti_base.specs.Owner.{owner}
-use Rattle.ti_base.specs.Reaching.{used_name}
+use Rattle.ti_meaning.specs.Owner.{owner}
+use Rattle.ti_meaning.specs.Reaching.{used_name}
 use Rattle.ti_base.proofs.Lists.{map-take_item}
 use Rattle.ti_base.proofs.Searching.{adds_nothing, adds_owner}
 use Rattle.ti_base.proofs.circles.add_used.Goals as goal

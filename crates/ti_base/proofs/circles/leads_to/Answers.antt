@@ -1,7 +1,7 @@
 use Rattle.std.proofs.Common.{rules, ◌<◌, ◌≤◌, length, map, sym, arith}
 use Rattle.std.proofs.lemmas.List.{length-map}
 use Rattle.ti_source.specs.Reading.{reading_of}
-use Rattle.ti_base.proofs.Leading.{LeadsTo-leads_to}
+use Rattle.ti_meaning.proofs.Leading.{LeadsTo-leads_to}
 use Rattle.ti_base.proofs.Lists.{slice_get-map_item}
 use Rattle.ti_base.proofs.Searching.{search_hit, search_more, search_ended, found_few}
 use Rattle.ti_base.proofs.circles.leads_to.Goals as goal

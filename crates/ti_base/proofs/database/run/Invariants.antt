@@ -1,5 +1,5 @@
 use Rattle.std.proofs.Common.{◌≡◌, length, map, drop, vec_len, vec_capacity}
-use Rattle.ti_base.specs.Edits.{change_of}
+use Rattle.ti_meaning.specs.Edits.{change_of}
 use Rattle.ti_base.proofs.Running.{GoesOn}
 use Rattle.ti_base.proofs.database.run.Given as goal
 

@@ -1,7 +1,7 @@
 use Rattle.std.proofs.Common.{◌<◌, map, length}
 use Rattle.std.proofs.lemmas.List.{length-map}
 use Rattle.ti_source.specs.Reading.{reading_of}
-use Rattle.ti_base.specs.Compiled.{state_of}
+use Rattle.ti_meaning.specs.Compiled.{state_of}
 use Rattle.ti_base.specs.Entries.{state_seen}
 use Rattle.ti_base.proofs.Lists.{item_at, images_more}
 use Rattle.ti_base.proofs.entries.compile.Goals as goal

@@ -1,6 +1,6 @@
 use Rattle.std.proofs.Common.{◌≡◌, map, take}
 use Rattle.ti_source.specs.Reading.{reading_of}
-use Rattle.ti_base.specs.Compiled.{state_of}
+use Rattle.ti_meaning.specs.Compiled.{state_of}
 use Rattle.ti_base.specs.Entries.{state_seen}
 use Rattle.ti_base.proofs.entries.compile.Given as goal
 

@@ -3,9 +3,10 @@ use Rattle.std.proofs.lemmas.List.{length-map}
 use Rattle.std.proofs.lemmas.Option.{same_Some}
 use Rattle.ti_source.specs.Reading.{reading_of}
 use Rattle.ti_compiled.specs.Values.{contents}
-use Rattle.ti_base.specs.Usable.{IsUsable}
+use Rattle.ti_meaning.specs.Usable.{IsUsable}
 use Rattle.ti_base.proofs.Lists.{All-map_item, slice_get-map_item}
-use Rattle.ti_base.proofs.Imaging.{table_read, sound_of_expansion, state_seen_of}
+use Rattle.ti_meaning.proofs.Imaging.{sound_of_expansion, state_seen_of}
+use Rattle.ti_base.proofs.Resolving.{table_read}
 use Rattle.ti_base.proofs.entries.entry_at.Goals as goal
 use Rattle.ti_base.proofs.entries.entry_at.Goals.{in-Some-bytes, in-None}
 

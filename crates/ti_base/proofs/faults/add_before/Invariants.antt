@@ -1,6 +1,6 @@
 use Rattle.std.proofs.Common.{◌≡◌, ◌++◌, ◌≤◌, false, filter, length, map, drop}
 use Rattle.ti_source.specs.Reading.{fault_of}
-use Rattle.ti_base.specs.Faults.{fault_seen, faults_before, faults_from, is_kept, local_fault}
+use Rattle.ti_meaning.specs.Faults.{fault_seen, faults_before, faults_from, is_kept, local_fault}
 use Rattle.ti_base.proofs.faults.add_before.Given as goal
 
 -- what was added and what is to be added are what is to be added in all, and the rest is the same

@@ -2,8 +2,8 @@ use Rattle.std.proofs.Common.{◌<◌, false, true, filter, length, map, sym, �
 use Rattle.std.proofs.lemmas.List.{length-map}
 use Rattle.std.proofs.lemmas.Option.{same_Some}
 use Rattle.ti_source.specs.Reading.{reading_of}
-use Rattle.ti_base.specs.Compiled.{state_of}
-use Rattle.ti_base.specs.Faults.{fault_seen, is_kept, local_faults, name_faults, item_faults, entry_faults}
+use Rattle.ti_meaning.specs.Compiled.{state_of}
+use Rattle.ti_meaning.specs.Faults.{fault_seen, is_kept, local_faults, name_faults, item_faults, entry_faults}
 use Rattle.ti_base.proofs.Lists.{slice_get-map_item, four_added}
 use Rattle.ti_base.proofs.Faulting.{state_read}
 use Rattle.ti_base.proofs.faults.add_block_faults.Goals as goal

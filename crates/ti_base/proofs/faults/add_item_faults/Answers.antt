@@ -4,7 +4,7 @@ use Rattle.std.proofs.lemmas.Option.{same_Some}
 use Rattle.std.specs.Rc.{rc_slice_items}
 use Rattle.ti_source.specs.Reading.{reading_of, item_of}
 use Rattle.ti_base.proofs.Lists.{slice_get-map_item}
-use Rattle.ti_base.proofs.Resolving.{uses_at}
+use Rattle.ti_meaning.proofs.Laying.{uses_at}
 use Rattle.ti_base.proofs.faults.add_item_faults.Goals as goal
 
 pub add_use_fault-requires-clause-user : goal.add_use_fault-requires-clause-user

@@ -1,6 +1,6 @@
 use Rattle.std.proofs.Common.{◌≡◌, ◌≤◌, ◌++◌, false, filter, length, map, drop}
 use Rattle.ti_source.specs.Reading.{fault_of, item_of, reading_of}
-use Rattle.ti_base.specs.Faults.{fault_seen, is_kept, item_faults}
+use Rattle.ti_meaning.specs.Faults.{fault_seen, is_kept, item_faults}
 use Rattle.ti_base.proofs.faults.add_item_faults.Given as goal
 
 -- what was added and what is to be added are the faults of all items

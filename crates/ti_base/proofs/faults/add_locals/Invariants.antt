@@ -1,6 +1,6 @@
 use Rattle.std.proofs.Common.{◌≡◌, ◌++◌, map, take}
 use Rattle.ti_source.specs.Reading.{fault_of}
-use Rattle.ti_base.specs.Faults.{fault_seen, local_faults}
+use Rattle.ti_meaning.specs.Faults.{fault_seen, local_faults}
 use Rattle.ti_base.proofs.faults.add_locals.Given as goal
 
 abbrev pub invariant-loop-local : goal.invariant-loop-local

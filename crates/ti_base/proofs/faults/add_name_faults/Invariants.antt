@@ -1,7 +1,7 @@
 use Rattle.std.proofs.Common.{◌≡◌, ◌++◌, filter, map, take, drop}
 use Rattle.std.specs.Rc.{rc_slice_items}
 use Rattle.ti_source.specs.Reading.{reading_of}
-use Rattle.ti_base.specs.Faults.{fault_seen, distinct_after, is_owned_before, name_fault, name_faults}
+use Rattle.ti_meaning.specs.Faults.{fault_seen, distinct_after, is_owned_before, name_fault, name_faults}
 use Rattle.ti_base.proofs.faults.add_name_faults.Given as goal
 
 -- what was added and what is to be added are the faults of all names

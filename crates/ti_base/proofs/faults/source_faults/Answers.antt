@@ -1,7 +1,7 @@
 use Rattle.std.proofs.Common.{◌≡◌, suc, ◌+◌, ◌<◌, length, map, arith}
 use Rattle.std.proofs.lemmas.List.{length-map}
 use Rattle.ti_source.specs.Reading.{reading_of}
-use Rattle.ti_base.specs.Faults.{fault_seen, faults}
+use Rattle.ti_meaning.specs.Faults.{fault_seen, faults}
 use Rattle.ti_base.proofs.Lists.{item_at}
 use Rattle.ti_base.proofs.Faulting.{one_more_block}
 use Rattle.ti_base.proofs.faults.source_faults.Goals as goal

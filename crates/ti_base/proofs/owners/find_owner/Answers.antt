@@ -1,6 +1,6 @@
 use Rattle.std.proofs.Common.{◌≡◌, ℕ, suc, ◌+◌, true, false, List, ◌∷◌, Option, Some, None, option_map, map, drop, refl, sym, ◌∙◌, arith}
 use Rattle.ti_source.specs.Reading.{Reading, reading_of}
-use Rattle.ti_base.specs.Owner.{is_among, owner}
+use Rattle.ti_meaning.specs.Owner.{is_among, owner}
 use Rattle.ti_base.proofs.Lists.{drop_item}
 use Rattle.ti_base.proofs.owners.find_owner.Goals as goal
 

@@ -1,6 +1,6 @@
 use Rattle.std.proofs.Common.{◌≡◌, ◌+◌, map, drop, option_map}
 use Rattle.ti_source.specs.Reading.{reading_of}
-use Rattle.ti_base.specs.Owner.{owner}
+use Rattle.ti_meaning.specs.Owner.{owner}
 use Rattle.ti_base.proofs.owners.find_owner.Given as goal
 
 abbrev pub invariant-loop-at : goal.invariant-loop-at

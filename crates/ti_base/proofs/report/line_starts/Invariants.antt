@@ -1,6 +1,6 @@
 use Rattle.std.proofs.Common.{◌≡◌, ◌≤◌, ◌*◌, All, map}
 use Rattle.std.specs.List.{range_with_len}
-use Rattle.ti_base.specs.Report.{lines_before}
+use Rattle.ti_meaning.specs.Report.{lines_before}
 use Rattle.ti_base.proofs.report.line_starts.Given as goal
 
 abbrev pub invariant-loop-text : goal.invariant-loop-text

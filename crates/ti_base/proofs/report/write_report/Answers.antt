@@ -1,6 +1,6 @@
 use Rattle.std.proofs.Common.{rules, ◌+◌, ◌<◌, ◌≤◌, length, map, take, arith}
-use Rattle.ti_base.specs.Bounds.{IsPlaced}
-use Rattle.ti_base.specs.Faults.{fault_seen}
+use Rattle.ti_meaning.specs.Bounds.{IsPlaced}
+use Rattle.ti_meaning.specs.Faults.{fault_seen}
 use Rattle.ti_base.proofs.Lists.{All-map_item, map-take_item}
 use Rattle.ti_base.proofs.Counting.{start_read, length_starts, one_more_line}
 use Rattle.ti_base.proofs.report.write_report.Goals as goal

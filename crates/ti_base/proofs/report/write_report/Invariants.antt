@@ -1,7 +1,7 @@
 use Rattle.std.proofs.Common.{◌≡◌, map, take}
 use Rattle.std.specs.List.{flat_map}
-use Rattle.ti_base.specs.Faults.{fault_seen}
-use Rattle.ti_base.specs.Report.{reported}
+use Rattle.ti_meaning.specs.Faults.{fault_seen}
+use Rattle.ti_meaning.specs.Report.{reported}
 use Rattle.ti_base.proofs.report.write_report.Given as goal
 
 abbrev pub invariant-loop-fault : goal.invariant-loop-fault

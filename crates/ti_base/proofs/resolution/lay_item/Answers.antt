@@ -2,7 +2,7 @@ use Rattle.std.proofs.Common.{map, refl}
 use Rattle.ti_source.specs.Reading.{reading_of}
 use Rattle.ti_compiled.specs.Values.{contents, content_true, content_number, content_text, content_cancelled}
 use Rattle.std.specs.Rc.{rc_slice_items}
-use Rattle.ti_base.proofs.Resolving.{laid_one}
+use Rattle.ti_meaning.proofs.Laying.{laid_one}
 use Rattle.ti_base.proofs.resolution.lay_item.Goals as goal
 
 pub returns-in_ok-lay-in-Flag : goal.returns-in_ok-lay-in-Flag

@@ -3,7 +3,7 @@ use Rattle.std.proofs.lemmas.List.{length-map}
 use Rattle.std.proofs.lemmas.Option.{same_Some, MatchOption-at_some, MatchOption-at_none}
 use Rattle.ti_source.specs.Reading.{reading_of}
 use Rattle.ti_compiled.specs.Values.{contents}
-use Rattle.ti_base.specs.Usable.{IsUsable}
+use Rattle.ti_meaning.specs.Usable.{IsUsable}
 use Rattle.ti_base.proofs.Lists.{All-map_item, slice_get-map_item}
 use Rattle.ti_base.proofs.Resolving.{passing_by, passing_made, open_read, full_read}
 use Rattle.ti_base.proofs.resolution.pass.Goals as goal

@@ -3,9 +3,9 @@ use Rattle.std.proofs.lemmas.Bool.{MatchBool-at_true, MatchBool-at_false}
 use Rattle.std.proofs.lemmas.List.{take_all}
 use Rattle.ti_source.specs.Reading.{reading_of, item_of}
 use Rattle.ti_compiled.specs.Values.{contents}
-use Rattle.ti_base.specs.Usable.{SetsWell}
+use Rattle.ti_meaning.specs.Usable.{SetsWell}
 use Rattle.ti_base.proofs.Lists.{All-map_item, map-take_item, slice_get-map_item}
-use Rattle.ti_base.proofs.Resolving.{uses_at, table_of_one_more, table_of_block}
+use Rattle.ti_meaning.proofs.Laying.{uses_at, table_of_one_more, table_of_block}
 use Rattle.ti_base.proofs.resolution.table_of.Goals as goal
 
 pub returns-then-has_error : goal.returns-then-has_error

@@ -1,17 +1,28 @@
--- each list is that of the kind
-use Rattle.std.proofs.Common.{ap, ◌∙◌, get_or, []}
+-- each constant has the names of its kind
+use Rattle.std.proofs.Common.{◌≡◌, map, ap, ◌∙◌, get_or, [], refl}
 use Rattle.ti_caps.specs.declared.capability.Kind.TheVariants.{Flag, Number, Text}
+use Rattle.ti_caps.specs.declared.tables.TheConstants.{FLAGS, NUMBERS, TEXTS}
+use Rattle.ti_caps.specs.Names.{flag_names, number_names, text_names}
 use Rattle.ti_caps.specs.Tables.{names}
 use Rattle.ti_caps.proofs.lookup.name.Goals as goal
 
+flags_are : map (λ t. t.now) FLAGS ≡ names Flag
+unfolding names flag_names
+flags_are = refl
+
+numbers_are : map (λ t. t.now) NUMBERS ≡ names Number
+unfolding names number_names
+numbers_are = refl
+
+texts_are : map (λ t. t.now) TEXTS ≡ names Text
+unfolding names text_names
+texts_are = refl
+
 pub returns-in-Flag : goal.returns-in-Flag
-unfolding names
-returns-in-Flag c = c.text_at.ensures ∙ ap (λ i. get_or (names Flag) i []) c.index.ensures.value ∙ ap (λ k. get_or (names k) c.args.cap.index []) c.in-Flag.ensures.value
+returns-in-Flag c = c.text_at.ensures ∙ ap (λ ns. get_or ns c.index.result []) flags_are ∙ ap (λ i. get_or (names Flag) i []) c.index.ensures.value ∙ ap (λ k. get_or (names k) c.args.cap.index []) c.in-Flag.ensures.value
 
 pub returns-in-Number : goal.returns-in-Number
-unfolding names
-returns-in-Number c = c.text_at-in-Number.ensures ∙ ap (λ i. get_or (names Number) i []) c.index-in-Number.ensures.value ∙ ap (λ k. get_or (names k) c.args.cap.index []) c.in-Number.ensures.value
+returns-in-Number c = c.text_at-in-Number.ensures ∙ ap (λ ns. get_or ns c.index-in-Number.result []) numbers_are ∙ ap (λ i. get_or (names Number) i []) c.index-in-Number.ensures.value ∙ ap (λ k. get_or (names k) c.args.cap.index []) c.in-Number.ensures.value
 
 pub returns-in-Text : goal.returns-in-Text
-unfolding names
-returns-in-Text c = c.text_at-in-Text.ensures ∙ ap (λ i. get_or (names Text) i []) c.index-in-Text.ensures.value ∙ ap (λ k. get_or (names k) c.args.cap.index []) c.in-Text.ensures.value
+returns-in-Text c = c.text_at-in-Text.ensures ∙ ap (λ ns. get_or ns c.index-in-Text.result []) texts_are ∙ ap (λ i. get_or (names Text) i []) c.index-in-Text.ensures.value ∙ ap (λ k. get_or (names k) c.args.cap.index []) c.in-Text.ensures.value

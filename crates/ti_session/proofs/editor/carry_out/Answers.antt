@@ -1,4 +1,4 @@
-use Rattle.ti_base.specs.Edits.{outcome_of}
+use Rattle.ti_meaning.specs.Edits.{outcome_of}
 use Rattle.ti_session.proofs.editor.carry_out.Goals as goal
 
 pub returns : goal.returns

@@ -1,7 +1,7 @@
 use Rattle.std.proofs.Common.{◌∙◌, sym}
 use Rattle.clap.proofs.WalkLemmas.{list_any-map}
 use Rattle.ti_source.specs.Codes.{is_error}
-use Rattle.ti_base.specs.Faults.{SourceFault, fault_seen}
+use Rattle.ti_meaning.specs.Faults.{SourceFault, fault_seen}
 use Rattle.ti_tools.proofs.compiling.status.Goals as goal
 
 pub returns-then-has_error : goal.returns-then-has_error

@@ -1,7 +1,7 @@
 use Rattle.std.proofs.Common.{◌≡◌, ◌∙◌, Some, ap, map, sym}
 use Rattle.std.specs.Rc.{rc_slice_items}
 use Rattle.ti_source.specs.Reading.{Reading, reading_of}
-use Rattle.ti_base.specs.Compiled.{compiled}
+use Rattle.ti_meaning.specs.Compiled.{compiled}
 use Rattle.ti_tools.proofs.Filing.{files_at-some, names_ascii}
 use Rattle.ti_tools.proofs.entry_files.add_block.Goals as goal
 

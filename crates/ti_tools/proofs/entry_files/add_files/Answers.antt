@@ -1,6 +1,6 @@
 use Rattle.std.proofs.Common.{◌≡◌, ◌++◌, ◌∙◌, ap, sym, true, false, arith, rules}
 use Rattle.std.specs.Rc.{rc_slice_items}
-use Rattle.ti_base.specs.Owner.{readings}
+use Rattle.ti_meaning.specs.Owner.{readings}
 use Rattle.ti_devices.specs.Placing.{entries}
 use Rattle.ti_tools.proofs.Filing.{All-at, files_joined, left_by_none, left_by_one, name_at}
 use Rattle.ti_tools.proofs.entry_files.add_files.Goals as goal

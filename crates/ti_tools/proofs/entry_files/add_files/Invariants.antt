@@ -1,6 +1,6 @@
 use Rattle.std.proofs.Common.{◌≡◌, ◌++◌, map}
 use Rattle.std.specs.Rc.{rc_slice_items}
-use Rattle.ti_base.specs.Owner.{readings}
+use Rattle.ti_meaning.specs.Owner.{readings}
 use Rattle.ti_tools.proofs.Filing.{files_left}
 use Rattle.ti_tools.specs.EntryFiles.{files_for, own_names}
 use Rattle.ti_devices.specs.Placing.{entries}

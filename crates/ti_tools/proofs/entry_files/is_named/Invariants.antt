@@ -1,6 +1,6 @@
 use Rattle.std.proofs.Common.{◌≡◌, map, drop}
 use Rattle.std.specs.Rc.{rc_slice_items}
-use Rattle.ti_base.specs.Owner.{is_among}
+use Rattle.ti_meaning.specs.Owner.{is_among}
 use Rattle.ti_tools.proofs.entry_files.is_named.Given as goal
 
 abbrev pub invariant-loop-other : goal.invariant-loop-other

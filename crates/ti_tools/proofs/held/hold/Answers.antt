@@ -1,7 +1,7 @@
 use Rattle.std.proofs.Common.{◌≡◌, ◌∙◌, ap, map, true, rules}
 use Rattle.std.specs.List.{list_all}
 use Rattle.ti_source.specs.Blocks.{blocks_of}
-use Rattle.ti_base.specs.Edits.{change_of}
+use Rattle.ti_meaning.specs.Edits.{change_of}
 use Rattle.ti_tools.specs.Holding.{is_accepted}
 use Rattle.ti_tools.proofs.Holding.{held-all}
 use Rattle.ti_tools.proofs.held.hold.Goals as goal

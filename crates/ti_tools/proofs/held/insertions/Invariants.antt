@@ -1,6 +1,6 @@
 use Rattle.std.proofs.Common.{◌≡◌, ◌++◌, map, length}
 use Rattle.ti_source.specs.Blocks.{blocks_of}
-use Rattle.ti_base.specs.Edits.{change_of}
+use Rattle.ti_meaning.specs.Edits.{change_of}
 use Rattle.ti_tools.specs.Holding.{insertions_from}
 use Rattle.ti_tools.proofs.held.insertions.Given as goal
 

@@ -1,6 +1,6 @@
 use Rattle.std.proofs.Common.{map, Some, ap, sym, ◌∙◌}
 use Rattle.ti_source.specs.Reading.{reading_of}
-use Rattle.ti_base.specs.Compiled.{compiled}
+use Rattle.ti_meaning.specs.Compiled.{compiled}
 use Rattle.ti_base.specs.Entries.{state_seen}
 use Rattle.ti_base.proofs.Keeping.{shown_entry, shown_other, entry_kept}
 use Rattle.ti_base.proofs.database.Database.compiled.Goals as goal

@@ -2,9 +2,9 @@ use Rattle.std.proofs.Common.{◌≡◌, ◌<◌, ◌≤◌, length, map, refl, 
 use Rattle.std.specs.List.{insert}
 use Rattle.std.proofs.lemmas.List.{length-map}
 use Rattle.ti_source.specs.Reading.{reading_of}
-use Rattle.ti_base.specs.Usable.{IsUsable}
+use Rattle.ti_meaning.specs.Usable.{IsUsable}
 use Rattle.ti_base.specs.Entries.{state_seen}
-use Rattle.ti_base.proofs.Editing.{All-insert, images_inserted}
+use Rattle.ti_meaning.proofs.EditedLists.{All-insert, images_inserted}
 use Rattle.ti_base.proofs.Keeping.{kept_inserted}
 use Rattle.ti_base.proofs.database.Database.insert.Goals as goal
 

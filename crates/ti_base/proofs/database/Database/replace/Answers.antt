@@ -2,9 +2,9 @@ use Rattle.std.proofs.Common.{◌≡◌, ◌<◌, length, map, set, refl, ap, �
 use Rattle.std.proofs.lemmas.List.{length-map}
 use Rattle.std.proofs.lemmas.List.Elements.{All-set}
 use Rattle.ti_source.specs.Reading.{reading_of}
-use Rattle.ti_base.specs.Usable.{IsUsable}
+use Rattle.ti_meaning.specs.Usable.{IsUsable}
 use Rattle.ti_base.specs.Entries.{state_seen}
-use Rattle.ti_base.proofs.Editing.{images_replaced}
+use Rattle.ti_meaning.proofs.EditedLists.{images_replaced}
 use Rattle.ti_base.proofs.Keeping.{kept_replaced}
 use Rattle.ti_base.proofs.database.Database.replace.Goals as goal
 

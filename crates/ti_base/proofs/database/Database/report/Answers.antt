@@ -1,10 +1,10 @@
 use Rattle.std.proofs.Common.{◌≡◌, ℕ, List, length, map, All, ap, sym, ◌∙◌}
 use Rattle.std.proofs.lemmas.List.{length-map}
 use Rattle.ti_source.specs.Reading.{reading_of}
-use Rattle.ti_base.specs.Bounds.{IsPlaced}
+use Rattle.ti_meaning.specs.Bounds.{IsPlaced}
 use Rattle.ti_base.specs.Entries.{state_seen}
-use Rattle.ti_base.specs.Faults.{SourceFault, fault_seen, faults}
-use Rattle.ti_base.proofs.Bounding.{faults_placed}
+use Rattle.ti_meaning.specs.Faults.{SourceFault, fault_seen, faults}
+use Rattle.ti_meaning.proofs.Bounding.{faults_placed}
 use Rattle.ti_base.proofs.Keeping.{length_blocks}
 use Rattle.ti_base.proofs.database.Database.report.Goals as goal
 

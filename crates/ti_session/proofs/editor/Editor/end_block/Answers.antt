@@ -1,5 +1,5 @@
 use Rattle.std.proofs.Common.{◌≡◌, ℕ, List, ap, sym, ◌∙◌, refl}
-use Rattle.ti_base.specs.Edits.{change_of, insertion, replacement}
+use Rattle.ti_meaning.specs.Edits.{change_of, insertion, replacement}
 use Rattle.ti_session.specs.declared.requests.Opened.{Opened}
 use Rattle.ti_session.specs.Requests.{opened_change}
 use Rattle.ti_session.proofs.Leading.{CarriesOut-of_front, Holds-closed, ActsOn-edits}

@@ -21,3 +21,7 @@ returns-in-Report g c = λ s outside held.
 pub returns-in-Unknown : goal.returns-in-Unknown
 returns-in-Unknown g c = λ s outside held.
     ActsOn-asks _ s _ _ _ c.write_out.result _ _ (sym c.in-Unknown.ensures) (held.texts, refl) (Holds-outside c.args.self.now _ s outside held refl refl) c.write_out.ensures
+
+pub returns-in-Relocate : goal.returns-in-Relocate
+returns-in-Relocate g c = λ s outside held.
+    ActsOn-edits _ s _ _ _ c.carry_out-in-Relocate.result _ _ (sym c.in-Relocate.ensures) held.texts c.carry_out-in-Relocate.ensures (Holds-outside c.args.self.now _ s outside held refl refl)

@@ -1,5 +1,0 @@
-use Rattle.ti_base.proofs.LawProofs.{told_faults}
-use Rattle.ti_base.proofs.laws.use_faults_are_told.Goals as goal
-
-pub returns : goal.returns
-returns c = told_faults

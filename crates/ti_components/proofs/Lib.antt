@@ -1,0 +1,8 @@
+pub mod Rows
+pub mod Lists
+pub mod Leading
+pub mod Walking
+pub mod Closing
+pub mod Searching
+pub mod Ending
+pub mod LawProofs

@@ -1,0 +1,11 @@
+use Rattle.std.proofs.Common.{◌∙◌}
+use Rattle.ti_components.proofs.Rows.{rows_of-push_target, AreStarts-push_target}
+use Rattle.ti_components.proofs.graph.Graph.add_edge.Goals as goal
+
+pub invariant_of-self-2 : goal.invariant_of-self-2
+invariant_of-self-2 c =
+    rw c.in_ok-push.ensures.items (AreStarts-push_target c.self.inside.targets.items c.args.target c.self.inside.starts.items c.self.invariant)
+
+pub returns-clause-ok : goal.returns-clause-ok
+returns-clause-ok c = λ before row e.
+    rw c.in_ok-push.ensures.items (rows_of-push_target c.self.inside.targets.items c.args.target c.self.inside.starts.items c.self.invariant before row (c.self.view_is ∙ e))

@@ -1,0 +1,5 @@
+pub mod Graph
+pub mod Leading
+pub mod Components
+pub mod Laws
+pub mod Walk

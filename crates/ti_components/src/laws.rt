@@ -1,0 +1,22 @@
+// Laws of components, for what stands on their numbers. They compute nothing.
+ghost use Rattle.ti_components.specs.Laws.{ComponentsAreDetermined, NumbersFall, RingsShareANumber, WalksJoin};
+
+/// The ends of an edge are in one component exactly where the edge lies on a ring.
+pub fn rings_share_a_number()
+    ensures { RingsShareANumber }
+{}
+
+/// Along a walk no component's number rises.
+pub fn numbers_fall()
+    ensures { NumbersFall }
+{}
+
+/// However components are numbered, the same nodes share a number.
+pub fn components_are_determined()
+    ensures { ComponentsAreDetermined }
+{}
+
+/// A node leads to what any node that it leads to does.
+pub fn walks_join()
+    ensures { WalksJoin }
+{}

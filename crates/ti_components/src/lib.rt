@@ -1,0 +1,17 @@
+//! The strongly connected components of a directed graph, in an order in which each component comes
+//! after those that its edges lead to.
+//!
+//! - `graph`: a graph, each node a row of edges
+//! - `components`: its components and their order
+//! - `laws`: what its numbers tell
+//! - `search`: the path search that finds them, without recursion
+#![tactic(auto)]
+
+mod components;
+mod graph;
+mod laws;
+mod search;
+
+pub use components::Components;
+pub use graph::Graph;
+pub use laws::{components_are_determined, numbers_fall, rings_share_a_number, walks_join};

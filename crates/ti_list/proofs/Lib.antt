@@ -1,0 +1,5 @@
+mod Examples
+pub mod Orders
+pub mod Steps
+pub mod Alone
+pub mod Rows

@@ -1,0 +1,28 @@
+-- What the code holds of a capability, and what it says of it in an item (own).
+use Rattle.std.specs.Prelude.{ℕ, ◌<◌, List, length}
+use Rattle.ti_caps.specs.Tables.{Capability}
+use Rattle.ti_source.specs.Reading.{Said, said_flag, said_number, said_text, said_cancel}
+use Rattle.ti_compiled.specs.Values.{Content, content_true, content_number, content_text, content_cancelled}
+use Rattle.ti_list.specs.declared.contents.Content.{Content as ContentInMemory}
+use Rattle.ti_list.specs.declared.contents.Content.TheVariants as memory
+
+-- as plain data
+abbrev pub content_of : ContentInMemory → Content
+content_of memory.True = content_true
+content_of (memory.Number n) = content_number n
+content_of (memory.Text t) = content_text t.now
+content_of memory.Cancelled = content_cancelled
+
+-- the item that says it
+abbrev pub said_for : Capability → Content → Said
+said_for c content_true = said_flag c
+said_for c (content_number n) = said_number c n
+said_for c (content_text t) = said_text c t
+said_for c content_cancelled = said_cancel c
+
+-- a text is no longer than a string table can be
+abbrev pub IsShort : Content → Type 0
+IsShort content_true = Unit {0}
+IsShort (content_number n) = Unit {0}
+IsShort (content_text t) = length t < 32768
+IsShort content_cancelled = Unit {0}

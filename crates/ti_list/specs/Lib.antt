@@ -1,0 +1,6 @@
+pub mod Items
+pub mod Listing
+pub mod Relative
+pub mod Comparison
+pub mod Contents
+pub mod Flow

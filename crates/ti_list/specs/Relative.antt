@@ -1,0 +1,64 @@
+-- An entry as it differs from others (infocmp(1), `-u`): source text that says what the others do not, cancels what only they have, and then uses
+-- them in turn.
+use Rattle.std.specs.Prelude.{ℕ, Bool, true, false, ◌==◌, if◌then◌else◌, List, [], ◌∷◌, ◌++◌, map, Option, Some, None}
+use Rattle.std.specs.List.{before_first}
+use Rattle.std.specs.Option.{option_or}
+use Rattle.std.specs.Str.{bytes_eq}
+use Rattle.ti_source.specs.Reading.{said_import}
+use Rattle.ti_compiled.specs.declared.view.View.{View}
+use Rattle.ti_compiled.specs.Shown.{names_of, held}
+use Rattle.ti_compiled.specs.Values.{Content, content_true, content_number, content_text, content_cancelled, Contents}
+use Rattle.ti_list.specs.declared.layout.Layout.{Layout}
+use Rattle.ti_list.specs.Items.{item_text}
+use Rattle.ti_list.specs.Listing.{listed, listing}
+
+-- an entry as it is shown: its names field, and what it has of each capability
+pub record Shown : Type 0 where
+  pub field : List ℕ
+  pub table : Contents
+
+-- an entry in memory, as it is shown
+abbrev pub shown : View → Shown
+shown view = record { field = names_of view; table = held view }
+
+-- the first name of a names field: all before the first `|`
+abbrev pub first_name : List ℕ → List ℕ
+first_name field = before_first (λ byte. byte == 124) field
+
+-- whether two contents are one
+abbrev pub same_content : Content → Content → Bool
+same_content content_true content_true = true
+same_content (content_number m) (content_number n) = m == n
+same_content (content_text t) (content_text u) = bytes_eq t u
+same_content content_cancelled content_cancelled = true
+same_content _ _ = false
+
+-- what the first of the entries that has the capability has of it
+abbrev pub first_of : List Shown → Contents
+first_of [] c = None
+first_of (other ∷ others) c = option_or (other.table c) (first_of others c)
+
+-- what a relative source says of a capability, given what the entry has and what the others give it: nothing where these are one, what the entry has
+-- where they are not, and a cancel where only the others have it
+abbrev pub difference : Option Content → Option Content → Option Content
+difference None None = None
+difference None (Some theirs) = Some content_cancelled
+difference (Some own) None = Some own
+difference (Some own) (Some theirs) = if same_content own theirs then None else Some own
+
+-- the same of each capability
+abbrev pub differing : Contents → List Shown → Contents
+differing table others c = difference (table c) (first_of others c)
+
+-- a use of each of the entries, by its first name, on a line of its own, and then the rest
+abbrev pub use_lines : List Shown → List ℕ → List ℕ
+use_lines [] rest = rest
+use_lines (other ∷ others) rest = 10 ∷ 9 ∷ item_text (said_import (first_name other.field)) ++ 44 ∷ use_lines others rest
+
+-- the relative source of an entry: the items that differ, as in a listing, and then the uses
+abbrev pub relative : Shown → List Shown → Layout → List ℕ
+relative entry others layout = listed entry.field (differing entry.table others) layout (use_lines others (10 ∷ []))
+
+-- the relative source of an entry and the listings of the others, each the text of a block
+abbrev pub with_others : Shown → List Shown → Layout → List (List ℕ)
+with_others entry others layout = relative entry others layout ∷ map (λ (other : Shown). listing other.field other.table layout) others

@@ -1,0 +1,87 @@
+// What an entry has of a capability, and how it differs from what others have.
+ghost use Rattle.std.specs.Prelude.{◌≡◌, map, option_map, IfSome};
+ghost use Rattle.ti_compiled.specs.Shown.{held};
+ghost use Rattle.ti_list.specs.Contents.{content_of, IsShort};
+ghost use Rattle.ti_list.specs.Relative.{difference, first_of, same_content, shown};
+
+use ti_caps::{Cap, Kind};
+use ti_compiled::View;
+
+/// What an item says of its capability.
+#[derive(Clone, Copy)]
+pub enum Content<'a> {
+    /// The flag is there.
+    True,
+    /// The number.
+    Number(u32),
+    /// The text, which lies in the entry.
+    Text(&'a [u8]),
+    /// The capability is cancelled.
+    Cancelled,
+}
+
+/// What an entry has of a capability.
+pub fn held<'a>(view: &View<'a>, cap: Cap) -> Option<Content<'a>>
+    ensures is { option_map content_of result ≡ held view.now cap }
+    ensures short { IfSome result (λ c. IsShort (content_of c)) }
+{
+    match cap.kind() {
+        Kind::Flag => {
+            if view.flag(cap) {
+                Some(Content::True)
+            } else {
+                None
+            }
+        }
+        Kind::Number => match view.number(cap) {
+            Some(number) => Some(Content::Number(number)),
+            None => None,
+        },
+        Kind::Text => match view.text(cap) {
+            Some(text) => Some(Content::Text(text)),
+            None => None,
+        },
+    }
+}
+
+/// What the first of the entries that has the capability has of it.
+pub fn first_of<'a>(others: &[View<'a>], cap: Cap) -> Option<Content<'a>>
+    ensures { option_map content_of result ≡ first_of (map (λ o. shown o) others.now) cap }
+{
+    for other in others {
+        if let Some(content) = held(other, cap) {
+            return Some(content);
+        }
+    }
+    None
+}
+
+/// Whether two contents are one.
+pub fn same_content(one: Content<'_>, other: Content<'_>) -> bool
+    ensures { result ≡ same_content (content_of one.entry) (content_of other.entry) }
+{
+    match (one, other) {
+        (Content::True, Content::True) | (Content::Cancelled, Content::Cancelled) => true,
+        (Content::Number(one), Content::Number(other)) => one == other,
+        (Content::Text(one), Content::Text(other)) => one == other,
+        _ => false,
+    }
+}
+
+/// What a relative source says of a capability, where the entry has this of it and the others that.
+pub fn difference<'a>(own: Option<Content<'a>>, theirs: Option<Content<'_>>) -> Option<Content<'a>>
+    ensures { option_map content_of result ≡ difference (option_map content_of own.entry) (option_map content_of theirs.entry) }
+{
+    match (own, theirs) {
+        (None, None) => None,
+        (None, Some(_)) => Some(Content::Cancelled),
+        (Some(own), None) => Some(own),
+        (Some(own), Some(theirs)) => {
+            if same_content(own, theirs) {
+                None
+            } else {
+                Some(own)
+            }
+        }
+    }
+}

@@ -1,0 +1,24 @@
+//! Listings of compiled entries, as infocmp(1) prints them: an entry as source text, two entries compared capability by
+//! capability, and an entry as it differs from others.
+//!
+//! - `layout`: how wide the lines of a listing are, and in which order its items stand
+//! - `order`: the capabilities of a kind in that order
+//! - `contents`: what an entry has of a capability, and how it differs from what others have
+//! - `items`: an item as it is written
+//! - `listing`: an entry as source text, by itself or as it differs from others
+//! - `comparison`: two entries compared
+#![tactic(auto)]
+
+mod comparison;
+mod contents;
+mod items;
+mod layout;
+mod listing;
+mod order;
+
+pub use comparison::compare;
+pub use layout::{Layout, Mode, Order};
+pub use listing::{ListError, list, relative};
+
+#[cfg(test)]
+mod tests;

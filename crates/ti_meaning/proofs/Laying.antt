@@ -1,0 +1,102 @@
+-- What laying mentions into a table makes of it, item by item; and where a block has no expansion at a depth.
+use Rattle.std.proofs.Common.{◌≡◌, ℕ, zero, suc, append_assoc, ◌+◌, inl, inr, Bool, true, false, cond, List, [], ◌∷◌, ◌++◌, Option, Some, None, slice_get, refl, sym, ◌∙◌, ap, arith}
+use Rattle.std.specs.Option.{option_or}
+use Rattle.std.proofs.lemmas.Option.{same_Some, none-some}
+use Rattle.ti_caps.specs.Tables.{Capability}
+use Rattle.ti_source.specs.Reading.{Reading, ReadItem, Said, said_flag, said_number, said_text, said_cancel, said_import}
+use Rattle.ti_compiled.specs.Values.{Contents, Content}
+use Rattle.ti_meaning.specs.Owner.{owned}
+use Rattle.ti_meaning.specs.Expansion.{Mention, said, same_capability, is_broken, joined, mentions_of, expand_items}
+use Rattle.ti_meaning.specs.Reaching.{used_name, Uses}
+use Rattle.ti_meaning.specs.ValueTables.{names_at, IsTableOf, IsTableOfItems, IsLaid}
+use Rattle.ti_meaning.proofs.Same.{option_or-none}
+use Rattle.ti_meaning.proofs.Depth.{expand_items-more, names_at-le, mentions_of-more}
+
+-- ---- laying
+
+option_or-assoc : (o p q : Option Content) → option_or (option_or o p) q ≡ option_or o (option_or p q)
+option_or-assoc None p q = refl
+option_or-assoc (Some x) p q = refl
+
+if_or : (b : Bool) (x : Option Content) (o p : Option Content) (v : Content) → option_or (cond b (Some v) o) p ≡ cond b (Some v) (option_or o p)
+if_or true x o p v = refl
+if_or false x o p v = refl
+
+-- mentions after one another say what the first say, and else what the others say
+pub said-append : (ms ns : List Mention) (c : Capability) → said (ms ++ ns) c ≡ option_or (said ms c) (said ns c)
+said-append [] ns c = refl
+said-append (m ∷ ms) ns c =
+    rw (said-append ms ns c) (sym (if_or (same_capability m.capability c) None (said ms c) (said ns c) m.says))
+
+-- one mention was laid
+pub laid_one : (bs : List Reading) (item : Said) (m : Mention) (old new : Contents) → mentions_of (names_at (owned bs) 0) item ≡ Some (m ∷ []) → ((c : Capability) → new c ≡ option_or (old c) (cond (same_capability m.capability c) (Some m.says) None)) → IsLaid bs item old new
+laid_one bs item m old new e laid = record { depth = 0; mentions = m ∷ []; expands = e; lays = λ c _. laid c }
+
+-- ---- the items of a block, one after another
+
+joined-assoc : (a b c : Option (List Mention)) → joined a (joined b c) ≡ joined (joined a b) c
+joined-assoc None b c = refl
+joined-assoc (Some xs) None c = refl
+joined-assoc (Some xs) (Some ys) None = refl
+joined-assoc (Some xs) (Some ys) (Some zs) = rw append_assoc refl
+
+joined-nothing : (o : Option (List Mention)) → o ≡ joined (Some []) o
+joined-nothing None = refl
+joined-nothing (Some xs) = refl
+
+pub expand_items-append : (f : List ℕ → Option (List Mention)) (is js : List ReadItem) → expand_items f (is ++ js) ≡ joined (expand_items f is) (expand_items f js)
+expand_items-append f [] js = joined-nothing (expand_items f js)
+expand_items-append f (i ∷ is) js = rw (expand_items-append f is js) (joined-assoc (mentions_of f i.said) (expand_items f is) (expand_items f js))
+
+-- a table that mentions nothing is that of no items
+pub table_of_nothing : (bs : List Reading) (f : Contents) → ((c : Capability) → f c ≡ None) → IsTableOfItems bs [] f
+table_of_nothing bs f none = record { depth = 0; mentions = []; expands = refl; tells = λ c _. none c }
+
+-- one more item was laid
+pub table_of_one_more : (bs : List Reading) (is : List ReadItem) (i : ReadItem) (f g : Contents) → IsTableOfItems bs is f → IsLaid bs i.said f g → IsTableOfItems bs (is ++ i ∷ []) g
+table_of_one_more bs is i f g t h =
+    let deep = t.depth + h.depth in
+    let env = owned bs in
+    let front = expand_items-more (names_at env t.depth) (names_at env deep) (names_at-le env t.depth deep (omega arith)) is t.mentions t.expands in
+    let back = mentions_of-more (names_at env h.depth) (names_at env deep) (names_at-le env h.depth deep (omega arith)) i.said h.mentions h.expands in
+    record {
+      depth = deep;
+      mentions = t.mentions ++ (h.mentions ++ []);
+      expands = expand_items-append (names_at env deep) is (i ∷ []) ∙ (rw (front, back) refl);
+      tells = λ c valid.
+          h.lays c valid
+          ∙ (ap (λ o. option_or o (said h.mentions c)) (t.tells c valid)
+          ∙ (ap (λ o. option_or (said t.mentions c) o) (sym (said-append h.mentions [] c ∙ option_or-none (said h.mentions c)))
+          ∙ sym (said-append t.mentions (h.mentions ++ []) c)));
+    }
+
+-- all items of a sound block were laid
+pub table_of_block : (bs : List Reading) (b : Reading) (f : Contents) → is_broken b ≡ false → IsTableOfItems bs b.items f → IsTableOf bs b f
+table_of_block bs b f sound t = record { depth = suc t.depth; mentions = t.mentions; expands = rw (sound, t.expands) refl; tells = t.tells }
+
+-- ---- no depth expands what stays open
+
+pub uses_at : (items : List ReadItem) (i : ℕ) (item : ReadItem) (name : List ℕ) → slice_get items i ≡ Some item → used_name item.said ≡ Some name → Uses items name
+uses_at [] i item name s u = absurd (none-some item s)
+uses_at (x ∷ xs) zero item name s u = inl (rw (same_Some x item s) u)
+uses_at (x ∷ xs) (suc i) item name s u = inr (uses_at xs i item name s u)
+
+pub mentions_of-used : (f : List ℕ → Option (List Mention)) (said : Said) (name : List ℕ) → used_name said ≡ Some name → mentions_of f said ≡ f name
+mentions_of-used f (said_flag c) name e = absurd (none-some name e)
+mentions_of-used f (said_number c n) name e = absurd (none-some name e)
+mentions_of-used f (said_text c t) name e = absurd (none-some name e)
+mentions_of-used f (said_cancel c) name e = absurd (none-some name e)
+mentions_of-used f (said_import n) name e = ap f (same_Some n name e)
+
+joined-none : (o : Option (List Mention)) → joined o None ≡ None
+joined-none None = refl
+joined-none (Some xs) = refl
+
+pub expand_items-none : (f : List ℕ → Option (List Mention)) (items : List ReadItem) (name : List ℕ) → Uses items name → f name ≡ None → expand_items f items ≡ None
+expand_items-none f [] name u e = absurd u
+expand_items-none f (i ∷ is) name (inl here) e = rw (mentions_of-used f i.said name here, e) refl
+expand_items-none f (i ∷ is) name (inr later) e = rw (expand_items-none f is name later e) (joined-none (mentions_of f i.said))
+
+pub if_none : (b : Bool) (o : Option (List Mention)) → o ≡ None → cond b None o ≡ None
+if_none true o e = refl
+if_none false o e = e

@@ -1,0 +1,224 @@
+-- The items and the faults that reading gives stand in the order of the items, and an item with a fault by itself uses no
+-- name.
+use Rattle.std.proofs.Common.{◌≡◌, ℕ, ◌+◌, ◌<◌, ◌≤◌, ◌⊎◌, inl, inr, Bool, true, false, ◌&&◌, ◌||◌, nat_eq, nat_lt, cond, List, [], ◌∷◌, ◌++◌, length, map, filter, Option, Some, None, Ok, Err, Result, is_some, refl, sym, ◌∙◌, ap, arith}
+use Rattle.std.specs.Option.{option_to_list}
+use Rattle.std.proofs.lemmas.Bool.{false≢true, and_right, and_left, or_from, cases_eq, ne_eqb, or_cases}
+use Rattle.std.proofs.lemmas.List.Elements.{filter-append}
+use Rattle.ti_caps.specs.Tables.{Capability, capability_named}
+use Rattle.ti_caps.specs.declared.capability.Kind.{Kind}
+use Rattle.ti_caps.specs.declared.capability.Kind.TheVariants.{Flag, Number, Text}
+use Rattle.ti_source.specs.declared.code.Code.{Code}
+use Rattle.ti_source.specs.declared.code.Code.TheVariants as code
+use Rattle.ti_source.specs.declared.numbers.NumberError.{NumberError}
+use Rattle.ti_source.specs.declared.numbers.NumberError.TheVariants.{Bad, TooLarge}
+use Rattle.ti_source.specs.inside.Verdicts.{unescaped}
+use Rattle.ti_source.specs.inside.Numbers.{number_read}
+use Rattle.ti_source.specs.Folding.{Placed}
+use Rattle.ti_source.specs.Items.{Claim, claims_flag, claims_number, claims_text, claims_cancel, Statement, piece_of, stripped}
+use Rattle.ti_source.specs.inside.Items.{statement_of}
+use Rattle.ti_source.specs.inside.Header.{header_names}
+use Rattle.ti_source.specs.Reading.{Said, said_import, ReadItem, ReadFault}
+use Rattle.ti_source.specs.Parsing.{accepted, is_import, said_by, code_by, item_fault, names_limit, header_fault, parsed}
+use Rattle.ti_source.specs.inside.Verdicts.{number_verdict, text_verdict, fitting_verdict, named_verdict, claimed_text, verdict_of}
+use Rattle.ti_source.specs.inside.Parsing.{items_at, faults_at, items_from, faults_from, header_faults, block_field, block_items}
+use Rattle.ti_meaning.specs.Reaching.{used_name}
+use Rattle.ti_meaning.specs.Faults.{is_kept}
+use Rattle.ti_meaning.specs.Laws.{Climbs}
+use Rattle.ti_meaning.specs.ItemLaws.{has_fault, has_use, AreOrdered, ReadItemsAreOrdered}
+use Rattle.ti_meaning.proofs.ItemLawProofs.{any-append}
+
+-- ---- a verdict of a capability is no use
+
+abbrev uses_name : Option Said → Bool
+uses_name None = false
+uses_name (Some said) = is_some (used_name said)
+
+number_no_use : (c : Capability) (r : Result ℕ NumberError) → uses_name (said_by (number_verdict c r)) ≡ false
+number_no_use c (Ok n) = refl
+number_no_use c (Err Bad) = refl
+number_no_use c (Err TooLarge) = refl
+
+odd_no_use : (c : Capability) (text : List ℕ) (odd : Bool) → uses_name (said_by (text_verdict c (Ok (text, odd)))) ≡ false
+odd_no_use c text true = refl
+odd_no_use c text false = refl
+
+text_no_use : (c : Capability) (value : List ℕ) → uses_name (said_by (text_verdict c (unescaped value))) ≡ false
+text_no_use c value =
+    elim (unescaped value) as (λ r. uses_name (said_by (text_verdict c r)) ≡ false) [ Ok found ↦ odd_no_use c found.0 found.1 | Err cause ↦ refl ]
+
+fitting_no_use : (c : Capability) (claim : Claim) (k : Kind) → uses_name (said_by (fitting_verdict c claim k)) ≡ false
+fitting_no_use c claims_flag Flag = refl
+fitting_no_use c claims_flag Number = refl
+fitting_no_use c claims_flag Text = refl
+fitting_no_use c (claims_number text) Flag = refl
+fitting_no_use c (claims_number text) Number = number_no_use c (number_read text)
+fitting_no_use c (claims_number text) Text = refl
+fitting_no_use c (claims_text value) Flag = refl
+fitting_no_use c (claims_text value) Number = refl
+fitting_no_use c (claims_text value) Text = text_no_use c value
+fitting_no_use c claims_cancel k = refl
+
+named_no_use : (claim : Claim) (o : Option Capability) → uses_name (said_by (named_verdict claim o)) ≡ false
+named_no_use claim None = refl
+named_no_use claim (Some c) = fitting_no_use c claim c.kind
+
+-- a verdict has no fault or accepts no use
+apart_verdict : (v : Bool) (claim : Claim) (o : Option Capability) → (code_by (cond v (accepted (said_import (stripped (claimed_text claim)))) (named_verdict claim o)) ≡ None) ⊎ (uses_name (said_by (cond v (accepted (said_import (stripped (claimed_text claim)))) (named_verdict claim o))) ≡ false)
+apart_verdict true claim o = inl refl
+apart_verdict false claim o = inr (named_no_use claim o)
+
+-- ---- what one item gives
+
+items_apart : (o k line : ℕ) (x : Option Said) → uses_name x ≡ false → has_use o (map (λ said. record { ordinal = k; line = line; said = said }) (option_to_list x)) ≡ false
+items_apart o k line None e = refl
+items_apart o k line (Some s) e = or_from (nat_eq k o && is_some (used_name s)) false (and_right (nat_eq k o) (is_some (used_name s)) e) refl
+
+other_items : (o k line : ℕ) (x : Option Said) → nat_eq k o ≡ false → has_use o (map (λ said. record { ordinal = k; line = line; said = said }) (option_to_list x)) ≡ false
+other_items o k line None e = refl
+other_items o k line (Some s) e = or_from (nat_eq k o && is_some (used_name s)) false (and_left (nat_eq k o) (is_some (used_name s)) e) refl
+
+other_faults : (o k line : ℕ) (name : List ℕ) (x : Option Code) → nat_eq k o ≡ false → has_fault o (map (item_fault k line name) (option_to_list x)) ≡ false
+other_faults o k line name None e = refl
+other_faults o k line name (Some c) e = or_from (nat_eq k o) false e refl
+
+other_items_at : (o k line : ℕ) (s : Option Statement) → nat_eq k o ≡ false → has_use o (items_at k line s) ≡ false
+other_items_at o k line None e = refl
+other_items_at o k line (Some s) e = other_items o k line (said_by (verdict_of s.name s.claim)) e
+
+other_faults_at : (o k line : ℕ) (s : Option Statement) → nat_eq k o ≡ false → has_fault o (faults_at k line s) ≡ false
+other_faults_at o k line None e = refl
+other_faults_at o k line (Some s) e = other_faults o k line s.name (code_by (verdict_of s.name s.claim)) e
+
+-- one item has no fault or is no use
+apart_at : (o k line : ℕ) (s : Option Statement) → (has_fault o (faults_at k line s) ≡ false) ⊎ (has_use o (items_at k line s) ≡ false)
+apart_at o k line None = inl refl
+apart_at o k line (Some s) =
+    elim (apart_verdict (is_import s.name s.claim) s.claim (capability_named s.name)) [
+      | inl no_fault ↦ inl (ap (λ x. has_fault o (map (item_fault k line s.name) (option_to_list x))) no_fault)
+      | inr no_use ↦ inr (items_apart o k line (said_by (verdict_of s.name s.claim)) no_use)
+    ]
+
+-- ---- all items
+
+not_both : (a b : Bool) → a ≡ false → b ≡ false → (a || b) ≡ false
+not_both a b e f = or_from a b e f
+
+later_faults : (o k : ℕ) (items : List (List Placed)) → o < k → has_fault o (faults_from k items) ≡ false
+later_faults o k [] l = refl
+later_faults o k (i ∷ is) l =
+    let here = faults_at k (piece_of i).line (statement_of (piece_of i).text) in
+    any-append (λ (f : ReadFault). nat_eq f.ordinal o) here (faults_from (k + 1) is)
+    ∙ not_both (has_fault o here) (has_fault o (faults_from (k + 1) is))
+    (other_faults_at o k (piece_of i).line (statement_of (piece_of i).text) (ne_eqb k o (λ e. omega arith)))
+    (later_faults o (k + 1) is (omega arith))
+
+later_items : (o k : ℕ) (items : List (List Placed)) → o < k → has_use o (items_from k items) ≡ false
+later_items o k [] l = refl
+later_items o k (i ∷ is) l =
+    let here = items_at k (piece_of i).line (statement_of (piece_of i).text) in
+    any-append (λ (j : ReadItem). nat_eq j.ordinal o && is_some (used_name j.said)) here (items_from (k + 1) is)
+    ∙ not_both (has_use o here) (has_use o (items_from (k + 1) is))
+    (other_items_at o k (piece_of i).line (statement_of (piece_of i).text) (ne_eqb k o (λ e. omega arith)))
+    (later_items o (k + 1) is (omega arith))
+
+apart_from : (o k : ℕ) (items : List (List Placed)) → has_fault o (faults_from k items) ≡ true → has_use o (items_from k items) ≡ false
+apart_from o k [] t = refl
+apart_from o k (i ∷ is) t =
+    let line = (piece_of i).line in
+    let s = statement_of (piece_of i).text in
+    let uses = any-append (λ (j : ReadItem). nat_eq j.ordinal o && is_some (used_name j.said)) (items_at k line s) (items_from (k + 1) is) in
+    let faults : (has_fault o (faults_at k line s) || has_fault o (faults_from (k + 1) is)) ≡ true = sym (any-append (λ (f : ReadFault). nat_eq f.ordinal o) (faults_at k line s) (faults_from (k + 1) is)) ∙ t in
+    uses ∙ elim (cases_eq k o) [
+      | inr other ↦ not_both (has_use o (items_at k line s)) (has_use o (items_from (k + 1) is))
+          (other_items_at o k line s (ne_eqb k o other))
+          (apart_from o (k + 1) is (elim (or_cases (has_fault o (faults_at k line s)) (has_fault o (faults_from (k + 1) is)) faults) [
+            | inl here ↦ absurd (false≢true (sym (other_faults_at o k line s (ne_eqb k o other)) ∙ here))
+            | inr later ↦ later
+          ]))
+      | inl same ↦ not_both (has_use o (items_at k line s)) (has_use o (items_from (k + 1) is))
+          (elim (apart_at o k line s) [
+            | inr no_use ↦ no_use
+            | inl no_fault ↦ elim (or_cases (has_fault o (faults_at k line s)) (has_fault o (faults_from (k + 1) is)) faults) [
+              | inl here ↦ absurd (false≢true (sym no_fault ∙ here))
+              | inr later ↦ absurd (false≢true (sym (later_faults o (k + 1) is (omega arith)) ∙ later))
+            ]
+          ])
+          (later_items o (k + 1) is (omega arith))
+    ]
+
+-- ---- ordinals climb
+
+climbs-lower : (l m : ℕ) (ns : List ℕ) → l ≤ m → Climbs m ns → Climbs l ns
+climbs-lower l m [] h c = tt
+climbs-lower l m (n ∷ ns) h c = (let first = c.0 in omega arith, c.1)
+
+front_faults : (k line : ℕ) (name : List ℕ) (x : Option Code) (fs : List ReadFault) → Climbs (k + 1) (map (λ (f : ReadFault). f.ordinal) fs) → Climbs k (map (λ (f : ReadFault). f.ordinal) (map (item_fault k line name) (option_to_list x) ++ fs))
+front_faults k line name None fs c = climbs-lower k (k + 1) (map (λ (f : ReadFault). f.ordinal) fs) (omega arith) c
+front_faults k line name (Some code) fs c = (omega arith, climbs-lower k (k + 1) (map (λ (f : ReadFault). f.ordinal) fs) (omega arith) c)
+
+front_faults_at : (k line : ℕ) (s : Option Statement) (fs : List ReadFault) → Climbs (k + 1) (map (λ (f : ReadFault). f.ordinal) fs) → Climbs k (map (λ (f : ReadFault). f.ordinal) (faults_at k line s ++ fs))
+front_faults_at k line None fs c = climbs-lower k (k + 1) (map (λ (f : ReadFault). f.ordinal) fs) (omega arith) c
+front_faults_at k line (Some s) fs c = front_faults k line s.name (code_by (verdict_of s.name s.claim)) fs c
+
+front_items : (k line : ℕ) (x : Option Said) (is : List ReadItem) → Climbs (k + 1) (map (λ (i : ReadItem). i.ordinal) is) → Climbs k (map (λ (i : ReadItem). i.ordinal) (map (λ said. record { ordinal = k; line = line; said = said }) (option_to_list x) ++ is))
+front_items k line None is c = climbs-lower k (k + 1) (map (λ (i : ReadItem). i.ordinal) is) (omega arith) c
+front_items k line (Some said) is c = (omega arith, climbs-lower k (k + 1) (map (λ (i : ReadItem). i.ordinal) is) (omega arith) c)
+
+front_items_at : (k line : ℕ) (s : Option Statement) (is : List ReadItem) → Climbs (k + 1) (map (λ (i : ReadItem). i.ordinal) is) → Climbs k (map (λ (i : ReadItem). i.ordinal) (items_at k line s ++ is))
+front_items_at k line None is c = climbs-lower k (k + 1) (map (λ (i : ReadItem). i.ordinal) is) (omega arith) c
+front_items_at k line (Some s) is c = front_items k line (said_by (verdict_of s.name s.claim)) is c
+
+faults_climb : (k : ℕ) (items : List (List Placed)) → Climbs k (map (λ (f : ReadFault). f.ordinal) (faults_from k items))
+faults_climb k [] = tt
+faults_climb k (i ∷ is) = front_faults_at k (piece_of i).line (statement_of (piece_of i).text) (faults_from (k + 1) is) (faults_climb (k + 1) is)
+
+items_climb : (k : ℕ) (items : List (List Placed)) → Climbs k (map (λ (i : ReadItem). i.ordinal) (items_from k items))
+items_climb k [] = tt
+items_climb k (i ∷ is) = front_items_at k (piece_of i).line (statement_of (piece_of i).text) (items_from (k + 1) is) (items_climb (k + 1) is)
+
+-- ---- without the faults of the header
+
+no_header_fault : (field : List ℕ) (o : Option (List (List ℕ))) → filter (is_kept false) (header_faults field o) ≡ []
+no_header_fault field None = refl
+no_header_fault field (Some names) =
+    elim (nat_lt names_limit (length field)) as (λ v. filter (is_kept false) (cond v (header_fault code.NamesTooLong ∷ []) []) ≡ []) [ true ↦ refl | false ↦ refl ]
+
+climbs-filter : (test : ReadFault → Bool) (k : ℕ) (fs : List ReadFault) → Climbs k (map (λ (f : ReadFault). f.ordinal) fs) → Climbs k (map (λ (f : ReadFault). f.ordinal) (filter test fs))
+climbs-filter test k [] c = tt
+climbs-filter test k (f ∷ fs) c =
+    elim (test f) as (λ v. Climbs k (map (λ (g : ReadFault). g.ordinal) (cond v (f ∷ filter test fs) (filter test fs)))) [
+      | true ↦ (c.0, climbs-filter test f.ordinal fs c.1)
+      | false ↦ climbs-filter test k fs (climbs-lower k f.ordinal (map (λ (g : ReadFault). g.ordinal) fs) c.0 c.1)
+    ]
+
+or_true : (a b : Bool) → b ≡ true → (a || b) ≡ true
+or_true true b e = refl
+or_true false b e = e
+
+or_rest : (a b c : Bool) → (a || b) ≡ true → (b ≡ true → c ≡ true) → (a || c) ≡ true
+or_rest true b c e h = refl
+or_rest false b c e h = h e
+
+fault_filter : (test : ReadFault → Bool) (o : ℕ) (fs : List ReadFault) → has_fault o (filter test fs) ≡ true → has_fault o fs ≡ true
+fault_filter test o [] t = t
+fault_filter test o (f ∷ fs) t =
+    elim (test f) as (λ v. has_fault o (cond v (f ∷ filter test fs) (filter test fs)) ≡ true → (nat_eq f.ordinal o || has_fault o fs) ≡ true) [
+      | true ↦ λ e. or_rest (nat_eq f.ordinal o) (has_fault o (filter test fs)) (has_fault o fs) e (fault_filter test o fs)
+      | false ↦ λ e. or_true (nat_eq f.ordinal o) (has_fault o fs) (fault_filter test o fs e)
+    ] t
+
+kept_faults : (header faults : List ReadFault) → filter (is_kept false) header ≡ [] → filter (is_kept false) (header ++ faults) ≡ filter (is_kept false) faults
+kept_faults header faults e = filter-append (is_kept false) header faults ∙ ap (λ xs. xs ++ filter (is_kept false) faults) e
+
+ordered_from : (header : List ReadFault) (items : List (List Placed)) → filter (is_kept false) header ≡ [] → AreOrdered (filter (is_kept false) (header ++ faults_from 0 items)) (items_from 0 items)
+ordered_from header items none =
+    let e = kept_faults header (faults_from 0 items) none in
+    record {
+      faults_climb = rw e (climbs-filter (is_kept false) 0 (faults_from 0 items) (faults_climb 0 items));
+      items_climb = items_climb 0 items;
+      apart = λ o t. apart_from o 0 items (fault_filter (is_kept false) o (faults_from 0 items) (ap (has_fault o) (sym e) ∙ t));
+    }
+
+pub ordered_items : ReadItemsAreOrdered
+unfolding parsed
+ordered_items = λ text. ordered_from (header_faults (block_field text) (header_names (block_field text))) (block_items text) (no_header_fault (block_field text) (header_names (block_field text)))

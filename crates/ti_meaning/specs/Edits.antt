@@ -1,0 +1,98 @@
+-- Edits of a source (own): which of them are refused, and what the others make of the list of its blocks' texts.
+use Rattle.std.specs.Prelude.{ℕ, ◌≡◌, ◌<◌, ◌≤◌, List, [], ◌∷◌, length, insert, remove, slice_get, slice_set, Result, Ok, Err}
+use Rattle.std.specs.Option.{option_map_or}
+use Rattle.ti_source.specs.Blocks.{OneBlock}
+use Rattle.ti_meaning.specs.declared.edits.Edit.{Edit}
+use Rattle.ti_meaning.specs.declared.edits.Edit.TheVariants as edit
+use Rattle.ti_meaning.specs.declared.edits.Edited.{Edited}
+use Rattle.ti_meaning.specs.declared.edits.EditError.{EditError}
+use Rattle.ti_meaning.specs.declared.edits.EditError.TheVariants.{Position, TooLong, NotOneBlock, TooMany, Memory}
+use Rattle.ti_meaning.specs.declared.edits.Outcome.{Outcome}
+use Rattle.ti_meaning.specs.declared.edits.Outcome.TheVariants.{Accepted, Refused}
+
+-- an edit of a list of texts, as plain data: a block put in before a position, or exchanged, or taken out, or moved from one
+-- position to another
+pub data Change : Type 0 where
+  insertion : ℕ → List ℕ → Change
+  replacement : ℕ → List ℕ → Change
+  removal : ℕ → Change
+  relocation : ℕ → ℕ → Change
+
+-- an edit that holds its text in memory, as plain data
+abbrev pub change_of : Edit → Change
+change_of (edit.Insert at text) = insertion at text.now
+change_of (edit.Replace at text) = replacement at text.now
+change_of (edit.Remove at) = removal at
+change_of (edit.Relocate from to) = relocation from to
+
+-- the position is one of the list, for an insertion also its end
+abbrev pub IsInPlace : List (List ℕ) → Change → Type 0
+IsInPlace texts (insertion at text) = at ≤ length texts
+IsInPlace texts (replacement at text) = at < length texts
+IsInPlace texts (removal at) = at < length texts
+IsInPlace texts (relocation from to) = (from < length texts) × (to < length texts)
+
+-- the new text, if there is one, has at most 1,048,576 bytes
+abbrev pub IsShort : Change → Type 0
+IsShort (insertion at text) = length text ≤ 1048576
+IsShort (replacement at text) = length text ≤ 1048576
+IsShort (removal at) = Unit {0}
+IsShort (relocation from to) = Unit {0}
+
+-- it is one block
+abbrev pub IsBlock : Change → Type 0
+IsBlock (insertion at text) = OneBlock text
+IsBlock (replacement at text) = OneBlock text
+IsBlock (removal at) = Unit {0}
+IsBlock (relocation from to) = Unit {0}
+
+-- the list has room for one more block, where the edit brings one: it has at most 65,535
+abbrev pub HasRoom : List (List ℕ) → Change → Type 0
+HasRoom texts (insertion at text) = length texts < 65535
+HasRoom texts (replacement at text) = Unit {0}
+HasRoom texts (removal at) = Unit {0}
+HasRoom texts (relocation from to) = Unit {0}
+
+-- nothing is wrong with the edit
+pub record IsSoundEdit (texts : List (List ℕ)) (change : Change) : Type 0 where
+  pub in_place : IsInPlace texts change
+  pub short : IsShort change
+  pub block : IsBlock change
+  pub room : HasRoom texts change
+
+-- the edit is refused so: each cause is the first that holds, and memory is wanting only where there is none
+abbrev pub IsRefusal : List (List ℕ) → Change → EditError → Type 0
+IsRefusal texts change Position = ¬ (IsInPlace texts change)
+IsRefusal texts change TooLong = IsInPlace texts change × (¬ (IsShort change))
+IsRefusal texts change NotOneBlock = IsInPlace texts change × IsShort change × (¬ (IsBlock change))
+IsRefusal texts change TooMany = IsInPlace texts change × IsShort change × IsBlock change × (¬ (HasRoom texts change))
+IsRefusal texts change Memory = IsSoundEdit texts change
+
+-- the list with the item at the one position taken out and put in, so that it then stands at the other
+abbrev pub relocated : {X : Type 0} → List X → ℕ → ℕ → List X
+relocated xs from to = option_map_or (λ x. insert (remove xs from) to x) (slice_get xs from) xs
+
+-- the list with the block put in, exchanged, taken out or moved
+abbrev pub after : List (List ℕ) → Change → List (List ℕ)
+after texts (insertion at text) = insert texts at text
+after texts (replacement at text) = slice_set texts at text
+after texts (removal at) = remove texts at
+after texts (relocation from to) = relocated texts from to
+
+-- one edit leads from one list to the next: accepted where nothing is wrong with it, and else the list stays
+abbrev pub Step : List (List ℕ) → Change → Outcome → List (List ℕ) → Type 0
+Step texts change Accepted next = IsSoundEdit texts change × (next ≡ after texts change)
+Step texts change (Refused error) next = IsRefusal texts change error × (next ≡ texts)
+
+-- edits in their order lead from one list to another, with an outcome each
+abbrev pub Run : List (List ℕ) → List Change → List Outcome → List (List ℕ) → Type 0
+Run texts [] [] last = last ≡ texts
+Run texts [] (outcome ∷ outcomes) last = ⊥
+Run texts (change ∷ changes) [] last = ⊥
+Run texts (change ∷ changes) (outcome ∷ outcomes) last =
+    (next : List (List ℕ)) × Step texts change outcome next × Run next changes outcomes last
+
+-- the outcome that an answer to an edit tells of
+abbrev pub outcome_of : Result Edited EditError → Outcome
+outcome_of (Ok edited) = Accepted
+outcome_of (Err error) = Refused error

@@ -1,0 +1,81 @@
+-- What a block says once its uses are expanded (terminfo(5), "Similar Terminals"): a use stands for all that the owner of
+-- the name says, in order, expanded in the same way, and the leftmost mention of a capability decides.
+use Rattle.std.specs.Prelude.{ℕ, zero, suc, List, [], ◌∷◌, ◌++◌, length, Option, Some, None, IsSome, is_some, option_and_then, Bool, true, false, ◌&&◌, nat_eq, if◌then◌else◌}
+use Rattle.std.specs.List.{list_any}
+use Rattle.ti_caps.specs.Tables.{Capability}
+use Rattle.ti_caps.specs.declared.capability.Kind.{Kind}
+use Rattle.ti_caps.specs.declared.capability.Kind.TheVariants.{Flag, Number, Text}
+use Rattle.ti_source.specs.Codes.{is_error}
+use Rattle.ti_source.specs.Reading.{Reading, ReadItem, ReadFault, Said, said_flag, said_number, said_text, said_cancel, said_import}
+use Rattle.ti_compiled.specs.Values.{Content, content_true, content_number, content_text, content_cancelled, Contents}
+use Rattle.ti_compiled.specs.Laws.{uncancelled}
+use Rattle.ti_meaning.specs.Owner.{owned}
+
+-- a capability, and the value or the cancel that an item gives it
+pub record Mention : Type 0 where
+  pub capability : Capability
+  pub says : Content
+
+-- whether two kinds of capabilities are one
+abbrev pub same_kind : Kind → Kind → Bool
+same_kind Flag Flag = true
+same_kind Number Number = true
+same_kind Text Text = true
+same_kind _ _ = false
+
+-- whether two capabilities are one: of one kind, and at one place in its list
+abbrev pub same_capability : Capability → Capability → Bool
+same_capability a b = same_kind a.kind b.kind && nat_eq a.index b.index
+
+-- what the leftmost mention of the capability says, a cancel too, if there is one
+abbrev pub said : List Mention → Contents
+said [] capability = None
+said (mention ∷ mentions) capability =
+    if same_capability mention.capability capability then Some mention.says else said mentions capability
+
+-- the value of each capability: what its leftmost mention gives it, absent where that is a cancel or there is none
+abbrev pub values : List Mention → Contents
+values mentions capability = uncancelled (said mentions capability)
+
+-- whether reading gave the block a fault that leaves it without an entry: one of its header, its numbers or its strings
+abbrev pub is_broken : Reading → Bool
+is_broken block = list_any (λ (fault : ReadFault). is_error fault.code) block.faults
+
+-- two lists after one another, where both are there
+abbrev pub joined : {X : Type 0} → Option (List X) → Option (List X) → Option (List X)
+joined None _ = None
+joined (Some xs) None = None
+joined (Some xs) (Some ys) = Some (xs ++ ys)
+
+-- the mentions that one item stands for, where `of_name` gives those of a used name
+abbrev pub mentions_of : (List ℕ → Option (List Mention)) → Said → Option (List Mention)
+mentions_of of_name (said_flag c) = Some (record { capability = c; says = content_true } ∷ [])
+mentions_of of_name (said_number c n) = Some (record { capability = c; says = content_number n } ∷ [])
+mentions_of of_name (said_text c t) = Some (record { capability = c; says = content_text t } ∷ [])
+mentions_of of_name (said_cancel c) = Some (record { capability = c; says = content_cancelled } ∷ [])
+mentions_of of_name (said_import name) = of_name name
+
+-- those of all items, in order; none where one has none
+abbrev pub expand_items : (List ℕ → Option (List Mention)) → List ReadItem → Option (List Mention)
+expand_items of_name [] = Some []
+expand_items of_name (item ∷ items) = joined (mentions_of of_name item.said) (expand_items of_name items)
+
+-- a block's mentions with uses expanded at most so deep, where `env` gives the block that a name belongs to; none where
+-- the block is broken, a used name is nobody's, or the depth does not suffice
+abbrev pub expand : (List ℕ → Option Reading) → ℕ → Reading → Option (List Mention)
+expand env zero block = None
+expand env (suc depth) block =
+    if is_broken block then None else expand_items (λ name. option_and_then (expand env depth) (env name)) block.items
+
+-- some depth suffices
+abbrev pub Resolves : (List ℕ → Option Reading) → Reading → Type 0
+Resolves env block = (depth : ℕ) × IsSome (expand env depth block)
+
+-- what a block of the list says with all its uses expanded, if it resolves: no way through owners that comes to no block
+-- twice is longer than the list, so one depth serves
+abbrev pub expansion : List Reading → Reading → Option (List Mention)
+expansion blocks block = expand (owned blocks) (suc (length blocks)) block
+
+-- whether it resolves
+abbrev pub resolves : List Reading → Reading → Bool
+resolves blocks block = is_some (expansion blocks block)

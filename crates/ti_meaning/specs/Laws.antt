@@ -1,0 +1,71 @@
+-- Laws of the definitions, by which the computing ones say what the relations say.
+use Rattle.std.specs.Prelude.{[], ◌∷◌, ◌++◌, map, ℕ, ◌≡◌, ◌≤◌, ◌<◌, ◌↔◌, List, Option, Some, None, IsTrue, slice_get}
+use Rattle.ti_source.specs.declared.code.Code.{Code}
+use Rattle.ti_source.specs.declared.code.Code.TheVariants.{MissingUse, Circular, Unresolved}
+use Rattle.ti_source.specs.Reading.{Reading, ReadItem, ReadFault}
+use Rattle.ti_meaning.specs.Owner.{is_among, owner, owned}
+use Rattle.ti_meaning.specs.Expansion.{Mention, expand, Resolves, expansion, resolves}
+use Rattle.ti_meaning.specs.Reaching.{used_name, LeadsTo, leads_to}
+use Rattle.ti_meaning.specs.Faults.{SourceFault, local_fault, use_fault, fault_of_item, faults_before, faults_from, item_faults}
+
+-- the name is the block's at that position, and no block before has it
+pub record IsFirstWith (blocks : List Reading) (name : List ℕ) (at : ℕ) : Type 0 where
+  pub block : Reading
+  pub stands : slice_get blocks at ≡ Some block
+  pub has : IsTrue (is_among name block.names)
+  pub first : (before : ℕ) (other : Reading) → before < at → slice_get blocks before ≡ Some other → ¬ (IsTrue (is_among name other.names))
+
+-- a name belongs to the first block that has it, and to none where none has it
+pub record OwnersAreFirst : Type 0 where
+  pub some : (blocks : List Reading) (name : List ℕ) (at : ℕ) → owner blocks name ≡ Some at → IsFirstWith blocks name at
+  pub none : (blocks : List Reading) (name : List ℕ) → owner blocks name ≡ None → (at : ℕ) (block : Reading) → slice_get blocks at ≡ Some block → ¬ (IsTrue (is_among name block.names))
+
+-- an expansion is the same at each greater depth
+abbrev pub ExpansionsStay : Type 0
+ExpansionsStay =
+    (env : List ℕ → Option Reading) (depth deeper : ℕ) (block : Reading) (mentions : List Mention)
+    → depth ≤ deeper → expand env depth block ≡ Some mentions → expand env deeper block ≡ Some mentions
+
+-- a block of the list has the expansion that some depth gives it, and resolves exactly where some depth gives it one
+pub record ExpansionsAreFound : Type 0 where
+  pub found : (blocks : List Reading) (at depth : ℕ) (block : Reading) (mentions : List Mention) → slice_get blocks at ≡ Some block → expand (owned blocks) depth block ≡ Some mentions → expansion blocks block ≡ Some mentions
+  pub resolves : (blocks : List Reading) (at : ℕ) (block : Reading) → slice_get blocks at ≡ Some block → IsTrue (resolves blocks block) ↔ Resolves (owned blocks) block
+
+-- the search for a way finds one exactly where there is one
+abbrev pub WaysAreFound : Type 0
+WaysAreFound = (blocks : List Reading) (from : List ℕ) (at : ℕ) → IsTrue (leads_to blocks from at) ↔ LeadsTo blocks from at
+
+-- what is wrong with the use of a name by the block at a position, the first that holds: nobody owns the name; the owner
+-- is that block or reaches a name that it owns; the owner does not resolve; nothing
+pub data IsUseFault (blocks : List Reading) (at : ℕ) (name : List ℕ) : Option Code → Type 0 where
+  nobody_owns : owner blocks name ≡ None → IsUseFault blocks at name (Some MissingUse)
+  leads_back : LeadsTo blocks name at → IsUseFault blocks at name (Some Circular)
+  owner_unresolved : (block : Reading) → owned blocks name ≡ Some block → (LeadsTo blocks name at → ⊥) → (Resolves (owned blocks) block → ⊥) → IsUseFault blocks at name (Some Unresolved)
+  owner_resolved : (block : Reading) → owned blocks name ≡ Some block → (LeadsTo blocks name at → ⊥) → Resolves (owned blocks) block → IsUseFault blocks at name None
+
+-- each use has the fault that is computed
+abbrev pub UseFaultsAreTold : Type 0
+UseFaultsAreTold = (blocks : List Reading) (at : ℕ) (name : List ℕ) → IsUseFault blocks at name (use_fault blocks at name)
+
+-- a fault of an item with the ordinal of the item
+abbrev pub numbered : ℕ → ReadFault → ℕ × SourceFault
+numbered at fault = (fault.ordinal, local_fault at fault)
+
+-- the faults of the items, each with the ordinal of its item
+abbrev pub numbered_faults : List Reading → ℕ → List ReadFault → List ReadItem → List (ℕ × SourceFault)
+numbered_faults blocks at faults [] = map (numbered at) faults
+numbered_faults blocks at faults (item ∷ items) =
+    map (numbered at) (faults_before item.ordinal faults)
+    ++ (map (λ fault. (item.ordinal, fault)) (fault_of_item blocks at item.line (used_name item.said)) ++ numbered_faults blocks at (faults_from item.ordinal faults) items)
+
+-- numbers from a least one on, none below the one before it
+abbrev pub Climbs : ℕ → List ℕ → Type 0
+Climbs least [] = Unit {0}
+Climbs least (n ∷ ns) = (least ≤ n) × Climbs n ns
+
+-- the faults of the items stand in the order of their items, where reading gives items and faults in their order
+pub record ItemFaultsAreInOrder : Type 0 where
+  pub same : (blocks : List Reading) (at : ℕ) (faults : List ReadFault) (items : List ReadItem) → map (λ (f : ℕ × SourceFault). f.1) (numbered_faults blocks at faults items) ≡ item_faults blocks at faults items
+  pub climbs : (blocks : List Reading) (at : ℕ) (faults : List ReadFault) (items : List ReadItem)
+      → Climbs 0 (map (λ (f : ReadFault). f.ordinal) faults) → Climbs 0 (map (λ (i : ReadItem). i.ordinal) items)
+      → Climbs 0 (map (λ (f : ℕ × SourceFault). f.0) (numbered_faults blocks at faults items))

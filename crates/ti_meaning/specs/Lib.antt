@@ -1,0 +1,16 @@
+pub mod Owner
+pub mod Expansion
+pub mod Reaching
+pub mod Compiled
+pub mod Faults
+pub mod Report
+pub mod Edits
+pub mod ValueTables
+pub mod Laws
+pub mod Usable
+pub mod Bounds
+pub mod Exchange
+pub mod Dependents
+pub mod KeptBlocks
+pub mod UseLaws
+pub mod ItemLaws

@@ -1,0 +1,91 @@
+// What an edit of a source is, and what comes of it.
+ghost use Rattle.std.specs.Prelude.{◌≡◌};
+ghost use Rattle.ti_meaning.specs.declared.edits.EditError.TheVariants.{Memory};
+
+use std::alloc::AllocError;
+use thiserror::Error;
+
+/// An edit of the list of blocks. Positions count from 0.
+#[derive(Clone, Copy)]
+pub enum Edit<'a> {
+    /// Puts a block in, so that it then stands at `at`.
+    Insert {
+        /// A position, or the length of the list.
+        at: usize,
+        /// The text of one block.
+        text: &'a [u8],
+    },
+    /// Exchanges the block at `at`.
+    Replace {
+        /// A position.
+        at: usize,
+        /// The text of one block.
+        text: &'a [u8],
+    },
+    /// Takes the block at `at` out.
+    Remove {
+        /// A position.
+        at: usize,
+    },
+    /// Moves the block at `from`, so that it then stands at `to`.
+    Relocate {
+        /// A position.
+        from: usize,
+        /// A position.
+        to: usize,
+    },
+}
+
+/// Why an edit is refused: the first of these that holds.
+#[derive(Clone, Copy, PartialEq, Eq, Debug, Error)]
+pub enum EditError {
+    /// A position is not one of the list, nor for an insertion its end.
+    #[error("no such position")]
+    Position,
+    /// The text has more than 1,048,576 bytes.
+    #[error("the block is too long")]
+    TooLong,
+    /// The text is not one block that ends with a newline.
+    #[error("the text is not one block")]
+    NotOneBlock,
+    /// The list holds 65,535 blocks, and an insertion brings one more.
+    #[error("too many blocks")]
+    TooMany,
+    /// Memory was refused.
+    #[error("out of memory")]
+    Memory,
+}
+
+impl From<AllocError> for EditError {
+    ghost from_gives = { λ _ e. e ≡ Memory };
+
+    fn from(_: AllocError) -> EditError {
+        EditError::Memory
+    }
+}
+
+/// What an accepted edit tells.
+#[derive(Clone, Copy, PartialEq, Eq, Debug)]
+pub struct Edited {}
+
+/// What came of one edit of several.
+#[derive(Clone, Copy, PartialEq, Eq, Debug)]
+pub enum Outcome {
+    /// The edit was made.
+    Accepted,
+    /// It was not, and the list is as before.
+    Refused(EditError),
+}
+
+impl From<Result<Edited, EditError>> for Outcome {
+    ghost use Rattle.ti_meaning.specs.Edits.{outcome_of};
+
+    ghost from_gives = { λ answer outcome. outcome ≡ outcome_of answer };
+
+    fn from(answer: Result<Edited, EditError>) -> Outcome {
+        match answer {
+            Ok(_) => Outcome::Accepted,
+            Err(error) => Outcome::Refused(error),
+        }
+    }
+}

@@ -1,0 +1,36 @@
+// Laws of the definitions that the calls of this crate stand on. They compute nothing.
+ghost use Rattle.ti_meaning.specs.Laws.{ItemFaultsAreInOrder, ExpansionsAreFound, ExpansionsStay, OwnersAreFirst, UseFaultsAreTold, WaysAreFound};
+
+/// A name belongs to the first block that has it.
+pub fn owners_are_first()
+    ensures { OwnersAreFirst }
+{}
+
+/// An expansion is the same at each greater depth; so a block says one thing at most.
+pub fn expansions_stay()
+    ensures { ExpansionsStay }
+{}
+
+/// A block resolves exactly where some depth of expansion suffices, and then one depth for each
+/// block of the source does.
+pub fn expansions_are_found()
+    ensures { ExpansionsAreFound }
+{}
+
+/// A way of used names leads from a name to a block exactly where one does that comes to no block
+/// twice.
+pub fn ways_are_found()
+    ensures { WaysAreFound }
+{}
+
+/// The fault of a use is the first that holds of: nobody owns the name, its owner leads back to the
+/// block, the owner does not resolve.
+pub fn use_faults_are_told()
+    ensures { UseFaultsAreTold }
+{}
+
+/// The faults of a block's items stand in the order of their items, those that reading gave and
+/// those of uses.
+pub fn item_faults_are_in_order()
+    ensures { ItemFaultsAreInOrder }
+{}

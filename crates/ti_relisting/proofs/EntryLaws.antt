@@ -1,0 +1,241 @@
+-- Compiled entries of sources can be listed, and are the images of what is listed.
+use Rattle.std.proofs.Common.{◌++◌, map, ◌≡◌, ◌≢◌, ℕ, suc, ◌<◌, ◌≤◌, false, List, [], ◌∷◌, length, Option, Some, None, option_map, slice_get, refl, ap, sym, ◌∙◌, subst, inl, inr, arith}
+use Rattle.std.specs.List.{All}
+use Rattle.std.proofs.lemmas.Bool.{cases_Bool, ltb-false}
+use Rattle.std.proofs.lemmas.Option.{same_Some, none-some, slice_get-map}
+use Rattle.std.proofs.lemmas.List.Elements.{All-nil, All-cons, All-head, All-tail, All-map, All-weaker}
+use Rattle.ti_caps.specs.NameOrder.{EachKindIsInOrder}
+use Rattle.ti_caps.specs.Tables.{Capability, IsCapability}
+use Rattle.ti_source.specs.Blocks.{OneBlock}
+use Rattle.ti_source.specs.Reading.{Reading}
+use Rattle.ti_source.specs.Parsing.{parsed, HasReading}
+use Rattle.ti_source.specs.Sound.{EachIsWellRead}
+use Rattle.ti_spelling.specs.Spelling.{AreBytes}
+use Rattle.ti_spelling.specs.inside.Spelling.{UnescapedAgrees, ValuesAreSound}
+use Rattle.ti_compiled.specs.Values.{Contents}
+use Rattle.ti_compiled.specs.Image.{image, limit_of}
+use Rattle.ti_compiled.specs.Reading.{Reads, OneReading}
+use Rattle.ti_compiled.specs.Laws.{uncancelled, ImagesAreRead, ImagesAreOfValues, LimitsAreOfValues}
+use Rattle.ti_meaning.specs.Owner.{owned, readings}
+use Rattle.ti_meaning.specs.Expansion.{Mention, said, values, is_broken, expansion}
+use Rattle.ti_meaning.specs.Compiled.{image_of, is_too_large, entry_of, entry, compiled}
+use Rattle.ti_list.specs.Items.{no_more, CanBeListed, IsListable}
+use Rattle.ti_list.specs.declared.layout.Layout.{Layout}
+use Rattle.ti_list.specs.Relative.{Shown, differing, use_lines, relative, with_others}
+use Rattle.ti_relisting.specs.Shown.{CanHave, IsWithinLimit, CanBeShown, CanBeUsed}
+use Rattle.ti_relisting.specs.Entries.{IsEntry, IsUsedEntry}
+use Rattle.ti_relisting.specs.Laws.{PartsAreBlocks, ListingsCompile, RelativesCompile, ShownEntry, listings, Relisting, Relistings, RelativeSource}
+use Rattle.ti_relisting.proofs.TextBytes.{parsed-bytes}
+use Rattle.ti_relisting.proofs.Fitting.{MentionFits, ItemFits, items-fit, unbroken-expand, follows, expand-fits, owned-has, said-has, uncancelled-has, agrees-has}
+use Rattle.ti_relisting.proofs.Heading.{block-listable, first-lookup}
+use Rattle.ti_relisting.proofs.Compiling.{uncancelled-twice}
+use Rattle.ti_relisting.proofs.Relating.{All-at, uses-can, differing-can}
+use Rattle.ti_relisting.proofs.Laying.{listed-all, uses-tail, all-can}
+use Rattle.ti_relisting.proofs.Orders.{all_in}
+use Rattle.ti_relisting.proofs.Standing.{single-cut}
+use Rattle.ti_relisting.specs.Laid.{uses_of}
+use Rattle.ti_list.specs.Listing.{items_for, listing}
+
+-- the laws of the layers below
+pub record AreKnown : Type 0 where
+  pub agrees : UnescapedAgrees
+  pub sound : ValuesAreSound
+  pub computed : HasReading
+  pub well_read : EachIsWellRead
+  pub read : ImagesAreRead
+  pub one : OneReading
+  pub images : ImagesAreOfValues
+  pub limits : LimitsAreOfValues
+  pub ordered : EachKindIsInOrder
+
+-- ---- the blocks
+
+-- a text of a source
+abbrev IsText : List ℕ → Type 0
+IsText text = OneBlock text × AreBytes text
+
+texts-both : (texts : List (List ℕ)) → All OneBlock texts → All AreBytes texts → All IsText texts
+texts-both [] blocks are = All-nil IsText
+texts-both (t ∷ texts) blocks are =
+    All-cons IsText t texts (All-head OneBlock t texts blocks, All-head AreBytes t texts are) (texts-both texts (All-tail OneBlock t texts blocks) (All-tail AreBytes t texts are))
+
+-- what a block says fits
+abbrev BlockFits : Reading → Type 0
+BlockFits block = All ItemFits block.items
+
+text-fits : AreKnown → (text : List ℕ) → IsText text → BlockFits (parsed text)
+text-fits known text is = items-fit (parsed text).items (known.well_read text is.0).sets (parsed-bytes known.agrees known.sound known.computed text is.1)
+
+blocks-fit : AreKnown → (texts : List (List ℕ)) → All IsText texts → All BlockFits (readings texts)
+blocks-fit known texts are = All-map BlockFits parsed texts (All-weaker IsText (λ text. BlockFits (parsed text)) (text-fits known) texts are)
+
+-- the text at a place
+record IsParsedFrom (texts : List (List ℕ)) (at : ℕ) (block : Reading) : Type 0 where
+  pub text : List ℕ
+  pub stands : slice_get texts at ≡ Some text
+  pub is : parsed text ≡ block
+
+mapped : (o : Option (List ℕ)) (block : Reading) → option_map parsed o ≡ Some block → (text : List ℕ) × (o ≡ Some text) × (parsed text ≡ block)
+mapped None block e = absurd (none-some block e)
+mapped (Some text) block e = (text, refl, same_Some (parsed text) block e)
+
+parsed-from : (texts : List (List ℕ)) (at : ℕ) (block : Reading) → slice_get (readings texts) at ≡ Some block → IsParsedFrom texts at block
+parsed-from texts at block e =
+    let found = mapped (slice_get texts at) block (sym (slice_get-map parsed texts at) ∙ e) in
+    record { text = found.0; stands = found.1; is = found.2 }
+
+-- ---- the entry of a block
+
+-- a block of a source, what it says, and its image, which is within the limit
+record HasImage (bytes : List ℕ) : Type 0 where
+  pub field : List ℕ
+  pub names : List (List ℕ)
+  pub mentions : List Mention
+  pub listable : IsListable field names
+  pub some : field ≢ []
+  pub no_nul : All (λ byte. byte ≢ 0) field
+  pub fit : All MentionFits mentions
+  pub is : image field (values mentions) ≡ bytes
+  pub within : length (image field (values mentions)) ≤ limit_of (values mentions)
+
+-- an entry is of mentions whose image is within the limit
+record IsImage (block : Reading) (ms : List Mention) (bytes : List ℕ) : Type 0 where
+  pub is : image_of block ms ≡ bytes
+  pub within : length (image_of block ms) ≤ limit_of (values ms)
+
+entry-image : (block : Reading) (ms : List Mention) (bytes : List ℕ) → entry_of block ms ≡ Some bytes → IsImage block ms bytes
+entry-image block ms bytes e =
+    elim (cases_Bool (is_too_large block ms)) [
+      | inl t ↦ absurd (none-some bytes (rw t at e))
+      | inr f ↦ record { is = same_Some (image_of block ms) bytes (rw f at e); within = ltb-false (limit_of (values ms)) (length (image_of block ms)) f }
+    ]
+
+has-image : AreKnown → (texts : List (List ℕ)) (at : ℕ) (bytes : List ℕ) → All IsText texts → compiled texts at ≡ Some bytes → HasImage bytes
+has-image known texts at bytes are is =
+    let blocks = readings texts in
+    let found = follows (entry blocks) (slice_get blocks at) bytes is in
+    let block = found.from in
+    let expands = follows (entry_of block) (expansion blocks block) bytes found.gives in
+    let ms = expands.from in
+    let of_text = parsed-from texts at block found.is in
+    let text = All-at IsText texts at of_text.text are of_text.stands in
+    let sound : is_broken block ≡ false = unbroken-expand (owned blocks) (length blocks) block ms expands.is in
+    let fits : All BlockFits blocks = blocks-fit known texts are in
+    let named = (known.well_read of_text.text text.0).named (ap is_broken of_text.is ∙ sound) in
+    let image = entry-image block ms bytes expands.gives in
+    record {
+      field = block.field;
+      names = block.names;
+      mentions = ms;
+      listable = subst (λ b. IsListable b.field b.names) of_text.is (block-listable of_text.text text.0 (known.computed of_text.text) (ap is_broken of_text.is ∙ sound));
+      some = subst (λ (b : Reading). b.field ≢ []) of_text.is named.some;
+      no_nul = subst (λ (b : Reading). All (λ byte. byte ≢ 0) b.field) of_text.is named.no_nul;
+      fit = expand-fits (owned blocks) (λ name b e. owned-has BlockFits blocks name b fits e) (suc (length blocks)) block ms (subst BlockFits of_text.is (text-fits known of_text.text text)) expands.is;
+      is = image.is;
+      within = image.within;
+    }
+
+-- an entry can be shown, and is the image of what is shown
+pub record IsShown (bytes : List ℕ) (shown : Shown) : Type 0 where
+  pub can : CanBeShown shown
+  pub image_is : image shown.field shown.table ≡ bytes
+  pub within : IsWithinLimit shown.field shown.table
+
+some-long : (w : List ℕ) → w ≢ [] → 0 < length w
+some-long [] some = absurd (some refl)
+some-long (x ∷ w) some = omega arith
+
+pub is-shown : AreKnown → (bytes : List ℕ) (shown : Shown) → IsEntry bytes shown → IsShown bytes shown
+is-shown known bytes shown entry =
+    let has = has-image known entry.texts entry.at bytes (texts-both entry.texts entry.blocks entry.of_bytes) entry.is in
+    let ms = has.mentions in
+    let holds : (c : Capability) → CanHave c (values ms c) = λ c. uncancelled-has c (said ms c) (said-has ms c has.fit) in
+    let read = known.read has.field (values ms) (some-long has.field has.some) has.listable.short has.no_nul (λ c is. agrees-has c (values ms c) (holds c)) has.within in
+    let reads : Reads bytes has.field read.0 = subst (λ b. Reads b has.field read.0) has.is read.1 in
+    let same = known.one.0 bytes shown.field has.field shown.table read.0 entry.reads reads in
+    let tells : (c : Capability) → IsCapability c → shown.table c ≡ uncancelled (values ms c) = λ c is. ap (λ (table : Contents). table c) same.1 ∙ read.2 c is in
+    let alike : (c : Capability) → IsCapability c → uncancelled (shown.table c) ≡ uncancelled (values ms c) = λ c is. ap uncancelled (tells c is) ∙ uncancelled-twice (values ms c) in
+    let image_is : image shown.field shown.table ≡ bytes = ap (λ f. image f shown.table) same.0 ∙ known.images has.field shown.table (values ms) alike ∙ has.is in
+    let sizes : length (image shown.field shown.table) ≡ length (image has.field (values ms)) = ap length (image_is ∙ sym has.is) in
+    let limit : limit_of shown.table ≡ limit_of (values ms) = known.limits shown.table (values ms) alike in
+    let is_within = has.within in
+    record {
+      can = record {
+        names = has.names;
+        listable = subst (λ f. IsListable f has.names) (sym same.0) has.listable;
+        holds = λ c is. subst (CanHave c) (sym (tells c is)) (uncancelled-has c (values ms c) (holds c));
+      };
+      image_is = image_is;
+      within = omega (arith, sizes, limit, is_within);
+    }
+
+listing-stands : EachKindIsInOrder → PartsAreBlocks → (shown : Shown) (layout : Layout) → CanBeShown shown → OneBlock (listing shown.field shown.table layout)
+listing-stands ordered stands shown layout can =
+    stands shown.field can.names (items_for shown.table (all_in layout.order) ++ []) (listing shown.field shown.table layout) can.listable
+    (all-can ordered shown.table layout [] can.holds (All-nil CanBeListed)) (listed-all shown.field shown.table layout [] (10 ∷ []) no_more)
+
+-- a listing compiles to its entry wherever it stands
+listing-compiles : AreKnown → ListingsCompile → (bytes : List ℕ) (shown : Shown) (layout : Layout) → IsShown bytes shown
+    → (texts : List (List ℕ)) (at : ℕ) → slice_get texts at ≡ Some (listing shown.field shown.table layout) → compiled texts at ≡ Some bytes
+listing-compiles known compiles bytes shown layout is texts at stands =
+    compiles shown.field is.can.names shown.table layout is.can.listable is.can.holds is.within texts at stands ∙ ap (λ b. Some b) is.image_is
+
+pub relisting : AreKnown → PartsAreBlocks → ListingsCompile → Relisting
+relisting known stands compiles bytes shown layout is_entry =
+    let is = is-shown known bytes shown is_entry in
+    let text = listing shown.field shown.table layout in
+    let one = listing-stands known.ordered stands shown layout is.can in
+    (record { cut = one.cut; single = All-cons OneBlock text [] one (All-nil OneBlock) }, listing-compiles known compiles bytes shown layout is (text ∷ []) 0 refl)
+
+-- ---- several listings
+
+abbrev IsEntryShown : ShownEntry → Type 0
+IsEntryShown entry = IsEntry entry.0 entry.1
+
+all-stand : AreKnown → PartsAreBlocks → (layout : Layout) (entries : List ShownEntry) → All IsEntryShown entries → All OneBlock (listings entries layout)
+all-stand known stands layout [] are = All-nil OneBlock
+all-stand known stands layout (entry ∷ entries) are =
+    let is = is-shown known entry.0 entry.1 (All-head IsEntryShown entry entries are) in
+    All-cons OneBlock (listing entry.1.field entry.1.table layout) (listings entries layout) (listing-stands known.ordered stands entry.1 layout is.can)
+    (all-stand known stands layout entries (All-tail IsEntryShown entry entries are))
+
+pub relistings : AreKnown → PartsAreBlocks → ListingsCompile → Relistings
+relistings known stands compiles entries layout are =
+    let single = all-stand known stands layout entries are in (
+      record { cut = single-cut (listings entries layout) single; single = single },
+      λ i entry at.
+          let is = is-shown known entry.0 entry.1 (All-at IsEntryShown entries i entry are at) in
+          listing-compiles known compiles entry.0 entry.1 layout is (listings entries layout) i
+          (slice_get-map (λ (e : ShownEntry). listing e.1.field e.1.table layout) entries i ∙ ap (option_map (λ (e : ShownEntry). listing e.1.field e.1.table layout)) at),
+    )
+
+-- ---- relative source
+
+used-can : AreKnown → (shown : Shown) → IsUsedEntry shown → CanBeUsed shown
+used-can known shown used =
+    let can = (is-shown known used.bytes shown used.entry).can in
+    record { shown = can; first = record { lookup = first-lookup shown.field can.names can.listable.header; bare = used.bare } }
+
+listings-stand : EachKindIsInOrder → PartsAreBlocks → (layout : Layout) (others : List Shown) → All CanBeUsed others → All OneBlock (map (λ (other : Shown). listing other.field other.table layout) others)
+listings-stand ordered stands layout [] used = All-nil OneBlock
+listings-stand ordered stands layout (other ∷ others) used =
+    All-cons OneBlock (listing other.field other.table layout) (map (λ (other : Shown). listing other.field other.table layout) others)
+    (listing-stands ordered stands other layout (All-head CanBeUsed other others used).shown) (listings-stand ordered stands layout others (All-tail CanBeUsed other others used))
+
+relative-stands : EachKindIsInOrder → PartsAreBlocks → (entry : Shown) (others : List Shown) (layout : Layout) → CanBeShown entry → All CanBeUsed others → All OneBlock (with_others entry others layout)
+relative-stands ordered stands shown others layout can used =
+    let table = differing shown.table others in
+    All-cons OneBlock (relative shown others layout) (map (λ (other : Shown). listing other.field other.table layout) others)
+    (stands shown.field can.names (items_for table (all_in layout.order) ++ uses_of others) (relative shown others layout) can.listable
+    (all-can ordered table layout (uses_of others) (differing-can shown.table others can.holds) (uses-can others used))
+    (listed-all shown.field table layout (uses_of others) (use_lines others (10 ∷ [])) (uses-tail others)))
+    (listings-stand ordered stands layout others used)
+
+pub relative_source : AreKnown → PartsAreBlocks → RelativesCompile → RelativeSource
+relative_source known stands compiles bytes shown others layout is_entry used owns =
+    let is = is-shown known bytes shown is_entry in
+    let can = All-weaker IsUsedEntry CanBeUsed (used-can known) others used in
+    let single = relative-stands known.ordered stands shown others layout is.can can in (
+      record { cut = single-cut (with_others shown others layout) single; single = single },
+      compiles shown others layout is.can can owns is.within ∙ ap (λ b. Some b) is.image_is,
+    )

@@ -1,0 +1,17 @@
+pub mod Bytes
+pub mod Cutting
+pub mod Unfolding
+pub mod Words
+pub mod Stating
+pub mod ReadBack
+pub mod Orders
+pub mod Laying
+pub mod Compiling
+pub mod Relating
+pub mod TextBytes
+pub mod Fitting
+pub mod Heading
+pub mod Standing
+pub mod Sources
+pub mod EntryLaws
+pub mod Examples

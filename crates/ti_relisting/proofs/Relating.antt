@@ -1,0 +1,149 @@
+-- The relative source of an entry compiles to the image of the entry.
+use Rattle.std.proofs.Common.{◌≡◌, ℕ, zero, suc, true, false, List, [], ◌∷◌, ◌++◌, map, length, cond, Option, Some, None, option_map, option_and_then, slice_get, refl, ap, sym, ◌∙◌, subst, inl, inr}
+use Rattle.std.specs.List.{All}
+use Rattle.std.specs.Option.{option_or}
+use Rattle.std.specs.Str.{bytes_eq}
+use Rattle.std.proofs.lemmas.Bool.{cases_Bool, eqb-true}
+use Rattle.std.proofs.lemmas.Option.{slice_get-map, same_Some, none-some}
+use Rattle.std.proofs.lemmas.Slice.Eq.{bytes_eq-Decides}
+use Rattle.std.proofs.lemmas.List.Elements.{All-nil, All-cons, All-head, All-tail}
+use Rattle.ti_caps.specs.NameOrder.{EachKindIsInOrder}
+use Rattle.ti_caps.specs.Tables.{Capability, IsCapability}
+use Rattle.ti_source.specs.Reading.{said_import, Reading}
+use Rattle.ti_source.specs.Parsing.{parsed}
+use Rattle.ti_compiled.specs.Values.{Content, content_true, content_number, content_text, content_cancelled, Contents}
+use Rattle.ti_compiled.specs.Laws.{uncancelled, ImagesAreOfValues, LimitsAreOfValues}
+use Rattle.ti_meaning.specs.Owner.{is_among, owner, owned, readings}
+use Rattle.ti_meaning.specs.Expansion.{Mention, said, expand, expansion}
+use Rattle.ti_list.specs.declared.layout.Layout.{Layout}
+use Rattle.ti_list.specs.Items.{CanBeListed, IsReadAs}
+use Rattle.ti_list.specs.Listing.{listing}
+use Rattle.ti_list.specs.Relative.{Shown, first_name, same_content, first_of, difference, differing, use_lines, relative, with_others}
+use Rattle.ti_list.specs.Listing.{items_for}
+use Rattle.ti_relisting.specs.Laid.{uses_of}
+use Rattle.ti_relisting.specs.Shown.{CanHave, CanHaveAll, CanBeUsed}
+use Rattle.ti_relisting.specs.Laws.{PartsAreRead, RelativesCompile}
+use Rattle.ti_relisting.proofs.Orders.{all_in}
+use Rattle.ti_relisting.proofs.Laying.{listed-all, uses-tail, all-can, mentions_for, expand_says, before}
+use Rattle.ti_relisting.proofs.Compiling.{used_at, own-at, entry-is, listing-expands, all-tell}
+
+-- ---- what the entry and the others say together is what the entry says
+
+same_text-true : (t u : List ℕ) → bytes_eq t u ≡ true → t ≡ u
+same_text-true t u e = (bytes_eq-Decides t u).0 e
+
+same_content-true : (x y : Content) → same_content x y ≡ true → x ≡ y
+same_content-true content_true content_true e = refl
+same_content-true content_true (content_number n) e = cc
+same_content-true content_true (content_text u) e = cc
+same_content-true content_true content_cancelled e = cc
+same_content-true (content_number m) content_true e = cc
+same_content-true (content_number m) (content_number n) e = ap content_number (eqb-true m n e)
+same_content-true (content_number m) (content_text u) e = cc
+same_content-true (content_number m) content_cancelled e = cc
+same_content-true (content_text t) content_true e = cc
+same_content-true (content_text t) (content_number n) e = cc
+same_content-true (content_text t) (content_text u) e = ap content_text (same_text-true t u e)
+same_content-true (content_text t) content_cancelled e = cc
+same_content-true content_cancelled content_true e = cc
+same_content-true content_cancelled (content_number n) e = cc
+same_content-true content_cancelled (content_text u) e = cc
+same_content-true content_cancelled content_cancelled e = refl
+
+restores : (own theirs : Option Content) → uncancelled (option_or (difference own theirs) theirs) ≡ uncancelled own
+restores None None = refl
+restores None (Some x) = refl
+restores (Some h) None = refl
+restores (Some h) (Some x) =
+    elim (cases_Bool (same_content h x)) [
+      | inl t ↦ rw t (ap (λ y. uncancelled (Some y)) (sym (same_content-true h x t)))
+      | inr f ↦ rw f refl
+    ]
+
+difference-can : (c : Capability) (own theirs : Option Content) → CanHave c own → CanHave c (difference own theirs)
+difference-can c None None has = tt
+difference-can c None (Some x) has = tt
+difference-can c (Some h) None has = has
+difference-can c (Some h) (Some x) has = elim (same_content h x) as (λ b. CanHave c (cond b None (Some h))) [ true ↦ tt | false ↦ has ]
+
+pub differing-can : (table : Contents) (others : List Shown) → CanHaveAll table → CanHaveAll (differing table others)
+differing-can table others holds c is = difference-can c (table c) (first_of others c) (holds c is)
+
+-- ---- the uses
+
+pub uses-can : (others : List Shown) → All CanBeUsed others → All CanBeListed (uses_of others)
+uses-can [] can = All-nil CanBeListed
+uses-can (other ∷ others) can =
+    let first = (All-head CanBeUsed other others can).first in
+    All-cons CanBeListed (said_import (first_name other.field)) (uses_of others) (first.lookup, first.bare) (uses-can others (All-tail CanBeUsed other others can))
+
+-- the mentions of the others, in turn
+abbrev pub used_mentions : Layout → List Shown → List Mention
+used_mentions layout [] = []
+used_mentions layout (other ∷ others) = mentions_for other.table (all_in layout.order) ++ used_mentions layout others
+
+uses-expand : (of_name : List ℕ → Option (List Mention)) (layout : Layout) (others : List Shown)
+    → ((i : ℕ) (other : Shown) → slice_get others i ≡ Some other → of_name (first_name other.field) ≡ Some (mentions_for other.table (all_in layout.order)))
+    → expand_says of_name (uses_of others) ≡ Some (used_mentions layout others)
+uses-expand of_name layout [] h = refl
+uses-expand of_name layout (other ∷ others) h =
+    let later = uses-expand of_name layout others (λ i o e. h (suc i) o e) in
+    let first = h 0 other refl in
+    rw (first, later) refl
+
+used-tell : EachKindIsInOrder → (layout : Layout) (others : List Shown) (c : Capability) → IsCapability c → said (used_mentions layout others) c ≡ first_of others c
+used-tell ordered layout [] c is = refl
+used-tell ordered layout (other ∷ others) c is = all-tell ordered other.table layout (used_mentions layout others) c is ∙ ap (option_or (other.table c)) (used-tell ordered layout others c is)
+
+-- ---- the owners
+
+owned-some : (b : Reading) (bs : List Reading) (name : List ℕ) (o : Option ℕ) (i : ℕ) → owner bs name ≡ o → ((j : ℕ) → owner bs name ≡ Some j → owned bs name ≡ slice_get bs j)
+    → option_map (λ at. suc at) o ≡ Some i → owned bs name ≡ slice_get (b ∷ bs) i
+owned-some b bs name None i is later e = absurd (none-some i e)
+owned-some b bs name (Some j) i is later e =
+    let P : ℕ → Type 0 = λ at. owned bs name ≡ slice_get (b ∷ bs) at in
+    subst P (same_Some (suc j) i e) (later j is)
+
+pub owned-at : (bs : List Reading) (name : List ℕ) (i : ℕ) → owner bs name ≡ Some i → owned bs name ≡ slice_get bs i
+owned-at [] name i e = absurd (none-some i e)
+owned-at (b ∷ bs) name i e =
+    elim (cases_Bool (is_among name b.names)) [
+      | inl t ↦
+          let P : ℕ → Type 0 = λ at. Some b ≡ slice_get (b ∷ bs) at in
+          rw t (subst P (same_Some 0 i (rw t at e)) refl)
+      | inr f ↦ rw f (owned-some b bs name (owner bs name) i refl (λ j is. owned-at bs name j is) (rw f at e))
+    ]
+
+at-place : {X Y : Type 0} (f : X → Y) (xs : List X) (i : ℕ) (x : X) → slice_get xs i ≡ Some x → slice_get (map f xs) i ≡ Some (f x)
+at-place f xs i x e = slice_get-map f xs i ∙ ap (option_map f) e
+
+pub All-at : {X : Type 0} (P : X → Type 0) (xs : List X) (i : ℕ) (x : X) → All P xs → slice_get xs i ≡ Some x → P x
+All-at P [] i x all e = absurd (none-some x e)
+All-at P (y ∷ xs) zero x all e = subst P (same_Some y x e) (All-head P y xs all)
+All-at P (y ∷ xs) (suc i) x all e = All-at P xs i x (All-tail P y xs all) e
+
+pub relatives_compile : EachKindIsInOrder → PartsAreRead → ImagesAreOfValues → LimitsAreOfValues → RelativesCompile
+relatives_compile ordered read images limits e others layout shown used owns within =
+    let text = relative e others layout in
+    let blocks = readings (with_others e others layout) in
+    let block = parsed text in
+    let table = differing e.table others in
+    let has : CanHaveAll table = differing-can e.table others shown.holds in
+    let own = items_for table (all_in layout.order) in
+    let is : IsReadAs e.field shown.names (own ++ uses_of others) block =
+    read e.field shown.names (own ++ uses_of others) text shown.listable
+    (all-can ordered table layout (uses_of others) has (uses-can others used)) (listed-all e.field table layout (uses_of others) (use_lines others (10 ∷ [])) (uses-tail others)) in
+    let list_other : Shown → List ℕ = λ other. listing other.field other.table layout in
+    let expands : (i : ℕ) (other : Shown) → slice_get others i ≡ Some other → used_at (owned blocks) (length blocks) (first_name other.field) ≡ Some (mentions_for other.table (all_in layout.order)) =
+    λ i other at.
+    let other_shown = (All-at CanBeUsed others i other used at).shown in
+    let stands : slice_get blocks (suc i) ≡ Some (parsed (list_other other)) = at-place parsed (map list_other others) i (list_other other) (at-place list_other others i other at) in
+    ap (option_and_then (expand (owned blocks) (length blocks))) (owned-at blocks (first_name other.field) (suc i) (owns i other at) ∙ stands)
+    ∙ listing-expands ordered read (owned blocks) (length (map parsed (map list_other others))) other.field other_shown.names other.table layout other_shown.listable other_shown.holds in
+    let ms = mentions_for table (all_in layout.order) ++ used_mentions layout others in
+    let expanded : expansion blocks block ≡ Some ms =
+    own-at (owned blocks) (length blocks) block table (all_in layout.order) (uses_of others) is.none_wrong is.says
+    ∙ ap (before (mentions_for table (all_in layout.order))) (uses-expand (used_at (owned blocks) (length blocks)) layout others expands) in
+    let tells : (c : Capability) → IsCapability c → uncancelled (said ms c) ≡ uncancelled (e.table c) =
+    λ c cap. ap uncancelled (all-tell ordered table layout (used_mentions layout others) c cap ∙ ap (option_or (table c)) (used-tell ordered layout others c cap)) ∙ restores (e.table c) (first_of others c) in
+    entry-is images limits blocks block e.field e.table ms expanded is.same_field tells within

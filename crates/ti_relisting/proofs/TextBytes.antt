@@ -1,0 +1,135 @@
+-- Of a block of bytes each text that is read is of bytes.
+use Rattle.std.proofs.Common.{ℕ, ◌+◌, ◌<◌, Bool, true, false, ◌==◌, ◌||◌, ◌&&◌, List, [], ◌∷◌, ◌++◌, cond, Option, Some, None}
+use Rattle.std.specs.List.{All, AllByRecursion}
+use Rattle.std.proofs.lemmas.List.Elements.{All-from_recursion, recursion_from_All, All-nil, All-cons}
+use Rattle.ti_source.specs.WhiteSpace.{is_white_space}
+use Rattle.ti_source.specs.Folding.{Placed, in_comment, folded}
+use Rattle.ti_source.specs.Items.{bytes, Begins, all_field, field_and_rest, AreItems, last_item, item_ends, pair_of_bytes, single_byte, without_front, piece_of, Claim, claims_flag, claims_number, claims_text, claims_cancel, Statement, States, empty_item, disabled_item, number_item, text_item, cancel_item, flag_item}
+use Rattle.ti_source.specs.Reading.{Said, said_flag, said_number, said_text, said_cancel, said_import, ReadItem, ReadFault}
+use Rattle.ti_source.specs.Parsing.{Verdict, accepted, accepted_odd, refused, Judges, judged_import, judged_unknown, judged_wrong_kind, judged_flag, judged_cancel, judged_number, judged_bad_number, judged_large_number, judged_text, judged_odd_text, judged_bad_text, items_by, ReadsItems, reads_nothing, reads_ignored, reads_judged, parsed, HasReading}
+use Rattle.ti_spelling.specs.Spelling.{AreBytes}
+use Rattle.ti_spelling.specs.inside.Spelling.{UnescapedAgrees, ValuesAreSound}
+use Rattle.ti_relisting.proofs.Bytes.{uncommented, unbroken, bytes-folded}
+
+abbrev pub OfBytes : List ℕ → Type 0
+OfBytes s = AllByRecursion (λ b. b < 256) s
+
+-- the same of bytes that stand on lines
+abbrev ArePlacedBytes : List Placed → Type 0
+ArePlacedBytes s = OfBytes (bytes s)
+
+uncommented-bytes : (comment : Bool) (before : ℕ) (s : List ℕ) → OfBytes s → OfBytes (uncommented comment before s)
+uncommented-bytes comment before [] h = tt
+uncommented-bytes comment before (x ∷ xs) h =
+    elim (in_comment comment before x) as (λ b. OfBytes (cond b (uncommented true x xs) (x ∷ uncommented false x xs))) [
+      | true ↦ uncommented-bytes true x xs h.1
+      | false ↦ (h.0, uncommented-bytes false x xs h.1)
+    ]
+
+unbroken-bytes : (joining : Bool) (s : List ℕ) → OfBytes s → OfBytes (unbroken joining s)
+unbroken-bytes joining [] h = tt
+unbroken-bytes joining (x ∷ xs) h =
+    elim (x == 10 || (joining && is_white_space x)) as (λ b. OfBytes (cond b (unbroken true xs) (x ∷ unbroken false xs))) [
+      | true ↦ unbroken-bytes true xs h.1
+      | false ↦ (h.0, unbroken-bytes false xs h.1)
+    ]
+
+folded-bytes : (block : List ℕ) → AreBytes block → ArePlacedBytes (folded block)
+folded-bytes block h =
+    rw (bytes-folded block) (unbroken-bytes false (uncommented false 10 block) (uncommented-bytes false 10 block (recursion_from_All (λ b. b < 256) block h)))
+
+pub behind-bytes : (s t : List ℕ) → OfBytes (s ++ t) → OfBytes t
+behind-bytes [] t h = h
+behind-bytes (x ∷ s) t h = behind-bytes s t h.1
+
+behind-placed : (s t : List Placed) → ArePlacedBytes (s ++ t) → ArePlacedBytes t
+behind-placed [] t h = h
+behind-placed (x ∷ s) t h = behind-placed s t h.1
+
+rest-bytes : (s field rest : List Placed) → Begins s field rest → ArePlacedBytes s → ArePlacedBytes rest
+rest-bytes _ _ _ (all_field field none) h = tt
+rest-bytes _ _ _ (field_and_rest field rest line none) h = (behind-placed field ((44, line) ∷ rest) h).1
+
+items-bytes : (before : ℕ) (text : List Placed) (items : List (List Placed)) → AreItems before text items → ArePlacedBytes text → AllByRecursion ArePlacedBytes items
+items-bytes _ _ _ (last_item before) h = (tt, tt)
+items-bytes _ _ _ (item_ends before line text items are) h = (tt, items-bytes 44 text items are h.1)
+items-bytes _ _ _ (pair_of_bytes before x y text item items t are) h =
+    let later = items-bytes y.0 text (item ∷ items) are h.1.1 in
+    ((h.0, (h.1.0, later.0)), later.1)
+items-bytes _ _ _ (single_byte before x text item items no_comma alone are) h =
+    let later = items-bytes x.0 text (item ∷ items) are h.1 in
+    ((h.0, later.0), later.1)
+
+front-bytes : (item : List Placed) → ArePlacedBytes item → ArePlacedBytes (without_front item)
+front-bytes [] h = tt
+front-bytes (x ∷ xs) h = elim (is_white_space x.0) as (λ b. ArePlacedBytes (cond b (without_front xs) (x ∷ xs))) [ true ↦ front-bytes xs h.1 | false ↦ h ]
+
+-- ---- what an item states, and what comes of it
+
+abbrev ClaimBytes : Claim → Type 0
+ClaimBytes claims_flag = Unit {0}
+ClaimBytes (claims_number value) = Unit {0}
+ClaimBytes (claims_text value) = OfBytes value
+ClaimBytes claims_cancel = Unit {0}
+
+abbrev StatementBytes : Option Statement → Type 0
+StatementBytes None = Unit {0}
+StatementBytes (Some s) = ClaimBytes s.claim
+
+states-bytes : (text : List ℕ) (o : Option Statement) → States text o → OfBytes text → StatementBytes o
+states-bytes _ _ empty_item h = tt
+states-bytes _ _ (disabled_item text) h = tt
+states-bytes _ _ (number_item name value none on) h = tt
+states-bytes _ _ (text_item name value none on) h = (behind-bytes name (61 ∷ value) h).1
+states-bytes _ _ (cancel_item name end none white on) h = tt
+states-bytes _ _ (flag_item name end none white on visible last) h = tt
+
+-- a text that an item says is of bytes
+abbrev pub SaysBytes : Said → Type 0
+SaysBytes (said_flag c) = Unit {0}
+SaysBytes (said_number c n) = Unit {0}
+SaysBytes (said_text c t) = AreBytes t
+SaysBytes (said_cancel c) = Unit {0}
+SaysBytes (said_import name) = Unit {0}
+
+abbrev VerdictBytes : Verdict → Type 0
+VerdictBytes (accepted said) = SaysBytes said
+VerdictBytes (accepted_odd said) = SaysBytes said
+VerdictBytes (refused code) = Unit {0}
+
+judges-bytes : UnescapedAgrees → ValuesAreSound → (name : List ℕ) (claim : Claim) (v : Verdict) → Judges name claim v → ClaimBytes claim → VerdictBytes v
+judges-bytes agrees sound _ _ _ (judged_import name value t) h = tt
+judges-bytes agrees sound _ _ _ (judged_unknown name claim f e) h = tt
+judges-bytes agrees sound _ _ _ (judged_wrong_kind name claim c f e misfits) h = tt
+judges-bytes agrees sound _ _ _ (judged_flag name c e is) h = tt
+judges-bytes agrees sound _ _ _ (judged_cancel name c e) h = tt
+judges-bytes agrees sound _ _ _ (judged_number name text c n e is numeral small) h = tt
+judges-bytes agrees sound _ _ _ (judged_bad_number name text c e is none) h = tt
+judges-bytes agrees sound _ _ _ (judged_large_number name text c n e is numeral large) h = tt
+judges-bytes agrees sound _ _ _ (judged_text name value text c f e is spells) h =
+    (sound value text false (((agrees value).spelled text false).0 spells)).bytes (All-from_recursion (λ b. b < 256) value h)
+judges-bytes agrees sound _ _ _ (judged_odd_text name value text c f e is spells) h =
+    (sound value text true (((agrees value).spelled text true).0 spells)).bytes (All-from_recursion (λ b. b < 256) value h)
+judges-bytes agrees sound _ _ _ (judged_bad_text name value c cause f e is fails) h = tt
+
+abbrev pub ItemSaysBytes : ReadItem → Type 0
+ItemSaysBytes item = SaysBytes item.said
+
+verdict-items : (ordinal line : ℕ) (v : Verdict) (found : List ReadItem) → VerdictBytes v → All ItemSaysBytes found → All ItemSaysBytes (items_by ordinal line v ++ found)
+verdict-items ordinal line (accepted said) found h later = All-cons ItemSaysBytes (record { ordinal = ordinal; line = line; said = said }) found h later
+verdict-items ordinal line (accepted_odd said) found h later = All-cons ItemSaysBytes (record { ordinal = ordinal; line = line; said = said }) found h later
+verdict-items ordinal line (refused code) found h later = later
+
+reads-bytes : UnescapedAgrees → ValuesAreSound → (ordinal : ℕ) (items : List (List Placed)) (found : List ReadItem) (faults : List ReadFault) → ReadsItems ordinal items found faults
+    → AllByRecursion ArePlacedBytes items → All ItemSaysBytes found
+reads-bytes agrees sound _ _ _ _ (reads_nothing ordinal) h = All-nil ItemSaysBytes
+reads-bytes agrees sound _ _ _ _ (reads_ignored ordinal item items found faults states later) h = reads-bytes agrees sound (ordinal + 1) items found faults later h.1
+reads-bytes agrees sound _ _ _ _ (reads_judged ordinal item items found faults s v states judges later) h =
+    let claim = states-bytes (piece_of item).text (Some s) states (front-bytes item h.0) in
+    verdict-items ordinal (piece_of item).line v found (judges-bytes agrees sound s.name s.claim v judges claim) (reads-bytes agrees sound (ordinal + 1) items found faults later h.1)
+
+pub parsed-bytes : UnescapedAgrees → ValuesAreSound → HasReading → (block : List ℕ) → AreBytes block → All ItemSaysBytes (parsed block).items
+parsed-bytes agrees sound computed block h =
+    let has = computed block in
+    reads-bytes agrees sound 0 has.items (parsed block).items has.of_items has.reads_items
+    (items-bytes 44 has.rest has.items has.cut (rest-bytes (folded block) has.field has.rest has.begins (folded-bytes block h)))

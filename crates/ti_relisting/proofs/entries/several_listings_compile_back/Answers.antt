@@ -1,0 +1,17 @@
+use Rattle.ti_relisting.proofs.EntryLaws.{AreKnown, relistings}
+use Rattle.ti_relisting.proofs.entries.several_listings_compile_back.Goals as goal
+
+pub returns : goal.returns
+returns c =
+    let known : AreKnown = record {
+      agrees = c.one_outcome.ensures.computed;
+      sound = c.one_outcome.ensures.values;
+      computed = c.one_reading.ensures.computed;
+      well_read = c.each_is_well_read.ensures;
+      read = c.images_are_read.ensures;
+      one = c.one_reading-2.ensures;
+      images = c.images_are_of_values.ensures.images;
+      limits = c.images_are_of_values.ensures.limits;
+      ordered = c.each_kind_is_in_order.ensures;
+    } in
+    relistings known c.parts_are_blocks.ensures c.listings_compile.ensures

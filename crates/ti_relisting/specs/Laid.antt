@@ -1,0 +1,28 @@
+-- Listings and relative sources are laid out as items, whatever the breaks of their lines.
+use Rattle.std.specs.Prelude.{ℕ, List, [], ◌∷◌, ◌++◌}
+use Rattle.ti_caps.specs.declared.capability.Kind.TheVariants.{Flag, Number, Text}
+use Rattle.ti_source.specs.Reading.{Said, said_import}
+use Rattle.ti_compiled.specs.Values.{Contents}
+use Rattle.ti_list.specs.declared.layout.Layout.{Layout}
+use Rattle.ti_list.specs.Items.{IsListing}
+use Rattle.ti_list.specs.Listing.{kind_items, listing}
+use Rattle.ti_list.specs.Relative.{Shown, first_name, differing, relative}
+
+-- the items of an entry: flags, numbers, texts, each in the order that the layout asks for
+abbrev pub entry_items : Layout → Contents → List Said
+entry_items layout table = kind_items layout table Flag ++ (kind_items layout table Number ++ kind_items layout table Text)
+
+-- a use of each of the others, by its first name
+abbrev pub uses_of : List Shown → List Said
+uses_of [] = []
+uses_of (other ∷ others) = said_import (first_name other.field) ∷ uses_of others
+
+-- a listing is laid out as the items of its entry
+abbrev pub ListingsAreLaidOut : Type 0
+ListingsAreLaidOut = (field : List ℕ) (table : Contents) (layout : Layout) → IsListing field (entry_items layout table) (listing field table layout)
+
+-- a relative source is laid out as the items in which the entry differs from the others, and then the uses
+abbrev pub RelativesAreLaidOut : Type 0
+RelativesAreLaidOut =
+    (entry : Shown) (others : List Shown) (layout : Layout)
+    → IsListing entry.field (entry_items layout (differing entry.table others) ++ uses_of others) (relative entry others layout)

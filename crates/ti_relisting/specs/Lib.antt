@@ -1,0 +1,4 @@
+pub mod Shown
+pub mod Laid
+pub mod Entries
+pub mod Laws

@@ -1,0 +1,20 @@
+//! The laws of compiling what was listed. They compute nothing: each is the contract of a function with no code.
+//!
+//! - `layouts`: listings and relative sources are laid out as items.
+//! - `reading_back`: what is laid out so is one block, and is read as what it lists.
+//! - `relisting`: a listing compiles to what was listed, and a relative source to the entry that it is of.
+//! - `entries`: the same of the compiled entries of any sources, byte for byte.
+#![tactic(auto)]
+
+mod entries;
+mod layouts;
+mod reading_back;
+mod relisting;
+
+pub use entries::{
+    listings_compile_back, relative_sources_compile_back, several_listings_compile_back,
+    sources_have_entries,
+};
+pub use layouts::listings_are_laid_out;
+pub use reading_back::{parts_are_blocks, parts_are_read};
+pub use relisting::{listings_compile, relatives_compile};

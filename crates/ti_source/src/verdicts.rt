@@ -1,0 +1,74 @@
+// What comes of what an item states.
+ghost use Rattle.std.specs.Prelude.{◌≡◌, IfOk};
+ghost use Rattle.ti_source.specs.inside.Items.{statement_in_memory};
+ghost use Rattle.ti_source.specs.inside.Numbers.{number_read};
+ghost use Rattle.ti_source.specs.inside.Verdicts.{verdict_in_memory, verdict_of, number_verdict, text_verdict};
+ghost use Rattle.ti_spelling.specs.inside.Spelling.{unescaped};
+
+use crate::code::Code;
+use crate::items::{Claim, Statement, strip};
+use crate::numbers::{NumberError, read_number};
+use crate::parsing::What;
+use std::alloc::{AllocError, Global};
+use std::rc::RcSlice;
+use ti_caps::{Cap, Kind, find};
+use ti_spelling::{UnescapeError, unescape};
+
+/// What comes of a statement: it is accepted, accepted though an escape in it is odd, or refused by a fault.
+#[derive(Debug, Drop)]
+pub(crate) enum Verdict {
+    Accepted(What),
+    AcceptedOdd(What),
+    Refused(Code),
+}
+
+/// The verdict on a statement: first a name that is not in the tables, then one of another kind, then a value that cannot
+/// be read.
+pub(crate) fn judge(alloc: Global, statement: &Statement<'_>) -> Result<Verdict, AllocError>
+    ensures { IfOk result (λ v. verdict_in_memory v ≡ verdict_of (statement_in_memory statement.now).name (statement_in_memory statement.now).claim) }
+{
+    let name = statement.name;
+    if let Claim::Text(value) = statement.claim
+        && name == b"use".as_slice()
+    {
+        let owner = RcSlice::from_slice(alloc, strip(value))?;
+        return Ok(Verdict::Accepted(What::Import(owner)));
+    }
+    let Some(cap) = find(name) else {
+        return Ok(Verdict::Refused(Code::UnknownCapability));
+    };
+    match (statement.claim, cap.kind()) {
+        (Claim::Flag, Kind::Flag) => Ok(Verdict::Accepted(What::Flag(cap))),
+        (Claim::Number(text), Kind::Number) => Ok(judge_number(cap, text)),
+        (Claim::Text(value), Kind::Text) => judge_text(alloc, cap, value),
+        (Claim::Cancel, _) => Ok(Verdict::Accepted(What::Cancel(cap))),
+        _ => Ok(Verdict::Refused(Code::WrongKind)),
+    }
+}
+
+fn judge_number(cap: Cap, text: &[u8]) -> Verdict
+    ensures { verdict_in_memory result ≡ number_verdict cap (number_read text.now) }
+{
+    match read_number(text) {
+        Ok(number) => Verdict::Accepted(What::Number(cap, number)),
+        Err(NumberError::Bad) => Verdict::Refused(Code::BadNumber),
+        Err(NumberError::TooLarge) => Verdict::Refused(Code::NumberTooLarge),
+    }
+}
+
+fn judge_text(alloc: Global, cap: Cap, value: &[u8]) -> Result<Verdict, AllocError>
+    ensures { IfOk result (λ v. verdict_in_memory v ≡ text_verdict cap (unescaped value.now)) }
+{
+    match unescape(alloc, value) {
+        Ok(found) => {
+            let what = What::Text(cap, RcSlice::from_vec(found.bytes)?);
+            if found.odd {
+                Ok(Verdict::AcceptedOdd(what))
+            } else {
+                Ok(Verdict::Accepted(what))
+            }
+        }
+        Err(UnescapeError::Memory) => Err(AllocError),
+        Err(_) => Ok(Verdict::Refused(Code::BadString)),
+    }
+}
