@@ -5,3 +5,4 @@ pub mod Holding
 pub mod Printing
 pub mod Refusing
 pub mod Rates
+pub mod Parts

@@ -1,6 +1,7 @@
 -- The definitions that the contracts of this crate cite.
 pub mod Arguments
 pub mod Commands
+pub mod Stopping
 pub mod EntryFiles
 pub mod Holding
 pub mod Jobs

@@ -16,6 +16,7 @@
 pub mod arguments;
 pub mod commands;
 pub mod compiling;
+pub mod stopping;
 mod entry_files;
 mod held;
 pub mod jobs;
@@ -27,12 +28,14 @@ mod sources;
 pub use arguments::{UsageError, job};
 pub use commands::command;
 pub use compiling::tic;
+pub use stopping::{message, status};
 pub use jobs::Job;
 pub use listings::{InfocmpMode, InfocmpOptions, infocmp};
 pub use outcome::{TicOptions, TicOutcome};
 pub use ti_devices::{Counted, File, MemTree, Tally, ToolError, Tree, TreeFault, place};
 pub use ti_list::{Layout, Order};
 pub use ti_session::session;
+pub use ti_tput::{TputOutcome, entry, locate, places, tput, tput_lines};
 
 #[cfg(test)]
 mod tests;
