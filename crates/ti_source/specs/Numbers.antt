@@ -26,7 +26,8 @@ value_in base digits = fold (λ value b. value * base + digit_value b) 0 digits
 -- a number as it is written, with its value: `0` and octal digits, `0x` or `0X` and hexadecimal digits, or decimal digits of which the first is not `0`
 pub data IsNumber : List ℕ → ℕ → Type 0 where
   octal : (ds : List ℕ) → All (IsDigit 8) ds → IsNumber (ascii.digit_0 ∷ ds) (value_in 8 ds)
-  hexadecimal : (x d : ℕ) (ds : List ℕ) → (x ≡ byte_of "x") ⊎ (x ≡ byte_of "X") → All (IsDigit 16) (d ∷ ds) → IsNumber (ascii.digit_0 ∷ x ∷ d ∷ ds) (value_in 16 (d ∷ ds))
+  hexadecimal : (x d : ℕ) (ds : List ℕ) → (x ≡ byte_of "x") ⊎ (x ≡ byte_of "X") → All (IsDigit 16) (d ∷ ds)
+      → IsNumber (ascii.digit_0 ∷ x ∷ d ∷ ds) (value_in 16 (d ∷ ds))
   decimal : (d : ℕ) (ds : List ℕ) → d ≢ ascii.digit_0 → All (IsDigit 10) (d ∷ ds) → IsNumber (d ∷ ds) (value_in 10 (d ∷ ds))
 
 -- a number with white space after it

@@ -98,7 +98,7 @@ pub fn each_number_is_read()
 
 /// A text has no other reading.
 pub fn numbers_have_one_reading()
-    ensures { computed.OneReading }
+    ensures { computed.NumbersHaveOneReading }
 {}
 
 #[cfg(test)]

@@ -3,3 +3,4 @@ pub mod Ending
 pub mod Filing
 pub mod Holding
 pub mod Refusing
+pub mod Rates

@@ -6,3 +6,4 @@ pub mod Holding
 pub mod Jobs
 pub mod Sources
 pub mod Tic
+pub mod Infocmp

@@ -1,0 +1,5 @@
+pub mod Lists
+pub mod Labelling
+pub mod Placing
+pub mod Keeping
+pub mod Filtering

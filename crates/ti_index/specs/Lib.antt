@@ -1,0 +1,3 @@
+pub mod Labels
+pub mod Order
+pub mod Listing
