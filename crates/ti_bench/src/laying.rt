@@ -33,12 +33,7 @@ fn set_number(table: &mut Table, index: usize, number: u32) -> Result<(), AllocE
     }
 }
 
-fn set_text(
-    table: &mut Table,
-    alloc: Global,
-    index: usize,
-    text: &[u8],
-) -> Result<(), AllocError> {
+fn set_text(table: &mut Table, alloc: Global, index: usize, text: &[u8]) -> Result<(), AllocError> {
     match Cap::at(Kind::Text, index) {
         Some(cap) if has_no_nul(text) => {
             table.set(cap, Some(Value::Text(RcSlice::from_slice(alloc, text)?)))
