@@ -1,13 +1,12 @@
 -- Lists of the ids that pass a test, in the order of all.
-use Rattle.std.proofs.Common.{◌≡◌, ℕ, zero, suc, ◌+◌, ◌-◌, ◌<◌, ◌≤◌, ◌⊎◌, inl, inr, Bool, true, false, cond, ◌&&◌, ◌||◌, not, List, [], ◌∷◌, ◌++◌, length, filter, insert, remove, take, drop, get_or, nat_eq, Some, slice_get, refl, sym, ◌∙◌, ap, arith, length-append}
+use Rattle.std.proofs.Common.{◌≡◌, ℕ, zero, suc, ◌+◌, ◌<◌, ◌≤◌, inl, inr, Bool, true, false, cond, ◌&&◌, ◌||◌, not, List, [], ◌∷◌, ◌++◌, length, filter, insert, remove, take, drop, get_or, nat_eq, Some, slice_get, refl, sym, ◌∙◌, ap, arith}
 use Rattle.std.proofs.lemmas.Bool.{cases_lt, cases_eq, cases_Bool, false≢true, eqb-true, eq-eqb}
-use Rattle.std.proofs.lemmas.List.{take_at, drop_at}
 use Rattle.std.proofs.lemmas.List.Elements.{filter-append}
-use Rattle.std.proofs.lemmas.Option.{same_Some, none-some, slice_get_within, slice_get-get_or}
+use Rattle.std.proofs.lemmas.Option.{same_Some, none-some}
 use Rattle.ti_index.specs.Labels.{Has, AreKnown, AreLabelled, IsDistinct}
-use Rattle.ti_index.specs.Listing.{AreAmong, ListsBefore, ListsToo, ListsNoMore}
+use Rattle.ti_index.specs.Listing.{ListsBefore, ListsToo, ListsNoMore}
 use Rattle.ti_index.proofs.Placing.{before_told}
-use Rattle.ti_index.proofs.Lists.{get_front, get_back, get_cases, get-take, take_get, get-drop, drop_get}
+use Rattle.ti_index.proofs.Lists.{get_back, take_get, drop_get}
 
 -- ---- the place of an element that passes
 
@@ -81,10 +80,10 @@ counted_above listed list id low high middle x h l m e told = record {
   order = omega arith;
   within = h.within;
   between = λ test place f g.
-    let p = filter_place test listed middle x (ap (λ xs. slice_get xs middle) (sym f) ∙ e) in
-    let first = (told p.0 place p.1 g).0 refl in
-    let less = (p.2 place).0 first in
-    (omega arith, (h.between test place f g).1);
+      let p = filter_place test listed middle x (ap (λ xs. slice_get xs middle) (sym f) ∙ e) in
+      let first = (told p.0 place p.1 g).0 refl in
+      let less = (p.2 place).0 first in
+      (omega arith, (h.between test place f g).1);
 }
 
 pub counted_below : (listed list : List ℕ) (id low high middle x : ℕ) → IsCounted listed list id low high → low ≤ middle → middle < high → slice_get list middle ≡ Some x → IsToldBefore listed x id false → IsCounted listed list id low middle
@@ -92,11 +91,13 @@ counted_below listed list id low high middle x h l m e told = record {
   order = l;
   within = (let w = h.within in omega arith);
   between = λ test place f g.
-    let p = filter_place test listed middle x (ap (λ xs. slice_get xs middle) (sym f) ∙ e) in
-    ((h.between test place f g).0, elim (cases_lt middle (length (filter test (take place listed)))) [
-      | inl less ↦ absurd (false≢true ((told p.0 place p.1 g).1 ((p.2 place).1 less)))
-      | inr more ↦ more
-    ]);
+      let p = filter_place test listed middle x (ap (λ xs. slice_get xs middle) (sym f) ∙ e) in (
+        (h.between test place f g).0,
+        elim (cases_lt middle (length (filter test (take place listed)))) [
+          | inl less ↦ absurd (false≢true ((told p.0 place p.1 g).1 ((p.2 place).1 less)))
+          | inr more ↦ more
+        ],
+      );
 }
 
 pub counted_found : (listed list : List ℕ) (id low high : ℕ) → IsCounted listed list id low high → high ≤ low → ListsBefore listed list id low

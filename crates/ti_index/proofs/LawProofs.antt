@@ -1,5 +1,5 @@
 -- The laws of lists of the ids that pass a test.
-use Rattle.std.proofs.Common.{◌≡◌, ℕ, zero, suc, ◌<◌, inl, inr, List, [], ◌∷◌, Bool, true, false, Some, slice_get, filter, insert, remove, refl, sym, ◌∙◌, ap, arith}
+use Rattle.std.proofs.Common.{◌≡◌, ℕ, zero, suc, ◌<◌, inl, inr, List, [], ◌∷◌, Bool, false, Some, slice_get, filter, insert, remove, refl, sym, ◌∙◌, ap, arith}
 use Rattle.std.proofs.lemmas.Bool.{cases_Bool}
 use Rattle.std.proofs.lemmas.Option.{same_Some, none-some}
 use Rattle.ti_index.specs.Laws.{ListsAreAmong, ListsStay, ListsAgree, IsFirstPassing, FirstsAreFirst}
@@ -62,9 +62,9 @@ none_passing (x ∷ listed) test e p id f =
       | inl t ↦ (let some : x ∷ filter test listed ≡ [] = rw t at e in cc)
       | inr t ↦ fails_on t (rw t at e) (none_passing listed test (rw t at e)) p f
     ] where
-  fails_on : test x ≡ false → filter test listed ≡ [] → ((q y : ℕ) → slice_get listed q ≡ Some y → test y ≡ false) → (q : ℕ) → slice_get (x ∷ listed) q ≡ Some id → test id ≡ false
-  fails_on t g rest zero h = ap test (sym (same_Some x id h)) ∙ t
-  fails_on t g rest (suc q) h = rest q id h
+      fails_on : test x ≡ false → filter test listed ≡ [] → ((q y : ℕ) → slice_get listed q ≡ Some y → test y ≡ false) → (q : ℕ) → slice_get (x ∷ listed) q ≡ Some id → test id ≡ false
+      fails_on t g rest zero h = ap test (sym (same_Some x id h)) ∙ t
+      fails_on t g rest (suc q) h = rest q id h
 
 pub first_lists : FirstsAreFirst
 first_lists = record { some = first_passing; none = none_passing }

@@ -1,5 +1,5 @@
 -- Laws of lists of the ids that pass a test, in the order of all.
-use Rattle.std.specs.Prelude.{ℕ, ◌≡◌, ◌<◌, ◌≤◌, List, [], Bool, true, false, length, Some, slice_get, filter, insert, remove}
+use Rattle.std.specs.Prelude.{ℕ, ◌≡◌, ◌<◌, List, [], Bool, true, false, Some, slice_get, filter, insert, remove}
 use Rattle.ti_index.specs.Listing.{AreAmong}
 
 -- each stands among all

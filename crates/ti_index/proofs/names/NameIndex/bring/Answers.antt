@@ -1,4 +1,4 @@
-use Rattle.std.proofs.Common.{◌≡◌, Some, None, [], length, sym, ◌∙◌, ap, refl, rules, arith}
+use Rattle.std.proofs.Common.{◌≡◌, None, sym}
 use Rattle.ti_index.specs.declared.names.Mentions.{Mentions}
 use Rattle.ti_index.specs.Names.{mentions_at}
 use Rattle.ti_index.proofs.Naming.{brought_key_seen, brought_key_room, none_from_test}
