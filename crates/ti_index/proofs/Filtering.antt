@@ -13,7 +13,7 @@ use Rattle.ti_index.proofs.Lists.{get_front, get_back, get_cases, get-take, take
 
 -- an element that passes stands somewhere in the whole list; it stands before a place there exactly where fewer pass before
 -- it than before that place
-abbrev IsPlaced : (ℕ → Bool) → List ℕ → ℕ → ℕ → Type 0
+abbrev pub IsPlaced : (ℕ → Bool) → List ℕ → ℕ → ℕ → Type 0
 IsPlaced test xs k x = (q : ℕ) × (slice_get xs q ≡ Some x) × ((p : ℕ) → (q < p → k < length (filter test (take p xs))) × (k < length (filter test (take p xs)) → q < p))
 
 -- how many pass, with one more in front
@@ -40,7 +40,7 @@ placed_passing : (test : ℕ → Bool) (y : ℕ) (xs : List ℕ) (x : ℕ) → t
 placed_passing test y xs x t rest zero f = let same : y ≡ x = same_Some y x f in rw (← same) (placed_first test y xs t)
 placed_passing test y xs x t rest (suc k) f = let z : cond true 1 0 + k ≡ suc k = omega arith in rw z at (placed_behind test y xs true k x t (rest k f))
 
-filter_place : (test : ℕ → Bool) (xs : List ℕ) (k x : ℕ) → slice_get (filter test xs) k ≡ Some x → IsPlaced test xs k x
+pub filter_place : (test : ℕ → Bool) (xs : List ℕ) (k x : ℕ) → slice_get (filter test xs) k ≡ Some x → IsPlaced test xs k x
 filter_place test [] k x e = absurd (none-some x e)
 filter_place test (y ∷ xs) k x e =
     elim (cases_Bool (test y)) [

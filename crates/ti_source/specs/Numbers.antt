@@ -1,4 +1,5 @@
 -- The numbers of a source (terminfo(5); X/Open Curses Issue 7, "Terminfo Source Format"): octal, hexadecimal or decimal, as C writes them.
+use Rattle.ti_text.specs.Limits.{number_max}
 use Rattle.ti_text.specs.Ascii as ascii
 use Rattle.ti_text.specs.Ascii.{byte_of}
 use Rattle.std.specs.Prelude.{◌≡◌, ◌≢◌, ℕ, ◌+◌, ◌-◌, ◌*◌, ◌<◌, ◌≤◌, ◌&&◌, nat_le, if◌then◌else◌, List, ◌∷◌, ◌++◌, Result, Ok, Err, All, ◌⊎◌}
@@ -40,7 +41,7 @@ pub record IsNumeral (text : List ℕ) (value : ℕ) : Type 0 where
 
 -- the greatest value that a number of a source may have
 abbrev pub greatest_number : ℕ
-greatest_number = 2147483647
+greatest_number = number_max
 
 -- what a reading of a text says: the value, within the limit; that there is one beyond it; or that there is none
 abbrev pub ReadsAs : List ℕ → Result ℕ NumberError → Type 0

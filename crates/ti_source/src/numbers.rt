@@ -6,9 +6,10 @@ ghost use Rattle.ti_source.specs.inside.Numbers as computed;
 
 use crate::white_space::trim_end;
 use thiserror::Error;
+use ti_text::limits::NUMBER_MAX;
 
 /// The greatest value of a number.
-const GREATEST: u32 = 2_147_483_647;
+const GREATEST: u32 = NUMBER_MAX;
 
 /// Why a text is no number.
 #[derive(Clone, Copy, PartialEq, Eq, Debug, Error)]
