@@ -1,5 +1,5 @@
 pub mod Asked
 pub mod Ending
 pub mod Filing
-pub mod Holding
+pub mod Inserting
 pub mod Refusing

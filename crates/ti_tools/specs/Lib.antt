@@ -2,7 +2,7 @@
 pub mod Arguments
 pub mod Commands
 pub mod EntryFiles
-pub mod Holding
+pub mod Insertions
 pub mod Jobs
 pub mod Sources
 pub mod Tic
