@@ -3,7 +3,7 @@ pub mod Arguments
 pub mod Commands
 pub mod Stopping
 pub mod EntryFiles
-pub mod Holding
+pub mod Insertions
 pub mod Jobs
 pub mod Sources
 pub mod Tic
