@@ -3,7 +3,7 @@ use Rattle.std.specs.Prelude.{ℕ, suc, ◌≡◌, ◌⊎◌, ◌<◌, List, [],
 use Rattle.ti_source.specs.Reading.{Reading, Said}
 use Rattle.ti_compiled.specs.Values.{Contents}
 use Rattle.ti_meaning.specs.Owner.{owner}
-use Rattle.ti_meaning.specs.Expansion.{Mention, is_broken, expansion}
+use Rattle.ti_meaning.specs.Expansion.{is_broken}
 use Rattle.ti_meaning.specs.Reaching.{used_name, Uses}
 use Rattle.ti_meaning.specs.ValueTables.{IsTableOf, HasTable}
 

@@ -1,19 +1,18 @@
 -- Lists of the ids that pass a test, in the order of all.
-use Rattle.std.proofs.Common.{◌≡◌, ℕ, zero, suc, ◌+◌, ◌-◌, ◌<◌, ◌≤◌, ◌⊎◌, inl, inr, Bool, true, false, cond, ◌&&◌, ◌||◌, not, List, [], ◌∷◌, ◌++◌, length, filter, insert, remove, take, drop, get_or, nat_eq, Some, slice_get, refl, sym, ◌∙◌, ap, arith, length-append}
+use Rattle.std.proofs.Common.{◌≡◌, ℕ, zero, suc, ◌+◌, ◌<◌, ◌≤◌, inl, inr, Bool, true, false, cond, ◌&&◌, ◌||◌, not, List, [], ◌∷◌, ◌++◌, length, filter, insert, remove, take, drop, get_or, nat_eq, Some, slice_get, refl, sym, ◌∙◌, ap, arith}
 use Rattle.std.proofs.lemmas.Bool.{cases_lt, cases_eq, cases_Bool, false≢true, eqb-true, eq-eqb}
-use Rattle.std.proofs.lemmas.List.{take_at, drop_at}
 use Rattle.std.proofs.lemmas.List.Elements.{filter-append}
-use Rattle.std.proofs.lemmas.Option.{same_Some, none-some, slice_get_within, slice_get-get_or}
+use Rattle.std.proofs.lemmas.Option.{same_Some, none-some}
 use Rattle.ti_index.specs.Labels.{Has, AreKnown, AreLabelled, IsDistinct}
-use Rattle.ti_index.specs.Listing.{AreAmong, ListsBefore, ListsToo, ListsNoMore}
+use Rattle.ti_index.specs.Listing.{ListsBefore, ListsToo, ListsNoMore}
 use Rattle.ti_index.proofs.Placing.{before_told}
-use Rattle.ti_index.proofs.Lists.{get_front, get_back, get_cases, get-take, take_get, get-drop, drop_get}
+use Rattle.ti_index.proofs.Lists.{get_back, take_get, drop_get}
 
 -- ---- the place of an element that passes
 
 -- an element that passes stands somewhere in the whole list; it stands before a place there exactly where fewer pass before
 -- it than before that place
-abbrev IsPlaced : (ℕ → Bool) → List ℕ → ℕ → ℕ → Type 0
+abbrev pub IsPlaced : (ℕ → Bool) → List ℕ → ℕ → ℕ → Type 0
 IsPlaced test xs k x = (q : ℕ) × (slice_get xs q ≡ Some x) × ((p : ℕ) → (q < p → k < length (filter test (take p xs))) × (k < length (filter test (take p xs)) → q < p))
 
 -- how many pass, with one more in front
@@ -40,7 +39,7 @@ placed_passing : (test : ℕ → Bool) (y : ℕ) (xs : List ℕ) (x : ℕ) → t
 placed_passing test y xs x t rest zero f = let same : y ≡ x = same_Some y x f in rw (← same) (placed_first test y xs t)
 placed_passing test y xs x t rest (suc k) f = let z : cond true 1 0 + k ≡ suc k = omega arith in rw z at (placed_behind test y xs true k x t (rest k f))
 
-filter_place : (test : ℕ → Bool) (xs : List ℕ) (k x : ℕ) → slice_get (filter test xs) k ≡ Some x → IsPlaced test xs k x
+pub filter_place : (test : ℕ → Bool) (xs : List ℕ) (k x : ℕ) → slice_get (filter test xs) k ≡ Some x → IsPlaced test xs k x
 filter_place test [] k x e = absurd (none-some x e)
 filter_place test (y ∷ xs) k x e =
     elim (cases_Bool (test y)) [
@@ -81,10 +80,10 @@ counted_above listed list id low high middle x h l m e told = record {
   order = omega arith;
   within = h.within;
   between = λ test place f g.
-    let p = filter_place test listed middle x (ap (λ xs. slice_get xs middle) (sym f) ∙ e) in
-    let first = (told p.0 place p.1 g).0 refl in
-    let less = (p.2 place).0 first in
-    (omega arith, (h.between test place f g).1);
+      let p = filter_place test listed middle x (ap (λ xs. slice_get xs middle) (sym f) ∙ e) in
+      let first = (told p.0 place p.1 g).0 refl in
+      let less = (p.2 place).0 first in
+      (omega arith, (h.between test place f g).1);
 }
 
 pub counted_below : (listed list : List ℕ) (id low high middle x : ℕ) → IsCounted listed list id low high → low ≤ middle → middle < high → slice_get list middle ≡ Some x → IsToldBefore listed x id false → IsCounted listed list id low middle
@@ -92,11 +91,13 @@ counted_below listed list id low high middle x h l m e told = record {
   order = l;
   within = (let w = h.within in omega arith);
   between = λ test place f g.
-    let p = filter_place test listed middle x (ap (λ xs. slice_get xs middle) (sym f) ∙ e) in
-    ((h.between test place f g).0, elim (cases_lt middle (length (filter test (take place listed)))) [
-      | inl less ↦ absurd (false≢true ((told p.0 place p.1 g).1 ((p.2 place).1 less)))
-      | inr more ↦ more
-    ]);
+      let p = filter_place test listed middle x (ap (λ xs. slice_get xs middle) (sym f) ∙ e) in (
+        (h.between test place f g).0,
+        elim (cases_lt middle (length (filter test (take place listed)))) [
+          | inl less ↦ absurd (false≢true ((told p.0 place p.1 g).1 ((p.2 place).1 less)))
+          | inr more ↦ more
+        ],
+      );
 }
 
 pub counted_found : (listed list : List ℕ) (id low high : ℕ) → IsCounted listed list id low high → high ≤ low → ListsBefore listed list id low

@@ -1,9 +1,8 @@
 -- What an order of ids keeps as an id is put in or taken out.
-use Rattle.std.proofs.Common.{◌≡◌, ℕ, zero, suc, ◌+◌, ◌-◌, ◌^◌, ◌<◌, ◌≤◌, ◌⊎◌, inl, inr, List, [], ◌∷◌, ◌++◌, length, set, take, drop, Some, slice_get, refl, sym, ◌∙◌, ap, arith, length-set, length-append, length-take, length-drop}
+use Rattle.std.proofs.Common.{◌≡◌, ℕ, zero, suc, ◌+◌, ◌^◌, ◌<◌, ◌≤◌, ◌⊎◌, inl, inr, List, [], ◌∷◌, ◌++◌, length, set, Some, slice_get, refl, sym, ◌∙◌, ap, arith, length-set, length-append}
 use Rattle.std.specs.List.{insert, remove}
-use Rattle.std.proofs.lemmas.Bool.{cases_lt, cases_eq}
 use Rattle.std.proofs.lemmas.Option.{same_Some, none-some, slice_get_within}
-use Rattle.ti_index.specs.Labels.{Has, AreKnown, IsDistinct, HasLabel, AreLabelled, FitsAt}
+use Rattle.ti_index.specs.Labels.{Has, HasLabel, AreLabelled, FitsAt}
 use Rattle.ti_index.specs.Order.{IsOrder}
 use Rattle.ti_index.proofs.Lists.{get_front, get_last, push_cases, get-set_same, get-set_other, item_at}
 
@@ -70,7 +69,7 @@ label_cases : (ids labels free rest : List ℕ) (m n p id x : ℕ) → IsOrder i
 label_cases ids labels free rest m n p id x h f l i y (a, e, b) =
     let lacks = order_fresh ids labels free rest m n id h f in
     let other : (j : ℕ) → slice_get ids j ≡ Some a → slice_get labels a ≡ Some y = λ j here.
-      sym (get-set_other labels id a x (λ same. lacks (j, rw same at here))) ∙ b in
+    sym (get-set_other labels id a x (λ same. lacks (j, rw same at here))) ∙ b in
     elim (insert_cases ids p id i a l e) [
       | inl before ↦ inl (before.0, (a, before.1, other i before.1))
       | inr late ↦ elim late [
@@ -210,9 +209,9 @@ pub order_removed : (ids labels free : List ℕ) (m n o q p id : ℕ) → IsOrde
 order_removed ids labels free m n o q p id h here wide wide_free = record {
   labelled = record {
     rises = λ i j x y l a b.
-      let s = remove_places ids p i a.0 a.1 in
-      let t = remove_places ids p j b.0 b.1 in
-      h.labelled.rises s.0 t.0 x y (places_rise p i j s.0 t.0 l s.2 t.2) (a.0, s.1, a.2) (b.0, t.1, b.2);
+        let s = remove_places ids p i a.0 a.1 in
+        let t = remove_places ids p j b.0 b.1 in
+        h.labelled.rises s.0 t.0 x y (places_rise p i j s.0 t.0 l s.2 t.2) (a.0, s.1, a.2) (b.0, t.1, b.2);
     above = λ i x a. let s = remove_places ids p i a.0 a.1 in h.labelled.above s.0 x (a.0, s.1, a.2);
     below = λ i x a. let s = remove_places ids p i a.0 a.1 in h.labelled.below s.0 x (a.0, s.1, a.2);
   };
@@ -222,9 +221,9 @@ order_removed ids labels free m n o q p id h here wide wide_free = record {
     | inr new ↦ rw new.1 (h.ids_known p id here)
   ];
   ids_distinct = λ i j a e g.
-    let s = remove_places ids p i a e in
-    let t = remove_places ids p j a g in
-    places_once p i j s.0 t.0 (h.ids_distinct s.0 t.0 a s.1 t.1) s.2 t.2;
+      let s = remove_places ids p i a e in
+      let t = remove_places ids p j a g in
+      places_once p i j s.0 t.0 (h.ids_distinct s.0 t.0 a s.1 t.1) s.2 t.2;
   free_distinct = λ i j a e g. elim (push_cases free id i a e) [
     | inl i_old ↦ elim (push_cases free id j a g) [
       | inl j_old ↦ h.free_distinct i j a i_old j_old
@@ -236,13 +235,13 @@ order_removed ids labels free m n o q p id h here wide wide_free = record {
     ]
   ];
   apart = λ i j a e g.
-    let s = remove_places ids p i a e in
-    elim (push_cases free id j a g) [
-      | inl old ↦ h.apart s.0 j a s.1 old
-      | inr new ↦
-          let same = h.ids_distinct s.0 p a s.1 (rw new.1 here) in
-          elim s.2 [ inl before ↦ (let x = before.0 in let y = before.1 in omega arith) | inr behind ↦ (let x = behind.0 in let y = behind.1 in omega arith) ]
-    ];
+      let s = remove_places ids p i a e in
+      elim (push_cases free id j a g) [
+        | inl old ↦ h.apart s.0 j a s.1 old
+        | inr new ↦
+            let same = h.ids_distinct s.0 p a s.1 (rw new.1 here) in
+            elim s.2 [ inl before ↦ (let x = before.0 in let y = before.1 in omega arith) | inr behind ↦ (let x = behind.0 in let y = behind.1 in omega arith) ]
+      ];
   count = omega (arith, h.count, length-remove_at ids p (slice_get_within ids p id here), length-append free (id ∷ []));
   few = h.few;
   ids_fit = omega (arith, h.ids_fit);
@@ -254,11 +253,14 @@ order_removed ids labels free m n o q p id h here wide wide_free = record {
 pub order_reserved : (ids labels free : List ℕ) (m n o q : ℕ) → IsOrder ids labels free m n → length free ≡ 0 → length ids < 2 ^ 31 → length labels + 1 ≤ o → length labels + 1 ≤ q → IsOrder ids (labels ++ 0 ∷ []) (free ++ length labels ∷ []) o q
 order_reserved ids labels free m n o q h empty few wide wide_free =
     let none : (i a : ℕ) → slice_get free i ≡ Some a → ⊥ = λ i a e. (let l = slice_get_within free i a e in omega arith) in
-    let old : (i x : ℕ) → HasLabel ids (labels ++ 0 ∷ []) i x → HasLabel ids labels i x = λ i x (a, e, b).
-      (a, e, elim (push_cases labels 0 a x b) [
+    let old : (i x : ℕ) → HasLabel ids (labels ++ 0 ∷ []) i x → HasLabel ids labels i x = λ i x (a, e, b). (
+      a,
+      e,
+      elim (push_cases labels 0 a x b) [
         | inl there ↦ there
         | inr last ↦ (let k = h.ids_known i a e in let r = last.0 in absurd (omega arith))
-      ]) in
+      ],
+    ) in
     let one = length-append labels (0 ∷ []) in
     record {
       labelled = record {

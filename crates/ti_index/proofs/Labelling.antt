@@ -1,8 +1,8 @@
 -- Labels given anew, and a label between two.
-use Rattle.std.proofs.Common.{◌≡◌, ℕ, zero, suc, ◌+◌, ◌-◌, ◌*◌, ◌^◌, ◌<◌, ◌≤◌, ◌⊎◌, inl, inr, List, length, set, take, drop, Some, slice_get, refl, sym, ◌∙◌, ap, arith, length-set}
+use Rattle.std.proofs.Common.{◌≡◌, ℕ, ◌+◌, ◌*◌, ◌^◌, ◌<◌, ◌≤◌, inl, inr, List, length, set, Some, slice_get, sym, ◌∙◌, ap, arith}
 use Rattle.std.proofs.lemmas.Bool.{cases_lt, cases_eq}
-use Rattle.std.proofs.lemmas.Option.{same_Some, none-some, slice_get_within}
-use Rattle.ti_index.specs.Labels.{Has, AreKnown, IsDistinct, HasLabel, AreLabelled, IsGap, FitsAt}
+use Rattle.std.proofs.lemmas.Option.{same_Some, slice_get_within}
+use Rattle.ti_index.specs.Labels.{IsDistinct, HasLabel, AreLabelled, IsGap, FitsAt}
 use Rattle.ti_index.proofs.Lists.{get-set_same, get-set_other, item_at}
 
 -- the first ids have labels that are multiples of the step
@@ -35,14 +35,14 @@ label_spaced ids labels step h i x (id, here, e) =
 pub spaced_labelled : (ids labels : List ℕ) → AreSpaced ids labels 4294967296 (length ids) → length ids < 2147483648 → AreLabelled ids labels
 spaced_labelled ids labels h few = record {
   rises = λ i j x y l e f.
-    let a = label_spaced ids labels 4294967296 h i x e in
-    let b = label_spaced ids labels 4294967296 h j y f in
-    omega arith;
+      let a = label_spaced ids labels 4294967296 h i x e in
+      let b = label_spaced ids labels 4294967296 h j y f in
+      omega arith;
   above = λ i x e. let a = label_spaced ids labels 4294967296 h i x e in omega arith;
   below = λ i x e.
-    let a = label_spaced ids labels 4294967296 h i x e in
-    let l = slice_get_within ids i e.0 e.1 in
-    omega arith;
+      let a = label_spaced ids labels 4294967296 h i x e in
+      let l = slice_get_within ids i e.0 e.1 in
+      omega arith;
 }
 
 pub spaced_gap : (ids labels : List ℕ) (position low high : ℕ) → AreSpaced ids labels 4294967296 (length ids) → length ids < 2147483648 → position ≤ length ids → IsGap ids labels position low high → low + 1 < high

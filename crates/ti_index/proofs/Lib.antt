@@ -3,3 +3,5 @@ pub mod Labelling
 pub mod Placing
 pub mod Keeping
 pub mod Filtering
+pub mod Naming
+pub mod LawProofs

@@ -1,10 +1,8 @@
 -- An id's place by its label, and labels of a list that an id is put into or taken out of.
-use Rattle.std.proofs.Common.{◌≡◌, ℕ, zero, suc, ◌+◌, ◌-◌, ◌^◌, ◌<◌, ◌≤◌, ◌⊎◌, inl, inr, List, [], ◌∷◌, ◌++◌, length, set, take, drop, insert, remove, get_or, Some, slice_get, refl, sym, ◌∙◌, ap, arith, length-set, length-append, length-take, length-drop}
+use Rattle.std.proofs.Common.{◌≡◌, ℕ, ◌+◌, ◌<◌, ◌≤◌, inl, inr, List, length, get_or, Some, slice_get, sym, ◌∙◌, ap, arith}
 use Rattle.std.proofs.lemmas.Bool.{cases_lt, cases_eq}
-use Rattle.std.proofs.lemmas.Option.{same_Some, none-some, slice_get_within, slice_get-get_or}
-use Rattle.ti_index.specs.Labels.{Has, AreKnown, IsDistinct, HasLabel, AreLabelled, FitsAt}
-use Rattle.ti_index.specs.Order.{IsOrder}
-use Rattle.ti_index.proofs.Lists.{get_front, get_back, get_cases, get_last, push_cases, get-take, take_get, get-drop, drop_get, get-set_same, get-set_other, item_at}
+use Rattle.std.proofs.lemmas.Option.{same_Some, slice_get_within, slice_get-get_or}
+use Rattle.ti_index.specs.Labels.{Has, AreKnown, HasLabel, AreLabelled}
 
 -- the id stands in the list, and between the bounds
 pub record IsBetween (ids : List ℕ) (id low high : ℕ) : Type 0 where
@@ -77,13 +75,15 @@ between_found ids id low high h l =
 pub before_told : (ids labels : List ℕ) (i j one other : ℕ) → AreLabelled ids labels → AreKnown ids (length labels) → slice_get ids i ≡ Some one → slice_get ids j ≡ Some other → (get_or labels one 0 < get_or labels other 0 → i < j) × (i < j → get_or labels one 0 < get_or labels other 0)
 before_told ids labels i j one other labelled known e f =
     let a = label_read ids labels i one known e in
-    let b = label_read ids labels j other known f in
-    ((λ less. elim (cases_lt i j) [
-      | inl first ↦ first
-      | inr later ↦ elim (cases_eq j i) [
-        | inl same ↦
-            let two : get_or labels one 0 ≡ get_or labels other 0 = ap (λ x. get_or labels x 0) (same_Some one other (sym e ∙ (rw same at f))) in
-            absurd (omega arith)
-        | inr apart ↦ (let r = labelled.rises j i (get_or labels other 0) (get_or labels one 0) (omega arith) b a in absurd (omega arith))
-      ]
-    ]), λ first. labelled.rises i j (get_or labels one 0) (get_or labels other 0) first a b)
+    let b = label_read ids labels j other known f in (
+      (λ less. elim (cases_lt i j) [
+        | inl first ↦ first
+        | inr later ↦ elim (cases_eq j i) [
+          | inl same ↦
+              let two : get_or labels one 0 ≡ get_or labels other 0 = ap (λ x. get_or labels x 0) (same_Some one other (sym e ∙ (rw same at f))) in
+              absurd (omega arith)
+          | inr apart ↦ (let r = labelled.rises j i (get_or labels other 0) (get_or labels one 0) (omega arith) b a in absurd (omega arith))
+        ]
+      ]),
+      λ first. labelled.rises i j (get_or labels one 0) (get_or labels other 0) first a b,
+    )

@@ -5,14 +5,14 @@ use Rattle.std.proofs.lemmas.Bool.{or_right}
 use Rattle.std.proofs.lemmas.List.{length-map, map-set}
 use Rattle.std.proofs.lemmas.List.Edits.{length-remove}
 use Rattle.std.proofs.lemmas.List.Elements.{All-from_recursion, All-contains}
-use Rattle.std.proofs.lemmas.Option.{same_Some, none-some, slice_get-map}
+use Rattle.std.proofs.lemmas.Option.{same_Some, slice_get-map}
 use Rattle.ti_source.specs.Reading.{Reading}
 use Rattle.ti_source.specs.Parsing.{parsed}
 use Rattle.ti_source.specs.Sound.{IsRising}
 use Rattle.ti_meaning.specs.Owner.{is_among, owner, owned, readings}
 use Rattle.ti_meaning.specs.Edits.{Change, insertion, replacement, removal, relocation, IsInPlace, after}
 use Rattle.ti_meaning.specs.Exchange.{PlacedBlock, Exchange, IsExchange, with_block, HasPlace, new_list, block_from, exchange_of, LeadsOn, EditsAreExchanges}
-use Rattle.ti_meaning.specs.Dependents.{names_of, touched_names, IsPutAt, IsDependent, DependentsAreDetermined, UsersOfDependentsDepend, DependentsAreFound, Rebuilds, RebuildsAreDetermined, work}
+use Rattle.ti_meaning.specs.Dependents.{names_of, touched_names, IsPutAt, IsDependent, DependentsAreDetermined, UsersOfDependentsDepend, DependentsAreFound, RebuildsAreDetermined, work}
 use Rattle.ti_meaning.specs.Reaching.{Uses, IsWay}
 use Rattle.ti_meaning.specs.UseLaws.{UsesBlock}
 use Rattle.ti_meaning.proofs.UseLawProofs.{has_owner}

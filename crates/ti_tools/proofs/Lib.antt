@@ -1,6 +1,8 @@
 pub mod Asked
 pub mod Ending
 pub mod Filing
-pub mod Holding
+pub mod Inserting
+pub mod Printing
 pub mod Refusing
 pub mod Rates
+pub mod Parts

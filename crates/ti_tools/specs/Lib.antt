@@ -1,8 +1,9 @@
 -- The definitions that the contracts of this crate cite.
 pub mod Arguments
 pub mod Commands
+pub mod Stopping
 pub mod EntryFiles
-pub mod Holding
+pub mod Insertions
 pub mod Jobs
 pub mod Sources
 pub mod Tic

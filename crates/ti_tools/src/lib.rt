@@ -4,7 +4,7 @@
 //! - `arguments`: what the words of a command line ask for, as a job of `jobs`; `commands` has the
 //!   options and the help of each tool
 //! - `compiling`: what `tic` makes of a source: files, a report and a status. Before it `sources`
-//!   refuses what is over a limit, `held` puts the blocks into a database, and `entry_files` names
+//!   refuses what is over a limit, `insertions` puts the blocks into a database, and `entry_files` names
 //!   the files of the entries
 //! - `listings`: what `infocmp` prints of entries
 //! - `laws`: that the listing of an entry, and its relative source, compile back to the entry
@@ -16,8 +16,9 @@
 pub mod arguments;
 pub mod commands;
 pub mod compiling;
+pub mod stopping;
 mod entry_files;
-mod held;
+mod insertions;
 pub mod jobs;
 pub mod laws;
 mod listings;
@@ -27,12 +28,14 @@ mod sources;
 pub use arguments::{UsageError, job};
 pub use commands::command;
 pub use compiling::tic;
+pub use stopping::{message, status};
 pub use jobs::Job;
 pub use listings::{InfocmpMode, InfocmpOptions, infocmp};
 pub use outcome::{TicOptions, TicOutcome};
 pub use ti_devices::{Counted, File, MemTree, Tally, ToolError, Tree, TreeFault, place};
 pub use ti_list::{Layout, Order};
 pub use ti_session::session;
+pub use ti_tput::{TputOutcome, entry, locate, places, tput, tput_lines};
 
 #[cfg(test)]
 mod tests;

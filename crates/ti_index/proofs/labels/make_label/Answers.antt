@@ -1,6 +1,6 @@
-use Rattle.std.proofs.Common.{ℕ, ◌<◌, length, arith}
-use Rattle.ti_index.specs.Labels.{IsGap, AreLabelled}
-use Rattle.ti_index.proofs.Labelling.{AreSpaced, gap_below, gap_fits, spaced_gap, spaced_labelled}
+use Rattle.std.proofs.Common.{length, arith}
+use Rattle.ti_index.specs.Labels.{IsGap}
+use Rattle.ti_index.proofs.Labelling.{AreSpaced, gap_below, gap_fits, spaced_labelled}
 use Rattle.ti_index.proofs.labels.make_label.Goals as goal
 
 pub overflow_add-low : goal.overflow_add-low

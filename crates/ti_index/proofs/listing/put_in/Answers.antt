@@ -22,12 +22,12 @@ returns-clause-items c =
     let place = c.count_before-place.result in
     let before : ListsBefore listed list c.args.id place = rw c.deref.ensures.value at c.count_before-place.ensures.count in
     let lacks : slice_get list place ≡ Some c.args.id → ⊥ =
-      λ e. elim c.else-place-len.branch [
-        | else-place-len-via-then-place-len+else-index-id w ↦
-            let within : place < length list = omega (arith, c.len.ensures, c.args.list.now.ok.0) in
-            let here = slice_get_read list (length list) place w.index.result.now refl within w.index.ensures in
-            w.if-index-id.false (same_Some w.index.result.now c.args.id (sym here ∙ e))
-        | else-place-len-via-else-place-len w ↦ (let within = slice_get_within list place c.args.id e in omega (arith, c.len.ensures, c.args.list.now.ok.0))
-      ] in
+    λ e. elim c.else-place-len.branch [
+      | else-place-len-via-then-place-len+else-index-id w ↦
+          let within : place < length list = omega (arith, c.len.ensures, c.args.list.now.ok.0) in
+          let here = slice_get_read list (length list) place w.index.result.now refl within w.index.ensures in
+          w.if-index-id.false (same_Some w.index.result.now c.args.id (sym here ∙ e))
+      | else-place-len-via-else-place-len w ↦ (let within = slice_get_within list place c.args.id e in omega (arith, c.len.ensures, c.args.list.now.ok.0))
+    ] in
     let put : c.insert.new.self.items ≡ insert list place c.args.id = rw c.unwrap.ensures at c.insert.ensures.items in
     λ test e. put ∙ put_new listed list c.args.id place c.requires.stands.0 c.count_before-place.ensures.distinct c.requires.stands.1 before lacks test e

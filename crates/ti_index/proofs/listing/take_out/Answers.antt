@@ -1,5 +1,5 @@
 use Rattle.std.proofs.Common.{◌≡◌, ◌<◌, length, Some, refl, sym, ◌∙◌, arith}
-use Rattle.std.specs.List.{slice_get, insert}
+use Rattle.std.specs.List.{slice_get}
 use Rattle.std.proofs.lemmas.Option.{slice_get_read, slice_get_within, same_Some}
 use Rattle.ti_index.specs.Listing.{ListsBefore}
 use Rattle.ti_index.proofs.Filtering.{take_there, take_not}
@@ -23,11 +23,11 @@ returns-else-place-len-clause-items c =
     let place = c.count_before-place.result in
     let before : ListsBefore listed list c.args.id place = rw c.deref.ensures.value at c.count_before-place.ensures.count in
     let lacks : slice_get list place ≡ Some c.args.id → ⊥ =
-      λ e. elim c.else-place-len.branch [
-        | else-place-len-via-then-place-len+else-index-id w ↦
-            let within : place < length list = omega (arith, c.len.ensures, c.args.list.now.ok.0) in
-            let here = slice_get_read list (length list) place w.index.result.now refl within w.index.ensures in
-            w.if-index-id.false (same_Some w.index.result.now c.args.id (sym here ∙ e))
-        | else-place-len-via-else-place-len w ↦ (let within = slice_get_within list place c.args.id e in omega (arith, c.len.ensures, c.args.list.now.ok.0))
-      ] in
+    λ e. elim c.else-place-len.branch [
+      | else-place-len-via-then-place-len+else-index-id w ↦
+          let within : place < length list = omega (arith, c.len.ensures, c.args.list.now.ok.0) in
+          let here = slice_get_read list (length list) place w.index.result.now refl within w.index.ensures in
+          w.if-index-id.false (same_Some w.index.result.now c.args.id (sym here ∙ e))
+      | else-place-len-via-else-place-len w ↦ (let within = slice_get_within list place c.args.id e in omega (arith, c.len.ensures, c.args.list.now.ok.0))
+    ] in
     take_not listed list c.args.id place c.requires.stands.0 c.requires.stands.1 before lacks

@@ -1,5 +1,5 @@
-use Rattle.std.proofs.Common.{◌≡◌, ◌≤◌, ◌++◌, ◌∷◌, [], length, ap, sym, ◌∙◌, arith}
-use Rattle.std.specs.Vec.{vec_len, vec_capacity}
+use Rattle.std.proofs.Common.{◌≡◌, ◌≤◌, ◌++◌, ◌∷◌, [], length, ap, arith}
+use Rattle.std.specs.Vec.{vec_capacity}
 use Rattle.std.specs.List.{insert}
 use Rattle.ti_index.specs.Labels.{Has, AreLabelled, FitsAt}
 use Rattle.ti_index.proofs.Keeping.{order_relabelled, order_inserted, order_fresh}

@@ -1,6 +1,5 @@
-use Rattle.std.proofs.Common.{◌≡◌, ◌<◌, Some, length, ap, sym, ◌∙◌, refl, arith}
-use Rattle.std.specs.List.{slice_get}
-use Rattle.std.specs.Vec.{vec_len, vec_capacity}
+use Rattle.std.proofs.Common.{◌<◌, length, ap, refl, arith}
+use Rattle.std.specs.Vec.{vec_capacity}
 use Rattle.std.proofs.lemmas.Option.{slice_get_read}
 use Rattle.ti_index.proofs.Keeping.{order_removed}
 use Rattle.ti_index.proofs.order.Order.remove.Goals as goal
