@@ -2,12 +2,17 @@
 #![tactic(auto)]
 
 mod disk_tree;
+mod error_stream;
+mod job_end;
 mod session_tool;
 mod source;
 mod stop;
 mod tic_tool;
+mod tput_tool;
 
+use crate::job_end::end_job;
 use crate::stop::Stop;
+use crate::tput_tool::TputWords;
 use std::process::ExitCode;
 use std::rt::{Env, Files};
 use std::{env, io};
@@ -24,18 +29,41 @@ fn run<R: Env + Files + Input + Print + Eprint + AllocGlobal>(rt: &R) -> u8 {
         Err(stop) => return tell(rt, "ti", stop),
     };
     match job(rt.alloc(), words.as_slice()) {
-        Ok(job) => match job {
-            Job::Tic { check, dir, file } => match tic_tool::run(rt, check, dir, file) {
-                Ok(status) => status,
-                Err(stop) => tell(rt, "tic", stop),
-            },
-            Job::Session => match session_tool::run(rt) {
-                Ok(()) => 0,
-                Err(error) => tell(rt, "session", Stop::Fault(error)),
-            },
-        },
+        Ok(job) => run_job(rt, &job),
         Err(UsageError::Memory) => tell(rt, "ti", Stop::Fault(ToolError::Memory)),
         Err(_) => explain(rt, words.as_slice()),
+    }
+}
+
+// Does a job. The answer is the status of the process.
+fn run_job<R: Env + Files + Input + Print + Eprint + AllocGlobal>(rt: &R, job: &Job) -> u8 {
+    match job {
+        Job::Tic { check, dir, file } => {
+            let dir = dir.as_ref().map(|dir| dir.as_str());
+            let file = file.as_ref().map(|file| file.as_str());
+            match tic_tool::run(rt, *check, dir, file) {
+                Ok(status) => status,
+                Err(stop) => end_job(rt, job, "", stop, false),
+            }
+        }
+        Job::Tput {
+            lines,
+            term,
+            rate,
+            words,
+        } => {
+            let asked = TputWords {
+                lines: *lines,
+                term: term.as_ref().map(|term| term.as_str()),
+                rate: *rate,
+                words: words.as_slice(),
+            };
+            tput_tool::run(rt, job, asked)
+        }
+        Job::Session => match session_tool::run(rt) {
+            Ok(()) => 0,
+            Err(error) => end_job(rt, job, "", Stop::Fault(error), false),
+        },
     }
 }
 

@@ -1,4 +1,5 @@
 //! Why the program stops.
+use std::alloc::AllocError;
 use thiserror::Error;
 use ti_tools::ToolError;
 
@@ -27,5 +28,11 @@ impl Stop {
 impl From<ToolError> for Stop {
     fn from(error: ToolError) -> Stop {
         Stop::Fault(error)
+    }
+}
+
+impl From<AllocError> for Stop {
+    fn from(_error: AllocError) -> Stop {
+        Stop::Fault(ToolError::Memory)
     }
 }

@@ -19,13 +19,12 @@ const SYSTEM_FOLDER: &str = "/usr/share/terminfo";
 pub fn run<R: Env + Files + Input + Eprint + AllocGlobal>(
     rt: &R,
     check: bool,
-    dir: Option<String>,
-    file: Option<String>,
+    dir: Option<&str>,
+    file: Option<&str>,
 ) -> Result<u8, Stop> {
     let alloc = rt.alloc();
     let dir = folder(rt, dir)?;
-    let path = file.as_ref().map(|path| path.as_str());
-    let source = read_source(rt, alloc, path)?;
+    let source = read_source(rt, alloc, file)?;
     let outcome = tic(alloc, source.as_slice(), &TicOptions { check, dir })?;
     tell_report(rt, outcome.report.as_slice())?;
     let mut tree = DiskTree::new(rt);
@@ -37,9 +36,9 @@ pub fn run<R: Env + Files + Input + Eprint + AllocGlobal>(
 }
 
 // The folder of `-o`, else that of `TERMINFO` where it is set and not empty, else the system's.
-fn folder<R: Env + AllocGlobal>(rt: &R, dir: Option<String>) -> Result<String, Stop> {
+fn folder<R: Env + AllocGlobal>(rt: &R, dir: Option<&str>) -> Result<String, Stop> {
     if let Some(dir) = dir {
-        return Ok(dir);
+        return Ok(String::from_str(rt.alloc(), dir)?);
     }
     match env::var(rt, "TERMINFO") {
         Ok(dir) if !dir.is_empty() => Ok(dir),
