@@ -1,46 +1,14 @@
 //! The command lines of the program, for clap: each tool with its options, their help and one
 //! example.
 ghost use Rattle.std.specs.Prelude.{◌≡◌, IfOk, false};
-ghost use Rattle.clap.specs.Words.{app_of, rule_of};
+ghost use Rattle.clap.specs.Words.{app_of};
 ghost use Rattle.clap.specs.declared.builder.Command.TheViews.{out-Command as fields_of};
-ghost use Rattle.ti_tools.specs.Commands.{flag_rule, operand_rule, option_rule, session_app, ti_app, tic_app};
+ghost use Rattle.ti_tools.specs.Commands.{session_app, ti_app, tic_app};
 
-use clap::{Arg, ArgAction, Command};
+use crate::infocmp_words::infocmp;
+use crate::rules::{flag, operand, option};
+use clap::Command;
 use std::alloc::{AllocError, Global};
-
-// An option that is on or off.
-fn flag<'a>(alloc: Global, id: &'a str, short: char, help: &'a str) -> Arg<'a>
-    ensures rule { rule_of result ≡ flag_rule id.entry.now short }
-    ensures local { result.global ≡ false }
-{
-    Arg::new(alloc, id)
-        .short(short)
-        .action(ArgAction::SetTrue)
-        .help(help)
-}
-
-// An option with one value.
-fn option<'a>(alloc: Global, id: &'a str, short: char, value: &'a str, help: &'a str) -> Arg<'a>
-    ensures rule { rule_of result ≡ option_rule id.entry.now short }
-    ensures local { result.global ≡ false }
-{
-    Arg::new(alloc, id)
-        .short(short)
-        .action(ArgAction::Set)
-        .value_name(value)
-        .help(help)
-}
-
-// A word of its own.
-fn operand<'a>(alloc: Global, id: &'a str, value: &'a str, help: &'a str) -> Arg<'a>
-    ensures rule { rule_of result ≡ operand_rule id.entry.now }
-    ensures local { result.global ≡ false }
-{
-    Arg::new(alloc, id)
-        .action(ArgAction::Set)
-        .value_name(value)
-        .help(help)
-}
 
 // `tic [-c] [-o DIR] [FILE]`.
 fn tic<'a>(alloc: Global) -> Result<Command<'a>, AllocError>
@@ -95,5 +63,6 @@ pub fn command<'a>(alloc: Global) -> Result<Command<'a>, AllocError>
         .after_help("Example:\n  ti tic -o ~/.terminfo dumb.ti")
         .subcommand_required(true)
         .subcommand(tic(alloc)?)?
-        .subcommand(session(alloc)?)
+        .subcommand(session(alloc)?)?
+        .subcommand(infocmp(alloc)?)
 }

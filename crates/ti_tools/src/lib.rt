@@ -18,10 +18,13 @@ pub mod commands;
 pub mod compiling;
 mod entry_files;
 mod held;
+mod infocmp_words;
 pub mod jobs;
 pub mod laws;
 mod listings;
+mod matches;
 mod outcome;
+mod rules;
 mod sources;
 
 pub use arguments::{UsageError, job};

@@ -1,0 +1,59 @@
+//! What the matches of a command line say of an argument.
+ghost use Rattle.std.specs.Prelude.{◌≡◌, IfOk, length, map, option_map};
+ghost use Rattle.std.specs.String.{string_bytes};
+ghost use Rattle.clap.specs.Words.{first_of, found_of, rows_of};
+ghost use Rattle.ti_tools.specs.Matches.{is_on, values_of};
+
+use clap::ArgMatches;
+use std::alloc::{AllocError, Global};
+
+/// The value of an argument, where it has one.
+pub fn value<'a>(matches: &ArgMatches<'a>, id: &str) -> Option<&'a str>
+    ensures { option_map (λ value. value.now) result ≡ first_of id.now (rows_of (found_of matches.now)) }
+{
+    matches.get_str(id)
+}
+
+/// The same as a text of its own.
+pub fn text(alloc: Global, matches: &ArgMatches<'_>, id: &str) -> Result<Option<String>, AllocError>
+    ensures { IfOk result (λ text. option_map string_bytes text
+        ≡ first_of id.now (rows_of (found_of matches.now))) }
+{
+    match value(matches, id) {
+        Some(value) => Ok(Some(String::from_str(alloc, value)?)),
+        None => Ok(None),
+    }
+}
+
+/// Whether an option that is on or off is on.
+pub fn on(matches: &ArgMatches<'_>, id: &str) -> bool
+    ensures { result ≡ is_on id.now (rows_of (found_of matches.now)) }
+{
+    match value(matches, id) {
+        Some(value) => value == "true",
+        None => false,
+    }
+}
+
+/// The values of an argument that may have several, each a text of its own; none where it has no value.
+pub fn texts(alloc: Global, matches: &ArgMatches<'_>, id: &str) -> Result<Vec<String>, AllocError>
+    ensures { IfOk result (λ texts. map string_bytes texts.items ≡ values_of id.now (rows_of (found_of matches.now))) }
+{
+    let mut texts = Vec::new(alloc);
+    if let Some(values) = matches.get_strs(id) {
+        for value in values {
+            texts.push(String::from_str(alloc, value)?)?;
+        }
+    }
+    Ok(texts)
+}
+
+/// How many values an argument has.
+pub fn count(matches: &ArgMatches<'_>, id: &str) -> usize
+    ensures { result ≡ length (values_of id.now (rows_of (found_of matches.now))) }
+{
+    match matches.get_strs(id) {
+        Some(values) => values.len(),
+        None => 0,
+    }
+}
