@@ -18,11 +18,15 @@ use Rattle.ti_tools.specs.declared.listings.InfocmpMode.TheVariants as mode
 -- ---- the command line
 
 -- the options that name a mode
-abbrev pub mode_rules : App → App
-mode_rules app = with_rule (with_rule (with_rule (with_rule (with_rule app
+abbrev pub first_mode_rules : App → App
+first_mode_rules app = with_rule (with_rule (with_rule app
     (flag_rule (codes "list") 73))
     (flag_rule (codes "differ") 100))
-    (flag_rule (codes "common") 99))
+    (flag_rule (codes "common") 99)
+
+-- and further ones
+abbrev pub other_mode_rules : App → App
+other_mode_rules app = with_rule (with_rule app
     (flag_rule (codes "neither") 110))
     (flag_rule (codes "relative") 117)
 
@@ -42,7 +46,7 @@ name_rules app = with_rule (with_rule (with_rule app
 
 -- `infocmp [-I|-d|-c|-n|-u] [-1] [-w N] [-s d|i] [-A DIR] [-B DIR] [NAME..]`
 abbrev pub infocmp_app : App
-infocmp_app = name_rules (layout_rules (mode_rules (new_app (codes "infocmp"))))
+infocmp_app = name_rules (layout_rules (other_mode_rules (first_mode_rules (new_app (codes "infocmp")))))
 
 -- ---- what they ask for
 

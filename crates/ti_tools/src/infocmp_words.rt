@@ -3,7 +3,7 @@ ghost use Rattle.std.specs.Prelude.{◌≡◌, ◌⊎◌, IfErr, IfOk, None, Som
 ghost use Rattle.clap.specs.Words.{app_of, first_of, found_of, rows_of};
 ghost use Rattle.clap.specs.declared.builder.Command.TheViews.{out-Command as fields_of};
 ghost use Rattle.ti_tools.specs.Arguments.{task_infocmp};
-ghost use Rattle.ti_tools.specs.InfocmpWords.{chosen, chosen_with, infocmp_app, infocmp_task, layout_rules, mode_for, mode_rules, name_rules, order_for, suits, width_for};
+ghost use Rattle.ti_tools.specs.InfocmpWords.{chosen, chosen_with, infocmp_app, first_mode_rules, infocmp_task, layout_rules, mode_for, name_rules, other_mode_rules, order_for, suits, width_for};
 ghost use Rattle.ti_tools.specs.Jobs.{task_of};
 
 use crate::arguments::UsageError;
@@ -18,10 +18,11 @@ use ti_list::{Layout, Order};
 /// The width of a listing's lines where none is said.
 const WIDTH: usize = 60;
 
-// The options that name a mode.
-fn modes<'a>(alloc: Global, command: Command<'a>) -> Result<Command<'a>, AllocError>
-    ensures app { IfOk result (λ r. app_of r ≡ mode_rules (app_of command.entry)) }
-    ensures local { IfOk result (λ r. (fields_of r).has_globals ≡ (fields_of command.entry).has_globals) }
+// The options that list, and those that compare for differences.
+fn first_modes<'a>(alloc: Global, command: Command<'a>) -> Result<Command<'a>, AllocError>
+    requires { (fields_of command).has_globals ≡ false }
+    ensures app { IfOk result (λ r. app_of r ≡ first_mode_rules (app_of command.entry)) }
+    ensures local { IfOk result (λ r. (fields_of r).has_globals ≡ false) }
 {
     let list = flag(alloc, "list", 'I', "List each entry [default for one name]");
     let differ = flag(
@@ -36,6 +37,15 @@ fn modes<'a>(alloc: Global, command: Command<'a>) -> Result<Command<'a>, AllocEr
         'c',
         "Show what the first and each other have in common",
     );
+    command.arg(list)?.arg(differ)?.arg(common)
+}
+
+// The options that name another mode.
+fn other_modes<'a>(alloc: Global, command: Command<'a>) -> Result<Command<'a>, AllocError>
+    requires { (fields_of command).has_globals ≡ false }
+    ensures app { IfOk result (λ r. app_of r ≡ other_mode_rules (app_of command.entry)) }
+    ensures local { IfOk result (λ r. (fields_of r).has_globals ≡ false) }
+{
     let neither = flag(
         alloc,
         "neither",
@@ -48,18 +58,14 @@ fn modes<'a>(alloc: Global, command: Command<'a>) -> Result<Command<'a>, AllocEr
         'u',
         "List the first so that it uses the others",
     );
-    command
-        .arg(list)?
-        .arg(differ)?
-        .arg(common)?
-        .arg(neither)?
-        .arg(relative)
+    command.arg(neither)?.arg(relative)
 }
 
 // The options that lay a listing out.
 fn layouts<'a>(alloc: Global, command: Command<'a>) -> Result<Command<'a>, AllocError>
+    requires { (fields_of command).has_globals ≡ false }
     ensures app { IfOk result (λ r. app_of r ≡ layout_rules (app_of command.entry)) }
-    ensures local { IfOk result (λ r. (fields_of r).has_globals ≡ (fields_of command.entry).has_globals) }
+    ensures local { IfOk result (λ r. (fields_of r).has_globals ≡ false) }
 {
     let one = flag(alloc, "one", '1', "Give each item a line of its own");
     let width = number(
@@ -82,8 +88,9 @@ fn layouts<'a>(alloc: Global, command: Command<'a>) -> Result<Command<'a>, Alloc
 
 // Where entries stand, and the names.
 fn operands_of<'a>(alloc: Global, command: Command<'a>) -> Result<Command<'a>, AllocError>
+    requires { (fields_of command).has_globals ≡ false }
     ensures app { IfOk result (λ r. app_of r ≡ name_rules (app_of command.entry)) }
-    ensures local { IfOk result (λ r. (fields_of r).has_globals ≡ (fields_of command.entry).has_globals) }
+    ensures local { IfOk result (λ r. (fields_of r).has_globals ≡ false) }
 {
     let first = option(
         alloc,
@@ -114,7 +121,8 @@ pub fn infocmp<'a>(alloc: Global) -> Result<Command<'a>, AllocError>
     let command = Command::new(alloc, "infocmp")
         .about("Print entries as source, compare them, or tell one by others.")
         .after_help("Example:\n  ti infocmp -1 xterm");
-    let command = modes(alloc, command)?;
+    let command = first_modes(alloc, command)?;
+    let command = other_modes(alloc, command)?;
     let command = layouts(alloc, command)?;
     operands_of(alloc, command)
 }
