@@ -136,7 +136,7 @@ module _ (xs : List (Capability × Value)) (kept : IsKept (entries_of xs)) (k pl
         record {
           walked = stepped Flag next index has.walked (ap (is_of Flag) c) n i2;
           so_far = grown start _ v0 v1 v2 _ _ _ has.so_far (fill ∙ ap (λ j. v0 ++ replicate (j - places) 0) i1) push
-          (ap (flags_below (contents (entries_of xs))) e ∙ next_flag (entries_of xs) kept k places in_range (x.0, content_of x.1) read has.walked c);
+              (ap (flags_below (contents (entries_of xs))) e ∙ next_flag (entries_of xs) kept k places in_range (x.0, content_of x.1) read has.walked c);
         }
 
     pub number_laid : (w : Format) (size m : ℕ) → x.1 ≡ v.Number m → HasNumbers w (entries_of xs) start v0 k places → size ≡ width w → v1 ≡ v0 ++ replicate (size * (first - places)) 255 → v2 ≡ v1 ++ number_bytes w m
@@ -147,7 +147,7 @@ module _ (xs : List (Capability × Value)) (kept : IsKept (entries_of xs)) (k pl
         record {
           walked = stepped Number next index has.walked (ap (is_of Number) c) n i2;
           so_far = grown start _ v0 v1 v2 _ _ _ has.so_far (fill ∙ ap (λ j. v0 ++ replicate (size * (j - places)) 255) i1 ∙ ap (λ j. v0 ++ replicate (j * (x.0.index - places)) 255) wide) push
-          (ap (λ j. spelled w (numbers_below w (contents (entries_of xs)) j)) e ∙ next_number (entries_of xs) kept k places in_range (x.0, content_of x.1) read w m has.walked c);
+              (ap (λ j. spelled w (numbers_below w (contents (entries_of xs)) j)) e ∙ next_number (entries_of xs) kept k places in_range (x.0, content_of x.1) read w m has.walked c);
         }
 
     pub offset_laid : (t : List ℕ) (offset more : ℕ) → content_of x.1 ≡ content_text t → HasOffsets (entries_of xs) start v0 k places offset → v1 ≡ v0 ++ replicate (2 * (first - places)) 255 → v2 ≡ v1 ++ number_bytes Legacy offset
@@ -162,7 +162,7 @@ module _ (xs : List (Capability × Value)) (kept : IsKept (entries_of xs)) (k pl
           walked = stepped Text next index has.walked (ap (is_of Text) c) n i2;
           length_before = omega arith;
           so_far = grown start _ v0 v1 v2 _ _ _ has.so_far (fill ∙ ap (λ j. v0 ++ replicate (2 * (j - places)) 255) i1) (push ∙ ap (λ j. v1 ++ number_bytes Legacy j) before)
-          (ap (λ j. spelled Legacy (offsets_below (contents (entries_of xs)) j)) e ∙ next_offset (entries_of xs) kept k places in_range (x.0, content_of x.1) read t has.walked c);
+              (ap (λ j. spelled Legacy (offsets_below (contents (entries_of xs)) j)) e ∙ next_offset (entries_of xs) kept k places in_range (x.0, content_of x.1) read t has.walked c);
         }
 
   pub text_within : (t : List ℕ) (offset : ℕ) → content_of x.1 ≡ content_text t → Walked (entries_of xs) Text k places → offset ≡ length (texts_below (contents (entries_of xs)) places)

@@ -102,9 +102,9 @@ module _ (t u : Contents) (h : ShowSame t u) where
   offsets-same =
       below-same _ _ (written_count t Text)
       (λ i l.
-          let m = count-within Text in
-          same_by_presence (offset_value (length (texts_below t i))) (t (capability Text i)) (u (capability Text i)) (offset_value-presence (length (texts_below t i))) (h (capability Text i) (omega arith))
-          ∙ ap (λ s. offset_value (length s) (u (capability Text i))) (texts_below-same i (omega arith)))
+      let m = count-within Text in
+      same_by_presence (offset_value (length (texts_below t i))) (t (capability Text i)) (u (capability Text i)) (offset_value-presence (length (texts_below t i))) (h (capability Text i) (omega arith))
+      ∙ ap (λ s. offset_value (length s) (u (capability Text i))) (texts_below-same i (omega arith)))
       ∙ ap (offsets_below u) (count-same Text)
 
   image-same : (names : List ℕ) → image names t ≡ image names u

@@ -59,5 +59,5 @@ pub refused_offsets : (b : List ℕ) (s : Sections) → IsCut b s → AreNames s
 refused_offsets b s cut names flags numbers bad = record {
   holds = subst (λ (x : List ℕ). HasBadOffset x (strings_section b)) cut.offsets (subst (λ (x : List ℕ). HasBadOffset s.offsets.now x) cut.strings bad);
   first = none_before b s cut (subst AreNames cut.names names) (subst AreFlags cut.flags flags)
-  (subst (λ (x : Format). AreNumbers x (numbers_section b)) cut.format (subst (λ (x : List ℕ). AreNumbers s.format x) cut.numbers numbers));
+      (subst (λ (x : Format). AreNumbers x (numbers_section b)) cut.format (subst (λ (x : List ℕ). AreNumbers s.format x) cut.numbers numbers));
 }

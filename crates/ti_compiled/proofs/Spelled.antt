@@ -165,6 +165,5 @@ numbers-again w ns fit =
     let c : count_in w (spelled w ns) ≡ length ns = ap (λ k. k / width w) (length-spelled w ns) ∙ counted w (length ns) in
     let l = length-below f (count_in w (spelled w ns)) in
     same_lists (numbers_in w (spelled w ns)) ns (l ∙ c) (λ k d lt.
-        let k_lt : k < length ns = omega arith in
-        get_or-below f (count_in w (spelled w ns)) k d (omega arith) ∙ number_read w ns k fit k_lt ∙ get_or_default ns k 0 d k_lt)
-
+    let k_lt : k < length ns = omega arith in
+    get_or-below f (count_in w (spelled w ns)) k d (omega arith) ∙ number_read w ns k fit k_lt ∙ get_or_default ns k 0 d k_lt)

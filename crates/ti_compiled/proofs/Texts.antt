@@ -45,7 +45,7 @@ module _ (c : Contents) where
             let within = length-texts-le n i (omega arith) in (
               inner.0 ++ text_piece (of_kind c Text n),
               drop-append-le (length (texts_below c i)) (texts_below c n) (text_piece (of_kind c Text n)) within ∙ ap (λ (x : List ℕ). x ++ text_piece (of_kind c Text n)) inner.1
-              ∙ append_assoc (text_piece (of_kind c Text i)) inner.0 (text_piece (of_kind c Text n)),
+                  ∙ append_assoc (text_piece (of_kind c Text i)) inner.0 (text_piece (of_kind c Text n)),
             )
         | inr le ↦
             let same : i ≡ n = omega arith in (

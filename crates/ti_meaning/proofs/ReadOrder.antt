@@ -11,13 +11,16 @@ use Rattle.ti_source.specs.declared.code.Code.{Code}
 use Rattle.ti_source.specs.declared.code.Code.TheVariants as code
 use Rattle.ti_source.specs.declared.numbers.NumberError.{NumberError}
 use Rattle.ti_source.specs.declared.numbers.NumberError.TheVariants.{Bad, TooLarge}
-use Rattle.ti_source.specs.Spelling.{unescaped}
-use Rattle.ti_source.specs.Numbers.{number_read}
+use Rattle.ti_source.specs.inside.Verdicts.{unescaped}
+use Rattle.ti_source.specs.inside.Numbers.{number_read}
 use Rattle.ti_source.specs.Folding.{Placed}
-use Rattle.ti_source.specs.Items.{Claim, claims_flag, claims_number, claims_text, claims_cancel, Statement, piece_of, statement_of, stripped}
-use Rattle.ti_source.specs.Header.{header_names}
+use Rattle.ti_source.specs.Items.{Claim, claims_flag, claims_number, claims_text, claims_cancel, Statement, piece_of, stripped}
+use Rattle.ti_source.specs.inside.Items.{statement_of}
+use Rattle.ti_source.specs.inside.Header.{header_names}
 use Rattle.ti_source.specs.Reading.{Said, said_import, ReadItem, ReadFault}
-use Rattle.ti_source.specs.Parsing.{accepted, is_import, number_verdict, text_verdict, fitting_verdict, named_verdict, claimed_text, verdict_of, said_by, code_by, item_fault, items_at, faults_at, items_from, faults_from, names_limit, header_fault, header_faults, block_field, block_items, parsed}
+use Rattle.ti_source.specs.Parsing.{accepted, is_import, said_by, code_by, item_fault, names_limit, header_fault, parsed}
+use Rattle.ti_source.specs.inside.Verdicts.{number_verdict, text_verdict, fitting_verdict, named_verdict, claimed_text, verdict_of}
+use Rattle.ti_source.specs.inside.Parsing.{items_at, faults_at, items_from, faults_from, header_faults, block_field, block_items}
 use Rattle.ti_meaning.specs.Reaching.{used_name}
 use Rattle.ti_meaning.specs.Faults.{is_kept}
 use Rattle.ti_meaning.specs.Laws.{Climbs}

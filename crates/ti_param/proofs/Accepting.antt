@@ -7,7 +7,8 @@ use Rattle.ti_param.specs.declared.acceptor.Phase.TheVariants.{Testing, Taken}
 use Rattle.ti_param.specs.declared.codes.Token.{Token}
 use Rattle.ti_param.specs.declared.codes.Token.TheVariants.{Literal, Operation, If, Then, Else, EndIf}
 use Rattle.ti_param.specs.declared.lexer.Placed.{Placed}
-use Rattle.ti_param.specs.Formats.{Tree, nothing, byte, code, group, choice, placed, Closes, by_mark, by_end, IsSequence, no_piece, byte_piece, code_piece, conditional_piece, IsConditional, test_alone, test_then, test_then_else, Parses, advanced, refusal}
+use Rattle.ti_param.specs.Formats.{Tree, nothing, byte, code, group, choice, placed_token, Closes, by_mark, by_end, IsSequence, no_piece, byte_piece, code_piece, conditional_piece, IsConditional, test_alone, test_then, test_then_else, Parses}
+use Rattle.ti_param.specs.inside.Formats.{phases_after, refusal}
 use Rattle.ti_param.proofs.Fronts.{chosen}
 
 -- ---- the acceptor over a list of tokens
@@ -18,7 +19,7 @@ gone (Some phases) f = f phases
 
 unfoldable pub advanced_all : List Phase → List Placed → Option (List Phase)
 advanced_all phases [] = Some phases
-advanced_all phases (p ∷ tokens) = gone (advanced phases p.token) (λ opened. advanced_all opened tokens)
+advanced_all phases (p ∷ tokens) = gone (phases_after phases p.token) (λ opened. advanced_all opened tokens)
 
 abbrev pub Accepts : List Phase → List Placed → Type 0
 Accepts phases tokens = (opened : List Phase) × (advanced_all phases tokens ≡ Some opened)
@@ -34,18 +35,18 @@ pub accepts_front : (xs ys : List Placed) (phases : List Phase) → Accepts phas
 unfolding advanced_all
 accepts_front [] ys phases all = (phases, refl, all)
 accepts_front (p ∷ xs) ys phases (final, all) =
-    let (opened, step, rest) = gone_on (advanced phases p.token) (λ o. advanced_all o (xs ++ ys)) final all in
+    let (opened, step, rest) = gone_on (phases_after phases p.token) (λ o. advanced_all o (xs ++ ys)) final all in
     let (middle, front, back) = accepts_front xs ys opened (final, rest) in
     (middle, ap (λ a. gone a (λ o. advanced_all o xs)) step ∙ front, back)
 
 -- an accepted token at the end
 pub accepts_end : (xs : List Placed) (p : Placed) (phases opened last : List Phase) → advanced_all phases xs ≡ Some opened →
-    advanced opened p.token ≡ Some last → Accepts phases (xs ++ p ∷ [])
+    phases_after opened p.token ≡ Some last → Accepts phases (xs ++ p ∷ [])
 unfolding advanced_all
 accepts_end [] p phases opened last h step =
     let same : phases ≡ opened = cc h in (last, rw (same, step) refl)
 accepts_end (x ∷ xs) p phases opened last h step =
-    let (next, first, rest) = gone_on (advanced phases x.token) (λ o. advanced_all o xs) opened h in
+    let (next, first, rest) = gone_on (phases_after phases x.token) (λ o. advanced_all o xs) opened h in
     let (final, all) = accepts_end xs p next opened last rest step in
     (final, ap (λ a. gone a (λ o. advanced_all o (xs ++ p ∷ []))) first ∙ all)
 
@@ -54,7 +55,7 @@ pub refusal_accepted : (tokens : List Placed) (phases opened : List Phase) (rest
 unfolding advanced_all refusal
 refusal_accepted [] phases opened rest stop h = let same : phases ≡ opened = cc h in ap (λ p. refusal p rest stop) same
 refusal_accepted (p ∷ tokens) phases opened rest stop h =
-    let (next, first, all) = gone_on (advanced phases p.token) (λ o. advanced_all o tokens) opened h in
+    let (next, first, all) = gone_on (phases_after phases p.token) (λ o. advanced_all o tokens) opened h in
     rw (first, refusal) (refusal_accepted tokens next opened rest stop all)
 
 -- ---- a tree is accepted
@@ -101,7 +102,7 @@ parses_accepted tokens t parses = sequence_accepted parses [] refl ([], refl)
 -- what is left of a part taken: S, or S `%e` and again what stands in a conditional
 abbrev IsTaken : ℕ → List Placed → List Placed → Type 0
 IsTaken depth tokens left = ((taken : Tree) × IsSequence depth tokens left taken)
-    ⊎ ((taken rest : Tree) × (at : ℕ) × (others : List Placed) × IsSequence depth tokens (placed at Else ∷ others) taken × IsConditional depth others left rest)
+    ⊎ ((taken rest : Tree) × (at : ℕ) × (others : List Placed) × IsSequence depth tokens (placed_token at Else ∷ others) taken × IsConditional depth others left rest)
 
 -- what is left of each open conditional, the innermost first, and of the format after them
 abbrev IsLeft : List Phase → List Placed → Type 0
@@ -118,9 +119,9 @@ fronts_conditional : (depth : ℕ) (tokens longer left : List Placed) (t : Tree)
 fronts_conditional depth tokens longer left t front (test_alone {test} tested) =
     let (u, sequence) = front left test tested in (u, test_alone sequence)
 fronts_conditional depth tokens longer left t front (test_then place {more} {test} {taken} tested took) =
-    let (u, sequence) = front (placed place Then ∷ more) test tested in (choice u taken nothing, test_then place sequence took)
+    let (u, sequence) = front (placed_token place Then ∷ more) test tested in (choice u taken nothing, test_then place sequence took)
 fronts_conditional depth tokens longer left t front (test_then_else place at {more} {test} {taken} {rest} tested took other) =
-    let (u, sequence) = front (placed place Then ∷ more) test tested in (choice u taken rest, test_then_else place at sequence took other)
+    let (u, sequence) = front (placed_token place Then ∷ more) test tested in (choice u taken rest, test_then_else place at sequence took other)
 
 fronts_left : (phases : List Phase) (tokens longer : List Placed) → Fronts (length phases) tokens longer → IsLeft phases tokens → IsLeft phases longer
 fronts_left [] tokens longer front (t, sequence) = front [] t sequence
@@ -129,7 +130,7 @@ fronts_left (Testing ∷ phases) tokens longer front (inner, after, t, condition
 fronts_left (Taken ∷ phases) tokens longer front (inner, after, inl (taken, sequence), closes, rest) =
     let (u, more) = front inner taken sequence in (inner, after, inl (u, more), closes, rest)
 fronts_left (Taken ∷ phases) tokens longer front (inner, after, inr (taken, other, at, others, sequence, conditional), closes, rest) =
-    let (u, more) = front (placed at Else ∷ others) taken sequence in (inner, after, inr (u, other, at, others, more, conditional), closes, rest)
+    let (u, more) = front (placed_token at Else ∷ others) taken sequence in (inner, after, inr (u, other, at, others, more, conditional), closes, rest)
 
 nothing_left : (phases : List Phase) → IsLeft phases []
 nothing_left [] = (nothing, no_piece)
@@ -137,13 +138,13 @@ nothing_left (Testing ∷ phases) = ([], [], nothing, test_alone no_piece, by_en
 nothing_left (Taken ∷ phases) = ([], [], inl (nothing, no_piece), by_end, nothing_left phases)
 
 -- one token in front
-left_before : (place : ℕ) (token : Token) (tokens : List Placed) (phases : List Phase) → Accepts phases (placed place token ∷ tokens) →
-    ((opened : List Phase) → Accepts opened tokens → IsLeft opened tokens) → IsLeft phases (placed place token ∷ tokens)
+left_before : (place : ℕ) (token : Token) (tokens : List Placed) (phases : List Phase) → Accepts phases (placed_token place token ∷ tokens) →
+    ((opened : List Phase) → Accepts opened tokens → IsLeft opened tokens) → IsLeft phases (placed_token place token ∷ tokens)
 unfolding advanced_all
 left_before place (Literal b) tokens phases accepts before =
-    fronts_left phases tokens (placed place (Literal b) ∷ tokens) (λ left t s. (byte b t, byte_piece place b s)) (before phases accepts)
+    fronts_left phases tokens (placed_token place (Literal b) ∷ tokens) (λ left t s. (byte b t, byte_piece place b s)) (before phases accepts)
 left_before place (Operation c) tokens phases accepts before =
-    fronts_left phases tokens (placed place (Operation c) ∷ tokens) (λ left t s. (code place c t, code_piece place c s)) (before phases accepts)
+    fronts_left phases tokens (placed_token place (Operation c) ∷ tokens) (λ left t s. (code place c t, code_piece place c s)) (before phases accepts)
 left_before place If tokens phases (final, accepts) before =
     let (opened, step, rest) = gone_on (if nat_lt (length phases) 64 then Some (Testing ∷ phases) else None) (λ o. advanced_all o tokens) final accepts in
     elim (chosen (nat_lt (length phases) 64) _ _ _ step) [
@@ -151,13 +152,13 @@ left_before place If tokens phases (final, accepts) before =
           let same : opened ≡ Testing ∷ phases = cc is in
           let few : length phases < 64 = grind (arith, nat_tests) in
           let (inner, after, t, conditional, closes, left) = before (Testing ∷ phases) (final, subst (λ o. advanced_all o tokens ≡ Some final) same rest) in
-          fronts_left phases after (placed place If ∷ tokens) (λ end u s. (group t u, conditional_piece place few conditional closes s)) left
+          fronts_left phases after (placed_token place If ∷ tokens) (λ end u s. (group t u, conditional_piece place few conditional closes s)) left
       | inr (full, is) ↦ absurd (cc is)
     ]
 left_before place Then tokens [] (final, accepts) before = absurd (cc)
 left_before place Then tokens (Testing ∷ phases) accepts before = then_before (before (Taken ∷ phases) accepts)
   where
-    then_before : IsLeft (Taken ∷ phases) tokens → IsLeft (Testing ∷ phases) (placed place Then ∷ tokens)
+    then_before : IsLeft (Taken ∷ phases) tokens → IsLeft (Testing ∷ phases) (placed_token place Then ∷ tokens)
     then_before (inner, after, inl (taken, sequence), closes, left) = (inner, after, choice nothing taken nothing, test_then place no_piece sequence, closes, left)
     then_before (inner, after, inr (taken, rest, at, others, sequence, conditional), closes, left) =
         (inner, after, choice nothing taken rest, test_then_else place at no_piece sequence conditional, closes, left)
@@ -169,9 +170,9 @@ left_before place Else tokens (Taken ∷ phases) accepts before =
     (inner, after, inr (nothing, t, place, tokens, no_piece, conditional), closes, left)
 left_before place EndIf tokens [] (final, accepts) before = absurd (cc)
 left_before place EndIf tokens (Testing ∷ phases) accepts before =
-    (placed place EndIf ∷ tokens, tokens, nothing, test_alone no_piece, by_mark place, before phases accepts)
+    (placed_token place EndIf ∷ tokens, tokens, nothing, test_alone no_piece, by_mark place, before phases accepts)
 left_before place EndIf tokens (Taken ∷ phases) accepts before =
-    (placed place EndIf ∷ tokens, tokens, inl (nothing, no_piece), by_mark place, before phases accepts)
+    (placed_token place EndIf ∷ tokens, tokens, inl (nothing, no_piece), by_mark place, before phases accepts)
 
 all_left : (tokens : List Placed) (phases : List Phase) → Accepts phases tokens → IsLeft phases tokens
 all_left [] phases accepts = nothing_left phases

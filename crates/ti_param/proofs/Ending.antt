@@ -3,9 +3,11 @@ use Rattle.std.proofs.Common.{◌≡◌, ℕ, List, refl, ap, sym, ◌∙◌, su
 use Rattle.std.specs.Prelude.{Some, None, Result, Ok, Err, IsErrOf, ◌↔◌, ℤ}
 use Rattle.ti_param.specs.declared.errors.ParamError.{ParamError}
 use Rattle.ti_param.specs.declared.errors.ParamError.TheVariants.{BadFormat, StackFull, Memory}
-use Rattle.ti_param.specs.Formats.{Tree, IsTree, IsStuck, stuck_place, tree_of}
+use Rattle.ti_param.specs.Formats.{Tree, IsTree, IsStuck}
+use Rattle.ti_param.specs.inside.Formats.{stuck_place, tree_of}
 use Rattle.ti_param.specs.Meaning.{Argument, State, Outcome, start, meaning}
-use Rattle.ti_param.specs.Expansion.{Expands, Overflows, expanded, ended, unless_stuck, expansion, EndsWith, Ran, IsRefusal}
+use Rattle.ti_param.specs.Expansion.{Expands, Overflows, expanded, expansion_by, unless_stuck, expansion, EndsWith}
+use Rattle.ti_param.specs.inside.Expansion.{HasOutcome, IsStuckError}
 use Rattle.ti_param.proofs.Laws.{is_computed}
 
 -- the tree of a format that is not stuck
@@ -14,7 +16,7 @@ whole format none = ((is_computed format).tree (tree_of format)).1 (none, refl)
 
 -- ---- the format is refused
 
-pub refused-bad_format : {T : Type 0} (format : List ℕ) (e : ParamError) → IsRefusal e (stuck_place format) →
+pub refused-bad_format : {T : Type 0} (format : List ℕ) (e : ParamError) → IsStuckError e (stuck_place format) →
     (place : ℕ) → IsErrOf {T = T} {E = ParamError} (Err e) (BadFormat place) ↔ IsStuck format place
 refused-bad_format format (BadFormat at) refusal place = (
   λ is. let same : at ≡ place = cc is in ((is_computed format).stuck place).1 (refusal ∙ ap Some same),
@@ -23,7 +25,7 @@ refused-bad_format format (BadFormat at) refusal place = (
 refused-bad_format format (StackFull at) refusal place = absurd refusal
 refused-bad_format format Memory refusal place = absurd refusal
 
-pub refused-computed : (format : List ℕ) (parameters : List Argument) (statics : List ℤ) (e : ParamError) → IsRefusal e (stuck_place format) →
+pub refused-computed : (format : List ℕ) (parameters : List Argument) (statics : List ℤ) (e : ParamError) → IsStuckError e (stuck_place format) →
     EndsWith e (expansion format parameters statics)
 unfolding expansion
 refused-computed format parameters statics (BadFormat at) refusal = ap (λ stuck. unless_stuck stuck (meaning (tree_of format) (start parameters statics))) refusal
@@ -34,12 +36,12 @@ refused-computed format parameters statics Memory refusal = absurd refusal
 
 -- a run from a state to another
 abbrev pub Runs : List ℕ → State → Result (Unit {0}) ParamError → State → Type 0
-Runs format before result after = (t : Tree) → IsTree format t → Ran result after (meaning t before)
+Runs format before result after = (t : Tree) → IsTree format t → HasOutcome result after (meaning t before)
 
 pub run-bad_format : {T : Type 0} (format : List ℕ) (before after : State) (e : ParamError) → stuck_place format ≡ None → Runs format before (Err e) after →
     (place : ℕ) → IsErrOf {T = T} {E = ParamError} (Err e) (BadFormat place) ↔ IsStuck format place
 run-bad_format format before after e none runs place = (
-  λ is. let same : e ≡ BadFormat place = cc is in absurd (subst (λ f. Ran (Err f) after (meaning (tree_of format) before)) same (runs (tree_of format) (whole format none))),
+  λ is. let same : e ≡ BadFormat place = cc is in absurd (subst (λ f. HasOutcome (Err f) after (meaning (tree_of format) before)) same (runs (tree_of format) (whole format none))),
   λ stuck. absurd (cc (sym none ∙ ((is_computed format).stuck place).0 stuck)),
 )
 
@@ -52,7 +54,7 @@ run-stack_full format parameters statics before after e none begins runs place i
       tree = tree_of format;
       is_tree = whole format none;
       runs = ap (meaning (tree_of format)) (sym begins)
-          ∙ subst (λ f. Ran (Err f) after (meaning (tree_of format) before)) same (runs (tree_of format) (whole format none));
+          ∙ subst (λ f. HasOutcome (Err f) after (meaning (tree_of format) before)) same (runs (tree_of format) (whole format none));
     }
 
 pub run-memory : (format : List ℕ) → stuck_place format ≡ None → (t : Tree) × IsTree format t
@@ -62,11 +64,11 @@ pub run-computed : (format : List ℕ) (parameters : List Argument) (statics : L
     stuck_place format ≡ None → before ≡ start parameters statics → Runs format before (Err e) after → EndsWith e (expansion format parameters statics)
 unfolding expansion
 run-computed format parameters statics before after e none begins runs =
-    rw none (subst (λ s. EndsWith e (ended (meaning (tree_of format) s))) begins (ends e (meaning (tree_of format) before) (runs (tree_of format) (whole format none))))
+    rw none (subst (λ s. EndsWith e (expansion_by (meaning (tree_of format) s))) begins (ends e (meaning (tree_of format) before) (runs (tree_of format) (whole format none))))
   where
-    ends : (e : ParamError) (o : Outcome) → Ran (Err e) after o → EndsWith e (ended o)
+    ends : (e : ParamError) (o : Outcome) → HasOutcome (Err e) after o → EndsWith e (expansion_by o)
     ends (BadFormat place) o ran = absurd ran
-    ends (StackFull place) o ran = ap ended ran
+    ends (StackFull place) o ran = ap expansion_by ran
     ends Memory (Ok final) ran = tt
     ends Memory (Err place) ran = tt
 
@@ -87,7 +89,7 @@ pub done-computed : (format : List ℕ) (parameters : List Argument) (statics : 
     expansion format parameters statics ≡ expanded output after
 unfolding expansion
 done-computed format parameters statics before final output after none begins runs output_is statics_are =
-    rw none (ap ended (ap (meaning (tree_of format)) (sym begins) ∙ runs (tree_of format) (whole format none))
+    rw none (ap expansion_by (ap (meaning (tree_of format)) (sym begins) ∙ runs (tree_of format) (whole format none))
     ∙ ap (λ o. expanded o final.statics) (sym output_is) ∙ ap (expanded output) (sym statics_are))
 
 pub done-bad_format : {T : Type 0} (format : List ℕ) (x : T) → stuck_place format ≡ None →

@@ -7,8 +7,10 @@ use Rattle.ti_param.specs.declared.acceptor.Phase.{Phase}
 use Rattle.ti_param.specs.declared.codes.Token.{Token}
 use Rattle.ti_param.specs.declared.codes.Token.TheVariants.{Literal}
 use Rattle.ti_param.specs.declared.lexer.Placed.{Placed}
-use Rattle.ti_param.specs.Codes.{IsCode, Front, token_after}
-use Rattle.ti_param.specs.Formats.{Tree, placed, IsCut, no_tokens, then_byte, then_code, Parses, IsTree, BeginsFormat, IsStuck, OneReading, Scan, with_token, scan, scan_of, advanced, refusal, stuck_place, parsed, tree_of, IsComputed}
+use Rattle.ti_param.specs.Codes.{IsCode}
+use Rattle.ti_param.specs.inside.Codes.{Front, token_after}
+use Rattle.ti_param.specs.Formats.{Tree, placed_token, IsCut, no_tokens, then_byte, then_code, Parses, IsTree, BeginsFormat, IsStuck, OneReading}
+use Rattle.ti_param.specs.inside.Formats.{Scan, with_token, scan, scan_of, phases_after, refusal, stuck_place, tree_and_marks, tree_of, IsComputed}
 use Rattle.ti_param.specs.Meaning.{State, Outcome, and_then, meaning}
 use Rattle.ti_param.proofs.Reading.{code_read, code_so}
 use Rattle.ti_param.proofs.Scanning.{scan-byte, scan-stop, scan-code}
@@ -27,13 +29,13 @@ cut_scanned (no_tokens {place}) more = ap (λ p. scan 0 p more) (sym (add-zero p
 cut_scanned (then_byte {place} b {text} {tokens} other cut) more =
     let count : suc place + length text ≡ place + suc (length text) = omega arith in
     scan-byte place b (text ++ more) other ∙ ap (with_token place (Literal b)) (cut_scanned cut more)
-    ∙ ap (λ p. prefixed (placed place (Literal b) ∷ tokens) (scan 0 p more)) count
+    ∙ ap (λ p. prefixed (placed_token place (Literal b) ∷ tokens) (scan 0 p more)) count
 cut_scanned (then_code {place} front {token} {rest} {tokens} is_code cut) more =
     let count : suc place + length front + length rest ≡ place + suc (length (front ++ rest)) = omega (arith, length-append front rest) in
     ap (λ t. scan 0 place (37 ∷ t)) (append_assoc front rest more)
     ∙ scan-code place front (rest ++ more) token (code_read front (rest ++ more) token is_code)
     ∙ ap (with_token place token) (cut_scanned cut more)
-    ∙ ap (λ p. prefixed (placed place token ∷ tokens) (scan 0 p more)) count
+    ∙ ap (λ p. prefixed (placed_token place token ∷ tokens) (scan 0 p more)) count
 
 cut_whole : {place : ℕ} {text : List ℕ} {tokens : List Placed} → IsCut place text tokens →
     scan 0 place text ≡ record { tokens = tokens; stop = None }
@@ -53,7 +55,7 @@ record IsStuckFrom (place : ℕ) (text : List ℕ) (phases : List Phase) (i : �
   pub at : place + length before ≡ i
   pub cut : IsCut place before tokens
   pub accepted : advanced_all phases tokens ≡ Some opened
-  pub refused : (front rest : List ℕ) (token : Token) → after ≡ front ++ rest → IsCode front token → advanced opened token ≡ None
+  pub refused : (front rest : List ℕ) (token : Token) → after ≡ front ++ rest → IsCode front token → phases_after opened token ≡ None
 
 abbrev IsRead : ℕ → List ℕ → List Phase → Option ℕ → Type 0
 IsRead place text phases None = (tokens : List Placed) × (opened : List Phase) × IsCut place text tokens × (advanced_all phases tokens ≡ Some opened)
@@ -62,11 +64,11 @@ IsRead place text phases (Some i) = IsStuckFrom place text phases i
 read_byte : (place b : ℕ) (text : List ℕ) (phases : List Phase) (r : Option ℕ) → (b == 37) ≡ false →
     IsRead (suc place) text phases r → IsRead place (b ∷ text) phases r
 unfolding advanced_all
-read_byte place b text phases None other (tokens, opened, cut, accepted) = (placed place (Literal b) ∷ tokens, opened, then_byte b other cut, accepted)
+read_byte place b text phases None other (tokens, opened, cut, accepted) = (placed_token place (Literal b) ∷ tokens, opened, then_byte b other cut, accepted)
 read_byte place b text phases (Some i) other stuck = record {
   before = b ∷ stuck.before;
   after = stuck.after;
-  tokens = placed place (Literal b) ∷ stuck.tokens;
+  tokens = placed_token place (Literal b) ∷ stuck.tokens;
   opened = stuck.opened;
   whole = ap (λ t. b ∷ t) stuck.whole;
   at = omega (arith, stuck.at);
@@ -76,14 +78,14 @@ read_byte place b text phases (Some i) other stuck = record {
 }
 
 read_code : (place : ℕ) (front rest : List ℕ) (token : Token) (phases opened : List Phase) (r : Option ℕ) → IsCode front token →
-    advanced phases token ≡ Some opened → IsRead (suc place + length front) rest opened r → IsRead place (37 ∷ (front ++ rest)) phases r
+    phases_after phases token ≡ Some opened → IsRead (suc place + length front) rest opened r → IsRead place (37 ∷ (front ++ rest)) phases r
 unfolding advanced_all
 read_code place front rest token phases opened None is_code step (tokens, final, cut, accepted) =
-    (placed place token ∷ tokens, final, then_code front is_code cut, rw step accepted)
+    (placed_token place token ∷ tokens, final, then_code front is_code cut, rw step accepted)
 read_code place front rest token phases opened (Some i) is_code step stuck = record {
   before = 37 ∷ (front ++ stuck.before);
   after = stuck.after;
-  tokens = placed place token ∷ stuck.tokens;
+  tokens = placed_token place token ∷ stuck.tokens;
   opened = stuck.opened;
   whole = ap (λ t. 37 ∷ (front ++ t)) stuck.whole ∙ ap (λ t. 37 ∷ t) (sym (append_assoc front stuck.before (37 ∷ stuck.after)));
   at = omega (arith, stuck.at, length-append front stuck.before);
@@ -122,11 +124,11 @@ read_percent place text phases shorter (Some (token, rest)) read =
     let scanned : scan 0 place (37 ∷ (front ++ rest)) ≡ with_token place token (scan 0 (suc place + length front) rest) =
     scan-code place front rest token (ap token_after (sym whole) ∙ read) in
     let step : IsRead place (37 ∷ (front ++ rest)) phases (refused_by phases (with_token place token (scan 0 (suc place + length front) rest))) =
-    at_token (advanced phases token) refl front is_code whole (shorter (suc place + length front) rest) in
+    at_token (phases_after phases token) refl front is_code whole (shorter (suc place + length front) rest) in
     subst (λ t. IsRead place (37 ∷ t) phases (refused_by phases (scan 0 place (37 ∷ t)))) (sym whole)
     (subst (λ s. IsRead place (37 ∷ (front ++ rest)) phases (refused_by phases s)) (sym scanned) step)
   where
-    at_token : (o : Option (List Phase)) → advanced phases token ≡ o → (front : List ℕ) → IsCode front token → text ≡ front ++ rest →
+    at_token : (o : Option (List Phase)) → phases_after phases token ≡ o → (front : List ℕ) → IsCode front token → text ≡ front ++ rest →
         ((opened : List Phase) → length rest ≤ length text → IsRead (suc place + length front) rest opened (refused_by opened (scan 0 (suc place + length front) rest))) →
         IsRead place (37 ∷ (front ++ rest)) phases (refused_by phases (with_token place token (scan 0 (suc place + length front) rest)))
     at_token None step front is_code whole rest_read =
@@ -139,7 +141,7 @@ read_percent place text phases shorter (Some (token, rest)) read =
           at = add-zero place;
           cut = no_tokens;
           accepted = refl;
-          refused = λ f r t same is_other. ap (advanced phases) (sym (same_code text front rest f r token t read (whole ∙ same) is_other)) ∙ step;
+          refused = λ f r t same is_other. ap (phases_after phases) (sym (same_code text front rest f r token t read (whole ∙ same) is_other)) ∙ step;
         })
     at_token (Some opened) step front is_code whole rest_read =
         subst (λ a. IsRead place (37 ∷ (front ++ rest)) phases (elim a as (λ _. Option ℕ) [ None ↦ Some place | Some opened ↦ refused_by opened (scan 0 (suc place + length front) rest) ])) (sym step)
@@ -162,12 +164,12 @@ read_from (suc n) place (b ∷ text) phases few =
 -- ---- the laws
 
 tree_computed : (format : List ℕ) (t : Tree) → IsTree format t → (stuck_place format ≡ None) × (tree_of format ≡ t)
-unfolding stuck_place refusal parsed
+unfolding stuck_place refusal tree_and_marks
 tree_computed format t tree =
     let scanned : scan_of format ≡ record { tokens = tree.tokens; stop = None } = cut_whole tree.cut in
     let (opened, all) = parses_accepted tree.tokens t tree.parses in (
       ap (refused_by []) scanned ∙ ap (λ ts. refusal [] ts None) (sym (append-nil tree.tokens)) ∙ refusal_accepted tree.tokens [] opened [] None all,
-      ap (λ s. (parsed s.tokens).0) scanned ∙ ap (λ parts. parts.0) (sequence_parsed tree.parses refl),
+      ap (λ s. (tree_and_marks s.tokens).0) scanned ∙ ap (λ parts. parts.0) (sequence_parsed tree.parses refl),
     )
 
 computed_tree : (format : List ℕ) → stuck_place format ≡ None → IsTree format (tree_of format)
@@ -187,12 +189,12 @@ stuck_computed format place stuck =
     ∙ refusal_accepted stuck.tokens [] opened (scan 0 place (37 ∷ stuck.after)).tokens (scan 0 place (37 ∷ stuck.after)).stop accepted
     ∙ here opened accepted (token_after stuck.after) refl
   where
-    not_allowed : (opened : List Phase) → advanced_all [] stuck.tokens ≡ Some opened → (token : Token) (o : Option (List Phase)) → advanced opened token ≡ o →
-        (BeginsFormat (stuck.tokens ++ placed place token ∷ []) → ⊥) → advanced opened token ≡ None
+    not_allowed : (opened : List Phase) → advanced_all [] stuck.tokens ≡ Some opened → (token : Token) (o : Option (List Phase)) → phases_after opened token ≡ o →
+        (BeginsFormat (stuck.tokens ++ placed_token place token ∷ []) → ⊥) → phases_after opened token ≡ None
     not_allowed opened accepted token None step none = step
     not_allowed opened accepted token (Some last) step none =
-        let (t, parses) = accepted_parses (stuck.tokens ++ placed place token ∷ []) (accepts_end stuck.tokens (placed place token) [] opened last accepted step) in
-        absurd (none ([], t, subst (λ ts. Parses ts t) (sym (append-nil (stuck.tokens ++ placed place token ∷ []))) parses))
+        let (t, parses) = accepted_parses (stuck.tokens ++ placed_token place token ∷ []) (accepts_end stuck.tokens (placed_token place token) [] opened last accepted step) in
+        absurd (none ([], t, subst (λ ts. Parses ts t) (sym (append-nil (stuck.tokens ++ placed_token place token ∷ []))) parses))
 
     here : (opened : List Phase) → advanced_all [] stuck.tokens ≡ Some opened → (found : Front Token) → token_after stuck.after ≡ found →
         refused_by opened (scan 0 place (37 ∷ stuck.after)) ≡ Some place
@@ -203,7 +205,7 @@ stuck_computed format place stuck =
         ap (λ a. scan 0 place (37 ∷ a)) whole ∙ scan-code place front rest token (ap token_after (sym whole) ∙ read) in
         ap (refused_by opened) scanned
         ∙ ap (λ a. elim a as (λ _. Option ℕ) [ None ↦ Some place | Some next ↦ refused_by next (scan 0 (suc place + length front) rest) ])
-        (not_allowed opened accepted token (advanced opened token) refl (stuck.none front rest token whole is_code))
+        (not_allowed opened accepted token (phases_after opened token) refl (stuck.none front rest token whole is_code))
 
 computed_stuck : (format : List ℕ) (place : ℕ) → stuck_place format ≡ Some place → IsStuck format place
 unfolding stuck_place advanced_all
@@ -221,13 +223,13 @@ computed_stuck format place is =
       none = λ front rest token whole is_code. refuses from token (from.refused front rest token whole is_code);
     }
   where
-    refuses : (from : IsStuckFrom 0 format [] place) (token : Token) → advanced from.opened token ≡ None → BeginsFormat (from.tokens ++ placed place token ∷ []) → ⊥
+    refuses : (from : IsStuckFrom 0 format [] place) (token : Token) → phases_after from.opened token ≡ None → BeginsFormat (from.tokens ++ placed_token place token ∷ []) → ⊥
     refuses from token step (more, t, parses) =
-        let all = parses_accepted ((from.tokens ++ placed place token ∷ []) ++ more) t parses in
-        let (middle, accepted, rest) = accepts_front from.tokens (placed place token ∷ more) []
-        (subst (Accepts []) (append_assoc from.tokens (placed place token ∷ []) more) all) in
+        let all = parses_accepted ((from.tokens ++ placed_token place token ∷ []) ++ more) t parses in
+        let (middle, accepted, rest) = accepts_front from.tokens (placed_token place token ∷ more) []
+        (subst (Accepts []) (append_assoc from.tokens (placed_token place token ∷ []) more) all) in
         let same : middle ≡ from.opened = cc (sym accepted ∙ from.accepted) in
-        let no_step : advanced middle token ≡ None = ap (λ o. advanced o token) same ∙ step in
+        let no_step : phases_after middle token ≡ None = ap (λ o. phases_after o token) same ∙ step in
         let stops : None ≡ Some rest.0 = sym (ap (λ a. gone a (λ o. advanced_all o more)) no_step) ∙ rest.1 in
         absurd (cc stops)
 
@@ -256,8 +258,8 @@ one_reading format = record {
 pub format_runs : (format : List ℕ) (t : Tree) → IsTree format t → (s : State) → executed None (scan_of format).tokens s ≡ meaning t s
 unfolding executed
 format_runs format t tree s =
-    ap (λ scanned. executed None scanned.tokens s) (cut_whole tree.cut) ∙ sequence_runs tree.parses s ∙ ended (meaning t s)
+    ap (λ scanned. executed None scanned.tokens s) (cut_whole tree.cut) ∙ sequence_runs tree.parses s ∙ expansion_by (meaning t s)
   where
-    ended : (o : Outcome) → and_then o (executed None []) ≡ o
-    ended (Ok final) = refl
-    ended (Err place) = refl
+    expansion_by : (o : Outcome) → and_then o (executed None []) ≡ o
+    expansion_by (Ok final) = refl
+    expansion_by (Err place) = refl

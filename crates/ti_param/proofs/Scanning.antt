@@ -4,8 +4,8 @@ use Rattle.std.specs.Prelude.{Some, None, ◌==◌, if◌then◌else◌}
 use Rattle.std.proofs.lemmas.Bool.Decides.{Decides-eqb}
 use Rattle.ti_param.specs.declared.codes.Token.{Token}
 use Rattle.ti_param.specs.declared.codes.Token.TheVariants.{Literal}
-use Rattle.ti_param.specs.Codes.{Front, token_after}
-use Rattle.ti_param.specs.Formats.{Scan, first_token, with_token, with_code, scan}
+use Rattle.ti_param.specs.inside.Codes.{Front, token_after}
+use Rattle.ti_param.specs.inside.Formats.{Scan, first_token, with_token, with_code, scan}
 use Rattle.ti_param.proofs.Reading.{code_so}
 use Rattle.ti_param.proofs.Fronts.{fails}
 
@@ -84,10 +84,10 @@ few place text None each = omega arith
 few place text (Some found) each = omega (arith, each (length text - length found.1))
 
 -- a text has no more tokens than bytes
-pub tokens-few : (skipped place : ℕ) (text : List ℕ) → length (scan skipped place text).tokens ≤ length text
+pub tokens-few : (after_part place : ℕ) (text : List ℕ) → length (scan after_part place text).tokens ≤ length text
 unfolding scan
-tokens-few skipped place [] = omega arith
-tokens-few (suc skipped) place (b ∷ text) = omega (arith, tokens-few skipped (suc place) text)
+tokens-few after_part place [] = omega arith
+tokens-few (suc after_part) place (b ∷ text) = omega (arith, tokens-few after_part (suc place) text)
 tokens-few zero place (b ∷ text) =
     elim (b == 37) as (λ t. length (cond t (with_code place (token_after text) (λ rest. scan (length text - length rest) (suc place) text)) (with_token place (Literal b) (scan zero (suc place) text))).tokens ≤ suc (length text)) [
       | true ↦ few place text (token_after text) (λ k. tokens-few k (suc place) text)

@@ -1,8 +1,9 @@
 -- What an expansion gives, by the tree of its format and the tree's meaning: terminfo(5), "Parameterized Strings".
-use Rattle.std.specs.Prelude.{◌≡◌, ℕ, List, Option, Some, None, ℤ, Result, Ok, Err}
+use Rattle.std.specs.Prelude.{◌≡◌, ℕ, List, Option, Some, None, ℤ, Ok, Err}
 use Rattle.ti_param.specs.declared.errors.ParamError.{ParamError}
 use Rattle.ti_param.specs.declared.errors.ParamError.TheVariants.{BadFormat, StackFull, Memory}
-use Rattle.ti_param.specs.Formats.{Tree, IsTree, stuck_place, tree_of}
+use Rattle.ti_param.specs.Formats.{Tree, IsTree}
+use Rattle.ti_param.specs.inside.Formats.{stuck_place, tree_of}
 use Rattle.ti_param.specs.Meaning.{Argument, State, Outcome, start, meaning}
 
 -- the format has a tree, which runs to this output and these static variables
@@ -29,13 +30,13 @@ pub data Expansion : Type 0 where
   stack_full : (place : ℕ) → Expansion
 
 -- the expansion whose run has this outcome
-abbrev pub ended : Outcome → Expansion
-ended (Ok final) = expanded final.output final.statics
-ended (Err place) = stack_full place
+abbrev pub expansion_by : Outcome → Expansion
+expansion_by (Ok final) = expanded final.output final.statics
+expansion_by (Err place) = stack_full place
 
 -- a bad format where there is a place at which it is stuck, else the expansion by the run's outcome
 abbrev pub unless_stuck : Option ℕ → Outcome → Expansion
-unless_stuck None outcome = ended outcome
+unless_stuck None outcome = expansion_by outcome
 unless_stuck (Some place) outcome = bad_format place
 
 -- what a format expands to with these parameters and static variables
@@ -48,16 +49,3 @@ EndsWith (BadFormat place) e = e ≡ bad_format place
 EndsWith (StackFull place) e = e ≡ stack_full place
 EndsWith Memory (bad_format place) = ⊥
 EndsWith Memory e = Unit {0}
-
--- how a step of the machine ended and left it, where this is what it is to do; want of memory leaves it anyhow
-abbrev pub Ran : Result (Unit {0}) ParamError → State → Outcome → Type 0
-Ran (Ok done) after outcome = outcome ≡ Ok after
-Ran (Err (StackFull place)) after outcome = outcome ≡ Err place
-Ran (Err Memory) after outcome = Unit {0}
-Ran (Err (BadFormat place)) after outcome = ⊥
-
--- the acceptor's error names the place where the format is stuck
-abbrev pub IsRefusal : ParamError → Option ℕ → Type 0
-IsRefusal (BadFormat place) stuck = stuck ≡ Some place
-IsRefusal (StackFull place) stuck = ⊥
-IsRefusal Memory stuck = ⊥

@@ -1,4 +1,5 @@
 pub mod Codes
+pub mod inside
 pub mod Expansion
 pub mod Formats
 pub mod Meaning

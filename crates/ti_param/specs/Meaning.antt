@@ -15,6 +15,7 @@ use Rattle.ti_param.specs.declared.values.Value.{Value}
 use Rattle.ti_param.specs.declared.values.Value.TheVariants.{Number, Text}
 use Rattle.ti_param.specs.Formats.{Tree, nothing, byte, code, group, choice}
 use Rattle.ti_printing.specs.Printf.{printed}
+use Rattle.ti_text.specs.Ascii as ascii
 
 -- ---- values
 
@@ -41,8 +42,8 @@ text_of (text t) = t
 -- ---- arithmetic
 
 -- the number of 32 bits that is equal to this one modulo 2^32
-abbrev pub wrapped : ℤ → ℤ
-wrapped n = int_wrap w32 n
+abbrev pub in_32_bits : ℤ → ℤ
+in_32_bits n = int_wrap w32 n
 
 -- whether a number is 0
 abbrev pub is_zero : ℤ → Bool
@@ -57,20 +58,20 @@ abbrev pub on_bits : (ℕ → ℕ → ℕ) → ℤ → ℤ → ℤ
 on_bits f x y = cast_signed w32 (f (cast_unsigned w32 x) (cast_unsigned w32 y))
 
 -- x op y; a quotient is cut towards 0, a remainder has the sign of x, and both are 0 where y is
-abbrev pub operated : Operator → ℤ → ℤ → ℤ
-operated Add x y = wrapped (x +ℤ y)
-operated Subtract x y = wrapped (x -ℤ y)
-operated Multiply x y = wrapped (x *ℤ y)
-operated Divide x y = if is_zero y then pos 0 else wrapped (int_div x y)
-operated Remainder x y = if is_zero y then pos 0 else int_rem x y
-operated BitAnd x y = on_bits bit_and x y
-operated BitOr x y = on_bits bit_or x y
-operated BitXor x y = on_bits bit_xor x y
-operated Equal x y = truth (int_eq x y)
-operated Greater x y = truth (int_lt y x)
-operated Less x y = truth (int_lt x y)
-operated And x y = truth (not (is_zero x) && not (is_zero y))
-operated Or x y = truth (not (is_zero x) || not (is_zero y))
+abbrev pub operation : Operator → ℤ → ℤ → ℤ
+operation Add x y = in_32_bits (x +ℤ y)
+operation Subtract x y = in_32_bits (x -ℤ y)
+operation Multiply x y = in_32_bits (x *ℤ y)
+operation Divide x y = if is_zero y then pos 0 else in_32_bits (int_div x y)
+operation Remainder x y = if is_zero y then pos 0 else int_rem x y
+operation BitAnd x y = on_bits bit_and x y
+operation BitOr x y = on_bits bit_or x y
+operation BitXor x y = on_bits bit_xor x y
+operation Equal x y = truth (int_eq x y)
+operation Greater x y = truth (int_lt y x)
+operation Less x y = truth (int_lt x y)
+operation And x y = truth (not (is_zero x) && not (is_zero y))
+operation Or x y = truth (not (is_zero x) || not (is_zero y))
 
 -- each of the 32 bits turned
 abbrev pub complement : ℤ → ℤ
@@ -105,8 +106,8 @@ and_then (Ok s) f = f s
 and_then (Err place) f = Err place
 
 -- the state with these bytes at the end of the output
-abbrev pub written : List ℕ → State → State
-written bytes s = record s { output = s.output ++ bytes }
+abbrev pub with_output : List ℕ → State → State
+with_output bytes s = record s { output = s.output ++ bytes }
 
 -- the top of the stack, the number 0 where it is empty
 abbrev pub top : State → Argument
@@ -122,69 +123,76 @@ tail_of [] = []
 tail_of (x ∷ xs) = xs
 
 -- the state with the top of the stack taken off, if there is one
-abbrev pub popped : State → State
-popped s = record s { stack = tail_of s.stack }
+abbrev pub without_top : State → State
+without_top s = record s { stack = tail_of s.stack }
 
 -- the state with one more value on the stack
 abbrev pub with_top : Argument → State → State
 with_top x s = record s { stack = x ∷ s.stack }
 
--- the state with a value put on the stack, unless that has 20 already, which is as many as it holds (own)
-abbrev pub pushed : ℕ → Argument → State → Outcome
-pushed place x s = if nat_lt (length s.stack) 20 then Ok (with_top x s) else Err place
+-- how many values the stack holds (own)
+abbrev pub stack_size : ℕ
+stack_size = 20
+
+-- the state with a value put on the stack, unless that is full
+abbrev pub push_outcome : ℕ → Argument → State → Outcome
+push_outcome place x s = if nat_lt (length s.stack) stack_size then Ok (with_top x s) else Err place
 
 -- the number that a variable holds
-abbrev pub fetched : Variable → State → ℤ
-fetched (Dynamic i) s = slice_index_or s.dynamics i (pos 0)
-fetched (Static i) s = slice_index_or s.statics i (pos 0)
+abbrev pub variable_value : Variable → State → ℤ
+variable_value (Dynamic i) s = slice_index_or s.dynamics i (pos 0)
+variable_value (Static i) s = slice_index_or s.statics i (pos 0)
 
 -- the state with a number set in a variable
-abbrev pub stored : Variable → ℤ → State → State
-stored (Dynamic i) n s = record s { dynamics = slice_set s.dynamics i n }
-stored (Static i) n s = record s { statics = slice_set s.statics i n }
+abbrev pub with_variable : Variable → ℤ → State → State
+with_variable (Dynamic i) n s = record s { dynamics = slice_set s.dynamics i n }
+with_variable (Static i) n s = record s { statics = slice_set s.statics i n }
 
 -- one more, where it is a number
-abbrev pub increased : Argument → Argument
-increased (number n) = number (wrapped (n +ℤ pos 1))
-increased (text t) = text t
+abbrev pub plus_one : Argument → Argument
+plus_one (number n) = number (in_32_bits (n +ℤ pos 1))
+plus_one (text t) = text t
 
 -- the parameters with each of the first two increased
-abbrev pub first_two_increased : List Argument → List Argument
-first_two_increased [] = []
-first_two_increased (x ∷ []) = increased x ∷ []
-first_two_increased (x ∷ (y ∷ rest)) = increased x ∷ (increased y ∷ rest)
+abbrev pub first_two_plus_one : List Argument → List Argument
+first_two_plus_one [] = []
+first_two_plus_one (x ∷ []) = plus_one x ∷ []
+first_two_plus_one (x ∷ (y ∷ rest)) = plus_one x ∷ (plus_one y ∷ rest)
 
 -- the state with the first two parameters increased
 abbrev pub with_increment : State → State
-with_increment s = record s { parameters = first_two_increased s.parameters }
+with_increment s = record s { parameters = first_two_plus_one s.parameters }
 
 -- ---- codes and trees
 
 -- the state with the top of the stack popped and printed by a printf form
 abbrev pub with_print : Directive → State → State
-with_print form s = written (printed form (top_number s) (text_of (top s))) (popped s)
+with_print form s = with_output (printed form (top_number s) (text_of (top s))) (without_top s)
 
 -- what the code at the place does
-abbrev pub performed : ℕ → Code → State → Outcome
-performed place Percent s = Ok (written (37 ∷ []) s)
-performed place Character s = Ok (written (low_byte (top_number s) ∷ []) (popped s))
-performed place (Print form) s = Ok (with_print form s)
-performed place (Parameter i) s = pushed place (slice_index_or s.parameters i (number (pos 0))) s
-performed place (Store variable) s = Ok (stored variable (top_number s) (popped s))
-performed place (Fetch variable) s = pushed place (number (fetched variable s)) s
-performed place (Constant n) s = pushed place (number n) s
-performed place Length s = pushed place (number (wrapped (pos (length (text_of (top s)))))) (popped s)
-performed place (Binary operator) s =
-    pushed place (number (operated operator (top_number (popped s)) (top_number s))) (popped (popped s))
-performed place Not s = pushed place (number (truth (is_zero (top_number s)))) (popped s)
-performed place Complement s = pushed place (number (complement (top_number s))) (popped s)
-performed place Increment s = Ok (with_increment s)
+abbrev pub code_outcome : ℕ → Code → State → Outcome
+code_outcome place Percent s = Ok (with_output (ascii.percent ∷ []) s)
+code_outcome place Character s = Ok (with_output (low_byte (top_number s) ∷ []) (without_top s))
+code_outcome place (Print form) s = Ok (with_print form s)
+code_outcome place (Parameter i) s = push_outcome place (slice_index_or s.parameters i (number (pos 0))) s
+code_outcome place (Store variable) s = Ok (with_variable variable (top_number s) (without_top s))
+code_outcome place (Fetch variable) s = push_outcome place (number (variable_value variable s)) s
+code_outcome place (Constant n) s = push_outcome place (number n) s
+code_outcome place Length s = push_outcome place (number (in_32_bits (pos (length (text_of (top s)))))) (without_top s)
+code_outcome place (Binary operator) s =
+    push_outcome place (number (operation operator (top_number (without_top s)) (top_number s))) (without_top (without_top s))
+code_outcome place Not s = push_outcome place (number (truth (is_zero (top_number s)))) (without_top s)
+code_outcome place Complement s = push_outcome place (number (complement (top_number s))) (without_top s)
+code_outcome place Increment s = Ok (with_increment s)
 
 -- what a tree does: `%t` pops, and a number other than 0 takes the part after it
 unfoldable pub meaning : Tree → State → Outcome
 meaning nothing s = Ok s
-meaning (byte b next) s = meaning next (written (b ∷ []) s)
-meaning (code place c next) s = and_then (performed place c s) (meaning next)
+meaning (byte b next) s = meaning next (with_output (b ∷ []) s)
+meaning (code place c next) s = and_then (code_outcome place c s) (meaning next)
 meaning (group conditional next) s = and_then (meaning conditional s) (meaning next)
 meaning (choice test taken rest) s =
-    and_then (meaning test s) (λ tested. elim (is_zero (top_number tested)) [ true ↦ meaning rest (popped tested) | false ↦ meaning taken (popped tested) ])
+    and_then (meaning test s) (λ tested. elim (is_zero (top_number tested)) [
+      | true ↦ meaning rest (without_top tested)
+      | false ↦ meaning taken (without_top tested)
+    ])

@@ -1,8 +1,9 @@
 //! Whether a format is whole: conditionals in order, and at most 64 open at once.
 ghost use Rattle.std.specs.Prelude.{◌≡◌, ℕ, ◌≤◌, List, MatchResult, MatchBool, reverse};
 ghost use Rattle.arrayvec.specs.ArrayVec.{array_vec_len};
-ghost use Rattle.ti_param.specs.Expansion.{IsRefusal};
-ghost use Rattle.ti_param.specs.Formats.{stuck_place, advanced, OneReading, IsComputed};
+ghost use Rattle.ti_param.specs.inside.Expansion.{IsStuckError};
+ghost use Rattle.ti_param.specs.Formats.{OneReading};
+ghost use Rattle.ti_param.specs.inside.Formats.{stuck_place, phases_after, IsComputed};
 
 use crate::codes::Token;
 use crate::errors::ParamError;
@@ -24,7 +25,7 @@ pub(crate) enum Phase {
 
 /// Accepts a whole format; else the error is `BadFormat`, with the place where the format is stuck.
 pub(crate) fn accept(format: &[u8]) -> Result<(), ParamError>
-    ensures { MatchResult result (λ _. stuck_place format.now ≡ None) (λ error. IsRefusal error (stuck_place format.now)) }
+    ensures { MatchResult result (λ _. stuck_place format.now ≡ None) (λ error. IsStuckError error (stuck_place format.now)) }
 {
     let mut phases: ArrayVec<Phase, MOST> = ArrayVec::new();
     let mut lexer = Lexer::new(format);
@@ -42,7 +43,7 @@ pub(crate) fn accept(format: &[u8]) -> Result<(), ParamError>
 /// Whether the token may stand in the open conditionals, which are then those after it.
 fn advance(phases: &mut ArrayVec<Phase, MOST>, token: Token) -> bool
     requires { array_vec_len phases.old ≤ 64 }
-    ensures step { MatchBool result (advanced (reverse phases.old.items) token ≡ Some (reverse phases.new.items)) (advanced (reverse phases.old.items) token ≡ None) }
+    ensures step { MatchBool result (phases_after (reverse phases.old.items) token ≡ Some (reverse phases.new.items)) (phases_after (reverse phases.old.items) token ≡ None) }
     ensures bound { array_vec_len phases.new ≤ 64 }
 {
     match token {

@@ -1,12 +1,12 @@
 //! The operators of a parameter string, on signed numbers of 32 bits that wrap.
 ghost use Rattle.std.specs.Prelude.{◌≡◌, pos, length};
-ghost use Rattle.ti_param.specs.Meaning.{operated, complement, low_byte, truth, is_zero, wrapped};
+ghost use Rattle.ti_param.specs.Meaning.{operation, complement, low_byte, truth, is_zero, in_32_bits};
 
 use crate::codes::Operator;
 
 /// `x` and `y` under an operator. What is divided by 0 gives 0.
 pub(crate) fn operate(operator: Operator, x: i32, y: i32) -> i32
-    ensures { result ≡ operated operator x y }
+    ensures { result ≡ operation operator x y }
 {
     match operator {
         Operator::Add => x.wrapping_add(y),
@@ -27,14 +27,14 @@ pub(crate) fn operate(operator: Operator, x: i32, y: i32) -> i32
 
 /// The quotient, cut towards 0; 0 where `y` is 0.
 fn divide(x: i32, y: i32) -> i32
-    ensures { result ≡ operated Operator.Divide x y }
+    ensures { result ≡ operation Operator.Divide x y }
 {
     if y == 0 { 0 } else { x.wrapping_div(y) }
 }
 
 /// The remainder, with the sign of `x`; 0 where `y` is 0.
 fn remainder(x: i32, y: i32) -> i32
-    ensures { result ≡ operated Operator.Remainder x y }
+    ensures { result ≡ operation Operator.Remainder x y }
 {
     if y == 0 { 0 } else { x.wrapping_rem(y) }
 }
@@ -63,7 +63,7 @@ pub(crate) fn character(x: i32) -> u8
 
 /// A length as a number.
 pub(crate) fn wrapped_length(text: &[u8]) -> i32
-    ensures { result ≡ wrapped (pos (length text.now)) }
+    ensures { result ≡ in_32_bits (pos (length text.now)) }
 {
     ((text.len() % (1 << 32)) as u32).cast_signed()
 }

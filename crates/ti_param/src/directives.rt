@@ -1,12 +1,14 @@
 //! Reading a printf form of a format: flags, width, precision and conversion.
 ghost use Rattle.std.specs.Prelude.{◌≡◌, option_map, if◌then◌else◌};
-ghost use Rattle.ti_param.specs.Codes.{directive_after, directive_with, precision_after, flags_after, with_flag, span, is_digit, row_for, conversions, begins_zero, is_flag, flags_of};
+ghost use Rattle.ti_param.specs.Codes.{with_flag, span, row_for, conversions, begins_zero, is_flag};
+ghost use Rattle.ti_param.specs.inside.Codes.{directive_after, directive_with, precision_after, flags_after, flags_of};
+ghost use Rattle.ti_text.specs.Digits.{is_decimal_digit};
 
 use crate::decimals::number;
 use ti_printing::printf::{Conversion, Directive, Flags};
 
 /// A printf form: flags, width, precision, conversion.
-#[tactic(auto, unfolding(crate::specs::Codes::directive_after))]
+#[tactic(auto, unfolding(crate::specs::inside::Codes::directive_after))]
 pub(crate) fn directive(text: &[u8]) -> Option<(Directive, &[u8])>
     ensures { option_map (λ found. (found.0, found.1.now)) result ≡ directive_after text.now }
 {
@@ -31,7 +33,7 @@ pub(crate) fn directive(text: &[u8]) -> Option<(Directive, &[u8])>
 
 /// Whether a width begins with a 0.
 fn begins_with_zero(text: &[u8]) -> bool
-    ensures { result ≡ begins_zero (span is_digit text.now).0 }
+    ensures { result ≡ begins_zero (span is_decimal_digit text.now).0 }
 {
     match text.split_first() {
         Some((&digit, _)) => digit == b'0',
@@ -43,7 +45,7 @@ fn begins_with_zero(text: &[u8]) -> bool
 const MOST: u32 = 999;
 
 /// The flags of a printf form; `-` and `+` are flags only after a `:`, since they are operators too.
-#[tactic(auto, unfolding(crate::specs::Codes::flags_after))]
+#[tactic(auto, unfolding(crate::specs::inside::Codes::flags_after))]
 fn flags(text: &[u8]) -> (Flags, &[u8])
     ensures { (result.0, result.1.now) ≡ flags_after text.now }
 {
@@ -95,7 +97,7 @@ fn flag(flags: Flags, byte: u8, signed: bool) -> Option<Flags>
 }
 
 /// The precision of a printf form, where it has one; `.` without digits is 0.
-#[tactic(auto, unfolding(crate::specs::Codes::precision_after))]
+#[tactic(auto, unfolding(crate::specs::inside::Codes::precision_after))]
 fn precision(text: &[u8]) -> Option<(Option<u16>, &[u8])>
     ensures { option_map (λ found. (found.0, found.1.now)) result ≡ precision_after text.now }
 {

@@ -1,8 +1,10 @@
 //! The bytes that a parameter string sends to the terminal.
 ghost use Rattle.std.specs.Prelude.{◌≡◌, ℕ, ◌+◌, ◌^◌, ◌<◌, ◌≤◌, ◌↔◌, IfOk, IfErr, OnErr, IsErrOf, map, length, MatchResult};
-ghost use Rattle.ti_param.specs.Formats.{Tree, IsTree, IsStuck, skipped, deeper};
+ghost use Rattle.ti_param.specs.Formats.{Tree, IsTree, IsStuck};
+ghost use Rattle.ti_param.specs.inside.Formats.{after_part, level_after};
 ghost use Rattle.ti_param.specs.Meaning.{argument_of, meaning};
-ghost use Rattle.ti_param.specs.Expansion.{Expands, Overflows, Ran, EndsWith, expansion, expanded};
+ghost use Rattle.ti_param.specs.Expansion.{Expands, Overflows, EndsWith, expansion, expanded};
+ghost use Rattle.ti_param.specs.inside.Expansion.{HasOutcome};
 
 use crate::acceptor::accept;
 use crate::codes::Token;
@@ -54,7 +56,7 @@ pub fn expand(
 
 /// Runs a format that was accepted.
 fn run(format: &[u8], machine: &mut Machine<'_>) -> Result<(), ParamError>
-    ensures { (t : Tree) → IsTree format.now t → Ran result machine.new (meaning t machine.old) }
+    ensures { (t : Tree) → IsTree format.now t → HasOutcome result machine.new (meaning t machine.old) }
 {
     let mut lexer = Lexer::new(format);
     while let Some(Placed { place, token }) = lexer.next_token() {
@@ -77,7 +79,7 @@ fn run(format: &[u8], machine: &mut Machine<'_>) -> Result<(), ParamError>
 /// it, or where `to_else` is set to after its `%e`, whichever comes first, or to the end of the format.
 fn skip(lexer: &mut Lexer<'_>, to_else: bool)
     requires { length lexer.old.tokens < 2 ^ 64 }
-    ensures tokens { lexer.new.tokens ≡ skipped 0 to_else lexer.old.tokens }
+    ensures tokens { lexer.new.tokens ≡ after_part 0 to_else lexer.old.tokens }
     ensures fewer { length lexer.new.tokens ≤ length lexer.old.tokens }
 {
     let mut level = 0;
@@ -92,7 +94,7 @@ fn skip(lexer: &mut Lexer<'_>, to_else: bool)
 /// How many conditionals are open in the skipped part after one more token; None where the token ends the part.
 fn level_after(level: usize, to_else: bool, token: Token) -> Option<usize>
     requires { level + 1 < 2 ^ 64 }
-    ensures { result ≡ deeper level to_else token }
+    ensures { result ≡ level_after level to_else token }
 {
     match token {
         Token::If => Some(level + 1),

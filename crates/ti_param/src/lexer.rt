@@ -1,6 +1,6 @@
 //! A format as its tokens.
 ghost use Rattle.std.specs.Prelude.{◌≡◌, ◌^◌, ◌<◌, [], ◌∷◌, MatchOption, IfNone, length, option_map};
-ghost use Rattle.ti_param.specs.Formats.{first_token, scan_of};
+ghost use Rattle.ti_param.specs.inside.Formats.{first_token, scan_of};
 
 use crate::codes::Token;
 use crate::reader::read_token;
@@ -33,7 +33,7 @@ pub(crate) struct Lexer<'a> {
 
 impl<'a> Model for Lexer<'a> {
     ghost use Rattle.std.specs.Prelude.{◌+◌, ◌^◌, ◌<◌, length};
-    ghost use Rattle.ti_param.specs.Formats.{Scan, scan};
+    ghost use Rattle.ti_param.specs.inside.Formats.{Scan, scan};
 
     ghost Value = { Scan };
 

@@ -1,9 +1,9 @@
 //! The machine that runs a format: its stack, its parameters and variables, and what each code does to them.
 ghost use Rattle.std.specs.Prelude.{◌≡◌, ◌∷◌, [], map};
-ghost use Rattle.ti_param.specs.Meaning.{State, argument_of, start, with_print, written, pushed, popped, top, top_number, with_top, stored, performed, fetched, with_increment};
-ghost use Rattle.ti_param.specs.Expansion.{Ran};
+ghost use Rattle.ti_param.specs.Meaning.{State, argument_of, start, with_print, with_output, push_outcome, without_top, top, top_number, with_top, with_variable, code_outcome, variable_value, with_increment};
+ghost use Rattle.ti_param.specs.inside.Expansion.{HasOutcome};
 
-use crate::arithmetic::{character, logical_not, operate, bitwise_not, wrapped_length};
+use crate::arithmetic::{bitwise_not, character, logical_not, operate, wrapped_length};
 use crate::codes::{Code, Variable};
 use crate::errors::ParamError;
 use crate::values::{Statics, Value};
@@ -65,7 +65,7 @@ impl<'a> Machine<'a> {
 
     /// Writes a byte.
     pub(crate) fn write(&mut self, byte: u8) -> Result<(), ParamError>
-        ensures { Ran result self.new (Ok (written (byte ∷ []) self.old)) }
+        ensures { HasOutcome result self.new (Ok (with_output (byte ∷ []) self.old)) }
     {
         self.output.push(byte)?;
         Ok(())
@@ -74,7 +74,7 @@ impl<'a> Machine<'a> {
     /// Takes the number at the top of the stack; a text is 0, and so is nothing.
     pub(crate) fn pop_number(&mut self) -> i32
         ensures value { result ≡ top_number self.old }
-        ensures rest { self.new ≡ popped self.old }
+        ensures rest { self.new ≡ without_top self.old }
     {
         self.pop().number()
     }
@@ -82,14 +82,14 @@ impl<'a> Machine<'a> {
     /// Takes the value at the top of the stack, the number 0 where there is none.
     fn pop(&mut self) -> Value<'a>
         ensures value { argument_of result ≡ top self.old }
-        ensures rest { self.new ≡ popped self.old }
+        ensures rest { self.new ≡ without_top self.old }
     {
         self.stack.pop().unwrap_or(Value::Number(0))
     }
 
     /// Pushes a value for the code at the place.
     fn push(&mut self, place: usize, value: Value<'a>) -> Result<(), ParamError>
-        ensures { Ran result self.new (pushed place (argument_of value.entry) self.old) }
+        ensures { HasOutcome result self.new (push_outcome place (argument_of value.entry) self.old) }
     {
         self.stack
             .try_push(value)
@@ -98,7 +98,7 @@ impl<'a> Machine<'a> {
 
     /// Sets a variable.
     fn store(&mut self, variable: Variable, number: i32)
-        ensures { self.new ≡ stored variable number self.old }
+        ensures { self.new ≡ with_variable variable number self.old }
     {
         match variable {
             Variable::Dynamic(letter) => self.dynamics[letter.index()] = number,
@@ -108,7 +108,7 @@ impl<'a> Machine<'a> {
 
     /// The value of a variable.
     fn fetch(&self, variable: Variable) -> i32
-        ensures { result ≡ fetched variable self.now }
+        ensures { result ≡ variable_value variable self.now }
     {
         match variable {
             Variable::Dynamic(letter) => self.dynamics[letter.index()],
@@ -126,7 +126,7 @@ impl<'a> Machine<'a> {
 
     /// Prints a value.
     fn print(&mut self, form: Directive) -> Result<(), ParamError>
-        ensures { Ran result self.new (Ok (with_print form self.old)) }
+        ensures { HasOutcome result self.new (Ok (with_print form self.old)) }
     {
         let value = self.pop();
         printf::print(&mut self.output, &form, value.number(), value.text())?;
@@ -135,7 +135,7 @@ impl<'a> Machine<'a> {
 
     /// Runs the code at the place.
     pub(crate) fn perform(&mut self, place: usize, code: Code) -> Result<(), ParamError>
-        ensures { Ran result self.new (performed place code self.old) }
+        ensures { HasOutcome result self.new (code_outcome place code self.old) }
     {
         match code {
             Code::Percent => self.write(b'%'),

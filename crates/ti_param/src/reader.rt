@@ -2,14 +2,15 @@
 //!
 //! Each reader takes the text at which it begins, and gives what it read and the text after it.
 ghost use Rattle.std.specs.Prelude.{◌≡◌, option_map};
-ghost use Rattle.ti_param.specs.Codes.{OneCode, token_after, letter_after, parameter_after, store_after, fetch_after, byte_after, number_after, row_for, operators, simple_tokens};
+ghost use Rattle.ti_param.specs.Codes.{row_for, operators, simple_tokens};
+ghost use Rattle.ti_param.specs.inside.Codes.{OneCode, token_after, letter_after, parameter_after, store_after, fetch_after, byte_after, number_after};
 
 use crate::codes::{Code, Operator, Token, ordinal_of, variable_of};
-use crate::directives::directive;
 use crate::decimals::number;
+use crate::directives::directive;
 
 /// The code at the front of the text after a `%`.
-#[tactic(auto, unfolding(crate::specs::Codes::token_after))]
+#[tactic(auto, unfolding(crate::specs::inside::Codes::token_after))]
 pub(crate) fn read_token(text: &[u8]) -> Option<(Token, &[u8])>
     ensures { option_map (λ found. (found.0, found.1.now)) result ≡ token_after text.now }
 {
@@ -24,7 +25,7 @@ pub(crate) fn read_token(text: &[u8]) -> Option<(Token, &[u8])>
 }
 
 /// The code of a letter that begins no printf form.
-#[tactic(auto, unfolding(crate::specs::Codes::letter_after))]
+#[tactic(auto, unfolding(crate::specs::inside::Codes::letter_after))]
 fn lettered_token(letter: u8, rest: &[u8]) -> Option<(Token, &[u8])>
     ensures { option_map (λ found. (found.0, found.1.now)) result ≡ letter_after letter rest.now }
 {
@@ -81,7 +82,7 @@ fn operator_of(letter: u8) -> Option<Operator>
 }
 
 /// `%p1` to `%p9`, after the `p`.
-#[tactic(auto, unfolding(crate::specs::Codes::parameter_after))]
+#[tactic(auto, unfolding(crate::specs::inside::Codes::parameter_after))]
 fn parameter(text: &[u8]) -> Option<(Token, &[u8])>
     ensures { option_map (λ found. (found.0, found.1.now)) result ≡ parameter_after text.now }
 {
@@ -91,7 +92,7 @@ fn parameter(text: &[u8]) -> Option<(Token, &[u8])>
 }
 
 /// `%P` and a letter, after the `P`.
-#[tactic(auto, unfolding(crate::specs::Codes::store_after))]
+#[tactic(auto, unfolding(crate::specs::inside::Codes::store_after))]
 fn store(text: &[u8]) -> Option<(Token, &[u8])>
     ensures { option_map (λ found. (found.0, found.1.now)) result ≡ store_after text.now }
 {
@@ -101,7 +102,7 @@ fn store(text: &[u8]) -> Option<(Token, &[u8])>
 }
 
 /// `%g` and a letter, after the `g`.
-#[tactic(auto, unfolding(crate::specs::Codes::fetch_after))]
+#[tactic(auto, unfolding(crate::specs::inside::Codes::fetch_after))]
 fn fetch(text: &[u8]) -> Option<(Token, &[u8])>
     ensures { option_map (λ found. (found.0, found.1.now)) result ≡ fetch_after text.now }
 {
@@ -111,7 +112,7 @@ fn fetch(text: &[u8]) -> Option<(Token, &[u8])>
 }
 
 /// `%'c'`, after the first quote: the value of the byte, whatever it is.
-#[tactic(auto, unfolding(crate::specs::Codes::byte_after))]
+#[tactic(auto, unfolding(crate::specs::inside::Codes::byte_after))]
 fn byte(text: &[u8]) -> Option<(Token, &[u8])>
     ensures { option_map (λ found. (found.0, found.1.now)) result ≡ byte_after text.now }
 {
@@ -124,7 +125,7 @@ fn byte(text: &[u8]) -> Option<(Token, &[u8])>
 }
 
 /// `%{n}`, after the brace: one or more digits, at most `LARGEST`.
-#[tactic(auto, unfolding(crate::specs::Codes::number_after))]
+#[tactic(auto, unfolding(crate::specs::inside::Codes::number_after))]
 fn number_constant(text: &[u8]) -> Option<(Token, &[u8])>
     ensures { option_map (λ found. (found.0, found.1.now)) result ≡ number_after text.now }
 {

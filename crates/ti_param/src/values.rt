@@ -26,7 +26,7 @@ impl Default for Value<'_> {
 
 impl<'a> Value<'a> {
     ghost use Rattle.std.specs.Prelude.{◌≡◌};
-    ghost use Rattle.ti_param.specs.Meaning.{argument_of, number_of, text_of, increased};
+    ghost use Rattle.ti_param.specs.Meaning.{argument_of, number_of, text_of, plus_one};
 
     /// As a number: a text is 0.
     pub(crate) fn number(self) -> i32
@@ -50,7 +50,7 @@ impl<'a> Value<'a> {
 
     /// One more, where it is a number.
     pub(crate) fn increment(self) -> Self
-        ensures { argument_of result ≡ increased (argument_of self.entry) }
+        ensures { argument_of result ≡ plus_one (argument_of self.entry) }
     {
         match self {
             Value::Number(number) => Value::Number(number.wrapping_add(1)),

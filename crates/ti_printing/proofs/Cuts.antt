@@ -5,7 +5,8 @@ use Rattle.std.proofs.Math.Seq.{drop-append_seam}
 use Rattle.ti_printing.specs.declared.padding.Padding.{Padding}
 use Rattle.ti_printing.specs.declared.padding.Part.{Part}
 use Rattle.ti_printing.specs.declared.padding.Part.TheVariants.{Literal, Delay}
-use Rattle.ti_printing.specs.Padding.{BeginsNoPadding, IsPadding, IsCut, cut_nothing, cut_literal, cut_padding, OneCut, first_part, taken_by, padding_at, parts_after, parts_of}
+use Rattle.ti_printing.specs.Padding.{BeginsNoPadding, IsPadding, IsCut, cut_nothing, cut_literal, cut_padding, OneCut}
+use Rattle.ti_printing.specs.inside.Padding.{first_part, taken_by, padding_at, parts_after, parts_of}
 use Rattle.ti_printing.proofs.Paddings.{padding_at-some, padding_at-found}
 
 -- what a padding takes is passed over

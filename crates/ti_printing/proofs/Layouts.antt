@@ -1,15 +1,15 @@
--- What is laid out is what is printed.
+-- What is parts_text out is what is printed.
 use Rattle.ti_printing.specs.declared.printf.Conversion.{Conversion}
 use Rattle.ti_printing.specs.declared.printf.Conversion.TheVariants.{Decimal, Octal, LowerHex, UpperHex, Text}
 use Rattle.ti_printing.specs.declared.printf.Directive.{Directive}
 use Rattle.std.proofs.Common.{◌≢◌, ℤ, ◌≡◌, ℕ, ◌+◌, ◌-◌, List, [], ◌++◌, length, replicate, refl, sym, ap, ◌∙◌, arith}
 use Rattle.std.proofs.lemmas.List.{append_assoc, append-nil, length-append, length-replicate, replicate-append-replicate}
-use Rattle.ti_printing.specs.Printf.{printed_by, printed_number, laid, at_least}
+use Rattle.ti_printing.specs.Printf.{printed_by, printed_number, parts_text, at_least}
 
 -- zeros for the width and zeros for the precision
-pub laid-zeros : (width zeros : ℕ) (front shown : List ℕ) →
-    laid 0 front (width - (length front + zeros + length shown) + zeros) shown 0 ≡ front ++ at_least (width - length front) (replicate zeros 48 ++ shown)
-laid-zeros width zeros front shown =
+pub parts_text-zeros : (width zeros : ℕ) (front shown : List ℕ) →
+    parts_text 0 front (width - (length front + zeros + length shown) + zeros) shown 0 ≡ front ++ at_least (width - length front) (replicate zeros 48 ++ shown)
+parts_text-zeros width zeros front shown =
     let count : width - (length front + zeros + length shown) ≡ width - length front - length (replicate zeros 48 ++ shown) = simp (length-append, length-replicate) (omega arith) in
     let short = width - (length front + zeros + length shown) in
     ap (λ zs. front ++ (zs ++ (shown ++ []))) (sym (replicate-append-replicate short zeros 48)) ∙

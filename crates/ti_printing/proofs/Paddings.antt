@@ -1,23 +1,23 @@
 -- What `padding_at` finds is a padding, and it finds each.
-use Rattle.std.proofs.Common.{◌≡◌, ℕ, zero, suc, ◌+◌, ◌-◌, ◌*◌, ◌^◌, ◌<◌, ◌≤◌, Bool, true, false, List, [], ◌∷◌, ◌++◌, length, map, drop, take, get_or, eqb, Option, Some, None, cond, refl, sym, ap, subst, ◌∙◌, arith, add-one}
+use Rattle.ti_text.specs.Digits.{is_decimal_digit, IsDecimalDigit, decimal, decimal_from}
+use Rattle.std.proofs.Common.{◌≡◌, ℕ, zero, suc, ◌+◌, ◌-◌, ◌*◌, ◌^◌, ◌<◌, ◌≤◌, Bool, true, false, List, [], ◌∷◌, ◌++◌, length, drop, take, get_or, eqb, Option, Some, None, cond, refl, sym, ap, subst, ◌∙◌, arith, add-one}
 use Rattle.std.proofs.lemmas.Bool.Decides.{nat_tests}
-use Rattle.std.proofs.lemmas.Int.Digits.{number_push}
-use Rattle.std.specs.Int.Digits.{number_from_digits}
 use Rattle.std.proofs.lemmas.List.Elements.{All-from_recursion}
-use Rattle.std.proofs.lemmas.List.{map-append, take_more, append_assoc, take-append-drop, length-take}
+use Rattle.std.proofs.lemmas.List.{take_more, append_assoc, take-append-drop, length-take}
 use Rattle.std.proofs.Math.Nat.{pow-suc}
 use Rattle.std.proofs.Math.Seq.{drop-cons, drop-append_seam, take-append_seam}
 use Rattle.std.specs.List.{AllByRecursion}
 use Rattle.std.specs.Option.{option_and_then}
 use Rattle.ti_printing.specs.declared.padding.Padding.{Padding}
-use Rattle.ti_printing.specs.Padding.{IsDecimal, decimal_value, AreMilliseconds, AreTenths, no_tenths, some_tenths, AreMarks, no_mark, star, slash, star_slash, slash_star, IsPadding, after_byte, is_decimal, digits_len, milliseconds_at, tenths_in, tenths_at, mark_in, mark_at, marks_at, padding_with, padding_from, padding_at}
+use Rattle.ti_printing.specs.Padding.{AreMilliseconds, AreTenths, no_tenths, some_tenths, AreMarks, no_mark, star, slash, star_slash, slash_star, IsPadding}
+use Rattle.ti_printing.specs.inside.Padding.{after_byte, digits_len, milliseconds_at, tenths_in, tenths_at, mark_in, mark_at, marks_at, padding_with, padding_from, padding_at}
 
 -- ---- digits
 
-decimal_is : (byte : ℕ) → is_decimal byte ≡ true → IsDecimal byte
+decimal_is : (byte : ℕ) → is_decimal_digit byte ≡ true → IsDecimalDigit byte
 decimal_is byte h = grind (arith, nat_tests)
 
-is_decimal_of : (byte : ℕ) → IsDecimal byte → is_decimal byte ≡ true
+is_decimal_of : (byte : ℕ) → IsDecimalDigit byte → is_decimal_digit byte ≡ true
 is_decimal_of byte h = grind (arith, nat_tests)
 
 pub digits_len-le_most : (most : ℕ) (text : List ℕ) → digits_len most text ≤ most
@@ -25,20 +25,20 @@ digits_len-le_most zero text = omega arith
 digits_len-le_most (suc most) [] = omega arith
 digits_len-le_most (suc most) (byte ∷ text) =
     let more = digits_len-le_most most text in
-    elim (is_decimal byte) as (λ b. cond b (suc (digits_len most text)) 0 ≤ suc most) [ true ↦ omega arith | false ↦ omega arith ]
+    elim (is_decimal_digit byte) as (λ b. cond b (suc (digits_len most text)) 0 ≤ suc most) [ true ↦ omega arith | false ↦ omega arith ]
 
 pub digits_len-le : (most : ℕ) (text : List ℕ) → digits_len most text ≤ length text
 digits_len-le zero text = omega arith
 digits_len-le (suc most) [] = omega arith
 digits_len-le (suc most) (byte ∷ text) =
     let more = digits_len-le most text in
-    elim (is_decimal byte) as (λ b. cond b (suc (digits_len most text)) 0 ≤ suc (length text)) [ true ↦ omega arith | false ↦ omega arith ]
+    elim (is_decimal_digit byte) as (λ b. cond b (suc (digits_len most text)) 0 ≤ suc (length text)) [ true ↦ omega arith | false ↦ omega arith ]
 
-pub decimal_digits : (most : ℕ) (text : List ℕ) → AllByRecursion IsDecimal (take (digits_len most text) text)
+pub decimal_digits : (most : ℕ) (text : List ℕ) → AllByRecursion IsDecimalDigit (take (digits_len most text) text)
 decimal_digits zero text = tt
 decimal_digits (suc most) [] = tt
 decimal_digits (suc most) (byte ∷ text) =
-    elim (is_decimal byte) as (λ b. is_decimal byte ≡ b → AllByRecursion IsDecimal (take (cond b (suc (digits_len most text)) 0) (byte ∷ text))) [
+    elim (is_decimal_digit byte) as (λ b. is_decimal_digit byte ≡ b → AllByRecursion IsDecimalDigit (take (cond b (suc (digits_len most text)) 0) (byte ∷ text))) [
       | true ↦ λ e. (decimal_is byte e, decimal_digits most text)
       | false ↦ λ e. tt
     ] refl
@@ -46,9 +46,9 @@ decimal_digits (suc most) (byte ∷ text) =
 -- no digit begins the text
 abbrev BeginsNoDigit : List ℕ → Type 0
 BeginsNoDigit [] = Unit {0}
-BeginsNoDigit (byte ∷ text) = is_decimal byte ≡ false
+BeginsNoDigit (byte ∷ text) = is_decimal_digit byte ≡ false
 
-digits_len-append : (most : ℕ) (digits text : List ℕ) → AllByRecursion IsDecimal digits → length digits ≤ most → BeginsNoDigit text → digits_len most (digits ++ text) ≡ length digits
+digits_len-append : (most : ℕ) (digits text : List ℕ) → AllByRecursion IsDecimalDigit digits → length digits ≤ most → BeginsNoDigit text → digits_len most (digits ++ text) ≡ length digits
 digits_len-append zero [] text all few other = refl
 digits_len-append zero (digit ∷ digits) text all few other = absurd (omega arith)
 digits_len-append (suc most) [] [] all few other = refl
@@ -74,22 +74,22 @@ after_byte-some byte (first ∷ text) rest h =
 milliseconds_at-some : (text : List ℕ) (found : ℕ × List ℕ) → milliseconds_at text ≡ Some found → (digits : List ℕ) × (text ≡ digits ++ found.1) × AreMilliseconds digits found.0
 milliseconds_at-some text found h =
     let len = digits_len 5 text in
-    elim (eqb len 0) as (λ b. eqb len 0 ≡ b → cond b None (Some (decimal_value (take len text), drop len text)) ≡ Some found → (digits : List ℕ) × (text ≡ digits ++ found.1) × AreMilliseconds digits found.0) [
+    elim (eqb len 0) as (λ b. eqb len 0 ≡ b → cond b None (Some (decimal (take len text), drop len text)) ≡ Some found → (digits : List ℕ) × (text ≡ digits ++ found.1) × AreMilliseconds digits found.0) [
       | true ↦ λ e h'. absurd (cc)
       | false ↦ λ e h'.
-          let same : (decimal_value (take len text), drop len text) ≡ found = cc in
+          let same : (decimal (take len text), drop len text) ≡ found = cc in
           let some : 0 < len = grind (arith, nat_tests) in
           let long : length (take len text) ≡ len = omega (arith, length-take len text, digits_len-le 5 text) in (
             take len text,
             sym (take-append-drop len text) ∙ ap (λ f. take len text ++ f.1) same,
-            record { decimal = decimal_digits 5 text; some = omega arith; few = omega (arith, digits_len-le_most 5 text); value = sym (ap (λ f. f.0) same) },
+            record { digits = decimal_digits 5 text; some = omega arith; few = omega (arith, digits_len-le_most 5 text); value = sym (ap (λ f. f.0) same) },
           )
     ] refl h
 
 some_is : (text rest : List ℕ) → text ≡ 46 ∷ rest → (tenths : List ℕ) × (text ≡ tenths ++ (tenths_in (Some rest) text).1) × AreTenths tenths (tenths_in (Some rest) text).0
 some_is text [] spelled = ([], refl, no_tenths)
 some_is text (digit ∷ rest) spelled =
-    elim (is_decimal digit) as (λ b. is_decimal digit ≡ b → (tenths : List ℕ) × (text ≡ tenths ++ (cond {A = ℕ × List ℕ} b (digit - 48, rest) (0, text)).1) × AreTenths tenths (cond {A = ℕ × List ℕ} b (digit - 48, rest) (0, text)).0) [
+    elim (is_decimal_digit digit) as (λ b. is_decimal_digit digit ≡ b → (tenths : List ℕ) × (text ≡ tenths ++ (cond {A = ℕ × List ℕ} b (digit - 48, rest) (0, text)).1) × AreTenths tenths (cond {A = ℕ × List ℕ} b (digit - 48, rest) (0, text)).0) [
       | true ↦ λ e. (46 ∷ (digit ∷ []), spelled, some_tenths (decimal_is digit e))
       | false ↦ λ e. ([], refl, no_tenths)
     ] refl
@@ -181,12 +181,12 @@ not_none digits some = grind (arith, nat_tests)
 
 milliseconds_at-found : (digits text : List ℕ) (number : ℕ) → AreMilliseconds digits number → BeginsNoDigit text → milliseconds_at (digits ++ text) ≡ Some (number, text)
 milliseconds_at-found digits text number h other =
-    let long = digits_len-append 5 digits text h.decimal h.few other in
+    let long = digits_len-append 5 digits text h.digits h.few other in
     let some = h.some in
-    ap (λ len. cond (eqb len 0) None (Some (decimal_value (take len (digits ++ text)), drop len (digits ++ text)))) long ∙
-    ap (λ b. cond b None (Some (decimal_value (take (length digits) (digits ++ text)), drop (length digits) (digits ++ text)))) (not_none digits some) ∙
-    ap (λ ds. Some (decimal_value ds, drop (length digits) (digits ++ text))) (take-append_seam digits text) ∙
-    ap (λ t. Some (decimal_value digits, t)) (drop-append_seam digits text) ∙
+    ap (λ len. cond (eqb len 0) None (Some (decimal (take len (digits ++ text)), drop len (digits ++ text)))) long ∙
+    ap (λ b. cond b None (Some (decimal (take (length digits) (digits ++ text)), drop (length digits) (digits ++ text)))) (not_none digits some) ∙
+    ap (λ ds. Some (decimal ds, drop (length digits) (digits ++ text))) (take-append_seam digits text) ∙
+    ap (λ t. Some (decimal digits, t)) (drop-append_seam digits text) ∙
     ap (λ n. Some (n, text)) (sym h.value)
 
 pub padding_at-found : (front rest : List ℕ) (padding : Padding) → IsPadding front padding → padding_at (front ++ rest) ≡ Some (padding, rest)
@@ -202,25 +202,28 @@ padding_at-found front rest padding h =
 
 -- ---- steps of the loops over digits
 
-pub digits_len-next : (len : ℕ) (text : List ℕ) → len < 5 → len < length text → is_decimal (get_or text len 0) ≡ true → digits_len (5 - len) (drop len text) ≡ suc (digits_len (5 - (len + 1)) (drop (len + 1) text))
+pub digits_len-next : (len : ℕ) (text : List ℕ) → len < 5 → len < length text → is_decimal_digit (get_or text len 0) ≡ true → digits_len (5 - len) (drop len text) ≡ suc (digits_len (5 - (len + 1)) (drop (len + 1) text))
 digits_len-next len text few within decimal =
     let count : 5 - len ≡ suc (5 - (len + 1)) = omega arith in
     let front : drop len text ≡ get_or text len 0 ∷ drop (len + 1) text = rw add-one (drop-cons text len 0 within) in
     ap (λ n. digits_len n (drop len text)) count ∙ ap (digits_len (suc (5 - (len + 1)))) front ∙
     ap (λ b. cond b (suc (digits_len (5 - (len + 1)) (drop (len + 1) text))) 0) decimal
 
-pub decimal_value-next : (digits : List ℕ) (i : ℕ) → i < length digits → decimal_value (take (i + 1) digits) ≡ 10 * decimal_value (take i digits) + (get_or digits i 0 - 48)
-decimal_value-next digits i within =
+decimal_from-push : (n : ℕ) (digits : List ℕ) (digit : ℕ) → decimal_from n (digits ++ digit ∷ []) ≡ 10 * decimal_from n digits + (digit - 48)
+decimal_from-push n [] digit = refl
+decimal_from-push n (d ∷ ds) digit = decimal_from-push (10 * n + (d - 48)) ds digit
+
+pub decimal-next : (digits : List ℕ) (i : ℕ) → i < length digits → decimal (take (i + 1) digits) ≡ 10 * decimal (take i digits) + (get_or digits i 0 - 48)
+decimal-next digits i within =
     let digit = get_or digits i 0 in
-    ap decimal_value (take_more digits i 0 within) ∙
-    ap (number_from_digits 10) (map-append (λ byte. byte - 48) (take i digits) (digit ∷ [])) ∙
-    number_push 10 (map (λ byte. byte - 48) (take i digits)) (digit - 48) ∙ omega arith
+    ap decimal (take_more digits i 0 within) ∙
+    decimal_from-push 0 (take i digits) digit
 
 -- each byte that is counted is a digit
 pub digit_in_range : (text digits : List ℕ) (i : ℕ) → digits ≡ take (digits_len 5 text) text → i < length digits → get_or digits i 0 ≤ 57
 digit_in_range text digits i e within =
-    let all = All-from_recursion IsDecimal (take (digits_len 5 text) text) (decimal_digits 5 text) in
-    (subst (λ ds. IsDecimal (get_or ds i 0)) (sym e) (all i 0 (omega (arith, ap length e)))).1
+    let all = All-from_recursion IsDecimalDigit (take (digits_len 5 text) text) (decimal_digits 5 text) in
+    (subst (λ ds. IsDecimalDigit (get_or ds i 0)) (sym e) (all i 0 (omega (arith, ap length e)))).1
 
 pub ten_times : (whole digit i : ℕ) → whole < 10 ^ i → digit < 10 → 10 * whole + digit < 10 ^ (i + 1)
 ten_times whole digit i small low = let power = pow-suc 10 i in rw add-one (omega (arith, power))

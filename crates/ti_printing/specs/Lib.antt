@@ -1,2 +1,3 @@
+pub mod inside
 pub mod Padding
 pub mod Printf

@@ -1,8 +1,9 @@
 -- What a printf form of a parameter string prints: terminfo(5), "Parameterized Strings", and printf(3) for
 -- the flags, the width and the precision that it takes over.
--- The bytes are 32 a blank, 43 `+`, 45 `-`, 48 `0`, 88 `X` and 120 `x`.
 use Rattle.std.specs.Prelude.{◌≡◌, ℕ, ◌-◌, ◌^◌, ◌<◌, ◌≤◌, Bool, true, false, not, ◌&&◌, List, [], ◌∷◌, ◌++◌, length, map, take, replicate, ℤ, pos, negsuc, if◌then◌else◌, ◌==◌, unsigned_abs, Option, Some, None, unwrap_or, is_none, ◌↔◌}
 use Rattle.std.specs.Fmt.{digit_glyph}
+use Rattle.ti_text.specs.Ascii.{byte_of}
+use Rattle.ti_text.specs.Ascii as ascii
 use Rattle.std.specs.Int.{int_rem_euclid}
 use Rattle.std.specs.Int.Digits.{digits_of, number_from_digits, AllBelowBase}
 use Rattle.ti_printing.specs.declared.printf.Flags.{Flags}
@@ -39,12 +40,12 @@ numeral Text number = []
 
 -- at least so many digits, by zeros in front
 abbrev pub at_least : ℕ → List ℕ → List ℕ
-at_least count digits = replicate (count - length digits) 48 ++ digits
+at_least count digits = replicate (count - length digits) ascii.digit_0 ++ digits
 
 -- a leading 0 where there is none
 abbrev pub with_leading_zero : List ℕ → List ℕ
-with_leading_zero [] = 48 ∷ []
-with_leading_zero (digit ∷ digits) = if digit == 48 then digit ∷ digits else 48 ∷ (digit ∷ digits)
+with_leading_zero [] = ascii.digit_0 ∷ []
+with_leading_zero (digit ∷ digits) = if digit == ascii.digit_0 then digit ∷ digits else ascii.digit_0 ∷ (digit ∷ digits)
 
 -- the digits that are printed: the precision is their least count, 1 where there is none; `#` gives `o` a leading 0
 abbrev pub digits_in : Conversion → Flags → Option ℕ → List ℕ → List ℕ
@@ -54,23 +55,23 @@ digits_in conversion flags precision digits = at_least (unwrap_or precision 1) d
 
 -- the sign place, which `d` alone has: `-` below 0, else the `+` or the space that a flag asks for, `+` first
 abbrev pub sign_in : Conversion → Flags → ℤ → List ℕ
-sign_in Decimal flags (negsuc n) = 45 ∷ []
-sign_in Decimal flags (pos n) = if flags.sign then 43 ∷ [] else (if flags.space then 32 ∷ [] else [])
+sign_in Decimal flags (negsuc n) = ascii.minus ∷ []
+sign_in Decimal flags (pos n) = if flags.sign then ascii.plus ∷ [] else (if flags.space then ascii.space ∷ [] else [])
 sign_in conversion flags number = []
 
 -- the prefix `0x` or `0X` that `#` gives a number other than 0
 abbrev pub prefix_in : Conversion → Flags → ℤ → List ℕ
-prefix_in LowerHex flags number = if flags.alternate && not (unsigned_of number == 0) then 48 ∷ (120 ∷ []) else []
-prefix_in UpperHex flags number = if flags.alternate && not (unsigned_of number == 0) then 48 ∷ (88 ∷ []) else []
+prefix_in LowerHex flags number = if flags.alternate && not (unsigned_of number == 0) then ascii.digit_0 ∷ (byte_of "x" ∷ []) else []
+prefix_in UpperHex flags number = if flags.alternate && not (unsigned_of number == 0) then ascii.digit_0 ∷ (byte_of "X" ∷ []) else []
 prefix_in conversion flags number = []
 
 -- the text and blanks after it, up to the width
 abbrev pub blanks_after : ℕ → List ℕ → List ℕ
-blanks_after width text = text ++ replicate (width - length text) 32
+blanks_after width text = text ++ replicate (width - length text) ascii.space
 
 -- blanks, up to the width, and the text
 abbrev pub blanks_before : ℕ → List ℕ → List ℕ
-blanks_before width text = replicate (width - length text) 32 ++ text
+blanks_before width text = replicate (width - length text) ascii.space ++ text
 
 -- a leading 0 of the width pads a number with zeros, but not under a precision
 abbrev pub pads_with_zeros : Flags → Option ℕ → Bool
@@ -90,8 +91,8 @@ printed_number directive number = in_width directive
     (digits_in directive.conversion directive.flags directive.precision (numeral directive.conversion number))
 
 -- blanks, a front, zeros, what is shown and blanks
-abbrev pub laid : ℕ → List ℕ → ℕ → List ℕ → ℕ → List ℕ
-laid before front zeros shown after = replicate before 32 ++ (front ++ (replicate zeros 48 ++ (shown ++ replicate after 32)))
+abbrev pub parts_text : ℕ → List ℕ → ℕ → List ℕ → ℕ → List ℕ
+parts_text before front zeros shown after = replicate before ascii.space ++ (front ++ (replicate zeros ascii.digit_0 ++ (shown ++ replicate after ascii.space)))
 
 -- at most as many bytes of the text as the precision says
 abbrev pub cut : Option ℕ → List ℕ → List ℕ

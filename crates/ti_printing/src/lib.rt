@@ -3,11 +3,9 @@
 //!
 //! - `printf`: what one of the printf forms prints
 //! - `padding`: a text with its padding as pad bytes, at a line's speed
-//! - `room`: appending to a vector in room that was made before
 #![tactic(auto)]
 
 pub mod padding;
 pub mod printf;
-mod room;
 
 pub use padding::{Line, PadError, pad};

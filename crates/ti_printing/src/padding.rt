@@ -1,14 +1,15 @@
 //! Padding: a capability's text as bytes for the terminal, with pad bytes at the line's speed.
 ghost use Rattle.std.specs.Prelude.{◌≡◌, ◌+◌, ◌<◌, ◌≤◌, ◌++◌, ◌↔◌, length, IfOk, IfSome, SomeIff, MatchOption, vec_len, vec_capacity};
 ghost use Rattle.std.specs.Iterator.{YieldsFirst, item_count};
-ghost use Rattle.ti_printing.specs.Padding.{OneCut, padded, padding_of, parts_of, pad_count, padding_at, after_byte, is_decimal, digits_len, milliseconds_at, tenths_at, mark_at, marks_at};
+ghost use Rattle.ti_printing.specs.Padding.{OneCut, padded, padding_of, pad_count};
+ghost use Rattle.ti_printing.specs.inside.Padding.{parts_of, padding_at, after_byte, digits_len, milliseconds_at, tenths_at, mark_at, marks_at};
 
 #[cfg(test)]
 mod tests;
 
-use crate::room::fill;
 use std::alloc::{AllocError, Global};
 use thiserror::Error;
+use ti_text::room::fill_reserved;
 
 /// The line to the terminal.
 #[derive(Clone, Copy, Debug, PartialEq, Eq)]
@@ -147,7 +148,7 @@ fn write(out: &mut Vec<u8>, text: &[u8], lines: u32, line: &Line)
             Part::Literal(byte) => out.push_reserved(byte),
             Part::Delay(padding) => {
                 let count = pads_for(padding, lines, line) as usize;
-                fill(out, line.pad_byte.unwrap_or(0), count);
+                fill_reserved(out, line.pad_byte.unwrap_or(0), count);
             }
         }
     }
@@ -171,7 +172,7 @@ fn pads_for(padding: Padding, lines: u32, line: &Line) -> u128
 }
 
 /// The padding that the text begins with, and what follows it.
-#[tactic(auto, unfolding(crate::specs::Padding::padding_at))]
+#[tactic(auto, unfolding(crate::specs::inside::Padding::padding_at))]
 fn padding_at(text: &[u8]) -> Option<(Padding, &[u8])>
     ensures { MatchOption result (padding_at text.now ≡ None) (λ found. padding_at text.now ≡ Some (found.0, found.1.now)) }
 {
@@ -219,7 +220,7 @@ fn digits_len(text: &[u8]) -> usize
     ensures { result ≡ digits_len 5 text.now }
 {
     let mut len = 0;
-    while len < 5 && len < text.len() && is_decimal(text[len]) {
+    while len < 5 && len < text.len() && text[len].is_ascii_digit() {
         len += 1;
     }
     len
@@ -258,11 +259,4 @@ fn mark_at(text: &[u8], byte: u8) -> (bool, &[u8])
         Some(rest) => (true, rest),
         None => (false, text),
     }
-}
-
-/// Whether the byte is a decimal digit.
-fn is_decimal(byte: u8) -> bool
-    ensures { result ≡ is_decimal byte }
-{
-    matches!(byte, b'0'..=b'9')
 }

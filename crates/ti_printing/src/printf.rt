@@ -2,13 +2,13 @@
 ghost use Rattle.std.specs.Prelude.{◌≡◌, ◌≢◌, ◌+◌, ◌^◌, ◌<◌, ◌≤◌, ◌++◌, length, map, drop, replicate, slice_index, OnOk, OnErr};
 ghost use Rattle.std.specs.Fmt.{digit_glyph};
 ghost use Rattle.std.specs.Int.Digits.{digits_of};
-ghost use Rattle.ti_printing.specs.Printf.{printed, printed_text, printed_number, laid, numeral, digits_in, in_width, sign_in, prefix_in, OneNumeral};
+ghost use Rattle.ti_printing.specs.Printf.{printed, printed_text, printed_number, parts_text, numeral, digits_in, in_width, sign_in, prefix_in, OneNumeral};
 
 #[cfg(test)]
 mod tests;
 
-use crate::room::{append, fill};
 use std::alloc::AllocError;
+use ti_text::room::{append_reserved, fill_reserved};
 
 /// The flags of a printf form.
 #[derive(Clone, Copy, Debug, PartialEq, Eq, Default)]
@@ -117,7 +117,7 @@ fn print_text(out: &mut Vec<u8>, directive: &Directive, text: &[u8]) -> Result<(
         shown,
         after,
     };
-    lay(out, &layout)
+    push_parts(out, &layout)
 }
 
 /// Appends what the form prints of a number.
@@ -130,13 +130,13 @@ fn print_number(out: &mut Vec<u8>, directive: &Directive, number: i32) -> Result
     let digits = &buffer[start..];
     let front = front_of(directive, number);
     let zeros = zeros_before(directive, digits);
-    lay(out, &arrange(directive, front, zeros, digits))
+    push_parts(out, &arrange(directive, front, zeros, digits))
 }
 
 /// Where the parts of a number stand: blanks or zeros fill it up to the width.
 fn arrange<'a>(directive: &Directive, front: &'a [u8], zeros: usize, shown: &'a [u8]) -> Layout<'a>
     requires { length front.now + zeros + length shown.now < 2 ^ 32 }
-    ensures parts { laid result.before result.front.now result.zeros result.shown.now result.after ≡ in_width directive.now front.now (replicate zeros 48 ++ shown.now) }
+    ensures parts { parts_text result.before result.front.now result.zeros result.shown.now result.after ≡ in_width directive.now front.now (replicate zeros 48 ++ shown.now) }
     ensures bound { result.before + length result.front.now + result.zeros + length result.shown.now + result.after < 2 ^ 64 }
 {
     let long = front.len() + zeros + shown.len();
@@ -169,9 +169,9 @@ fn arrange<'a>(directive: &Directive, front: &'a [u8], zeros: usize, shown: &'a 
 }
 
 /// Makes room for all parts, and then appends them.
-fn lay(out: &mut Vec<u8>, layout: &Layout<'_>) -> Result<(), AllocError>
+fn push_parts(out: &mut Vec<u8>, layout: &Layout<'_>) -> Result<(), AllocError>
     requires { layout.now.before + length layout.now.front.now + layout.now.zeros + length layout.now.shown.now + layout.now.after < 2 ^ 64 }
-    ensures ok { OnOk result (out.new.items ≡ out.old.items ++ laid layout.now.before layout.now.front.now layout.now.zeros layout.now.shown.now layout.now.after) }
+    ensures ok { OnOk result (out.new.items ≡ out.old.items ++ parts_text layout.now.before layout.now.front.now layout.now.zeros layout.now.shown.now layout.now.after) }
     ensures err { OnErr result (out.new.items ≡ out.old.items) }
 {
     let Layout {
@@ -182,11 +182,11 @@ fn lay(out: &mut Vec<u8>, layout: &Layout<'_>) -> Result<(), AllocError>
         after,
     } = *layout;
     out.reserve(before + front.len() + zeros + shown.len() + after)?;
-    fill(out, b' ', before);
-    append(out, front);
-    fill(out, b'0', zeros);
-    append(out, shown);
-    fill(out, b' ', after);
+    fill_reserved(out, b' ', before);
+    append_reserved(out, front);
+    fill_reserved(out, b'0', zeros);
+    append_reserved(out, shown);
+    fill_reserved(out, b' ', after);
     Ok(())
 }
 

@@ -10,7 +10,8 @@ use Rattle.ti_source.specs.Blocks.{OneBlock}
 use Rattle.ti_source.specs.Reading.{Reading}
 use Rattle.ti_source.specs.Parsing.{parsed, HasReading}
 use Rattle.ti_source.specs.Sound.{EachIsWellRead}
-use Rattle.ti_spelling.specs.Spelling.{AreBytes, UnescapedAgrees, ValuesAreSound}
+use Rattle.ti_spelling.specs.Spelling.{AreBytes}
+use Rattle.ti_spelling.specs.inside.Spelling.{UnescapedAgrees, ValuesAreSound}
 use Rattle.ti_compiled.specs.Values.{Contents}
 use Rattle.ti_compiled.specs.Image.{image, limit_of}
 use Rattle.ti_compiled.specs.Reading.{Reads, OneReading}

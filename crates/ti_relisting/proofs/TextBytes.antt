@@ -7,7 +7,8 @@ use Rattle.ti_source.specs.Folding.{Placed, in_comment, folded}
 use Rattle.ti_source.specs.Items.{bytes, Begins, all_field, field_and_rest, AreItems, last_item, item_ends, pair_of_bytes, single_byte, without_front, piece_of, Claim, claims_flag, claims_number, claims_text, claims_cancel, Statement, States, empty_item, disabled_item, number_item, text_item, cancel_item, flag_item}
 use Rattle.ti_source.specs.Reading.{Said, said_flag, said_number, said_text, said_cancel, said_import, ReadItem, ReadFault}
 use Rattle.ti_source.specs.Parsing.{Verdict, accepted, accepted_odd, refused, Judges, judged_import, judged_unknown, judged_wrong_kind, judged_flag, judged_cancel, judged_number, judged_bad_number, judged_large_number, judged_text, judged_odd_text, judged_bad_text, items_by, ReadsItems, reads_nothing, reads_ignored, reads_judged, parsed, HasReading}
-use Rattle.ti_spelling.specs.Spelling.{AreBytes, UnescapedAgrees, ValuesAreSound}
+use Rattle.ti_spelling.specs.Spelling.{AreBytes}
+use Rattle.ti_spelling.specs.inside.Spelling.{UnescapedAgrees, ValuesAreSound}
 use Rattle.ti_relisting.proofs.Bytes.{uncommented, unbroken, bytes-folded}
 
 abbrev pub OfBytes : List ℕ → Type 0

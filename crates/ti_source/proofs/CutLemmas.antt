@@ -6,7 +6,9 @@ use Rattle.std.proofs.lemmas.List.{append-nil}
 use Rattle.std.proofs.lemmas.List.Elements.{All-nil, All-cons}
 use Rattle.std.proofs.lemmas.List.Sums.{sum_by-append}
 use Rattle.ti_source.specs.Lines.{LinesAdd}
-use Rattle.ti_source.specs.Blocks.{begins_head, is_head, last_byte, HasNoHead, HasOneHead, AreBlocks, Cut, OneBlock, front_of, blocks_of, EachHasCut, OneCut, BlocksAreSingle, BlocksAreSingleOnceEnded}
+use Rattle.ti_source.specs.Blocks.{last_byte, HasNoHead, HasOneHead, AreBlocks, Cut, OneBlock, EachHasCut, OneCut, BlocksAreSingle, BlocksAreSingleOnceEnded}
+use Rattle.ti_source.specs.inside.Blocks.{front_of, blocks_of}
+use Rattle.ti_source.specs.Heads.{begins_head, is_head}
 
 pub lines_add : LinesAdd
 lines_add a b = sum_by-append (λ x. cond (x == 10) 1 0) a b

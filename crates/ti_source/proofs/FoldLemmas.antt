@@ -2,7 +2,7 @@
 use Rattle.std.proofs.Common.{◌≡◌, ℕ, ◌+◌, ◌≤◌, Bool, true, false, ◌==◌, ◌||◌, ◌&&◌, List, [], ◌∷◌, length, cond, refl, arith}
 use Rattle.ti_source.specs.WhiteSpace.{is_white_space}
 use Rattle.ti_source.specs.Folding.{Placed, placed, in_comment, without_comments, joined, folded}
-use Rattle.ti_source.specs.Items.{after_field}
+use Rattle.ti_source.specs.inside.Items.{after_field}
 
 length-placed : (line : ℕ) (s : List ℕ) → length (placed line s) ≡ length s
 length-placed line [] = refl

@@ -10,7 +10,8 @@ use Rattle.std.proofs.lemmas.List.Elements.{All-from_recursion, recursion_from_A
 use Rattle.std.proofs.lemmas.List.Splits.{slice_split-cons_yes, slice_split-cons_no, slice_split_none, slice_split_at, length-slice_split, join_with_byte-slice_split}
 use Rattle.std.proofs.lemmas.Slice.Eq.{bytes_eq-Decides}
 use Rattle.memchr.specs.Find.{IsLastByte, is_byte}
-use Rattle.ti_source.specs.Header.{IsNameByte, IsLookupName, PartsOf, lookup_parts, HeaderNames, IsBadHeader, is_name_byte, is_lookup_name, parts_of, is_header, header_names, EachHeaderIsRead, HeadersHaveOneReading}
+use Rattle.ti_source.specs.Header.{IsNameByte, IsLookupName, PartsOf, lookup_parts, HeaderNames, IsBadHeader}
+use Rattle.ti_source.specs.inside.Header.{is_name_byte, is_lookup_name, parts_of, is_header, header_names, EachHeaderIsRead, HeadersHaveOneReading}
 
 -- ---- the tests
 leb_decides : (a b : ℕ) → Decides (nat_le a b) (a ≤ b)

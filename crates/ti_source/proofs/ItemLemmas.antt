@@ -5,7 +5,8 @@ use Rattle.ti_source.specs.declared.items.Taken.{Taken}
 use Rattle.ti_source.specs.declared.items.Taken.TheVariants as taken
 use Rattle.ti_source.specs.WhiteSpace.{is_white_space}
 use Rattle.ti_source.specs.Folding.{Placed}
-use Rattle.ti_source.specs.Items.{bytes, taken_after, cuts, with_first, items_of, Piece, piece, without_front, line_of, piece_of, with_byte, TakesItem}
+use Rattle.ti_source.specs.Items.{bytes, Piece, piece, without_front, line_of, piece_of}
+use Rattle.ti_source.specs.inside.Items.{taken_after, cuts, with_first, items_of, with_byte, TakesItem}
 
 -- a text in front of the first of some items
 abbrev pub with_front : List Placed → List (List Placed) → List (List Placed)

@@ -2,9 +2,9 @@
 use Rattle.std.proofs.Common.{◌≡◌, ℕ, ◌+◌, ◌<◌, ◌^◌, List, ◌++◌, length}
 use Rattle.ti_source.specs.declared.items.Taken.TheVariants as taken
 use Rattle.ti_source.specs.Folding.{Placed}
-use Rattle.ti_source.specs.Items.{items_of}
+use Rattle.ti_source.specs.inside.Items.{items_of}
 use Rattle.ti_source.specs.Reading.{Reading}
-use Rattle.ti_source.specs.Parsing.{items_from, faults_from}
+use Rattle.ti_source.specs.inside.Parsing.{items_from, faults_from}
 
 -- The items of `start` were added to `old` up to here, with `ordinal` items, and those of `source` are still to come.
 pub record AddsSoFar (start : List Placed) (old : Reading) (ordinal : ℕ) (source : List Placed) (now : Reading) : Type 0 where

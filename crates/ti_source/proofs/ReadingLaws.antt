@@ -10,13 +10,19 @@ use Rattle.ti_source.specs.declared.numbers.NumberError.{NumberError}
 use Rattle.ti_source.specs.declared.numbers.NumberError.TheVariants.{Bad, TooLarge}
 use Rattle.ti_spelling.specs.declared.spelling.UnescapeError.{UnescapeError}
 use Rattle.ti_source.specs.WhiteSpace.{is_white_space}
-use Rattle.ti_spelling.specs.Spelling.{unescaped, UnescapedAgrees}
-use Rattle.ti_source.specs.Header.{header_names}
-use Rattle.ti_source.specs.Numbers.{number_read, ReadsAs}
+use Rattle.ti_spelling.specs.inside.Spelling.{unescaped, UnescapedAgrees}
+use Rattle.ti_source.specs.inside.Header.{header_names}
+use Rattle.ti_source.specs.Numbers.{ReadsAs}
+use Rattle.ti_source.specs.inside.Numbers.{number_read}
 use Rattle.ti_source.specs.Folding.{Placed, folded}
-use Rattle.ti_source.specs.Items.{Claim, claims_flag, claims_number, claims_text, claims_cancel, Statement, States, bytes, field_of, after_field, items_of, piece_of, statement_of}
+use Rattle.ti_source.specs.Items.{Claim, claims_flag, claims_number, claims_text, claims_cancel, Statement, States, bytes, piece_of}
+use Rattle.ti_source.specs.inside.Items.{field_of, after_field, items_of, statement_of}
 use Rattle.ti_source.specs.Reading.{ReadItem, ReadFault, Reading}
-use Rattle.ti_source.specs.Parsing.{Verdict, refused, fits, is_import, Judges, judged_import, judged_unknown, judged_wrong_kind, judged_flag, judged_cancel, judged_number, judged_bad_number, judged_large_number, judged_text, judged_odd_text, judged_bad_text, number_verdict, text_verdict, fitting_verdict, named_verdict, verdict_of, items_by, faults_by, ReadsItems, reads_nothing, reads_ignored, reads_judged, items_at, faults_at, items_from, faults_from, names_limit, header_fault, ReadsHeader, bad_header, long_header, good_header, names_found, header_faults, ReadsField, AddsItems, Parses, block_field, block_items, parsed, HasReading, OneReading}
+use Rattle.ti_source.specs.Parsing.{ReadsItems, reads_nothing, reads_ignored, reads_judged, ReadsHeader, bad_header, long_header, good_header, Parses, HasReading, OneReading}
+use Rattle.ti_source.specs.inside.Parsing.{items_at, faults_at, items_from, faults_from, names_found, header_faults, ReadsField, AddsItems, block_field, block_items, parsed}
+use Rattle.ti_source.specs.inside.Verdicts.{number_verdict, text_verdict, fitting_verdict, named_verdict, verdict_of}
+use Rattle.ti_source.specs.Header.{names_limit}
+use Rattle.ti_source.specs.Verdicts.{Verdict, refused, fits, is_import, Judges, judged_import, judged_unknown, judged_wrong_kind, judged_flag, judged_cancel, judged_number, judged_bad_number, judged_large_number, judged_text, judged_odd_text, judged_bad_text, items_by, faults_by, header_fault}
 use Rattle.ti_source.specs.Header.{IsBadHeader, HeaderNames}
 use Rattle.ti_source.proofs.NumberLemmas.{each_text, one_reading as one_number}
 use Rattle.ti_source.proofs.HeaderLemmas.{each_header, headers_law}

@@ -19,13 +19,19 @@ use Rattle.ti_source.specs.WhiteSpace.{is_white_space}
 use Rattle.ti_source.specs.Blocks.{last_byte}
 use Rattle.ti_source.specs.Lines.{line_count}
 use Rattle.ti_source.specs.Codes.{is_error, is_of_header}
-use Rattle.ti_source.specs.Header.{IsBadHeader, HeaderNames, IsLookupName, header_names}
-use Rattle.ti_source.specs.Numbers.{number_read, ReadsAs}
-use Rattle.ti_spelling.specs.Spelling.{unescaped, ValuesAreSound}
+use Rattle.ti_source.specs.Header.{IsBadHeader, HeaderNames, IsLookupName}
+use Rattle.ti_source.specs.inside.Header.{header_names}
+use Rattle.ti_source.specs.Numbers.{ReadsAs}
+use Rattle.ti_source.specs.inside.Numbers.{number_read}
+use Rattle.ti_spelling.specs.inside.Spelling.{unescaped, ValuesAreSound}
 use Rattle.ti_source.specs.Folding.{Placed, placed, in_comment, without_comments, joined, folded}
-use Rattle.ti_source.specs.Items.{Claim, claims_flag, claims_number, claims_text, claims_cancel, Statement, bytes, after_field, taken_after, cuts, with_first, items_of, without_front, line_of, piece_of, statement_of}
+use Rattle.ti_source.specs.Items.{Claim, claims_flag, claims_number, claims_text, claims_cancel, Statement, bytes, without_front, line_of, piece_of}
+use Rattle.ti_source.specs.inside.Items.{after_field, taken_after, cuts, with_first, items_of, statement_of}
 use Rattle.ti_source.specs.Reading.{ReadItem, ReadFault}
-use Rattle.ti_source.specs.Parsing.{Verdict, accepted, accepted_odd, refused, is_import, number_verdict, text_verdict, fitting_verdict, named_verdict, verdict_of, items_by, faults_by, items_at, faults_at, items_from, faults_from, names_limit, header_fault, names_found, header_faults, block_field, block_items, parsed}
+use Rattle.ti_source.specs.inside.Parsing.{items_at, faults_at, items_from, faults_from, names_found, header_faults, block_field, block_items, parsed}
+use Rattle.ti_source.specs.inside.Verdicts.{number_verdict, text_verdict, fitting_verdict, named_verdict, verdict_of}
+use Rattle.ti_source.specs.Header.{names_limit}
+use Rattle.ti_source.specs.Verdicts.{Verdict, accepted, accepted_odd, refused, is_import, items_by, faults_by, header_fault}
 use Rattle.ti_source.specs.Sound.{SetsItsKind, IsLineOf, IsWritable, IsRising, EachIsWellRead}
 use Rattle.ti_source.proofs.CutLemmas.{lines_add}
 use Rattle.ti_source.proofs.HeaderLemmas.{each_header}
@@ -182,11 +188,11 @@ faults_by-lines Q n line name (refused code) q = (q, tt)
 shown-lines : (Q : ℕ → Type 0) (n : ℕ) (shown : List Placed) → AllByRecursion (λ (x : Placed). Q x.1) shown
     → AllByRecursion (λ (i : ReadItem). Q i.line) (items_at n (line_of shown) (statement_of (bytes shown))) × AllByRecursion (λ (f : ReadFault). Q f.line) (faults_at n (line_of shown) (statement_of (bytes shown)))
 shown-lines Q n [] all = (tt, tt)
-shown-lines Q n (x ∷ xs) all = stated (statement_of (bytes (x ∷ xs)))
+shown-lines Q n (x ∷ xs) all = by_statement (statement_of (bytes (x ∷ xs)))
   where
-    stated : (o : Option Statement) → AllByRecursion (λ (i : ReadItem). Q i.line) (items_at n x.1 o) × AllByRecursion (λ (f : ReadFault). Q f.line) (faults_at n x.1 o)
-    stated None = (tt, tt)
-    stated (Some s) = (items_by-lines Q n x.1 (verdict_of s.name s.claim) all.0, faults_by-lines Q n x.1 s.name (verdict_of s.name s.claim) all.0)
+    by_statement : (o : Option Statement) → AllByRecursion (λ (i : ReadItem). Q i.line) (items_at n x.1 o) × AllByRecursion (λ (f : ReadFault). Q f.line) (faults_at n x.1 o)
+    by_statement None = (tt, tt)
+    by_statement (Some s) = (items_by-lines Q n x.1 (verdict_of s.name s.claim) all.0, faults_by-lines Q n x.1 s.name (verdict_of s.name s.claim) all.0)
 
 from-lines : (Q : ℕ → Type 0) (n : ℕ) (items : List (List Placed)) → AllByRecursion (AllByRecursion (λ (x : Placed). Q x.1)) items
     → AllByRecursion (λ (i : ReadItem). Q i.line) (items_from n items) × AllByRecursion (λ (f : ReadFault). Q f.line) (faults_from n items)

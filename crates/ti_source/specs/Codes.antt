@@ -1,4 +1,5 @@
 -- The codes and names of faults, as a report writes them (own).
+use Rattle.ti_text.specs.Ascii as ascii
 use Rattle.std.specs.Prelude.{ℕ, Bool, true, false, List, ◌∷◌, ◌++◌, codes}
 use Rattle.ti_source.specs.declared.code.Code.{Code}
 use Rattle.ti_source.specs.declared.code.Code.TheVariants.{BadHeader, NamesTooLong, BadNumber, NumberTooLarge, BadString, MissingUse, Circular, Unresolved, TooLarge, UnknownCapability, WrongKind, UnknownEscape, DuplicateName}
@@ -51,4 +52,4 @@ is_of_header _ = false
 
 -- a code as it is printed: its label, a space and its name
 abbrev pub code_text : Code → List ℕ
-code_text code = label_of code ++ 32 ∷ code_name code
+code_text code = label_of code ++ ascii.space ∷ code_name code

@@ -1,5 +1,6 @@
 -- The text of a block as it is read (terminfo(5); X/Open Curses Issue 7, "Terminfo Source Format"): comment lines are left out, and a line may be
 -- broken anywhere, even inside a string. That a break takes the white space and the newlines after it along is this project's choice (own).
+use Rattle.ti_text.specs.Ascii as ascii
 use Rattle.std.specs.Prelude.{◌≡◌, ◌≢◌, ℕ, ◌+◌, Bool, true, false, not, ◌||◌, ◌==◌, List, [], ◌∷◌, ◌++◌, map, filter, flat_map}
 use Rattle.ti_source.specs.WhiteSpace.{is_white_space}
 use Rattle.ti_source.specs.Lines.{line_count}
@@ -13,23 +14,23 @@ pub record ArePlaced (block : List ℕ) (text : List Placed) : Type 0 where
 -- no byte is a newline
 abbrev pub HasNoNewline : List Placed → Type 0
 HasNoNewline [] = Unit {0}
-HasNoNewline (x ∷ xs) = ((x.0 == 10) ≡ false) × HasNoNewline xs
+HasNoNewline (x ∷ xs) = ((x.0 == ascii.newline) ≡ false) × HasNoNewline xs
 
 -- the lines of a text, each with the newline that ends it, which the last line may lack
 pub data AreLines : (text : List Placed) (lines : List (List Placed)) → Type 0 where
   no_lines : AreLines [] []
   last_line : (line : List Placed) → line ≢ [] → HasNoNewline line → AreLines line (line ∷ [])
   line_and_rest : (line rest : List Placed) (at : ℕ) (lines : List (List Placed)) → HasNoNewline line → AreLines rest lines
-      → AreLines (line ++ (10, at) ∷ rest) ((line ++ (10, at) ∷ []) ∷ lines)
+      → AreLines (line ++ (ascii.newline, at) ∷ rest) ((line ++ (ascii.newline, at) ∷ []) ∷ lines)
 
 -- whether a line is a comment: it begins with a `#`
 abbrev pub is_comment : List Placed → Bool
 is_comment [] = false
-is_comment (x ∷ xs) = x.0 == 35
+is_comment (x ∷ xs) = x.0 == ascii.number_sign
 
 -- whether a break takes a byte along: white space or a newline
 abbrev pub is_blank : ℕ → Bool
-is_blank b = b == 10 || is_white_space b
+is_blank b = b == ascii.newline || is_white_space b
 
 -- each byte is white space or a newline
 abbrev pub IsBlankRun : List Placed → Type 0
@@ -46,7 +47,7 @@ BeginsNoBlank (x ∷ xs) = is_blank x.0 ≡ false
 pub data Joins : (text kept : List Placed) → Type 0 where
   last_piece : (piece : List Placed) → HasNoNewline piece → Joins piece piece
   piece_and_break : (piece run rest kept : List Placed) (at : ℕ) → HasNoNewline piece → IsBlankRun run → BeginsNoBlank rest → Joins rest kept
-      → Joins (piece ++ (10, at) ∷ (run ++ rest)) (piece ++ kept)
+      → Joins (piece ++ (ascii.newline, at) ∷ (run ++ rest)) (piece ++ kept)
 
 -- the folded text of a block: its lines that are no comments, joined
 pub record Folds (block : List ℕ) (text : List Placed) : Type 0 where

@@ -1,13 +1,15 @@
 pub mod WhiteSpace
 pub mod Lines
+pub mod Heads
 pub mod Blocks
 pub mod Header
 pub mod Numbers
 pub use Rattle.ti_spelling.specs.Spelling
-pub mod inside
 pub mod Folding
 pub mod Items
 pub mod Codes
 pub mod Reading
+pub mod Verdicts
 pub mod Parsing
 pub mod Sound
+pub mod inside

@@ -1,10 +1,2 @@
--- Lines of a text, by their newlines (own).
-use Rattle.std.specs.Prelude.{◌≡◌, ℕ, ◌+◌, ◌==◌, List, ◌++◌, count_by}
-
--- how many newlines a text has, which is how many lines where the last of them is ended
-abbrev pub line_count : List ℕ → ℕ
-line_count s = count_by (λ b. b == 10) s
-
--- lines add up: texts joined have the lines of both
-abbrev pub LinesAdd : Type 0
-LinesAdd = (a b : List ℕ) → line_count (a ++ b) ≡ line_count a + line_count b
+-- Lines of a text, by their newlines.
+pub use Rattle.ti_text.specs.Texts.{line_count, LinesAdd}

@@ -10,7 +10,8 @@ use Rattle.ti_source.specs.Header.{IsLookupName}
 use Rattle.ti_source.specs.Numbers.{greatest_number}
 use Rattle.ti_spelling.specs.Spelling.{HasNoNul}
 use Rattle.ti_source.specs.Reading.{Reading, ReadItem, ReadFault, Said, said_flag, said_number, said_text, said_cancel, said_import}
-use Rattle.ti_source.specs.Parsing.{names_limit, parsed}
+use Rattle.ti_source.specs.inside.Parsing.{parsed}
+use Rattle.ti_source.specs.Header.{names_limit}
 
 -- what an item says of a capability fits it: its kind, a number within the limit, a text without NUL
 abbrev pub SetsItsKind : Said → Type 0

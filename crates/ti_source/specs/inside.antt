@@ -1,2 +1,8 @@
--- Computed forms of what the other files define by relations, and words that only proofs use.
+-- Computed forms of what the other files define by relations, and words that only private functions and proofs use.
+pub mod Blocks
+pub mod Header
+pub mod Numbers
 pub mod Folding
+pub mod Items
+pub mod Verdicts
+pub mod Parsing

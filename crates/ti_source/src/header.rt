@@ -4,19 +4,20 @@ ghost use Rattle.std.specs.List.{list_all};
 ghost use Rattle.std.specs.Option.{option_map};
 ghost use Rattle.std.specs.Rc.{rc_slice_items};
 ghost use Rattle.ti_source.specs.Header as spec;
+ghost use Rattle.ti_source.specs.inside.Header as computed;
 
 use memchr::memrchr;
 use std::alloc::{AllocError, Global};
 use std::rc::RcSlice;
 
 fn is_name_byte(byte: u8) -> bool
-    ensures { result ≡ spec.is_name_byte byte }
+    ensures { result ≡ computed.is_name_byte byte }
 {
     matches!(byte, b'!'..=b'~') && !matches!(byte, b',' | b'/' | b'|')
 }
 
 fn has_name_bytes(text: &[u8]) -> bool
-    ensures { result ≡ list_all spec.is_name_byte text.now }
+    ensures { result ≡ list_all computed.is_name_byte text.now }
 {
     text.iter().all(|byte| is_name_byte(*byte))
 }
@@ -25,14 +26,14 @@ fn has_name_bytes(text: &[u8]) -> bool
 /// neither `.` nor `..`.
 pub fn is_lookup_name(name: &[u8]) -> bool
     ensures rule { IsTrue result ↔ spec.IsLookupName name.now }
-    ensures computed { result ≡ spec.is_lookup_name name.now }
+    ensures computed { result ≡ computed.is_lookup_name name.now }
 {
     !name.is_empty() && name != b".".as_slice() && name != b"..".as_slice() && has_name_bytes(name)
 }
 
 // The part of `field` whose parts are its lookup names.
 fn without_description(field: &[u8]) -> &[u8]
-    ensures { spec.parts_of result.now ≡ spec.lookup_parts (spec.parts_of field.now) }
+    ensures { computed.parts_of result.now ≡ spec.lookup_parts (computed.parts_of field.now) }
 {
     match memrchr(b'|', field) {
         Some(last) => &field[..last],
@@ -41,7 +42,7 @@ fn without_description(field: &[u8]) -> &[u8]
 }
 
 fn has_no_empty_part(field: &[u8]) -> bool
-    ensures { result ≡ list_all (λ part. not (length part == 0)) (spec.parts_of field.now) }
+    ensures { result ≡ list_all (λ part. not (length part == 0)) (computed.parts_of field.now) }
 {
     field
         .split(|byte| *byte == b'|')
@@ -49,7 +50,7 @@ fn has_no_empty_part(field: &[u8]) -> bool
 }
 
 fn are_lookup_names(joined: &[u8]) -> bool
-    ensures { result ≡ list_all spec.is_lookup_name (spec.parts_of joined.now) }
+    ensures { result ≡ list_all computed.is_lookup_name (computed.parts_of joined.now) }
 {
     joined
         .split(|byte| *byte == b'|')
@@ -57,13 +58,13 @@ fn are_lookup_names(joined: &[u8]) -> bool
 }
 
 fn is_header(field: &[u8]) -> bool
-    ensures { result ≡ spec.is_header field.now }
+    ensures { result ≡ computed.is_header field.now }
 {
     !field.contains(&0) && has_no_empty_part(field) && are_lookup_names(without_description(field))
 }
 
 fn parts(alloc: Global, joined: &[u8]) -> Result<Vec<RcSlice<u8>>, AllocError>
-    ensures { IfOk result (λ v. map rc_slice_items v.items ≡ spec.parts_of joined.now) }
+    ensures { IfOk result (λ v. map rc_slice_items v.items ≡ computed.parts_of joined.now) }
 {
     let mut parts = Vec::new(alloc);
     for part in joined.split(|byte| *byte == b'|') {
@@ -76,7 +77,7 @@ fn parts(alloc: Global, joined: &[u8]) -> Result<Vec<RcSlice<u8>>, AllocError>
 /// bytes `|` is empty, it holds a NUL, or a lookup name breaks the rule of [`is_lookup_name`]. Of two or more parts the
 /// last is a description and no lookup name (X/Open Curses Issue 7, "Terminfo Source Format").
 pub fn lookup_names(alloc: Global, field: &[u8]) -> Result<Option<Vec<RcSlice<u8>>>, AllocError>
-    ensures { IfOk result (λ names. option_map (λ v. map rc_slice_items v.items) names ≡ spec.header_names field.now) }
+    ensures { IfOk result (λ names. option_map (λ v. map rc_slice_items v.items) names ≡ computed.header_names field.now) }
 {
     if !is_header(field) {
         return Ok(None);
@@ -87,12 +88,12 @@ pub fn lookup_names(alloc: Global, field: &[u8]) -> Result<Option<Vec<RcSlice<u8
 
 /// Each names field has lookup names or is bad.
 pub fn each_header_is_read()
-    ensures { spec.EachHeaderIsRead }
+    ensures { computed.EachHeaderIsRead }
 {}
 
 /// A names field has one reading alone.
 pub fn headers_have_one_reading()
-    ensures { spec.HeadersHaveOneReading }
+    ensures { computed.HeadersHaveOneReading }
 {}
 
 #[cfg(test)]

@@ -1,12 +1,13 @@
 //! Where head lines begin: the lines that are not empty and begin with neither white space nor `#`.
 ghost use Rattle.std.specs.Prelude.{◌≡◌, ◌==◌, length};
 ghost use Rattle.ti_source.specs.Blocks as spec;
+ghost use Rattle.ti_source.specs.inside.Blocks as computed;
 
 use memchr::memchr;
 
 /// Whether `text`, at the start of a line, begins with a head line.
 pub(crate) fn begins_with_head(text: &[u8]) -> bool
-    ensures { result ≡ spec.begins_with_head text.now }
+    ensures { result ≡ computed.begins_with_head text.now }
 {
     match text.first() {
         Some(byte) => !matches!(byte, b' ' | b'\t' | b'#' | b'\n'),
@@ -23,7 +24,7 @@ pub(crate) fn ends_with_newline(text: &[u8]) -> bool
 
 /// The place of the first head line that begins after the first byte of `text`, or the length where there is none.
 pub(crate) fn next_head(text: &[u8]) -> usize
-    ensures { result ≡ length (spec.to_next_head text.now) }
+    ensures { result ≡ length (computed.to_next_head text.now) }
 {
     let mut at = 0;
     while let Some(newline) = memchr(b'\n', &text[at..]) {
@@ -37,7 +38,7 @@ pub(crate) fn next_head(text: &[u8]) -> usize
 
 /// The length of the lines of `source` before its first head line.
 pub(crate) fn preface_len(source: &[u8]) -> usize
-    ensures { result ≡ length (spec.front_of 10 source.now) }
+    ensures { result ≡ length (computed.front_of 10 source.now) }
 {
     if begins_with_head(source) {
         0

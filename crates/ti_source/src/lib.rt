@@ -5,7 +5,6 @@
 //! - `cutting` and `walk`: a source as a preface and blocks, one for each entry; `heads` finds where they begin.
 //! - `header`: the names field of a block, and its lookup names.
 //! - `numbers`: the value of a number, or why a text is none; `white_space`: what stands after it.
-//! - `lines`: the law of counting lines.
 //! - `folding`: a block without its comments and line breaks; `items`: the names field and the items of a block, and
 //!   what an item states; `verdicts`: what comes of that; `parsing`: a block as it is read, with its faults.
 //!
@@ -18,7 +17,6 @@ mod folding;
 mod header;
 mod heads;
 mod items;
-mod lines;
 mod numbers;
 mod parsing;
 mod verdicts;
@@ -31,11 +29,11 @@ pub use cutting::{
 };
 pub use folding::one_folding;
 pub use header::{each_header_is_read, headers_have_one_reading, is_lookup_name, lookup_names};
-pub use lines::lines_add;
 pub use numbers::{
     NumberError, each_number_is_read, numbers_have_one_reading, numerals_have_one_value,
     read_number,
 };
 pub use parsing::{Item, Local, Parsed, What, each_is_well_read, one_reading, parse};
 pub use ti_spelling::{UnescapeError, Unescaped, escape, one_outcome, unescape, written_spells};
+pub use ti_text::lines_add;
 pub use walk::Blocks;

@@ -2,12 +2,14 @@
 ghost use Rattle.std.specs.Prelude.{◌≡◌, ◌≤◌, ◌+◌, min, IfSome};
 ghost use Rattle.std.specs.Option.{option_map, option_and_then};
 ghost use Rattle.ti_source.specs.Numbers as spec;
+ghost use Rattle.ti_source.specs.inside.Numbers as computed;
 
 use crate::white_space::trim_end;
 use thiserror::Error;
+use ti_text::limits::NUMBER_MAX;
 
 /// The greatest value of a number.
-const GREATEST: u32 = 2_147_483_647;
+const GREATEST: u32 = NUMBER_MAX;
 
 /// Why a text is no number.
 #[derive(Clone, Copy, PartialEq, Eq, Debug, Error)]
@@ -33,7 +35,7 @@ fn digit_value(byte: u8) -> u32
 
 // The digits of a number, and the base that they are in.
 fn base_and_digits(number: &[u8]) -> Option<(u32, &[u8])>
-    ensures value { spec.value_read number.now ≡ option_and_then (λ p. spec.digits_read p.0 p.1.now) result }
+    ensures value { computed.value_read number.now ≡ option_and_then (λ p. computed.digits_read p.0 p.1.now) result }
     ensures base { IfSome result (λ p. p.0 ≤ 16) }
 {
     match number {
@@ -47,7 +49,7 @@ fn base_and_digits(number: &[u8]) -> Option<(u32, &[u8])>
 // The value of digits in a base; one that is over the limit stops just above it.
 fn digits_value(base: u32, digits: &[u8]) -> Option<u32>
     requires { base ≤ 16 }
-    ensures { result ≡ option_map (λ value. min value (spec.greatest_number + 1)) (spec.digits_read base digits.now) }
+    ensures { result ≡ option_map (λ value. min value (spec.greatest_number + 1)) (computed.digits_read base digits.now) }
 {
     let mut value = 0;
     for byte in digits {
@@ -62,7 +64,7 @@ fn digits_value(base: u32, digits: &[u8]) -> Option<u32>
 }
 
 fn value(number: &[u8]) -> Option<u32>
-    ensures { result ≡ option_map (λ value. min value (spec.greatest_number + 1)) (spec.value_read number.now) }
+    ensures { result ≡ option_map (λ value. min value (spec.greatest_number + 1)) (computed.value_read number.now) }
 {
     let (base, digits) = base_and_digits(number)?;
     digits_value(base, digits)
@@ -76,7 +78,7 @@ fn value(number: &[u8]) -> Option<u32>
 /// `Bad` where the text is not written so, and `TooLarge` where its value, of however many digits, is over 2,147,483,647.
 pub fn read_number(text: &[u8]) -> Result<u32, NumberError>
     ensures reading { spec.ReadsAs text.now result }
-    ensures computed { result ≡ spec.number_read text.now }
+    ensures computed { result ≡ computed.number_read text.now }
 {
     match value(trim_end(text)) {
         None => Err(NumberError::Bad),
@@ -92,12 +94,12 @@ pub fn numerals_have_one_value()
 
 /// Each text reads as the computing definition says.
 pub fn each_number_is_read()
-    ensures { spec.EachTextIsRead }
+    ensures { computed.EachTextIsRead }
 {}
 
 /// A text has no other reading.
 pub fn numbers_have_one_reading()
-    ensures { spec.OneReading }
+    ensures { computed.NumbersHaveOneReading }
 {}
 
 #[cfg(test)]

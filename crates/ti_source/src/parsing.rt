@@ -2,17 +2,9 @@
 ghost use Rattle.std.specs.Prelude.{◌≡◌, ◌<◌, ◌+◌, ◌^◌, IfOk, OnOk, length};
 ghost use Rattle.ti_source.specs.Blocks.{OneBlock};
 ghost use Rattle.ti_source.specs.Items.{piece};
-ghost use Rattle.ti_source.specs.Parsing.{
-  Parses,
-  parsed,
-  HasReading,
-  OneReading,
-  AddsItem,
-  AddsItems,
-  ReadsField,
-  header_fault,
-  item_fault,
-};
+ghost use Rattle.ti_source.specs.Parsing.{Parses, HasReading, OneReading};
+ghost use Rattle.ti_source.specs.inside.Parsing.{parsed, AddsItem, AddsItems, ReadsField};
+ghost use Rattle.ti_source.specs.Verdicts.{header_fault, item_fault};
 ghost use Rattle.ti_source.specs.Reading.{fault_of, reading_of};
 ghost use Rattle.ti_source.specs.Sound.{EachIsWellRead, IsWellRead};
 
@@ -25,9 +17,7 @@ use std::alloc::{AllocError, Global};
 use std::rc::RcSlice;
 use ti_caps::{Cap, Kind, count};
 use ti_spelling::one_outcome;
-
-/// The most bytes that a names field may have.
-const NAMES_LIMIT: usize = 127;
+use ti_text::limits::NAMES_MAX;
 
 /// What an accepted item says.
 #[derive(Debug, Drop)]
@@ -125,7 +115,7 @@ fn read_header(alloc: Global, field: Vec<u8>) -> Result<Parsed, AllocError>
             Vec::new(alloc)
         }
         Some(names) => {
-            if field.len() > NAMES_LIMIT {
+            if field.len() > NAMES_MAX {
                 faults.push(header_fault(Code::NamesTooLong))?;
             }
             names

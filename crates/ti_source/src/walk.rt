@@ -15,7 +15,7 @@ pub struct Blocks<'a> {
 
 impl<'a> Model for Blocks<'a> {
     ghost use Rattle.std.specs.Prelude.{◌≡◌, []};
-    ghost use Rattle.ti_source.specs.Blocks.{Pieces, front_of, blocks_of};
+    ghost use Rattle.ti_source.specs.inside.Blocks.{Pieces, front_of, blocks_of};
 
     ghost Value = { Pieces };
 

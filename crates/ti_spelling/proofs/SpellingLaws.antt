@@ -8,7 +8,8 @@ use Rattle.std.proofs.lemmas.List.{length-append}
 use Rattle.ti_spelling.specs.declared.spelling.Piece.{Piece}
 use Rattle.ti_spelling.specs.declared.spelling.UnescapeError.{UnescapeError}
 use Rattle.ti_spelling.specs.declared.spelling.UnescapeError.TheVariants.{BadOctal, BadControl, BadByte, Memory}
-use Rattle.ti_spelling.specs.Spelling.{named_escape, is_octal_digit, octal_digits, octal_digits_up_to, octal_value, octal_piece, unnamed_piece, named_piece, escape_piece, is_control_letter, control_piece, first_piece, is_percent, last_byte, not_nul, with_piece, then_later, unescaped_from, unescaped, IsEscape, escape_named, escape_octal, escape_unknown, escape_missing, IsControl, control_delete, control_masked, IsPiece, piece_escape, piece_control, piece_caret, piece_plain, IsRefused, refused_octal, refused_control, refused_control_at_end, refused_nul, refused_escaped_nul, SpellsAfter, spells_nothing, spells_piece, FailsAfter, fails_here, fails_later, Spells, Fails, CanBeSpelled, Explains, GivesUnescaped, OneOutcome, UnescapedAgrees}
+use Rattle.ti_spelling.specs.Spelling.{named_escape, is_octal_digit, octal_digits, octal_digits_up_to, octal_value, is_percent, last_byte, not_nul, IsEscape, escape_named, escape_octal, escape_unknown, escape_missing, IsControl, control_delete, control_masked, IsPiece, piece_escape, piece_control, piece_caret, piece_plain, IsRefused, refused_octal, refused_control, refused_control_at_end, refused_nul, refused_escaped_nul, SpellsAfter, spells_nothing, spells_piece, FailsAfter, fails_here, fails_later, Spells, Fails, CanBeSpelled, IsCauseOf, OneOutcome}
+use Rattle.ti_spelling.specs.inside.Spelling.{octal_piece, unnamed_piece, named_piece, escape_piece, is_control_letter, control_piece, first_piece, with_piece, then_later, unescaped_from, unescaped, GivesUnescaped, UnescapedAgrees}
 use Rattle.ti_spelling.proofs.OctalDigits.{digit_bounds}
 use Rattle.ti_spelling.proofs.PieceLemmas.{is_letter, control_letter, Found, first_right, piece_some, refuses}
 
@@ -244,7 +245,7 @@ can_be_spelled : (raw : List ℕ) (r : Result (List ℕ × Bool) UnescapeError) 
 can_be_spelled raw (Ok found) s ok = (found.0, found.1, s)
 can_be_spelled raw (Err cause) s ok = absurd cc
 
-pub answer_explains : (raw : List ℕ) (r : Result Unescaped UnescapeError) → GivesUnescaped raw r → IfErr r (λ cause. Explains cause raw)
+pub answer_explains : (raw : List ℕ) (r : Result Unescaped UnescapeError) → GivesUnescaped raw r → IfErr r (λ cause. IsCauseOf cause raw)
 answer_explains raw (Ok found) e = tt
 answer_explains raw (Err Memory) e = can_be_spelled raw (unescaped raw) (outcome raw) e
 answer_explains raw (Err BadOctal) e = unescaped_fails e

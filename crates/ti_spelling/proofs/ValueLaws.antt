@@ -8,7 +8,8 @@ use Rattle.std.proofs.lemmas.List.{length-append}
 use Rattle.std.proofs.lemmas.List.Elements.{All-nil, All-cons}
 use Rattle.ti_spelling.specs.declared.spelling.Unescaped.{Unescaped}
 use Rattle.ti_spelling.specs.declared.spelling.UnescapeError.{UnescapeError}
-use Rattle.ti_spelling.specs.Spelling.{named_escapes, named_escape, octal_value, not_nul, IsEscape, escape_named, escape_octal, escape_unknown, escape_missing, IsControl, control_delete, control_masked, IsPiece, piece_escape, piece_control, piece_caret, piece_plain, SpellsAfter, spells_nothing, spells_piece, HasNoNul, AreBytes, GivesUnescaped, ValuesAreSound}
+use Rattle.ti_spelling.specs.Spelling.{named_escapes, named_escape, octal_value, not_nul, IsEscape, escape_named, escape_octal, escape_unknown, escape_missing, IsControl, control_delete, control_masked, IsPiece, piece_escape, piece_control, piece_caret, piece_plain, SpellsAfter, spells_nothing, spells_piece, HasNoNul, AreBytes}
+use Rattle.ti_spelling.specs.inside.Spelling.{GivesUnescaped, ValuesAreSound}
 use Rattle.ti_spelling.proofs.PieceLemmas.{piece_some}
 use Rattle.ti_spelling.proofs.SpellingLaws.{unescaped_spells}
 

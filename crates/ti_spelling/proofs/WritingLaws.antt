@@ -6,7 +6,8 @@ use Rattle.std.proofs.lemmas.Bool.{eqb-true, eq-eqb, ne_eqb, ltb-true, not-true,
 use Rattle.std.proofs.lemmas.List.{drop_all}
 use Rattle.ti_spelling.specs.declared.spelling.Piece.{Piece}
 use Rattle.ti_spelling.specs.declared.spelling.UnescapeError.{UnescapeError}
-use Rattle.ti_spelling.specs.Spelling.{AreBytes, HasNoNul, is_percent, last_byte, escape_piece, control_piece, first_piece, with_piece, unescaped_from, unescaped, is_empty, byte_text, written_from, written, WrittenSpells}
+use Rattle.ti_spelling.specs.Spelling.{AreBytes, HasNoNul, is_percent, last_byte, is_empty, byte_text, written_from, written, WrittenSpells}
+use Rattle.ti_spelling.specs.inside.Spelling.{escape_piece, control_piece, first_piece, with_piece, unescaped_from, unescaped}
 use Rattle.ti_spelling.proofs.SpellingLaws.{begins, unescaped_spells}
 
 -- ---- the code's loop

@@ -2,8 +2,9 @@
 
 ghost use Rattle.std.specs.Prelude.{◌≡◌, ◌≤◌, ◌<◌, length, true, false, IfOk, IfErr, IsOkAnd};
 ghost use Rattle.ti_spelling.specs.declared.spelling.UnescapeError.TheVariants.{Memory};
-ghost use Rattle.ti_spelling.specs.Spelling.{named_escape, is_octal_digit, octal_digits, octal_value, octal_piece, not_nul, escape_piece, control_piece, first_piece, unescaped, GivesUnescaped, Spells, Explains, HasNoNul, OneOutcome, UnescapedAgrees, ValuesAreSound};
-ghost use Rattle.ti_spelling.specs.Pieces.{left_of, TakesPiece};
+ghost use Rattle.ti_spelling.specs.Spelling.{named_escape, is_octal_digit, octal_digits, octal_value, not_nul, Spells, IsCauseOf, HasNoNul, OneOutcome};
+ghost use Rattle.ti_spelling.specs.inside.Spelling.{octal_piece, escape_piece, control_piece, first_piece, unescaped, GivesUnescaped, UnescapedAgrees, ValuesAreSound};
+ghost use Rattle.ti_spelling.specs.inside.Pieces.{left_of, TakesPiece};
 
 use std::alloc::{AllocError, AllocFailed, Global};
 use thiserror::Error;
@@ -70,7 +71,7 @@ impl Piece {
     }
 
     /// A piece of an escape that terminfo(5) does not name.
-    fn odd(size: usize, byte: u8) -> Piece
+    fn of_odd_escape(size: usize, byte: u8) -> Piece
         ensures { result ≡ record { size = size; byte = byte; odd = true } }
     {
         Piece {
@@ -144,12 +145,12 @@ fn octal_piece(after: &[u8]) -> Result<Piece, UnescapeError>
 }
 
 /// The piece of a backslash and the front of `after`.
-#[tactic(auto, unfolding(crate::specs::Spelling::escape_piece))]
+#[tactic(auto, unfolding(crate::specs::inside::Spelling::escape_piece))]
 fn escape_piece(after: &[u8]) -> Result<Piece, UnescapeError>
     ensures { result ≡ escape_piece after.now }
 {
     let [letter, ..] = after else {
-        return Ok(Piece::odd(1, b'\\'));
+        return Ok(Piece::of_odd_escape(1, b'\\'));
     };
     if let Some(byte) = named_escape(*letter) {
         return Ok(Piece::new(2, byte));
@@ -160,11 +161,11 @@ fn escape_piece(after: &[u8]) -> Result<Piece, UnescapeError>
     if *letter == 0 {
         return Err(UnescapeError::BadByte);
     }
-    Ok(Piece::odd(2, *letter))
+    Ok(Piece::of_odd_escape(2, *letter))
 }
 
 /// The piece of a `^` and the front of `after`.
-#[tactic(auto, unfolding(crate::specs::Spelling::control_piece))]
+#[tactic(auto, unfolding(crate::specs::inside::Spelling::control_piece))]
 fn control_piece(after: &[u8]) -> Result<Piece, UnescapeError>
     ensures { result ≡ control_piece after.now }
 {
@@ -176,7 +177,7 @@ fn control_piece(after: &[u8]) -> Result<Piece, UnescapeError>
 }
 
 /// The piece at the front of `text`, which isn't empty; `percent` where it stands just after a `%`.
-#[tactic(auto, unfolding(crate::specs::Spelling::first_piece))]
+#[tactic(auto, unfolding(crate::specs::inside::Spelling::first_piece))]
 fn first_piece(percent: bool, text: &[u8]) -> Result<Piece, UnescapeError>
     requires { 0 < length text.now }
     ensures { result ≡ first_piece percent text.now }
@@ -198,7 +199,7 @@ struct Pieces<'a> {
 }
 
 impl<'a> Pieces<'a> {
-    #[tactic(auto, unfolding(crate::specs::Spelling::unescaped))]
+    #[tactic(auto, unfolding(crate::specs::inside::Spelling::unescaped))]
     fn new(raw: &'a [u8]) -> Pieces<'a>
         ensures all { left_of result ≡ unescaped raw.now }
         ensures len { length result.rest.now ≡ length raw.now }
@@ -264,7 +265,7 @@ fn decode(alloc: Global, raw: &[u8], count: usize) -> Result<Unescaped, Unescape
 /// byte, `BadByte` for a NUL outside of a pair. `Memory` only where the text has none of these.
 pub fn unescape(alloc: Global, raw: &[u8]) -> Result<Unescaped, UnescapeError>
     ensures ok { IfOk result (λ found. Spells raw.now found.bytes.items found.odd) }
-    ensures err { IfErr result (λ cause. Explains cause raw.now) }
+    ensures err { IfErr result (λ cause. IsCauseOf cause raw.now) }
     ensures computed { GivesUnescaped raw.now result }
     ensures no_nul { IfOk result (λ found. HasNoNul found.bytes.items) }
     ensures no_longer { IfOk result (λ found. length found.bytes.items ≤ length raw.now) }

@@ -1,7 +1,8 @@
 //! String values as terminfo(5) spells them: writing.
 
 ghost use Rattle.std.specs.Prelude.{◌≡◌, ◌*◌, ◌^◌, ◌<◌, ◌≤◌, ◌++◌, length, OnOk, IfOk};
-ghost use Rattle.ti_spelling.specs.Spelling.{short_escape, octal_text, byte_text, is_percent, written, WrittenSpells, WrittenReadsBack};
+ghost use Rattle.ti_spelling.specs.Spelling.{short_escape, octal_text, byte_text, is_percent, written, WrittenSpells};
+ghost use Rattle.ti_spelling.specs.inside.Spelling.{WrittenReadsBack};
 
 use std::alloc::{AllocError, Global};
 

@@ -2,7 +2,8 @@ pub mod Asked
 pub mod Ending
 pub mod Filing
 pub mod Holding
-pub mod Matched
 pub mod Printing
 pub mod Refusing
 pub mod Widths
+pub mod Rates
+pub mod Parts

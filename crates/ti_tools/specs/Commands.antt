@@ -1,8 +1,8 @@
--- The command lines that the program takes, as what clap reads of them (tic(1), infocmp(1)).
+-- The command lines that the program takes, as what clap reads of them (tic(1), tput(1), infocmp(1)).
 use Rattle.std.specs.Prelude.{codes, true}
 use Rattle.clap.specs.Simple.{App, new_app, on_top, with_rule, with_subcommand}
-pub use Rattle.ti_tools.specs.Rules.{flag_rule, operand_rule, option_rule}
 use Rattle.ti_tools.specs.InfocmpWords.{infocmp_app}
+use Rattle.ti_tools.specs.Rules.{flag_rule, long_option_rule, operand_rule, operands_rule, option_rule}
 
 -- `tic [-c] [-o DIR] [FILE]`
 abbrev pub tic_app : App
@@ -15,12 +15,26 @@ tic_app = with_rule (with_rule (with_rule (new_app (codes "tic"))
 abbrev pub session_app : App
 session_app = new_app (codes "session")
 
+-- `tput [-T TYPE] [--rate N]`
+abbrev pub tput_options_app : App
+tput_options_app = with_rule (with_rule (new_app (codes "tput"))
+    (option_rule (codes "term") 84))
+    (long_option_rule (codes "rate"))
+
+-- `tput [-T TYPE] [--rate N] [-S] [WORD..]`
+abbrev pub tput_app : App
+tput_app = with_rule (with_rule tput_options_app
+    (flag_rule (codes "lines") 83))
+    (operands_rule (codes "words"))
+
 -- the program: one of its subcommands has to be there
-unfoldable pub ti_app : App
-ti_app = with_subcommand
-    (with_subcommand
+abbrev pub first_tools_app : App
+first_tools_app = with_subcommand
     (with_subcommand
     (on_top (λ top. record top { subcommand_required = true }) (new_app (codes "ti")))
     tic_app.top)
-    session_app.top)
-    infocmp_app.top
+    tput_app.top
+
+-- the program with all of them
+unfoldable pub ti_app : App
+ti_app = with_subcommand (with_subcommand first_tools_app session_app.top) infocmp_app.top

@@ -1,14 +1,14 @@
 -- What the words behind `infocmp` ask for (infocmp(1)).
-use Rattle.std.specs.Prelude.{ℕ, Bool, true, false, not, ◌==◌, nat_le, nat_lt, if◌then◌else◌, List, length, Option, Some, None, codes}
+use Rattle.std.specs.Prelude.{ℕ, Bool, true, false, not, ◌==◌, nat_le, nat_lt, if◌then◌else◌, List, [], length, Option, Some, None, codes, unwrap_or}
 use Rattle.std.specs.Str.{bytes_eq}
 use Rattle.std.specs.Str.Parse.{digits_value, without_leading_plus}
 use Rattle.clap.specs.Simple.{App, new_app, with_rule}
 use Rattle.clap.specs.ValueTests.{is_unsigned_in}
-use Rattle.clap.specs.Walk.{Row, Text, first_of}
+use Rattle.clap.specs.Walk.{Row, Text, all_of, first_of}
 use Rattle.ti_list.specs.declared.layout.Layout.{Layout}
 use Rattle.ti_list.specs.declared.layout.Order.{Order}
 use Rattle.ti_list.specs.declared.layout.Order.TheVariants as order
-use Rattle.ti_tools.specs.Matches.{is_on, values_of}
+use Rattle.ti_tools.specs.Matches.{is_on}
 use Rattle.ti_tools.specs.Rules.{flag_rule, number_rule, operands_rule, option_rule}
 use Rattle.ti_tools.specs.declared.infocmp_words.Choice.{Choice}
 use Rattle.ti_tools.specs.declared.infocmp_words.Choice.TheVariants as choice
@@ -102,22 +102,26 @@ pub record InfocmpTask : Type 0 where
 
 -- the names
 abbrev pub names_in : List Row → List Text
-names_in rows = values_of (codes "name") rows
+names_in rows = unwrap_or (all_of (codes "name") rows) []
 
 -- the job, where a mode, a width and an order are there
-abbrev pub task_with : Option InfocmpMode → Option ℕ → Option Order → List Row → Option InfocmpTask
-task_with None width by rows = None
-task_with (Some named) None by rows = None
-task_with (Some named) (Some width) None rows = None
-task_with (Some named) (Some width) (Some by) rows = Some (record {
+abbrev pub task_with : Option InfocmpMode → Option ℕ → Option Order → List Row → List Text → Option InfocmpTask
+task_with None width by rows names = None
+task_with (Some named) None by rows names = None
+task_with (Some named) (Some width) None rows names = None
+task_with (Some named) (Some width) (Some by) rows names = Some (record {
   mode = named;
-  names = names_in rows;
+  names = names;
   layout = record { width = width; one_per_line = is_on (codes "one") rows; order = by };
   first_dir = first_of (codes "first") rows;
   other_dir = first_of (codes "other") rows;
 })
 
--- the job of `infocmp` with these matches, or none
+-- the job of `infocmp` with these matches and names, or none
+abbrev pub infocmp_with : List Row → List Text → Option InfocmpTask
+infocmp_with rows names =
+    task_with (mode_for (chosen rows) (length names)) (width_for (first_of (codes "width") rows)) (order_for (first_of (codes "sort") rows)) rows names
+
+-- the job of `infocmp` with these matches
 abbrev pub infocmp_task : List Row → Option InfocmpTask
-infocmp_task rows =
-    task_with (mode_for (chosen rows) (length (names_in rows))) (width_for (first_of (codes "width") rows)) (order_for (first_of (codes "sort") rows)) rows
+infocmp_task rows = infocmp_with rows (names_in rows)

@@ -4,6 +4,7 @@ pub mod Matches
 pub mod Rules
 pub mod InfocmpWords
 pub mod Commands
+pub mod Stopping
 pub mod EntryFiles
 pub mod Holding
 pub mod Jobs

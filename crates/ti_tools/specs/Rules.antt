@@ -19,9 +19,17 @@ option_rule id short =
 abbrev pub operand_rule : Text → Rule
 operand_rule id = record (new_rule id) { action = Some Set; value_names = 1 }
 
--- a word of its own that may stand any number of times, as `NAME..`
+-- an option with one value that has a long name alone, as `--rate N`
+abbrev pub long_option_rule : Text → Rule
+long_option_rule id = record (new_rule id) { long = Some id; action = Some Set; value_names = 1 }
+
+-- words of their own, as many as there are, as `WORD..`
 abbrev pub operands_rule : Text → Rule
-operands_rule id = record (new_rule id) { action = Some Append; range = Some (record { start_inclusive = 0; end_inclusive = usize_max }); value_names = 1 }
+operands_rule id = record (new_rule id) {
+  action = Some Append;
+  range = Some (record { start_inclusive = 0; end_inclusive = usize_max });
+  value_names = 1;
+}
 
 -- an option with a number from a least to a greatest
 abbrev pub number_rule : Text → ℕ → ℕ → ℕ → Rule

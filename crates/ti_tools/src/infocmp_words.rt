@@ -1,15 +1,15 @@
 //! What the words behind `infocmp` are, for clap, and what they ask for.
-ghost use Rattle.std.specs.Prelude.{◌≡◌, ◌⊎◌, IfErr, IfOk, None, Some, codes, false, option_map};
+ghost use Rattle.std.specs.Prelude.{◌≡◌, ◌⊎◌, IfErr, IfOk, None, Some, codes, false, map, option_map};
 ghost use Rattle.clap.specs.Words.{app_of, first_of, found_of, rows_of};
 ghost use Rattle.clap.specs.declared.builder.Command.TheViews.{out-Command as fields_of};
 ghost use Rattle.ti_tools.specs.Arguments.{task_infocmp};
-ghost use Rattle.ti_tools.specs.InfocmpWords.{chosen, chosen_with, infocmp_app, first_mode_rules, infocmp_task, layout_rules, mode_for, name_rules, other_mode_rules, order_for, suits, width_for};
+ghost use Rattle.ti_tools.specs.InfocmpWords.{chosen, chosen_with, infocmp_app, first_mode_rules, infocmp_task, infocmp_with, layout_rules, mode_for, name_rules, other_mode_rules, order_for, suits, width_for};
 ghost use Rattle.ti_tools.specs.Jobs.{task_of};
 
 use crate::arguments::UsageError;
 use crate::jobs::Job;
 use crate::listings::InfocmpMode;
-use crate::matches::{count, on, text, texts, value};
+use crate::matches::{on, text, texts, value, values};
 use crate::rules::{flag, number, operands, option};
 use clap::{ArgMatches, Command};
 use std::alloc::{AllocError, Global};
@@ -217,20 +217,19 @@ fn order_of(matches: &ArgMatches<'_>) -> Option<Order>
     }
 }
 
-/// The job of `infocmp` with these matches.
-///
-/// # Errors
-/// `Usage` where they ask for none; then `Memory`.
-pub fn infocmp_job(alloc: Global, matches: &ArgMatches<'_>) -> Result<Job, UsageError>
-    ensures right { IfOk result (λ job. option_map task_infocmp (infocmp_task (rows_of (found_of matches.now))) ≡ Some (task_of job)) }
+// The job of `infocmp` with these names.
+fn infocmp_of(alloc: Global, matches: &ArgMatches<'_>, names: &[&str]) -> Result<Job, UsageError>
+    ensures right { IfOk result (λ job. option_map task_infocmp (infocmp_with (rows_of (found_of matches.now)) (map (λ name. name.now) names.now))
+        ≡ Some (task_of job)) }
     ensures refused { IfErr result (λ error. (error ≡ UsageError.Memory)
-        ⊎ ((error ≡ UsageError.Usage) × (option_map task_infocmp (infocmp_task (rows_of (found_of matches.now))) ≡ None))) }
+        ⊎ ((error ≡ UsageError.Usage)
+        × (option_map task_infocmp (infocmp_with (rows_of (found_of matches.now)) (map (λ name. name.now) names.now)) ≡ None))) }
 {
-    let mode = mode_for(choice_of(matches), count(matches, "name"));
+    let mode = mode_for(choice_of(matches), names.len());
     let (Some(mode), Some(width), Some(order)) = (mode, width_of(matches), order_of(matches)) else {
         return Err(UsageError::Usage);
     };
-    let names = texts(alloc, matches, "name")?;
+    let names = texts(alloc, names)?;
     let first_dir = text(alloc, matches, "first")?;
     let other_dir = text(alloc, matches, "other")?;
     let layout = Layout {
@@ -245,4 +244,19 @@ pub fn infocmp_job(alloc: Global, matches: &ArgMatches<'_>) -> Result<Job, Usage
         first_dir,
         other_dir,
     })
+}
+
+/// The job of `infocmp` with these matches.
+///
+/// # Errors
+/// `Usage` where they ask for none; then `Memory`.
+pub fn infocmp_job(alloc: Global, matches: &ArgMatches<'_>) -> Result<Job, UsageError>
+    ensures right { IfOk result (λ job. option_map task_infocmp (infocmp_task (rows_of (found_of matches.now))) ≡ Some (task_of job)) }
+    ensures refused { IfErr result (λ error. (error ≡ UsageError.Memory)
+        ⊎ ((error ≡ UsageError.Usage) × (option_map task_infocmp (infocmp_task (rows_of (found_of matches.now))) ≡ None))) }
+{
+    match values(matches, "name") {
+        Some(names) => infocmp_of(alloc, matches, names),
+        None => infocmp_of(alloc, matches, &[]),
+    }
 }

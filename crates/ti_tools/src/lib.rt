@@ -26,6 +26,7 @@ mod matches;
 mod outcome;
 mod rules;
 mod sources;
+pub mod stopping;
 
 pub use arguments::{UsageError, job};
 pub use commands::command;
@@ -33,9 +34,11 @@ pub use compiling::tic;
 pub use jobs::Job;
 pub use listings::{InfocmpMode, InfocmpOptions, infocmp};
 pub use outcome::{TicOptions, TicOutcome};
+pub use stopping::{message, status};
 pub use ti_devices::{Counted, File, MemTree, Tally, ToolError, Tree, TreeFault, place};
 pub use ti_list::{Layout, Order};
 pub use ti_session::session;
+pub use ti_tput::{TputOutcome, entry, locate, places, tput, tput_lines};
 
 #[cfg(test)]
 mod tests;

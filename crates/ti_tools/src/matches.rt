@@ -1,8 +1,9 @@
 //! What the matches of a command line say of an argument.
-ghost use Rattle.std.specs.Prelude.{◌≡◌, IfOk, length, map, option_map};
+ghost use Rattle.std.specs.Prelude.{◌≡◌, IfOk, map, option_map};
 ghost use Rattle.std.specs.String.{string_bytes};
+ghost use Rattle.clap.specs.Walk.{all_of};
 ghost use Rattle.clap.specs.Words.{first_of, found_of, rows_of};
-ghost use Rattle.ti_tools.specs.Matches.{is_on, values_of};
+ghost use Rattle.ti_tools.specs.Matches.{is_on};
 
 use clap::ArgMatches;
 use std::alloc::{AllocError, Global};
@@ -35,25 +36,20 @@ pub fn on(matches: &ArgMatches<'_>, id: &str) -> bool
     }
 }
 
-/// The values of an argument that may have several, each a text of its own; none where it has no value.
-pub fn texts(alloc: Global, matches: &ArgMatches<'_>, id: &str) -> Result<Vec<String>, AllocError>
-    ensures { IfOk result (λ texts. map string_bytes texts.items ≡ values_of id.now (rows_of (found_of matches.now))) }
+/// The values of an argument that may have many.
+pub fn values<'m, 'a>(matches: &'m ArgMatches<'a>, id: &str) -> Option<&'m [&'a str]>
+    ensures { option_map (λ values. map (λ value. value.now) values.now) result ≡ all_of id.now (rows_of (found_of matches.now)) }
 {
-    let mut texts = Vec::new(alloc);
-    if let Some(values) = matches.get_strs(id) {
-        for value in values {
-            texts.push(String::from_str(alloc, value)?)?;
-        }
-    }
-    Ok(texts)
+    matches.get_strs(id)
 }
 
-/// How many values an argument has.
-pub fn count(matches: &ArgMatches<'_>, id: &str) -> usize
-    ensures { result ≡ length (values_of id.now (rows_of (found_of matches.now))) }
+/// Texts of their own.
+pub fn texts(alloc: Global, words: &[&str]) -> Result<Vec<String>, AllocError>
+    ensures { IfOk result (λ texts. map string_bytes texts.items ≡ map (λ word. word.now) words.now) }
 {
-    match matches.get_strs(id) {
-        Some(values) => values.len(),
-        None => 0,
+    let mut texts = Vec::new(alloc);
+    for word in words {
+        texts.push(String::from_str(alloc, word)?)?;
     }
+    Ok(texts)
 }

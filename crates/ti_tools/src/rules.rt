@@ -1,7 +1,7 @@
 //! What clap reads of an argument of a tool, with its help.
 ghost use Rattle.std.specs.Prelude.{◌≡◌, false};
 ghost use Rattle.clap.specs.Words.{rule_of};
-ghost use Rattle.ti_tools.specs.Rules.{flag_rule, number_rule, operand_rule, operands_rule, option_rule};
+ghost use Rattle.ti_tools.specs.Rules.{flag_rule, long_option_rule, number_rule, operand_rule, operands_rule, option_rule};
 
 use clap::builder::ValueParser;
 use clap::{Arg, ArgAction};
@@ -41,6 +41,30 @@ pub fn operand<'a>(alloc: Global, id: &'a str, value: &'a str, help: &'a str) ->
         .help(help)
 }
 
+/// An option with one value that has a long name alone.
+pub fn long_option<'a>(alloc: Global, id: &'a str, value: &'a str, help: &'a str) -> Arg<'a>
+    ensures rule { rule_of result ≡ long_option_rule id.entry.now }
+    ensures local { result.global ≡ false }
+{
+    Arg::new(alloc, id)
+        .long(id)
+        .action(ArgAction::Set)
+        .value_name(value)
+        .help(help)
+}
+
+/// Words of their own, as many as there are.
+pub fn operands<'a>(alloc: Global, id: &'a str, value: &'a str, help: &'a str) -> Arg<'a>
+    ensures rule { rule_of result ≡ operands_rule id.entry.now }
+    ensures local { result.global ≡ false }
+{
+    Arg::new(alloc, id)
+        .action(ArgAction::Append)
+        .num_args(0..)
+        .value_name(value)
+        .help(help)
+}
+
 /// An option with a number from a least to a greatest.
 pub fn number<'a>(
     alloc: Global,
@@ -54,16 +78,4 @@ pub fn number<'a>(
     ensures local { result.global ≡ false }
 {
     option(alloc, id, short, "N", help).value_parser(ValueParser::unsigned(least, greatest))
-}
-
-/// A word of its own that may stand any number of times.
-pub fn operands<'a>(alloc: Global, id: &'a str, value: &'a str, help: &'a str) -> Arg<'a>
-    ensures rule { rule_of result ≡ operands_rule id.entry.now }
-    ensures local { result.global ≡ false }
-{
-    Arg::new(alloc, id)
-        .action(ArgAction::Append)
-        .num_args(0..)
-        .value_name(value)
-        .help(help)
 }

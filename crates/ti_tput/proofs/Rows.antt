@@ -2,6 +2,7 @@
 use Rattle.std.proofs.Common.{◌≡◌, refl, Some, None, List, [], ◌∷◌, ℕ, ap}
 use Rattle.std.specs.Prelude.{codes, pos, neg_ℤ, replicate}
 use Rattle.ti_caps.specs.declared.capability.Kind.TheVariants.{Flag, Number, Text}
+use Rattle.ti_caps.specs.Names.{flag_names, number_names, text_names}
 use Rattle.ti_caps.specs.Tables.{capability, capability_named, names, place_of}
 use Rattle.ti_compiled.specs.Values.{contents, content_true, content_number, content_text}
 use Rattle.ti_param.specs.Meaning.{number, text}
@@ -54,9 +55,9 @@ unfolding tput_result dumb
 row-longname = refl
 
 row-zz : tput_result dumb (codes "zz" ∷ []) 0 (replicate 26 (pos 0)) ≡ Some (reply [] 4 (replicate 26 (pos 0)))
-unfolding tput_result dumb holding_of capability_named names
+unfolding tput_result dumb holding_of capability_named names flag_names number_names text_names
 row-zz = refl
 
 row-am : tput_result dumb (codes "am" ∷ []) 0 (replicate 26 (pos 0)) ≡ Some (reply [] 0 (replicate 26 (pos 0)))
-unfolding tput_result dumb holding_of capability_named names contents
+unfolding tput_result dumb holding_of capability_named names flag_names number_names text_names contents
 row-am = refl

@@ -12,7 +12,7 @@ use Rattle.ti_devices.specs.Paths.{path_of}
 use Rattle.ti_devices.specs.Tree.{Files}
 use Rattle.ti_devices.specs.declared.tool_error.ToolError.{ToolError}
 use Rattle.ti_devices.specs.declared.tool_error.ToolError.TheVariants.{NoTerminal, BadEntry, ReadFault, Memory}
-use Rattle.ti_source.specs.Header.{is_lookup_name}
+use Rattle.ti_source.specs.inside.Header.{is_lookup_name}
 
 -- ---- places
 

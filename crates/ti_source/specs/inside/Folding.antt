@@ -1,4 +1,5 @@
 -- The folded text of a block, computed (own).
+use Rattle.ti_text.specs.Ascii as ascii
 use Rattle.std.specs.Prelude.{ℕ, ◌+◌, Bool, true, false, ◌||◌, ◌&&◌, ◌==◌, if◌then◌else◌, List, [], ◌∷◌}
 use Rattle.ti_source.specs.WhiteSpace.{is_white_space}
 
@@ -9,11 +10,11 @@ Placed = ℕ × ℕ
 -- the bytes of a text that begins on a line
 abbrev pub placed : ℕ → List ℕ → List Placed
 placed line [] = []
-placed line (b ∷ bs) = (b, line) ∷ placed (if b == 10 then line + 1 else line) bs
+placed line (b ∷ bs) = (b, line) ∷ placed (if b == ascii.newline then line + 1 else line) bs
 
 -- whether a byte stands in a comment, a line that begins with `#`, where `before` stands just before it and `comment` says it of that byte
 abbrev pub in_comment : Bool → ℕ → ℕ → Bool
-in_comment comment before b = if before == 10 then b == 35 else comment
+in_comment comment before b = if before == ascii.newline then b == ascii.number_sign else comment
 
 -- the bytes that stand in no comment
 abbrev pub without_comments : Bool → ℕ → List Placed → List Placed
@@ -27,10 +28,10 @@ without_comments comment before (x ∷ xs) =
 abbrev pub joined : Bool → List Placed → List Placed
 joined joining [] = []
 joined joining (x ∷ xs) =
-    if x.0 == 10 || (joining && is_white_space x.0)
+    if x.0 == ascii.newline || (joining && is_white_space x.0)
     then joined true xs
     else x ∷ joined false xs
 
 -- the folded text of a block: comments are left out first, then line breaks; a newline stands before a block, and its lines are counted from 1
 abbrev pub folded : List ℕ → List Placed
-folded block = joined false (without_comments false 10 (placed 1 block))
+folded block = joined false (without_comments false ascii.newline (placed 1 block))

@@ -12,25 +12,25 @@ loop-entry-preserved c =
     let i = c.loop-entry.invariant in
     elim c.match-entry.branch [
       | in-True w ↦ subst (HeaderSoFar _ _ _) (sym w.header-is) (record {
-          format_is = i.format_is;
-          names_are = i.names_are;
-          counts = flag_counted _ c.requires.kept _ _ _ _ _ _ c.loop-entry-test.true c.entry-item.is i.counts _ _ refl c.index-places.ensures.value w.in-True.is;
+        format_is = i.format_is;
+        names_are = i.names_are;
+        counts = flag_counted _ c.requires.kept _ _ _ _ _ _ c.loop-entry-test.true c.entry-item.is i.counts _ _ refl c.index-places.ensures.value w.in-True.is;
       })
       | in-Number w ↦ subst (HeaderSoFar _ _ _) (sym w.header-is) (record {
-          format_is = i.format_is;
-          names_are = i.names_are;
-          counts = number_counted _ c.requires.kept _ _ _ _ _ _ c.loop-entry-test.true c.entry-item.is i.counts _ _ refl c.index-places.ensures.value _ w.in-Number.is;
+        format_is = i.format_is;
+        names_are = i.names_are;
+        counts = number_counted _ c.requires.kept _ _ _ _ _ _ c.loop-entry-test.true c.entry-item.is i.counts _ _ refl c.index-places.ensures.value _ w.in-Number.is;
       })
       | in-Text w ↦ subst (HeaderSoFar _ _ _) (sym w.header-is) (record {
-          format_is = i.format_is;
-          names_are = i.names_are;
-          counts = text_counted _ c.requires.kept _ _ _ _ _ _ c.loop-entry-test.true c.entry-item.is i.counts _ _ refl c.index-places.ensures.value _ _ _ (ap content_of w.in-Text.is)
-          (w.saturating_add.ensures ∙ ap (λ n. min (c.loop-entry.header.strings + n) (2 ^ 64 - 1)) w.len.ensures) w.saturating_add-in-Text.ensures;
+        format_is = i.format_is;
+        names_are = i.names_are;
+        counts = text_counted _ c.requires.kept _ _ _ _ _ _ c.loop-entry-test.true c.entry-item.is i.counts _ _ refl c.index-places.ensures.value _ _ _ (ap content_of w.in-Text.is)
+            (w.saturating_add.ensures ∙ ap (λ n. min (c.loop-entry.header.strings + n) (2 ^ 64 - 1)) w.len.ensures) w.saturating_add-in-Text.ensures;
       })
       | in-Cancelled w ↦ subst (HeaderSoFar _ _ _) (sym w.header-is) (record {
-          format_is = i.format_is;
-          names_are = i.names_are;
-          counts = none_counted _ c.requires.kept _ _ _ _ _ _ c.loop-entry-test.true c.entry-item.is i.counts w.in-Cancelled.is;
+        format_is = i.format_is;
+        names_are = i.names_are;
+        counts = none_counted _ c.requires.kept _ _ _ _ _ _ c.loop-entry-test.true c.entry-item.is i.counts w.in-Cancelled.is;
       })
     ]
 

@@ -1,5 +1,5 @@
 use Rattle.std.proofs.Common.{ap, sym, ◌∙◌, reverse, rules}
-use Rattle.ti_param.specs.Formats.{stuck_place, refusal, scan_of}
+use Rattle.ti_param.specs.inside.Formats.{stuck_place, refusal, scan_of}
 use Rattle.ti_param.proofs.Steps.{refusal-go, refusal-here, refusal-end}
 use Rattle.ti_param.proofs.acceptor.accept.Goals as goal
 

@@ -1,6 +1,6 @@
 use Rattle.std.proofs.Common.{◌≡◌, ◌≤◌, length, reverse}
 use Rattle.arrayvec.specs.ArrayVec.{array_vec_len}
-use Rattle.ti_param.specs.Formats.{refusal, stuck_place}
+use Rattle.ti_param.specs.inside.Formats.{refusal, stuck_place}
 use Rattle.ti_param.proofs.acceptor.accept.Given as goal
 
 -- what is refused of the tokens that are left is what is refused of the format

@@ -1,7 +1,7 @@
 use Rattle.std.proofs.Common.{◌≡◌, ◌∷◌, [], refl, sym, ◌∙◌, ap}
 use Rattle.std.specs.Prelude.{Some, None}
 use Rattle.std.proofs.lemmas.List.{nil_from_length}
-use Rattle.ti_param.specs.Codes.{directive_with, precision_after}
+use Rattle.ti_param.specs.inside.Codes.{directive_with, precision_after}
 use Rattle.ti_param.proofs.Numbers.{directive-parts, width-large, conversion-unknown, directive-read}
 use Rattle.ti_param.proofs.directives.directive.Goals as goal
 

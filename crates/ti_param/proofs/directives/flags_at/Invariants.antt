@@ -1,5 +1,6 @@
 use Rattle.std.proofs.Common.{◌≡◌, length}
-use Rattle.ti_param.specs.Codes.{span, is_flag, flags_from, flags_of}
+use Rattle.ti_param.specs.Codes.{span, is_flag, flags_from}
+use Rattle.ti_param.specs.inside.Codes.{flags_of}
 use Rattle.ti_param.proofs.directives.flags_at.Given as goal
 
 -- the flags that are left complete the flags

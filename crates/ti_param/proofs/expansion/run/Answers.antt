@@ -2,7 +2,7 @@ use Rattle.std.proofs.Common.{◌≡◌, ap, sym, ◌∙◌, arith, length, true
 use Rattle.std.proofs.lemmas.Result.{err_from_is_err_and}
 use Rattle.ti_param.specs.Meaning.{meaning, top_number, is_zero}
 use Rattle.ti_param.proofs.Laws.{format_runs}
-use Rattle.ti_param.proofs.Running.{literal-done, operation-done, operation-full, if-done, end-done, then-taken, then-skipped, else-skipped, run-end, error-kept}
+use Rattle.ti_param.proofs.Running.{literal-done, operation-done, operation-full, if-done, end-done, then-taken, then-after_part, else-after_part, run-end, error-kept}
 use Rattle.ti_param.proofs.Wrapping.{is-zero, not-zero}
 use Rattle.ti_param.proofs.expansion.run.Goals as goal
 
@@ -42,7 +42,7 @@ pub loop-place-preserved-then-pop_number-eq0 : goal.loop-place-preserved-then-po
 loop-place-preserved-then-pop_number-eq0 c =
     let zero : is_zero (top_number c.loop-place.machine) ≡ true = ap is_zero (sym c.pop_number.ensures.value) ∙ is-zero c.pop_number.result (record { sfits = c.pop_number.type_inv }) c.if-pop_number-eq0.true in
     record {
-      left = then-skipped _ _ _ _ _ _ c.in-Some.ensures.token c.in-Then.is zero c.pop_number.ensures.rest c.skip.ensures.tokens ∙ c.loop-place.invariant.left;
+      left = then-after_part _ _ _ _ _ _ c.in-Some.ensures.token c.in-Then.is zero c.pop_number.ensures.rest c.skip.ensures.tokens ∙ c.loop-place.invariant.left;
       bound = omega (arith, ap length c.in-Some.ensures.token, c.skip.ensures.fewer, c.loop-place.invariant.bound);
     }
 
@@ -59,7 +59,7 @@ loop-place-smaller c = omega (arith, ap length c.in-Some.ensures.token, c.skip-i
 
 pub loop-place-preserved : goal.loop-place-preserved
 loop-place-preserved c = record {
-  left = else-skipped _ _ _ _ _ c.in-Some.ensures.token c.in-Else.is c.skip-in-Else.ensures.tokens ∙ c.loop-place.invariant.left;
+  left = else-after_part _ _ _ _ _ c.in-Some.ensures.token c.in-Else.is c.skip-in-Else.ensures.tokens ∙ c.loop-place.invariant.left;
   bound = omega (arith, ap length c.in-Some.ensures.token, c.skip-in-Else.ensures.fewer, c.loop-place.invariant.bound);
 }
 

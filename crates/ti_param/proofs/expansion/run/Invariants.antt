@@ -1,6 +1,6 @@
 use Rattle.std.proofs.Common.{◌≡◌, ◌<◌, ◌^◌, length}
 use Rattle.std.specs.Prelude.{None}
-use Rattle.ti_param.specs.Formats.{scan_of}
+use Rattle.ti_param.specs.inside.Formats.{scan_of}
 use Rattle.ti_param.proofs.Running.{executed}
 use Rattle.ti_param.proofs.expansion.run.Given as goal
 

@@ -1,11 +1,11 @@
 use Rattle.std.proofs.Common.{◌≡◌, ◌+◌, ◌<◌, ◌^◌, ◌≤◌, length}
-use Rattle.ti_param.specs.Formats.{skipped}
+use Rattle.ti_param.specs.inside.Formats.{after_part}
 use Rattle.ti_param.proofs.expansion.skip.Given as goal
 
 -- what is skipped of the tokens that are left is what is skipped of all
 abbrev pub invariant-loop-token : goal.invariant-loop-token
 invariant-loop-token l = record {
-  left : skipped l.level l.to_else l.lexer.tokens ≡ skipped 0 l.to_else l.fn.lexer.tokens;
+  left : after_part l.level l.to_else l.lexer.tokens ≡ after_part 0 l.to_else l.fn.lexer.tokens;
   fewer : length l.lexer.tokens ≤ length l.fn.lexer.tokens;
   room : l.level + length l.lexer.tokens < 2 ^ 64;
 }

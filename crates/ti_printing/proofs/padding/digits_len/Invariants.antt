@@ -1,5 +1,5 @@
 use Rattle.std.proofs.Common.{◌≡◌, ◌+◌, ◌-◌, ◌≤◌, drop}
-use Rattle.ti_printing.specs.Padding.{digits_len}
+use Rattle.ti_printing.specs.inside.Padding.{digits_len}
 use Rattle.ti_printing.proofs.padding.digits_len.Given as goal
 
 -- the digits so far and those to come are all

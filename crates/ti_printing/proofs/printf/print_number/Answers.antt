@@ -1,7 +1,7 @@
 use Rattle.std.proofs.Common.{arith, ◌≡◌, ◌++◌, ◌∙◌, ◌-◌, ap, drop, OnOk, subst, FitsSigned, w32}
 use Rattle.std.proofs.lemmas.Int.{to_z-of_z}
 use Rattle.std.proofs.lemmas.List.{length-drop, take_all}
-use Rattle.ti_printing.specs.Printf.{laid, printed_number, numeral, digits_in, in_width}
+use Rattle.ti_printing.specs.Printf.{parts_text, printed_number, numeral, digits_in, in_width}
 use Rattle.ti_printing.proofs.printf.print_number.Goals as goal
 
 pub returns-clause-ok : goal.returns-clause-ok
@@ -14,6 +14,6 @@ returns-clause-ok c =
     let shown = take_all (11 - start.result) (drop start.result start.new.buffer) (omega (arith, length-drop start.result start.new.buffer)) ∙ written in
     let front = simp to_z-of_z at c.front_of-front.ensures.value in
     let digits = c.zeros_before-zeros.ensures.value ∙ ap (digits_in d.conversion d.flags d.precision) shown in
-    let e : laid l.before l.front.now l.zeros l.shown.now l.after ≡ printed_number d c.args.number =
+    let e : parts_text l.before l.front.now l.zeros l.shown.now l.after ≡ printed_number d c.args.number =
     c.arrange.ensures.parts ∙ ap (in_width d c.front_of-front.result.now) digits ∙ ap (λ f. in_width d f (digits_in d.conversion d.flags d.precision (numeral d.conversion c.args.number))) front in
-    subst (λ parts. OnOk c.lay.result (c.lay.new.out.items ≡ c.args.out.now.items ++ parts)) e c.lay.ensures.ok
+    subst (λ parts. OnOk c.push_parts.result (c.push_parts.new.out.items ≡ c.args.out.now.items ++ parts)) e c.push_parts.ensures.ok

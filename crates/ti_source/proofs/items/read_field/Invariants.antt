@@ -1,5 +1,6 @@
 use Rattle.std.proofs.Common.{◌≡◌, ◌++◌, length}
-use Rattle.ti_source.specs.Items.{bytes, field_of, after_field}
+use Rattle.ti_source.specs.Items.{bytes}
+use Rattle.ti_source.specs.inside.Items.{field_of, after_field}
 use Rattle.ti_source.proofs.items.read_field.Given as goal
 
 abbrev pub invariant-loop-byte : goal.invariant-loop-byte

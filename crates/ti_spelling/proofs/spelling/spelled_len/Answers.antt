@@ -1,7 +1,7 @@
 use Rattle.std.proofs.Common.{◌++◌, ◌∷◌, [], ap, ◌∙◌, arith}
 use Rattle.std.specs.Prelude.{◌||◌}
 use Rattle.std.proofs.lemmas.List.{length-append}
-use Rattle.ti_spelling.specs.Pieces.{left_of}
+use Rattle.ti_spelling.specs.inside.Pieces.{left_of}
 use Rattle.ti_spelling.proofs.PieceLemmas.{with_front, moves_on}
 use Rattle.ti_spelling.proofs.spelling.spelled_len.Goals as goal
 

@@ -1,6 +1,6 @@
 use Rattle.std.proofs.Common.{◌≡◌, ◌+◌, ◌≤◌, Bool, List, ℕ, length}
-use Rattle.ti_spelling.specs.Spelling.{unescaped}
-use Rattle.ti_spelling.specs.Pieces.{left_of}
+use Rattle.ti_spelling.specs.inside.Spelling.{unescaped}
+use Rattle.ti_spelling.specs.inside.Pieces.{left_of}
 use Rattle.ti_spelling.proofs.PieceLemmas.{with_front}
 use Rattle.ti_spelling.proofs.spelling.spelled_len.Given as goal
 

@@ -2,5 +2,6 @@ use Rattle.std.proofs.Common.{◌≡◌, map, take}
 use Rattle.std.specs.String.{string_bytes}
 use Rattle.ti_tools.proofs.matches.texts.Given as goal
 
-abbrev pub invariant-loop-value : goal.invariant-loop-value
-invariant-loop-value l = map string_bytes l.texts.items ≡ map (λ v. v.now) (take l.value-index l.values)
+-- the texts of the words before
+abbrev pub invariant-loop-word : goal.invariant-loop-word
+invariant-loop-word l = map string_bytes l.texts.items ≡ map (λ word. word.now) (take l.word-index l.words)

@@ -1,6 +1,6 @@
-use Rattle.std.proofs.Common.{◌≡◌, ℕ, arith, sym, ap, ◌∙◌}
+use Rattle.std.proofs.Common.{arith, sym, ap, ◌∙◌}
 use Rattle.std.proofs.lemmas.List.{nil_from_length}
-use Rattle.ti_param.specs.Formats.{scan}
+use Rattle.ti_param.specs.inside.Formats.{scan}
 use Rattle.ti_param.proofs.Scanning.{piece_of, piece-scan, piece-shorter, scan-nothing}
 use Rattle.ti_param.proofs.lexer.Lexer.next_token.Goals as goal
 

@@ -1,0 +1,113 @@
+-- The names field, the items and what an item states, computed; what a reader of a folded text takes, and statements in memory (own).
+use Rattle.ti_text.specs.Ascii as ascii
+use Rattle.std.specs.Prelude.{◌≡◌, ℕ, Bool, false, not, ◌&&◌, ◌==◌, if◌then◌else◌, List, [], ◌∷◌, ◌++◌, length, ◌<◌, Option, Some, None}
+use Rattle.ti_source.specs.WhiteSpace.{is_white_space, trimmed}
+use Rattle.ti_source.specs.Blocks.{last_byte}
+use Rattle.ti_source.specs.Folding.{Placed}
+use Rattle.ti_source.specs.declared.items.Taken.{Taken}
+use Rattle.ti_source.specs.declared.items.Taken.TheVariants as taken
+use Rattle.ti_source.specs.declared.items.Claim.{Claim as ClaimInMemory}
+use Rattle.ti_source.specs.declared.items.Claim.TheVariants as claims
+use Rattle.ti_source.specs.declared.items.Statement.{Statement as StatementInMemory}
+use Rattle.ti_source.specs.Items.{Claim, Piece, Statement, claims_cancel, claims_flag, claims_number, claims_text, is_mark, piece, piece_of}
+
+-- what stands before the first comma, all where there is none
+abbrev pub field_of : List Placed → List Placed
+field_of [] = []
+field_of (x ∷ xs) = if x.0 == ascii.comma then [] else x ∷ field_of xs
+
+-- what stands after the first comma, nothing where there is none
+abbrev pub after_field : List Placed → List Placed
+after_field [] = []
+after_field (x ∷ xs) = if x.0 == ascii.comma then xs else after_field xs
+
+-- what takes the byte after `x`, where `before` stands just before `x` and `by` takes `x` itself
+abbrev pub taken_after : Taken → ℕ → ℕ → Taken
+taken_after taken.Nothing before x =
+    if x == ascii.backslash then taken.Backslash
+    else if x == ascii.caret && not (before == ascii.percent) then taken.Caret
+    else taken.Nothing
+taken_after taken.Backslash before x = taken.Nothing
+taken_after taken.Caret before x = taken.Nothing
+
+-- whether a byte ends an item
+abbrev pub cuts : Taken → ℕ → Bool
+cuts taken.Nothing x = x == ascii.comma
+cuts taken.Backslash x = false
+cuts taken.Caret x = x == ascii.comma
+
+-- the items with a byte at the front of the first of them, which is a new one where there is none
+abbrev pub with_first : Placed → List (List Placed) → List (List Placed)
+with_first x [] = (x ∷ []) ∷ []
+with_first x (item ∷ items) = (x ∷ item) ∷ items
+
+-- the items of a text, from left to right
+abbrev pub items_of : Taken → ℕ → List Placed → List (List Placed)
+items_of by before [] = [] ∷ []
+items_of by before (x ∷ xs) =
+    if cuts by x.0
+    then [] ∷ items_of taken.Nothing ascii.comma xs
+    else with_first x (items_of (taken_after by before x.0) x.0 xs)
+
+-- the bytes before the first mark, all where there is none
+abbrev pub before_mark : List ℕ → List ℕ
+before_mark [] = []
+before_mark (x ∷ xs) = if is_mark x then [] else x ∷ before_mark xs
+
+-- the bytes from the first mark on, nothing where there is none
+abbrev pub from_mark : List ℕ → List ℕ
+from_mark [] = []
+from_mark (x ∷ xs) = if is_mark x then x ∷ xs else from_mark xs
+
+-- a text without its last byte
+abbrev pub without_last : List ℕ → List ℕ
+without_last [] = []
+without_last (x ∷ []) = []
+without_last (x ∷ y ∷ ys) = x ∷ without_last (y ∷ ys)
+
+-- what a text with no mark states, white space at its end set aside
+abbrev pub plain_statement : List ℕ → Statement
+plain_statement text =
+    if last_byte 0 text == ascii.at_sign
+    then record { name = without_last text; claim = claims_cancel }
+    else record { name = text; claim = claims_flag }
+
+-- the statement of a name with a value: a number where the mark is a `#`, else a text
+abbrev pub statement_with_value : List ℕ → ℕ → List ℕ → Statement
+statement_with_value name mark value = record { name = name; claim = if mark == ascii.number_sign then claims_number value else claims_text value }
+
+-- what a text states, given what stands from its first mark on
+abbrev pub statement_by_mark : List ℕ → List ℕ → Statement
+statement_by_mark text [] = plain_statement (trimmed text)
+statement_by_mark text (mark ∷ value) = statement_with_value (before_mark text) mark value
+
+-- what an item states, by its text with no white space at its front, computed
+abbrev pub statement_of : List ℕ → Option Statement
+statement_of [] = None
+statement_of (x ∷ xs) = if x == ascii.dot then None else Some (statement_by_mark (x ∷ xs) (from_mark (x ∷ xs)))
+
+-- an item with one more byte at its end
+abbrev pub with_byte : Piece → Placed → Piece
+with_byte p x =
+    elim p.text [
+      | [] ↦ if is_white_space x.0 then p else piece (x.0 ∷ []) x.1
+      | y ∷ ys ↦ piece (y ∷ ys ++ x.0 ∷ []) p.line
+    ]
+
+-- The item at the front of a text was taken: `piece` says it, and `rest` is left, or the item was the last, and nothing is left.
+pub record TakesItem (text : List Placed) (piece : Piece) (last : Bool) (rest : List Placed) : Type 0 where
+  pub item : List Placed
+  pub is_piece : piece_of item ≡ piece
+  pub is_first : items_of taken.Nothing ascii.comma text ≡ item ∷ (if last then [] else items_of taken.Nothing ascii.comma rest)
+  pub shorter : last ≡ false → length rest < length text
+
+-- a claim that holds its text in memory, as plain data
+abbrev pub claim_of : ClaimInMemory → Claim
+claim_of claims.Flag = claims_flag
+claim_of (claims.Number text) = claims_number text.now
+claim_of (claims.Text text) = claims_text text.now
+claim_of claims.Cancel = claims_cancel
+
+-- a statement that holds its texts in memory, as plain data
+abbrev pub statement_in_memory : StatementInMemory → Statement
+statement_in_memory s = record { name = s.name.now; claim = claim_of s.claim }

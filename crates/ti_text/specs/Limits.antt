@@ -1,0 +1,30 @@
+-- The limits of the product: those of an entry are the formats' of term(5), the others are own.
+use Rattle.std.specs.Prelude.{ℕ}
+
+-- the most bytes of a block of source
+abbrev pub block_bytes_max : ℕ
+block_bytes_max = 1048576
+
+-- the most blocks of a source
+abbrev pub blocks_max : ℕ
+blocks_max = 65535
+
+-- the most bytes of a names field; an entry has one more, its NUL (term(5) has room for 128)
+abbrev pub names_max : ℕ
+names_max = 127
+
+-- the most bytes of an entry in the legacy storage format
+abbrev pub entry_max : ℕ
+entry_max = 4096
+
+-- the most bytes of an entry in the extended number format
+abbrev pub extended_entry_max : ℕ
+extended_entry_max = 32768
+
+-- the greatest number that the legacy storage format has room for
+abbrev pub legacy_number_max : ℕ
+legacy_number_max = 32767
+
+-- the greatest number that the extended number format has room for
+abbrev pub number_max : ℕ
+number_max = 2147483647

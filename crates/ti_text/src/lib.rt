@@ -1,0 +1,14 @@
+//! Small words that every layer shares: what lines, digits and limits are, and growth in room that was made before.
+//!
+//! - `specs/Ascii.antt` names the bytes that terminfo gives a meaning, `specs/Texts.antt` says what is known of a text by
+//!   its bytes alone, `specs/Digits.antt` what decimal digits write, `specs/Limits.antt` the limits of the product.
+//! - `limits`: the same limits for the code
+//! - `lines`: the law of counting lines
+//! - `room`: growth of a vector in room that was made before
+#![tactic(auto)]
+
+pub mod limits;
+mod lines;
+pub mod room;
+
+pub use lines::lines_add;

@@ -1,0 +1,48 @@
+//! Growth in room that was made before, so that nothing can fail midway.
+ghost use Rattle.std.specs.Prelude.{◌≡◌, ◌+◌, ◌<◌, ◌≤◌, ◌++◌, insert, length, replicate, vec_len, vec_capacity};
+
+/// Appends the bytes, for which the caller has made room.
+pub fn append_reserved(out: &mut Vec<u8>, bytes: &[u8])
+    requires { vec_len out.old + length bytes.now ≤ vec_capacity out.old }
+    ensures items { out.new.items ≡ out.old.items ++ bytes.now }
+    ensures len { vec_len out.new ≡ vec_len out.old + length bytes.now }
+    ensures capacity { vec_capacity out.old ≤ vec_capacity out.new }
+{
+    out.extend_from_slice(bytes).unwrap();
+}
+
+/// Appends the byte `count` times, for which the caller has made room.
+pub fn fill_reserved(out: &mut Vec<u8>, byte: u8, count: usize)
+    requires { vec_len out.old + count ≤ vec_capacity out.old }
+    ensures items { out.new.items ≡ out.old.items ++ replicate count byte }
+    ensures len { vec_len out.new ≡ vec_len out.old + count }
+    ensures capacity { vec_capacity out.old ≤ vec_capacity out.new }
+{
+    out.resize(out.len() + count, byte).unwrap();
+}
+
+/// Puts an item in at a place, for which the caller has made room.
+pub fn insert_reserved<T: Drop>(items: &mut Vec<T>, at: usize, item: T)
+    requires within { at ≤ vec_len items.old }
+    requires room { vec_len items.old < vec_capacity items.old }
+    ensures { items.new.items ≡ insert items.old.items at item }
+{
+    items.insert(at, item).unwrap();
+}
+
+#[cfg(test)]
+mod tests {
+    use super::*;
+    use std::test::Fail;
+
+    #[test]
+    fn grows_in_room_made_before(rt: HostRuntime) -> Result<(), Fail> {
+        let mut text = Vec::with_capacity(rt.alloc(), 7)?;
+        append_reserved(&mut text, b"ab");
+        fill_reserved(&mut text, b'-', 3);
+        append_reserved(&mut text, b"c");
+        insert_reserved(&mut text, 1, b'|');
+        assert_eq!(rt; text.as_slice(), b"a|b---c".as_slice());
+        Ok(())
+    }
+}
