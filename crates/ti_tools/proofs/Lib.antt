@@ -4,5 +4,6 @@ pub mod Filing
 pub mod Inserting
 pub mod Printing
 pub mod Refusing
+pub mod Widths
 pub mod Rates
 pub mod Parts

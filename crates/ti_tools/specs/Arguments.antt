@@ -1,7 +1,6 @@
 -- What the words of a command line ask for: the job that stands for the matches that clap defines
--- for the words. (tic(1), tput(1); the session is own)
-use Rattle.std.specs.Prelude.{ℕ, ◌^◌, ◌&&◌, ◌==◌, nat_lt, Bool, false, List, [], length, Option, Some, None, codes, if◌then◌else◌, option_and_then, unwrap_or}
-use Rattle.std.specs.Option.{option_map_or}
+-- for the words. (tic(1), tput(1), infocmp(1); the session is own)
+use Rattle.std.specs.Prelude.{ℕ, ◌^◌, ◌&&◌, ◌==◌, nat_lt, Bool, List, [], length, Option, Some, None, codes, if◌then◌else◌, option_and_then, option_map, unwrap_or}
 use Rattle.std.specs.Str.{all_ascii_digits, bytes_eq}
 use Rattle.std.specs.Str.Parse.{digits_value, without_leading_plus}
 use Rattle.clap.specs.Faults.{fault_of}
@@ -10,16 +9,15 @@ use Rattle.clap.specs.Simple.{subcommand_of}
 use Rattle.clap.specs.Takes.{takes}
 use Rattle.clap.specs.Walk.{Row, Text, all_of, first_of}
 use Rattle.ti_tools.specs.Commands.{ti_app}
+use Rattle.ti_tools.specs.InfocmpWords.{InfocmpTask, infocmp_task}
+use Rattle.ti_tools.specs.Matches.{is_on}
 
 -- a job, as plain data
 pub data Task : Type 0 where
   task_tic : Bool → Option Text → Option Text → Task
   task_tput : Bool → Option Text → ℕ → List Text → Task
   task_session : Task
-
--- whether an option that is on or off is on
-abbrev pub is_on : Text → List Row → Bool
-is_on id rows = option_map_or (bytes_eq (codes "true")) (first_of id rows) false
+  task_infocmp : InfocmpTask → Task
 
 -- the job of `tic` with these matches: whether `-c` is there, the value of `-o` and the file, if they are
 abbrev pub tic_task : List Row → Task
@@ -65,6 +63,7 @@ task_at name rows =
     if bytes_eq name (codes "tic") then Some (tic_task rows)
     else if bytes_eq name (codes "tput") then tput_task rows
     else if bytes_eq name (codes "session") then Some task_session
+    else if bytes_eq name (codes "infocmp") then option_map task_infocmp (infocmp_task rows)
     else None
 
 -- the job of the subcommand that was used, with its matches

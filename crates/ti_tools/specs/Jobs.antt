@@ -4,11 +4,11 @@ use Rattle.std.specs.String.{string_bytes}
 use Rattle.clap.specs.Kinds.{IsAmong, Kinds}
 use Rattle.clap.specs.declared.error.kind.ErrorKind.{ErrorKind}
 use Rattle.clap.specs.declared.error.kind.ErrorKind.TheVariants as kind
-use Rattle.ti_tools.specs.Arguments.{Task, task_session, task_tic, task_tput}
+use Rattle.ti_tools.specs.Arguments.{Task, task_infocmp, task_session, task_tic, task_tput}
 use Rattle.ti_tools.specs.declared.arguments.UsageError.{UsageError}
 use Rattle.ti_tools.specs.declared.arguments.UsageError.TheVariants as usage
 use Rattle.ti_tools.specs.declared.jobs.Job.{Job}
-use Rattle.ti_tools.specs.declared.jobs.Job.TheVariants.{Session, Tic, Tput}
+use Rattle.ti_tools.specs.declared.jobs.Job.TheVariants.{Infocmp, Session, Tic, Tput}
 
 -- a job that holds its words in memory, as plain data
 abbrev pub task_of : Job → Task
@@ -16,6 +16,13 @@ task_of (Tic check dir file) =
     task_tic check (option_map string_bytes dir) (option_map string_bytes file)
 task_of (Tput lines term rate words) = task_tput lines (option_map string_bytes term) rate (map string_bytes words.items)
 task_of Session = task_session
+task_of (Infocmp mode names layout first_dir other_dir) = task_infocmp (record {
+  mode = mode;
+  names = map string_bytes names.items;
+  layout = layout;
+  first_dir = option_map string_bytes first_dir;
+  other_dir = option_map string_bytes other_dir;
+})
 
 -- what a fault that clap finds is to the program
 abbrev pub refusal_of : ErrorKind → UsageError

@@ -1,5 +1,8 @@
 -- The definitions that the contracts of this crate cite.
 pub mod Arguments
+pub mod Matches
+pub mod Rules
+pub mod InfocmpWords
 pub mod Commands
 pub mod Stopping
 pub mod EntryFiles

@@ -7,7 +7,7 @@ use Rattle.ti_compiled.specs.declared.fault.ReadError.TheVariants.{Short, Magic,
 use Rattle.ti_devices.specs.declared.tool_error.ToolError.{ToolError}
 use Rattle.ti_devices.specs.declared.tool_error.ToolError.TheVariants.{Usage, NoTerminal, BadEntry, ReadFault, WriteFault, LineTooLong, BlockTooLong, TooManyBlocks, Memory}
 use Rattle.ti_tools.specs.declared.jobs.Job.{Job}
-use Rattle.ti_tools.specs.declared.jobs.Job.TheVariants.{Session, Tic, Tput}
+use Rattle.ti_tools.specs.declared.jobs.Job.TheVariants.{Infocmp, Session, Tic, Tput}
 
 -- ---- the exit status
 
@@ -33,6 +33,7 @@ abbrev pub status_of : Job → ToolError → Bool → ℕ
 status_of (Tic check dir file) error found = plain_status error
 status_of (Tput lines term rate words) error found = tput_status error found
 status_of Session error found = plain_status error
+status_of (Infocmp mode names layout first_dir other_dir) error found = plain_status error
 
 -- ---- the line on standard error
 
@@ -41,6 +42,7 @@ abbrev pub tool_name : Job → List ℕ
 tool_name (Tic check dir file) = codes "tic"
 tool_name (Tput lines term rate words) = codes "tput"
 tool_name Session = codes "session"
+tool_name (Infocmp mode names layout first_dir other_dir) = codes "infocmp"
 
 -- the name of the refusal of an entry
 abbrev pub refusal_name : ReadError → List ℕ

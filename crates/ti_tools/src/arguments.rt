@@ -1,14 +1,15 @@
 //! What the words of a command line ask for.
 ghost use Rattle.std.specs.Prelude.{◌≡◌, ◌⊎◌, [], IfErr, IfOk, None, OnOk, Some, codes, map, option_map, true};
 ghost use Rattle.std.specs.String.{string_bytes};
-ghost use Rattle.clap.specs.Walk.{all_of};
 ghost use Rattle.clap.specs.Words.{first_of, found_of, rows_of, subcommand_rows_of};
-ghost use Rattle.ti_tools.specs.Arguments.{Task, faults_of, is_on, is_word_count, job_of, rate_in, taken, task_in, tic_task, tput_task, tput_with};
+ghost use Rattle.ti_tools.specs.Arguments.{Task, faults_of, is_word_count, job_of, rate_in, taken, task_in, tic_task, tput_task, tput_with};
 ghost use Rattle.ti_tools.specs.Jobs.{IsRefusal, refusal_of, task_of};
 ghost use Rattle.ti_tools.specs.declared.arguments.UsageError.TheVariants.{Memory};
 
 use crate::commands::command;
+use crate::infocmp_words::infocmp_job;
 use crate::jobs::Job;
+use crate::matches::{on, text, texts, value, values};
 use clap::ArgMatches;
 use clap::error::ErrorKind;
 use std::alloc::{AllocError, Global};
@@ -47,34 +48,6 @@ fn refusal(kind: ErrorKind) -> UsageError
     }
 }
 
-// The value of an argument, where it has one.
-fn value<'a>(matches: &ArgMatches<'a>, id: &str) -> Option<&'a str>
-    ensures { option_map (λ value. value.now) result ≡ first_of id.now (rows_of (found_of matches.now)) }
-{
-    matches.get_str(id)
-}
-
-// The same as a text of its own.
-fn text(alloc: Global, matches: &ArgMatches<'_>, id: &str) -> Result<Option<String>, AllocError>
-    ensures { IfOk result (λ text. option_map string_bytes text
-        ≡ first_of id.now (rows_of (found_of matches.now))) }
-{
-    match value(matches, id) {
-        Some(value) => Ok(Some(String::from_str(alloc, value)?)),
-        None => Ok(None),
-    }
-}
-
-// Whether an option that is on or off is on.
-fn on(matches: &ArgMatches<'_>, id: &str) -> bool
-    ensures { result ≡ is_on id.now (rows_of (found_of matches.now)) }
-{
-    match value(matches, id) {
-        Some(value) => value == "true",
-        None => false,
-    }
-}
-
 fn tic_job(alloc: Global, matches: &ArgMatches<'_>) -> Result<Job, AllocError>
     ensures { IfOk result (λ job. task_of job ≡ tic_task (rows_of (found_of matches.now))) }
 {
@@ -82,24 +55,6 @@ fn tic_job(alloc: Global, matches: &ArgMatches<'_>) -> Result<Job, AllocError>
     let dir = text(alloc, matches, "dir")?;
     let file = text(alloc, matches, "file")?;
     Ok(Job::Tic { check, dir, file })
-}
-
-// The values of an argument that may have many.
-fn values<'m, 'a>(matches: &'m ArgMatches<'a>, id: &str) -> Option<&'m [&'a str]>
-    ensures { option_map (λ values. map (λ value. value.now) values.now) result ≡ all_of id.now (rows_of (found_of matches.now)) }
-{
-    matches.get_strs(id)
-}
-
-// Texts of their own.
-fn texts(alloc: Global, words: &[&str]) -> Result<Vec<String>, AllocError>
-    ensures { IfOk result (λ texts. map string_bytes texts.items ≡ map (λ word. word.now) words.now) }
-{
-    let mut texts = Vec::new(alloc);
-    for word in words {
-        texts.push(String::from_str(alloc, word)?)?;
-    }
-    Ok(texts)
 }
 
 // The rate of `--rate`, 0 where it is not there.
@@ -169,6 +124,7 @@ fn used_job(alloc: Global, matches: &ArgMatches<'_>) -> Result<Job, UsageError>
         Some(("tic", inner)) => Ok(tic_job(alloc, inner)?),
         Some(("tput", inner)) => tput_job(alloc, inner),
         Some(("session", _)) => Ok(Job::Session),
+        Some(("infocmp", inner)) => infocmp_job(alloc, inner),
         _ => Err(UsageError::Usage),
     }
 }

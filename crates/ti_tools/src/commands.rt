@@ -1,11 +1,13 @@
 //! The command lines of the program, for clap: each tool with its options, their help and one
 //! example.
 ghost use Rattle.std.specs.Prelude.{◌≡◌, IfOk, false};
-ghost use Rattle.clap.specs.Words.{app_of, rule_of};
+ghost use Rattle.clap.specs.Words.{app_of};
 ghost use Rattle.clap.specs.declared.builder.Command.TheViews.{out-Command as fields_of};
-ghost use Rattle.ti_tools.specs.Commands.{first_tools_app, flag_rule, long_option_rule, operand_rule, operands_rule, option_rule, session_app, ti_app, tic_app, tput_app, tput_options_app};
+ghost use Rattle.ti_tools.specs.Commands.{first_tools_app, session_app, ti_app, tic_app, tput_app, tput_options_app};
 
-use clap::{Arg, ArgAction, Command};
+use crate::infocmp_words::infocmp;
+use crate::rules::{flag, long_option, operand, operands, option};
+use clap::Command;
 use std::alloc::{AllocError, Global};
 
 /// What the help of `tput` says below its options.
@@ -19,40 +21,6 @@ Examples:
   ti tput setaf 1
   ti tput cup 0 0
   printf 'bold\nsetaf 2\n' | ti tput -S";
-
-// An option that is on or off.
-fn flag<'a>(alloc: Global, id: &'a str, short: char, help: &'a str) -> Arg<'a>
-    ensures rule { rule_of result ≡ flag_rule id.entry.now short }
-    ensures local { result.global ≡ false }
-{
-    Arg::new(alloc, id)
-        .short(short)
-        .action(ArgAction::SetTrue)
-        .help(help)
-}
-
-// An option with one value.
-fn option<'a>(alloc: Global, id: &'a str, short: char, value: &'a str, help: &'a str) -> Arg<'a>
-    ensures rule { rule_of result ≡ option_rule id.entry.now short }
-    ensures local { result.global ≡ false }
-{
-    Arg::new(alloc, id)
-        .short(short)
-        .action(ArgAction::Set)
-        .value_name(value)
-        .help(help)
-}
-
-// A word of its own.
-fn operand<'a>(alloc: Global, id: &'a str, value: &'a str, help: &'a str) -> Arg<'a>
-    ensures rule { rule_of result ≡ operand_rule id.entry.now }
-    ensures local { result.global ≡ false }
-{
-    Arg::new(alloc, id)
-        .action(ArgAction::Set)
-        .value_name(value)
-        .help(help)
-}
 
 // `tic [-c] [-o DIR] [FILE]`.
 fn tic<'a>(alloc: Global) -> Result<Command<'a>, AllocError>
@@ -81,30 +49,6 @@ fn tic<'a>(alloc: Global) -> Result<Command<'a>, AllocError>
         .arg(file)
 }
 
-// An option with one value that has a long name alone.
-fn long_option<'a>(alloc: Global, id: &'a str, value: &'a str, help: &'a str) -> Arg<'a>
-    ensures rule { rule_of result ≡ long_option_rule id.entry.now }
-    ensures local { result.global ≡ false }
-{
-    Arg::new(alloc, id)
-        .long(id)
-        .action(ArgAction::Set)
-        .value_name(value)
-        .help(help)
-}
-
-// Words of their own, as many as there are.
-fn operands<'a>(alloc: Global, id: &'a str, value: &'a str, help: &'a str) -> Arg<'a>
-    ensures rule { rule_of result ≡ operands_rule id.entry.now }
-    ensures local { result.global ≡ false }
-{
-    Arg::new(alloc, id)
-        .action(ArgAction::Append)
-        .num_args(0..)
-        .value_name(value)
-        .help(help)
-}
-
 // `tput [-T TYPE] [--rate N]`.
 fn tput_options<'a>(alloc: Global) -> Result<Command<'a>, AllocError>
     ensures app { IfOk result (λ command. app_of command ≡ tput_options_app) }
@@ -129,8 +73,18 @@ fn tput<'a>(alloc: Global) -> Result<Command<'a>, AllocError>
     ensures app { IfOk result (λ command. app_of command ≡ tput_app) }
     ensures local { IfOk result (λ command. (fields_of command).has_globals ≡ false) }
 {
-    let lines = flag(alloc, "lines", 'S', "Read commands from standard input, one a line");
-    let words = operands(alloc, "words", "CAP [WORD]", "The capability, and its parameters");
+    let lines = flag(
+        alloc,
+        "lines",
+        'S',
+        "Read commands from standard input, one a line",
+    );
+    let words = operands(
+        alloc,
+        "words",
+        "CAP [WORD]",
+        "The capability, and its parameters",
+    );
     tput_options(alloc)?.arg(lines)?.arg(words)
 }
 
@@ -168,5 +122,7 @@ pub fn command<'a>(alloc: Global) -> Result<Command<'a>, AllocError>
     ensures app { IfOk result (λ command. app_of command ≡ ti_app) }
     ensures local { IfOk result (λ command. (fields_of command).has_globals ≡ false) }
 {
-    first_tools(alloc)?.subcommand(session(alloc)?)
+    first_tools(alloc)?
+        .subcommand(session(alloc)?)?
+        .subcommand(infocmp(alloc)?)
 }

@@ -1,4 +1,6 @@
 //! The jobs of the program.
+use crate::listings::InfocmpMode;
+use ti_list::Layout;
 
 /// What the program is to do.
 #[derive(Debug, PartialEq, Eq, Drop)]
@@ -25,4 +27,17 @@ pub enum Job {
     },
     /// Read a script and answer it.
     Session,
+    /// List, compare or relate entries.
+    Infocmp {
+        /// What is printed.
+        mode: InfocmpMode,
+        /// The names of the terminals; none where the terminal's own is meant.
+        names: Vec<String>,
+        /// How source text is laid out.
+        layout: Layout,
+        /// The only place for the entry of the first name, where it was said.
+        first_dir: Option<String>,
+        /// The only place for those of the other names, where it was said.
+        other_dir: Option<String>,
+    },
 }

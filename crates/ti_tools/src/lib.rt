@@ -16,22 +16,25 @@
 pub mod arguments;
 pub mod commands;
 pub mod compiling;
-pub mod stopping;
 mod entry_files;
+mod infocmp_words;
 mod insertions;
 pub mod jobs;
 pub mod laws;
 mod listings;
+mod matches;
 mod outcome;
+mod rules;
 mod sources;
+pub mod stopping;
 
 pub use arguments::{UsageError, job};
 pub use commands::command;
 pub use compiling::tic;
-pub use stopping::{message, status};
 pub use jobs::Job;
 pub use listings::{InfocmpMode, InfocmpOptions, infocmp};
 pub use outcome::{TicOptions, TicOutcome};
+pub use stopping::{message, status};
 pub use ti_devices::{Counted, File, MemTree, Tally, ToolError, Tree, TreeFault, place};
 pub use ti_list::{Layout, Order};
 pub use ti_session::session;

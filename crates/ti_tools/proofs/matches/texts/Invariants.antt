@@ -1,6 +1,6 @@
 use Rattle.std.proofs.Common.{◌≡◌, map, take}
 use Rattle.std.specs.String.{string_bytes}
-use Rattle.ti_tools.proofs.arguments.texts.Given as goal
+use Rattle.ti_tools.proofs.matches.texts.Given as goal
 
 -- the texts of the words before
 abbrev pub invariant-loop-word : goal.invariant-loop-word

@@ -1,0 +1,36 @@
+-- What clap reads of an argument of a tool (own).
+use Rattle.std.specs.Prelude.{ℕ, Some}
+use Rattle.clap.specs.Lexer.{usize_max}
+use Rattle.clap.specs.Simple.{new_rule}
+use Rattle.clap.specs.Walk.{Rule, Text}
+use Rattle.clap.specs.declared.builder.action.ArgAction.TheVariants.{Append, Set, SetTrue}
+use Rattle.clap.specs.declared.builder.value_parser.ValueParser.TheVariants.{Unsigned}
+
+-- an option that is on or off, as `-c`
+abbrev pub flag_rule : Text → ℕ → Rule
+flag_rule id short = record (new_rule id) { short = Some short; action = Some SetTrue }
+
+-- an option with one value, as `-o DIR`
+abbrev pub option_rule : Text → ℕ → Rule
+option_rule id short =
+    record (new_rule id) { short = Some short; action = Some Set; value_names = 1 }
+
+-- a word of its own, as `FILE`
+abbrev pub operand_rule : Text → Rule
+operand_rule id = record (new_rule id) { action = Some Set; value_names = 1 }
+
+-- an option with one value that has a long name alone, as `--rate N`
+abbrev pub long_option_rule : Text → Rule
+long_option_rule id = record (new_rule id) { long = Some id; action = Some Set; value_names = 1 }
+
+-- words of their own, as many as there are, as `WORD..`
+abbrev pub operands_rule : Text → Rule
+operands_rule id = record (new_rule id) {
+  action = Some Append;
+  range = Some (record { start_inclusive = 0; end_inclusive = usize_max });
+  value_names = 1;
+}
+
+-- an option with a number from a least to a greatest
+abbrev pub number_rule : Text → ℕ → ℕ → ℕ → Rule
+number_rule id short least greatest = record (option_rule id short) { parser = Some (Unsigned least greatest) }
