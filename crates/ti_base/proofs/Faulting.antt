@@ -14,8 +14,8 @@ use Rattle.ti_meaning.specs.Compiled.{unresolved, oversized, written, state_of}
 use Rattle.ti_base.specs.Entries.{state_seen}
 use Rattle.ti_meaning.specs.Faults.{SourceFault, use_fault, IsUser, block_faults, faults_after}
 use Rattle.ti_base.proofs.Lists.{slice_get-map_item, drop_get}
-use Rattle.ti_meaning.proofs.UseFaults.{use_fault_ring, use_fault_open, use_fault_none, no_expansion, some_expansion, owner_is}
-use Rattle.ti_meaning.proofs.Acyclic.{resolved_no_ring}
+use Rattle.ti_meaning.proofs.UseFaults.{use_fault_circular, use_fault_open, use_fault_none, no_expansion, some_expansion, owner_is}
+use Rattle.ti_meaning.proofs.Acyclic.{resolved_not_circular}
 
 -- ---- what an entry tells of its block
 
@@ -36,11 +36,11 @@ not_written bytes e = cc
 
 -- ---- the fault of a use that has an owner
 
-pub fault_on_ring : (bs : List Reading) (at : ℕ) (name : List ℕ) (q : ℕ) (found : Bool) → owner bs name ≡ Some q → found ≡ leads_to bs name at → found ≡ true → ◌≡◌ {A = Option Code} (Some Circular) (use_fault bs at name)
-fault_on_ring bs at name q found o l t = let b = owner_is bs name q o in use_fault_ring bs at name b.0 b.1 (sym l ∙ t)
+pub fault_circular : (bs : List Reading) (at : ℕ) (name : List ℕ) (q : ℕ) (found : Bool) → owner bs name ≡ Some q → found ≡ leads_to bs name at → found ≡ true → ◌≡◌ {A = Option Code} (Some Circular) (use_fault bs at name)
+fault_circular bs at name q found o l t = let b = owner_is bs name q o in use_fault_circular bs at name b.0 b.1 (sym l ∙ t)
 
-pub fault_off_ring : (bs : List Reading) (es : List Entry) (at : ℕ) (name : List ℕ) (q : ℕ) (e : Entry) (found : Bool) → map state_seen es ≡ map (state_of bs) bs → q < length bs → e ≡ get_or es q e → owner bs name ≡ Some q → e ≡ entry.Unresolved → found ≡ leads_to bs name at → found ≡ false → ◌≡◌ {A = Option Code} (Some Unresolved) (use_fault bs at name)
-fault_off_ring bs es at name q e found h l r o i g t =
+pub fault_not_circular : (bs : List Reading) (es : List Entry) (at : ℕ) (name : List ℕ) (q : ℕ) (e : Entry) (found : Bool) → map state_seen es ≡ map (state_of bs) bs → q < length bs → e ≡ get_or es q e → owner bs name ≡ Some q → e ≡ entry.Unresolved → found ≡ leads_to bs name at → found ≡ false → ◌≡◌ {A = Option Code} (Some Unresolved) (use_fault bs at name)
+fault_not_circular bs es at name q e found h l r o i g t =
     let b = owner_is bs name q o in
     let state = state_read bs es q b.0 e h l r b.2 in
     use_fault_open bs at name b.0 b.1 (sym g ∙ t) (no_expansion b.0 (expansion bs b.0) (rw i at state))
@@ -49,7 +49,7 @@ pub fault_of_resolved : (bs : List Reading) (es : List Entry) (at : ℕ) (name :
 fault_of_resolved bs es at name q e h l r o n u =
     let b = owner_is bs name q o in
     let some = some_expansion b.0 (expansion bs b.0) (state_seen e) n (state_read bs es q b.0 e h l r b.2) in
-    use_fault_none bs at name b.0 some.0 b.1 (resolved_no_ring bs at u.0 b.0 name some.0 u.1 u.2 b.1 some.1) some.1
+    use_fault_none bs at name b.0 some.0 b.1 (resolved_not_circular bs at u.0 b.0 name some.0 u.1 u.2 b.1 some.1) some.1
 
 -- an entry over the limit, or one that there is, is of a block that resolves
 pub is_resolved : (e : Entry) → (e ≡ entry.TooLarge) ⊎ ((bytes : _) × (e ≡ entry.Compiled bytes)) → state_seen e ≡ unresolved → ⊥

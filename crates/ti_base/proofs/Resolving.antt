@@ -9,8 +9,8 @@ use Rattle.ti_source.specs.Reading.{Reading}
 use Rattle.ti_compiled.specs.Values.{Contents}
 use Rattle.ti_meaning.specs.Owner.{owner, owned}
 use Rattle.ti_meaning.specs.Expansion.{is_broken, expand_items, expand}
-use Rattle.ti_meaning.specs.ValueTables.{names_at, IsTableOf, LaysName}
-use Rattle.ti_base.specs.Resolution.{IsOpenName, IsStuck, IsOpenAt, open_count, AreTables, AreStuck, AreResolved, HasTable, Passed}
+use Rattle.ti_meaning.specs.ValueTables.{HasTable, names_at, IsTableOf, LaysName}
+use Rattle.ti_base.specs.Resolution.{IsOpenName, IsStuck, IsOpenAt, open_count, AreTables, AreStuck, AreResolved, Passed}
 use Rattle.ti_meaning.proofs.Owning.{nobody, somebody, owning, nobody_to_none}
 use Rattle.ti_meaning.proofs.Depth.{bounded, unbounded}
 use Rattle.ti_meaning.proofs.Laying.{expand_items-none, if_none}

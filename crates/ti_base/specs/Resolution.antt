@@ -3,9 +3,9 @@ use Rattle.std.specs.Prelude.{ℕ, suc, ◌≡◌, ◌⊎◌, ◌<◌, List, [],
 use Rattle.ti_source.specs.Reading.{Reading, Said}
 use Rattle.ti_compiled.specs.Values.{Contents}
 use Rattle.ti_meaning.specs.Owner.{owner}
-use Rattle.ti_meaning.specs.Expansion.{Mention, is_broken, expansion}
+use Rattle.ti_meaning.specs.Expansion.{is_broken}
 use Rattle.ti_meaning.specs.Reaching.{used_name, Uses}
-use Rattle.ti_meaning.specs.ValueTables.{Tells, IsTableOf}
+use Rattle.ti_meaning.specs.ValueTables.{IsTableOf, HasTable}
 
 -- nobody owns the name, or its owner is open
 abbrev pub IsOpenName : List Reading → (ℕ → Type 0) → List ℕ → Type 0
@@ -43,11 +43,6 @@ pub record Passed {T : Type 0} (contents : T → Contents) (blocks : List Readin
   pub tables : AreTables contents blocks new
   pub fewer : progressed ≡ true → open_count new < open_count old
   pub stuck : progressed ≡ false → AreStuck blocks new (length blocks)
-
--- a block has a table exactly where it resolves
-abbrev pub HasTable : {T : Type 0} → (T → Contents) → List Reading → Reading → Option T → Type 0
-HasTable contents blocks block None = expansion blocks block ≡ None
-HasTable contents blocks block (Some table) = (mentions : List Mention) × (expansion blocks block ≡ Some mentions) × Tells (contents table) mentions
 
 -- the tables of all blocks
 pub record AreResolved {T : Type 0} (contents : T → Contents) (blocks : List Reading) (tables : List (Option T)) : Type 0 where

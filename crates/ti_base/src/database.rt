@@ -202,9 +202,9 @@ impl Database {
         Ok(Edited {})
     }
 
-    /// Moves the block at `from`, so that it then stands at `to`. The refusals: `Position` where
-    /// there is no such block or no such position of one, and `Memory` where a growth was refused.
-    /// After a refusal all is as before.
+    /// Moves the block at `from`, so that it then stands at `to`. The refusals: `Position` where no
+    /// block stands at `from` or none at `to`, and `Memory` where a growth was refused. After a
+    /// refusal all is as before.
     pub fn relocate(&mut self, from: usize, to: usize) -> Result<Edited, EditError>
         ensures { Step self.old (relocation from to) (outcome_of result) self.new }
     {

@@ -23,6 +23,6 @@ mod report;
 mod resolution;
 
 pub use database::{Database, run};
-pub use laying::{lay, merge};
+pub use laying::lay;
 pub use report::write_fault;
 pub use ti_meaning::{Edit, EditError, Edited, Fault, Outcome};

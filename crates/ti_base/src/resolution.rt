@@ -9,7 +9,7 @@ ghost use Rattle.ti_meaning.specs.ValueTables.{IsLaid, IsTableOf, LaysName};
 ghost use Rattle.ti_base.specs.Resolution.{AreResolved, AreTables, IsOpenAt, IsOpenName, IsOpenUse, IsStuck, Passed};
 ghost use Rattle.ti_meaning.specs.Usable.{IsUsable, SetsWell};
 
-use crate::laying::{lay, merge};
+use crate::laying::lay;
 use crate::owners::{find_owner, has_error};
 use std::alloc::{AllocError, Global};
 use ti_compiled::{Table, Value};
@@ -34,7 +34,7 @@ fn lay_use(
     let Some(used) = &tables[at] else {
         return Ok(false);
     };
-    merge(table, used)?;
+    table.merge(used)?;
     Ok(true)
 }
 

@@ -1,11 +1,16 @@
-//! Times `ti_param::expand` on setaf's usual 256-colour format. With a number N as its word it
-//! expands N times and prints the nanoseconds of one expansion; without a word it only shows the
-//! bytes for the colours 3, 12 and 200, in hexadecimal.
+//! Times `ti_param::expand` on setaf's usual 256-colour format, and `ti_compiled::write` on a small
+//! and on a full entry. With a number N as its word it expands N times, lays N entries of each kind,
+//! and prints the nanoseconds of one; with a second word, `expand`, `small` or `full`, that alone.
+//! Without a word it only shows the bytes for the colours 3, 12 and 200, in hexadecimal.
 #![tactic(auto)]
 
+mod laying;
+
+use laying::{full_table, lay_all, small_table};
 use std::rt::{Clock, Env};
 use std::time::Instant;
 use std::{env, io};
+use ti_compiled::Table;
 use ti_param::{Statics, Value, expand};
 
 const SETAF: &[u8] = b"\x1b[%?%p1%{8}%<%t3%p1%d%e%p1%{16}%<%t9%p1%{8}%-%d%e38;5;%p1%d%;m";
@@ -54,21 +59,56 @@ fn expand_all<R: AllocGlobal>(rt: &R, count: u32) -> u64 {
     total
 }
 
-fn time<R: Clock + Print + AllocGlobal>(rt: &R, count: u32) -> io::Result<()> {
-    let start = Instant::now(rt)?;
-    let total = expand_all(rt, count);
+fn print_time<R: Clock + Print + AllocGlobal>(
+    rt: &R,
+    what: &str,
+    start: Instant,
+    count: u32,
+    total: u64,
+) -> io::Result<()> {
     let nanoseconds = start.elapsed(rt)?.as_nanos();
     let each = nanoseconds / u128::from(count.max(1));
-    println!(rt; "expand: {each} ns an expansion ({count} expansions, {total} bytes)")
+    println!(rt; "{what}: {each} ns each ({count} times, {total} bytes)")
+}
+
+fn time_expansions<R: Clock + Print + AllocGlobal>(rt: &R, count: u32) -> io::Result<()> {
+    let start = Instant::now(rt)?;
+    let total = expand_all(rt, count);
+    print_time(rt, "expand", start, count, total)
+}
+
+fn time_laying<R: Clock + Print + AllocGlobal>(
+    rt: &R,
+    what: &str,
+    table: &Table,
+    count: u32,
+) -> io::Result<()> {
+    let start = Instant::now(rt)?;
+    let total = lay_all(rt.alloc(), table, count);
+    print_time(rt, what, start, count, total)
+}
+
+fn time<R: Clock + Print + AllocGlobal>(rt: &R, count: u32, part: &str) -> io::Result<()> {
+    if part.is_empty() || part == "expand" {
+        time_expansions(rt, count)?;
+    }
+    if part.is_empty() || part == "small" {
+        time_laying(rt, "lay a small entry", &small_table(rt.alloc())?, count)?;
+    }
+    if part.is_empty() || part == "full" {
+        time_laying(rt, "lay a full entry", &full_table(rt.alloc())?, count)?;
+    }
+    Ok(())
 }
 
 fn run<R: Env + Clock + Print + AllocGlobal>(rt: &R) -> io::Result<()> {
     let words: Vec<String> = env::args(rt)?.collect(rt.alloc())?;
+    let part = words.get(2).map_or("", |word| word.as_str());
     match words.get(1) {
         None => show(rt),
         Some(word) => match word.as_str().parse() {
-            Ok(count) => time(rt, count),
-            Err(_) => println!(rt; "not a number of expansions: {word}"),
+            Ok(count) => time(rt, count, part),
+            Err(_) => println!(rt; "not a number of times: {word}"),
         },
     }
 }

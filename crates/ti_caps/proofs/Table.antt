@@ -7,7 +7,7 @@ use Rattle.std.proofs.lemmas.List.Elements.{All-contains, at_from_Contains}
 use Rattle.std.proofs.lemmas.Slice.Eq.{bytes_eq-Decides}
 use Rattle.ti_caps.specs.declared.capability.Kind.{Kind}
 use Rattle.ti_caps.specs.declared.capability.Kind.TheVariants.{Flag, Number, Text}
-use Rattle.ti_caps.specs.Tables.{Capability, IsCapability, capability, count_of, name_of, names, NamesAreDistinct}
+use Rattle.ti_caps.specs.Tables.{same_kind, Capability, IsCapability, capability, count_of, name_of, names, NamesAreDistinct}
 use Rattle.ti_caps.specs.Names.{flag_names, number_names, text_names}
 use Rattle.ti_caps.specs.ByName.{Row, by_name, IsInNameOrder, IsRowOf, HasNoRow}
 use Rattle.ti_caps.proofs.Order.{order_from_rising, names_apart}
@@ -33,12 +33,6 @@ unfolding by_name names flag_names number_names text_names
 rows_are_right = refl
 
 -- each capability has a row
-abbrev same_kind : Kind → Kind → Bool
-same_kind Flag Flag = true
-same_kind Number Number = true
-same_kind Text Text = true
-same_kind _ _ = false
-
 abbrev has_row : Kind → ℕ → List Row → Bool
 has_row k i [] = false
 has_row k i (r ∷ rs) = elim (same_kind r.1 k && nat_eq r.2 i) [ true ↦ true | false ↦ has_row k i rs ]

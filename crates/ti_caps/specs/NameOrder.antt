@@ -1,19 +1,12 @@
 -- The capabilities of each kind in the order of the bytes of their names (infocmp(1), `-s i`).
-use Rattle.std.specs.Prelude.{◌≡◌, ℕ, ◌<◌, Bool, true, false, List, map, filter, All, Contains}
+use Rattle.std.specs.Prelude.{◌≡◌, ℕ, ◌<◌, List, map, filter, All, Contains}
 use Rattle.std.specs.Ordering.{nat_cmp}
 use Rattle.std.specs.Cmp.Lexicographic.{slice_cmp}
 use Rattle.std.specs.List.Sorted.{IsStrictlySortedBy}
 use Rattle.ti_caps.specs.declared.capability.Kind.{Kind}
-use Rattle.ti_caps.specs.declared.capability.Kind.TheVariants.{Flag, Number, Text}
+pub use Rattle.ti_caps.specs.Tables.{same_kind}
 use Rattle.ti_caps.specs.Tables.{Capability, IsCapability, capability, count_of, name_of}
 use Rattle.ti_caps.specs.ByName.{Row, by_name}
-
--- whether two kinds are one
-abbrev pub same_kind : Kind → Kind → Bool
-same_kind Flag Flag = true
-same_kind Number Number = true
-same_kind Text Text = true
-same_kind _ _ = false
 
 -- the capabilities of a kind that have a row, in the order of the rows
 abbrev pub of_kind : Kind → List Row → List Capability

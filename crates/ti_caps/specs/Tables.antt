@@ -1,5 +1,5 @@
 -- The capabilities and their names, and the capability of a name (own, over the lists of the names).
-use Rattle.std.specs.Prelude.{◌≡◌, ℕ, ◌<◌, List, [], ◌∷◌, map, slice_index_or, Option, Some, None, option_map, if◌then◌else◌, bytes_eq, suc, codes}
+use Rattle.std.specs.Prelude.{◌≡◌, ℕ, ◌<◌, Bool, true, false, ◌&&◌, nat_eq, List, [], ◌∷◌, map, slice_index_or, Option, Some, None, option_map, if◌then◌else◌, bytes_eq, suc, codes}
 use Rattle.ti_caps.specs.declared.capability.Kind.{Kind}
 use Rattle.ti_caps.specs.declared.capability.Kind.TheVariants.{Flag, Number, Text}
 use Rattle.ti_caps.specs.Names.{flag_names, number_names, text_names}
@@ -12,6 +12,17 @@ pub record Capability : Type 0 where
 -- the capability of a kind at a place in the list of that kind
 abbrev pub capability : Kind → ℕ → Capability
 capability k i = record { kind = k; index = i }
+
+-- whether two kinds are one
+abbrev pub same_kind : Kind → Kind → Bool
+same_kind Flag Flag = true
+same_kind Number Number = true
+same_kind Text Text = true
+same_kind _ _ = false
+
+-- whether two capabilities are one: of one kind, and at one place in its list
+abbrev pub same_capability : Capability → Capability → Bool
+same_capability c d = same_kind c.kind d.kind && nat_eq c.index d.index
 
 -- the names of a kind, by index
 unfoldable pub names : Kind → List (List ℕ)

@@ -1,18 +1,22 @@
--- What the steps of reading know of an entry (term(5), "Legacy storage format"): the header's numbers, and the sections that they cut.
-use Rattle.std.specs.Prelude.{◌≡◌, ◌≢◌, ℕ, suc, ◌<◌, ◌≤◌, List, length, slice_index, ◌⊎◌}
-use Rattle.ti_compiled.specs.declared.sections.Sizes.{Sizes}
+-- What the steps of reading know of an entry (term(5)): the header's numbers, and the sections that they cut.
+use Rattle.std.specs.Prelude.{◌≡◌, ◌≢◌, ℕ, suc, ◌*◌, ◌<◌, ◌≤◌, List, length, slice_index}
+use Rattle.ti_compiled.specs.declared.layout.Format.{Format}
+use Rattle.ti_compiled.specs.declared.layout.Format.TheVariants.{Legacy}
+use Rattle.ti_compiled.specs.declared.layout.Header.{Header}
 use Rattle.ti_compiled.specs.declared.sections.Sections.{Sections}
-use Rattle.ti_compiled.specs.Reading.{word_at, names_size, flag_count, number_count, text_count, strings_size, end_place, names_section, flags_section, numbers_section, offsets_section, strings_section, IsFlagByte, IsPlain, IsVoid, HasEnd, EachWord}
+use Rattle.ti_compiled.specs.Layout.{magic, width}
+use Rattle.ti_compiled.specs.Reading.{word_at, number_at, count_in, format_in, names_size, flag_count, number_count, text_count, strings_size, end_place, names_section, flags_section, numbers_section, offsets_section, strings_section, IsFlagByte, IsNumber, IsOffset}
 
 -- the bytes begin with a header that has these sizes and counts, each of them within its limit
-pub record HasHeader (bytes : List ℕ) (sizes : Sizes) : Type 0 where
+pub record HasHeader (bytes : List ℕ) (h : Header) : Type 0 where
   pub long : 12 ≤ length bytes
-  pub magic : word_at 0 bytes ≡ 282
-  pub names : sizes.names ≡ names_size bytes
-  pub flags : sizes.flags ≡ flag_count bytes
-  pub numbers : sizes.numbers ≡ number_count bytes
-  pub texts : sizes.texts ≡ text_count bytes
-  pub strings : sizes.strings ≡ strings_size bytes
+  pub known : word_at 0 bytes ≡ magic (format_in bytes)
+  pub format : h.format ≡ format_in bytes
+  pub names : h.names ≡ names_size bytes
+  pub flags : h.flags ≡ flag_count bytes
+  pub numbers : h.numbers ≡ number_count bytes
+  pub texts : h.texts ≡ text_count bytes
+  pub strings : h.strings ≡ strings_size bytes
   pub names_fit : names_size bytes < 32768
   pub flags_fit : flag_count bytes ≤ 44
   pub numbers_fit : number_count bytes ≤ 39
@@ -21,9 +25,10 @@ pub record HasHeader (bytes : List ℕ) (sizes : Sizes) : Type 0 where
 
 -- the bytes are as long as their header says, and are cut into these sections
 pub record IsCut (bytes : List ℕ) (s : Sections) : Type 0 where
-  pub sizes : Sizes
+  pub sizes : Header
   pub header : HasHeader bytes sizes
   pub whole : end_place bytes ≤ length bytes
+  pub format : s.format ≡ format_in bytes
   pub names : s.names.now ≡ names_section bytes
   pub flags : s.flags.now ≡ flags_section bytes
   pub numbers : s.numbers.now ≡ numbers_section bytes
@@ -40,10 +45,14 @@ pub record AreNames (names : List ℕ) : Type 0 where
 abbrev pub AreFlags : List ℕ → Type 0
 AreFlags flags = (k : ℕ) → k < length flags → IsFlagByte (slice_index flags k)
 
--- each 16-bit number of the section is not negative, or stands for absent or cancelled
-abbrev pub AreNumbers : List ℕ → Type 0
-AreNumbers numbers = EachWord numbers (λ w. IsPlain w ⊎ IsVoid w)
+-- each number of a section
+abbrev pub EachNumber : Format → List ℕ → (ℕ → Type 0) → Type 0
+EachNumber format section P = (k : ℕ) → k < count_in format section → P (number_at format (width format * k) section)
+
+-- each number of the section is not negative, or stands for absent or cancelled
+abbrev pub AreNumbers : Format → List ℕ → Type 0
+AreNumbers format numbers = EachNumber format numbers (IsNumber format)
 
 -- each offset leads to a text that a NUL ends in the string table, or stands for absent or cancelled
 abbrev pub AreOffsets : List ℕ → List ℕ → Type 0
-AreOffsets offsets strings = EachWord offsets (λ w. (IsPlain w × HasEnd strings w) ⊎ IsVoid w)
+AreOffsets offsets strings = EachNumber Legacy offsets (IsOffset strings)

@@ -1,79 +1,75 @@
--- What the bytes of a compiled entry say (term(5), "Legacy storage format"), and why bytes are refused.
-use Rattle.std.specs.Prelude.{◌≡◌, ◌≢◌, ℕ, suc, ◌+◌, ◌*◌, ◌-◌, ◌/◌, ◌%◌, ◌<◌, ◌≤◌, ◌==◌, nat_lt, if◌then◌else◌, List, [], ◌∷◌, ◌++◌, length, drop, slice_index, slice_range, Option, Some, None, ◌⊎◌}
+-- What the bytes of a compiled entry say (term(5), "Legacy storage format" and "Extended number format"), and why bytes are refused.
+use Rattle.std.specs.Prelude.{◌≡◌, ◌≢◌, ℕ, suc, ◌+◌, ◌*◌, ◌-◌, ◌/◌, ◌%◌, ◌<◌, ◌≤◌, ◌==◌, nat_lt, if◌then◌else◌, List, length, drop, slice_index, slice_range, slice_get, All, Option, Some, None, option_and_then, ◌⊎◌}
 use Rattle.std.specs.List.{before_first}
 use Rattle.ti_caps.specs.declared.capability.Kind.{Kind}
 use Rattle.ti_caps.specs.declared.capability.Kind.TheVariants.{Flag, Number, Text}
 use Rattle.ti_compiled.specs.declared.fault.ReadError.{ReadError}
 use Rattle.ti_compiled.specs.declared.fault.ReadError.TheVariants.{Short, Magic, Counts, Truncated, BadNames, BadFlag, BadNumber, BadOffset}
-use Rattle.ti_compiled.specs.Values.{Content, content_true, content_number, content_text, Contents}
+use Rattle.ti_compiled.specs.declared.layout.Format.{Format}
+use Rattle.ti_compiled.specs.declared.layout.Format.TheVariants.{Legacy, Extended}
+use Rattle.ti_compiled.specs.Image.{below}
+use Rattle.ti_compiled.specs.Layout.{Sections, absent, cancelled, laid_out, magic, negative, width}
+use Rattle.ti_compiled.specs.Values.{Content, content_true, content_number, content_text, Contents, HasNoNul}
+
+-- ---- the numbers that bytes spell
 
 -- the 16-bit number, its low byte first, that stands at a place
 abbrev pub word_at : ℕ → List ℕ → ℕ
-word_at at bytes = slice_index bytes at + 256 * slice_index bytes (suc at)
+word_at at bytes = slice_index bytes at + 256 * slice_index bytes (at + 1)
 
--- the two bytes of a number below 65,536
-abbrev pub word : ℕ → List ℕ
-word n = (n % 256) ∷ (n / 256) ∷ []
+-- the number of a format, its low byte first, that stands at a place
+abbrev pub number_at : Format → ℕ → List ℕ → ℕ
+number_at Legacy at bytes = word_at at bytes
+number_at Extended at bytes =
+    slice_index bytes at + 256 * (slice_index bytes (at + 1) + 256 * (slice_index bytes (at + 2) + 256 * slice_index bytes (at + 3)))
 
--- ---- an entry in its sections
+-- how many numbers of a format a section has
+abbrev pub count_in : Format → List ℕ → ℕ
+count_in format section = length section / width format
 
--- The names without their NUL; a byte a flag; the zero byte, or nothing; two bytes a number; two bytes
--- an offset into the string table; that table; what follows, which is not looked at.
-pub record Sections : Type 0 where
-  pub names : List ℕ
-  pub flags : List ℕ
-  pub gap : List ℕ
-  pub numbers : List ℕ
-  pub offsets : List ℕ
-  pub strings : List ℕ
-  pub rest : List ℕ
+-- those numbers
+abbrev pub numbers_in : Format → List ℕ → List ℕ
+numbers_in format section = below (λ i. number_at format (width format * i) section) (count_in format section)
 
--- Six numbers: the magic number, the size of the names with the NUL, how many flags, numbers and
--- offsets there are, and the size of the string table.
-abbrev pub header : ℕ → ℕ → ℕ → ℕ → ℕ → List ℕ
-header names flags numbers offsets strings = word 282 ++ word names ++ word flags ++ word numbers ++ word offsets ++ word strings
-
--- the bytes of an entry with these sections: the header with their sizes, and then they in this order
-abbrev pub laid_out : Sections → List ℕ
-laid_out s =
-    header (suc (length s.names)) (length s.flags) (length s.numbers / 2) (length s.offsets / 2) (length s.strings)
-    ++ s.names ++ 0 ∷ [] ++ s.flags ++ s.gap ++ s.numbers ++ s.offsets ++ s.strings ++ s.rest
+-- ---- what may stand in a section
 
 -- 0 and 1, and the absent and cancelled of old writers
 abbrev pub IsFlagByte : ℕ → Type 0
 IsFlagByte b = (b < 2) ⊎ (254 ≤ b)
 
--- not negative as a signed number of 16 bits
-abbrev pub IsPlain : ℕ → Type 0
-IsPlain w = w < 32768
+-- not negative as a signed number
+abbrev pub IsPlain : Format → ℕ → Type 0
+IsPlain format n = n < negative format
 
 -- -1 and -2: absent, cancelled
-abbrev pub IsVoid : ℕ → Type 0
-IsVoid w = 65534 ≤ w
+abbrev pub IsVoid : Format → ℕ → Type 0
+IsVoid format n = (cancelled format ≤ n) × (n ≤ absent format)
 
 -- a NUL stands at the offset or after it, within the table
 abbrev pub HasEnd : List ℕ → ℕ → Type 0
 HasEnd strings offset = (i : ℕ) × (offset ≤ i) × (i < length strings) × (slice_index strings i ≡ 0)
 
--- each 16-bit number of a section
-abbrev pub EachWord : List ℕ → (ℕ → Type 0) → Type 0
-EachWord section P = (k : ℕ) → 2 * k + 1 < length section → P (word_at (2 * k) section)
+-- a number that is not negative, or stands for absent or cancelled
+abbrev pub IsNumber : Format → ℕ → Type 0
+IsNumber format n = IsPlain format n ⊎ IsVoid format n
+
+-- an offset that leads to a text with its NUL, or stands for absent or cancelled
+abbrev pub IsOffset : List ℕ → ℕ → Type 0
+IsOffset strings n = (IsPlain Legacy n × HasEnd strings n) ⊎ IsVoid Legacy n
 
 -- the sizes of the sections are within the limits, and each flag, number and offset may stand there
-pub record AreSound (s : Sections) : Type 0 where
+pub record AreSound (format : Format) (s : Sections) : Type 0 where
   pub some_names : 0 < length s.names
   pub names_size : length s.names < 32767
-  pub no_nul : (k : ℕ) → k < length s.names → slice_index s.names k ≢ 0
+  pub no_nul : HasNoNul s.names
   pub flag_count : length s.flags ≤ 44
-  pub number_count : length s.numbers ≤ 2 * 39
-  pub whole_numbers : length s.numbers % 2 ≡ 0
-  pub text_count : length s.offsets ≤ 2 * 414
-  pub whole_offsets : length s.offsets % 2 ≡ 0
+  pub number_count : length s.numbers ≤ 39
+  pub text_count : length s.offsets ≤ 414
   pub strings_size : length s.strings < 32768
-  pub gap_size : length s.gap ≡ suc (length s.names + length s.flags) % 2
-  pub flags : (k : ℕ) → k < length s.flags → IsFlagByte (slice_index s.flags k)
-  pub numbers : EachWord s.numbers (λ w. IsPlain w ⊎ IsVoid w)
-  pub offsets : EachWord s.offsets (λ w. (IsPlain w × HasEnd s.strings w) ⊎ IsVoid w)
+  pub gap_size : length s.gap ≡ (suc (length s.names) + length s.flags) % 2
+  pub flags : All IsFlagByte s.flags
+  pub numbers : All (IsNumber format) s.numbers
+  pub offsets : All (IsOffset s.strings) s.offsets
 
 -- ---- what the sections say
 
@@ -81,9 +77,9 @@ pub record AreSound (s : Sections) : Type 0 where
 abbrev pub flag_of : ℕ → Option Content
 flag_of b = if b == 1 then Some content_true else None
 
--- what the 16-bit number of a place says: itself, or absent where it is negative
-abbrev pub number_of : ℕ → Option Content
-number_of w = if nat_lt w 32768 then Some (content_number w) else None
+-- what the number of a place says: itself, or absent where it is negative
+abbrev pub number_of : Format → ℕ → Option Content
+number_of format n = if nat_lt n (negative format) then Some (content_number n) else None
 
 -- the bytes from an offset to before the first NUL
 abbrev pub text_from : List ℕ → ℕ → List ℕ
@@ -91,31 +87,32 @@ text_from strings offset = before_first (λ b. b == 0) (drop offset strings)
 
 -- what an offset says: the text that begins there, or absent where it is negative
 abbrev pub text_of : List ℕ → ℕ → Option Content
-text_of strings w = if nat_lt w 32768 then Some (content_text (text_from strings w)) else None
+text_of strings n = if nat_lt n (negative Legacy) then Some (content_text (text_from strings n)) else None
 
--- what the word of an index says, absent past the section's end
-abbrev pub word_says : (ℕ → Option Content) → List ℕ → ℕ → Option Content
-word_says say section index = if nat_lt (2 * index + 1) (length section) then say (word_at (2 * index) section) else None
-
--- what the sections say of the capability of a kind and an index
-abbrev pub says : List ℕ → List ℕ → List ℕ → List ℕ → Kind → ℕ → Option Content
-says flags numbers offsets strings Flag index = flag_of (slice_index flags index)
-says flags numbers offsets strings Number index = word_says number_of numbers index
-says flags numbers offsets strings Text index = word_says (text_of strings) offsets index
+-- what the sections say of the capability of a kind and an index, absent past the section's end
+abbrev pub says : Format → List ℕ → List ℕ → List ℕ → List ℕ → Kind → ℕ → Option Content
+says format flags numbers offsets strings Flag index = flag_of (slice_index flags index)
+says format flags numbers offsets strings Number index = option_and_then (number_of format) (slice_get numbers index)
+says format flags numbers offsets strings Text index = option_and_then (text_of strings) (slice_get offsets index)
 
 -- what the sections say of each capability
-abbrev pub contents_of : List ℕ → List ℕ → List ℕ → List ℕ → Contents
-contents_of flags numbers offsets strings c = says flags numbers offsets strings c.kind c.index
+abbrev pub contents_of : Format → List ℕ → List ℕ → List ℕ → List ℕ → Contents
+contents_of format flags numbers offsets strings c = says format flags numbers offsets strings c.kind c.index
 
 -- The bytes are an entry with these names and these contents. A cancelled value is absent.
 pub record Reads (bytes names : List ℕ) (contents : Contents) : Type 0 where
+  pub format : Format
   pub sections : Sections
-  pub sound : AreSound sections
-  pub whole : bytes ≡ laid_out sections
+  pub sound : AreSound format sections
+  pub whole : bytes ≡ laid_out format sections
   pub named : names ≡ sections.names
-  pub held : contents ≡ contents_of sections.flags sections.numbers sections.offsets sections.strings
+  pub held : contents ≡ contents_of format sections.flags sections.numbers sections.offsets sections.strings
 
 -- ---- why bytes are refused (own order)
+
+-- the format that the first number tells, where it is one of the two
+abbrev pub format_in : List ℕ → Format
+format_in bytes = if word_at 0 bytes == magic Extended then Extended else Legacy
 
 -- where the sections begin and end by the numbers of the header: the size of the names with their NUL
 abbrev pub names_size : List ℕ → ℕ
@@ -147,7 +144,7 @@ numbers_place bytes = flags_place bytes + flag_count bytes + (names_size bytes +
 
 -- where the offsets begin: behind the numbers
 abbrev pub offsets_place : List ℕ → ℕ
-offsets_place bytes = numbers_place bytes + 2 * number_count bytes
+offsets_place bytes = numbers_place bytes + width (format_in bytes) * number_count bytes
 
 -- where the string table begins: behind the offsets
 abbrev pub strings_place : List ℕ → ℕ
@@ -165,7 +162,7 @@ names_section bytes = slice_range bytes 12 (flags_place bytes)
 abbrev pub flags_section : List ℕ → List ℕ
 flags_section bytes = slice_range bytes (flags_place bytes) (flags_place bytes + flag_count bytes)
 
--- the numbers, two bytes each
+-- the numbers, by the width of the format
 abbrev pub numbers_section : List ℕ → List ℕ
 numbers_section bytes = slice_range bytes (numbers_place bytes) (offsets_place bytes)
 
@@ -193,28 +190,28 @@ HasBadNames names =
 abbrev pub HasBadFlag : List ℕ → Type 0
 HasBadFlag flags = (k : ℕ) × (k < length flags) × (2 ≤ slice_index flags k) × (slice_index flags k < 254)
 
--- some 16-bit number of a section
-abbrev pub SomeWord : List ℕ → (ℕ → Type 0) → Type 0
-SomeWord section P = (k : ℕ) × (2 * k + 1 < length section) × P (word_at (2 * k) section)
+-- some number of a section
+abbrev pub SomeNumber : Format → List ℕ → (ℕ → Type 0) → Type 0
+SomeNumber format section P = (k : ℕ) × (k < count_in format section) × P (number_at format (width format * k) section)
 
 -- below -2 as a signed number
-abbrev pub HasBadNumber : List ℕ → Type 0
-HasBadNumber numbers = SomeWord numbers (λ w. (32768 ≤ w) × (w < 65534))
+abbrev pub HasBadNumber : Format → List ℕ → Type 0
+HasBadNumber format numbers = SomeNumber format numbers (λ n. (negative format ≤ n) × (n < cancelled format))
 
 -- Below -2, at or past the table's size, or with no NUL behind it in the table: in each case no NUL
 -- stands at it or after it in the table, whose size is below 32,768.
 abbrev pub HasBadOffset : List ℕ → List ℕ → Type 0
-HasBadOffset offsets strings = SomeWord offsets (λ w. (w < 65534) × ¬ HasEnd strings w)
+HasBadOffset offsets strings = SomeNumber Legacy offsets (λ n. (n < cancelled Legacy) × ¬ HasEnd strings n)
 
 -- what each refusal says of the bytes
 abbrev pub Holds : List ℕ → ReadError → Type 0
 Holds bytes Short = length bytes < 12
-Holds bytes Magic = word_at 0 bytes ≢ 282
+Holds bytes Magic = (word_at 0 bytes ≢ magic Legacy) × (word_at 0 bytes ≢ magic Extended)
 Holds bytes Counts = HasBadCount bytes
 Holds bytes Truncated = length bytes < end_place bytes
 Holds bytes BadNames = HasBadNames (names_section bytes)
 Holds bytes BadFlag = HasBadFlag (flags_section bytes)
-Holds bytes BadNumber = HasBadNumber (numbers_section bytes)
+Holds bytes BadNumber = HasBadNumber (format_in bytes) (numbers_section bytes)
 Holds bytes BadOffset = HasBadOffset (offsets_section bytes) (strings_section bytes)
 
 -- the order in which they are looked for

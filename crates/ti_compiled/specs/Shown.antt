@@ -1,7 +1,8 @@
 -- What a view shows (own): the names of the entry, and what it holds of each capability.
 use Rattle.std.specs.Prelude.{ℕ, Bool, true, false, List, Option, Some, None}
 use Rattle.ti_compiled.specs.declared.view.View.{View}
-use Rattle.ti_compiled.specs.Reading.{contents_of}
+use Rattle.ti_compiled.specs.declared.layout.Format.TheVariants.{Legacy}
+use Rattle.ti_compiled.specs.Reading.{contents_of, numbers_in}
 use Rattle.ti_compiled.specs.Values.{Content, content_true, content_number, content_text, Contents}
 
 -- the names field, without its NUL
@@ -10,7 +11,7 @@ names_of v = v.names.now
 
 -- what it holds
 abbrev pub held : View → Contents
-held v = contents_of v.flags.now v.numbers.now v.offsets.now v.strings.now
+held v = contents_of v.format v.flags.now (numbers_in v.format v.numbers.now) (numbers_in Legacy v.offsets.now) v.strings.now
 
 -- whether a flag is set
 abbrev pub shown_flag : Option Content → Bool

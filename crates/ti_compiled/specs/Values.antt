@@ -30,10 +30,10 @@ content_of Cancelled = content_cancelled
 abbrev pub HasNoNul : List ℕ → Type 0
 HasNoNul text = All (λ byte. byte ≢ 0) text
 
--- the capability may have the content: the kinds agree, a number is at most 32,767, a text has no NUL
+-- the capability may have the content: the kinds agree, a number is at most 2,147,483,647, a text has no NUL
 abbrev pub Agrees : Capability → Content → Type 0
 Agrees c content_true = c.kind ≡ Flag
-Agrees c (content_number n) = (c.kind ≡ Number) × (n ≤ 32767)
+Agrees c (content_number n) = (c.kind ≡ Number) × (n ≤ 2147483647)
 Agrees c (content_text t) = (c.kind ≡ Text) × HasNoNul t
 Agrees c content_cancelled = Unit {0}
 

@@ -6,7 +6,7 @@ pub enum ReadError {
     /// Fewer than the twelve bytes of a header.
     #[error("Short")]
     Short,
-    /// The first number is not 0x011A.
+    /// The first number is neither 0x011A nor 0x021E.
     #[error("Magic")]
     Magic,
     /// A size or a count is negative, or a count is over the capabilities of its kind.

@@ -1,5 +1,5 @@
 // Laws of the definitions that the calls of this crate stand on. They compute nothing.
-ghost use Rattle.ti_compiled.specs.Laws.{ImagesAreRead};
+ghost use Rattle.ti_compiled.specs.Laws.{ImagesAreOfValues, ImagesAreRead, LimitsAreOfValues};
 ghost use Rattle.ti_compiled.specs.Reading.{OneReading};
 
 /// Bytes are an entry in one way at most, are refused in one way at most, and never both; so what
@@ -12,4 +12,11 @@ pub fn one_reading()
 /// what was written of each capability, a cancelled value being absent.
 pub fn images_are_read()
     ensures { ImagesAreRead }
+{}
+
+/// An image and its limit depend on the values of the capabilities alone: an absent value and a
+/// cancelled one are written alike.
+pub fn images_are_of_values()
+    ensures images { ImagesAreOfValues }
+    ensures limits { LimitsAreOfValues }
 {}

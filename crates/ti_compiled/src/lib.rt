@@ -1,6 +1,8 @@
 //! Compiled terminfo entries, as term(5) lays them out.
 //!
 //! - `values`: the values of an entry, a finite map from capabilities
+//! - `merging`: two such maps made one, where the first decides
+//! - `layout`: the two formats, and the numbers of a header
 //! - `writing`: an entry written from its names and values
 //! - `view`: an entry read where it lies, each name and value a slice of the caller's bytes
 //! - `sections`: the sections of an entry, cut by its header and each looked through once
@@ -10,13 +12,15 @@
 
 mod fault;
 mod laws;
+mod layout;
+mod merging;
 mod sections;
 mod values;
 mod view;
 mod writing;
 
 pub use fault::ReadError;
-pub use laws::{images_are_read, one_reading};
+pub use laws::{images_are_of_values, images_are_read, one_reading};
 pub use values::{Table, Value};
 pub use view::View;
 pub use writing::{WriteError, write};

@@ -1,19 +1,17 @@
 // The sections of a compiled entry: cut by the header's numbers, and each looked through once.
 ghost use Rattle.std.specs.Prelude.{◌≡◌, ◌≢◌, ℕ, ◌+◌, ◌*◌, ◌<◌, ◌≤◌, length, slice_index, IsTrue, MatchBool, IfOk, IfErr};
-ghost use Rattle.ti_compiled.specs.Reading.{word_at, Refused, HasEnd, EachWord, IsPlain, IsVoid, IsFlagByte, HasBadNames, HasBadFlag, HasBadNumber, HasBadOffset};
+ghost use Rattle.ti_compiled.specs.Layout as layout;
+ghost use Rattle.ti_compiled.specs.Reading.{word_at, number_at, Refused, HasBadNames, HasBadFlag, HasBadNumber, HasBadOffset};
 ghost use Rattle.ti_compiled.specs.Cutting.{HasHeader, IsCut, AreNames, AreFlags, AreNumbers, AreOffsets};
 
 use crate::fault::ReadError;
+use crate::layout::{Format, HEADER_SIZE, Header};
 use byteorder::{ByteOrder, LittleEndian};
 use memchr::{memchr, memrchr};
 
-/// The bytes of a header.
-const HEADER_SIZE: usize = 12;
-/// 0432 octal, as term(5) has it.
-const MAGIC: usize = 0x011a;
-/// The first number that is negative as a signed number of 16 bits.
+/// The first size or offset that is negative as a signed number of 16 bits.
 const NEGATIVE: usize = 0x8000;
-/// -2, a cancelled value; -1 is an absent one.
+/// -2, a cancelled offset; -1 is an absent one.
 const CANCELLED: usize = 0xfffe;
 
 const FLAGS_MAX: usize = 44;
@@ -22,19 +20,10 @@ const NUMBERS_MAX: usize = 39;
 
 const TEXTS_MAX: usize = 414;
 
-/// The sizes that a header names.
-#[derive(Clone, Copy)]
-struct Sizes {
-    names: usize,
-    flags: usize,
-    numbers: usize,
-    texts: usize,
-    strings: usize,
-}
-
 /// The sections of an entry, as they lie in its bytes; the names with their NUL.
 #[derive(Clone, Copy)]
 pub struct Sections<'a> {
+    pub format: Format,
     pub names: &'a [u8],
     pub flags: &'a [u8],
     pub numbers: &'a [u8],
@@ -51,33 +40,49 @@ pub fn word(bytes: &[u8], at: usize) -> usize
     LittleEndian::read_u16(&bytes[at..]) as usize
 }
 
+/// The number of a format that stands at a place, its low byte first.
+pub fn number(bytes: &[u8], at: usize, format: Format) -> u32
+    requires { at + layout.width format ≤ length bytes.now }
+    ensures value { result ≡ number_at format at bytes.now }
+    ensures fits { result ≤ layout.absent format }
+{
+    let rest = &bytes[at..];
+    match format {
+        Format::Legacy => u32::from(LittleEndian::read_u16(rest)),
+        Format::Extended => LittleEndian::read_u32(rest),
+    }
+}
+
 /// The header's numbers, or the first of Short, Magic and Counts that holds.
-fn header(bytes: &[u8]) -> Result<Sizes, ReadError>
-    ensures found { IfOk result (λ sizes. HasHeader bytes.now sizes) }
+fn read_header(bytes: &[u8]) -> Result<Header, ReadError>
+    ensures found { IfOk result (λ h. HasHeader bytes.now h) }
     ensures refused { IfErr result (λ e. Refused bytes.now e) }
 {
     if bytes.len() < HEADER_SIZE {
         return Err(ReadError::Short);
     }
-    if word(bytes, 0) != MAGIC {
-        return Err(ReadError::Magic);
-    }
-    let sizes = Sizes {
+    let format = match word(bytes, 0) {
+        0o432 => Format::Legacy,
+        0o1036 => Format::Extended,
+        _ => return Err(ReadError::Magic),
+    };
+    let header = Header {
+        format,
         names: word(bytes, 2),
         flags: word(bytes, 4),
         numbers: word(bytes, 6),
         texts: word(bytes, 8),
         strings: word(bytes, 10),
     };
-    if sizes.names >= NEGATIVE
-        || sizes.flags > FLAGS_MAX
-        || sizes.numbers > NUMBERS_MAX
-        || sizes.texts > TEXTS_MAX
-        || sizes.strings >= NEGATIVE
+    if header.names >= NEGATIVE
+        || header.flags > FLAGS_MAX
+        || header.numbers > NUMBERS_MAX
+        || header.texts > TEXTS_MAX
+        || header.strings >= NEGATIVE
     {
         return Err(ReadError::Counts);
     }
-    Ok(sizes)
+    Ok(header)
 }
 
 /// The sections, or the first of Short, Magic, Counts and Truncated that holds.
@@ -85,19 +90,20 @@ pub fn cut(bytes: &[u8]) -> Result<Sections<'_>, ReadError>
     ensures found { IfOk result (λ s. IsCut bytes.now s) }
     ensures refused { IfErr result (λ e. Refused bytes.now e) }
 {
-    let sizes = header(bytes)?;
-    let flags = HEADER_SIZE + sizes.names;
-    let gap = (sizes.names + sizes.flags) % 2;
-    let numbers = flags + sizes.flags + gap;
-    let offsets = numbers + 2 * sizes.numbers;
-    let strings = offsets + 2 * sizes.texts;
-    let end = strings + sizes.strings;
+    let header = read_header(bytes)?;
+    let end = header.size();
     if bytes.len() < end {
         return Err(ReadError::Truncated);
     }
+    let flags = HEADER_SIZE + header.names;
+    let gap = (header.names + header.flags) % 2;
+    let numbers = flags + header.flags + gap;
+    let offsets = numbers + header.format.width() * header.numbers;
+    let strings = offsets + 2 * header.texts;
     Ok(Sections {
+        format: header.format,
         names: &bytes[HEADER_SIZE..flags],
-        flags: &bytes[flags..flags + sizes.flags],
+        flags: &bytes[flags..flags + header.flags],
         numbers: &bytes[numbers..offsets],
         offsets: &bytes[offsets..strings],
         strings: &bytes[strings..end],
@@ -122,12 +128,13 @@ pub fn are_flags(flags: &[u8]) -> bool
     true
 }
 
-pub fn are_numbers(numbers: &[u8]) -> bool
-    ensures { MatchBool result (AreNumbers numbers.now) (HasBadNumber numbers.now) }
+pub fn are_numbers(numbers: &[u8], format: Format) -> bool
+    ensures { MatchBool result (AreNumbers format numbers.now) (HasBadNumber format numbers.now) }
 {
-    for index in 0..numbers.len() / 2 {
-        let number = word(numbers, 2 * index);
-        if number >= NEGATIVE && number < CANCELLED {
+    let width = format.width();
+    for index in 0..numbers.len() / width {
+        let number = number(numbers, width * index, format);
+        if number >= format.negative() && number < format.cancelled() {
             return false;
         }
     }

@@ -1,8 +1,10 @@
 // The values of an entry, and the table that holds them by capability.
 ghost use Rattle.std.specs.Prelude.{◌≡◌, ◌≢◌, Option, Some, None, option_map, OnOk, OnErr, IfOk, IfErr, IfSome, IsNone, IsOk, IsSome, vec_len, length};
+ghost use Rattle.std.specs.Option.{option_or};
 ghost use Rattle.ti_caps.specs.Tables.{Capability, IsCapability};
 ghost use Rattle.ti_compiled.specs.Values.{contents, content_of, entries_of, rank_of, Agrees, AgreesIfSome, IsAt, IsGapFor, IsKept, SetsOnly};
 
+use crate::merging::merge;
 use std::alloc::{AllocError, Global};
 use std::marker::Model;
 use std::rc::RcSlice;
@@ -13,7 +15,7 @@ use ti_caps::{Cap, Kind, count};
 pub enum Value {
     /// A flag that is there.
     True,
-    /// A number, at most 32,767.
+    /// A number, at most 2,147,483,647.
     Number(u32),
     /// A text without NUL.
     Text(RcSlice<u8>),
@@ -58,7 +60,7 @@ impl Table {
     }
 
     /// Gives a capability a value, or with `None` takes its value away, and leaves every other one.
-    /// The kinds agree, a number is at most 32,767 and a text holds no NUL. Where memory is short the
+    /// The kinds agree, a number is at most 2,147,483,647 and a text holds no NUL. Where memory is short the
     /// table stays as it was and the value is dropped.
     pub fn set(&mut self, cap: Cap, value: Option<Value>) -> Result<(), AllocError>
         requires { AgreesIfSome cap (option_map content_of value) }
@@ -80,8 +82,30 @@ impl Table {
     }
 }
 
+impl Table {
+    /// Gives each capability that has no value the value that it has in the other table, its text
+    /// shared: what the table has decides, a cancelled value too. One walk over both. Where memory is
+    /// short the table stays as it was.
+    pub fn merge(&mut self, other: &Table) -> Result<(), AllocError>
+        ensures merged { OnOk result ((c : Capability) → contents self.new c ≡ option_or (contents self.old c) (contents other.now c)) }
+        ensures err { OnErr result (self.new ≡ self.old) }
+    {
+        let merged = merge(*self.entries.allocator(), &self.entries, &other.entries)?;
+        self.entries = merged;
+        Ok(())
+    }
+
+    // The capabilities that have a value, with it, in the order of the compiled entry.
+    pub(crate) fn entries(&self) -> &[(Cap, Value)]
+        ensures entries { entries_of result.now ≡ self.now }
+        ensures kept { IsKept (entries_of result.now) }
+    {
+        &self.entries
+    }
+}
+
 // The place of a capability among all, in the order of the compiled entry.
-fn rank(cap: Cap) -> usize
+pub(crate) fn rank(cap: Cap) -> usize
     ensures value { result ≡ rank_of cap }
     ensures valid { IsCapability cap }
 {

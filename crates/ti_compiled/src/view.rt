@@ -7,11 +7,12 @@ ghost use Rattle.ti_compiled.specs.Reading.{Reads, Refused};
 ghost use Rattle.ti_compiled.specs.Sound.{OffsetsEnd};
 
 use crate::fault::ReadError;
-use crate::sections::{are_flags, are_names, are_numbers, are_offsets, cut, word};
+use crate::layout::Format;
+use crate::sections::{are_flags, are_names, are_numbers, are_offsets, cut, number, word};
 use memchr::memchr;
 use ti_caps::Cap;
 
-/// The first number that is negative as a signed number of 16 bits.
+/// The first offset that is negative as a signed number of 16 bits.
 const NEGATIVE: usize = 0x8000;
 
 /// A compiled entry of term(5), read where it lies. It holds slices of the bytes that it was read
@@ -19,6 +20,7 @@ const NEGATIVE: usize = 0x8000;
 /// capability has.
 #[derive(Clone, Copy)]
 pub struct View<'a> {
+    format: Format,
     names: &'a [u8],
     flags: &'a [u8],
     numbers: &'a [u8],
@@ -49,13 +51,14 @@ impl<'a> View<'a> {
         if !are_flags(sections.flags) {
             return Err(ReadError::BadFlag);
         }
-        if !are_numbers(sections.numbers) {
+        if !are_numbers(sections.numbers, sections.format) {
             return Err(ReadError::BadNumber);
         }
         if !are_offsets(sections.offsets, sections.strings) {
             return Err(ReadError::BadOffset);
         }
         Ok(View {
+            format: sections.format,
             names: &sections.names[..sections.names.len() - 1],
             flags: sections.flags,
             numbers: sections.numbers,
@@ -94,13 +97,13 @@ impl<'a> View<'a> {
         requires { cap.kind ≡ Number }
         ensures { result ≡ shown_number (held self.now cap) }
     {
-        let at = 2 * cap.index();
-        if at + 1 >= self.numbers.len() {
+        let width = self.format.width();
+        if cap.index() >= self.numbers.len() / width {
             return None;
         }
-        let number = word(self.numbers, at);
-        if number < NEGATIVE {
-            Some(number as u32)
+        let number = number(self.numbers, width * cap.index(), self.format);
+        if number < self.format.negative() {
+            Some(number)
         } else {
             None
         }
@@ -111,11 +114,10 @@ impl<'a> View<'a> {
         requires { cap.kind ≡ Text }
         ensures { option_copied result ≡ shown_text (held self.now cap) }
     {
-        let at = 2 * cap.index();
-        if at + 1 >= self.offsets.len() {
+        if cap.index() >= self.offsets.len() / 2 {
             return None;
         }
-        let offset = word(self.offsets, at);
+        let offset = word(self.offsets, 2 * cap.index());
         if offset >= NEGATIVE {
             return None;
         }

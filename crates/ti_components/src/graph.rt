@@ -35,7 +35,7 @@ impl Graph {
     }
 
     /// The number of nodes.
-    pub fn len(&self) -> usize
+    pub fn node_count(&self) -> usize
         ensures { result ≡ length self.now }
     {
         self.starts.len()
@@ -73,8 +73,8 @@ impl Graph {
     pub fn is_whole(&self) -> bool
         ensures { IsTrue result ↔ IsGraph self.now }
     {
-        for node in 0..self.len() {
-            if !is_row_below(self.row(node), self.len()) {
+        for node in 0..self.node_count() {
+            if !is_row_below(self.row(node), self.node_count()) {
                 return false;
             }
         }

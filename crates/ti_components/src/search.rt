@@ -184,7 +184,7 @@ pub(crate) fn search_graph(alloc: Global, graph: &Graph) -> Result<Search, Alloc
     requires { IsGraph graph.now }
     ensures { IfOk result (λ search. IsSearched graph.now search) }
 {
-    let nodes = graph.len();
+    let nodes = graph.node_count();
     let mut search = Search::new(alloc, nodes)?;
     for root in 0..nodes {
         if let Progress::Unseen = search.progress[root] {

@@ -4,6 +4,7 @@ pub mod Counted
 pub mod LineReader
 pub mod Lines
 pub mod MemoryTree
+pub mod Paths
 pub mod Placing
 pub mod Reading
 pub mod Tree

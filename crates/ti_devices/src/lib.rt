@@ -8,6 +8,7 @@
 //! - `buffer`: bytes with a limit, for which the room was made at the start
 //! - `line_reader`: lines read one at a time, with a limit on their length and on the reads; `read_ahead`
 //!   holds what was read and not used yet. `line_laws`: bytes are cut into lines in one way alone
+//! - `paths`: where the entries of terminals stand below a folder
 //! - `tree`: what a tree of files is; `memory_tree` is one in memory, and `placing` writes files into a tree
 #![tactic(auto)]
 
@@ -16,6 +17,7 @@ pub mod counted;
 pub mod line_laws;
 pub mod line_reader;
 pub mod memory_tree;
+pub mod paths;
 pub mod placing;
 mod read_ahead;
 pub mod reading;
@@ -29,6 +31,7 @@ pub use counted::Counted;
 pub use line_laws::one_split;
 pub use line_reader::{LineReader, Next};
 pub use memory_tree::MemTree;
+pub use paths::entry_path;
 pub use placing::{File, place};
 pub use reading::read_piece;
 pub use tally::Tally;

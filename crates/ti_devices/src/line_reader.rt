@@ -22,7 +22,7 @@ pub enum Next {
     Line,
     /// A last line without newline. It has a byte.
     LastLine,
-    /// No line: the input has with_newline.
+    /// No line: the input has ended.
     End,
 }
 

@@ -1,4 +1,4 @@
--- The owner of a name that lies on a ring does not resolve.
+-- The owner of a name that leads back to its user does not resolve.
 use Rattle.std.proofs.Common.{◌≡◌, ℕ, zero, suc, ◌+◌, ◌<◌, ◌≤◌, inl, inr, Bool, true, false, cond, List, [], ◌∷◌, length, Option, Some, None, option_and_then, slice_get, sym, ◌∙◌, arith}
 use Rattle.std.proofs.lemmas.Bool.{cases_Bool}
 use Rattle.std.proofs.lemmas.Option.{none-some}
@@ -41,7 +41,7 @@ along env (x ∷ way) k name to d w =
     let z : suc (length way) + k ≡ suc (length way + k) = omega arith in
     along env way k x to (step_down env (length way + k) name x w.0.0 (rw z at d) w.0.1 w.0.2) w.1
 
--- so many times the length of a ring
+-- so many times the length of a way that leads back
 times : ℕ → ℕ → ℕ
 times zero l = 0
 times (suc j) l = l + times j l
@@ -66,18 +66,18 @@ module _ (env : List ℕ → Option Reading) (name to : List ℕ) (way : List (L
   descend zero d = never_shallow env name d
   descend (suc j) d = descend j (around (times j (suc (length way))) d)
 
-  pub no_ring : (k : ℕ) → IsDeep env k name → ⊥
-  no_ring k d =
+  pub not_circular : (k : ℕ) → IsDeep env k name → ⊥
+  not_circular k d =
       let deep = times-le k (suc (length way)) (omega arith) in
       descend k (d.0, names_at-le env k (times k (suc (length way))) deep name d.0 d.1)
 
--- a use whose owner resolves lies on no ring
-pub resolved_no_ring : (bs : List Reading) (at : ℕ) (b c : Reading) (name : List ℕ) (ms : List Mention) → slice_get bs at ≡ Some b → Uses b.items name → owned bs name ≡ Some c → expansion bs c ≡ Some ms → leads_to bs name at ≡ false
-resolved_no_ring bs at b c name ms s u o x =
+-- a use whose owner resolves does not lead back
+pub resolved_not_circular : (bs : List Reading) (at : ℕ) (b c : Reading) (name : List ℕ) (ms : List Mention) → slice_get bs at ≡ Some b → Uses b.items name → owned bs name ≡ Some c → expansion bs c ≡ Some ms → leads_to bs name at ≡ false
+resolved_not_circular bs at b c name ms s u o x =
     elim (cases_Bool (leads_to bs name at)) [
       | inr missing ↦ missing
       | inl reached ↦
           let w = leads_to-LeadsTo bs name at reached in
           let deep : names_at (owned bs) (suc (length bs)) name ≡ Some ms = rw o x in
-          absurd (no_ring (owned bs) name w.1 w.0 b w.2 (owner_to_owned bs w.1 at b w.3 s) u (suc (length bs)) (ms, deep))
+          absurd (not_circular (owned bs) name w.1 w.0 b w.2 (owner_to_owned bs w.1 at b w.3 s) u (suc (length bs)) (ms, deep))
     ]

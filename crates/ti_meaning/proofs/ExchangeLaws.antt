@@ -5,14 +5,17 @@ use Rattle.std.proofs.lemmas.Bool.{or_right}
 use Rattle.std.proofs.lemmas.List.{length-map, map-set}
 use Rattle.std.proofs.lemmas.List.Edits.{length-remove}
 use Rattle.std.proofs.lemmas.List.Elements.{All-from_recursion, All-contains}
-use Rattle.std.proofs.lemmas.Option.{same_Some, none-some, slice_get-map}
+use Rattle.std.proofs.lemmas.Option.{same_Some, slice_get-map}
 use Rattle.ti_source.specs.Reading.{Reading}
 use Rattle.ti_source.specs.Parsing.{parsed}
 use Rattle.ti_source.specs.Sound.{IsRising}
 use Rattle.ti_meaning.specs.Owner.{is_among, owner, owned, readings}
 use Rattle.ti_meaning.specs.Edits.{Change, insertion, replacement, removal, relocation, IsInPlace, after}
 use Rattle.ti_meaning.specs.Exchange.{PlacedBlock, Exchange, IsExchange, with_block, HasPlace, new_list, block_from, exchange_of, LeadsOn, EditsAreExchanges}
-use Rattle.ti_meaning.specs.Dependents.{names_of, touched_names, IsPutAt, DependentsAreDetermined, UsersOfDependentsDepend}
+use Rattle.ti_meaning.specs.Dependents.{names_of, touched_names, IsPutAt, IsDependent, DependentsAreDetermined, UsersOfDependentsDepend, DependentsAreFound, RebuildsAreDetermined, work}
+use Rattle.ti_meaning.specs.Reaching.{Uses, IsWay}
+use Rattle.ti_meaning.specs.UseLaws.{UsesBlock}
+use Rattle.ti_meaning.proofs.UseLawProofs.{has_owner}
 use Rattle.ti_meaning.proofs.EditedLists.{map-insert, map-remove, insert-remove}
 use Rattle.ti_meaning.proofs.Owning.{owner_to_owned}
 use Rattle.ti_meaning.proofs.LawProofs.{first_owners}
@@ -157,3 +160,29 @@ users_depend = λ e at user b name h d own s u.
             (reach.0, reach.1, (name, reach.2.0 ∷ reach.2.1, u, ((c, is, reach.2.2), reach.2.3)))
       ]),
     )
+
+-- ---- all dependents are found
+
+-- what holds of the block put in, of the users of touched names and with each block of its users holds of all dependents
+pub dependent_holds : (e : Exchange) (P : ℕ → Type 0) → ((at : ℕ) → IsPutAt e.put at → P at) → ((user : ℕ) (b : Reading) (name : List ℕ) → slice_get (new_list e) user ≡ Some b → Uses b.items name → is_among name (touched_names e) ≡ true → P user) → ((user at : ℕ) → UsesBlock (new_list e) user at → P at → P user) → (at : ℕ) → IsDependent e at → P at
+dependent_holds e P put touching using at d =
+    elim d.2 [
+      | inl here ↦ put at here
+      | inr reach ↦ along reach.2.1 reach.2.0 reach.0 at d.0 d.1 reach.2.2 reach.2.3 reach.1
+    ]
+  where
+    along : (way : List (List ℕ)) (from to : List ℕ) (user : ℕ) (b : Reading) → slice_get (new_list e) user ≡ Some b → Uses b.items from → IsWay (owned (new_list e)) from way to → is_among to (touched_names e) ≡ true → P user
+    along [] from to user b s u w t = touching user b from s u (ap (λ n. is_among n (touched_names e)) w ∙ t)
+    along (x ∷ way) from to user b s u w t =
+        let own = has_owner (new_list e) from w.0.0 w.0.1 in
+        using user own.0 (b, s, (from, u, own.1)) (along way x to own.0 w.0.0 own.2 w.0.2 w.1 t)
+
+pub found_dependents : DependentsAreFound
+found_dependents = λ e found h at d. dependent_holds e (λ p. Contains found p) h.put h.touching h.using at d
+
+-- ---- what an edit rebuilds is determined
+
+pub one_rebuilt : RebuildsAreDetermined
+one_rebuilt = λ texts change ps qs m n h k.
+    let same : ps ≡ qs = one_answer (exchange_of texts change) ps qs h.dependents k.dependents in
+    (same, h.work ∙ (ap (λ xs. work (readings (after texts change)) xs) same ∙ sym k.work))

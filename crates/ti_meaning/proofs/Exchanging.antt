@@ -1,5 +1,5 @@
--- What an edit leaves of a block that reaches no touched name: its expansion, the owners of what it uses and the circles
--- that it lies on.
+-- What an edit leaves of a block that reaches no touched name: its expansion, the owners of what it uses and which of its
+-- uses are circular.
 use Rattle.std.proofs.Common.{◌≡◌, ℕ, suc, ◌⊎◌, inl, inr, Bool, true, false, ◌||◌, List, [], ◌∷◌, ◌++◌, length, Option, Some, None, option_map, slice_get, refl, sym, ◌∙◌, ap}
 use Rattle.std.specs.Str.{bytes_eq}
 use Rattle.std.proofs.lemmas.Bool.{or_parts}
@@ -75,8 +75,8 @@ module _ (test : List ℕ → Bool) (rest : List Reading) (o p : Option PlacedBl
       (v.1, v.3, (n, v.0, u, v.2))
 
   -- a free name leads to the block at a position in the one list where it does in the other
-  pub circle_in_both : (n : List ℕ) (at : ℕ) → IsFree (owned (with_block rest o)) test n → LeadsTo (with_block rest o) n (shifted o at) → LeadsTo (with_block rest p) n (shifted p at)
-  circle_in_both n at free l =
+  pub circular_in_both : (n : List ℕ) (at : ℕ) → IsFree (owned (with_block rest o)) test n → LeadsTo (with_block rest o) n (shifted o at) → LeadsTo (with_block rest p) n (shifted p at)
+  circular_in_both n at free l =
       let off : test l.1 ≡ false = free l.0 l.1 l.2 in
       let here = owner-with rest o l.1 at_o.place (at_o.off l.1 off) in
       let there = owner-with rest p l.1 at_p.place (at_p.off l.1 off) in (

@@ -17,7 +17,7 @@ use Rattle.ti_meaning.specs.KeptBlocks.{is_no_duplicate, moved_to, lasting_fault
 use Rattle.ti_meaning.proofs.Leading.{leads_to-LeadsTo, LeadsTo-leads_to}
 use Rattle.ti_meaning.proofs.Placing.{owner-with, get-with}
 use Rattle.ti_meaning.proofs.KeptWays.{IsFree}
-use Rattle.ti_meaning.proofs.Exchanging.{IsOff, off_old, off_new, expansion-same, expand_in_both, free_in_both, owned_in_both, reaches_in_both, circle_in_both, owner_says_same}
+use Rattle.ti_meaning.proofs.Exchanging.{IsOff, off_old, off_new, expansion-same, expand_in_both, free_in_both, owned_in_both, reaches_in_both, circular_in_both, owner_says_same}
 
 -- ---- faults of the block at another position
 
@@ -112,8 +112,8 @@ module _ (test : List ℕ → Bool) (rest : List Reading) (o p : Option PlacedBl
       let bs = with_block rest o in
       let cs = with_block rest p in
       let circle : leads_to cs n (shifted p at) ≡ leads_to bs n (shifted o at) = both_true (leads_to cs n (shifted p at)) (leads_to bs n (shifted o at))
-      (λ t. LeadsTo-leads_to bs n (shifted o at) (circle_in_both test rest p o at_p at_o n at (free_in_both test rest o p at_o at_p n free) (leads_to-LeadsTo cs n (shifted p at) t)))
-      (λ t. LeadsTo-leads_to cs n (shifted p at) (circle_in_both test rest o p at_o at_p n at free (leads_to-LeadsTo bs n (shifted o at) t))) in
+      (λ t. LeadsTo-leads_to bs n (shifted o at) (circular_in_both test rest p o at_p at_o n at (free_in_both test rest o p at_o at_p n free) (leads_to-LeadsTo cs n (shifted p at) t)))
+      (λ t. LeadsTo-leads_to cs n (shifted p at) (circular_in_both test rest o p at_o at_p n at free (leads_to-LeadsTo bs n (shifted o at) t))) in
       ap (λ x. fault_between x (leads_to cs n (shifted p at)) (resolves cs)) (owned_in_both test rest o p at_o at_p n free)
       ∙ (ap (λ l. fault_between (owned bs n) l (resolves cs)) circle
       ∙ between-same (owned bs n) (leads_to bs n (shifted o at)) (resolves cs) (resolves bs)
@@ -135,7 +135,8 @@ kept_block = λ e at b h s none.
     let same : expansion (new_list e) b ≡ expansion (old_list e) b = expansion-same (old_list e) (new_list e) (shifted e.out at) (shifted e.put at) b (get-with e.rest e.out at h.out ∙ s) (get-with e.rest e.put at h.put ∙ s) deep in
     let state : state_of (new_list e) b ≡ state_of (old_list e) b = ap (λ x. state_with b x) same in
     record {
-      expansion = deep;
+      at_depth = deep;
+      mentions = same;
       entry = ap (λ x. option_and_then (entry_of b) x) same;
       state = state;
       faults = lasting-moved (old_list e) (new_list e) (shifted e.put at) (shifted e.out at) b (λ n u. use_fault-same test e.rest e.out e.put old new n at (free n u)) state;

@@ -6,10 +6,10 @@ use Rattle.ti_source.specs.Reading.{Reading}
 use Rattle.ti_meaning.specs.Owner.{is_among, owner, owned}
 use Rattle.ti_meaning.specs.Expansion.{Mention, expand, Resolves, expansion}
 use Rattle.ti_meaning.specs.Reaching.{LeadsTo, leads_to}
-use Rattle.ti_meaning.specs.Laws.{IsFirstWith, OwnersAreFirst, ExpansionsStay, ExpansionsAreFound, WaysAreFound, IsUseFault, nobody_owns, on_a_ring, owner_unresolved, owner_resolved, UseFaultsAreTold}
+use Rattle.ti_meaning.specs.Laws.{IsFirstWith, OwnersAreFirst, ExpansionsStay, ExpansionsAreFound, WaysAreFound, IsUseFault, nobody_owns, leads_back, owner_unresolved, owner_resolved, UseFaultsAreTold}
 use Rattle.ti_meaning.proofs.Owning.{nobody, somebody, owning}
 use Rattle.ti_meaning.proofs.Depth.{expand-le, bounded}
-use Rattle.ti_meaning.proofs.UseFaults.{use_fault_missing, use_fault_ring, use_fault_open, use_fault_none}
+use Rattle.ti_meaning.proofs.UseFaults.{use_fault_missing, use_fault_circular, use_fault_open, use_fault_none}
 use Rattle.ti_meaning.proofs.Leading.{leads_to-LeadsTo, LeadsTo-leads_to}
 
 -- ---- owners
@@ -94,7 +94,7 @@ told_faults = λ bs at name.
     elim (owning bs name) [
       | nobody o _ ↦ subst (IsUseFault bs at name) (use_fault_missing bs at name o) (nobody_owns o)
       | somebody q b own ↦ elim (cases_Bool (leads_to bs name at)) [
-        | inl ring ↦ subst (IsUseFault bs at name) (use_fault_ring bs at name b own.is ring) (on_a_ring (leads_to-LeadsTo bs name at ring))
+        | inl ring ↦ subst (IsUseFault bs at name) (use_fault_circular bs at name b own.is ring) (leads_back (leads_to-LeadsTo bs name at ring))
         | inr off ↦ elim (unresolved_or_not (expansion bs b)) [
           | inl none ↦ subst (IsUseFault bs at name) (use_fault_open bs at name b own.is off none)
               (owner_unresolved b own.is (no_way bs name at off) (λ r. none_is_some (expansion bs b) none (is_resolved bs q b own.stands r)))

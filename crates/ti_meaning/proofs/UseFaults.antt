@@ -15,8 +15,8 @@ use Rattle.ti_meaning.proofs.Owning.{nobody, somebody, owning, nobody_to_none}
 pub use_fault_missing : (bs : List Reading) (at : ℕ) (name : List ℕ) → owner bs name ≡ None → ◌≡◌ {A = Option Code} (Some MissingUse) (use_fault bs at name)
 use_fault_missing bs at name o = rw (nobody_to_none bs name o) refl
 
-ring_between : (o : Option Reading) (l : Bool) (does_resolve : Reading → Bool) (b : Reading) → o ≡ Some b → l ≡ true → ◌≡◌ {A = Option Code} (Some Circular) (fault_between o l does_resolve)
-ring_between o l does_resolve b e f = rw (e, f) refl
+circular_between : (o : Option Reading) (l : Bool) (does_resolve : Reading → Bool) (b : Reading) → o ≡ Some b → l ≡ true → ◌≡◌ {A = Option Code} (Some Circular) (fault_between o l does_resolve)
+circular_between o l does_resolve b e f = rw (e, f) refl
 
 open_between : (o : Option Reading) (l : Bool) (does_resolve : Reading → Bool) (b : Reading) → o ≡ Some b → l ≡ false → does_resolve b ≡ false → ◌≡◌ {A = Option Code} (Some Unresolved) (fault_between o l does_resolve)
 open_between o l does_resolve b e f g = rw (e, f, g) refl
@@ -24,8 +24,8 @@ open_between o l does_resolve b e f g = rw (e, f, g) refl
 none_between : (o : Option Reading) (l : Bool) (does_resolve : Reading → Bool) (b : Reading) → o ≡ Some b → l ≡ false → does_resolve b ≡ true → ◌≡◌ {A = Option Code} None (fault_between o l does_resolve)
 none_between o l does_resolve b e f g = rw (e, f, g) refl
 
-pub use_fault_ring : (bs : List Reading) (at : ℕ) (name : List ℕ) (b : Reading) → owned bs name ≡ Some b → leads_to bs name at ≡ true → ◌≡◌ {A = Option Code} (Some Circular) (use_fault bs at name)
-use_fault_ring bs at name b o l = ring_between (owned bs name) (leads_to bs name at) (resolves bs) b o l
+pub use_fault_circular : (bs : List Reading) (at : ℕ) (name : List ℕ) (b : Reading) → owned bs name ≡ Some b → leads_to bs name at ≡ true → ◌≡◌ {A = Option Code} (Some Circular) (use_fault bs at name)
+use_fault_circular bs at name b o l = circular_between (owned bs name) (leads_to bs name at) (resolves bs) b o l
 
 pub use_fault_open : (bs : List Reading) (at : ℕ) (name : List ℕ) (b : Reading) → owned bs name ≡ Some b → leads_to bs name at ≡ false → expansion bs b ≡ None → ◌≡◌ {A = Option Code} (Some Unresolved) (use_fault bs at name)
 use_fault_open bs at name b o l x = open_between (owned bs name) (leads_to bs name at) (resolves bs) b o l (ap (λ e. is_some e) x)

@@ -9,11 +9,11 @@ use Rattle.ti_meaning.specs.Expansion.{Mention, is_broken, joined, mentions_of, 
 use Rattle.ti_meaning.specs.Reaching.{used_name, Uses, IsWay, LeadsTo, leads_to}
 use Rattle.ti_meaning.specs.Faults.{fault_between, use_fault}
 use Rattle.ti_meaning.specs.ValueTables.{names_at}
-use Rattle.ti_meaning.specs.UseLaws.{OwnerReaches, LeadingIsReaching, UsesBlock, IsWalk, Walks, LeadingIsWalking, AreFound, IsGraphOf, AreComponents, HasEdge, HaveOneNumber, CirclesAreComponents, UnresolvedBlocksHaveACause}
+use Rattle.ti_meaning.specs.UseLaws.{OwnerReaches, LeadingIsReaching, UsesBlock, IsWalk, Walks, LeadingIsWalking, AreFound, IsGraphOf, AreComponents, HasEdge, HaveOneNumber, CircularUsesShareAComponent, UnresolvedBlocksHaveACause}
 use Rattle.ti_meaning.proofs.Owning.{nobody, somebody, owning, owner_to_owned}
 use Rattle.ti_meaning.proofs.Depth.{bounded}
 use Rattle.ti_meaning.proofs.Leading.{leads_to-LeadsTo}
-use Rattle.ti_meaning.proofs.Acyclic.{used_is_there, if_there, no_ring}
+use Rattle.ti_meaning.proofs.Acyclic.{used_is_there, if_there, not_circular}
 
 -- ---- leading is reaching
 
@@ -31,7 +31,7 @@ leading_reaches = λ bs name at. (
 
 -- ---- leading is walking
 
-has_owner : (bs : List Reading) (name : List ℕ) (b : Reading) → owned bs name ≡ Some b → (q : ℕ) × (owner bs name ≡ Some q) × (slice_get bs q ≡ Some b)
+pub has_owner : (bs : List Reading) (name : List ℕ) (b : Reading) → owned bs name ≡ Some b → (q : ℕ) × (owner bs name ≡ Some q) × (slice_get bs q ≡ Some b)
 has_owner bs name b e =
     elim (owning bs name) [
       | nobody _ d ↦ absurd (none-some b (sym d ∙ e))
@@ -55,7 +55,7 @@ lead_of bs at (next ∷ way) from name o w =
 pub leading_walks : LeadingIsWalking
 leading_walks = λ bs name at. (λ l. walk_of bs at l.0 name l.1 l.2 l.3, λ w. lead_of bs at w.2.0 w.0 name w.1 w.2.1)
 
--- ---- circles are components
+-- ---- circular uses share a component
 
 -- whoever walks to a block that was found was found, and walks to it along the edges
 found_walk : (bs : List Reading) (found : List ℕ) (Edge : ℕ → ℕ → Type 0) → AreFound bs found → IsGraphOf bs found Edge → (way : List ℕ) (from i at : ℕ) → slice_get found i ≡ Some at → IsWalk (UsesBlock bs) from way at → (j : ℕ) × (slice_get found j ≡ Some from) × Walks Edge j i
@@ -76,23 +76,23 @@ block_walk bs found Edge g (k ∷ way) j i from at s t w =
     (edge.1 ∷ rest.0, (uses, rest.1))
 
 -- over any edges and any relation of being of one component
-pub circle_component : (bs : List Reading) (found : List ℕ) (Edge Same : ℕ → ℕ → Type 0) → AreFound bs found → IsGraphOf bs found Edge → AreComponents (length found) Edge Same → (i at : ℕ) (b : Reading) (name : List ℕ) → slice_get found i ≡ Some at → slice_get bs at ≡ Some b → Uses b.items name → LeadsTo bs name at → (j : ℕ) × (used : ℕ) × (owner bs name ≡ Some used) × (slice_get found j ≡ Some used) × Same i j
-circle_component bs found Edge Same f g c i at b name s t u l =
+pub circular_component : (bs : List Reading) (found : List ℕ) (Edge Same : ℕ → ℕ → Type 0) → AreFound bs found → IsGraphOf bs found Edge → AreComponents (length found) Edge Same → (i at : ℕ) (b : Reading) (name : List ℕ) → slice_get found i ≡ Some at → slice_get bs at ≡ Some b → Uses b.items name → LeadsTo bs name at → (j : ℕ) × (used : ℕ) × (owner bs name ≡ Some used) × (slice_get found j ≡ Some used) × Same i j
+circular_component bs found Edge Same f g c i at b name s t u l =
     let w = walk_of bs at l.0 name l.1 l.2 l.3 in
     let j = found_walk bs found Edge f g w.2.0 w.0 i at s w.2.1 in
     let edge : Edge i j.0 = (g i j.0).1 (at, w.0, s, j.1, (b, t, (name, u, w.1))) in
     (j.0, w.0, w.1, j.1, (c i j.0 (slice_get_within found i at s) (slice_get_within found j.0 w.0 j.1)).1 ((j.0 ∷ [], (edge, refl)), j.2))
 
-pub component_circle : (bs : List Reading) (found : List ℕ) (Edge Same : ℕ → ℕ → Type 0) → IsGraphOf bs found Edge → AreComponents (length found) Edge Same → (i at j used : ℕ) (name : List ℕ) → slice_get found i ≡ Some at → owner bs name ≡ Some used → slice_get found j ≡ Some used → Same i j → LeadsTo bs name at
-component_circle bs found Edge Same g c i at j used name s o t same =
+pub component_circular : (bs : List Reading) (found : List ℕ) (Edge Same : ℕ → ℕ → Type 0) → IsGraphOf bs found Edge → AreComponents (length found) Edge Same → (i at j used : ℕ) (name : List ℕ) → slice_get found i ≡ Some at → owner bs name ≡ Some used → slice_get found j ≡ Some used → Same i j → LeadsTo bs name at
+component_circular bs found Edge Same g c i at j used name s o t same =
     let back = ((c i j (slice_get_within found i at s) (slice_get_within found j used t)).0 same).1 in
     let walk = block_walk bs found Edge g back.0 j i used at t s back.1 in
     lead_of bs at walk.0 used name o walk.1
 
-pub circles_components : CirclesAreComponents
-circles_components = λ bs found graph numbers f g c i at b name s t u. (
-  λ l. circle_component bs found (HasEdge graph) (HaveOneNumber numbers) f g c i at b name s t u l,
-  λ w. component_circle bs found (HasEdge graph) (HaveOneNumber numbers) g c i at w.0 w.1 name s w.2 w.3 w.4,
+pub circular_components : CircularUsesShareAComponent
+circular_components = λ bs found graph numbers f g c i at b name s t u. (
+  λ l. circular_component bs found (HasEdge graph) (HaveOneNumber numbers) f g c i at b name s t u l,
+  λ w. component_circular bs found (HasEdge graph) (HaveOneNumber numbers) g c i at w.0 w.1 name s w.2 w.3 w.4,
 )
 
 -- ---- why a block does not resolve
@@ -122,7 +122,7 @@ never_circular bs at b name s u l =
       | inl none ↦ none
       | inr some ↦
           let w = use_expands bs (length bs) b some.0 name some.1 u in
-          absurd (no_ring (owned bs) name l.1 l.0 b l.2 (owner_to_owned bs l.1 at b l.3 s) u (length bs) w)
+          absurd (not_circular (owned bs) name l.1 l.0 b l.2 (owner_to_owned bs l.1 at b l.3 s) u (length bs) w)
     ]
 
 -- the owner does not resolve: no depth expands the block

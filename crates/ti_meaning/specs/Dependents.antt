@@ -3,10 +3,12 @@
 use Rattle.std.specs.Prelude.{ℕ, ◌≡◌, ◌⊎◌, ◌↔◌, List, [], ◌++◌, length, Option, Some, None, IsTrue, slice_get, Contains, sum_by, if◌then◌else◌}
 use Rattle.ti_source.specs.Reading.{Reading}
 use Rattle.ti_source.specs.Sound.{IsRising}
-use Rattle.ti_meaning.specs.Owner.{is_among, owner, owned}
+use Rattle.ti_meaning.specs.Owner.{is_among, owner, owned, readings}
 use Rattle.ti_meaning.specs.Expansion.{resolves}
 use Rattle.ti_meaning.specs.Reaching.{Uses, Reaches}
-use Rattle.ti_meaning.specs.Exchange.{PlacedBlock, Exchange, IsExchange, new_list}
+use Rattle.ti_meaning.specs.Edits.{Change, after}
+use Rattle.ti_meaning.specs.Exchange.{PlacedBlock, Exchange, IsExchange, new_list, exchange_of}
+use Rattle.ti_meaning.specs.UseLaws.{UsesBlock}
 
 -- the lookup names of a block, if there is one
 abbrev pub names_of : Option PlacedBlock → List (List ℕ)
@@ -56,3 +58,29 @@ UsersOfDependentsDepend =
     (exchange : Exchange) (at user : ℕ) (block : Reading) (name : List ℕ) → IsExchange exchange
     → IsDependent exchange at → owner (new_list exchange) name ≡ Some at
     → slice_get (new_list exchange) user ≡ Some block → Uses block.items name → IsDependent exchange user
+
+-- ---- how dependents are found
+
+-- among these positions are that of the block put in, those of the users of touched names, and with each block its users
+pub record AreClosed (exchange : Exchange) (found : List ℕ) : Type 0 where
+  pub put : (at : ℕ) → IsPutAt exchange.put at → Contains found at
+  pub touching : (user : ℕ) (block : Reading) (name : List ℕ) → slice_get (new_list exchange) user ≡ Some block → Uses block.items name → IsTrue (is_among name (touched_names exchange)) → Contains found user
+  pub using : (user at : ℕ) → UsesBlock (new_list exchange) user at → Contains found at → Contains found user
+
+-- where they are, all dependents are among them
+abbrev pub DependentsAreFound : Type 0
+DependentsAreFound = (exchange : Exchange) (found : List ℕ) → AreClosed exchange found → (at : ℕ) → IsDependent exchange at → Contains found at
+
+-- ---- what an accepted edit rebuilds
+
+-- an edit of a source, given by the texts of its blocks, rebuilds the blocks at these positions of the new list, and that
+-- is its work
+pub record Rebuilds (texts : List (List ℕ)) (change : Change) (places : List ℕ) (steps : ℕ) : Type 0 where
+  pub dependents : AreDependents (exchange_of texts change) places
+  pub work : steps ≡ work (readings (after texts change)) places
+
+-- an edit has one answer
+abbrev pub RebuildsAreDetermined : Type 0
+RebuildsAreDetermined =
+    (texts : List (List ℕ)) (change : Change) (one other : List ℕ) (steps others : ℕ)
+    → Rebuilds texts change one steps → Rebuilds texts change other others → (one ≡ other) × (steps ≡ others)

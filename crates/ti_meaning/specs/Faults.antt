@@ -24,8 +24,8 @@ pub record SourceFault : Type 0 where
 abbrev pub fault_seen : Fault → SourceFault
 fault_seen fault = record { block = fault.block; line = fault.line; code = fault.code; detail = option_map rc_slice_items fault.detail }
 
--- what is wrong with a use whose name belongs to this block, if it belongs to one: nobody owns the name; it lies on a
--- ring; or the owner does not resolve
+-- what is wrong with a use whose name belongs to this block, if it belongs to one: nobody owns the name; it leads
+-- back to its user; or the owner does not resolve
 abbrev pub fault_between : Option Reading → Bool → (Reading → Bool) → Option Code
 fault_between None _ _ = Some MissingUse
 fault_between (Some block) true _ = Some Circular

@@ -39,7 +39,7 @@ WaysAreFound = (blocks : List Reading) (from : List ℕ) (at : ℕ) → IsTrue (
 -- is that block or reaches a name that it owns; the owner does not resolve; nothing
 pub data IsUseFault (blocks : List Reading) (at : ℕ) (name : List ℕ) : Option Code → Type 0 where
   nobody_owns : owner blocks name ≡ None → IsUseFault blocks at name (Some MissingUse)
-  on_a_ring : LeadsTo blocks name at → IsUseFault blocks at name (Some Circular)
+  leads_back : LeadsTo blocks name at → IsUseFault blocks at name (Some Circular)
   owner_unresolved : (block : Reading) → owned blocks name ≡ Some block → (LeadsTo blocks name at → ⊥) → (Resolves (owned blocks) block → ⊥) → IsUseFault blocks at name (Some Unresolved)
   owner_resolved : (block : Reading) → owned blocks name ≡ Some block → (LeadsTo blocks name at → ⊥) → Resolves (owned blocks) block → IsUseFault blocks at name None
 

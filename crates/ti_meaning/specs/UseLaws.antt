@@ -37,7 +37,7 @@ Walks Edge from to = (way : List ℕ) × IsWalk Edge from way to
 abbrev pub LeadingIsWalking : Type 0
 LeadingIsWalking = (blocks : List Reading) (name : List ℕ) (at : ℕ) → LeadsTo blocks name at ↔ ((from : ℕ) × (owner blocks name ≡ Some from) × Walks (UsesBlock blocks) from at)
 
--- ---- circles among blocks that were found
+-- ---- circular uses among blocks that were found
 
 -- with each block that was found, by its position, those that use it were found
 abbrev pub AreFound : List Reading → List ℕ → Type 0
@@ -63,8 +63,8 @@ abbrev pub HaveOneNumber : List ℕ → ℕ → ℕ → Type 0
 HaveOneNumber numbers i j = (number : ℕ) × (slice_get numbers i ≡ Some number) × (slice_get numbers j ≡ Some number)
 
 -- a use by a block that was found leads back to it exactly where the owner was found and both are of one component
-abbrev pub CirclesAreComponents : Type 0
-CirclesAreComponents =
+abbrev pub CircularUsesShareAComponent : Type 0
+CircularUsesShareAComponent =
     (blocks : List Reading) (found : List ℕ) (graph : List (List (Option ℕ))) (components : List ℕ)
     → AreFound blocks found → IsGraphOf blocks found (HasEdge graph)
     → AreComponents (length found) (HasEdge graph) (HaveOneNumber components)

@@ -1,11 +1,11 @@
 -- When a table of values is that of a block (own): it has what the block's mentions say, at some depth of expansion.
-use Rattle.std.specs.Prelude.{ℕ, ◌≡◌, List, Option, Some, option_and_then}
+use Rattle.std.specs.Prelude.{ℕ, ◌≡◌, List, Option, Some, None, option_and_then}
 use Rattle.std.specs.Option.{option_or}
 use Rattle.ti_caps.specs.Tables.{Capability, IsCapability}
 use Rattle.ti_source.specs.Reading.{Reading, ReadItem, Said}
 use Rattle.ti_compiled.specs.Values.{Contents}
 use Rattle.ti_meaning.specs.Owner.{owned}
-use Rattle.ti_meaning.specs.Expansion.{Mention, said, mentions_of, expand_items, expand}
+use Rattle.ti_meaning.specs.Expansion.{Mention, said, mentions_of, expand_items, expand, expansion}
 
 -- the mentions of the block that a name belongs to, expanded so deep
 abbrev pub names_at : (List ℕ → Option Reading) → ℕ → List ℕ → Option (List Mention)
@@ -46,3 +46,8 @@ pub record LaysName (blocks : List Reading) (name : List ℕ) (old new : Content
   pub mentions : List Mention
   pub expands : names_at (owned blocks) depth name ≡ Some mentions
   pub lays : LaysBehind old mentions new
+
+-- a block has a table exactly where it resolves
+abbrev pub HasTable : {T : Type 0} → (T → Contents) → List Reading → Reading → Option T → Type 0
+HasTable contents blocks block None = expansion blocks block ≡ None
+HasTable contents blocks block (Some table) = (mentions : List Mention) × (expansion blocks block ≡ Some mentions) × Tells (contents table) mentions

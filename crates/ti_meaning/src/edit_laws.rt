@@ -1,6 +1,6 @@
 // Laws on edits, and on what they leave. They compute nothing.
 ghost use Rattle.ti_meaning.specs.Exchange.{EditsAreExchanges};
-ghost use Rattle.ti_meaning.specs.Dependents.{DependentsAreDetermined, UsersOfDependentsDepend};
+ghost use Rattle.ti_meaning.specs.Dependents.{DependentsAreDetermined, DependentsAreFound, RebuildsAreDetermined, UsersOfDependentsDepend};
 ghost use Rattle.ti_meaning.specs.KeptBlocks.{TouchedInBothLists, UntouchedBlocksAreKept};
 
 /// An insertion, a replacement, a removal and a move take out at most one block and put in at most
@@ -30,4 +30,15 @@ pub fn dependents_are_determined()
 /// A block that uses a name of a dependent is a dependent.
 pub fn users_of_dependents_depend()
     ensures { UsersOfDependentsDepend }
+{}
+
+/// Whatever has the block put in, the users of touched names and with each block its users has all
+/// dependents.
+pub fn dependents_are_found()
+    ensures { DependentsAreFound }
+{}
+
+/// An edit rebuilds one list of blocks, with one count of work.
+pub fn rebuilds_are_determined()
+    ensures { RebuildsAreDetermined }
 {}

@@ -23,8 +23,8 @@ pub fn ways_are_found()
     ensures { WaysAreFound }
 {}
 
-/// The fault of a use is the first that holds of: nobody owns the name, it lies on a ring, the owner
-/// does not resolve.
+/// The fault of a use is the first that holds of: nobody owns the name, its owner leads back to the
+/// block, the owner does not resolve.
 pub fn use_faults_are_told()
     ensures { UseFaultsAreTold }
 {}

@@ -19,8 +19,8 @@ mod laws;
 mod use_laws;
 
 pub use edit_laws::{
-    dependents_are_determined, edits_are_exchanges, touched_names_are_reached_in_both_lists,
-    untouched_blocks_are_kept, users_of_dependents_depend,
+    dependents_are_determined, dependents_are_found, edits_are_exchanges, rebuilds_are_determined,
+    touched_names_are_reached_in_both_lists, untouched_blocks_are_kept, users_of_dependents_depend,
 };
 pub use edits::{Edit, EditError, Edited, Outcome};
 pub use faults::Fault;
@@ -30,5 +30,6 @@ pub use laws::{
     use_faults_are_told, ways_are_found,
 };
 pub use use_laws::{
-    circles_are_components, leading_is_reaching, leading_is_walking, unresolved_blocks_have_a_cause,
+    circular_uses_share_a_component, leading_is_reaching, leading_is_walking,
+    unresolved_blocks_have_a_cause,
 };

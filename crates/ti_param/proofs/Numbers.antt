@@ -8,7 +8,7 @@ use Rattle.ti_printing.specs.declared.printf.Conversion.{Conversion}
 use Rattle.ti_printing.specs.declared.printf.Directive.{Directive}
 use Rattle.ti_printing.specs.declared.printf.Flags.{Flags}
 use Rattle.ti_param.specs.Codes.{span, begins_zero, row_for, conversions}
-use Rattle.ti_text.specs.Digits.{is_digit, decimal, decimal_from}
+use Rattle.ti_text.specs.Digits.{is_decimal_digit, decimal, decimal_from}
 use Rattle.ti_param.specs.inside.Codes.{number_after, constant_before, flags_after, precision_after, directive_after, directive_with}
 use Rattle.ti_param.proofs.Fronts.{span-whole, fails, braced}
 
@@ -42,33 +42,33 @@ number-ends v goal ds fits none h =
 
 -- ---- a number in braces
 
-pub number-none : (text : List ℕ) → (span is_digit text).1 ≡ [] → number_after text ≡ None
+pub number-none : (text : List ℕ) → (span is_decimal_digit text).1 ≡ [] → number_after text ≡ None
 unfolding number_after constant_before
 number-none text e = rw e refl
 
 -- how many digits there are
-digits-length : (text : List ℕ) → length (span is_digit text).0 + length (span is_digit text).1 ≡ length text
-digits-length text = sym (ap length (span-whole is_digit text) ∙ length-append (span is_digit text).0 (span is_digit text).1)
+digits-length : (text : List ℕ) → length (span is_decimal_digit text).0 + length (span is_decimal_digit text).1 ≡ length text
+digits-length text = sym (ap length (span-whole is_decimal_digit text) ∙ length-append (span is_decimal_digit text).0 (span is_decimal_digit text).1)
 
-pub number-refused : (text after rest : List ℕ) (x value : ℕ) → after ≡ (span is_digit text).1 → after ≡ x ∷ rest →
-    value ≡ min (decimal (span is_digit text).0) 4294967295 →
+pub number-refused : (text after rest : List ℕ) (x value : ℕ) → after ≡ (span is_decimal_digit text).1 → after ≡ x ∷ rest →
+    value ≡ min (decimal (span is_decimal_digit text).0) 4294967295 →
     (x ≡ 125 → length after ≢ length text → value ≤ 2147483647 → ⊥) → number_after text ≡ None
 unfolding number_after constant_before
 number-refused text after rest x value is begins capped refused =
-    let l : length (span is_digit text).0 + length after ≡ length text = ap (λ t. length (span is_digit text).0 + length t) is ∙ digits-length text in
-    let test : ((x == 125 && nat_lt 0 (length (span is_digit text).0)) && nat_le (decimal (span is_digit text).0) 2147483647) ≡ false =
-    fails _ (λ h. let (brace, some, small) = braced x (length (span is_digit text).0) (decimal (span is_digit text).0) h in
+    let l : length (span is_decimal_digit text).0 + length after ≡ length text = ap (λ t. length (span is_decimal_digit text).0 + length t) is ∙ digits-length text in
+    let test : ((x == 125 && nat_lt 0 (length (span is_decimal_digit text).0)) && nat_le (decimal (span is_decimal_digit text).0) 2147483647) ≡ false =
+    fails _ (λ h. let (brace, some, small) = braced x (length (span is_decimal_digit text).0) (decimal (span is_decimal_digit text).0) h in
     refused brace (λ same. omega arith) (omega arith)) in
     rw (sym is ∙ begins) (rw test refl)
 
-pub number-read : (text after rest : List ℕ) (x value : ℕ) → after ≡ (span is_digit text).1 → after ≡ x ∷ rest →
-    value ≡ min (decimal (span is_digit text).0) 4294967295 →
+pub number-read : (text after rest : List ℕ) (x value : ℕ) → after ≡ (span is_decimal_digit text).1 → after ≡ x ∷ rest →
+    value ≡ min (decimal (span is_decimal_digit text).0) 4294967295 →
     x ≡ 125 → length after ≢ length text → value ≤ 2147483647 → number_after text ≡ Some (Operation (Constant (pos value)), rest)
 unfolding number_after constant_before
 number-read text after rest x value is begins capped brace some small =
-    let l : length (span is_digit text).0 + length after ≡ length text = ap (λ t. length (span is_digit text).0 + length t) is ∙ digits-length text in
-    let n : ℕ = length (span is_digit text).0 in
-    let d : ℕ = decimal (span is_digit text).0 in
+    let l : length (span is_decimal_digit text).0 + length after ≡ length text = ap (λ t. length (span is_decimal_digit text).0 + length t) is ∙ digits-length text in
+    let n : ℕ = length (span is_decimal_digit text).0 in
+    let d : ℕ = decimal (span is_decimal_digit text).0 in
     let same : value ≡ d = omega arith in
     let nonempty : 0 < n = omega arith in
     let few : d ≤ 2147483647 = omega arith in
@@ -79,22 +79,22 @@ number-read text after rest x value is begins capped brace some small =
 
 -- ---- a printf form
 
-pub zero-none : (text : List ℕ) → length text ≡ 0 → begins_zero (span is_digit text).0 ≡ false
+pub zero-none : (text : List ℕ) → length text ≡ 0 → begins_zero (span is_decimal_digit text).0 ≡ false
 zero-none [] h = refl
 zero-none (x ∷ xs) h = absurd (omega arith)
 
-pub zero-first : (x : ℕ) (xs : List ℕ) → begins_zero (span is_digit (x ∷ xs)).0 ≡ (x == 48)
+pub zero-first : (x : ℕ) (xs : List ℕ) → begins_zero (span is_decimal_digit (x ∷ xs)).0 ≡ (x == 48)
 zero-first x xs =
-    elim (is_digit x) as (λ b. is_digit x ≡ b → begins_zero (if◌then◌else◌ {A = List ℕ × List ℕ} b (x ∷ (span is_digit xs).0, (span is_digit xs).1) ([], x ∷ xs)).0 ≡ (x == 48)) [
+    elim (is_decimal_digit x) as (λ b. is_decimal_digit x ≡ b → begins_zero (if◌then◌else◌ {A = List ℕ × List ℕ} b (x ∷ (span is_decimal_digit xs).0, (span is_decimal_digit xs).1) ([], x ∷ xs)).0 ≡ (x == 48)) [
       | true ↦ λ h. refl
       | false ↦ λ h. sym (fails (x == 48) (λ e. no_zero h ((Decides-eqb x 48).0 e)))
     ] refl
   where
-    no_zero : is_digit x ≡ false → x ≡ 48 → ⊥
+    no_zero : is_decimal_digit x ≡ false → x ≡ 48 → ⊥
     no_zero h e = grind (arith, nat_tests)
 
-pub directive-parts : (text after left : List ℕ) (flags : Flags) → ◌≡◌ {A = Flags × List ℕ} (flags, after) (flags_after text) → left ≡ (span is_digit after).1 →
-    directive_after text ≡ directive_with flags (span is_digit after).0 (precision_after left)
+pub directive-parts : (text after left : List ℕ) (flags : Flags) → ◌≡◌ {A = Flags × List ℕ} (flags, after) (flags_after text) → left ≡ (span is_decimal_digit after).1 →
+    directive_after text ≡ directive_with flags (span is_decimal_digit after).0 (precision_after left)
 unfolding directive_after
 directive-parts text after left flags e f = rw (sym e) (rw (sym f) refl)
 

@@ -9,7 +9,7 @@ use Rattle.ti_printing.specs.declared.printf.Conversion.{Conversion}
 use Rattle.ti_printing.specs.declared.printf.Directive.{Directive}
 use Rattle.ti_printing.specs.declared.printf.Flags.{Flags}
 use Rattle.ti_param.specs.Codes.{row_for, AllAre, span, simple_tokens, conversions, is_flag, IsFlags, signed_flags, plain_flags, IsPrecision, without_precision, with_precision, begins_zero, IsDirective, directive, IsCode, simple_code, parameter_code, store_code, fetch_code, byte_code, number_code, print_code}
-use Rattle.ti_text.specs.Digits.{is_digit, decimal}
+use Rattle.ti_text.specs.Digits.{is_decimal_digit, decimal}
 use Rattle.ti_param.specs.inside.Codes.{Front, parameter_after, store_after, fetch_after, byte_after, constant_before, number_after, flags_of, flags_after, precision_of, precision_after, directive_with, directive_after, begins_directive, letter_after, token_after, OneCode}
 use Rattle.ti_param.proofs.Fronts.{chosen, mapped, found-row, span-whole, span-all, span-append, braced}
 
@@ -26,7 +26,7 @@ abbrev Heads : (ℕ → Type 0) → List ℕ → Type 0
 Heads P [] = ⊥
 Heads P (y ∷ ys) = P y
 
-past_digit : (y : ℕ) → is_digit y ≡ true → Past y
+past_digit : (y : ℕ) → is_decimal_digit y ≡ true → Past y
 past_digit y h =
     let low : 48 ≤ y = grind (arith, nat_tests) in
     let high : y ≤ 57 = grind (arith, nat_tests) in
@@ -55,7 +55,7 @@ past_conversion x c h =
 
 -- a conversion's letter is no digit and no `.`
 abbrev Ends : ℕ → Type 0
-Ends x = (is_digit x ≡ false) × ((x == 46) ≡ false)
+Ends x = (is_decimal_digit x ≡ false) × ((x == 46) ≡ false)
 
 conversion_ends : (x : ℕ) (c : Conversion) → row_for x conversions ≡ Some c → Ends x
 conversion_ends x c h = found-row (λ row. Ends row.0) x conversions c ((refl, refl), ((refl, refl), ((refl, refl), ((refl, refl), ((refl, refl), tt))))) h
@@ -82,7 +82,7 @@ precision_read : (ps : List ℕ) (precision : Option ℕ) (x : ℕ) (rest : List
 unfolding precision_after
 precision_read ps precision x rest without_precision ends = rw ends.1 refl
 precision_read ps precision x rest (with_precision ds each small) ends =
-    let parts : span is_digit (ds ++ (x ∷ rest)) ≡ (ds, x ∷ rest) = span-append is_digit ds (x ∷ rest) each ends.0 in
+    let parts : span is_decimal_digit (ds ++ (x ∷ rest)) ≡ (ds, x ∷ rest) = span-append is_decimal_digit ds (x ∷ rest) each ends.0 in
     ap precision_of parts ∙ rw (within (decimal ds) 999 small) refl
 
 -- the text of a printf form, head and tail
@@ -91,13 +91,13 @@ Begun [] = ⊥
 Begun (y ∷ ys) = begins_directive y ≡ true
 
 -- digits may stand before what is past the flags
-width_head : (P : List ℕ → Type 0) (ds : List ℕ) (y : ℕ) (ys : List ℕ) → AllAre is_digit ds → Past y →
+width_head : (P : List ℕ → Type 0) (ds : List ℕ) (y : ℕ) (ys : List ℕ) → AllAre is_decimal_digit ds → Past y →
     ((z : ℕ) (zs : List ℕ) → Past z → ds ++ (y ∷ ys) ≡ z ∷ zs → P (z ∷ zs)) → P (ds ++ (y ∷ ys))
 width_head P [] y ys each past then = then y ys past refl
 width_head P (d ∷ ds) y ys each past then = then d (ds ++ (y ∷ ys)) (past_digit d each.0) refl
 
-precision_head : (ps : List ℕ) (precision : Option ℕ) (x : ℕ) (rest : List ℕ) → IsPrecision ps precision → Past x → is_digit x ≡ false →
-    (y : ℕ) × (ys : List ℕ) × (ps ++ (x ∷ rest) ≡ y ∷ ys) × Past y × (is_digit y ≡ false)
+precision_head : (ps : List ℕ) (precision : Option ℕ) (x : ℕ) (rest : List ℕ) → IsPrecision ps precision → Past x → is_decimal_digit x ≡ false →
+    (y : ℕ) × (ys : List ℕ) × (ps ++ (x ∷ rest) ≡ y ∷ ys) × Past y × (is_decimal_digit y ≡ false)
 precision_head ps precision x rest without_precision past other = (x, rest, refl, past, other)
 precision_head ps precision x rest (with_precision ds each small) past other =
     (46, ds ++ (x ∷ rest), refl, record { not_signed = refl; not_plain = refl; not_colon = refl; begins = refl }, refl)
@@ -112,15 +112,15 @@ flags_head fs flags y ys (plain_flags (x ∷ xs) each) past = flag_begins x each
 
 -- the form that a text begins with is read, and it begins as forms do
 directive_read : (fs ds ps : List ℕ) (x : ℕ) (rest : List ℕ) (flags : Flags) (precision : Option ℕ) (conversion : Conversion) →
-    IsFlags fs flags → AllAre is_digit ds → decimal ds ≤ 999 → IsPrecision ps precision → row_for x conversions ≡ Some conversion →
+    IsFlags fs flags → AllAre is_decimal_digit ds → decimal ds ≤ 999 → IsPrecision ps precision → row_for x conversions ≡ Some conversion →
     (directive_after (fs ++ (ds ++ (ps ++ (x ∷ rest)))) ≡
     Some (record { flags = record flags { zero = begins_zero ds }; width = decimal ds; precision = precision; conversion = conversion }, rest))
     × Begun (fs ++ (ds ++ (ps ++ (x ∷ rest))))
 unfolding directive_after directive_with
 directive_read fs ds ps x rest flags precision conversion is_flags digits small is_precision row =
     let (y, ys, is, past, other) = precision_head ps precision x rest is_precision (past_conversion x conversion row) (conversion_ends x conversion row).0 in
-    let width : span is_digit (ds ++ (ps ++ (x ∷ rest))) ≡ (ds, ps ++ (x ∷ rest)) =
-    rw is (span-append is_digit ds (y ∷ ys) digits other) in
+    let width : span is_decimal_digit (ds ++ (ps ++ (x ∷ rest))) ≡ (ds, ps ++ (x ∷ rest)) =
+    rw is (span-append is_decimal_digit ds (y ∷ ys) digits other) in
     let at : precision_after (ps ++ (x ∷ rest)) ≡ Some (precision, x ∷ rest) = precision_read ps precision x rest is_precision (conversion_ends x conversion row) in
     let front : flags_after (fs ++ (ds ++ (ps ++ (x ∷ rest)))) ≡ (flags, ds ++ (ps ++ (x ∷ rest))) =
     rw is (width_head (λ text. flags_after (fs ++ text) ≡ (flags, text)) ds y ys digits past (λ z zs after e. flags_read fs flags z zs is_flags after)) in
@@ -147,11 +147,11 @@ simple_code_read x rest token row =
     found-row (λ r. token_after (r.0 ∷ rest) ≡ Some (r.1, rest)) x simple_tokens token
     (refl, (refl, (refl, (refl, (refl, (refl, (refl, (refl, (refl, (refl, (refl, (refl, (refl, (refl, (refl, (refl, (refl, (refl, (refl, (refl, (refl, (refl, (refl, tt))))))))))))))))))))))) row
 
-number_code_read : (ds rest : List ℕ) → AllAre is_digit ds → 0 < length ds → decimal ds ≤ 2147483647 →
+number_code_read : (ds rest : List ℕ) → AllAre is_decimal_digit ds → 0 < length ds → decimal ds ≤ 2147483647 →
     token_after (123 ∷ ((ds ++ 125 ∷ []) ++ rest)) ≡ Some (Operation (Constant (pos (decimal ds))), rest)
 unfolding token_after letter_after number_after constant_before
 number_code_read ds rest digits some small =
-    let parts : span is_digit (ds ++ (125 ∷ rest)) ≡ (ds, 125 ∷ rest) = span-append is_digit ds (125 ∷ rest) digits refl in
+    let parts : span is_decimal_digit (ds ++ (125 ∷ rest)) ≡ (ds, 125 ∷ rest) = span-append is_decimal_digit ds (125 ∷ rest) digits refl in
     let nonempty : nat_lt 0 (length ds) ≡ true = grind (arith, nat_tests) in
     rw append_assoc (rw parts (rw nonempty (rw (within (decimal ds) 2147483647 small) refl)))
 
@@ -198,7 +198,7 @@ byte_so (x ∷ (y ∷ rest)) found h =
       | inr (other, is) ↦ absurd (cc is)
     ]
 
-constant_so : (ds after : List ℕ) (found : Token × List ℕ) → AllAre is_digit ds → constant_before ds after ≡ Some found → Found 123 (ds ++ after) found
+constant_so : (ds after : List ℕ) (found : Token × List ℕ) → AllAre is_decimal_digit ds → constant_before ds after ≡ Some found → Found 123 (ds ++ after) found
 unfolding constant_before
 constant_so ds [] found digits h = absurd (cc)
 constant_so ds (x ∷ rest) found digits h =
@@ -214,7 +214,7 @@ constant_so ds (x ∷ rest) found digits h =
 number_so : (xs : List ℕ) (found : Token × List ℕ) → number_after xs ≡ Some found → Found 123 xs found
 unfolding number_after
 number_so xs found h =
-    subst (λ text. Found 123 text found) (sym (span-whole is_digit xs)) (constant_so (span is_digit xs).0 (span is_digit xs).1 found (span-all is_digit xs) h)
+    subst (λ text. Found 123 text found) (sym (span-whole is_decimal_digit xs)) (constant_so (span is_decimal_digit xs).0 (span is_decimal_digit xs).1 found (span-all is_decimal_digit xs) h)
 
 letter_so : (x : ℕ) (xs : List ℕ) (found : Token × List ℕ) → letter_after x xs ≡ Some found → Found x xs found
 unfolding letter_after
@@ -279,13 +279,13 @@ precision_so [] found h =
     subst (FoundPrecision []) same ([], refl, without_precision)
 precision_so (x ∷ xs) found h =
     elim (chosen (x == 46) _ _ _ h) [
-      | inl (point, is) ↦ elim (chosen (nat_le (decimal (span is_digit xs).0) 999) _ _ _ is) [
+      | inl (point, is) ↦ elim (chosen (nat_le (decimal (span is_decimal_digit xs).0) 999) _ _ _ is) [
         | inl (small, at) ↦
-            let same : ◌≡◌ {A = Option ℕ × List ℕ} (Some (decimal (span is_digit xs).0), (span is_digit xs).1) found = cc at in
+            let same : ◌≡◌ {A = Option ℕ × List ℕ} (Some (decimal (span is_decimal_digit xs).0), (span is_decimal_digit xs).1) found = cc at in
             subst (FoundPrecision (x ∷ xs)) same (
-              46 ∷ (span is_digit xs).0,
-              ap (λ c. c ∷ xs) ((Decides-eqb x 46).0 point) ∙ ap (λ ys. 46 ∷ ys) (span-whole is_digit xs),
-              with_precision (span is_digit xs).0 (span-all is_digit xs) (at_most _ _ small),
+              46 ∷ (span is_decimal_digit xs).0,
+              ap (λ c. c ∷ xs) ((Decides-eqb x 46).0 point) ∙ ap (λ ys. 46 ∷ ys) (span-whole is_decimal_digit xs),
+              with_precision (span is_decimal_digit xs).0 (span-all is_decimal_digit xs) (at_most _ _ small),
             )
         | inr (large, at) ↦ absurd (cc at)
       ]
@@ -331,16 +331,16 @@ unfolding directive_after
 directive_so text found h =
     let (fs, flags_is, is_flags) = flags_so text in
     let after : List ℕ = (flags_after text).1 in
-    let ds : List ℕ = (span is_digit after).0 in
-    let form : ReadForm (flags_after text).0 ds (precision_after (span is_digit after).1) found = form_so _ _ _ found h in
-    let (ps, precision_is, is_precision) = precision_so (span is_digit after).1 (form.count, form.letter ∷ found.1) form.read in
+    let ds : List ℕ = (span is_decimal_digit after).0 in
+    let form : ReadForm (flags_after text).0 ds (precision_after (span is_decimal_digit after).1) found = form_so _ _ _ found h in
+    let (ps, precision_is, is_precision) = precision_so (span is_decimal_digit after).1 (form.count, form.letter ∷ found.1) form.read in
     let parts : text ≡ fs ++ (ds ++ (ps ++ (form.letter ∷ found.1))) =
-    flags_is ∙ ap (λ t. fs ++ t) (span-whole is_digit after) ∙ ap (λ t. fs ++ (ds ++ t)) precision_is in
+    flags_is ∙ ap (λ t. fs ++ t) (span-whole is_decimal_digit after) ∙ ap (λ t. fs ++ (ds ++ t)) precision_is in
     let grouped_tree : (fs ++ (ds ++ (ps ++ form.letter ∷ []))) ++ found.1 ≡ fs ++ (ds ++ (ps ++ (form.letter ∷ found.1))) = simp append_assoc in (
       fs ++ (ds ++ (ps ++ form.letter ∷ [])),
       parts ∙ sym grouped_tree,
       subst (IsDirective (fs ++ (ds ++ (ps ++ form.letter ∷ [])))) form.form
-          (directive fs ds ps form.letter is_flags (span-all is_digit after) form.small is_precision form.row),
+          (directive fs ds ps form.letter is_flags (span-all is_decimal_digit after) form.small is_precision form.row),
     )
 
 abbrev FoundCode : List ℕ → Token × List ℕ → Type 0

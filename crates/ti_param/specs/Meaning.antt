@@ -192,4 +192,7 @@ meaning (byte b next) s = meaning next (with_output (b ∷ []) s)
 meaning (code place c next) s = and_then (code_outcome place c s) (meaning next)
 meaning (group conditional next) s = and_then (meaning conditional s) (meaning next)
 meaning (choice test taken rest) s =
-    and_then (meaning test s) (λ tested. elim (is_zero (top_number tested)) [ true ↦ meaning rest (without_top tested) | false ↦ meaning taken (without_top tested) ])
+    and_then (meaning test s) (λ tested. elim (is_zero (top_number tested)) [
+      | true ↦ meaning rest (without_top tested)
+      | false ↦ meaning taken (without_top tested)
+    ])

@@ -2,7 +2,7 @@
 ghost use Rattle.std.specs.Prelude.{◌≡◌, option_map, if◌then◌else◌};
 ghost use Rattle.ti_param.specs.Codes.{with_flag, span, row_for, conversions, begins_zero, is_flag};
 ghost use Rattle.ti_param.specs.inside.Codes.{directive_after, directive_with, precision_after, flags_after, flags_of};
-ghost use Rattle.ti_text.specs.Digits.{is_digit};
+ghost use Rattle.ti_text.specs.Digits.{is_decimal_digit};
 
 use crate::decimals::number;
 use ti_printing::printf::{Conversion, Directive, Flags};
@@ -33,7 +33,7 @@ pub(crate) fn directive(text: &[u8]) -> Option<(Directive, &[u8])>
 
 /// Whether a width begins with a 0.
 fn begins_with_zero(text: &[u8]) -> bool
-    ensures { result ≡ begins_zero (span is_digit text.now).0 }
+    ensures { result ≡ begins_zero (span is_decimal_digit text.now).0 }
 {
     match text.split_first() {
         Some((&digit, _)) => digit == b'0',

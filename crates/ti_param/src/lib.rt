@@ -28,6 +28,6 @@ mod values;
 pub use acceptor::{one_reading, reading_is_computed};
 pub use errors::ParamError;
 pub use expansion::expand;
-pub use ti_printing::{Line, PadError, pad};
 pub use reader::one_code;
+pub use ti_printing::{Line, PadError, pad};
 pub use values::{Statics, Value};

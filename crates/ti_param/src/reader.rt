@@ -6,8 +6,8 @@ ghost use Rattle.ti_param.specs.Codes.{row_for, operators, simple_tokens};
 ghost use Rattle.ti_param.specs.inside.Codes.{OneCode, token_after, letter_after, parameter_after, store_after, fetch_after, byte_after, number_after};
 
 use crate::codes::{Code, Operator, Token, ordinal_of, variable_of};
-use crate::directives::directive;
 use crate::decimals::number;
+use crate::directives::directive;
 
 /// The code at the front of the text after a `%`.
 #[tactic(auto, unfolding(crate::specs::inside::Codes::token_after))]

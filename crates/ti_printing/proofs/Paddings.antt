@@ -1,5 +1,5 @@
 -- What `padding_at` finds is a padding, and it finds each.
-use Rattle.ti_text.specs.Digits.{is_digit, IsDigit, decimal, decimal_from}
+use Rattle.ti_text.specs.Digits.{is_decimal_digit, IsDecimalDigit, decimal, decimal_from}
 use Rattle.std.proofs.Common.{◌≡◌, ℕ, zero, suc, ◌+◌, ◌-◌, ◌*◌, ◌^◌, ◌<◌, ◌≤◌, Bool, true, false, List, [], ◌∷◌, ◌++◌, length, drop, take, get_or, eqb, Option, Some, None, cond, refl, sym, ap, subst, ◌∙◌, arith, add-one}
 use Rattle.std.proofs.lemmas.Bool.Decides.{nat_tests}
 use Rattle.std.proofs.lemmas.List.Elements.{All-from_recursion}
@@ -14,10 +14,10 @@ use Rattle.ti_printing.specs.inside.Padding.{after_byte, digits_len, millisecond
 
 -- ---- digits
 
-decimal_is : (byte : ℕ) → is_digit byte ≡ true → IsDigit byte
+decimal_is : (byte : ℕ) → is_decimal_digit byte ≡ true → IsDecimalDigit byte
 decimal_is byte h = grind (arith, nat_tests)
 
-is_decimal_of : (byte : ℕ) → IsDigit byte → is_digit byte ≡ true
+is_decimal_of : (byte : ℕ) → IsDecimalDigit byte → is_decimal_digit byte ≡ true
 is_decimal_of byte h = grind (arith, nat_tests)
 
 pub digits_len-le_most : (most : ℕ) (text : List ℕ) → digits_len most text ≤ most
@@ -25,20 +25,20 @@ digits_len-le_most zero text = omega arith
 digits_len-le_most (suc most) [] = omega arith
 digits_len-le_most (suc most) (byte ∷ text) =
     let more = digits_len-le_most most text in
-    elim (is_digit byte) as (λ b. cond b (suc (digits_len most text)) 0 ≤ suc most) [ true ↦ omega arith | false ↦ omega arith ]
+    elim (is_decimal_digit byte) as (λ b. cond b (suc (digits_len most text)) 0 ≤ suc most) [ true ↦ omega arith | false ↦ omega arith ]
 
 pub digits_len-le : (most : ℕ) (text : List ℕ) → digits_len most text ≤ length text
 digits_len-le zero text = omega arith
 digits_len-le (suc most) [] = omega arith
 digits_len-le (suc most) (byte ∷ text) =
     let more = digits_len-le most text in
-    elim (is_digit byte) as (λ b. cond b (suc (digits_len most text)) 0 ≤ suc (length text)) [ true ↦ omega arith | false ↦ omega arith ]
+    elim (is_decimal_digit byte) as (λ b. cond b (suc (digits_len most text)) 0 ≤ suc (length text)) [ true ↦ omega arith | false ↦ omega arith ]
 
-pub decimal_digits : (most : ℕ) (text : List ℕ) → AllByRecursion IsDigit (take (digits_len most text) text)
+pub decimal_digits : (most : ℕ) (text : List ℕ) → AllByRecursion IsDecimalDigit (take (digits_len most text) text)
 decimal_digits zero text = tt
 decimal_digits (suc most) [] = tt
 decimal_digits (suc most) (byte ∷ text) =
-    elim (is_digit byte) as (λ b. is_digit byte ≡ b → AllByRecursion IsDigit (take (cond b (suc (digits_len most text)) 0) (byte ∷ text))) [
+    elim (is_decimal_digit byte) as (λ b. is_decimal_digit byte ≡ b → AllByRecursion IsDecimalDigit (take (cond b (suc (digits_len most text)) 0) (byte ∷ text))) [
       | true ↦ λ e. (decimal_is byte e, decimal_digits most text)
       | false ↦ λ e. tt
     ] refl
@@ -46,9 +46,9 @@ decimal_digits (suc most) (byte ∷ text) =
 -- no digit begins the text
 abbrev BeginsNoDigit : List ℕ → Type 0
 BeginsNoDigit [] = Unit {0}
-BeginsNoDigit (byte ∷ text) = is_digit byte ≡ false
+BeginsNoDigit (byte ∷ text) = is_decimal_digit byte ≡ false
 
-digits_len-append : (most : ℕ) (digits text : List ℕ) → AllByRecursion IsDigit digits → length digits ≤ most → BeginsNoDigit text → digits_len most (digits ++ text) ≡ length digits
+digits_len-append : (most : ℕ) (digits text : List ℕ) → AllByRecursion IsDecimalDigit digits → length digits ≤ most → BeginsNoDigit text → digits_len most (digits ++ text) ≡ length digits
 digits_len-append zero [] text all few other = refl
 digits_len-append zero (digit ∷ digits) text all few other = absurd (omega arith)
 digits_len-append (suc most) [] [] all few other = refl
@@ -89,7 +89,7 @@ milliseconds_at-some text found h =
 some_is : (text rest : List ℕ) → text ≡ 46 ∷ rest → (tenths : List ℕ) × (text ≡ tenths ++ (tenths_in (Some rest) text).1) × AreTenths tenths (tenths_in (Some rest) text).0
 some_is text [] spelled = ([], refl, no_tenths)
 some_is text (digit ∷ rest) spelled =
-    elim (is_digit digit) as (λ b. is_digit digit ≡ b → (tenths : List ℕ) × (text ≡ tenths ++ (cond {A = ℕ × List ℕ} b (digit - 48, rest) (0, text)).1) × AreTenths tenths (cond {A = ℕ × List ℕ} b (digit - 48, rest) (0, text)).0) [
+    elim (is_decimal_digit digit) as (λ b. is_decimal_digit digit ≡ b → (tenths : List ℕ) × (text ≡ tenths ++ (cond {A = ℕ × List ℕ} b (digit - 48, rest) (0, text)).1) × AreTenths tenths (cond {A = ℕ × List ℕ} b (digit - 48, rest) (0, text)).0) [
       | true ↦ λ e. (46 ∷ (digit ∷ []), spelled, some_tenths (decimal_is digit e))
       | false ↦ λ e. ([], refl, no_tenths)
     ] refl
@@ -202,7 +202,7 @@ padding_at-found front rest padding h =
 
 -- ---- steps of the loops over digits
 
-pub digits_len-next : (len : ℕ) (text : List ℕ) → len < 5 → len < length text → is_digit (get_or text len 0) ≡ true → digits_len (5 - len) (drop len text) ≡ suc (digits_len (5 - (len + 1)) (drop (len + 1) text))
+pub digits_len-next : (len : ℕ) (text : List ℕ) → len < 5 → len < length text → is_decimal_digit (get_or text len 0) ≡ true → digits_len (5 - len) (drop len text) ≡ suc (digits_len (5 - (len + 1)) (drop (len + 1) text))
 digits_len-next len text few within decimal =
     let count : 5 - len ≡ suc (5 - (len + 1)) = omega arith in
     let front : drop len text ≡ get_or text len 0 ∷ drop (len + 1) text = rw add-one (drop-cons text len 0 within) in
@@ -222,8 +222,8 @@ decimal-next digits i within =
 -- each byte that is counted is a digit
 pub digit_in_range : (text digits : List ℕ) (i : ℕ) → digits ≡ take (digits_len 5 text) text → i < length digits → get_or digits i 0 ≤ 57
 digit_in_range text digits i e within =
-    let all = All-from_recursion IsDigit (take (digits_len 5 text) text) (decimal_digits 5 text) in
-    (subst (λ ds. IsDigit (get_or ds i 0)) (sym e) (all i 0 (omega (arith, ap length e)))).1
+    let all = All-from_recursion IsDecimalDigit (take (digits_len 5 text) text) (decimal_digits 5 text) in
+    (subst (λ ds. IsDecimalDigit (get_or ds i 0)) (sym e) (all i 0 (omega (arith, ap length e)))).1
 
 pub ten_times : (whole digit i : ℕ) → whole < 10 ^ i → digit < 10 → 10 * whole + digit < 10 ^ (i + 1)
 ten_times whole digit i small low = let power = pow-suc 10 i in rw add-one (omega (arith, power))

@@ -2,7 +2,7 @@
 use Rattle.std.specs.Prelude.{◌≡◌, ℕ, ◌+◌, ◌*◌, ◌<◌, ◌≤◌, Bool, true, false, not, ◌&&◌, ◌||◌, List, [], ◌∷◌, ◌++◌, length, replicate, if◌then◌else◌, nat_le, is_some, unwrap_or, ◌↔◌}
 use Rattle.std.specs.Int.{div_ceil}
 use Rattle.ti_text.specs.Ascii as ascii
-use Rattle.ti_text.specs.Digits.{IsDigit, digit_value, decimal}
+use Rattle.ti_text.specs.Digits.{IsDecimalDigit, decimal_digit_value, decimal}
 use Rattle.std.specs.List.{AllByRecursion}
 use Rattle.ti_printing.specs.declared.padding.Line.{Line}
 use Rattle.ti_printing.specs.declared.padding.Padding.{Padding}
@@ -14,7 +14,7 @@ use Rattle.ti_printing.specs.declared.padding.Part.TheVariants.{Literal, Delay}
 
 -- one to five decimal digits, which are the milliseconds
 pub record AreMilliseconds (text : List ℕ) (number : ℕ) : Type 0 where
-  pub digits : AllByRecursion IsDigit text
+  pub digits : AllByRecursion IsDecimalDigit text
   pub some : 0 < length text
   pub few : length text ≤ 5
   pub value : number ≡ decimal text
@@ -22,7 +22,7 @@ pub record AreMilliseconds (text : List ℕ) (number : ℕ) : Type 0 where
 -- nothing, or `.` and a digit, which is the tenths of a millisecond
 pub data AreTenths : List ℕ → ℕ → Type 0 where
   no_tenths : AreTenths [] 0
-  some_tenths : {digit : ℕ} → IsDigit digit → AreTenths (ascii.dot ∷ (digit ∷ [])) (digit_value digit)
+  some_tenths : {digit : ℕ} → IsDecimalDigit digit → AreTenths (ascii.dot ∷ (digit ∷ [])) (decimal_digit_value digit)
 
 -- `*` (the time is for each line) and `/` (the padding is mandatory), each at most once in either order
 pub data AreMarks : List ℕ → Bool → Bool → Type 0 where
@@ -55,7 +55,8 @@ BeginsNoPadding text = (front rest : List ℕ) (padding : Padding) → text ≡ 
 pub data IsCut : List ℕ → List Part → Type 0 where
   cut_nothing : IsCut [] []
   cut_literal : {byte : ℕ} {rest : List ℕ} {parts : List Part} → BeginsNoPadding (byte ∷ rest) → IsCut rest parts → IsCut (byte ∷ rest) (Literal byte ∷ parts)
-  cut_padding : {text rest : List ℕ} {padding : Padding} {parts : List Part} → IsPadding text padding → IsCut rest parts → IsCut (text ++ rest) (Delay padding ∷ parts)
+  cut_padding : {text rest : List ℕ} {padding : Padding} {parts : List Part} → IsPadding text padding → IsCut rest parts
+      → IsCut (text ++ rest) (Delay padding ∷ parts)
 
 -- the law of the cut: each text has exactly one, and it is `parts_of`
 abbrev pub OneCut : Type 0

@@ -12,15 +12,14 @@ use Rattle.ti_source.specs.Codes.{is_error}
 use Rattle.ti_source.specs.Reading.{Said, ReadItem, ReadFault, Reading}
 use Rattle.ti_source.specs.Parsing.{parsed}
 use Rattle.ti_compiled.specs.Values.{Content, content_true, content_number, content_text, content_cancelled, Contents}
-use Rattle.ti_compiled.specs.Image.{image}
-use Rattle.ti_compiled.specs.Laws.{uncancelled}
+use Rattle.ti_compiled.specs.Image.{image, limit_of}
+use Rattle.ti_compiled.specs.Laws.{uncancelled, ImagesAreOfValues, LimitsAreOfValues}
 use Rattle.ti_meaning.specs.Owner.{owned, readings}
 use Rattle.ti_meaning.specs.Expansion.{Mention, said, values, is_broken, expand, expansion}
 use Rattle.ti_meaning.specs.Compiled.{image_of, is_too_large, entry_of, entry}
 use Rattle.ti_list.specs.declared.layout.Layout.{Layout}
 use Rattle.ti_list.specs.Items.{no_more, CanBeListed, IsListable, IsReadAs}
 use Rattle.ti_list.specs.Listing.{items_for, listing}
-use Rattle.ti_relisting.specs.Limits.{limit_of, ImagesAreOfValues, LimitsAreOfValues}
 use Rattle.ti_relisting.specs.Shown.{CanHaveAll, IsWithinLimit}
 use Rattle.ti_relisting.specs.Laws.{PartsAreRead, ListingsCompile}
 use Rattle.ti_relisting.proofs.Orders.{all_in, all_in-all}

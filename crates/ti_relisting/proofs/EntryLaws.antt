@@ -13,16 +13,15 @@ use Rattle.ti_source.specs.Sound.{EachIsWellRead}
 use Rattle.ti_spelling.specs.Spelling.{AreBytes}
 use Rattle.ti_spelling.specs.inside.Spelling.{UnescapedAgrees, ValuesAreSound}
 use Rattle.ti_compiled.specs.Values.{Contents}
-use Rattle.ti_compiled.specs.Image.{image}
+use Rattle.ti_compiled.specs.Image.{image, limit_of}
 use Rattle.ti_compiled.specs.Reading.{Reads, OneReading}
-use Rattle.ti_compiled.specs.Laws.{uncancelled, ImagesAreRead}
+use Rattle.ti_compiled.specs.Laws.{uncancelled, ImagesAreRead, ImagesAreOfValues, LimitsAreOfValues}
 use Rattle.ti_meaning.specs.Owner.{owned, readings}
 use Rattle.ti_meaning.specs.Expansion.{Mention, said, values, is_broken, expansion}
 use Rattle.ti_meaning.specs.Compiled.{image_of, is_too_large, entry_of, entry, compiled}
 use Rattle.ti_list.specs.Items.{no_more, CanBeListed, IsListable}
 use Rattle.ti_list.specs.declared.layout.Layout.{Layout}
 use Rattle.ti_list.specs.Relative.{Shown, differing, use_lines, relative, with_others}
-use Rattle.ti_relisting.specs.Limits.{limit_of, ImagesAreOfValues, LimitsAreOfValues}
 use Rattle.ti_relisting.specs.Shown.{CanHave, IsWithinLimit, CanBeShown, CanBeUsed}
 use Rattle.ti_relisting.specs.Entries.{IsEntry, IsUsedEntry}
 use Rattle.ti_relisting.specs.Laws.{PartsAreBlocks, ListingsCompile, RelativesCompile, ShownEntry, listings, Relisting, Relistings, RelativeSource}

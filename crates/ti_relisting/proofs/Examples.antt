@@ -1,11 +1,14 @@
 -- What the laws say of small entries, and why the blocks of the sources are to be blocks by themselves.
 use Rattle.std.proofs.Common.{◌≡◌, ℕ, false, List, [], ◌∷◌, Some, None, refl}
 use Rattle.std.specs.Prelude.{codes}
+use Rattle.std.specs.Fmt.{digits}
 use Rattle.ti_caps.specs.Names.{flag_names, number_names, text_names}
-use Rattle.ti_caps.specs.Tables.{names, capability_named}
+use Rattle.ti_caps.specs.declared.capability.Kind.TheVariants.{Flag, Number}
+use Rattle.ti_caps.specs.Tables.{capability, names, capability_named}
 use Rattle.ti_source.specs.Parsing.{parsed}
-use Rattle.ti_compiled.specs.Values.{Contents}
-use Rattle.ti_compiled.specs.Image.{image, last_passing, joined_below}
+use Rattle.ti_compiled.specs.Values.{content_true, content_number, Contents, contents}
+use Rattle.ti_compiled.specs.Layout.{spelled}
+use Rattle.ti_compiled.specs.Image.{image, last_passing, some_below, below, texts_below}
 use Rattle.ti_meaning.specs.Compiled.{compiled}
 use Rattle.ti_list.specs.declared.layout.Layout.{Layout}
 use Rattle.ti_list.specs.declared.layout.Order.TheVariants as order
@@ -24,7 +27,7 @@ abbrev hidden : List ℕ
 hidden = codes "\n #x,\n"
 
 hidden-compiles : compiled (hidden ∷ []) 0 ≡ Some (image (codes "#x") nothing)
-unfolding parsed capability_named names flag_names number_names text_names last_passing joined_below image
+unfolding parsed capability_named names flag_names number_names text_names last_passing some_below below texts_below spelled image
 hidden-compiles = refl
 
 -- its listing is a comment, and has no entry
@@ -47,3 +50,15 @@ slashed-owns = refl
 slashed-lost : compiled (with_others plain (slashed ∷ []) layout) 0 ≡ None
 unfolding parsed in_order
 slashed-lost = refl
+
+-- a number over 32,767 is listed and comes back
+abbrev wide : Contents
+wide = contents ((capability Flag 1, content_true) ∷ (capability Number 0, content_number 65536) ∷ (capability Number 2, content_number 24) ∷ [])
+
+wide-listed : listing (codes "x") wide layout ≡ codes "x,\n\tam,\n\tcols#65536, lines#24,\n"
+unfolding names flag_names number_names digits in_order contents
+wide-listed = refl
+
+wide-back : compiled (codes "x,am,cols#65536,lines#24,\n" ∷ []) 0 ≡ Some (image (codes "x") wide)
+unfolding parsed capability_named names flag_names number_names text_names last_passing some_below below texts_below spelled image contents
+wide-back = refl

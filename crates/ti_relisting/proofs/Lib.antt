@@ -12,7 +12,6 @@ pub mod TextBytes
 pub mod Fitting
 pub mod Heading
 pub mod Standing
-pub mod Imaging
 pub mod Sources
 pub mod EntryLaws
 pub mod Examples

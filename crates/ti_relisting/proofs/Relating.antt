@@ -12,7 +12,7 @@ use Rattle.ti_caps.specs.Tables.{Capability, IsCapability}
 use Rattle.ti_source.specs.Reading.{said_import, Reading}
 use Rattle.ti_source.specs.Parsing.{parsed}
 use Rattle.ti_compiled.specs.Values.{Content, content_true, content_number, content_text, content_cancelled, Contents}
-use Rattle.ti_compiled.specs.Laws.{uncancelled}
+use Rattle.ti_compiled.specs.Laws.{uncancelled, ImagesAreOfValues, LimitsAreOfValues}
 use Rattle.ti_meaning.specs.Owner.{is_among, owner, owned, readings}
 use Rattle.ti_meaning.specs.Expansion.{Mention, said, expand, expansion}
 use Rattle.ti_list.specs.declared.layout.Layout.{Layout}
@@ -21,7 +21,6 @@ use Rattle.ti_list.specs.Listing.{listing}
 use Rattle.ti_list.specs.Relative.{Shown, first_name, same_content, first_of, difference, differing, use_lines, relative, with_others}
 use Rattle.ti_list.specs.Listing.{items_for}
 use Rattle.ti_relisting.specs.Laid.{uses_of}
-use Rattle.ti_relisting.specs.Limits.{ImagesAreOfValues, LimitsAreOfValues}
 use Rattle.ti_relisting.specs.Shown.{CanHave, CanHaveAll, CanBeUsed}
 use Rattle.ti_relisting.specs.Laws.{PartsAreRead, RelativesCompile}
 use Rattle.ti_relisting.proofs.Orders.{all_in}

@@ -1,4 +1,3 @@
-pub mod Limits
 pub mod Shown
 pub mod Laid
 pub mod Entries

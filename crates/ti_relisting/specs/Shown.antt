@@ -4,10 +4,9 @@ use Rattle.ti_caps.specs.Tables.{Capability, IsCapability}
 use Rattle.ti_spelling.specs.Spelling.{AreBytes}
 use Rattle.ti_source.specs.Header.{IsLookupName}
 use Rattle.ti_compiled.specs.Values.{Content, content_true, content_number, content_text, content_cancelled, Contents, Agrees}
-use Rattle.ti_compiled.specs.Image.{image}
+use Rattle.ti_compiled.specs.Image.{image, limit_of}
 use Rattle.ti_list.specs.Items.{IsListable}
 use Rattle.ti_list.specs.Relative.{Shown, first_name}
-use Rattle.ti_relisting.specs.Limits.{limit_of}
 
 -- a source can give the capability this, if it is something: a value that fits it, a text of bytes, or a cancel
 abbrev pub CanHave : Capability → Option Content → Type 0

@@ -3,6 +3,7 @@ ghost use Rattle.ti_relisting.specs.Laws.{ListingsCompile, RelativesCompile};
 
 use crate::reading_back::parts_are_read;
 use ti_caps::each_kind_is_in_order;
+use ti_compiled::images_are_of_values;
 
 /// The listing of a names field and contents that a source can give, in any layout, compiles to their image, in whatever
 /// source it stands.
@@ -10,6 +11,7 @@ pub fn listings_compile()
     ensures { ListingsCompile }
 {
     each_kind_is_in_order();
+    images_are_of_values();
     parts_are_read();
 }
 
@@ -19,5 +21,6 @@ pub fn relatives_compile()
     ensures { RelativesCompile }
 {
     each_kind_is_in_order();
+    images_are_of_values();
     parts_are_read();
 }

@@ -177,8 +177,15 @@ joining_before x xs later =
     let kept = joins_by_itself x xs later in
     elim (cases_Bool (is_blank x.0)) [
       | inl t ↦ record { kept = kept; run = x ∷ later.run; rest = later.rest; whole = ap (λ r. x ∷ r) later.whole; blank = (t, later.blank); ends = later.ends; after = rw t later.after }
-      | inr f ↦ record { kept = kept; run = []; rest = x ∷ xs; whole = refl; blank = tt; ends = f;
-          after = rw f (byte_before x xs (joined false xs) (first_false (x.0 == 10) (is_white_space x.0) f) later.kept) }
+      | inr f ↦ record {
+        kept = kept;
+        run = [];
+        rest = x ∷ xs;
+        whole = refl;
+        blank = tt;
+        ends = f;
+        after = rw f (byte_before x xs (joined false xs) (first_false (x.0 == 10) (is_white_space x.0) f) later.kept);
+      }
     ]
 
 joining : (text : List Placed) → Joining text
@@ -191,7 +198,10 @@ each_is_folded block =
     let (ls, are) = some_lines whole in
     let text = without_comments false 10 whole in
     record {
-      whole = whole; lines = ls; are_placed = are_placed_so block; are_lines = are;
+      whole = whole;
+      lines = ls;
+      are_placed = are_placed_so block;
+      are_lines = are;
       joins = subst (λ t. Joins t (joined false text)) (lines_left false whole ls are) (joining text).kept;
     }
 

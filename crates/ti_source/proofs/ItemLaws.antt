@@ -8,7 +8,7 @@ use Rattle.ti_source.specs.WhiteSpace.{is_white_space, trimmed}
 use Rattle.ti_source.specs.Blocks.{last_byte}
 use Rattle.ti_source.specs.Folding.{Placed}
 use Rattle.ti_source.specs.Items.{HasNoComma, Begins, all_field, field_and_rest, takes, stands_alone, AreItems, last_item, item_ends, pair_of_bytes, single_byte, is_mark, HasNoMark, IsWhite, IsEnabled, States, empty_item, disabled_item, number_item, text_item, cancel_item, flag_item, Statement, claims_flag, claims_number, claims_text, claims_cancel}
-use Rattle.ti_source.specs.inside.Items.{field_of, after_field, taken_after, cuts, with_first, items_of, before_mark, from_mark, without_last, unmarked, valued, marked, statement_of}
+use Rattle.ti_source.specs.inside.Items.{field_of, after_field, taken_after, cuts, with_first, items_of, before_mark, from_mark, without_last, plain_statement, statement_with_value, statement_by_mark, statement_of}
 use Rattle.ti_source.proofs.ItemLemmas.{items_of-plain}
 use Rattle.ti_source.proofs.TextLemmas.{kept_before, kept_before-visible, without_end, trimmed-is, last_byte-push, without_last-push}
 
@@ -144,7 +144,7 @@ abbrev pub BeginsVisible : List ℕ → Type 0
 BeginsVisible [] = Unit {0}
 BeginsVisible (x ∷ xs) = is_white_space x ≡ false
 
-statement-of : (text : List ℕ) → IsEnabled text → text ≢ [] → statement_of text ≡ Some (marked text (from_mark text))
+statement-of : (text : List ℕ) → IsEnabled text → text ≢ [] → statement_of text ≡ Some (statement_by_mark text (from_mark text))
 statement-of [] on some = absurd (some refl)
 statement-of (x ∷ xs) on some = rw on refl
 
@@ -214,8 +214,8 @@ states-cancel name end none white on =
       without_last-push name 64,
     ) refl
 
-unmarked-flag : (x : ℕ) (xs : List ℕ) → last_byte x xs ≢ 64 → record { name = x ∷ xs; claim = claims_flag } ≡ unmarked (x ∷ xs)
-unmarked-flag x xs other = rw (ne_eqb (last_byte x xs) 64 other) refl
+plain_statement-flag : (x : ℕ) (xs : List ℕ) → last_byte x xs ≢ 64 → record { name = x ∷ xs; claim = claims_flag } ≡ plain_statement (x ∷ xs)
+plain_statement-flag x xs other = rw (ne_eqb (last_byte x xs) 64 other) refl
 
 -- a flag's name is not empty, and ends in a visible byte other than `@`
 states-flag : (name end : List ℕ) → HasNoMark name → IsWhite end → IsEnabled (name ++ end) → is_white_space (last_byte 64 name) ≡ false → last_byte 64 name ≢ 64
@@ -229,8 +229,8 @@ states-flag (x ∷ xs) end none white on visible other =
     let joined : text ≡ front ++ last ∷ end = ap (λ s. s ++ end) split ∙ append_assoc front (last ∷ []) end in
     let trims : trimmed text ≡ x ∷ xs = trimmed-is text ∙ ap without_end joined ∙ without_end-before front last end visible white ∙ sym split in
     let plain : from_mark text ≡ [] = from_mark-none text (HasNoMark-append (x ∷ xs) end none (IsWhite-no_mark end white)) in
-    let stated : statement_of text ≡ Some (marked text (from_mark text)) = statement-of text on (λ e. cc) in
-    ap Some (unmarked-flag x xs other ∙ ap unmarked (sym trims) ∙ ap (marked text) (sym plain)) ∙ sym stated
+    let states_it : statement_of text ≡ Some (statement_by_mark text (from_mark text)) = statement-of text on (λ e. cc) in
+    ap Some (plain_statement-flag x xs other ∙ ap plain_statement (sym trims) ∙ ap (statement_by_mark text) (sym plain)) ∙ sym states_it
 
 pub one_statement : (text : List ℕ) (o : Option Statement) → States text o → o ≡ statement_of text
 one_statement _ _ empty_item = refl
@@ -265,15 +265,15 @@ end_split (x ∷ xs) =
     ] later.1
 
 valued_states : (name : List ℕ) (mark : ℕ) (value : List ℕ) → HasNoMark name → is_mark mark ≡ true → IsEnabled (name ++ mark ∷ value)
-    → States (name ++ mark ∷ value) (Some (valued name mark value))
+    → States (name ++ mark ∷ value) (Some (statement_with_value name mark value))
 valued_states name mark value none m on =
     elim (eqb_tells mark 35) [
       | inl number ↦
-          let P : ℕ → Type 0 = λ b. IsEnabled (name ++ b ∷ value) → States (name ++ b ∷ value) (Some (valued name b value)) in
+          let P : ℕ → Type 0 = λ b. IsEnabled (name ++ b ∷ value) → States (name ++ b ∷ value) (Some (statement_with_value name b value)) in
           subst P (sym number.1) (number_item name value none) on
       | inr other ↦
           let text : mark ≡ 61 = eqb-true mark 61 (rw other.0 at m) in
-          let P : ℕ → Type 0 = λ b. IsEnabled (name ++ b ∷ value) → States (name ++ b ∷ value) (Some (valued name b value)) in
+          let P : ℕ → Type 0 = λ b. IsEnabled (name ++ b ∷ value) → States (name ++ b ∷ value) (Some (statement_with_value name b value)) in
           subst P (sym text) (text_item name value none) on
     ]
 
@@ -292,7 +292,7 @@ ends_visible (x ∷ xs) =
 
 -- a text without a mark, which is `x ∷ core` and white space
 unmarked_states : (x : ℕ) (core end : List ℕ) → HasNoMark (x ∷ core) → IsWhite end → IsEnabled (x ∷ core) → is_white_space (last_byte x core) ≡ false
-    → States (x ∷ core ++ end) (Some (unmarked (x ∷ core)))
+    → States (x ∷ core ++ end) (Some (plain_statement (x ∷ core)))
 unmarked_states x core end none white on visible =
     elim (eqb_tells (last_byte x core) 64) [
       | inl cancel ↦
@@ -305,13 +305,13 @@ unmarked_states x core end none white on visible =
       | inr other ↦ rw other.0 (flag_item (x ∷ core) end none white on visible other.1)
     ]
 
-marked_states : (x : ℕ) (xs rest : List ℕ) → (x == 46) ≡ false → is_white_space x ≡ false → from_mark (x ∷ xs) ≡ rest → States (x ∷ xs) (Some (marked (x ∷ xs) rest))
+marked_states : (x : ℕ) (xs rest : List ℕ) → (x == 46) ≡ false → is_white_space x ≡ false → from_mark (x ∷ xs) ≡ rest → States (x ∷ xs) (Some (statement_by_mark (x ∷ xs) rest))
 marked_states x xs (mark ∷ value) on visible e =
     let parts = mark_split (x ∷ xs) in
     let name = before_mark (x ∷ xs) in
     let split : x ∷ xs ≡ name ++ mark ∷ value = rw e at parts.0 in
     let enabled : IsEnabled (name ++ mark ∷ value) = rw (← split) on in
-    let P : List ℕ → Type 0 = λ t. States t (Some (valued name mark value)) in
+    let P : List ℕ → Type 0 = λ t. States t (Some (statement_with_value name mark value)) in
     subst P (sym split) (valued_states name mark value parts.1 (parts.2 mark value e) enabled)
 marked_states x xs [] on visible e =
     let parts = mark_split (x ∷ xs) in
@@ -322,8 +322,8 @@ marked_states x xs [] on visible e =
     let all_name : before_mark (x ∷ xs) ≡ x ∷ xs = sym (append-nil (before_mark (x ∷ xs))) ∙ sym (rw e at parts.0) in
     let none : HasNoMark (x ∷ core) = HasNoMark-front (x ∷ core) ends.0 (subst (λ (t : List ℕ). HasNoMark t) (all_name ∙ split) parts.1) in
     let seen : is_white_space (last_byte x core) ≡ false = rw kept at (ends_visible (x ∷ xs)) in
-    let P : List ℕ → Type 0 = λ t. States t (Some (unmarked (x ∷ core))) in
-    let Q : List ℕ → Type 0 = λ t. States (x ∷ xs) (Some (unmarked t)) in
+    let P : List ℕ → Type 0 = λ t. States t (Some (plain_statement (x ∷ core))) in
+    let Q : List ℕ → Type 0 = λ t. States (x ∷ xs) (Some (plain_statement t)) in
     subst Q (sym (trimmed-is (x ∷ xs) ∙ kept)) (subst P (sym split) (unmarked_states x core ends.0 none ends.2 on seen))
 
 pub has_statement : (text : List ℕ) → BeginsVisible text → States text (statement_of text)

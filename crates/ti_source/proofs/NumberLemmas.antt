@@ -10,7 +10,7 @@ use Rattle.ti_source.specs.declared.numbers.NumberError.{NumberError}
 use Rattle.ti_source.specs.declared.numbers.NumberError.TheVariants.{Bad, TooLarge}
 use Rattle.ti_source.specs.WhiteSpace.{is_white_space, trimmed}
 use Rattle.ti_source.specs.Numbers.{digit_value, IsDigit, value_in, IsNumber, octal, hexadecimal, decimal, IsNumeral, greatest_number, ReadsAs, NumeralsHaveOneValue}
-use Rattle.ti_source.specs.inside.Numbers.{digits_read, after_zero_read, value_read, within_limit, number_read, EachTextIsRead, OneReading}
+use Rattle.ti_source.specs.inside.Numbers.{digits_read, after_zero_read, value_read, within_limit, number_read, EachTextIsRead, NumbersHaveOneReading}
 
 -- ---- digits
 digits_decide : (base : ℕ) (ds : List ℕ) → Decides (list_all (λ b. nat_lt (digit_value b) base) ds) (All (IsDigit base) ds)
@@ -159,7 +159,7 @@ no_numeral : (text : List ℕ) (o : Option ℕ) → value_read (trimmed text) �
 no_numeral text None e n = refl
 no_numeral text (Some v) e n = absurd (n v (read_is_numeral text v e))
 
-pub one_reading : OneReading
+pub one_reading : NumbersHaveOneReading
 one_reading text (Ok v) h =
     let t = le-leb v greatest_number h.1 in
     ap within_limit (numeral_is_read text v h.0) ∙ rw t refl

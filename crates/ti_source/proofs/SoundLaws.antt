@@ -188,11 +188,11 @@ faults_by-lines Q n line name (refused code) q = (q, tt)
 shown-lines : (Q : ℕ → Type 0) (n : ℕ) (shown : List Placed) → AllByRecursion (λ (x : Placed). Q x.1) shown
     → AllByRecursion (λ (i : ReadItem). Q i.line) (items_at n (line_of shown) (statement_of (bytes shown))) × AllByRecursion (λ (f : ReadFault). Q f.line) (faults_at n (line_of shown) (statement_of (bytes shown)))
 shown-lines Q n [] all = (tt, tt)
-shown-lines Q n (x ∷ xs) all = stated (statement_of (bytes (x ∷ xs)))
+shown-lines Q n (x ∷ xs) all = by_statement (statement_of (bytes (x ∷ xs)))
   where
-    stated : (o : Option Statement) → AllByRecursion (λ (i : ReadItem). Q i.line) (items_at n x.1 o) × AllByRecursion (λ (f : ReadFault). Q f.line) (faults_at n x.1 o)
-    stated None = (tt, tt)
-    stated (Some s) = (items_by-lines Q n x.1 (verdict_of s.name s.claim) all.0, faults_by-lines Q n x.1 s.name (verdict_of s.name s.claim) all.0)
+    by_statement : (o : Option Statement) → AllByRecursion (λ (i : ReadItem). Q i.line) (items_at n x.1 o) × AllByRecursion (λ (f : ReadFault). Q f.line) (faults_at n x.1 o)
+    by_statement None = (tt, tt)
+    by_statement (Some s) = (items_by-lines Q n x.1 (verdict_of s.name s.claim) all.0, faults_by-lines Q n x.1 s.name (verdict_of s.name s.claim) all.0)
 
 from-lines : (Q : ℕ → Type 0) (n : ℕ) (items : List (List Placed)) → AllByRecursion (AllByRecursion (λ (x : Placed). Q x.1)) items
     → AllByRecursion (λ (i : ReadItem). Q i.line) (items_from n items) × AllByRecursion (λ (f : ReadFault). Q f.line) (faults_from n items)

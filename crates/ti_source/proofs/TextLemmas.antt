@@ -6,7 +6,7 @@ use Rattle.memchr.specs.Find.{NoneBefore}
 use Rattle.ti_source.specs.WhiteSpace.{is_white_space, trimmed}
 use Rattle.ti_source.specs.Blocks.{last_byte}
 use Rattle.ti_source.specs.Items.{is_mark}
-use Rattle.ti_source.specs.inside.Items.{before_mark, from_mark, without_last, unmarked, valued, marked, statement_of}
+use Rattle.ti_source.specs.inside.Items.{before_mark, from_mark, without_last, plain_statement, statement_with_value, statement_by_mark, statement_of}
 
 -- a text with one more byte at its front, if that is no white space before nothing
 abbrev pub kept_before : ℕ → List ℕ → List ℕ
@@ -79,17 +79,17 @@ first_mark (x ∷ xs) (suc n) h none t =
       | false ↦ λ f. (ap (λ s. x ∷ s) later.0, later.1)
     ] refl
 
-pub ruleset unmarked_lemmas = (last_byte-push, without_last-push)
+pub ruleset plain_statement_lemmas = (last_byte-push, without_last-push)
 
-statement-enabled : (s : List ℕ) (x : ℕ) (xs : List ℕ) → s ≡ x ∷ xs → x ≢ 46 → statement_of s ≡ Some (marked s (from_mark s))
+statement-enabled : (s : List ℕ) (x : ℕ) (xs : List ℕ) → s ≡ x ∷ xs → x ≢ 46 → statement_of s ≡ Some (statement_by_mark s (from_mark s))
 statement-enabled s x xs e enabled = rw (e, ne_eqb x 46 enabled) refl
 
-pub statement-marked : (s : List ℕ) (n x : ℕ) (xs : List ℕ) → s ≡ x ∷ xs → x ≢ 46 → NoneBefore (λ k. is_mark (get_or s k 0) ≡ true) 0 (length s) n → is_mark (get_or s n 0) ≡ true
-    → statement_of s ≡ Some (valued (take n s) (get_or s n 0) (drop (n + 1) s))
-statement-marked s n x xs e enabled none t =
+pub statement-statement_by_mark : (s : List ℕ) (n x : ℕ) (xs : List ℕ) → s ≡ x ∷ xs → x ≢ 46 → NoneBefore (λ k. is_mark (get_or s k 0) ≡ true) 0 (length s) n → is_mark (get_or s n 0) ≡ true
+    → statement_of s ≡ Some (statement_with_value (take n s) (get_or s n 0) (drop (n + 1) s))
+statement-statement_by_mark s n x xs e enabled none t =
     let first = first_mark s n none.high (λ k h. none.before k (omega arith) h) t in
     rw (statement-enabled s x xs e enabled, first.1, first.0, add-one) refl
 
 pub statement-plain : (s : List ℕ) (x : ℕ) (xs : List ℕ) → s ≡ x ∷ xs → x ≢ 46 → ((k : ℕ) → 0 ≤ k → k < length s → is_mark (get_or s k 0) ≡ true → ⊥)
-    → statement_of s ≡ Some (unmarked (trimmed s))
+    → statement_of s ≡ Some (plain_statement (trimmed s))
 statement-plain s x xs e enabled none = rw (statement-enabled s x xs e enabled, (no_mark s (λ k h. none k (omega arith) h)).1) refl

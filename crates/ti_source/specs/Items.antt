@@ -36,10 +36,13 @@ stands_alone before x (y ∷ ys) = not (takes before x y.0)
 -- a text, which stands just after the byte `before`, is these items with a comma between each two
 pub data AreItems : (before : ℕ) (text : List Placed) (items : List (List Placed)) → Type 0 where
   last_item : (before : ℕ) → AreItems before [] ([] ∷ [])
-  item_ends : (before line : ℕ) (text : List Placed) (items : List (List Placed)) → AreItems ascii.comma text items → AreItems before ((ascii.comma, line) ∷ text) ([] ∷ items)
-  pair_of_bytes : (before : ℕ) (x y : Placed) (text item : List Placed) (items : List (List Placed)) → takes before x.0 y.0 ≡ true → AreItems y.0 text (item ∷ items)
+  item_ends : (before line : ℕ) (text : List Placed) (items : List (List Placed)) → AreItems ascii.comma text items
+      → AreItems before ((ascii.comma, line) ∷ text) ([] ∷ items)
+  pair_of_bytes : (before : ℕ) (x y : Placed) (text item : List Placed) (items : List (List Placed)) → takes before x.0 y.0 ≡ true
+      → AreItems y.0 text (item ∷ items)
       → AreItems before (x ∷ y ∷ text) ((x ∷ y ∷ item) ∷ items)
-  single_byte : (before : ℕ) (x : Placed) (text item : List Placed) (items : List (List Placed)) → x.0 ≢ ascii.comma → stands_alone before x.0 text ≡ true → AreItems x.0 text (item ∷ items)
+  single_byte : (before : ℕ) (x : Placed) (text item : List Placed) (items : List (List Placed)) → x.0 ≢ ascii.comma
+      → stands_alone before x.0 text ≡ true → AreItems x.0 text (item ∷ items)
       → AreItems before (x ∷ text) ((x ∷ item) ∷ items)
 
 -- ---- an item: white space at its front is dropped, and it stands on the line of its first byte
@@ -122,5 +125,3 @@ without_white_front (x ∷ xs) = if is_white_space x then without_white_front xs
 -- a text without the white space at both ends
 abbrev pub stripped : List ℕ → List ℕ
 stripped text = trimmed (without_white_front text)
-
--- ---- what a reader of a folded text takes from it

@@ -1,4 +1,5 @@
 -- The numbers of a source (terminfo(5); X/Open Curses Issue 7, "Terminfo Source Format"): octal, hexadecimal or decimal, as C writes them.
+use Rattle.ti_text.specs.Limits.{number_max}
 use Rattle.ti_text.specs.Ascii as ascii
 use Rattle.ti_text.specs.Ascii.{byte_of}
 use Rattle.std.specs.Prelude.{◌≡◌, ◌≢◌, ℕ, ◌+◌, ◌-◌, ◌*◌, ◌<◌, ◌≤◌, ◌&&◌, nat_le, if◌then◌else◌, List, ◌∷◌, ◌++◌, Result, Ok, Err, All, ◌⊎◌}
@@ -26,7 +27,8 @@ value_in base digits = fold (λ value b. value * base + digit_value b) 0 digits
 -- a number as it is written, with its value: `0` and octal digits, `0x` or `0X` and hexadecimal digits, or decimal digits of which the first is not `0`
 pub data IsNumber : List ℕ → ℕ → Type 0 where
   octal : (ds : List ℕ) → All (IsDigit 8) ds → IsNumber (ascii.digit_0 ∷ ds) (value_in 8 ds)
-  hexadecimal : (x d : ℕ) (ds : List ℕ) → (x ≡ byte_of "x") ⊎ (x ≡ byte_of "X") → All (IsDigit 16) (d ∷ ds) → IsNumber (ascii.digit_0 ∷ x ∷ d ∷ ds) (value_in 16 (d ∷ ds))
+  hexadecimal : (x d : ℕ) (ds : List ℕ) → (x ≡ byte_of "x") ⊎ (x ≡ byte_of "X") → All (IsDigit 16) (d ∷ ds)
+      → IsNumber (ascii.digit_0 ∷ x ∷ d ∷ ds) (value_in 16 (d ∷ ds))
   decimal : (d : ℕ) (ds : List ℕ) → d ≢ ascii.digit_0 → All (IsDigit 10) (d ∷ ds) → IsNumber (d ∷ ds) (value_in 10 (d ∷ ds))
 
 -- a number with white space after it
@@ -39,7 +41,7 @@ pub record IsNumeral (text : List ℕ) (value : ℕ) : Type 0 where
 
 -- the greatest value that a number of a source may have
 abbrev pub greatest_number : ℕ
-greatest_number = 32767
+greatest_number = number_max
 
 -- what a reading of a text says: the value, within the limit; that there is one beyond it; or that there is none
 abbrev pub ReadsAs : List ℕ → Result ℕ NumberError → Type 0

@@ -1,4 +1,4 @@
--- What a block says (terminfo(5); X/Open Curses Issue 7, "Terminfo Source Format"), as a relation by cases, and as a function.
+-- What a block says (terminfo(5); X/Open Curses Issue 7, "Terminfo Source Format"), as a relation by cases. `inside/Parsing` computes the same, `parsed`.
 pub use Rattle.ti_source.specs.Verdicts.{Verdict, accepted, accepted_odd, refused, fits, is_import, Judges, judged_import, judged_unknown, judged_wrong_kind, judged_flag, judged_cancel, judged_number, judged_bad_number, judged_large_number, judged_text, judged_odd_text, judged_bad_text, said_by, code_by, item_fault, items_by, faults_by, header_fault}
 pub use Rattle.ti_source.specs.Header.{names_limit}
 unfoldable pub use Rattle.ti_source.specs.inside.Parsing.{parsed}
@@ -9,8 +9,6 @@ use Rattle.ti_source.specs.Header.{HeaderNames, IsBadHeader}
 use Rattle.ti_source.specs.Folding.{Placed, folded}
 use Rattle.ti_source.specs.Items.{Statement, States, Begins, AreItems, bytes, piece_of}
 use Rattle.ti_source.specs.Reading.{ReadItem, ReadFault, Reading}
-
--- ---- one statement
 
 -- ---- all items of a block, each with its place among them
 
@@ -29,7 +27,8 @@ pub data ReadsItems : (ordinal : ℕ) (items : List (List Placed)) → List Read
 -- the lookup names of a names field, and its fault
 pub data ReadsHeader : (field : List ℕ) (names : List (List ℕ)) (faults : List ReadFault) → Type 0 where
   bad_header : (field : List ℕ) → IsBadHeader field → ReadsHeader field [] (header_fault code.BadHeader ∷ [])
-  long_header : (field : List ℕ) (names : List (List ℕ)) → HeaderNames field names → names_limit < length field → ReadsHeader field names (header_fault code.NamesTooLong ∷ [])
+  long_header : (field : List ℕ) (names : List (List ℕ)) → HeaderNames field names → names_limit < length field
+      → ReadsHeader field names (header_fault code.NamesTooLong ∷ [])
   good_header : (field : List ℕ) (names : List (List ℕ)) → HeaderNames field names → length field ≤ names_limit → ReadsHeader field names []
 
 -- ---- a block
@@ -56,5 +55,3 @@ HasReading = (block : List ℕ) → Parses block (parsed block)
 -- a block has no two readings
 abbrev pub OneReading : Type 0
 OneReading = (block : List ℕ) (one other : Reading) → Parses block one → Parses block other → one ≡ other
-
--- ---- what the parts of a reader do

@@ -37,7 +37,8 @@ pub data Judges : (name : List ℕ) (claim : Claim) → Verdict → Type 0 where
       → Judges name (claims_text value) (accepted (said_import (stripped value)))
   judged_unknown : (name : List ℕ) (claim : Claim) → is_import name claim ≡ false → capability_named name ≡ None
       → Judges name claim (refused code.UnknownCapability)
-  judged_wrong_kind : (name : List ℕ) (claim : Claim) (c : Capability) → is_import name claim ≡ false → capability_named name ≡ Some c → fits claim c.kind ≡ false
+  judged_wrong_kind : (name : List ℕ) (claim : Claim) (c : Capability) → is_import name claim ≡ false → capability_named name ≡ Some c
+      → fits claim c.kind ≡ false
       → Judges name claim (refused code.WrongKind)
   judged_flag : (name : List ℕ) (c : Capability) → capability_named name ≡ Some c → c.kind ≡ kind.Flag
       → Judges name claims_flag (accepted (said_flag c))
@@ -47,13 +48,16 @@ pub data Judges : (name : List ℕ) (claim : Claim) → Verdict → Type 0 where
       → Judges name (claims_number text) (accepted (said_number c n))
   judged_bad_number : (name text : List ℕ) (c : Capability) → capability_named name ≡ Some c → c.kind ≡ kind.Number → ((n : ℕ) → IsNumeral text n → ⊥)
       → Judges name (claims_number text) (refused code.BadNumber)
-  judged_large_number : (name text : List ℕ) (c : Capability) (n : ℕ) → capability_named name ≡ Some c → c.kind ≡ kind.Number → IsNumeral text n → greatest_number < n
+  judged_large_number : (name text : List ℕ) (c : Capability) (n : ℕ) → capability_named name ≡ Some c → c.kind ≡ kind.Number → IsNumeral text n
+      → greatest_number < n
       → Judges name (claims_number text) (refused code.NumberTooLarge)
   judged_text : (name value text : List ℕ) (c : Capability) → is_import name (claims_text value) ≡ false → capability_named name ≡ Some c → c.kind ≡ kind.Text
       → Spells value text false → Judges name (claims_text value) (accepted (said_text c text))
-  judged_odd_text : (name value text : List ℕ) (c : Capability) → is_import name (claims_text value) ≡ false → capability_named name ≡ Some c → c.kind ≡ kind.Text
+  judged_odd_text : (name value text : List ℕ) (c : Capability) → is_import name (claims_text value) ≡ false → capability_named name ≡ Some c
+      → c.kind ≡ kind.Text
       → Spells value text true → Judges name (claims_text value) (accepted_odd (said_text c text))
-  judged_bad_text : (name value : List ℕ) (c : Capability) (cause : UnescapeError) → is_import name (claims_text value) ≡ false → capability_named name ≡ Some c → c.kind ≡ kind.Text
+  judged_bad_text : (name value : List ℕ) (c : Capability) (cause : UnescapeError) → is_import name (claims_text value) ≡ false
+      → capability_named name ≡ Some c → c.kind ≡ kind.Text
       → Fails value cause → Judges name (claims_text value) (refused code.BadString)
 
 -- what a statement says once it has this verdict, nothing where it is refused

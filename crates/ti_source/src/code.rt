@@ -15,7 +15,7 @@ pub enum Code {
     NamesTooLong,
     /// `E3`: the text after `#` is no number.
     BadNumber,
-    /// `E4`: the number is over 32,767.
+    /// `E4`: the number is over 2,147,483,647.
     NumberTooLarge,
     /// `E5`: the text after `=` is no string.
     BadString,
@@ -25,7 +25,7 @@ pub enum Code {
     Circular,
     /// `E8`: the entry that `use=` names is not resolved.
     Unresolved,
-    /// `E9`: the compiled entry is over 4,096 bytes.
+    /// `E9`: the compiled entry is over its limit: 32,768 bytes where a number is over 32,767, else 4,096.
     TooLarge,
     /// `W1`: no capability has the name; the item is ignored.
     UnknownCapability,

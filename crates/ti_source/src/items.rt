@@ -1,7 +1,7 @@
 // The names field and the items of a block, and what an item states.
 ghost use Rattle.std.specs.Prelude.{◌≡◌, ◌+◌, ◌<◌, ◌≤◌, IfOk, IfSome, OnOk, length, take, drop, slice_index, option_map};
 ghost use Rattle.ti_source.specs.Items.{bytes, piece, stripped};
-ghost use Rattle.ti_source.specs.inside.Items.{taken_after, cuts, field_of, after_field, TakesItem, with_byte, stated, statement_of, valued, unmarked};
+ghost use Rattle.ti_source.specs.inside.Items.{taken_after, cuts, field_of, after_field, TakesItem, with_byte, statement_in_memory, statement_of, statement_with_value, plain_statement};
 
 use crate::folding::Folded;
 use crate::white_space::{is_white_space, trim_end};
@@ -114,22 +114,22 @@ pub(crate) enum Claim<'a> {
 /// What an item states, by its text with no white space at its front. An empty item and a disabled one, which begins
 /// with a dot, state nothing.
 pub(crate) fn statement_of(text: &[u8]) -> Option<Statement<'_>>
-    ensures { option_map stated result ≡ statement_of text.now }
+    ensures { option_map statement_in_memory result ≡ statement_of text.now }
 {
     let (first, _) = text.split_first()?;
     if *first == b'.' {
         return None;
     }
     match memchr2(b'#', b'=', text) {
-        Some(end) => Some(marked(text, end)),
-        None => Some(unmarked(trim_end(text))),
+        Some(end) => Some(statement_with_value(text, end)),
+        None => Some(plain_statement(trim_end(text))),
     }
 }
 
 // What an item states in which the first mark stands at `end`: a number behind `#`, a text behind `=`.
-fn marked(text: &[u8], end: usize) -> Statement<'_>
+fn statement_with_value(text: &[u8], end: usize) -> Statement<'_>
     requires { end < length text.now }
-    ensures { stated result ≡ valued (take end text.now) (slice_index text.now end) (drop (end + 1) text.now) }
+    ensures { statement_in_memory result ≡ statement_with_value (take end text.now) (slice_index text.now end) (drop (end + 1) text.now) }
 {
     let value = &text[end + 1..];
     Statement {
@@ -143,9 +143,9 @@ fn marked(text: &[u8], end: usize) -> Statement<'_>
 }
 
 // What an item with no mark states: a cancel where it ends in `@`, else a flag.
-#[tactic(auto, using(crate::proofs::TextLemmas::unmarked_lemmas))]
-fn unmarked(text: &[u8]) -> Statement<'_>
-    ensures { stated result ≡ unmarked text.now }
+#[tactic(auto, using(crate::proofs::TextLemmas::plain_statement_lemmas))]
+fn plain_statement(text: &[u8]) -> Statement<'_>
+    ensures { statement_in_memory result ≡ plain_statement text.now }
 {
     let flag = Statement {
         name: text,
@@ -165,7 +165,7 @@ fn unmarked(text: &[u8]) -> Statement<'_>
 }
 
 /// A text without the white space at both ends.
-pub(crate) fn stripped(text: &[u8]) -> &[u8]
+pub(crate) fn strip(text: &[u8]) -> &[u8]
     ensures { result.now ≡ stripped text.now }
 {
     let mut kept = text;

@@ -6,9 +6,10 @@ ghost use Rattle.ti_source.specs.inside.Numbers as computed;
 
 use crate::white_space::trim_end;
 use thiserror::Error;
+use ti_text::limits::NUMBER_MAX;
 
 /// The greatest value of a number.
-const GREATEST: u32 = 32767;
+const GREATEST: u32 = NUMBER_MAX;
 
 /// Why a text is no number.
 #[derive(Clone, Copy, PartialEq, Eq, Debug, Error)]
@@ -16,7 +17,7 @@ pub enum NumberError {
     /// It is not written as a number is.
     #[error("bad number")]
     Bad,
-    /// Its value is over 32,767.
+    /// Its value is over 2,147,483,647.
     #[error("number too large")]
     TooLarge,
 }
@@ -56,7 +57,8 @@ fn digits_value(base: u32, digits: &[u8]) -> Option<u32>
         if digit >= base {
             return None;
         }
-        value = (value * base + digit).min(GREATEST + 1);
+        let more = u64::from(value) * u64::from(base) + u64::from(digit);
+        value = more.min(u64::from(GREATEST) + 1) as u32;
     }
     Some(value)
 }
@@ -73,7 +75,7 @@ fn value(number: &[u8]) -> Option<u32>
 ///
 /// # Errors
 ///
-/// `Bad` where the text is not written so, and `TooLarge` where its value, of however many digits, is over 32,767.
+/// `Bad` where the text is not written so, and `TooLarge` where its value, of however many digits, is over 2,147,483,647.
 pub fn read_number(text: &[u8]) -> Result<u32, NumberError>
     ensures reading { spec.ReadsAs text.now result }
     ensures computed { result ≡ computed.number_read text.now }
@@ -97,7 +99,7 @@ pub fn each_number_is_read()
 
 /// A text has no other reading.
 pub fn numbers_have_one_reading()
-    ensures { computed.OneReading }
+    ensures { computed.NumbersHaveOneReading }
 {}
 
 #[cfg(test)]
@@ -111,11 +113,12 @@ mod tests {
             (b"00".as_slice(), Ok(0)),
             (b"010".as_slice(), Ok(8)),
             (b"80 ".as_slice(), Ok(80)),
-            (b"32767\t \t".as_slice(), Ok(32767)),
-            (b"0x7fff".as_slice(), Ok(32767)),
+            (b"32768\t \t".as_slice(), Ok(32768)),
+            (b"2147483647".as_slice(), Ok(2_147_483_647)),
+            (b"0x7fffffff".as_slice(), Ok(2_147_483_647)),
             (b"0X1F".as_slice(), Ok(31)),
-            (b"32768".as_slice(), Err(NumberError::TooLarge)),
-            (b"0x8000".as_slice(), Err(NumberError::TooLarge)),
+            (b"2147483648".as_slice(), Err(NumberError::TooLarge)),
+            (b"0x80000000".as_slice(), Err(NumberError::TooLarge)),
             (
                 b"99999999999999999999".as_slice(),
                 Err(NumberError::TooLarge),

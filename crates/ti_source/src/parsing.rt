@@ -24,7 +24,7 @@ use ti_text::limits::NAMES_MAX;
 pub enum What {
     /// A flag is there.
     Flag(Cap),
-    /// A number has this value, at most 32,767.
+    /// A number has this value, at most 2,147,483,647.
     Number(Cap, u32),
     /// A text has these bytes, none of them a NUL.
     Text(Cap, RcSlice<u8>),
@@ -323,8 +323,8 @@ mod tests {
                 "0:1 W2 WrongKind cols;1:1 W2 WrongKind bel;2:1 W2 WrongKind am;",
             ),
             (
-                "x,cols#0x7fff ,it#32768,lm#00,\n",
-                "0:1 cols#32767;2:1 lm#0;1:1 E4 NumberTooLarge it;",
+                "x,cols#0x7fffffff ,it#2147483648,lm#00,\n",
+                "0:1 cols#2147483647;2:1 lm#0;1:1 E4 NumberTooLarge it;",
             ),
             ("x,bel=,\n", "0:1 bel=;"),
             ("a|,am,\n", "0:1 am;0:1 E1 BadHeader ;"),

@@ -1,12 +1,12 @@
 // What comes of what an item states.
 ghost use Rattle.std.specs.Prelude.{◌≡◌, IfOk};
-ghost use Rattle.ti_source.specs.inside.Items.{stated};
+ghost use Rattle.ti_source.specs.inside.Items.{statement_in_memory};
 ghost use Rattle.ti_source.specs.inside.Numbers.{number_read};
 ghost use Rattle.ti_source.specs.inside.Verdicts.{verdict_in_memory, verdict_of, number_verdict, text_verdict};
 ghost use Rattle.ti_spelling.specs.inside.Spelling.{unescaped};
 
 use crate::code::Code;
-use crate::items::{Claim, Statement, stripped};
+use crate::items::{Claim, Statement, strip};
 use crate::numbers::{NumberError, read_number};
 use crate::parsing::What;
 use std::alloc::{AllocError, Global};
@@ -25,13 +25,13 @@ pub(crate) enum Verdict {
 /// The verdict on a statement: first a name that is not in the tables, then one of another kind, then a value that cannot
 /// be read.
 pub(crate) fn judge(alloc: Global, statement: &Statement<'_>) -> Result<Verdict, AllocError>
-    ensures { IfOk result (λ v. verdict_in_memory v ≡ verdict_of (stated statement.now).name (stated statement.now).claim) }
+    ensures { IfOk result (λ v. verdict_in_memory v ≡ verdict_of (statement_in_memory statement.now).name (statement_in_memory statement.now).claim) }
 {
     let name = statement.name;
     if let Claim::Text(value) = statement.claim
         && name == b"use".as_slice()
     {
-        let owner = RcSlice::from_slice(alloc, stripped(value))?;
+        let owner = RcSlice::from_slice(alloc, strip(value))?;
         return Ok(Verdict::Accepted(What::Import(owner)));
     }
     let Some(cap) = find(name) else {

@@ -84,7 +84,8 @@ pub data IsPiece : (before : ℕ) (text rest : List ℕ) (byte : ℕ) (odd : Boo
 -- or a NUL, plain or behind a backslash
 pub data IsRefused : (before : ℕ) (raw : List ℕ) (cause : UnescapeError) → Type 0 where
   refused_octal : {before : ℕ} {rest : List ℕ} → 255 < octal_value (octal_digits rest) → IsRefused before (ascii.backslash ∷ rest) BadOctal
-  refused_control : {before x : ℕ} {rest : List ℕ} → is_percent before ≡ false → ((byte : ℕ) → IsControl x byte → ⊥) → IsRefused before (ascii.caret ∷ x ∷ rest) BadControl
+  refused_control : {before x : ℕ} {rest : List ℕ} → is_percent before ≡ false → ((byte : ℕ) → IsControl x byte → ⊥)
+      → IsRefused before (ascii.caret ∷ x ∷ rest) BadControl
   refused_control_at_end : {before : ℕ} → is_percent before ≡ false → IsRefused before (ascii.caret ∷ []) BadControl
   refused_nul : {before : ℕ} {rest : List ℕ} → IsRefused before (ascii.nul ∷ rest) BadByte
   refused_escaped_nul : {before : ℕ} {rest : List ℕ} → IsRefused before (ascii.backslash ∷ ascii.nul ∷ rest) BadByte
@@ -94,13 +95,15 @@ pub data IsRefused : (before : ℕ) (raw : List ℕ) (cause : UnescapeError) →
 -- `raw`, after the byte `before`, is pieces that spell the bytes of `value` in turn
 pub data SpellsAfter : (before : ℕ) (raw value : List ℕ) (odd : Bool) → Type 0 where
   spells_nothing : {before : ℕ} → SpellsAfter before [] [] false
-  spells_piece : {before byte : ℕ} {text rest value : List ℕ} {odd odd_later : Bool} → IsPiece before text rest byte odd → SpellsAfter (last_byte before text) rest value odd_later
+  spells_piece : {before byte : ℕ} {text rest value : List ℕ} {odd odd_later : Bool} → IsPiece before text rest byte odd
+      → SpellsAfter (last_byte before text) rest value odd_later
       → SpellsAfter before (text ++ rest) (byte ∷ value) (odd || odd_later)
 
 -- `raw`, after the byte `before`, is pieces, and then a rest that is refused
 pub data FailsAfter : (before : ℕ) (raw : List ℕ) (cause : UnescapeError) → Type 0 where
   fails_here : {before : ℕ} {raw : List ℕ} {cause : UnescapeError} → IsRefused before raw cause → FailsAfter before raw cause
-  fails_later : {before byte : ℕ} {text rest : List ℕ} {odd : Bool} {cause : UnescapeError} → IsPiece before text rest byte odd → FailsAfter (last_byte before text) rest cause
+  fails_later : {before byte : ℕ} {text rest : List ℕ} {odd : Bool} {cause : UnescapeError} → IsPiece before text rest byte odd
+      → FailsAfter (last_byte before text) rest cause
       → FailsAfter before (text ++ rest) cause
 
 -- the whole text; what stands before it is no `%`

@@ -3,21 +3,21 @@ use Rattle.std.specs.Prelude.{ℕ, ◌+◌, ◌-◌, ◌*◌, ◌≤◌, Bool, �
 use Rattle.ti_text.specs.Ascii as ascii
 
 -- whether a byte is a decimal digit
-abbrev pub is_digit : ℕ → Bool
-is_digit byte = nat_le ascii.digit_0 byte && nat_le byte ascii.digit_9
+abbrev pub is_decimal_digit : ℕ → Bool
+is_decimal_digit byte = nat_le ascii.digit_0 byte && nat_le byte ascii.digit_9
 
 -- a byte is a decimal digit
-abbrev pub IsDigit : ℕ → Type 0
-IsDigit byte = (ascii.digit_0 ≤ byte) × (byte ≤ ascii.digit_9)
+abbrev pub IsDecimalDigit : ℕ → Type 0
+IsDecimalDigit byte = (ascii.digit_0 ≤ byte) × (byte ≤ ascii.digit_9)
 
 -- the number that a digit writes
-abbrev pub digit_value : ℕ → ℕ
-digit_value byte = byte - ascii.digit_0
+abbrev pub decimal_digit_value : ℕ → ℕ
+decimal_digit_value byte = byte - ascii.digit_0
 
 -- the number that digits write after those of this number
 abbrev pub decimal_from : ℕ → List ℕ → ℕ
 decimal_from n [] = n
-decimal_from n (d ∷ ds) = decimal_from (10 * n + digit_value d) ds
+decimal_from n (d ∷ ds) = decimal_from (10 * n + decimal_digit_value d) ds
 
 -- the number that decimal digits write, 0 where there are none
 abbrev pub decimal : List ℕ → ℕ

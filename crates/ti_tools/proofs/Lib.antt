@@ -2,4 +2,7 @@ pub mod Asked
 pub mod Ending
 pub mod Filing
 pub mod Inserting
+pub mod Printing
 pub mod Refusing
+pub mod Rates
+pub mod Parts

@@ -1,19 +1,20 @@
 -- The jobs of the program, as plain data, and why words ask for none (own).
-use Rattle.std.specs.Prelude.{◌≡◌, ◌⊎◌, [], None, Option, option_map}
+use Rattle.std.specs.Prelude.{◌≡◌, ◌⊎◌, [], None, Option, map, option_map}
 use Rattle.std.specs.String.{string_bytes}
 use Rattle.clap.specs.Kinds.{IsAmong, Kinds}
 use Rattle.clap.specs.declared.error.kind.ErrorKind.{ErrorKind}
 use Rattle.clap.specs.declared.error.kind.ErrorKind.TheVariants as kind
-use Rattle.ti_tools.specs.Arguments.{Task, task_session, task_tic}
+use Rattle.ti_tools.specs.Arguments.{Task, task_session, task_tic, task_tput}
 use Rattle.ti_tools.specs.declared.arguments.UsageError.{UsageError}
 use Rattle.ti_tools.specs.declared.arguments.UsageError.TheVariants as usage
 use Rattle.ti_tools.specs.declared.jobs.Job.{Job}
-use Rattle.ti_tools.specs.declared.jobs.Job.TheVariants.{Session, Tic}
+use Rattle.ti_tools.specs.declared.jobs.Job.TheVariants.{Session, Tic, Tput}
 
 -- a job that holds its words in memory, as plain data
 abbrev pub task_of : Job → Task
 task_of (Tic check dir file) =
     task_tic check (option_map string_bytes dir) (option_map string_bytes file)
+task_of (Tput lines term rate words) = task_tput lines (option_map string_bytes term) rate (map string_bytes words.items)
 task_of Session = task_session
 
 -- what a fault that clap finds is to the program

@@ -1,8 +1,10 @@
 -- The definitions that the contracts of this crate cite.
 pub mod Arguments
 pub mod Commands
+pub mod Stopping
 pub mod EntryFiles
 pub mod Insertions
 pub mod Jobs
 pub mod Sources
 pub mod Tic
+pub mod Infocmp

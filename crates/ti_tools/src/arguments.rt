@@ -1,8 +1,9 @@
 //! What the words of a command line ask for.
-ghost use Rattle.std.specs.Prelude.{◌≡◌, ◌⊎◌, [], IfErr, IfOk, None, OnOk, Some, map, option_map, true};
+ghost use Rattle.std.specs.Prelude.{◌≡◌, ◌⊎◌, [], IfErr, IfOk, None, OnOk, Some, codes, map, option_map, true};
 ghost use Rattle.std.specs.String.{string_bytes};
+ghost use Rattle.clap.specs.Walk.{all_of};
 ghost use Rattle.clap.specs.Words.{first_of, found_of, rows_of, subcommand_rows_of};
-ghost use Rattle.ti_tools.specs.Arguments.{Task, faults_of, is_on, job_of, taken, task_in, tic_task};
+ghost use Rattle.ti_tools.specs.Arguments.{Task, faults_of, is_on, is_word_count, job_of, rate_in, taken, task_in, tic_task, tput_task, tput_with};
 ghost use Rattle.ti_tools.specs.Jobs.{IsRefusal, refusal_of, task_of};
 ghost use Rattle.ti_tools.specs.declared.arguments.UsageError.TheVariants.{Memory};
 
@@ -83,6 +84,80 @@ fn tic_job(alloc: Global, matches: &ArgMatches<'_>) -> Result<Job, AllocError>
     Ok(Job::Tic { check, dir, file })
 }
 
+// The values of an argument that may have many.
+fn values<'m, 'a>(matches: &'m ArgMatches<'a>, id: &str) -> Option<&'m [&'a str]>
+    ensures { option_map (λ values. map (λ value. value.now) values.now) result ≡ all_of id.now (rows_of (found_of matches.now)) }
+{
+    matches.get_strs(id)
+}
+
+// Texts of their own.
+fn texts(alloc: Global, words: &[&str]) -> Result<Vec<String>, AllocError>
+    ensures { IfOk result (λ texts. map string_bytes texts.items ≡ map (λ word. word.now) words.now) }
+{
+    let mut texts = Vec::new(alloc);
+    for word in words {
+        texts.push(String::from_str(alloc, word)?)?;
+    }
+    Ok(texts)
+}
+
+// The rate of `--rate`, 0 where it is not there.
+fn rate(matches: &ArgMatches<'_>) -> Option<u32>
+    ensures { result ≡ rate_in (first_of (codes "rate") (rows_of (found_of matches.now))) }
+{
+    match value(matches, "rate") {
+        Some(text) => text.parse().ok(),
+        None => Some(0),
+    }
+}
+
+// Whether so many words may stand there: none with `-S`, else a name and at most nine parameters.
+fn is_word_count(lines: bool, count: usize) -> bool
+    ensures { result ≡ is_word_count lines count }
+{
+    if lines {
+        count == 0
+    } else {
+        0 < count && count < 11
+    }
+}
+
+// The job of `tput` with these words.
+fn tput_of(alloc: Global, matches: &ArgMatches<'_>, words: &[&str]) -> Result<Job, UsageError>
+    ensures right { IfOk result (λ job. tput_with (rows_of (found_of matches.now)) (map (λ word. word.now) words.now)
+        ≡ Some (task_of job)) }
+    ensures refused { IfErr result (λ error. (error ≡ UsageError.Memory)
+        ⊎ ((error ≡ UsageError.Usage) × (tput_with (rows_of (found_of matches.now)) (map (λ word. word.now) words.now) ≡ None))) }
+{
+    let lines = on(matches, "lines");
+    let Some(rate) = rate(matches) else {
+        return Err(UsageError::Usage);
+    };
+    if !is_word_count(lines, words.len()) {
+        return Err(UsageError::Usage);
+    }
+    let term = text(alloc, matches, "term")?;
+    let words = texts(alloc, words)?;
+    Ok(Job::Tput {
+        lines,
+        term,
+        rate,
+        words,
+    })
+}
+
+fn tput_job(alloc: Global, matches: &ArgMatches<'_>) -> Result<Job, UsageError>
+    ensures right { IfOk result (λ job. tput_task (rows_of (found_of matches.now)) ≡ Some (task_of job)) }
+    ensures refused { IfErr result (λ error. (error ≡ UsageError.Memory)
+        ⊎ ((error ≡ UsageError.Usage) × (tput_task (rows_of (found_of matches.now)) ≡ None))) }
+{
+    match values(matches, "words") {
+        Some(words) => tput_of(alloc, matches, words),
+        None => tput_of(alloc, matches, &[]),
+    }
+}
+
 // The job of the subcommand that was used.
 fn used_job(alloc: Global, matches: &ArgMatches<'_>) -> Result<Job, UsageError>
     ensures right { IfOk result (λ job. task_in (subcommand_rows_of matches.now)
@@ -92,6 +167,7 @@ fn used_job(alloc: Global, matches: &ArgMatches<'_>) -> Result<Job, UsageError>
 {
     match matches.subcommand() {
         Some(("tic", inner)) => Ok(tic_job(alloc, inner)?),
+        Some(("tput", inner)) => tput_job(alloc, inner),
         Some(("session", _)) => Ok(Job::Session),
         _ => Err(UsageError::Usage),
     }

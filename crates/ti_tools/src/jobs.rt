@@ -12,6 +12,17 @@ pub enum Job {
         /// The file of the source, or `None` for standard input.
         file: Option<String>,
     },
+    /// Write what drives a terminal.
+    Tput {
+        /// Read commands from standard input, one a line.
+        lines: bool,
+        /// The terminal, where it was said.
+        term: Option<String>,
+        /// The speed of the line to it in bits a second; at 0 nothing is padded.
+        rate: u32,
+        /// A capability's name and its parameters; none with `lines`.
+        words: Vec<String>,
+    },
     /// Read a script and answer it.
     Session,
 }

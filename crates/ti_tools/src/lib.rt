@@ -6,6 +6,7 @@
 //! - `compiling`: what `tic` makes of a source: files, a report and a status. Before it `sources`
 //!   refuses what is over a limit, `insertions` puts the blocks into a database, and `entry_files` names
 //!   the files of the entries
+//! - `listings`: what `infocmp` prints of entries
 //! - `laws`: that the listing of an entry, and its relative source, compile back to the entry
 //!
 //! The crate `ti_session` below it has the session, and `ti_devices` the counted devices, the trees of files
@@ -15,20 +16,26 @@
 pub mod arguments;
 pub mod commands;
 pub mod compiling;
+pub mod stopping;
 mod entry_files;
 mod insertions;
 pub mod jobs;
 pub mod laws;
+mod listings;
 mod outcome;
 mod sources;
 
 pub use arguments::{UsageError, job};
 pub use commands::command;
 pub use compiling::tic;
+pub use stopping::{message, status};
 pub use jobs::Job;
+pub use listings::{InfocmpMode, InfocmpOptions, infocmp};
 pub use outcome::{TicOptions, TicOutcome};
 pub use ti_devices::{Counted, File, MemTree, Tally, ToolError, Tree, TreeFault, place};
+pub use ti_list::{Layout, Order};
 pub use ti_session::session;
+pub use ti_tput::{TputOutcome, entry, locate, places, tput, tput_lines};
 
 #[cfg(test)]
 mod tests;

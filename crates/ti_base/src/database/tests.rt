@@ -223,6 +223,22 @@ fn the_largest_entry(rt: HostRuntime) -> Result<(), Fail> {
     Ok(())
 }
 
+/// A number over 32,767 gives an entry 32,768 bytes; without it the same entry is over its limit.
+#[test]
+fn the_largest_extended_entry(rt: HostRuntime) -> Result<(), Fail> {
+    let largest = with_cbt(rt.alloc(), "x", 32747, ",cols#32768")?;
+    let larger = with_cbt(rt.alloc(), "x", 32748, ",cols#32768")?;
+    let short = with_cbt(rt.alloc(), "x", 32747, ",cols#80")?;
+    let mut database = source(rt.alloc(), &[&largest])?;
+    let size = database.compiled(0).map_or(0, |entry| entry.len());
+    assert_eq!(rt; size, 32768);
+    assert_eq!(rt; database.replace(0, &larger), Ok(Edited {}));
+    expect_report(&rt, &database, "1: E9 TooLarge x\n")?;
+    assert_eq!(rt; database.replace(0, &short), Ok(Edited {}));
+    expect_entry(&rt, &database, 0, None);
+    Ok(())
+}
+
 #[test]
 fn a_run_goes_on_after_a_refusal(rt: HostRuntime) -> Result<(), Fail> {
     let edits = [

@@ -203,3 +203,27 @@ fn any_changed_byte_is_answered(rt: HostRuntime) -> Result<(), Fail> {
     assert_eq!(rt; read, 1);
     Ok(())
 }
+
+/// Numbers of 32 bits, though none needs them.
+const EXTENDED: [u8; 18] = [
+    0x1e, 0x02, 0x02, 0x00, 0x00, 0x00, 0x01, 0x00, 0x00, 0x00, 0x00, 0x00, 0x78, 0x00, 0x50, 0x00,
+    0x00, 0x00,
+];
+
+#[test]
+fn numbers_of_32_bits_are_read(rt: HostRuntime) -> Result<(), Fail> {
+    let alloc = rt.alloc();
+    assert_eq!(rt; number(&View::read(&EXTENDED)?, "cols"), Some(80));
+    let wide = with(alloc, &EXTENDED, &[(16, 0x01)])?;
+    assert_eq!(rt; number(&View::read(&wide)?, "cols"), Some(65_616));
+    let cancelled = [(14, 0xfe), (15, 0xff), (16, 0xff), (17, 0xff)];
+    let void = with(alloc, &EXTENDED, &cancelled)?;
+    assert_eq!(rt; number(&View::read(&void)?, "cols"), None);
+    let bad = [(14, 0xfd), (15, 0xff), (16, 0xff), (17, 0xff)];
+    assert_eq!(rt;
+        refusal(&with(alloc, &EXTENDED, &bad)?),
+        Some(ReadError::BadNumber)
+    );
+    assert_eq!(rt; refusal(&EXTENDED[..17]), Some(ReadError::Truncated));
+    Ok(())
+}

@@ -4,7 +4,7 @@ ghost use Rattle.ti_compiled.specs.Values.{HasNoNul};
 use super::*;
 use std::rc::RcSlice;
 use std::test::Fail;
-use ti_caps::find;
+use ti_caps::{Kind, find};
 
 fn has_no_nul(bytes: &[u8]) -> bool
     ensures { IsTrue result ↔ HasNoNul bytes.now }
@@ -28,7 +28,7 @@ fn set_flag(table: &mut Table, index: usize) -> Result<(), AllocError> {
 }
 
 fn set_number(table: &mut Table, index: usize, n: u32) -> Result<(), AllocError>
-    requires { n ≤ 32767 }
+    requires { n ≤ 2147483647 }
 {
     match Cap::at(Kind::Number, index) {
         Some(cap) => table.set(cap, Some(Value::Number(n))),
@@ -165,5 +165,64 @@ fn keeps_to_the_limits(rt: HostRuntime) -> Result<(), Fail> {
     assert_eq!(rt; size(written(alloc, b"xy", &table)), 4096);
     set_text(&mut table, alloc, 0, &letters[..4078])?;
     assert!(rt; is_refused(written(alloc, b"x", &table), WriteError::TooLarge));
+    Ok(())
+}
+
+// An entry with a number over 32,767 has numbers of 32 bits; every other one keeps its bytes.
+#[test]
+fn writes_numbers_of_32_bits(rt: HostRuntime) -> Result<(), Fail> {
+    let alloc = rt.alloc();
+    let mut table = Table::new(alloc);
+    set_number(&mut table, 0, 32767)?;
+    let short = b"\x1a\x01\x02\0\0\0\x01\0\0\0\0\0x\0\xff\x7f";
+    assert!(rt; is_written(written(alloc, b"x", &table), short));
+    set_number(&mut table, 0, 32768)?;
+    let long = b"\x1e\x02\x02\0\0\0\x01\0\0\0\0\0x\0\0\x80\0\0";
+    assert!(rt; is_written(written(alloc, b"x", &table), long));
+    set_number(&mut table, 0, 2_147_483_647)?;
+    let longest = b"\x1e\x02\x02\0\0\0\x01\0\0\0\0\0x\0\xff\xff\xff\x7f";
+    assert!(rt; is_written(written(alloc, b"x", &table), longest));
+    set_flag(&mut table, 1)?;
+    set_number(&mut table, 0, 65536)?;
+    set_number(&mut table, 2, 24)?;
+    let several =
+        b"\x1e\x02\x02\0\x02\0\x03\0\0\0\0\0x\0\0\x01\0\0\x01\0\xff\xff\xff\xff\x18\0\0\0";
+    assert!(rt; is_written(written(alloc, b"x", &table), several));
+    Ok(())
+}
+
+#[test]
+fn keeps_to_the_limit_of_its_format(rt: HostRuntime) -> Result<(), Fail> {
+    let alloc = rt.alloc();
+    let letters = vec![in alloc; b'A'; 32748]?;
+    let mut table = Table::new(alloc);
+    set_number(&mut table, 0, 32768)?;
+    set_text(&mut table, alloc, 0, &letters[..32747])?;
+    assert_eq!(rt; size(written(alloc, b"x", &table)), 32768);
+    set_number(&mut table, 0, 80)?;
+    assert!(rt; is_refused(written(alloc, b"x", &table), WriteError::TooLarge));
+    set_number(&mut table, 0, 32768)?;
+    set_text(&mut table, alloc, 0, &letters)?;
+    assert!(rt; is_refused(written(alloc, b"x", &table), WriteError::TooLarge));
+    Ok(())
+}
+
+#[test]
+fn merges_what_is_absent(rt: HostRuntime) -> Result<(), Fail> {
+    let alloc = rt.alloc();
+    let mut first = Table::new(alloc);
+    set_flag(&mut first, 1)?;
+    set_text(&mut first, alloc, 1, b"B")?;
+    if let Some(cap) = find(b"lines") {
+        first.set(cap, Some(Value::Cancelled))?;
+    }
+    let mut second = Table::new(alloc);
+    set_number(&mut second, 0, 80)?;
+    set_number(&mut second, 2, 24)?;
+    set_text(&mut second, alloc, 0, b"A")?;
+    set_text(&mut second, alloc, 1, b"C")?;
+    first.merge(&second)?;
+    let want = b"\x1a\x01\x02\0\x02\0\x01\0\x02\0\x04\0x\0\0\x01\x50\0\0\0\x02\0A\0B\0";
+    assert!(rt; is_written(written(alloc, b"x", &first), want));
     Ok(())
 }

@@ -8,7 +8,7 @@ fn graph_of(alloc: Global, rows: &[&[Option<usize>]]) -> Result<Graph, AllocErro
     for row in rows {
         graph.add_node()?;
         for edge in *row {
-            if graph.len() > 0 {
+            if graph.node_count() > 0 {
                 graph.add_edge(*edge)?;
             }
         }
@@ -62,7 +62,7 @@ fn chain(alloc: Global, nodes: usize, first: Option<usize>) -> Result<Graph, All
     let mut graph = Graph::with_capacity(alloc, nodes, nodes)?;
     for node in 0..nodes {
         graph.add_node()?;
-        if graph.len() > 0 {
+        if graph.node_count() > 0 {
             graph.add_edge(if node == 0 { first } else { Some(node - 1) })?;
         }
     }
@@ -84,7 +84,7 @@ fn long_chain_and_ring(rt: HostRuntime) -> Result<(), Fail> {
 fn edge_past_the_last_node(rt: HostRuntime) -> Result<(), Fail> {
     let graph = graph_of(rt.alloc(), &[&[Some(1)], &[None, Some(2)]])?;
     assert!(rt; !graph.is_whole());
-    assert_eq!(rt; graph.len(), 2);
+    assert_eq!(rt; graph.node_count(), 2);
     assert_eq!(rt; graph.row(1), [None, Some(2)].as_slice());
     Ok(())
 }

@@ -2,7 +2,7 @@
 use Rattle.std.specs.Prelude.{◌≡◌, ℕ, Bool, true, false, ◌&&◌, ◌||◌, List, [], ◌∷◌, ◌++◌, length, pos, if◌then◌else◌, ◌==◌, nat_lt, nat_le, Option, Some, None, option_map, is_some}
 use Rattle.ti_text.specs.Ascii.{byte_of}
 use Rattle.ti_text.specs.Ascii as ascii
-use Rattle.ti_text.specs.Digits.{is_digit, decimal}
+use Rattle.ti_text.specs.Digits.{is_decimal_digit, decimal}
 use Rattle.ti_text.specs.Limits.{number_max}
 use Rattle.ti_param.specs.declared.codes.Code.TheVariants.{Print, Parameter, Store, Fetch, Constant}
 use Rattle.ti_param.specs.declared.codes.Token.{Token}
@@ -45,7 +45,7 @@ constant_before ds (x ∷ rest) =
 
 -- the code of a constant in digits, by the text after its `{`
 unfoldable pub number_after : List ℕ → Front Token
-number_after text = constant_before (span is_digit text).0 (span is_digit text).1
+number_after text = constant_before (span is_decimal_digit text).0 (span is_decimal_digit text).1
 
 -- the flags that the first of two texts writes, and the second text
 abbrev pub flags_of : List ℕ × List ℕ → Flags × List ℕ
@@ -63,7 +63,7 @@ precision_of parts = if nat_le (decimal parts.0) greatest_size then Some (Some (
 -- the precision at the front of a text, none where no `.` stands there, and the text after it
 unfoldable pub precision_after : List ℕ → Front (Option ℕ)
 precision_after [] = Some (None, [])
-precision_after (x ∷ rest) = if x == ascii.dot then precision_of (span is_digit rest) else Some (None, x ∷ rest)
+precision_after (x ∷ rest) = if x == ascii.dot then precision_of (span is_decimal_digit rest) else Some (None, x ∷ rest)
 
 -- the printf form of these flags, a width of these digits, at most 999, and a precision, before its conversion
 unfoldable pub directive_with : Flags → List ℕ → Front (Option ℕ) → Front Directive
@@ -79,12 +79,12 @@ directive_with flags ds (Some (precision, x ∷ rest)) =
 unfoldable pub directive_after : List ℕ → Front Directive
 directive_after text =
     let flags = flags_after text in
-    let width = span is_digit flags.1 in
+    let width = span is_decimal_digit flags.1 in
     directive_with flags.0 width.0 (precision_after width.1)
 
 -- whether a byte begins a printf form: `:`, a flag, a digit, `.` or a conversion
 abbrev pub begins_directive : ℕ → Bool
-begins_directive x = (x == ascii.colon || is_flag false x) || (is_digit x || (x == ascii.dot || is_some (row_for x conversions)))
+begins_directive x = (x == ascii.colon || is_flag false x) || (is_decimal_digit x || (x == ascii.dot || is_some (row_for x conversions)))
 
 -- the code that begins with a byte that begins no printf form, by the text after that byte
 unfoldable pub letter_after : ℕ → List ℕ → Front Token

@@ -1,7 +1,7 @@
 -- The cut of a text into paddings and other bytes, computed (own).
 use Rattle.std.specs.Prelude.{ℕ, zero, suc, ◌+◌, ◌-◌, ◌*◌, Bool, true, false, List, [], ◌∷◌, length, drop, take, if◌then◌else◌, ◌==◌, Option, Some, None, option_and_then}
 use Rattle.ti_text.specs.Ascii as ascii
-use Rattle.ti_text.specs.Digits.{is_digit, digit_value, decimal}
+use Rattle.ti_text.specs.Digits.{is_decimal_digit, decimal_digit_value, decimal}
 use Rattle.ti_printing.specs.declared.padding.Padding.{Padding}
 use Rattle.ti_printing.specs.declared.padding.Part.{Part}
 use Rattle.ti_printing.specs.declared.padding.Part.TheVariants.{Literal, Delay}
@@ -15,7 +15,7 @@ after_byte byte (first ∷ rest) = if first == byte then Some rest else None
 abbrev pub digits_len : ℕ → List ℕ → ℕ
 digits_len zero text = 0
 digits_len (suc most) [] = 0
-digits_len (suc most) (byte ∷ text) = if is_digit byte then suc (digits_len most text) else 0
+digits_len (suc most) (byte ∷ text) = if is_decimal_digit byte then suc (digits_len most text) else 0
 
 -- the number and what follows it
 abbrev pub milliseconds_at : List ℕ → Option (ℕ × List ℕ)
@@ -26,7 +26,7 @@ milliseconds_at text = let len = digits_len 5 text in
 abbrev pub tenths_in : Option (List ℕ) → List ℕ → ℕ × List ℕ
 tenths_in None text = (0, text)
 tenths_in (Some []) text = (0, text)
-tenths_in (Some (digit ∷ rest)) text = if is_digit digit then (digit_value digit, rest) else (0, text)
+tenths_in (Some (digit ∷ rest)) text = if is_decimal_digit digit then (decimal_digit_value digit, rest) else (0, text)
 
 -- the tenths that the text begins with, 0 where there are none, and what follows them
 abbrev pub tenths_at : List ℕ → ℕ × List ℕ
@@ -51,7 +51,8 @@ marks_at text =
 
 -- the padding of that time, where a `>` follows its marks
 abbrev pub padding_with : ℕ → Bool × Bool × List ℕ → Option (Padding × List ℕ)
-padding_with time marks = option_and_then (λ rest. Some (record { tenths = time; proportional = marks.0; mandatory = marks.1 }, rest)) (after_byte ascii.greater_than marks.2)
+padding_with time marks =
+    option_and_then (λ rest. Some (record { tenths = time; proportional = marks.0; mandatory = marks.1 }, rest)) (after_byte ascii.greater_than marks.2)
 
 -- the padding of these milliseconds, which the text after them goes on with, and what follows it
 abbrev pub padding_from : ℕ × List ℕ → Option (Padding × List ℕ)
@@ -59,7 +60,8 @@ padding_from whole = let part = tenths_at whole.1 in padding_with (10 * whole.0 
 
 -- the padding that the text begins with, and what follows it
 unfoldable pub padding_at : List ℕ → Option (Padding × List ℕ)
-padding_at text = option_and_then (λ opened. option_and_then (λ inner. option_and_then padding_from (milliseconds_at inner)) (after_byte ascii.less_than opened)) (after_byte ascii.dollar text)
+padding_at text =
+    option_and_then (λ opened. option_and_then (λ inner. option_and_then padding_from (milliseconds_at inner)) (after_byte ascii.less_than opened)) (after_byte ascii.dollar text)
 
 -- the first part of a text: the padding that it begins with, else its first byte
 abbrev pub first_part : Option (Padding × List ℕ) → ℕ → Part

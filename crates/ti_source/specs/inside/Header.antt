@@ -11,7 +11,8 @@ is_name_byte b = nat_le ascii.exclamation_mark b && nat_le b ascii.tilde && not 
 
 -- whether a text is a lookup name
 abbrev pub is_lookup_name : List ℕ → Bool
-is_lookup_name name = not (length name == 0) && not (bytes_eq name (ascii.dot ∷ [])) && not (bytes_eq name (ascii.dot ∷ ascii.dot ∷ [])) && list_all is_name_byte name
+is_lookup_name name = not (length name == 0) && not (bytes_eq name (ascii.dot ∷ [])) && not (bytes_eq name (ascii.dot ∷ ascii.dot ∷ []))
+    && list_all is_name_byte name
 
 -- the parts of a field
 abbrev pub parts_of : List ℕ → List (List ℕ)

@@ -23,7 +23,10 @@ after_field (x ∷ xs) = if x.0 == ascii.comma then xs else after_field xs
 
 -- what takes the byte after `x`, where `before` stands just before `x` and `by` takes `x` itself
 abbrev pub taken_after : Taken → ℕ → ℕ → Taken
-taken_after taken.Nothing before x = if x == ascii.backslash then taken.Backslash else if x == ascii.caret && not (before == ascii.percent) then taken.Caret else taken.Nothing
+taken_after taken.Nothing before x =
+    if x == ascii.backslash then taken.Backslash
+    else if x == ascii.caret && not (before == ascii.percent) then taken.Caret
+    else taken.Nothing
 taken_after taken.Backslash before x = taken.Nothing
 taken_after taken.Caret before x = taken.Nothing
 
@@ -63,25 +66,25 @@ without_last (x ∷ []) = []
 without_last (x ∷ y ∷ ys) = x ∷ without_last (y ∷ ys)
 
 -- what a text with no mark states, white space at its end set aside
-abbrev pub unmarked : List ℕ → Statement
-unmarked text =
+abbrev pub plain_statement : List ℕ → Statement
+plain_statement text =
     if last_byte 0 text == ascii.at_sign
     then record { name = without_last text; claim = claims_cancel }
     else record { name = text; claim = claims_flag }
 
 -- the statement of a name with a value: a number where the mark is a `#`, else a text
-abbrev pub valued : List ℕ → ℕ → List ℕ → Statement
-valued name mark value = record { name = name; claim = if mark == ascii.number_sign then claims_number value else claims_text value }
+abbrev pub statement_with_value : List ℕ → ℕ → List ℕ → Statement
+statement_with_value name mark value = record { name = name; claim = if mark == ascii.number_sign then claims_number value else claims_text value }
 
 -- what a text states, given what stands from its first mark on
-abbrev pub marked : List ℕ → List ℕ → Statement
-marked text [] = unmarked (trimmed text)
-marked text (mark ∷ value) = valued (before_mark text) mark value
+abbrev pub statement_by_mark : List ℕ → List ℕ → Statement
+statement_by_mark text [] = plain_statement (trimmed text)
+statement_by_mark text (mark ∷ value) = statement_with_value (before_mark text) mark value
 
 -- what an item states, by its text with no white space at its front, computed
 abbrev pub statement_of : List ℕ → Option Statement
 statement_of [] = None
-statement_of (x ∷ xs) = if x == ascii.dot then None else Some (marked (x ∷ xs) (from_mark (x ∷ xs)))
+statement_of (x ∷ xs) = if x == ascii.dot then None else Some (statement_by_mark (x ∷ xs) (from_mark (x ∷ xs)))
 
 -- an item with one more byte at its end
 abbrev pub with_byte : Piece → Placed → Piece
@@ -106,5 +109,5 @@ claim_of (claims.Text text) = claims_text text.now
 claim_of claims.Cancel = claims_cancel
 
 -- a statement that holds its texts in memory, as plain data
-abbrev pub stated : StatementInMemory → Statement
-stated s = record { name = s.name.now; claim = claim_of s.claim }
+abbrev pub statement_in_memory : StatementInMemory → Statement
+statement_in_memory s = record { name = s.name.now; claim = claim_of s.claim }

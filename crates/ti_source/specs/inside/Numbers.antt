@@ -37,5 +37,5 @@ abbrev pub EachTextIsRead : Type 0
 EachTextIsRead = (text : List ℕ) → ReadsAs text (number_read text)
 
 -- no text reads as anything else
-abbrev pub OneReading : Type 0
-OneReading = (text : List ℕ) (r : Result ℕ NumberError) → ReadsAs text r → number_read text ≡ r
+abbrev pub NumbersHaveOneReading : Type 0
+NumbersHaveOneReading = (text : List ℕ) (r : Result ℕ NumberError) → ReadsAs text r → number_read text ≡ r

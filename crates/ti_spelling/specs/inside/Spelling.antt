@@ -15,11 +15,15 @@ use Rattle.ti_spelling.specs.Spelling.{Fails, Spells, is_octal_digit, is_percent
 
 -- the piece of a backslash and these octal digits
 abbrev pub octal_piece : List ℕ → Result Piece UnescapeError
-octal_piece digits = if nat_le (octal_value digits) 255 then Ok (record { size = length digits + 1; byte = not_nul (octal_value digits); odd = false }) else Err BadOctal
+octal_piece digits =
+    if nat_le (octal_value digits) 255
+    then Ok (record { size = length digits + 1; byte = not_nul (octal_value digits); odd = false })
+    else Err BadOctal
 
 -- the piece of a backslash and a letter without a name, before xs
 abbrev pub unnamed_piece : ℕ → List ℕ → Result Piece UnescapeError
-unnamed_piece x xs = if is_octal_digit x then octal_piece (octal_digits (x ∷ xs)) else (if x == ascii.nul then Err BadByte else Ok (record { size = 2; byte = x; odd = true }))
+unnamed_piece x xs = if is_octal_digit x then octal_piece (octal_digits (x ∷ xs))
+    else (if x == ascii.nul then Err BadByte else Ok (record { size = 2; byte = x; odd = true }))
 
 -- the piece of a backslash and a letter, by the byte that its name has
 abbrev pub named_piece : Option ℕ → Result Piece UnescapeError → Result Piece UnescapeError

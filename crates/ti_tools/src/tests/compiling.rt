@@ -94,6 +94,10 @@ fn the_first_entry_of_a_source(rt: HostRuntime) -> Result<(), Fail> {
             b"x,cols#8,cols#9,\n".as_slice(),
             b"\x1a\x01\x02\0\0\0\x01\0\0\0\0\0x\0\x08\0".as_slice(),
         ),
+        (
+            b"x,am,cols#65536,lines#24,\n".as_slice(),
+            b"\x1e\x02\x02\0\x02\0\x03\0\0\0\0\0x\0\0\x01\0\0\x01\0\xff\xff\xff\xff\x18\0\0\0".as_slice(),
+        ),
     ] {
         let outcome = made(alloc, source, false)?;
         assert!(rt; outcome.report.is_empty() && outcome.status == 0);
@@ -109,7 +113,7 @@ fn sources_with_faults(rt: HostRuntime) -> Result<(), Fail> {
     for (source, report, status, files) in [
         (b"a|,\n".as_slice(), b"1: E1 BadHeader\n".as_slice(), 1, 0),
         (
-            b"x,cols#32768,\n".as_slice(),
+            b"x,cols#2147483648,\n".as_slice(),
             b"1: E4 NumberTooLarge cols\n".as_slice(),
             1,
             0,

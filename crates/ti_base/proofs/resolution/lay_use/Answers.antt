@@ -11,5 +11,5 @@ returns c =
     let tables = c.args.tables.now in
     let within : c.in-Some.at < length tables = omega (arith, c.in-Some.ensures.within, c.requires.as_many, length-map c.args.blocks.now reading_of) in
     let stands = slice_get_read tables (length tables) c.in-Some.at (Some c.in-Some-tables.used) refl within (rw c.in-Some-tables.is at c.index-tables-at.is) in
-    laid_name contents (map reading_of c.args.blocks.now) tables c.args.name.now c.in-Some.at c.in-Some-tables.used (contents c.args.table.now) (contents c.merge.new.table)
-    c.requires (sym c.in-Some.ensures.owner) stands c.in_ok-merge.ensures
+    laid_name contents (map reading_of c.args.blocks.now) tables c.args.name.now c.in-Some.at c.in-Some-tables.used (contents c.args.table.now) (contents c.merge.new.self)
+    c.requires (sym c.in-Some.ensures.owner) stands (λ k valid. c.in_ok-merge.ensures.merged k)

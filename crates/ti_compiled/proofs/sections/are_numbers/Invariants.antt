@@ -1,6 +1,7 @@
-use Rattle.std.proofs.Common.{ℕ, ◌*◌, ◌<◌, ◌⊎◌}
-use Rattle.ti_compiled.specs.Reading.{word_at, IsPlain, IsVoid}
+use Rattle.std.proofs.Common.{ℕ, ◌*◌, ◌<◌}
+use Rattle.ti_compiled.specs.Layout.{width}
+use Rattle.ti_compiled.specs.Reading.{number_at, IsNumber}
 use Rattle.ti_compiled.proofs.sections.are_numbers.Given as goal
 
 abbrev pub invariant-loop-index : goal.invariant-loop-index
-invariant-loop-index l = (k : ℕ) → k < l.index → IsPlain (word_at (2 * k) l.numbers) ⊎ IsVoid (word_at (2 * k) l.numbers)
+invariant-loop-index l = (k : ℕ) → k < l.index → IsNumber l.format (number_at l.format (width l.format * k) l.numbers)

@@ -1,12 +1,28 @@
--- each word is the next piece of the numbers
-use Rattle.std.proofs.Common.{ap, ◌∙◌, unwrap_or}
-use Rattle.ti_compiled.specs.Image.{word_of}
-use Rattle.ti_compiled.proofs.Growing.{begun, grown, word_of_number, numbers_below-none, numbers_below-more}
+use Rattle.std.proofs.Common.{ap, sym, subst, arith}
+use Rattle.ti_caps.specs.declared.capability.Kind.TheVariants.{Number}
+use Rattle.ti_compiled.specs.Values.{content_of}
+use Rattle.ti_compiled.proofs.Walked.{is_of}
+use Rattle.ti_compiled.proofs.Laying.{HasNumbers, numbers_begun, numbers_done, number_laid, no_number, passed, behind, all_past}
+use Rattle.ti_compiled.proofs.writing.push_numbers.Goals.{in-Number+in_ok-push_fill+in_ok-push_number, in_default}
 use Rattle.ti_compiled.proofs.writing.push_numbers.Goals as goal
 
-pub loop-index-init : goal.loop-index-init
-loop-index-init c = begun _ _ (numbers_below-none _)
+pub loop-entry-init : goal.loop-entry-init
+loop-entry-init c = numbers_begun _ _ _
 
-pub loop-index-preserved : goal.loop-index-preserved
-loop-index-preserved c =
-    grown _ _ _ _ _ _ _ (numbers_below-more _ _) (ap word_of c.unwrap_or.ensures ∙ ap (λ o. word_of (unwrap_or o 65535)) c.number_at.ensures ∙ word_of_number _) c.loop-index.invariant c.in_ok-push_word.ensures
+pub overflow_sub-index : goal.overflow_sub-index
+overflow_sub-index c = behind _ c.requires _ _ _ c.loop-entry-test.true c.entry-item.is Number _ c.loop-entry.invariant.walked (ap (λ v. is_of Number (content_of v)) c.in-Number.is) c.index.ensures.value
+
+pub loop-entry-preserved : goal.loop-entry-preserved
+loop-entry-preserved c = elim c.match-entry.branch [
+  | in-Number+in_ok-push_fill+in_ok-push_number w ↦
+      subst (λ im. HasNumbers _ _ _ im.items _ _) (sym w.image-is) (number_laid _ c.requires _ _ _ c.loop-entry-test.true c.entry-item.is _ _ _ _ _ _ _ w.index.ensures.value w.index-places.ensures.value w.places-is _ _ _ w.in-Number.is c.loop-entry.invariant
+      w.width.ensures.value w.in_ok-push_fill.ensures w.in_ok-push_number.ensures)
+  | in_default w ↦
+      record {
+        walked = passed _ c.requires _ _ _ c.loop-entry-test.true c.entry-item.is Number _ c.loop-entry.invariant.walked (no_number _ w.in_default.not-Number) w.places-is;
+        so_far = rw (w.image-is, w.places-is) c.loop-entry.invariant.so_far;
+      }
+]
+
+pub returns : goal.returns
+returns c = numbers_done _ c.requires _ _ _ (all_past _ _ c.loop-entry-test.false) _ _ c.loop-entry.invariant

@@ -1,8 +1,6 @@
-use Rattle.std.proofs.Common.{◌≡◌, ◌++◌}
-use Rattle.ti_compiled.specs.Growing.{numbers_below}
-use Rattle.ti_compiled.specs.Values.{contents}
+use Rattle.ti_compiled.specs.Values.{entries_of}
+use Rattle.ti_compiled.proofs.Laying.{HasNumbers}
 use Rattle.ti_compiled.proofs.writing.push_numbers.Given as goal
 
--- what was there, and the places before this one
-abbrev pub invariant-loop-index : goal.invariant-loop-index
-invariant-loop-index l = l.image.items ≡ l.initial.image.items ++ numbers_below (contents l.table) l.index
+abbrev pub invariant-loop-entry : goal.invariant-loop-entry
+invariant-loop-entry l = HasNumbers l.format (entries_of l.entries) l.initial.image.items l.image.items l.entry-index l.places

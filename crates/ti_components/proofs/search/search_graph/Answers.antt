@@ -8,19 +8,19 @@ use Rattle.ti_components.proofs.search.search_graph.Goals.{in-Unseen+in_ok-walk,
 
 pub loop-root-init : goal.loop-root-init
 loop-root-init c =
-    let fresh : IsFresh c.in_ok-search.search (length c.args.graph.now) = rw (← c.len-nodes.ensures) c.in_ok-search.ensures in
+    let fresh : IsFresh c.in_ok-search.search (length c.args.graph.now) = rw (← c.node_count-nodes.ensures) c.in_ok-search.ensures in
     met_none c.args.graph.now c.in_ok-search.search fresh
 
 pub walk-requires-clause-unseen : goal.walk-requires-clause-unseen
 walk-requires-clause-unseen c =
     let s = c.loop-root.search in
-    let within : c.loop-root.root < length s.progress.items = omega (arith, c.loop-root.invariant.idle.walk.going.nodes, c.len-nodes.ensures) in
+    let within : c.loop-root.root < length s.progress.items = omega (arith, c.loop-root.invariant.idle.walk.going.nodes, c.node_count-nodes.ensures) in
     rw c.in-Unseen.is at (slice_get_read s.progress.items (length s.progress.items) c.loop-root.root c.index.result.now refl within c.index.ensures)
 
 pub loop-root-preserved : goal.loop-root-preserved
 loop-root-preserved c =
     let s = c.loop-root.search in
-    let within : c.loop-root.root < length s.progress.items = omega (arith, c.loop-root.invariant.idle.walk.going.nodes, c.len-nodes.ensures) in
+    let within : c.loop-root.root < length s.progress.items = omega (arith, c.loop-root.invariant.idle.walk.going.nodes, c.node_count-nodes.ensures) in
     let here = slice_get_read s.progress.items (length s.progress.items) c.loop-root.root c.index.result.now refl within c.index.ensures in
     elim c.match-index.branch [
       | in-Unseen+in_ok-walk w ↦ rw w.search-is (met_more c.args.graph.now s w.walk.new.self c.loop-root.root c.loop-root.invariant w.in_ok-walk.ensures)
@@ -30,4 +30,4 @@ loop-root-preserved c =
     ]
 
 pub returns : goal.returns
-returns c = met_all c.args.graph.now c.loop-root.search c.loop-root.root c.loop-root.invariant (omega (arith, c.len-nodes.ensures))
+returns c = met_all c.args.graph.now c.loop-root.search c.loop-root.root c.loop-root.invariant (omega (arith, c.node_count-nodes.ensures))

@@ -1,4 +1,3 @@
-use Rattle.ti_relisting.proofs.Imaging.{images_of_values, limits_of_values}
 use Rattle.ti_relisting.proofs.EntryLaws.{AreKnown, relistings}
 use Rattle.ti_relisting.proofs.entries.several_listings_compile_back.Goals as goal
 
@@ -11,8 +10,8 @@ returns c =
       well_read = c.each_is_well_read.ensures;
       read = c.images_are_read.ensures;
       one = c.one_reading-2.ensures;
-      images = images_of_values;
-      limits = limits_of_values;
+      images = c.images_are_of_values.ensures.images;
+      limits = c.images_are_of_values.ensures.limits;
       ordered = c.each_kind_is_in_order.ensures;
     } in
     relistings known c.parts_are_blocks.ensures c.listings_compile.ensures

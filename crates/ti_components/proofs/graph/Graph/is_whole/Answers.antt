@@ -8,7 +8,7 @@ returns-then-not-is_row_below c = (
   (λ t. absurd (false≢true t)),
   λ whole. c.if-not-is_row_below.ensures.1 (λ k to e.
       let within = whole c.loop-node.node to (record { row = c.row.result.now; place = k; stands = c.row.ensures; leads = e }) in
-      omega (arith, c.len.ensures)),
+      omega (arith, c.node_count.ensures)),
 )
 
 pub loop-node-preserved : goal.loop-node-preserved
@@ -17,10 +17,10 @@ loop-node-preserved c = λ from to l edge.
       | inl same ↦
           let row : edge.row ≡ c.row.result.now = same_Some edge.row c.row.result.now (sym edge.stands ∙ (rw same c.row.ensures)) in
           let below = c.if-not-is_row_below.ensures.0 refl edge.place to (rw row at edge.leads) in
-          omega (arith, c.len.ensures)
+          omega (arith, c.node_count.ensures)
       | inr other ↦ c.loop-node.invariant from to (omega arith) edge
     ]
 
 pub returns : goal.returns
 returns c =
-    ((λ t. λ from to edge. c.loop-node.invariant from to (omega (arith, slice_get_within c.args.self.now from edge.row edge.stands, c.len-node-end.ensures)) edge), λ whole. refl)
+    ((λ t. λ from to edge. c.loop-node.invariant from to (omega (arith, slice_get_within c.args.self.now from edge.row edge.stands, c.node_count-node-end.ensures)) edge), λ whole. refl)

@@ -1,0 +1,7 @@
+pub mod Lists
+pub mod Labelling
+pub mod Placing
+pub mod Keeping
+pub mod Filtering
+pub mod Naming
+pub mod LawProofs

@@ -1,0 +1,27 @@
+-- Laws of lists of the ids that pass a test, in the order of all.
+use Rattle.std.specs.Prelude.{ℕ, ◌≡◌, ◌<◌, List, [], Bool, true, false, Some, slice_get, filter, insert, remove}
+use Rattle.ti_index.specs.Listing.{AreAmong}
+
+-- each stands among all
+abbrev pub ListsAreAmong : Type 0
+ListsAreAmong = (listed : List ℕ) (test : ℕ → Bool) → AreAmong (filter test listed) listed
+
+-- an id that fails the test comes and goes without a change of the list
+pub record ListsStay : Type 0 where
+  pub inserted : (listed : List ℕ) (position id : ℕ) (test : ℕ → Bool) → test id ≡ false → filter test (insert listed position id) ≡ filter test listed
+  pub removed : (listed : List ℕ) (position id : ℕ) (test : ℕ → Bool) → slice_get listed position ≡ Some id → test id ≡ false → filter test (remove listed position) ≡ filter test listed
+
+-- tests that agree on all ids give one list
+abbrev pub ListsAgree : Type 0
+ListsAgree = (listed : List ℕ) (test other : ℕ → Bool) → ((i id : ℕ) → slice_get listed i ≡ Some id → test id ≡ other id) → filter test listed ≡ filter other listed
+
+-- the id stands at that position and passes, and none before it does
+pub record IsFirstPassing (listed : List ℕ) (test : ℕ → Bool) (position id : ℕ) : Type 0 where
+  pub stands : slice_get listed position ≡ Some id
+  pub passes : test id ≡ true
+  pub first : (before other : ℕ) → before < position → slice_get listed before ≡ Some other → test other ≡ false
+
+-- the first of the list is the first of all that passes, and where it is empty none does
+pub record FirstsAreFirst : Type 0 where
+  pub some : (listed : List ℕ) (test : ℕ → Bool) (id : ℕ) → slice_get (filter test listed) 0 ≡ Some id → (position : ℕ) × IsFirstPassing listed test position id
+  pub none : (listed : List ℕ) (test : ℕ → Bool) → filter test listed ≡ [] → (position id : ℕ) → slice_get listed position ≡ Some id → test id ≡ false

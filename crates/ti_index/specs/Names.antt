@@ -1,0 +1,46 @@
+-- Names with the blocks that have and use them, as an index shows them.
+use Rattle.std.specs.Prelude.{ℕ, ◌≡◌, ◌≢◌, ◌≤◌, ◌-◌, List, [], Option}
+use Rattle.std.specs.Option.{option_map_or}
+use Rattle.std.specs.Vec.{vec_len, vec_capacity}
+use Rattle.std.specs.BTreeMap.{BTreeMap, get_by}
+use Rattle.std.specs.Cmp.Lexicographic.{slice_cmp}
+use Rattle.std.specs.Ordering.{nat_cmp}
+use Rattle.std.specs.declared.vec.Vec.{Vec}
+use Rattle.std.specs.declared.alloc.Global.{Global}
+use Rattle.ti_index.specs.declared.names.Mentions.{Mentions}
+use Rattle.ti_index.specs.declared.names.NameIndex.{NameIndex}
+
+-- what a map has at a name
+abbrev pub found_in : BTreeMap (Vec ℕ Global) Mentions → List ℕ → Option Mentions
+found_in map name = get_by (λ key. slice_cmp nat_cmp name key.items) map
+
+abbrev pub mentions_at : NameIndex → List ℕ → Option Mentions
+mentions_at index name = found_in index.entries name
+
+-- the blocks that have the name, and those that use it
+abbrev pub holders_at : NameIndex → List ℕ → List ℕ
+holders_at index name = option_map_or (λ m. m.holders.items) (mentions_at index name) []
+
+abbrev pub users_at : NameIndex → List ℕ → List ℕ
+users_at index name = option_map_or (λ m. m.users.items) (mentions_at index name) []
+
+-- for how many more there is room
+abbrev pub holder_room : NameIndex → List ℕ → ℕ
+holder_room index name = option_map_or (λ m. vec_capacity m.holders - vec_len m.holders) (mentions_at index name) 0
+
+abbrev pub user_room : NameIndex → List ℕ → ℕ
+user_room index name = option_map_or (λ m. vec_capacity m.users - vec_len m.users) (mentions_at index name) 0
+
+-- both show the same blocks of a name
+pub record IsSeenSame (old new : NameIndex) (name : List ℕ) : Type 0 where
+  pub holders : holders_at new name ≡ holders_at old name
+  pub users : users_at new name ≡ users_at old name
+
+-- no room was lost
+pub record KeepsRoom (old new : NameIndex) (name : List ℕ) : Type 0 where
+  pub holders : holder_room old name ≤ holder_room new name
+  pub users : user_room old name ≤ user_room new name
+
+-- all other names are as before
+abbrev pub KeepsOthers : NameIndex → NameIndex → List ℕ → Type 0
+KeepsOthers old new name = (other : List ℕ) → other ≢ name → mentions_at new other ≡ mentions_at old other

@@ -1,0 +1,22 @@
+// Laws of the lists that an index keeps, for what stands on them. They compute nothing.
+ghost use Rattle.ti_index.specs.Laws.{FirstsAreFirst, ListsAgree, ListsAreAmong, ListsStay};
+
+/// Each id of a list stands in the order of all.
+pub fn lists_are_among()
+    ensures { ListsAreAmong }
+{}
+
+/// A list stays as it is when an id that is not of it comes or goes.
+pub fn lists_stay()
+    ensures { ListsStay }
+{}
+
+/// A list depends on which of all ids are of it, and on nothing else.
+pub fn lists_agree()
+    ensures { ListsAgree }
+{}
+
+/// The first id of a list is the first of all that is of it.
+pub fn firsts_are_first()
+    ensures { FirstsAreFirst }
+{}

@@ -1,0 +1,140 @@
+// The ids of blocks in the order of their list.
+ghost use Rattle.std.specs.Prelude.{◌≡◌, ◌<◌, ◌≤◌, ◌^◌, ◌++◌, ◌∷◌, ◌↔◌, [], ℕ, Some, slice_get, length, insert, remove, vec_len, vec_capacity, IsTrue, OnOk, OnErr};
+ghost use Rattle.ti_index.specs.Labels.{Has, IsDistinct};
+ghost use Rattle.ti_index.specs.Listing.{AreAmong, ListsBefore};
+
+use crate::labels::{find_place, make_label};
+use std::alloc::{AllocError, Global};
+use std::marker::Model;
+
+/// Ids in the order of a list. An id stays with its block while others come and go, and is used
+/// again once its block has gone. Its place in the list is found by a label that rises along the
+/// list, as is which of two ids stands first.
+#[derive(Drop)]
+pub struct Order {
+    /// The ids that stand in the list, in its order.
+    ids: Vec<u32>,
+    /// The label of each id.
+    labels: Vec<u64>,
+    /// The ids that stand nowhere.
+    free: Vec<u32>,
+}
+
+impl Model for Order {
+    ghost use Rattle.std.specs.Prelude.{List, ℕ, vec_capacity};
+    ghost use Rattle.ti_index.specs.Order.{Ids, IsOrder};
+
+    ghost Value = { Ids };
+
+    ghost view = { λ o. record { listed = o.ids.items; free = o.free.items } };
+
+    ghost invariant = { λ o. IsOrder o.ids.items o.labels.items o.free.items (vec_capacity o.ids) (vec_capacity o.free) };
+}
+
+impl Order {
+    /// No ids. It takes no memory.
+    pub fn new(alloc: Global) -> Order
+        ensures listed { result.listed ≡ [] }
+        ensures free { result.free ≡ [] }
+    {
+        Order {
+            ids: Vec::new(alloc),
+            labels: Vec::new(alloc),
+            free: Vec::new(alloc),
+        }
+    }
+
+    /// The ids in the order of the list.
+    pub fn ids(&self) -> &[u32]
+        ensures ids { result.now ≡ self.now.listed }
+        ensures distinct { IsDistinct self.now.listed }
+    {
+        &self.ids
+    }
+
+    /// The position of an id that stands in the list, in time logarithmic in the list's length.
+    pub fn position(&self, id: u32) -> usize
+        requires { Has self.now.listed id }
+        ensures { slice_get self.now.listed result ≡ Some id }
+    {
+        find_place(&self.ids, &self.labels, id)
+    }
+
+    /// Whether one id stands before another in the list.
+    pub fn is_before(&self, one: u32, other: u32) -> bool
+        requires one { Has self.now.listed one }
+        requires other { Has self.now.listed other }
+        ensures { (i j : ℕ) → slice_get self.now.listed i ≡ Some one → slice_get self.now.listed j ≡ Some other
+            → IsTrue result ↔ (i < j) }
+    {
+        self.labels[one as usize] < self.labels[other as usize]
+    }
+
+    /// How many ids of a list, which are in the order of all, stand before an id.
+    pub(crate) fn count_before(&self, list: &[u32], id: u32) -> usize
+        requires stands { Has self.now.listed id }
+        requires among { AreAmong list.now self.now.listed }
+        ensures within { result ≤ length list.now }
+        ensures count { ListsBefore self.now.listed list.now id result }
+        ensures distinct { IsDistinct self.now.listed }
+    {
+        let label = self.labels[id as usize];
+        let mut low = 0;
+        let mut high = list.len();
+        while low < high {
+            let middle = low + (high - low) / 2;
+            if self.labels[list[middle] as usize] < label {
+                low = middle + 1;
+            } else {
+                high = middle;
+            }
+        }
+        low
+    }
+
+    /// Sees to a free id, so that one can be put in. Nothing else changes; where memory is short
+    /// nothing does.
+    pub fn reserve(&mut self) -> Result<(), AllocError>
+        requires { length self.old.listed < 2 ^ 31 }
+        ensures listed { self.new.listed ≡ self.old.listed }
+        ensures ok { OnOk result (0 < length self.new.free) }
+        ensures kept { 0 < length self.old.free → self.new.free ≡ self.old.free }
+        ensures err { OnErr result (self.new ≡ self.old) }
+    {
+        if self.free.is_empty() {
+            let id = self.labels.len();
+            self.ids.reserve(1)?;
+            self.free.reserve(id + 1)?;
+            self.labels.push(0)?;
+            self.free.push_reserved(id as u32);
+        }
+        Ok(())
+    }
+
+    /// Puts the id that was freed last in at a position, and gives it. It takes no memory.
+    pub fn insert(&mut self, position: usize) -> u32
+        requires within { position ≤ length self.old.listed }
+        requires room { 0 < length self.old.free }
+        ensures listed { self.new.listed ≡ insert self.old.listed position result }
+        ensures free { self.old.free ≡ self.new.free ++ result ∷ [] }
+        ensures fresh { ¬ Has self.old.listed result }
+    {
+        let label = make_label(&self.ids, &mut self.labels, position);
+        let id = self.free.pop().unwrap();
+        self.labels[id as usize] = label;
+        self.ids.insert(position, id).unwrap();
+        id
+    }
+
+    /// Takes the id at a position out, and gives it. It is free from then on.
+    pub fn remove(&mut self, position: usize) -> u32
+        requires { position < length self.old.listed }
+        ensures id { slice_get self.old.listed position ≡ Some result }
+        ensures listed { self.new.listed ≡ remove self.old.listed position }
+        ensures free { self.new.free ≡ self.old.free ++ result ∷ [] }
+    {
+        let id = self.ids.remove(position);
+        self.free.push_reserved(id);
+        id
+    }
+}

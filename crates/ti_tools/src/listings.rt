@@ -1,0 +1,123 @@
+//! What `infocmp` prints of entries.
+ghost use Rattle.std.specs.Prelude.{◌≡◌, ◌≢◌, ◌⊎◌, ◌↔◌, ◌++◌, [], IfErr, IfOk, IsErrOf, None, OnOk, Some, map};
+ghost use Rattle.std.specs.List.{flat_map};
+ghost use Rattle.ti_list.specs.Comparison.{comparison};
+ghost use Rattle.ti_list.specs.Relative.{relative, shown};
+ghost use Rattle.ti_tools.specs.Infocmp.{infocmp_result, listings};
+
+use std::alloc::{AllocError, Global};
+use ti_compiled::View;
+use ti_devices::ToolError;
+use ti_list::{Layout, ListError, Mode, Order, compare, list, relative};
+
+/// What `infocmp` prints of its entries.
+#[derive(Clone, Copy, PartialEq, Eq, Debug)]
+pub enum InfocmpMode {
+    /// Each entry in turn as source text.
+    List,
+    /// Where the first differs from each of the others.
+    Differ,
+    /// What the first has in common with each of the others.
+    Common,
+    /// What neither the first nor the other has, for each of the others.
+    Neither,
+    /// The first as source text that uses the others.
+    Relative,
+}
+
+/// The options of [`infocmp`].
+#[derive(Clone, Copy, PartialEq, Eq, Debug)]
+pub struct InfocmpOptions {
+    /// What is printed.
+    pub mode: InfocmpMode,
+    /// How source text is laid out; rows stand in its order.
+    pub layout: Layout,
+}
+
+// The listing of each entry in turn.
+fn listings(
+    alloc: Global,
+    views: &[View<'_>],
+    layout: &Layout,
+) -> Result<Vec<u8>, AllocError>
+    ensures { IfOk result (λ text. text.items ≡ listings (map (λ view. shown view) views.now) layout.now) }
+{
+    let Some((first, others)) = views.split_first() else {
+        return Ok(Vec::new(alloc));
+    };
+    let mut text = list(alloc, first, layout)?;
+    for view in others {
+        let listing = list(alloc, view, layout)?;
+        text.extend_from_slice(listing.as_slice())?;
+    }
+    Ok(text)
+}
+
+// The comparison of an entry with each of the others in turn.
+fn comparisons(
+    alloc: Global,
+    first: &View<'_>,
+    others: &[View<'_>],
+    mode: Mode,
+    order: Order,
+) -> Result<Vec<u8>, AllocError>
+    ensures { IfOk result (λ text. text.items
+        ≡ flat_map (λ other. comparison (shown first.now) other mode order) (map (λ view. shown view) others.now)) }
+{
+    let mut text = Vec::new(alloc);
+    for other in others {
+        let comparison = compare(alloc, first, other, mode, order)?;
+        text.extend_from_slice(comparison.as_slice())?;
+    }
+    Ok(text)
+}
+
+// The source of an entry that uses the others, of which there is one at least.
+fn relation(
+    alloc: Global,
+    first: &View<'_>,
+    others: &[View<'_>],
+    layout: &Layout,
+) -> Result<Vec<u8>, AllocError>
+    requires { others.now ≢ [] }
+    ensures { IfOk result (λ text. text.items ≡ relative (shown first.now) (map (λ view. shown view) others.now) layout.now) }
+{
+    match relative(alloc, first, others, layout) {
+        Ok(text) => Ok(text),
+        Err(_) => Err(AllocError),
+    }
+}
+
+/// What `infocmp` prints of entries that were read, as infocmp(1) has it: each entry in turn as source text, the comparison of
+/// the first with each of the others in turn, or the first as source text that uses the others.
+///
+/// # Errors
+/// `Usage` where a mode other than listing has fewer than two entries; then `Memory`.
+pub fn infocmp(
+    alloc: Global,
+    views: &[View<'_>],
+    options: &InfocmpOptions,
+) -> Result<Vec<u8>, ToolError>
+    ensures ok { IfOk result (λ text. infocmp_result (map (λ view. shown view) views.now) options.now ≡ Some text.items) }
+    ensures usage { IsErrOf result ToolError.Usage ↔ (infocmp_result (map (λ view. shown view) views.now) options.now ≡ None) }
+    ensures only { IfErr result (λ e. (e ≡ ToolError.Usage) ⊎ (e ≡ ToolError.Memory)) }
+{
+    let layout = &options.layout;
+    if options.mode == InfocmpMode::List {
+        return Ok(listings(alloc, views, layout)?);
+    }
+    let Some((first, others)) = views.split_first() else {
+        return Err(ToolError::Usage);
+    };
+    if others.is_empty() {
+        return Err(ToolError::Usage);
+    }
+    let text = match options.mode {
+        InfocmpMode::List => listings(alloc, views, layout),
+        InfocmpMode::Differ => comparisons(alloc, first, others, Mode::Differ, layout.order),
+        InfocmpMode::Common => comparisons(alloc, first, others, Mode::Common, layout.order),
+        InfocmpMode::Neither => comparisons(alloc, first, others, Mode::Neither, layout.order),
+        InfocmpMode::Relative => relation(alloc, first, others, layout),
+    };
+    Ok(text?)
+}

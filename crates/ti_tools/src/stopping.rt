@@ -1,0 +1,211 @@
+//! How a tool that stops ends: its exit status, and the line on standard error.
+ghost use Rattle.std.specs.Prelude.{◌≡◌, [], None, Some, codes, decimal, map, option_map};
+ghost use Rattle.std.specs.List.{concat};
+ghost use Rattle.ti_devices.specs.Counted.{observed};
+ghost use Rattle.ti_devices.specs.Writing.{Wrote};
+ghost use Rattle.ti_tools.specs.Stopping.{is_known, line_parts, message_parts, message_text, plain_status, plain_text, refusal_name, status_of, tool_name, tput_status};
+
+use crate::jobs::Job;
+use itoa::Buffer;
+use std::io::Write;
+use ti_caps::find;
+use ti_compiled::ReadError;
+use ti_devices::{Counted, ToolError, write_out};
+
+// The exit status of `tput`.
+fn tput_status(error: &ToolError, found: bool) -> u8
+    ensures { result ≡ tput_status error.now found }
+{
+    match error {
+        ToolError::Usage => 2,
+        ToolError::NoTerminal | ToolError::BadEntry(_) => 3,
+        ToolError::ReadFault if !found => 3,
+        _ => 255,
+    }
+}
+
+// The exit status of the other tools.
+fn plain_status(error: &ToolError) -> u8
+    ensures { result ≡ plain_status error.now }
+{
+    match error {
+        ToolError::Usage => 2,
+        _ => 1,
+    }
+}
+
+/// The exit status of a tool that stops: 2 at bad usage, else 1; of `tput` 3 at an unknown terminal, at a bad entry and at a
+/// fault on the way to it, else 255. `found` says that the entry was read.
+pub fn status(job: &Job, error: &ToolError, found: bool) -> u8
+    ensures { result ≡ status_of job.now error.now found }
+{
+    match job {
+        Job::Tput { .. } => tput_status(error, found),
+        Job::Tic { .. } | Job::Session => plain_status(error),
+    }
+}
+
+// The name of the tool of a job.
+fn tool_name(job: &Job) -> &'static [u8]
+    ensures { result.now ≡ tool_name job.now }
+{
+    match job {
+        Job::Tic { .. } => b"tic",
+        Job::Tput { .. } => b"tput",
+        Job::Session => b"session",
+    }
+}
+
+// The name of the refusal of an entry.
+fn refusal_name(error: ReadError) -> &'static [u8]
+    ensures { result.now ≡ refusal_name error }
+{
+    match error {
+        ReadError::Short => b"Short",
+        ReadError::Magic => b"Magic",
+        ReadError::Counts => b"Counts",
+        ReadError::Truncated => b"Truncated",
+        ReadError::BadNames => b"BadNames",
+        ReadError::BadFlag => b"BadFlag",
+        ReadError::BadNumber => b"BadNumber",
+        ReadError::BadOffset => b"BadOffset",
+    }
+}
+
+// What a fault is called that has no name or number.
+fn plain_text(error: &ToolError) -> &'static [u8]
+    ensures { result.now ≡ plain_text error.now }
+{
+    match error {
+        ToolError::Usage => b"no terminal named",
+        ToolError::NoTerminal => b"unknown terminal",
+        ToolError::BadEntry(_) => b"bad entry",
+        ToolError::ReadFault => b"read fault",
+        ToolError::WriteFault => b"write fault",
+        ToolError::LineTooLong => b"line too long",
+        ToolError::BlockTooLong(_) => b"block too long",
+        ToolError::TooManyBlocks => b"too many blocks",
+        ToolError::Memory => b"out of memory",
+    }
+}
+
+// Whether `tput` knows a name, so that its string is bad.
+fn is_known(name: &[u8]) -> bool
+    ensures { result ≡ is_known name.now }
+{
+    find(name).is_some() || name == b"init".as_slice() || name == b"reset".as_slice()
+}
+
+// Writes the parts of a text.
+fn write_parts<W: Write>(writer: &mut Counted<W>, parts: &[&[u8]]) -> Result<(), ToolError>
+    ensures { Wrote (observed W.contents writer.old) (observed W.contents writer.new) (concat (map (λ part. part.now) parts.now)) result }
+{
+    for part in parts {
+        write_out(writer, part)?;
+    }
+    Ok(())
+}
+
+/// A line that begins with the name of a tool.
+#[derive(Clone, Copy)]
+struct Line<'a> {
+    tool: &'a [u8],
+    head: &'a [u8],
+    subject: &'a [u8],
+    link: &'a [u8],
+    detail: &'a [u8],
+    end: &'a [u8],
+}
+
+// Writes a line.
+fn write_line<W: Write>(writer: &mut Counted<W>, line: Line<'_>) -> Result<(), ToolError>
+    ensures { Wrote (observed W.contents writer.old) (observed W.contents writer.new)
+        (concat (line_parts line.entry.tool.now line.entry.head.now line.entry.subject.now line.entry.link.now line.entry.detail.now line.entry.end.now)) result }
+{
+    write_parts(writer, &[line.tool, line.head, line.subject, line.link, line.detail, line.end])
+}
+
+// The line of a fault that has no name or number.
+fn write_plain<W: Write>(writer: &mut Counted<W>, tool: &[u8], error: &ToolError) -> Result<(), ToolError>
+    ensures { Wrote (observed W.contents writer.old) (observed W.contents writer.new)
+        (concat (line_parts tool.now (codes ": ") [] [] (plain_text error.now) (codes "\n"))) result }
+{
+    write_line(writer, Line { tool, head: b": ", subject: b"", link: b"", detail: plain_text(error), end: b"\n" })
+}
+
+// The line on a name.
+fn write_named<W: Write>(writer: &mut Counted<W>, tool: &[u8], head: &[u8], name: &[u8]) -> Result<(), ToolError>
+    ensures { Wrote (observed W.contents writer.old) (observed W.contents writer.new)
+        (concat (line_parts tool.now head.now name.now [] [] (codes "\"\n"))) result }
+{
+    write_line(writer, Line { tool, head, subject: name, link: b"", detail: b"", end: b"\"\n" })
+}
+
+// The line on a bad entry.
+fn write_refusal<W: Write>(writer: &mut Counted<W>, tool: &[u8], name: &[u8], why: ReadError) -> Result<(), ToolError>
+    ensures { Wrote (observed W.contents writer.old) (observed W.contents writer.new)
+        (concat (line_parts tool.now (codes ": bad entry \"") name.now (codes "\" (") (refusal_name why) (codes ")\n"))) result }
+{
+    write_line(writer, Line { tool, head: b": bad entry \"", subject: name, link: b"\" (", detail: refusal_name(why), end: b")\n" })
+}
+
+// The line on a block that is too long.
+fn write_block<W: Write>(writer: &mut Counted<W>, tool: &[u8], number: usize) -> Result<(), ToolError>
+    ensures { Wrote (observed W.contents writer.old) (observed W.contents writer.new)
+        (concat (line_parts tool.now (codes ": ") [] (codes "block too long at line ") (decimal number) (codes "\n"))) result }
+{
+    let mut buffer = Buffer::new();
+    let detail = buffer.format(number).as_bytes();
+    write_line(writer, Line { tool, head: b": ", subject: b"", link: b"block too long at line ", detail, end: b"\n" })
+}
+
+// The line on a fault.
+fn write_fault<W: Write>(writer: &mut Counted<W>, tool: &[u8], name: &[u8], error: &ToolError) -> Result<(), ToolError>
+    ensures { Wrote (observed W.contents writer.old) (observed W.contents writer.new)
+        (concat (message_parts tool.now name.now (Some error.now))) result }
+{
+    match error {
+        ToolError::NoTerminal => write_named(writer, tool, b": unknown terminal \"", name),
+        ToolError::BadEntry(why) => write_refusal(writer, tool, name, *why),
+        ToolError::BlockTooLong(number) => write_block(writer, tool, *number),
+        ToolError::Usage
+        | ToolError::ReadFault
+        | ToolError::WriteFault
+        | ToolError::LineTooLong
+        | ToolError::TooManyBlocks
+        | ToolError::Memory => write_plain(writer, tool, error),
+    }
+}
+
+// The line on a capability that is unknown, or whose string is bad.
+fn write_capability<W: Write>(writer: &mut Counted<W>, tool: &[u8], name: &[u8]) -> Result<(), ToolError>
+    ensures { Wrote (observed W.contents writer.old) (observed W.contents writer.new)
+        (concat (message_parts tool.now name.now None)) result }
+{
+    if is_known(name) {
+        return write_named(writer, tool, b": bad string \"", name);
+    }
+    write_named(writer, tool, b": unknown terminfo capability \"", name)
+}
+
+/// Writes the line for standard error on which a tool that stops says why: the name of the tool, what the fault is, and the
+/// name of the terminal that it speaks of, in quotes. `None` stands for the status 4 of `tput`: `name` is then a capability
+/// that is unknown, or whose string is bad.
+///
+/// # Errors
+/// `WriteFault`.
+pub fn message<W: Write>(
+    job: &Job,
+    name: &str,
+    error: Option<&ToolError>,
+    writer: &mut Counted<W>,
+) -> Result<(), ToolError>
+    ensures { Wrote (observed W.contents writer.old) (observed W.contents writer.new)
+        (message_text job.now name.now (option_map (λ e. e.now) error.entry)) result }
+{
+    let tool = tool_name(job);
+    match error {
+        None => write_capability(writer, tool, name.as_bytes()),
+        Some(error) => write_fault(writer, tool, name.as_bytes(), error),
+    }
+}

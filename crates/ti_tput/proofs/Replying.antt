@@ -1,0 +1,126 @@
+-- What a bad command leaves, and lines one after another.
+use Rattle.std.proofs.Common.{◌≡◌, ◌≢◌, ℕ, suc, ◌+◌, ◌<◌, ◌≤◌, Bool, true, false, List, [], ◌∷◌, ◌++◌, length, take, Option, Some, None, refl, sym, subst, ap, ◌∙◌, cond, bytes_eq, ltb, append_assoc, append-nil, arith}
+use Rattle.std.specs.Prelude.{codes, ℤ}
+use Rattle.std.proofs.lemmas.Bool.{lt-ltb, ne_eqb, ltb-true, ltb-false}
+use Rattle.std.proofs.lemmas.List.{take_all, length-take, nil_from_length}
+use Rattle.ti_param.specs.Expansion.{Expansion, expanded, bad_format, stack_full, expansion}
+use Rattle.ti_printing.specs.declared.padding.Line.{Line}
+use Rattle.ti_tput.specs.Entries.{Entry, Holding, flag_held, number_held, text_held, holding_of, line_of}
+use Rattle.ti_tput.specs.Parameters.{parameters}
+use Rattle.ti_tput.specs.Results.{Reply, holding_reply, init_strings, named_reply, padded_all, padded_once, reset_strings, sent, sent_expansion, string_reply, tput_result}
+use Rattle.ti_tput.specs.Runs.{Course, Step, bad_step, command_step, line_step, replied, steps, words_of}
+
+-- a reply of status 4 writes nothing and leaves the variables
+Leaves : Reply → List ℤ → Type 0
+Leaves r statics = r.status ≡ 4 → (r.bytes ≡ []) × (r.statics ≡ statics)
+
+sent-leaves : (made : Option (List ℕ)) (before after : List ℤ) → (sent made before after).status ≡ 4
+    → ((sent made before after).bytes ≡ []) × ((sent made before after).statics ≡ before)
+sent-leaves None before after four = (refl, refl)
+sent-leaves (Some bytes) before after four = absurd (omega arith)
+
+expansion-leaves : (line : Line) (before : List ℤ) (e : Expansion) → (sent_expansion line before e).status ≡ 4
+    → ((sent_expansion line before e).bytes ≡ []) × ((sent_expansion line before e).statics ≡ before)
+expansion-leaves line before (expanded output after) four = sent-leaves (padded_once line output) before after four
+expansion-leaves line before (bad_format place) four = (refl, refl)
+expansion-leaves line before (stack_full place) four = (refl, refl)
+
+string-leaves : (line : Line) (cap : List ℕ) (words : List (List ℕ)) (statics : List ℤ) (text : List ℕ)
+    → (string_reply line cap words statics text).status ≡ 4
+    → ((string_reply line cap words statics text).bytes ≡ []) × ((string_reply line cap words statics text).statics ≡ statics)
+string-leaves line cap [] statics text four = sent-leaves (padded_once line text) statics statics four
+string-leaves line cap (word ∷ words) statics text four =
+    expansion-leaves line statics (expansion text (parameters cap (word ∷ words)) statics) four
+
+holding-leaves : (line : Line) (cap : List ℕ) (words : List (List ℕ)) (statics : List ℤ) (h : Option Holding)
+    → (holding_reply line cap words statics h).status ≡ 4
+    → ((holding_reply line cap words statics h).bytes ≡ []) × ((holding_reply line cap words statics h).statics ≡ statics)
+holding-leaves line cap words statics None four = (refl, refl)
+holding-leaves line cap words statics (Some (flag_held set)) four = (refl, refl)
+holding-leaves line cap words statics (Some (number_held n)) four = absurd (omega arith)
+holding-leaves line cap words statics (Some (text_held None)) four = (refl, refl)
+holding-leaves line cap words statics (Some (text_held (Some text))) four = string-leaves line cap words statics text four
+
+-- one of two replies
+either-leaves : (b : Bool) (r s : Reply) (statics : List ℤ) → (r.status ≡ 4 → (r.bytes ≡ []) × (r.statics ≡ statics))
+    → (s.status ≡ 4 → (s.bytes ≡ []) × (s.statics ≡ statics))
+    → (cond b r s).status ≡ 4 → ((cond b r s).bytes ≡ []) × ((cond b r s).statics ≡ statics)
+either-leaves true r s statics a b four = a four
+either-leaves false r s statics a b four = b four
+
+named-leaves : (entry : Entry) (rate : ℕ) (cap : List ℕ) (words : List (List ℕ)) (statics : List ℤ)
+    → (named_reply entry rate cap words statics).status ≡ 4
+    → ((named_reply entry rate cap words statics).bytes ≡ []) × ((named_reply entry rate cap words statics).statics ≡ statics)
+named-leaves entry rate cap words statics =
+    either-leaves (bytes_eq cap (codes "longname")) _ _ statics (λ four. absurd (omega arith))
+    (either-leaves (bytes_eq cap (codes "init")) _ _ statics (sent-leaves (padded_all (line_of entry rate) (init_strings entry)) statics statics)
+    (either-leaves (bytes_eq cap (codes "reset")) _ _ statics (sent-leaves (padded_all (line_of entry rate) (reset_strings entry)) statics statics)
+    (holding-leaves (line_of entry rate) cap words statics (holding_of entry cap))))
+
+if_not : {X : Type 0} (b : Bool) (x y : X) → cond b None (Some x) ≡ Some y → (b ≡ false) × (x ≡ y)
+if_not true x y e = absurd (cc)
+if_not false x y e = (refl, cc)
+
+pub bad-leaves : (entry : Entry) (words : List (List ℕ)) (rate : ℕ) (statics : List ℤ) (r : Reply) → tput_result entry words rate statics ≡ Some r
+    → r.status ≡ 4 → (r.bytes ≡ []) × (r.statics ≡ statics)
+unfolding tput_result
+bad-leaves entry [] rate statics r e four = absurd (cc)
+bad-leaves entry (cap ∷ words) rate statics r e four =
+    let is = (if_not (ltb 9 (length words)) (named_reply entry rate cap words statics) r e).1 in
+    subst (λ (x : Reply). x.status ≡ 4 → (x.bytes ≡ []) × (x.statics ≡ statics)) is (named-leaves entry rate cap words statics) four
+
+-- ---- eleven words are too many
+
+many : (n : ℕ) → 10 < n → ltb 9 n ≡ true
+many n low = lt-ltb 9 n (omega arith)
+
+pub tput_result-front : (entry : Entry) (words : List (List ℕ)) (rate : ℕ) (statics : List ℤ)
+    → tput_result entry (take 11 words) rate statics ≡ tput_result entry words rate statics
+unfolding tput_result
+tput_result-front entry [] rate statics = refl
+tput_result-front entry (cap ∷ words) rate statics =
+    elim (ltb 10 (length words)) as (λ b. ltb 10 (length words) ≡ b → cond (ltb 9 (length (take 10 words))) None (Some (named_reply entry rate cap (take 10 words) statics))
+        ≡ cond (ltb 9 (length words)) None (Some (named_reply entry rate cap words statics))) [
+      | true ↦ λ e. let low : 10 < length words = ltb-true _ _ e in
+          let front : ltb 9 (length (take 10 words)) ≡ true = lt-ltb _ _ (omega (arith, length-take 10 words)) in
+          let all : ltb 9 (length words) ≡ true = lt-ltb _ _ (omega arith) in
+          rw (front, all) refl
+      | false ↦ λ e. let high : length words ≤ 10 = ltb-false _ _ e in rw (take_all 10 words high) refl
+    ] refl
+
+-- ---- what comes of a line
+
+nothing-front : (words : List (List ℕ)) (n : ℕ) → take (suc n) words ≡ [] → words ≡ []
+nothing-front [] n e = refl
+nothing-front (word ∷ words) n e = absurd (cc)
+
+some-step : (entry : Entry) (rate : ℕ) (course : Course) (words : List (List ℕ)) → 0 < length words
+    → command_step entry rate course words ≡ replied course (tput_result entry words rate course.statics)
+some-step entry rate course [] some = absurd (omega arith)
+some-step entry rate course (word ∷ words) some = refl
+
+module _ (entry : Entry) (rate : ℕ) (course : Course) (line : List ℕ) (words : List (List ℕ)) (front : words ≡ take 11 (words_of line)) where
+  pub step-empty : length words ≡ 0 → line_step entry rate course line ≡ record { after = course; bytes = [] }
+  step-empty none =
+      let empty : words ≡ [] = nil_from_length words none in
+      rw (nothing-front (words_of line) 10 (sym front ∙ empty)) refl
+
+  step-replied : 0 < length words → line_step entry rate course line ≡ replied course (tput_result entry words rate course.statics)
+  step-replied some =
+      let len : length words ≡ length (take 11 (words_of line)) = ap length front in
+      let more : 0 < length (words_of line) = omega (arith, length-take 11 (words_of line)) in
+      some-step entry rate course (words_of line) more
+      ∙ ap (replied course) (sym (ap (λ (w : List (List ℕ)). tput_result entry w rate course.statics) front ∙ tput_result-front entry (words_of line) rate course.statics))
+
+  pub step-usage : 0 < length words → tput_result entry words rate course.statics ≡ None → line_step entry rate course line ≡ bad_step course
+  step-usage some none = step-replied some ∙ ap (replied course) none
+
+  pub step-good : 0 < length words → (r : Reply) → tput_result entry words rate course.statics ≡ Some r → r.status ≢ 4
+      → line_step entry rate course line ≡ record { after = record { bad = course.bad; statics = r.statics }; bytes = r.bytes }
+  step-good some r is other = step-replied some ∙ ap (replied course) is ∙ rw (ne_eqb r.status 4 other) refl
+
+  pub step-bad : 0 < length words → (r : Reply) → tput_result entry words rate course.statics ≡ Some r → r.status ≡ 4
+      → (line_step entry rate course line ≡ bad_step course) × (r.bytes ≡ []) × (r.statics ≡ course.statics)
+  step-bad some r is four =
+      let left = bad-leaves entry words rate course.statics r is four in
+      (step-replied some ∙ ap (replied course) is ∙ rw four refl, left.0, left.1)

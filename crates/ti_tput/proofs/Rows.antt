@@ -1,0 +1,63 @@
+-- Worked rows of the definitions.
+use Rattle.std.proofs.Common.{◌≡◌, refl, Some, None, List, [], ◌∷◌, ℕ, ap}
+use Rattle.std.specs.Prelude.{codes, pos, neg_ℤ, replicate}
+use Rattle.ti_caps.specs.declared.capability.Kind.TheVariants.{Flag, Number, Text}
+use Rattle.ti_caps.specs.Names.{flag_names, number_names, text_names}
+use Rattle.ti_caps.specs.Tables.{capability, capability_named, names, place_of}
+use Rattle.ti_compiled.specs.Values.{contents, content_true, content_number, content_text}
+use Rattle.ti_param.specs.Meaning.{number, text}
+use Rattle.ti_tput.specs.Entries.{Entry, holding_of, line_of}
+use Rattle.ti_tput.specs.Parameters.{spelled, parameters}
+use Rattle.ti_tput.specs.Results.{tput_result, reply}
+
+pub row-number : spelled (codes "23") ≡ Some (pos 23)
+unfolding spelled
+row-number = refl
+
+row-minus : spelled (codes "-0") ≡ Some (pos 0)
+unfolding spelled
+row-minus = refl
+
+row-zeros : spelled (codes "007") ≡ Some (pos 7)
+unfolding spelled
+row-zeros = refl
+
+row-least : spelled (codes "-2147483648") ≡ Some (neg_ℤ (pos 2147483648))
+unfolding spelled
+row-least = refl
+
+row-over : spelled (codes "2147483648") ≡ None
+unfolding spelled
+row-over = refl
+
+row-plus : spelled (codes "+5") ≡ None
+unfolding spelled
+row-plus = refl
+
+row-sign : spelled (codes "-") ≡ None
+unfolding spelled
+row-sign = refl
+
+row-pfkey : parameters (codes "pfkey") (codes "1" ∷ codes "23" ∷ []) ≡ number (pos 1) ∷ text (codes "23") ∷ replicate 7 (number (pos 0))
+unfolding parameters spelled
+row-pfkey = refl
+
+-- an entry of the example's kind: am, cols#80, bel=^G
+dumb : Entry
+unfolding contents
+dumb = record {
+  names = codes "dumb|80-column dumb tty";
+  contents = contents ((capability Flag 1, content_true) ∷ (capability Number 0, content_number 80) ∷ (capability Text 1, content_text (7 ∷ [])) ∷ []);
+}
+
+row-longname : tput_result dumb (codes "longname" ∷ []) 0 (replicate 26 (pos 0)) ≡ Some (reply (codes "80-column dumb tty") 0 (replicate 26 (pos 0)))
+unfolding tput_result dumb
+row-longname = refl
+
+row-zz : tput_result dumb (codes "zz" ∷ []) 0 (replicate 26 (pos 0)) ≡ Some (reply [] 4 (replicate 26 (pos 0)))
+unfolding tput_result dumb holding_of capability_named names flag_names number_names text_names
+row-zz = refl
+
+row-am : tput_result dumb (codes "am" ∷ []) 0 (replicate 26 (pos 0)) ≡ Some (reply [] 0 (replicate 26 (pos 0)))
+unfolding tput_result dumb holding_of capability_named names flag_names number_names text_names contents
+row-am = refl

@@ -1,0 +1,34 @@
+use Rattle.std.proofs.Common.{◌≡◌, ◌+◌, ◌∷◌, [], List, ℕ, Option, Some, None, map, drop, rules, arith, sym, subst, refl, ◌∙◌, length}
+use Rattle.std.specs.String.{string_bytes}
+use Rattle.std.proofs.lemmas.List.{drop_all}
+use Rattle.ti_devices.specs.Paths.{path_of}
+use Rattle.ti_devices.specs.Tree.{Files, Reads}
+use Rattle.ti_tput.specs.Searching.{Finds}
+use Rattle.ti_tput.proofs.Searches.{Finds-here, Finds-later, Finds-none, places-from}
+use Rattle.ti_tput.proofs.searching.search.Goals as goal
+
+pub returns-in-Ok-Some-clause-found : goal.returns-in-Ok-Some-clause-found
+returns-in-Ok-Some-clause-found g c =
+    let files = g.T.Tree.files c.args.tree.now in
+    let at : Reads (path_of (string_bytes c.place-item.result) c.args.name.now) (c.args.limit + 1) files (Some c.in-Ok-Some.bytes.items) =
+    rw (c.as_str-in-loop-place.ensures.value, c.in_ok-path.ensures, c.as_str.ensures.value, c.loop-place.invariant.kept, c.in-Ok-Some.field-0-is) at c.in-Ok-Some.ensures.found in
+    c.loop-place.invariant.rest (Some c.in-Ok-Some.bytes.items)
+    (rw (places-from string_bytes c.args.places.now c.loop-place.place-index c.place-item.result (search rules) c.place-item.is)
+    (Finds-here _ files _ _ _ _ at))
+
+pub loop-place-preserved : goal.loop-place-preserved
+loop-place-preserved g c =
+    let files = g.T.Tree.files c.args.tree.now in
+    let at : Reads (path_of (string_bytes c.place-item.result) c.args.name.now) (c.args.limit + 1) files None =
+    rw (c.as_str-in-loop-place.ensures.value, c.in_ok-path.ensures, c.as_str.ensures.value, c.loop-place.invariant.kept, c.in-Ok-None.field-0-is) at c.in-Ok-None.ensures.found in record {
+      rest = λ found later. c.loop-place.invariant.rest found
+          (rw (places-from string_bytes c.args.places.now c.loop-place.place-index c.place-item.result (search rules) c.place-item.is)
+          (Finds-later _ files _ _ _ found at later));
+      kept = c.read.ensures.kept ∙ c.loop-place.invariant.kept;
+      later = search rules;
+    }
+
+pub returns-clause-found : goal.returns-clause-found
+returns-clause-found g c =
+    c.loop-place.invariant.rest None
+    (rw (drop_all c.loop-place.place-index c.args.places.now (search rules)) (Finds-none _ (g.T.Tree.files c.args.tree.now) c.args.name.now))

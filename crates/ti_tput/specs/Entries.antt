@@ -1,0 +1,84 @@
+-- What an entry has of a capability that is asked for by its name (terminfo(5)), and its line (terminfo(5), "Delays and Padding").
+use Rattle.std.specs.Prelude.{ℕ, Bool, true, false, if◌then◌else◌, List, [], codes, slice_index, Option, Some, None, option_map, unwrap_or}
+use Rattle.ti_caps.specs.Tables.{Capability, capability_named}
+use Rattle.ti_caps.specs.declared.capability.Kind.{Kind}
+use Rattle.ti_caps.specs.declared.capability.Kind.TheVariants.{Flag, Number, Text}
+use Rattle.ti_compiled.specs.Values.{Content, Contents}
+use Rattle.ti_compiled.specs.Shown.{names_of, held, shown_flag, shown_number, shown_text}
+use Rattle.ti_compiled.specs.declared.view.View.{View}
+use Rattle.ti_printing.specs.declared.padding.Line.{Line}
+use Rattle.ti_tput.specs.declared.entries.CapabilityValue.{CapabilityValue}
+use Rattle.ti_tput.specs.declared.entries.CapabilityValue.TheVariants as code
+
+-- an entry: its names field, and what it has of each capability
+pub record Entry : Type 0 where
+  pub names : List ℕ
+  pub contents : Contents
+
+-- what an entry has of a capability, by its kind
+pub data Holding : Type 0 where
+  flag_held : Bool → Holding
+  number_held : Option ℕ → Holding
+  text_held : Option (List ℕ) → Holding
+
+-- what a content says of a capability of that kind
+abbrev pub holding_as : Kind → Option Content → Holding
+holding_as Flag content = flag_held (shown_flag content)
+holding_as Number content = number_held (shown_number content)
+holding_as Text content = text_held (shown_text content)
+
+-- what the entry has of the capability of a name; None where no capability has the name
+unfoldable pub holding_of : Entry → List ℕ → Option Holding
+holding_of entry name = option_map (λ c. holding_as c.kind (entry.contents c)) (capability_named name)
+
+-- whether it is a flag that is set
+abbrev pub flag_value : Option Holding → Bool
+flag_value None = false
+flag_value (Some (flag_held set)) = set
+flag_value (Some (number_held n)) = false
+flag_value (Some (text_held t)) = false
+
+-- the value of a number that is there
+abbrev pub number_value : Option Holding → Option ℕ
+number_value None = None
+number_value (Some (flag_held set)) = None
+number_value (Some (number_held n)) = n
+number_value (Some (text_held t)) = None
+
+-- the value of a text that is there
+abbrev pub text_value : Option Holding → Option (List ℕ)
+text_value None = None
+text_value (Some (flag_held set)) = None
+text_value (Some (number_held n)) = None
+text_value (Some (text_held t)) = t
+
+-- the first byte of a text, 0 where there is none
+abbrev pub first_byte : Option (List ℕ) → ℕ
+first_byte None = 0
+first_byte (Some text) = slice_index text 0
+
+-- the pad byte: none with `npc`, else the first byte of `pad`, 0 where it has none
+abbrev pub pad_byte_of : Entry → Option ℕ
+pad_byte_of entry =
+    if flag_value (holding_of entry (codes "npc")) then None else Some (first_byte (text_value (holding_of entry (codes "pad"))))
+
+-- the line of a terminal at a rate: `xon`, and the least rate of padding `pb`, 0 where there is none
+unfoldable pub line_of : Entry → ℕ → Line
+line_of entry rate = record {
+  rate = rate;
+  xon = flag_value (holding_of entry (codes "xon"));
+  pad_from = unwrap_or (number_value (holding_of entry (codes "pb"))) 0;
+  pad_byte = pad_byte_of entry;
+}
+
+-- ---- own: what the code knows of an entry
+
+-- the entry that a view shows
+abbrev pub entry_of : View → Entry
+entry_of view = record { names = names_of view; contents = held view }
+
+-- what a value says, apart from where it lies in memory
+abbrev pub meaning_of : CapabilityValue → Holding
+meaning_of (code.Flag set) = flag_held set
+meaning_of (code.Number n) = number_held n
+meaning_of (code.Text t) = text_held (option_map (λ bytes. bytes.now) t)

@@ -1,0 +1,78 @@
+-- What `tput -S` answers to the lines of its input (tput(1); the count of bad lines and the status are own).
+use Rattle.std.specs.Prelude.{ℕ, zero, suc, ◌+◌, ◌||◌, ◌==◌, nat_lt, min, Bool, if◌then◌else◌, List, [], ◌∷◌, ◌++◌, length, filter, replicate, Option, Some, None, ℤ, pos}
+use Rattle.std.specs.List.{slice_split}
+use Rattle.ti_tput.specs.Entries.{Entry}
+use Rattle.ti_tput.specs.Results.{Reply, tput_result}
+
+-- ---- words
+
+-- white space is a space or a tab
+abbrev pub is_white : ℕ → Bool
+is_white byte = byte == 32 || byte == 9
+
+-- a word has a byte
+abbrev pub has_bytes : List ℕ → Bool
+has_bytes word = nat_lt 0 (length word)
+
+-- the words of a line, which white space parts
+unfoldable pub words_of : List ℕ → List (List ℕ)
+words_of line = filter has_bytes (slice_split is_white line)
+
+-- ---- lines
+
+-- what stands between two lines: how many were bad, and the static variables
+pub record Course : Type 0 where
+  pub bad : ℕ
+  pub statics : List ℤ
+
+-- what comes of a line: what stands after it, and what it writes
+pub record Step : Type 0 where
+  pub after : Course
+  pub bytes : List ℕ
+
+-- a bad line writes nothing, and leaves the variables
+abbrev pub bad_step : Course → Step
+bad_step course = record { after = record { bad = suc course.bad; statics = course.statics }; bytes = [] }
+
+-- a line is bad where it would end with status 2 or 4
+abbrev pub replied : Course → Option Reply → Step
+replied course None = bad_step course
+replied course (Some reply) =
+    if reply.status == 4 then bad_step course
+    else record { after = record { bad = course.bad; statics = reply.statics }; bytes = reply.bytes }
+
+-- a line without words does nothing
+abbrev pub command_step : Entry → ℕ → Course → List (List ℕ) → Step
+command_step entry rate course [] = record { after = course; bytes = [] }
+command_step entry rate course (word ∷ words) = replied course (tput_result entry (word ∷ words) rate course.statics)
+
+-- what comes of a line
+abbrev pub line_step : Entry → ℕ → Course → List ℕ → Step
+line_step entry rate course line = command_step entry rate course (words_of line)
+
+-- what comes of lines, one after another
+unfoldable pub steps : Entry → ℕ → Course → List (List ℕ) → Step
+steps entry rate course [] = record { after = course; bytes = [] }
+steps entry rate course (line ∷ lines) =
+    let first = line_step entry rate course line in
+    let later = steps entry rate first.after lines in
+    record { after = later.after; bytes = first.bytes ++ later.bytes }
+
+-- at the start no line was bad, and each static variable is 0
+abbrev pub start : Course
+start = record { bad = 0; statics = replicate 26 (pos 0) }
+
+-- 0 where no line was bad, else 4 and the count of bad lines, at most 255
+abbrev pub run_status : ℕ → ℕ
+run_status zero = 0
+run_status (suc bad) = min 255 (4 + suc bad)
+
+-- what the lines of an input write, and the exit status
+pub record Run : Type 0 where
+  pub bytes : List ℕ
+  pub status : ℕ
+
+-- what `tput -S` answers to lines
+abbrev pub tput_run : Entry → ℕ → List (List ℕ) → Run
+tput_run entry rate lines =
+    let all = steps entry rate start lines in record { bytes = all.bytes; status = run_status all.after.bad }

@@ -1,0 +1,100 @@
+-- How a run of `tput -S` over devices ends (own): what it has read, and what it has written.
+use Rattle.std.specs.Prelude.{◌≡◌, ℕ, ◌+◌, ◌<◌, List, [], ◌++◌, length, Result, Ok, Err, ◌⊎◌}
+use Rattle.std.specs.List.{AllByRecursion}
+use Rattle.std.specs.Io.KnownBytes.{Consumes, IsAtEnd}
+use Rattle.ti_devices.specs.Counted.{Observed}
+use Rattle.ti_devices.specs.LineReader.{reads_max}
+use Rattle.ti_devices.specs.Lines.{IsWithin, Splits, with_last}
+use Rattle.ti_devices.specs.Reading.{Gives}
+use Rattle.ti_devices.specs.Writing.{TakesAll, TakesFront}
+use Rattle.ti_devices.specs.declared.tool_error.ToolError.{ToolError}
+use Rattle.ti_devices.specs.declared.tool_error.ToolError.TheVariants.{ReadFault, WriteFault, LineTooLong, Memory}
+use Rattle.ti_tput.specs.Entries.{Entry}
+use Rattle.ti_tput.specs.Runs.{tput_run}
+
+-- the greatest length of a line, without its newline
+abbrev pub line_max : ℕ
+line_max = 4096
+
+-- the line is within that limit
+abbrev pub IsShortLine : List ℕ → Type 0
+IsShortLine line = IsWithin line_max line
+
+-- of the bytes these lines are complete, each within the limit, and of a further line this front has come
+pub record HasLines (taken : List ℕ) (lines : List (List ℕ)) (line : List ℕ) : Type 0 where
+  pub split : Splits taken lines line
+  pub short : AllByRecursion IsShortLine lines
+
+-- the input was read to its end, all that its lines write was written, and the status is that of its lines
+pub record Completes (entry : Entry) (rate : ℕ) (given left before now : Observed) (status : ℕ) : Type 0 where
+  pub input : List ℕ
+  pub lines : List (List ℕ)
+  pub line : List ℕ
+  pub gives : Gives given left input
+  pub at_end : IsAtEnd left.bytes
+  pub has_lines : HasLines input lines line
+  pub short : IsShortLine line
+  pub written : TakesAll before now (tput_run entry rate (with_last lines line)).bytes
+  pub ends_with : status ≡ (tput_run entry rate (with_last lines line)).status
+
+-- the reader failed, once, or it did not and has been read from as often as it may be
+abbrev pub CannotRead : Observed → Observed → Type 0
+CannotRead given left =
+    (left.failures ≡ given.failures + 1) ⊎ ((left.failures ≡ given.failures) × (left.reads ≡ given.reads + reads_max))
+
+-- no more can be read: what the complete lines write was written
+pub record StopsReading (entry : Entry) (rate : ℕ) (given left before now : Observed) : Type 0 where
+  pub taken : List ℕ
+  pub lines : List (List ℕ)
+  pub line : List ℕ
+  pub gives : Consumes given.bytes left.bytes taken
+  pub has_lines : HasLines taken lines line
+  pub short : IsShortLine line
+  pub written : TakesAll before now (tput_run entry rate lines).bytes
+  pub cause : CannotRead given left
+
+-- a line that has begun is over the limit: what the lines before it write was written, and some bytes more were read
+pub record FindsLongLine (entry : Entry) (rate : ℕ) (given left before now : Observed) : Type 0 where
+  pub taken : List ℕ
+  pub rest : List ℕ
+  pub lines : List (List ℕ)
+  pub line : List ℕ
+  pub gives : Gives given left (taken ++ rest)
+  pub has_lines : HasLines taken lines line
+  pub long : line_max < length line
+  pub written : TakesAll before now (tput_run entry rate lines).bytes
+
+-- memory was wanting for a line: what the lines before it write was written, and some bytes more were read
+pub record WantsMemory (entry : Entry) (rate : ℕ) (given left before now : Observed) : Type 0 where
+  pub taken : List ℕ
+  pub rest : List ℕ
+  pub lines : List (List ℕ)
+  pub line : List ℕ
+  pub gives : Gives given left (taken ++ rest)
+  pub has_lines : HasLines taken lines line
+  pub short : IsShortLine line
+  pub written : TakesAll before now (tput_run entry rate lines).bytes
+
+-- the lines of which a run has begun to write: those that are complete, or, where the input has ended, all
+abbrev pub AreBegun : List ℕ → List ℕ → Observed → List (List ℕ) → Type 0
+AreBegun taken rest left begun =
+    ((line : List ℕ) × HasLines taken begun line)
+    ⊎ ((lines : List (List ℕ)) × (line : List ℕ) × HasLines taken lines line × (rest ≡ []) × IsAtEnd left.bytes × (begun ≡ with_last lines line))
+
+-- the writer failed: a front part of what these lines write was written, and some bytes more were read
+pub record StopsWriting (entry : Entry) (rate : ℕ) (given left before now : Observed) : Type 0 where
+  pub taken : List ℕ
+  pub rest : List ℕ
+  pub lines : List (List ℕ)
+  pub gives : Gives given left (taken ++ rest)
+  pub are_begun : AreBegun taken rest left lines
+  pub written : TakesFront before now (tput_run entry rate lines).bytes
+
+-- how a run ends
+abbrev pub Ends : Entry → ℕ → Observed → Observed → Observed → Observed → Result ℕ ToolError → Type 0
+Ends entry rate given left before now (Ok status) = Completes entry rate given left before now status
+Ends entry rate given left before now (Err ReadFault) = StopsReading entry rate given left before now
+Ends entry rate given left before now (Err LineTooLong) = FindsLongLine entry rate given left before now
+Ends entry rate given left before now (Err WriteFault) = StopsWriting entry rate given left before now
+Ends entry rate given left before now (Err Memory) = WantsMemory entry rate given left before now
+Ends entry rate given left before now (Err _) = ⊥

@@ -1,0 +1,66 @@
+//! `tput` of one command: a capability's name, and the words after it.
+ghost use Rattle.std.specs.Prelude.{◌≡◌, ℕ, ℤ, OnErr, map, pos, replicate};
+ghost use Rattle.ti_tput.specs.Entries.{entry_of, line_of};
+ghost use Rattle.ti_tput.specs.Commands.{Answers, AnswersAlone};
+ghost use Rattle.ti_tput.specs.Results.{tput_result};
+
+use crate::entries::terminal_line;
+use crate::replies::{TputOutcome, answer_name};
+use std::alloc::Global;
+use ti_compiled::View;
+use ti_devices::ToolError;
+use ti_param::{Line, Statics};
+
+/// The most parameters that a command may have.
+const MOST_PARAMETERS: usize = 9;
+
+/// What a command is answered on the line of its terminal, with the static variables of the commands before it.
+#[tactic(auto, unfolding(crate::specs::Results::tput_result))]
+pub(crate) fn answer(
+    alloc: Global,
+    view: &View<'_>,
+    line: &Line,
+    words: &[&[u8]],
+    statics: &mut Statics,
+) -> Result<TputOutcome, ToolError>
+    ensures answer { (rate : ℕ) → line.now ≡ line_of (entry_of view.now) rate
+        → Answers result statics.new (tput_result (entry_of view.now) (map (λ word. word.now) words.now) rate statics.old) }
+    ensures err { OnErr result (statics.new ≡ statics.old) }
+{
+    let Some((cap, params)) = words.split_first() else {
+        return Err(ToolError::Usage);
+    };
+    if params.len() > MOST_PARAMETERS {
+        return Err(ToolError::Usage);
+    }
+    match answer_name(alloc, view, cap, params, line, statics) {
+        Ok(outcome) => Ok(outcome),
+        Err(_) => Err(ToolError::Memory),
+    }
+}
+
+/// What a capability's name and its parameters are answered, as tput(1) has it: the bytes for standard output, and the exit
+/// status.
+///
+/// A flag writes nothing, and its status is 0 where it is set, else 1. A number is written with a newline, as `-1` where it
+/// is absent. A string is written with its padding at `rate` bits a second; without a parameter it stands as it is, else it
+/// is expanded with the parameters. `longname` writes the terminal's description, `init` and `reset` the strings that
+/// initialize or reset it. Where the status is 1 or 4 nothing is written.
+///
+/// A word that is an optional `-` and decimal digits, from -2,147,483,648 to 2,147,483,647, is a number, any other a text; so
+/// is the second parameter of `pfkey`, `pfloc`, `pfx` and `pln`, and the second and third of `pfxl`.
+///
+/// # Errors
+/// `Usage` where there is no word, or more than nine parameters; then `Memory`.
+pub fn tput(
+    alloc: Global,
+    view: &View<'_>,
+    words: &[&[u8]],
+    rate: u32,
+) -> Result<TputOutcome, ToolError>
+    ensures { AnswersAlone result (tput_result (entry_of view.now) (map (λ word. word.now) words.now) rate (replicate 26 (pos 0))) }
+{
+    let line = terminal_line(view, rate);
+    let mut statics = Statics::new();
+    answer(alloc, view, &line, words, &mut statics)
+}

@@ -1,0 +1,66 @@
+//! The words of a command as the parameters of a string.
+ghost use Rattle.std.specs.Prelude.{◌≡◌, map};
+ghost use Rattle.ti_param.specs.Meaning.{argument_of};
+ghost use Rattle.ti_tput.specs.Parameters.{is_text_place, parameter_at, parameters, spelled};
+
+use std::str::from_utf8;
+use ti_param::Value;
+
+/// The number that a word spells: an optional `-` and decimal digits, from -2,147,483,648 to 2,147,483,647.
+fn spelled_number(word: &[u8]) -> Option<i32>
+    ensures { result ≡ spelled word.now }
+{
+    if let [b'+', ..] = word {
+        return None;
+    }
+    match from_utf8(word) {
+        Ok(text) => text.parse().ok(),
+        Err(_) => None,
+    }
+}
+
+// Whether the word at a place after a capability's name is a text, whatever it spells.
+fn is_text_place(cap: &[u8], place: usize) -> bool
+    ensures { result ≡ is_text_place cap.now place }
+{
+    match place {
+        1 => matches!(cap, b"pfkey" | b"pfloc" | b"pfx" | b"pln" | b"pfxl"),
+        2 => cap == b"pfxl".as_slice(),
+        _ => false,
+    }
+}
+
+// The word at a place as a parameter of the capability; one that is not given is the number 0.
+fn parameter_at<'a>(cap: &[u8], words: &[&'a [u8]], place: usize) -> Value<'a>
+    ensures { argument_of result ≡ parameter_at cap.now (map (λ word. word.now) words.now) place }
+{
+    let Some(word) = words.get(place) else {
+        return Value::Number(0);
+    };
+    if is_text_place(cap, place) {
+        return Value::Text(word);
+    }
+    match spelled_number(word) {
+        Some(number) => Value::Number(number),
+        None => Value::Text(word),
+    }
+}
+
+/// The words after a capability's name as its parameters: a word that spells a number is a number and any other a text, as is
+/// the second word of `pfkey`, `pfloc`, `pfx` and `pln`, and the second and third of `pfxl`.
+#[tactic(auto, unfolding(crate::specs::Parameters::parameters))]
+pub fn parameters<'a>(cap: &[u8], words: &[&'a [u8]]) -> [Value<'a>; 9]
+    ensures { map argument_of result ≡ parameters cap.now (map (λ word. word.now) words.now) }
+{
+    [
+        parameter_at(cap, words, 0),
+        parameter_at(cap, words, 1),
+        parameter_at(cap, words, 2),
+        parameter_at(cap, words, 3),
+        parameter_at(cap, words, 4),
+        parameter_at(cap, words, 5),
+        parameter_at(cap, words, 6),
+        parameter_at(cap, words, 7),
+        parameter_at(cap, words, 8),
+    ]
+}

@@ -1,0 +1,219 @@
+//! What a command is answered: bytes for the terminal, and an exit status.
+ghost use Rattle.std.specs.Prelude.{◌≡◌, ℕ, ℤ, List, [], IfOk, OnErr, length, map, option_map};
+ghost use Rattle.std.specs.List.{after_last};
+ghost use Rattle.ti_tput.specs.Entries.{entry_of, holding_of, line_of, meaning_of};
+ghost use Rattle.ti_tput.specs.Results.{holding_reply, init_strings, long_name, named_reply, number_text, padded_all, padded_once, reply, reset_strings, sent, string_reply};
+ghost use Rattle.ti_tput.specs.Replies.{items_of, reply_of, texts_of};
+
+use crate::entries::{CapabilityValue, terminal_line, text, value_of};
+use crate::parameters::parameters;
+use memchr::memrchr;
+use std::alloc::{AllocError, Global};
+use ti_compiled::View;
+use ti_param::{Line, PadError, ParamError, Statics, expand, pad};
+
+/// The exit status of a capability that is unknown, or of which the string is bad.
+pub const BAD_COMMAND: u8 = 4;
+
+/// What a command writes, and its exit status.
+#[derive(Debug, Drop)]
+pub struct TputOutcome {
+    /// The bytes for standard output.
+    pub bytes: Vec<u8>,
+    /// 0; 1 where a flag or a string is absent; 4 where the capability is unknown or its string is bad.
+    pub status: u8,
+}
+
+// A string padded for one line; `None` where that is too much padding.
+fn padded_once(alloc: Global, text: &[u8], line: &Line) -> Result<Option<Vec<u8>>, AllocError>
+    ensures { IfOk result (λ found. items_of found ≡ padded_once line.now text.now) }
+{
+    match pad(alloc, text, 1, line) {
+        Ok(bytes) => Ok(Some(bytes)),
+        Err(PadError::TooMuch) => Ok(None),
+        Err(PadError::Memory) => Err(AllocError),
+    }
+}
+
+// Those of the strings that are present, each padded for itself; `None` where one has too much padding.
+fn padded_all(
+    alloc: Global,
+    texts: &[Option<&[u8]>],
+    line: &Line,
+) -> Result<Option<Vec<u8>>, AllocError>
+    ensures { IfOk result (λ found. items_of found ≡ padded_all line.now (texts_of texts.now)) }
+{
+    let mut bytes = Vec::new(alloc);
+    for text in texts {
+        if let Some(text) = text {
+            let Some(more) = padded_once(alloc, text, line)? else {
+                return Ok(None);
+            };
+            bytes.extend_from_slice(more.as_slice())?;
+        }
+    }
+    Ok(Some(bytes))
+}
+
+// A string as it stands where there is no word, else expanded with the words; `None` where it is bad.
+fn string(
+    alloc: Global,
+    cap: &[u8],
+    words: &[&[u8]],
+    text: &[u8],
+    line: &Line,
+    statics: &mut Statics,
+) -> Result<Option<Vec<u8>>, AllocError>
+    ensures string { IfOk result (λ found. sent (items_of found) statics.new statics.new
+        ≡ string_reply line.now cap.now (map (λ word. word.now) words.now) statics.old text.now) }
+    ensures err { OnErr result (statics.new ≡ statics.old) }
+{
+    if words.is_empty() {
+        return padded_once(alloc, text, line);
+    }
+    let mut after = *statics;
+    match expand(alloc, text, &parameters(cap, words), &mut after) {
+        Ok(output) => {
+            let bytes = padded_once(alloc, output.as_slice(), line)?;
+            if bytes.is_some() {
+                *statics = after;
+            }
+            Ok(bytes)
+        }
+        Err(ParamError::Memory) => Err(AllocError),
+        Err(_) => Ok(None),
+    }
+}
+
+// A string that was made is written; else nothing is, and the status is 4.
+fn outcome_of(alloc: Global, made: Option<Vec<u8>>) -> TputOutcome
+    ensures { (statics : List ℤ) → reply_of result statics ≡ sent (items_of made) statics statics }
+{
+    match made {
+        Some(bytes) => TputOutcome { bytes, status: 0 },
+        None => TputOutcome {
+            bytes: Vec::new(alloc),
+            status: BAD_COMMAND,
+        },
+    }
+}
+
+// Nothing is written.
+fn status_alone(alloc: Global, status: u8) -> TputOutcome
+    ensures bytes { result.bytes.items ≡ [] }
+    ensures status { result.status ≡ status }
+{
+    TputOutcome {
+        bytes: Vec::new(alloc),
+        status,
+    }
+}
+
+// The description of the terminal: the names field after its last `|`.
+fn long_name(names: &[u8]) -> &[u8]
+    ensures { result.now ≡ long_name names.now }
+{
+    match memrchr(b'|', names) {
+        Some(place) => &names[place + 1..],
+        None => names,
+    }
+}
+
+// A number and a newline, `-1` where there is none.
+fn number_text(alloc: Global, number: Option<u32>) -> Result<Vec<u8>, AllocError>
+    ensures { IfOk result (λ bytes. bytes.items ≡ number_text number) }
+{
+    match number {
+        Some(number) => Ok(format!(in alloc; "{number}\n")?.into_bytes()),
+        None => Vec::from_slice(alloc, b"-1\n"),
+    }
+}
+
+// What is answered of a capability.
+fn answer_value(
+    alloc: Global,
+    value: Option<CapabilityValue<'_>>,
+    cap: &[u8],
+    words: &[&[u8]],
+    line: &Line,
+    statics: &mut Statics,
+) -> Result<TputOutcome, AllocError>
+    ensures answer { IfOk result (λ outcome. reply_of outcome statics.new
+        ≡ holding_reply line.now cap.now (map (λ word. word.now) words.now) statics.old (option_map meaning_of value.entry)) }
+    ensures err { OnErr result (statics.new ≡ statics.old) }
+{
+    match value {
+        None => Ok(status_alone(alloc, BAD_COMMAND)),
+        Some(CapabilityValue::Flag(set)) => Ok(status_alone(alloc, if set { 0 } else { 1 })),
+        Some(CapabilityValue::Number(number)) => Ok(TputOutcome {
+            bytes: number_text(alloc, number)?,
+            status: 0,
+        }),
+        Some(CapabilityValue::Text(None)) => Ok(status_alone(alloc, 1)),
+        Some(CapabilityValue::Text(Some(text))) => {
+            let made = string(alloc, cap, words, text, line, statics)?;
+            Ok(outcome_of(alloc, made))
+        }
+    }
+}
+
+// Those of three strings that are present, in order.
+fn answer_strings(alloc: Global, texts: &[Option<&[u8]>], line: &Line) -> Result<TputOutcome, AllocError>
+    ensures { (statics : List ℤ) → IfOk result (λ outcome. reply_of outcome statics ≡ sent (padded_all line.now (texts_of texts.now)) statics statics) }
+{
+    let made = padded_all(alloc, texts, line)?;
+    Ok(outcome_of(alloc, made))
+}
+
+// The strings that initialize a terminal.
+fn init_strings<'a>(view: &View<'a>) -> [Option<&'a [u8]>; 3]
+    ensures { texts_of result ≡ init_strings (entry_of view.now) }
+{
+    [text(view, b"is1"), text(view, b"is2"), text(view, b"is3")]
+}
+
+// The strings that reset it: those that initialize it, where it has no others.
+fn reset_strings<'a>(view: &View<'a>) -> [Option<&'a [u8]>; 3]
+    ensures { texts_of result ≡ reset_strings (entry_of view.now) }
+{
+    let texts = [text(view, b"rs1"), text(view, b"rs2"), text(view, b"rs3")];
+    if texts[0].is_none() && texts[1].is_none() && texts[2].is_none() {
+        return init_strings(view);
+    }
+    texts
+}
+
+// The long name of a terminal.
+fn answer_long_name(alloc: Global, names: &[u8]) -> Result<TputOutcome, AllocError>
+    ensures { (statics : List ℤ) → IfOk result (λ outcome. reply_of outcome statics ≡ reply (long_name names.now) 0 statics) }
+{
+    Ok(TputOutcome {
+        bytes: Vec::from_slice(alloc, long_name(names))?,
+        status: 0,
+    })
+}
+
+// What is answered to a name with these words after it.
+pub(crate) fn answer_name(
+    alloc: Global,
+    view: &View<'_>,
+    cap: &[u8],
+    words: &[&[u8]],
+    line: &Line,
+    statics: &mut Statics,
+) -> Result<TputOutcome, AllocError>
+    ensures answer { (rate : ℕ) → line.now ≡ line_of (entry_of view.now) rate → IfOk result (λ outcome. reply_of outcome statics.new
+        ≡ named_reply (entry_of view.now) rate cap.now (map (λ word. word.now) words.now) statics.old) }
+    ensures err { OnErr result (statics.new ≡ statics.old) }
+{
+    if cap == b"longname".as_slice() {
+        return answer_long_name(alloc, view.names());
+    }
+    if cap == b"init".as_slice() {
+        return answer_strings(alloc, &init_strings(view), line);
+    }
+    if cap == b"reset".as_slice() {
+        return answer_strings(alloc, &reset_strings(view), line);
+    }
+    answer_value(alloc, value_of(view, cap), cap, words, line, statics)
+}

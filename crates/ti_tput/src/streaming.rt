@@ -1,0 +1,50 @@
+//! `tput -S`: commands read line by line, and what they write as it comes.
+ghost use Rattle.std.specs.Prelude.{◌+◌, ◌≤◌};
+ghost use Rattle.ti_devices.specs.Counted.{observed, reads_of};
+ghost use Rattle.ti_devices.specs.LineReader.{reads_max};
+ghost use Rattle.ti_tput.specs.Entries.{entry_of};
+ghost use Rattle.ti_tput.specs.Streaming.{Ends};
+
+use crate::terminal::Terminal;
+use std::alloc::Global;
+use std::io::{Read, Write};
+use ti_compiled::View;
+use ti_devices::{Counted, LineReader, Next, ToolError};
+
+/// The greatest length of a line, without its newline.
+const LINE_MAX: usize = 4096;
+
+/// Reads commands to the end of an input, one a line, writes what each writes, and answers the exit status: 0 where no line
+/// was bad, else 4 and the number of bad lines, at most 255.
+///
+/// A line is split at spaces and tabs into a capability's name and its parameters, which are those of [`crate::tput`]; a line
+/// without words is skipped. One set of static variables serves all lines. A line that `tput` would refuse, or answer with
+/// status 4, is bad: it writes nothing, and leaves the variables. It holds one line, and never the whole input.
+///
+/// # Errors
+/// `ReadFault` where the reader fails, and after 4,294,967,296 reads; `WriteFault` where the writer fails; `LineTooLong` at a
+/// line of more than 4,096 bytes, without its newline; `Memory`. What was written before stays.
+pub fn tput_lines<R: Read, W: Write>(
+    alloc: Global,
+    view: &View<'_>,
+    rate: u32,
+    reader: &mut Counted<R>,
+    writer: &mut Counted<W>,
+) -> Result<u8, ToolError>
+    ensures ends { Ends (entry_of view.now) rate (observed R.remaining reader.old) (observed R.remaining reader.new)
+        (observed W.contents writer.old) (observed W.contents writer.new) result }
+    ensures reads { reads_of reader.new ≤ reads_of reader.old + reads_max }
+{
+    let mut lines = LineReader::new(alloc, LINE_MAX)?;
+    let mut terminal = Terminal::new(alloc, view, rate);
+    loop {
+        match lines.read_line(reader)? {
+            Next::Line => terminal.take_line(lines.line(), writer)?,
+            Next::LastLine => {
+                terminal.take_line(lines.line(), writer)?;
+                return Ok(terminal.status());
+            }
+            Next::End => return Ok(terminal.status()),
+        }
+    }
+}

@@ -1,0 +1,94 @@
+//! A terminal that takes commands line by line, and writes what they write.
+ghost use Rattle.std.specs.Prelude.{◌≡◌, ℕ, IfOk, IsErrOf, OnErr};
+ghost use Rattle.ti_devices.specs.Counted.{Observed, observed};
+ghost use Rattle.ti_tput.specs.Entries.{Entry, entry_of};
+ghost use Rattle.ti_tput.specs.Runs.{Course, line_step, run_status, start};
+
+use crate::commands::answer;
+use crate::entries::terminal_line;
+use crate::replies::BAD_COMMAND;
+use crate::words::split_words;
+use std::alloc::{AllocError, Global};
+use std::io::Write;
+use ti_compiled::View;
+use ti_devices::{Counted, ToolError, write_out};
+use ti_param::{Line, Statics};
+
+/// A terminal that takes commands: its entry and line, the static variables, and how many commands were bad, up to 255.
+#[derive(Drop)]
+pub struct Terminal<'a> {
+    alloc: Global,
+    view: View<'a>,
+    line: Line,
+    statics: Statics,
+    bad: u8,
+}
+
+impl<'a> Terminal<'a> {
+    ghost use Rattle.ti_tput.specs.Terminal.{Holds, Took};
+
+    /// The terminal of an entry at a rate, before any command.
+    pub fn new(alloc: Global, view: &View<'a>, rate: u32) -> Terminal<'a>
+        ensures { Holds (entry_of view.now) rate result start }
+    {
+        Terminal {
+            alloc,
+            view: *view,
+            line: terminal_line(view, rate),
+            statics: Statics::new(),
+            bad: 0,
+        }
+    }
+
+    // What a line writes. A bad one is counted, and writes nothing.
+    fn bytes_of(&mut self, line: &[u8]) -> Result<Vec<u8>, AllocError>
+        ensures { (entry : Entry) (rate : ℕ) (course : Course) → Holds entry rate self.old course
+            → IfOk result (λ bytes. Holds entry rate self.new (line_step entry rate course line.now).after
+            × (bytes.items ≡ (line_step entry rate course line.now).bytes)) }
+    {
+        let words = split_words(line);
+        if words.is_empty() {
+            return Ok(Vec::new(self.alloc));
+        }
+        match answer(self.alloc, &self.view, &self.line, words.as_slice(), &mut self.statics) {
+            Ok(outcome) => {
+                if outcome.status == BAD_COMMAND {
+                    self.bad = self.bad.saturating_add(1);
+                }
+                Ok(outcome.bytes)
+            }
+            Err(ToolError::Usage) => {
+                self.bad = self.bad.saturating_add(1);
+                Ok(Vec::new(self.alloc))
+            }
+            Err(_) => Err(AllocError),
+        }
+    }
+
+    /// Takes a line, and writes what it writes.
+    ///
+    /// # Errors
+    /// `Memory`, with nothing written; then `WriteFault`.
+    pub fn take_line<W: Write>(
+        &mut self,
+        line: &[u8],
+        writer: &mut Counted<W>,
+    ) -> Result<(), ToolError>
+        ensures { (entry : Entry) (rate : ℕ) (course : Course) → Holds entry rate self.old course
+            → Took entry rate (line_step entry rate course line.now) self.new
+            (observed W.contents writer.old) (observed W.contents writer.new) result }
+    {
+        let bytes = self.bytes_of(line)?;
+        write_out(writer, bytes.as_slice())
+    }
+
+    /// The exit status after these commands: 0 where none was bad, else 4 and how many were bad, at most 255.
+    pub fn status(&self) -> u8
+        ensures { (entry : Entry) (rate : ℕ) (course : Course) → Holds entry rate self.now course → result ≡ run_status course.bad }
+    {
+        if self.bad == 0 {
+            return 0;
+        }
+        self.bad.saturating_add(4)
+    }
+}

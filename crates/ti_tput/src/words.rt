@@ -1,0 +1,57 @@
+//! The words of a line.
+ghost use Rattle.std.specs.Prelude.{◌≡◌, ◌∷◌, ◌<◌, [], MatchOption, length, map, not, position, take};
+ghost use Rattle.ti_tput.specs.Runs.{is_white, words_of};
+
+use arrayvec::ArrayVec;
+
+/// One word more than a command may have: with so many it has too many.
+const MOST_WORDS: usize = 11;
+
+// Whether a byte parts words.
+fn is_white(byte: u8) -> bool
+    ensures { result ≡ is_white byte }
+{
+    byte == b' ' || byte == b'\t'
+}
+
+// Where the first word of a text begins.
+fn word_start(text: &[u8]) -> Option<usize>
+    ensures { result ≡ position (λ byte. not (is_white byte)) text.now }
+{
+    text.iter().position(|byte| !is_white(*byte))
+}
+
+// Where the word that a text begins with ends.
+fn word_end(text: &[u8]) -> Option<usize>
+    ensures { result ≡ position is_white text.now }
+{
+    text.iter().position(|byte| is_white(*byte))
+}
+
+// The first word, and what stands behind it.
+fn next_word(text: &[u8]) -> Option<(&[u8], &[u8])>
+    ensures { MatchOption result (words_of text.now ≡ [])
+        (λ p. (words_of text.now ≡ p.0.now ∷ words_of p.1.now) × (length p.1.now < length text.now)) }
+{
+    let rest = &text[word_start(text)?..];
+    match word_end(rest) {
+        Some(end) => Some(rest.split_at(end)),
+        None => Some((rest, b"")),
+    }
+}
+
+/// The words of a line, up to the eleventh.
+pub fn split_words(line: &[u8]) -> ArrayVec<&[u8], MOST_WORDS>
+    ensures { map (λ word. word.now) result.items ≡ take 11 (words_of line.now) }
+{
+    let mut words = ArrayVec::new();
+    let mut rest = line;
+    while let Some((word, later)) = next_word(rest) {
+        if words.is_full() {
+            break;
+        }
+        words.push(word);
+        rest = later;
+    }
+    words
+}
