@@ -1,8 +1,8 @@
 //! `ti tput`: writes what drives a terminal.
 use crate::disk_tree::DiskTree;
 use crate::error_stream::ErrorStream;
+use crate::failure::Failure;
 use crate::job_end::end_job;
-use crate::stop::Stop;
 use std::env::{self, VarError};
 use std::io::{self, Write};
 use std::rt::{Env, Files};
@@ -31,15 +31,15 @@ pub fn run<R: Env + Files + Input + Print + Eprint + AllocGlobal>(
 ) -> u8 {
     let name = match terminal_name(rt, asked.term) {
         Ok(name) => name,
-        Err(stop) => return end_job(rt, job, "", stop, false),
+        Err(failure) => return end_job(rt, job, "", failure, false),
     };
     let file = match entry_file(rt, name.as_str()) {
         Ok(file) => file,
-        Err(stop) => return end_job(rt, job, name.as_str(), stop, false),
+        Err(failure) => return end_job(rt, job, name.as_str(), failure, false),
     };
     let view = match entry(file.as_slice()) {
         Ok(view) => view,
-        Err(error) => return end_job(rt, job, name.as_str(), Stop::Fault(error), false),
+        Err(error) => return end_job(rt, job, name.as_str(), Failure::Tool(error), false),
     };
     let written = if asked.lines {
         write_lines(rt, &view, asked.rate)
@@ -48,33 +48,33 @@ pub fn run<R: Env + Files + Input + Print + Eprint + AllocGlobal>(
     };
     match written {
         Ok(status) => status,
-        Err(error) => end_job(rt, job, name.as_str(), Stop::Fault(error), true),
+        Err(error) => end_job(rt, job, name.as_str(), Failure::Tool(error), true),
     }
 }
 
 // The name of the terminal: that of `-T`, else that of `TERM`.
-fn terminal_name<R: Env + AllocGlobal>(rt: &R, term: Option<&str>) -> Result<String, Stop> {
+fn terminal_name<R: Env + AllocGlobal>(rt: &R, term: Option<&str>) -> Result<String, Failure> {
     match term {
         Some(term) => Ok(String::from_str(rt.alloc(), term)?),
         None => match variable(rt, "TERM")? {
             Some(term) => Ok(term),
-            None => Err(Stop::Fault(ToolError::Usage)),
+            None => Err(Failure::Tool(ToolError::Usage)),
         },
     }
 }
 
 // What a variable of the environment is set to.
-fn variable<R: Env + AllocGlobal>(rt: &R, name: &'static str) -> Result<Option<String>, Stop> {
+fn variable<R: Env + AllocGlobal>(rt: &R, name: &'static str) -> Result<Option<String>, Failure> {
     match env::var(rt, name) {
         Ok(value) => Ok(Some(value)),
         Err(VarError::NotPresent) => Ok(None),
-        Err(VarError::NotUnicode) => Err(Stop::NotText(name)),
-        Err(VarError::OutOfMemory) => Err(Stop::Fault(ToolError::Memory)),
+        Err(VarError::NotUnicode) => Err(Failure::NotText(name)),
+        Err(VarError::OutOfMemory) => Err(Failure::Tool(ToolError::Memory)),
     }
 }
 
 // The file of a terminal's entry.
-fn entry_file<R: Env + Files + AllocGlobal>(rt: &R, name: &str) -> Result<Vec<u8>, Stop> {
+fn entry_file<R: Env + Files + AllocGlobal>(rt: &R, name: &str) -> Result<Vec<u8>, Failure> {
     let terminfo = variable(rt, "TERMINFO")?;
     let dirs = variable(rt, "TERMINFO_DIRS")?;
     let places = places(
