@@ -11,9 +11,9 @@ use std::collections::BTreeMap;
 
 /// The ids of the blocks that have a name, and of those that use it.
 #[derive(Drop)]
-pub(crate) struct Mentions {
-    pub(crate) holders: Vec<u32>,
-    pub(crate) users: Vec<u32>,
+struct Mentions {
+    holders: Vec<u32>,
+    users: Vec<u32>,
 }
 
 /// Which blocks have a name and which use it, each list in the order of all blocks. A change takes
@@ -22,7 +22,7 @@ pub(crate) struct Mentions {
 #[derive(Drop)]
 pub struct NameIndex {
     alloc: Global,
-    pub(crate) entries: BTreeMap<Vec<u8>, Mentions>,
+    entries: BTreeMap<Vec<u8>, Mentions>,
 }
 
 impl NameIndex {
