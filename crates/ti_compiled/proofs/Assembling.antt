@@ -1,10 +1,10 @@
 -- The parts that the writer lays in turn are the entry, and its size is known before.
-use Rattle.std.proofs.Common.{◌≡◌, ℕ, suc, ◌+◌, ◌-◌, ◌*◌, ◌%◌, ◌^◌, ◌<◌, ◌≤◌, min, List, [], ◌∷◌, ◌++◌, length, replicate, refl, sym, ap, ◌∙◌, subst, arith, append_assoc, append-nil}
+use Rattle.std.proofs.Common.{◌≡◌, ℕ, suc, ◌+◌, ◌-◌, ◌%◌, ◌^◌, ◌<◌, ◌≤◌, min, List, [], ◌∷◌, ◌++◌, length, replicate, refl, sym, ap, ◌∙◌, arith, append_assoc, append-nil}
 use Rattle.ti_caps.specs.declared.capability.Kind.TheVariants.{Flag, Number, Text}
 use Rattle.ti_compiled.specs.declared.layout.Format.{Format}
-use Rattle.ti_compiled.specs.declared.layout.Format.TheVariants.{Legacy, Extended}
+use Rattle.ti_compiled.specs.declared.layout.Format.TheVariants.{Legacy}
 use Rattle.ti_compiled.specs.declared.layout.Header.{Header}
-use Rattle.ti_compiled.specs.Layout.{entry_size, header, limit, magic, number_bytes, spelled, width}
+use Rattle.ti_compiled.specs.Layout.{entry_size, header, limit, magic, number_bytes, spelled}
 use Rattle.ti_compiled.specs.Image.{image, even_gap, flags_below, format_of, limit_of, numbers_below, offsets_below, texts_below, written_count}
 use Rattle.ti_compiled.specs.Sizes.{HasSizes, at_most_max}
 use Rattle.ti_compiled.specs.Values.{Contents}

@@ -1,5 +1,5 @@
 -- The numbers of a header, as the writer's walk counts them.
-use Rattle.std.proofs.Common.{◌≡◌, ℕ, suc, ◌+◌, ◌-◌, ◌^◌, ◌<◌, ◌≤◌, min, Bool, true, false, cond, List, [], ◌∷◌, ◌++◌, length, get_or, Option, Some, None, refl, sym, ap, ◌∙◌, subst, arith, inl, inr, length-append}
+use Rattle.std.proofs.Common.{◌≡◌, ℕ, suc, ◌+◌, ◌-◌, ◌^◌, ◌<◌, ◌≤◌, min, true, false, cond, List, [], ◌∷◌, ◌++◌, length, get_or, Option, Some, None, refl, sym, ap, ◌∙◌, subst, arith, inl, inr, length-append}
 use Rattle.std.proofs.lemmas.Bool.{cases_lt}
 use Rattle.std.proofs.lemmas.List.{get_or_default, length-map}
 use Rattle.ti_caps.specs.Tables.{Capability, IsCapability, capability}
@@ -11,11 +11,11 @@ use Rattle.ti_compiled.specs.declared.values.Value.{Value}
 use Rattle.ti_compiled.specs.declared.values.Value.TheVariants.{True, Cancelled}
 use Rattle.ti_compiled.specs.declared.values.Value.TheVariants as v
 use Rattle.ti_compiled.specs.Values.{Content, content_true, content_number, content_text, content_cancelled, Entry, IsKept, contents, content_of, entries_of}
-use Rattle.ti_compiled.specs.Image.{is_wide, format_of, of_kind, written_count, texts_below}
+use Rattle.ti_compiled.specs.Image.{is_wide, format_of, of_kind, texts_below}
 use Rattle.ti_compiled.specs.Sizes.{HasSizes, at_most_max}
 use Rattle.ti_compiled.proofs.Below.{some_below-true, some_below-false}
 use Rattle.ti_compiled.proofs.Texts.{texts-none}
-use Rattle.ti_compiled.proofs.Walked.{Walked, Stands, is_of, stands, contents_read, kind_at, walked-start, walked-end, next_text, item_read}
+use Rattle.ti_compiled.proofs.Walked.{Walked, is_of, stands, contents_read, kind_at, walked-start, walked-end, next_text, item_read}
 use Rattle.ti_compiled.proofs.Laying.{passed, stepped, all_past}
 
 -- ---- the format

@@ -1,13 +1,13 @@
 -- Two lists of entries made one: what is merged of their fronts.
-use Rattle.std.proofs.Common.{◌≡◌, ℕ, zero, suc, ◌+◌, ◌<◌, ◌≤◌, Bool, true, false, cond, List, [], ◌∷◌, ◌++◌, map, length, get_or, take, drop, Option, Some, None, refl, sym, ap, ◌∙◌, subst, arith, inl, inr, append_assoc}
+use Rattle.std.proofs.Common.{◌≡◌, ℕ, ◌+◌, ◌<◌, Bool, true, false, cond, List, [], ◌∷◌, ◌++◌, length, get_or, take, drop, Option, Some, None, refl, sym, ap, ◌∙◌, subst, arith, inl, inr}
 use Rattle.std.specs.List.{insert}
 use Rattle.std.specs.Option.{option_or}
 use Rattle.std.proofs.lemmas.Bool.{cases_lt, cases_Bool}
-use Rattle.std.proofs.lemmas.List.{length-append, length-map, get_or_append_left, get_or_at, get_or_default, map-append, take_all, take_more, drop_all}
-use Rattle.std.proofs.lemmas.Option.{same_Some, none-some}
+use Rattle.std.proofs.lemmas.List.{length-append, length-map, get_or_append_left, get_or_at, get_or_default, take_all, take_more, drop_all}
+use Rattle.std.proofs.lemmas.Option.{none-some}
 use Rattle.ti_caps.specs.Tables.{Capability, IsCapability}
 use Rattle.ti_compiled.specs.declared.values.Value.{Value}
-use Rattle.ti_compiled.specs.Values.{Content, Contents, Entry, Agrees, IsGapFor, IsKept, contents, content_of, entries_of, is_same, rank_at, rank_of}
+use Rattle.ti_compiled.specs.Values.{Content, Entry, Agrees, IsGapFor, IsKept, contents, content_of, entries_of, is_same, rank_at, rank_of}
 use Rattle.ti_compiled.specs.Merging.{IsPastBoth}
 use Rattle.ti_compiled.proofs.Held.{contents_nowhere, one_from_rank, one_from_same}
 use Rattle.ti_compiled.proofs.Places.{nowhere, kept-insert, rank_read}

@@ -1,5 +1,5 @@
 -- What the writer has laid of a section when its walk has come past some of the entries, and what one more entry adds.
-use Rattle.std.proofs.Common.{◌≡◌, ℕ, zero, suc, ◌+◌, ◌-◌, ◌*◌, ◌<◌, ◌≤◌, Bool, true, false, List, [], ◌∷◌, ◌++◌, length, get_or, replicate, refl, sym, ap, ◌∙◌, subst, arith, append-nil, append_assoc, length-append}
+use Rattle.std.proofs.Common.{◌≡◌, ℕ, ◌+◌, ◌-◌, ◌*◌, ◌<◌, ◌≤◌, true, false, List, [], ◌∷◌, ◌++◌, length, get_or, replicate, refl, sym, ap, ◌∙◌, subst, arith, append-nil, append_assoc, length-append}
 use Rattle.std.proofs.lemmas.List.{length-map}
 use Rattle.ti_caps.specs.Tables.{Capability}
 use Rattle.ti_caps.specs.declared.capability.Kind.{Kind}
@@ -11,7 +11,7 @@ use Rattle.ti_compiled.specs.declared.layout.Format.TheVariants.{Legacy}
 use Rattle.ti_compiled.specs.declared.values.Value.{Value}
 use Rattle.ti_compiled.specs.declared.values.Value.TheVariants.{True, Cancelled}
 use Rattle.ti_compiled.specs.declared.values.Value.TheVariants as v
-use Rattle.ti_compiled.specs.Values.{Content, content_true, content_number, content_text, Entry, IsKept, contents, content_of, entries_of}
+use Rattle.ti_compiled.specs.Values.{content_text, Entry, IsKept, contents, content_of, entries_of}
 use Rattle.ti_compiled.specs.Layout.{number_bytes, spelled, width}
 use Rattle.ti_compiled.specs.Image.{written_count, flags_below, numbers_below, offsets_below, texts_below}
 use Rattle.ti_compiled.proofs.Below.{below-none}

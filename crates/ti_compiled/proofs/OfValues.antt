@@ -1,13 +1,13 @@
 -- An image goes by what is there of the 497 capabilities.
-use Rattle.std.proofs.Common.{◌≡◌, ℕ, zero, suc, ◌+◌, ◌%◌, ◌<◌, ◌≤◌, Bool, true, false, cond, List, [], ◌∷◌, ◌++◌, length, Option, Some, None, refl, sym, ap, ◌∙◌, arith}
-use Rattle.ti_caps.specs.Tables.{Capability, IsCapability, capability, count_of}
+use Rattle.std.proofs.Common.{◌≡◌, ℕ, ◌≤◌, cond, List, [], length, Option, Some, None, refl, sym, ap, ◌∙◌, arith}
+use Rattle.ti_caps.specs.Tables.{capability, count_of}
 use Rattle.ti_caps.specs.declared.capability.Kind.{Kind}
 use Rattle.ti_caps.specs.declared.capability.Kind.TheVariants.{Flag, Number, Text}
 use Rattle.ti_compiled.specs.declared.layout.Format.{Format}
 use Rattle.ti_compiled.specs.declared.layout.Format.TheVariants.{Legacy, Extended}
 use Rattle.ti_compiled.specs.Values.{Content, content_true, content_number, content_text, content_cancelled, Contents}
-use Rattle.ti_compiled.specs.Layout.{Sections, absent, laid_out, limit}
-use Rattle.ti_compiled.specs.Image.{image, is_there, is_wide, format_of, limit_of, of_kind, written_count, flag_value, number_value, offset_value, text_piece, flags_below, numbers_below, offsets_below, texts_below, even_gap, sections_of}
+use Rattle.ti_compiled.specs.Layout.{absent, laid_out, limit}
+use Rattle.ti_compiled.specs.Image.{image, is_there, is_wide, format_of, of_kind, written_count, flag_value, number_value, offset_value, text_piece, flags_below, numbers_below, offsets_below, texts_below, even_gap}
 use Rattle.ti_compiled.specs.Laws.{uncancelled, ShowSame, ImagesAreOfValues, LimitsAreOfValues}
 use Rattle.ti_compiled.proofs.Below.{below-same, last_passing-le, last_passing-same, some_below-same}
 use Rattle.ti_compiled.proofs.Texts.{texts-same}

@@ -1,5 +1,5 @@
 -- Bytes are an entry in one way at most, are refused in one way at most, and never both.
-use Rattle.std.proofs.Common.{◌≡◌, ◌≢◌, ℕ, ◌+◌, ◌-◌, ◌*◌, ◌/◌, ◌<◌, ◌≤◌, All, List, [], ◌∷◌, ◌++◌, length, take, get_or, cond, eqb, refl, sym, ap, ◌∙◌, subst, arith, inl, inr}
+use Rattle.std.proofs.Common.{◌≡◌, ℕ, ◌+◌, ◌-◌, ◌*◌, ◌/◌, ◌<◌, ◌≤◌, All, List, [], ◌∷◌, ◌++◌, length, take, get_or, cond, eqb, refl, sym, ap, ◌∙◌, subst, arith, inl, inr}
 use Rattle.std.proofs.lemmas.List.{take_at, length-append, get_or_append_left}
 use Rattle.std.proofs.lemmas.Bool.{cases_lt}
 use Rattle.ti_compiled.specs.declared.fault.ReadError.{ReadError}
@@ -7,7 +7,7 @@ use Rattle.ti_compiled.specs.declared.fault.ReadError.TheVariants.{Short, Magic,
 use Rattle.ti_compiled.specs.Values.{Contents, HasNoNul}
 use Rattle.ti_compiled.specs.declared.layout.Format.{Format}
 use Rattle.ti_compiled.specs.declared.layout.Format.TheVariants.{Legacy, Extended}
-use Rattle.ti_compiled.specs.Layout.{Sections, absent, cancelled, magic, negative, spelled, width}
+use Rattle.ti_compiled.specs.Layout.{Sections, absent, cancelled, negative, spelled, width}
 use Rattle.ti_compiled.specs.Reading.{AreSound, IsNumber, IsOffset, Reads, contents_of, number_at, numbers_in, count_in, format_in, Refused, Holds, HasBadCount, HasBadNames, HasBadFlag, HasBadNumber, HasBadOffset, HasEnd, rank, names_section, flags_section, numbers_section, offsets_section, strings_section}
 use Rattle.ti_compiled.proofs.Spelled.{numbers-again, number_read, length-spelled, counted}
 use Rattle.ti_compiled.proofs.Parts.{Found, found}

@@ -3,7 +3,7 @@ use Rattle.std.proofs.Common.{◌≡◌, ℕ, suc, ◌+◌, ◌-◌, ◌*◌, �
 use Rattle.std.proofs.lemmas.List.{take_at, drop_at, length-append}
 use Rattle.ti_compiled.specs.declared.layout.Format.{Format}
 use Rattle.ti_compiled.specs.declared.layout.Format.TheVariants.{Legacy, Extended}
-use Rattle.ti_compiled.specs.Layout.{Sections, header, laid_out, magic, number_bytes, spelled, width}
+use Rattle.ti_compiled.specs.Layout.{Sections, header, laid_out, magic, spelled, width}
 use Rattle.ti_compiled.specs.Reading.{word_at, AreSound, format_in, names_size, flag_count, number_count, text_count, strings_size, end_place, names_section, flags_section, numbers_section, offsets_section, strings_section}
 use Rattle.ti_compiled.proofs.Spelled.{length-spelled}
 

@@ -1,13 +1,13 @@
 -- Bytes that are refused for their last section alone.
-use Rattle.std.proofs.Common.{◌≡◌, ◌≢◌, ℕ, suc, ◌-◌, ◌<◌, ◌≤◌, List, length, get_or, ap, ◌∙◌, sym, subst, arith, inl, inr}
+use Rattle.std.proofs.Common.{◌≡◌, ◌≢◌, ℕ, ◌-◌, ◌<◌, ◌≤◌, List, length, subst, arith, inl, inr}
 use Rattle.ti_compiled.specs.declared.layout.Format.{Format}
 use Rattle.ti_compiled.specs.declared.layout.Format.TheVariants.{Legacy, Extended}
 use Rattle.ti_compiled.specs.declared.fault.ReadError.{ReadError}
 use Rattle.ti_compiled.specs.declared.fault.ReadError.TheVariants.{Short, Magic, Counts, Truncated, BadNames, BadFlag, BadNumber, BadOffset}
 use Rattle.ti_compiled.specs.declared.sections.Sections.{Sections}
 use Rattle.ti_compiled.specs.Layout.{cancelled, magic, negative}
-use Rattle.ti_compiled.specs.Reading.{word_at, IsNumber, format_in, names_section, flags_section, numbers_section, offsets_section, strings_section, HasBadCount, HasBadNames, HasBadFlag, HasBadNumber, HasBadOffset, Holds, Refused, rank}
-use Rattle.ti_compiled.specs.Cutting.{AreNames, AreFlags, AreNumbers, HasHeader, IsCut}
+use Rattle.ti_compiled.specs.Reading.{IsNumber, format_in, names_section, flags_section, numbers_section, strings_section, HasBadCount, HasBadNames, HasBadOffset, Holds, Refused, rank}
+use Rattle.ti_compiled.specs.Cutting.{AreNames, AreFlags, AreNumbers, IsCut}
 
 known_magic : (w : Format) (n : ℕ) → n ≡ magic w → n ≢ magic Legacy → n ≢ magic Extended → ⊥
 known_magic Legacy n e f g = f e

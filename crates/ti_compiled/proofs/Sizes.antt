@@ -1,5 +1,5 @@
 -- How long an entry is.
-use Rattle.std.proofs.Common.{◌≡◌, ℕ, suc, ◌+◌, ◌-◌, ◌*◌, ◌%◌, ◌≤◌, ◌<◌, List, [], ◌∷◌, ◌++◌, length, refl, sym, ap, ◌∙◌, arith}
+use Rattle.std.proofs.Common.{◌≡◌, ℕ, suc, ◌+◌, ◌*◌, ◌%◌, ◌≤◌, ◌<◌, List, [], ◌∷◌, ◌++◌, length, ◌∙◌, arith}
 use Rattle.std.proofs.lemmas.List.{length-append, length-replicate}
 use Rattle.ti_caps.specs.declared.capability.Kind.TheVariants.{Flag, Number, Text}
 use Rattle.ti_compiled.specs.declared.layout.Format.{Format}
@@ -7,7 +7,7 @@ use Rattle.ti_compiled.specs.declared.layout.Format.TheVariants.{Legacy, Extende
 use Rattle.ti_compiled.specs.Layout.{Sections, header, laid_out, limit, entry_size, spelled, width}
 use Rattle.ti_compiled.specs.Image.{image, even_gap, flags_below, format_of, limit_of, numbers_below, offsets_below, sections_of, texts_below, written_count}
 use Rattle.ti_compiled.specs.Values.{Contents}
-use Rattle.ti_compiled.proofs.Below.{length-below, last_passing-le}
+use Rattle.ti_compiled.proofs.Below.{length-below}
 use Rattle.ti_compiled.proofs.Parts.{length-header}
 use Rattle.ti_compiled.proofs.Spelled.{length-spelled}
 

@@ -1,11 +1,11 @@
 -- Numbers as bytes, and read again.
-use Rattle.std.proofs.Common.{◌≡◌, ℕ, zero, suc, ◌+◌, ◌-◌, ◌*◌, ◌/◌, ◌%◌, ◌<◌, ◌≤◌, List, [], ◌∷◌, ◌++◌, length, get_or, take, drop, replicate, slice_range, refl, sym, ap, ◌∙◌, subst, append_assoc, arith, All}
-use Rattle.std.proofs.lemmas.List.{length-append, length-drop, get_or-drop, take_all, same_lists, drop_all, length-take, get_or_default}
+use Rattle.std.proofs.Common.{◌≡◌, ℕ, zero, suc, ◌+◌, ◌*◌, ◌/◌, ◌%◌, ◌<◌, ◌≤◌, List, [], ◌∷◌, ◌++◌, length, get_or, take, drop, replicate, refl, sym, ap, ◌∙◌, append_assoc, arith, All}
+use Rattle.std.proofs.lemmas.List.{length-append, length-drop, get_or-drop, take_all, same_lists, get_or_default}
 use Rattle.ti_compiled.specs.declared.layout.Format.{Format}
 use Rattle.ti_compiled.specs.declared.layout.Format.TheVariants.{Legacy, Extended}
 use Rattle.ti_compiled.specs.Layout.{width, absent, number_bytes, spelled}
 use Rattle.ti_compiled.specs.Image.{below}
-use Rattle.ti_compiled.specs.Reading.{word_at, number_at, count_in, numbers_in}
+use Rattle.ti_compiled.specs.Reading.{number_at, count_in, numbers_in}
 use Rattle.ti_compiled.proofs.Below.{below-none, below-more, length-below, get_or-below}
 
 abbrev pub IsBytes : List ℕ → Type 0

@@ -1,5 +1,5 @@
 -- A walk over the entries of a table, which stand in the order of the compiled entry: how many places of a kind it has come past.
-use Rattle.std.proofs.Common.{◌≡◌, ◌≢◌, ℕ, zero, suc, ◌+◌, ◌-◌, ◌*◌, ◌<◌, ◌≤◌, Bool, true, false, cond, List, [], ◌∷◌, ◌++◌, length, get_or, replicate, Option, Some, None, refl, sym, ap, ◌∙◌, subst, append_assoc, arith, inl, inr, add-one}
+use Rattle.std.proofs.Common.{◌≡◌, ℕ, zero, suc, ◌+◌, ◌-◌, ◌*◌, ◌<◌, ◌≤◌, Bool, true, false, cond, List, [], ◌∷◌, ◌++◌, length, get_or, replicate, Option, Some, None, refl, sym, ap, ◌∙◌, subst, append_assoc, arith, inl, inr}
 use Rattle.std.proofs.lemmas.Bool.{cases_lt, cases_Bool}
 use Rattle.std.proofs.lemmas.List.{get_or_default, get_or-map, length-append}
 use Rattle.std.proofs.lemmas.Option.{same_Some, none-some}
@@ -7,16 +7,16 @@ use Rattle.ti_caps.specs.Tables.{Capability, IsCapability, capability, count_of}
 use Rattle.ti_caps.specs.declared.capability.Kind.{Kind}
 use Rattle.ti_caps.specs.declared.capability.Kind.TheVariants.{Flag, Number, Text}
 use Rattle.ti_compiled.specs.declared.layout.Format.{Format}
-use Rattle.ti_compiled.specs.declared.layout.Format.TheVariants.{Legacy, Extended}
+use Rattle.ti_compiled.specs.declared.layout.Format.TheVariants.{Legacy}
 use Rattle.ti_compiled.specs.declared.values.Value.{Value}
-use Rattle.ti_compiled.specs.Values.{Content, content_true, content_number, content_text, content_cancelled, Contents, Entry, Agrees, IsAt, IsKept, contents, content_of, entries_of, is_same, rank_at, rank_in, rank_of}
+use Rattle.ti_compiled.specs.Values.{Content, content_true, content_number, content_text, content_cancelled, Entry, Agrees, IsAt, IsKept, contents, content_of, entries_of, is_same, rank_in}
 use Rattle.ti_compiled.specs.Layout.{absent, number_bytes, spelled, width}
-use Rattle.ti_compiled.specs.Image.{is_there, is_wide, format_of, of_kind, some_below, written_count, flag_value, number_value, offset_value, text_piece, flags_below, numbers_below, offsets_below, texts_below, below}
+use Rattle.ti_compiled.specs.Image.{is_there, of_kind, written_count, flag_value, number_value, offset_value, text_piece, flags_below, numbers_below, offsets_below, texts_below, below}
 use Rattle.ti_compiled.proofs.Held.{contents_here, one_from_same}
 use Rattle.ti_compiled.proofs.Places.{elsewhere, rank_read}
-use Rattle.ti_compiled.proofs.Below.{below-none, below-more, below-filled, last_passing-is, last_passing-over, some_below-true, some_below-false}
-use Rattle.ti_compiled.proofs.Spelled.{spelled-none, spelled-append, spelled-one, spelled-absent}
-use Rattle.ti_compiled.proofs.Texts.{texts-none, texts-more, texts-skipped, length-texts-le}
+use Rattle.ti_compiled.proofs.Below.{below-more, below-filled, last_passing-is, last_passing-over}
+use Rattle.ti_compiled.proofs.Spelled.{spelled-append, spelled-one, spelled-absent}
+use Rattle.ti_compiled.proofs.Texts.{texts-more, texts-skipped, length-texts-le}
 
 -- whether a content is a value of that kind, and not cancelled
 abbrev pub is_of : Kind → Content → Bool

@@ -1,11 +1,10 @@
 -- Bytes that were cut are their sections, one after the other.
-use Rattle.std.proofs.Common.{◌≡◌, ℕ, suc, ◌+◌, ◌-◌, ◌*◌, ◌/◌, ◌%◌, ◌<◌, ◌≤◌, List, [], ◌∷◌, ◌++◌, length, take, drop, get_or, slice_range, All, refl, sym, ap, ◌∙◌, subst, append_assoc, arith, inl, inr}
+use Rattle.std.proofs.Common.{◌≡◌, ℕ, suc, ◌+◌, ◌-◌, ◌*◌, ◌%◌, ◌<◌, ◌≤◌, List, [], ◌∷◌, ◌++◌, length, take, drop, get_or, slice_range, All, refl, sym, ap, ◌∙◌, subst, append_assoc, arith, inl, inr}
 use Rattle.std.proofs.lemmas.List.{take_all, take_more, take-append-drop, length-drop, length-take, get_or-drop, get_or-take, get_or_default, get_or_past, drop-drop}
 use Rattle.std.proofs.lemmas.Bool.{cases_lt}
 use Rattle.ti_compiled.specs.declared.layout.Format.{Format}
 use Rattle.ti_compiled.specs.declared.layout.Format.TheVariants.{Legacy}
 use Rattle.ti_compiled.specs.Layout.{Sections, header, laid_out, magic, number_bytes, spelled, width}
-use Rattle.ti_compiled.specs.Image.{below}
 use Rattle.ti_compiled.specs.Reading.{word_at, number_at, count_in, numbers_in, AreSound, IsNumber, IsOffset, Reads, contents_of, format_in, names_size, flag_count, number_count, text_count, strings_size, flags_place, numbers_place, offsets_place, strings_place, end_place, names_section, flags_section, numbers_section, offsets_section, strings_section}
 use Rattle.ti_compiled.specs.Cutting.{AreNames, AreFlags, AreNumbers, AreOffsets, EachNumber}
 use Rattle.ti_compiled.proofs.Below.{length-below, get_or-below}

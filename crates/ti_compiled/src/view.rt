@@ -15,9 +15,9 @@ use ti_caps::Cap;
 /// The first offset that is negative as a signed number of 16 bits.
 const NEGATIVE: usize = 0x8000;
 
-/// A compiled entry of term(5), read where it lies. It holds slices of the bytes that it was read
-/// from, so it takes no memory; contracts see its names and what each
-/// capability has.
+/// A compiled entry of term(5), in the legacy storage format or the extended number format, read
+/// where it lies. It holds slices of the bytes that it was read from, so it takes no memory;
+/// contracts see its names and what each capability has.
 #[derive(Clone, Copy)]
 pub struct View<'a> {
     format: Format,

@@ -1,4 +1,4 @@
-use Rattle.std.proofs.Common.{◌+◌, ◌<◌, length, sym, subst, arith}
+use Rattle.std.proofs.Common.{◌+◌, ◌<◌, length, sym, subst}
 use Rattle.std.proofs.lemmas.List.{length-map}
 use Rattle.ti_compiled.specs.Merging.{TurnIs}
 use Rattle.ti_compiled.specs.Values.{content_of, entries_of}

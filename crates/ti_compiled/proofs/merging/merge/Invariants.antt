@@ -1,4 +1,4 @@
-use Rattle.std.proofs.Common.{ℕ, ◌+◌, ◌-◌, length}
+use Rattle.std.proofs.Common.{◌+◌, ◌-◌, length}
 use Rattle.ti_compiled.specs.Values.{entries_of}
 use Rattle.ti_compiled.proofs.Fronts.{Merges}
 use Rattle.ti_compiled.proofs.merging.merge.Given as goal

@@ -1,4 +1,4 @@
-use Rattle.std.proofs.Common.{sym, ◌∙◌}
+use Rattle.std.proofs.Common.{sym}
 use Rattle.ti_compiled.proofs.Counting.{narrow_none, narrow_more, extended_wanted, legacy_wanted}
 use Rattle.ti_compiled.proofs.writing.format_wanted.Goals as goal
 

@@ -1,4 +1,4 @@
-use Rattle.std.proofs.Common.{◌≡◌, ◌+◌, ap, sym, subst, ◌∙◌, refl, arith, min, ◌-◌, ◌^◌}
+use Rattle.std.proofs.Common.{◌+◌, ap, sym, subst, ◌∙◌, refl, arith, min, ◌-◌, ◌^◌}
 use Rattle.ti_compiled.specs.Values.{content_of}
 use Rattle.ti_compiled.proofs.Counting.{HeaderSoFar, counts_begun, flag_counted, number_counted, text_counted, none_counted, counted_all}
 use Rattle.ti_compiled.proofs.writing.header_of.Goals.{in-True, in-Number, in-Text, in-Cancelled}

@@ -1,4 +1,4 @@
-use Rattle.std.proofs.Common.{ap, sym, subst, arith}
+use Rattle.std.proofs.Common.{ap, sym, subst}
 use Rattle.ti_caps.specs.declared.capability.Kind.TheVariants.{Number}
 use Rattle.ti_compiled.specs.Values.{content_of}
 use Rattle.ti_compiled.proofs.Walked.{is_of}

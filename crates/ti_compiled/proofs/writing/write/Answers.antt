@@ -1,4 +1,4 @@
-use Rattle.std.proofs.Common.{◌≡◌, ◌<◌, ◌≤◌, ◌∙◌, ap, length, subst, sym, arith, rules, ℕ, Vec, Global, Result, Err}
+use Rattle.std.proofs.Common.{◌≡◌, ◌<◌, ◌≤◌, length, subst, sym, arith, rules, ℕ, Vec, Global, Result, Err}
 use Rattle.std.specs.Result.{IsErrAnd}
 use Rattle.ti_compiled.specs.declared.writing.WriteError.{WriteError}
 use Rattle.ti_compiled.specs.declared.writing.WriteError.TheVariants.{TooLarge, Memory}

@@ -1,6 +1,5 @@
-use Rattle.std.proofs.Common.{◌≡◌, ℕ, ◌*◌, ◌/◌, ◌<◌, ◌≤◌, length, ap, sym, ◌∙◌, arith, subst}
-use Rattle.ti_compiled.specs.Layout.{negative, width}
-use Rattle.ti_compiled.specs.Reading.{number_at, count_in}
+use Rattle.std.proofs.Common.{◌/◌, ◌≤◌, length, arith, subst}
+use Rattle.ti_compiled.specs.Reading.{count_in}
 use Rattle.ti_compiled.proofs.ViewLemmas.{number_past, number_plain, number_void, number_place}
 use Rattle.ti_compiled.proofs.view.View.number.Goals as goal
 

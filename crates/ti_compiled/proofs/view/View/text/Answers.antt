@@ -1,4 +1,4 @@
-use Rattle.std.proofs.Common.{◌≡◌, ◌*◌, ap, ◌∙◌, arith}
+use Rattle.std.proofs.Common.{◌*◌, ap, ◌∙◌, arith}
 use Rattle.ti_compiled.specs.Reading.{word_at}
 use Rattle.ti_compiled.proofs.Search.{first_byte-found, first_byte-none}
 use Rattle.ti_compiled.proofs.ViewLemmas.{text_past, text_plain, text_void}
