@@ -11,7 +11,6 @@ not_passing : (b : Bool) → (b ≡ true → ⊥) → not b ≡ true
 not_passing true bad = absurd (bad refl)
 not_passing false bad = refl
 
-
 pub long_name-after : (names : List ℕ) (place : ℕ) → NoneAfter (Passes (is_byte 124) names) 0 (length names) place
     → Passes (is_byte 124) names place
     → take (length names - (place + 1)) (drop (place + 1) names) ≡ long_name names

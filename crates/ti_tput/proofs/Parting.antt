@@ -42,7 +42,7 @@ module _ (w : ℕ → Bool) where
   skip [] = refl
   skip (x ∷ xs) =
       elim (w x) as (λ b. w x ≡ b → filter has_bytes (slice_split w (drop (cond (not (not b)) (1 + position_or_len (λ byte. not (w byte)) xs) 0) (x ∷ xs)))
-          ≡ filter has_bytes (cond b ([] ∷ slice_split w xs) (onto_first x (slice_split w xs)))) [
+      ≡ filter has_bytes (cond b ([] ∷ slice_split w xs) (onto_first x (slice_split w xs)))) [
         | true ↦ λ e. rw (drop-one (position_or_len (λ byte. not (w byte)) xs) x xs) (skip xs)
         | false ↦ λ e. rw e refl
       ] refl
@@ -53,8 +53,8 @@ module _ (w : ℕ → Bool) where
   first_part [] = ([], refl, refl)
   first_part (x ∷ xs) =
       elim (w x) as (λ b. w x ≡ b → (parts : List (List ℕ)) × (cond b ([] ∷ slice_split w xs) (onto_first x (slice_split w xs))
-          ≡ take (cond (not b) (1 + position_or_len w xs) 0) (x ∷ xs) ∷ parts)
-          × (filter has_bytes parts ≡ filter has_bytes (slice_split w (drop (cond (not b) (1 + position_or_len w xs) 0) (x ∷ xs))))) [
+      ≡ take (cond (not b) (1 + position_or_len w xs) 0) (x ∷ xs) ∷ parts)
+      × (filter has_bytes parts ≡ filter has_bytes (slice_split w (drop (cond (not b) (1 + position_or_len w xs) 0) (x ∷ xs))))) [
         | true ↦ λ e. (slice_split w xs, refl, rw e refl)
         | false ↦ λ e. let h = first_part xs in
             (h.0, rw (h.1, take-one (position_or_len w xs) x xs) refl, rw (drop-one (position_or_len w xs) x xs) h.2)
@@ -81,8 +81,7 @@ unfolding words_of
 words_of-start t n e =
     let h = position-some (λ byte. not (is_white byte)) t n e in
     let passes : not (is_white (get_or t (position_or_len (λ byte. not (is_white byte)) t) 0)) ≡ true =
-    passes_at_first (λ byte. not (is_white byte)) t 0 (rw h.0 h.1) in
-    (
+    passes_at_first (λ byte. not (is_white byte)) t 0 (rw h.0 h.1) in (
       rw (← h.0) (sym (skip is_white t)),
       h.1,
       rw (get_or-drop n t 0 0) (not-true _ (subst (λ (k : ℕ). not (is_white (get_or t k 0)) ≡ true) (h.0 ∙ sym (add-zero n)) passes)),

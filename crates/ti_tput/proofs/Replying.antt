@@ -80,7 +80,7 @@ unfolding tput_result
 tput_result-front entry [] rate statics = refl
 tput_result-front entry (cap ∷ words) rate statics =
     elim (ltb 10 (length words)) as (λ b. ltb 10 (length words) ≡ b → cond (ltb 9 (length (take 10 words))) None (Some (named_reply entry rate cap (take 10 words) statics))
-        ≡ cond (ltb 9 (length words)) None (Some (named_reply entry rate cap words statics))) [
+    ≡ cond (ltb 9 (length words)) None (Some (named_reply entry rate cap words statics))) [
       | true ↦ λ e. let low : 10 < length words = ltb-true _ _ e in
           let front : ltb 9 (length (take 10 words)) ≡ true = lt-ltb _ _ (omega (arith, length-take 10 words)) in
           let all : ltb 9 (length words) ≡ true = lt-ltb _ _ (omega arith) in

@@ -158,7 +158,11 @@ fn answer_value(
 }
 
 // Those of three strings that are present, in order.
-fn answer_strings(alloc: Global, texts: &[Option<&[u8]>], line: &Line) -> Result<TputOutcome, AllocError>
+fn answer_strings(
+    alloc: Global,
+    texts: &[Option<&[u8]>],
+    line: &Line,
+) -> Result<TputOutcome, AllocError>
     ensures { (statics : List ℤ) → IfOk result (λ outcome. reply_of outcome statics ≡ sent (padded_all line.now (texts_of texts.now)) statics statics) }
 {
     let made = padded_all(alloc, texts, line)?;

@@ -1,5 +1,5 @@
 //! A terminal that takes commands line by line, and writes what they write.
-ghost use Rattle.std.specs.Prelude.{◌≡◌, ℕ, IfOk, IsErrOf, OnErr};
+ghost use Rattle.std.specs.Prelude.{◌≡◌, ◌==◌, ℕ, IfOk};
 ghost use Rattle.ti_devices.specs.Counted.{Observed, observed};
 ghost use Rattle.ti_tput.specs.Entries.{Entry, entry_of};
 ghost use Rattle.ti_tput.specs.Runs.{Course, line_step, run_status, start};
@@ -22,6 +22,13 @@ pub struct Terminal<'a> {
     line: Line,
     statics: Statics,
     bad: u8,
+}
+
+// Whether a command of that status counts as bad: one whose capability is absent does not.
+fn is_bad(status: u8) -> bool
+    ensures { result ≡ (status == 4) }
+{
+    status == BAD_COMMAND
 }
 
 impl<'a> Terminal<'a> {
@@ -50,9 +57,15 @@ impl<'a> Terminal<'a> {
         if words.is_empty() {
             return Ok(Vec::new(self.alloc));
         }
-        match answer(self.alloc, &self.view, &self.line, words.as_slice(), &mut self.statics) {
+        match answer(
+            self.alloc,
+            &self.view,
+            &self.line,
+            words.as_slice(),
+            &mut self.statics,
+        ) {
             Ok(outcome) => {
-                if outcome.status == BAD_COMMAND {
+                if is_bad(outcome.status) {
                     self.bad = self.bad.saturating_add(1);
                 }
                 Ok(outcome.bytes)

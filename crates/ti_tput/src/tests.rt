@@ -36,7 +36,14 @@ pub fn compiled(
     }
     let before = names.len().saturating_add(1);
     let mut bytes = Vec::new(alloc);
-    for size in [0x011a, before, flags.len(), numbers.len(), count, strings.len()] {
+    for size in [
+        0x011a,
+        before,
+        flags.len(),
+        numbers.len(),
+        count,
+        strings.len(),
+    ] {
         bytes.extend_from_slice(&word(size))?;
     }
     bytes.extend_from_slice(names)?;
@@ -97,10 +104,7 @@ fn commands_on_a_dumb_terminal(rt: HostRuntime) -> Result<(), Fail> {
 
 #[test]
 fn strings_with_parameters(rt: HostRuntime) -> Result<(), Fail> {
-    let texts: [(&str, &[u8]); 2] = [
-        ("cup", b"\x1b[%i%p1%d;%p2%dH"),
-        ("pfkey", b"%p1%d:%p2%s"),
-    ];
+    let texts: [(&str, &[u8]); 2] = [("cup", b"\x1b[%i%p1%d;%p2%dH"), ("pfkey", b"%p1%d:%p2%s")];
     let bytes = compiled(rt.alloc(), b"v", &[], &[], &texts)?;
     let view = entry(bytes.as_slice())?;
     let moved = tput(rt.alloc(), &view, &[b"cup", b"4", b"9"], 0)?;
@@ -116,7 +120,10 @@ fn strings_with_parameters(rt: HostRuntime) -> Result<(), Fail> {
 fn strings_that_initialize_and_reset(rt: HostRuntime) -> Result<(), Fail> {
     let own: [(&str, &[u8]); 2] = [("is2", b"I"), ("rs1", b"R")];
     let shared: [(&str, &[u8]); 2] = [("is1", b"A"), ("is3", b"C")];
-    let cases: [(&[(&str, &[u8])], &[u8], &[u8]); 2] = [(&own, b"I", b"R"), (&shared, b"AC", b"AC")];
+    let cases: [(&[(&str, &[u8])], &[u8], &[u8]); 2] = [
+        (&own, b"I", b"R"),
+        (&shared, b"AC", b"AC"),
+    ];
     for (texts, init, reset) in cases {
         let bytes = compiled(rt.alloc(), b"v", &[], &[], texts)?;
         let view = entry(bytes.as_slice())?;

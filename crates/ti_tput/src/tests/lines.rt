@@ -7,7 +7,12 @@ use ti_compiled::View;
 use ti_devices::{Counted, ToolError};
 
 // What the lines write, and how they end.
-fn run(alloc: Global, view: &View<'_>, rate: u32, lines: &[u8]) -> (Result<u8, ToolError>, Vec<u8>) {
+fn run(
+    alloc: Global,
+    view: &View<'_>,
+    rate: u32,
+    lines: &[u8],
+) -> (Result<u8, ToolError>, Vec<u8>) {
     let mut reader = Counted::new(lines);
     let mut writer = Counted::new(Vec::new(alloc));
     let end = tput_lines(alloc, view, rate, &mut reader, &mut writer);

@@ -18,7 +18,10 @@ fn strings(alloc: Global, texts: &[&str]) -> Result<Vec<String>, AllocError> {
 fn places_by_the_environment(rt: HostRuntime) -> Result<(), Fail> {
     let alloc = rt.alloc();
     let all = places(alloc, Some("/t"), Some("/x:"))?;
-    let expected = strings(alloc, &["/t", "/x", "/usr/share/terminfo", "/usr/share/terminfo"])?;
+    let expected = strings(
+        alloc,
+        &["/t", "/x", "/usr/share/terminfo", "/usr/share/terminfo"],
+    )?;
     assert!(rt; all == expected);
     let few = places(alloc, Some(""), None)?;
     assert!(rt; few == strings(alloc, &["/usr/share/terminfo"])?);
