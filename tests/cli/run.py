@@ -4,6 +4,8 @@
 Each folder below cases/ is one run of `ti`, in a folder of its own:
 
     args      the words after `ti`, one a line
+    run       in place of args, a command that sh runs with `ti` on PATH: it lays
+              out what `before` cannot, as a link or a FIFO, and then runs `ti`
     env       NAME=VALUE a line; beside these only PATH is set
     stdin     what standard input holds (none: nothing)
     data/     the files that lie in the folder that it runs in
@@ -107,8 +109,12 @@ def run(case):
         if os.path.isfile(part("before")):
             subprocess.run(["sh", "-c", bytes_of(part("before")).decode()], cwd=folder, check=True)
         lay = tree(folder)
+        if os.path.isfile(part("run")):
+            command = ["sh", "-c", bytes_of(part("run")).decode()]
+        else:
+            command = [os.path.join(tools, "ti"), *words]
         done = subprocess.run(
-            [os.path.join(tools, "ti"), *words], input=bytes_of(part("stdin")), cwd=folder, env=env,
+            command, input=bytes_of(part("stdin")), cwd=folder, env=env,
             stdout=subprocess.PIPE, stderr=subprocess.PIPE, timeout=SECONDS,
         )
         faults = [text_fault("stdout", done.stdout, case), text_fault("stderr", done.stderr, case)]

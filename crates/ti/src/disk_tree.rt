@@ -2,20 +2,29 @@
 ghost use Rattle.std.specs.Prelude.{◌≡◌, ◌<◌, ◌≤◌};
 ghost use Rattle.ti_devices.specs.declared.tree.TreeFault.TheVariants.{Failed};
 
+use crate::whole::read_whole;
 use std::alloc::Global;
-use std::fs;
-use std::io::{self, Read};
+use std::fs::{self, File};
+use std::io::{self, ErrorKind, Write};
 use std::rt::Files;
 use ti_tools::{Tally, Tree, TreeFault};
 
+/// How many names a new file is tried under before it is given up: one that is taken was left by a run
+/// that was killed, or is another run's.
+const NAMES_TRIED: u32 = 1000;
+
 /// The files of the system. What they hold is not known, so a contract sees the failures alone.
+///
+/// A file is replaced whole: its bytes go into a new file beside it, which then takes its name. So what
+/// cannot be written leaves the old file, a link at the path is replaced and not followed, and another
+/// name of the old file keeps the old bytes.
 #[derive(Drop)]
-pub struct DiskTree<'a, R: Files> {
+pub struct DiskTree<'a, R: Files + AllocGlobal> {
     rt: &'a R,
     failures: Tally,
 }
 
-impl<'a, R: Files> DiskTree<'a, R> {
+impl<'a, R: Files + AllocGlobal> DiskTree<'a, R> {
     /// The files that `rt` reaches. A path that does not begin with `/` starts at the current folder.
     pub fn new(rt: &'a R) -> DiskTree<'a, R> {
         DiskTree {
@@ -29,7 +38,7 @@ impl<'a, R: Files> DiskTree<'a, R> {
         ensures later { self.old.failures.count ≤ self.new.failures.count }
         ensures failed { result ≡ Failed → self.old.failures.count < self.new.failures.count }
     {
-        if error.kind() == io::ErrorKind::OutOfMemory {
+        if error.kind() == ErrorKind::OutOfMemory {
             return TreeFault::Memory;
         }
         self.failures = self.failures.and_one();
@@ -37,7 +46,7 @@ impl<'a, R: Files> DiskTree<'a, R> {
     }
 }
 
-impl<'a, R: Files> Tree for DiskTree<'a, R> {
+impl<'a, R: Files + AllocGlobal> Tree for DiskTree<'a, R> {
     ghost failures = { λ tree. tree.failures.count };
 
     fn read(
@@ -46,14 +55,14 @@ impl<'a, R: Files> Tree for DiskTree<'a, R> {
         path: &str,
         limit: usize,
     ) -> Result<Option<Vec<u8>>, TreeFault> {
-        match read_front(self.rt, alloc, path, limit) {
+        match read_file(self.rt, alloc, path, limit) {
             Ok(found) => Ok(found),
             Err(error) => Err(self.fault(error)),
         }
     }
 
     fn write(&mut self, path: &str, bytes: &[u8]) -> Result<(), TreeFault> {
-        match write_file(self.rt, path, bytes) {
+        match replace_file(self.rt, path, bytes) {
             Ok(()) => Ok(()),
             Err(error) => Err(self.fault(error)),
         }
@@ -62,46 +71,61 @@ impl<'a, R: Files> Tree for DiskTree<'a, R> {
 
 // Whether a file is not there, since its name or a folder on its path is missing.
 fn is_absent(error: &io::Error) -> bool {
-    matches!(
-        error.kind(),
-        io::ErrorKind::NotFound | io::ErrorKind::NotADirectory
-    )
+    matches!(error.kind(), ErrorKind::NotFound | ErrorKind::NotADirectory)
 }
 
 // The first `limit + 1` bytes of a file, or all where it has fewer; `None` where it is not there.
-fn read_front<R: Files>(
+fn read_file<R: Files>(
     rt: &R,
     alloc: Global,
     path: &str,
     limit: usize,
 ) -> io::Result<Option<Vec<u8>>> {
-    let mut file = match fs::open(rt, path) {
-        Ok(file) => file,
-        Err(error) if is_absent(&error) => return Ok(None),
-        Err(error) => return Err(error),
-    };
-    let mut bytes = Vec::new(alloc);
-    let mut piece = [0u8; 4096];
-    for _ in 0..u64::MAX {
-        let count = file.read(&mut piece)?;
-        bytes.extend_from_slice(&piece[..count])?;
-        if bytes.len() > limit {
-            bytes.truncate(limit + 1);
-            break;
-        }
-        if count == 0 {
-            break;
-        }
+    match fs::open(rt, path) {
+        Ok(mut file) => Ok(Some(read_whole(alloc, &mut file, limit)?)),
+        Err(error) if is_absent(&error) => Ok(None),
+        Err(error) => Err(error),
     }
-    Ok(Some(bytes))
 }
 
-// Writes a file, and makes the folders on its path that are missing.
-fn write_file<R: Files>(rt: &R, path: &str, bytes: &[u8]) -> io::Result<()> {
-    if let Some((folder, _)) = path.rsplit_once('/') {
-        if !folder.is_empty() {
-            fs::create_dir_all(rt, folder)?;
+// Puts a file of these bytes at the path, in place of what stands there, and makes the folders on its path
+// that are missing. Where that fails nothing is left beside it.
+fn replace_file<R: Files + AllocGlobal>(rt: &R, path: &str, bytes: &[u8]) -> io::Result<()> {
+    make_folders(rt, path)?;
+    let (new_path, file) = create_beside(rt, path)?;
+    let replaced = match write_whole(file, bytes) {
+        Ok(()) => fs::rename(rt, new_path.as_str(), path),
+        Err(error) => Err(error),
+    };
+    if replaced.is_err() {
+        let _ = fs::remove_file(rt, new_path.as_str());
+    }
+    replaced
+}
+
+// Makes the folders on a path that are missing.
+fn make_folders<R: Files>(rt: &R, path: &str) -> io::Result<()> {
+    match path.rsplit_once('/') {
+        Some((folder, _)) if !folder.is_empty() => fs::create_dir_all(rt, folder),
+        _ => Ok(()),
+    }
+}
+
+// A new file beside the one at the path. Its name has a comma, as no lookup name does, so it is no
+// terminal's.
+fn create_beside<R: Files + AllocGlobal>(rt: &R, path: &str) -> io::Result<(String, R::File)> {
+    for number in 0..NAMES_TRIED {
+        let new_path = format!(in rt.alloc(); "{path},{number}")?;
+        match File::create_new(rt, new_path.as_str()) {
+            Ok(file) => return Ok((new_path, file)),
+            Err(error) if error.kind() == ErrorKind::AlreadyExists => {}
+            Err(error) => return Err(error),
         }
     }
-    fs::write(rt, path, bytes)
+    Err(io::Error::from(ErrorKind::AlreadyExists))
+}
+
+// Writes all of these bytes, and closes the file.
+fn write_whole(mut file: impl Write + Drop, bytes: &[u8]) -> io::Result<()> {
+    file.write_all(bytes)
 }

@@ -2,12 +2,17 @@
 #![tactic(auto)]
 
 mod disk_tree;
+mod error_stream;
+mod failure;
+mod job_end;
 mod session_tool;
-mod source;
-mod stop;
 mod tic_tool;
+mod tput_tool;
+mod whole;
 
-use crate::stop::Stop;
+use crate::failure::Failure;
+use crate::job_end::end_job;
+use crate::tput_tool::TputWords;
 use std::process::ExitCode;
 use std::rt::{Env, Files};
 use std::{env, io};
@@ -21,56 +26,82 @@ fn main(rt: HostRuntime) -> ExitCode {
 fn run<R: Env + Files + Input + Print + Eprint + AllocGlobal>(rt: &R) -> u8 {
     let words = match words(rt) {
         Ok(words) => words,
-        Err(stop) => return tell(rt, "ti", stop),
+        Err(failure) => return print_failure(rt, "ti", failure),
     };
     match job(rt.alloc(), words.as_slice()) {
-        Ok(job) => match job {
-            Job::Tic { check, dir, file } => match tic_tool::run(rt, check, dir, file) {
+        Ok(job) => run_job(rt, &job),
+        Err(UsageError::Memory) => print_failure(rt, "ti", Failure::Tool(ToolError::Memory)),
+        Err(_) => print_usage(rt, words.as_slice()),
+    }
+}
+
+// Does a job. The answer is the status of the process.
+fn run_job<R: Env + Files + Input + Print + Eprint + AllocGlobal>(rt: &R, job: &Job) -> u8 {
+    match job {
+        Job::Tic { check, dir, file } => {
+            let dir = dir.as_ref().map(|dir| dir.as_str());
+            let file = file.as_ref().map(|file| file.as_str());
+            match tic_tool::run(rt, *check, dir, file) {
                 Ok(status) => status,
-                Err(stop) => tell(rt, "tic", stop),
-            },
-            Job::Session => match session_tool::run(rt) {
-                Ok(()) => 0,
-                Err(error) => tell(rt, "session", Stop::Fault(error)),
-            },
+                Err(failure) => end_job(rt, job, "", failure, false),
+            }
+        }
+        Job::Tput {
+            lines,
+            term,
+            rate,
+            words,
+        } => {
+            let asked = TputWords {
+                lines: *lines,
+                term: term.as_ref().map(|term| term.as_str()),
+                rate: *rate,
+                words: words.as_slice(),
+            };
+            tput_tool::run(rt, job, asked)
+        }
+        Job::Session => match session_tool::run(rt) {
+            Ok(()) => 0,
+            Err(error) => end_job(rt, job, "", Failure::Tool(error), false),
         },
-        Err(UsageError::Memory) => tell(rt, "ti", Stop::Fault(ToolError::Memory)),
-        Err(_) => explain(rt, words.as_slice()),
     }
 }
 
 // The words of the command line, the program's name first.
-fn words<R: Env + AllocGlobal>(rt: &R) -> Result<Vec<String>, Stop> {
+fn words<R: Env + AllocGlobal>(rt: &R) -> Result<Vec<String>, Failure> {
     match env::args(rt) {
         Ok(words) => match words.collect(rt.alloc()) {
             Ok(words) => Ok(words),
-            Err(_) => Err(Stop::Fault(ToolError::Memory)),
+            Err(_) => Err(Failure::Tool(ToolError::Memory)),
         },
         Err(error) if error.kind() == io::ErrorKind::OutOfMemory => {
-            Err(Stop::Fault(ToolError::Memory))
+            Err(Failure::Tool(ToolError::Memory))
         }
-        Err(_) => Err(Stop::NotText("the command line")),
+        Err(_) => Err(Failure::NotText("the command line")),
     }
 }
 
-// Says in one line why a tool stopped.
-fn tell<R: Eprint>(rt: &R, tool: &str, stop: Stop) -> u8 {
-    let status = stop.status();
-    let _ = eprintln!(rt; "{tool}: {stop}");
+// Says in one line why a tool stopped. The status stays where standard error takes nothing.
+fn print_failure<R: Eprint>(rt: &R, tool: &str, failure: Failure) -> u8 {
+    let status = failure.status();
+    let _ = eprintln!(rt; "{tool}: {failure}");
     status
 }
 
-// Prints the help that the words ask for, or what is wrong with them.
-fn explain<R: Print + Eprint + AllocGlobal>(rt: &R, words: &[String]) -> u8 {
+// Prints the help that the words ask for, or what is wrong with them. The words are read again, since a
+// `UsageError` has no text: it says alone which refusal it is. An error of usage has status 2, also where
+// standard error takes nothing.
+fn print_usage<R: Print + Eprint + AllocGlobal>(rt: &R, words: &[String]) -> u8 {
     let Ok(command) = command(rt.alloc()) else {
-        return tell(rt, "ti", Stop::Fault(ToolError::Memory));
+        return print_failure(rt, "ti", Failure::Tool(ToolError::Memory));
     };
-    match command.try_get_matches_from(words) {
-        Ok(_) => tell(rt, "ti", Stop::Fault(ToolError::Usage)),
-        Err(error) => match error.print(rt) {
-            Ok(()) if error.use_stderr() => 2,
-            Ok(()) => 0,
-            Err(_) => 1,
-        },
+    let Err(error) = command.try_get_matches_from(words) else {
+        return print_failure(rt, "ti", Failure::Tool(ToolError::Usage));
+    };
+    let is_help = !error.use_stderr();
+    match error.print(rt) {
+        Ok(()) if is_help => 0,
+        Err(_) if is_help => print_failure(rt, "ti", Failure::Tool(ToolError::WriteFault)),
+        _ => 2,
     }
 }

@@ -1,8 +1,7 @@
 //! `ti tic`: compiles a source into files.
 use crate::disk_tree::DiskTree;
-use crate::source::read_source;
-use crate::stop::Stop;
-use std::alloc::AllocError;
+use crate::failure::Failure;
+use crate::whole::read_source;
 use std::env::{self, VarError};
 use std::rt::{Env, Files};
 use std::str;
@@ -19,46 +18,50 @@ const SYSTEM_FOLDER: &str = "/usr/share/terminfo";
 pub fn run<R: Env + Files + Input + Eprint + AllocGlobal>(
     rt: &R,
     check: bool,
-    dir: Option<String>,
-    file: Option<String>,
-) -> Result<u8, Stop> {
+    dir: Option<&str>,
+    file: Option<&str>,
+) -> Result<u8, Failure> {
     let alloc = rt.alloc();
-    let dir = folder(rt, dir)?;
-    let path = file.as_ref().map(|path| path.as_str());
-    let source = read_source(rt, alloc, path)?;
+    let dir = folder(rt, check, dir)?;
+    let source = read_source(rt, alloc, file)?;
     let outcome = tic(alloc, source.as_slice(), &TicOptions { check, dir })?;
-    tell_report(rt, outcome.report.as_slice())?;
+    print_report(rt, outcome.report.as_slice())?;
     let mut tree = DiskTree::new(rt);
     match place(&mut tree, outcome.files.as_slice()) {
         Ok(()) => Ok(outcome.status),
-        Err((_, TreeFault::Failed)) => Err(Stop::Fault(ToolError::WriteFault)),
-        Err((_, TreeFault::Memory)) => Err(Stop::Fault(ToolError::Memory)),
+        Err((_, TreeFault::Failed)) => Err(Failure::Tool(ToolError::WriteFault)),
+        Err((_, TreeFault::Memory)) => Err(Failure::Tool(ToolError::Memory)),
     }
 }
 
-// The folder of `-o`, else that of `TERMINFO` where it is set and not empty, else the system's.
-fn folder<R: Env + AllocGlobal>(rt: &R, dir: Option<String>) -> Result<String, Stop> {
+// The folder of `-o`, else that of `TERMINFO` where it is set and not empty, else the system's. Nothing is
+// written for `-c`, so `TERMINFO` is not read then.
+fn folder<R: Env + AllocGlobal>(
+    rt: &R,
+    check: bool,
+    dir: Option<&str>,
+) -> Result<String, Failure> {
     if let Some(dir) = dir {
-        return Ok(dir);
+        return Ok(String::from_str(rt.alloc(), dir)?);
+    }
+    if check {
+        return Ok(String::new(rt.alloc()));
     }
     match env::var(rt, "TERMINFO") {
         Ok(dir) if !dir.is_empty() => Ok(dir),
-        Ok(_) | Err(VarError::NotPresent) => match String::from_str(rt.alloc(), SYSTEM_FOLDER) {
-            Ok(dir) => Ok(dir),
-            Err(AllocError) => Err(Stop::Fault(ToolError::Memory)),
-        },
-        Err(VarError::NotUnicode) => Err(Stop::NotText("TERMINFO")),
-        Err(VarError::OutOfMemory) => Err(Stop::Fault(ToolError::Memory)),
+        Ok(_) | Err(VarError::NotPresent) => Ok(String::from_str(rt.alloc(), SYSTEM_FOLDER)?),
+        Err(VarError::NotUnicode) => Err(Failure::NotText("TERMINFO")),
+        Err(VarError::OutOfMemory) => Err(Failure::Tool(ToolError::Memory)),
     }
 }
 
 // Writes the report to standard error.
-fn tell_report<R: Eprint>(rt: &R, report: &[u8]) -> Result<(), Stop> {
+fn print_report<R: Eprint>(rt: &R, report: &[u8]) -> Result<(), Failure> {
     let Ok(text) = str::from_utf8(report) else {
-        return Err(Stop::Fault(ToolError::WriteFault));
+        return Err(Failure::Tool(ToolError::WriteFault));
     };
     match eprint!(rt; "{text}") {
         Ok(()) => Ok(()),
-        Err(_) => Err(Stop::Fault(ToolError::WriteFault)),
+        Err(_) => Err(Failure::Tool(ToolError::WriteFault)),
     }
 }

@@ -54,6 +54,7 @@ impl Graph {
     pub fn add_edge(&mut self, target: Option<usize>) -> Result<(), AllocError>
         requires { 0 < length self.old }
         ensures ok { OnOk result (AddsEdge self.old self.new target) }
+        ensures nodes { length self.new ≡ length self.old }
         ensures err { OnErr result (self.new ≡ self.old) }
     {
         self.targets.push(target)?;

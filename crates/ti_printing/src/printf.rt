@@ -3,6 +3,7 @@ ghost use Rattle.std.specs.Prelude.{◌≡◌, ◌≢◌, ◌+◌, ◌^◌, ◌<
 ghost use Rattle.std.specs.Fmt.{digit_glyph};
 ghost use Rattle.std.specs.Int.Digits.{digits_of};
 ghost use Rattle.ti_printing.specs.Printf.{printed, printed_text, printed_number, parts_text, numeral, digits_in, in_width, sign_in, prefix_in, OneNumeral};
+ghost use Rattle.ti_text.specs.Ascii as ascii;
 
 #[cfg(test)]
 mod tests;
@@ -136,7 +137,7 @@ fn print_number(out: &mut Vec<u8>, directive: &Directive, number: i32) -> Result
 /// Where the parts of a number stand: blanks or zeros fill it up to the width.
 fn arrange<'a>(directive: &Directive, front: &'a [u8], zeros: usize, shown: &'a [u8]) -> Layout<'a>
     requires { length front.now + zeros + length shown.now < 2 ^ 32 }
-    ensures parts { parts_text result.before result.front.now result.zeros result.shown.now result.after ≡ in_width directive.now front.now (replicate zeros 48 ++ shown.now) }
+    ensures parts { parts_text result.before result.front.now result.zeros result.shown.now result.after ≡ in_width directive.now front.now (replicate zeros ascii.digit_0 ++ shown.now) }
     ensures bound { result.before + length result.front.now + result.zeros + length result.shown.now + result.after < 2 ^ 64 }
 {
     let long = front.len() + zeros + shown.len();
@@ -208,8 +209,8 @@ fn front_of(directive: &Directive, number: i32) -> &'static [u8]
 
 /// How many zeros stand before the digits for the precision and the leading 0 of `o`.
 fn zeros_before(directive: &Directive, digits: &[u8]) -> usize
-    requires { slice_index digits.now 0 ≢ 48 }
-    ensures value { replicate result 48 ++ digits.now ≡ digits_in directive.now.conversion directive.now.flags directive.now.precision digits.now }
+    requires { slice_index digits.now 0 ≢ ascii.digit_0 }
+    ensures value { replicate result ascii.digit_0 ++ digits.now ≡ digits_in directive.now.conversion directive.now.flags directive.now.precision digits.now }
     ensures bound { result < 2 ^ 16 }
 {
     let least = usize::from(directive.precision.unwrap_or(1));
@@ -224,7 +225,7 @@ fn zeros_before(directive: &Directive, digits: &[u8]) -> usize
 fn write_numeral(buffer: &mut [u8; MOST_DIGITS], conversion: Conversion, number: i32) -> usize
     ensures bound { result ≤ 11 }
     ensures digits { drop result buffer.new ≡ numeral conversion number }
-    ensures plain { slice_index (drop result buffer.new) 0 ≢ 48 }
+    ensures plain { slice_index (drop result buffer.new) 0 ≢ ascii.digit_0 }
 {
     match conversion {
         Conversion::Decimal => write_digits(buffer, number.unsigned_abs(), 10, false),
@@ -240,7 +241,7 @@ fn write_digits(buffer: &mut [u8; MOST_DIGITS], number: u32, base: u32, upper: b
     requires { (8 ≤ base) × (base ≤ 16) }
     ensures bound { result ≤ 11 }
     ensures digits { drop result buffer.new ≡ map (digit_glyph upper) (digits_of base number) }
-    ensures plain { slice_index (drop result buffer.new) 0 ≢ 48 }
+    ensures plain { slice_index (drop result buffer.new) 0 ≢ ascii.digit_0 }
 {
     let mut at = MOST_DIGITS;
     let mut rest = number;

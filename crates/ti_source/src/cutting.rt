@@ -1,6 +1,7 @@
 //! Cutting a source into blocks, and the laws of the cut.
 ghost use Rattle.std.specs.Prelude.{◌≡◌, ◌≤◌, ◌↔◌, IsTrue, length};
 ghost use Rattle.ti_source.specs.Blocks as spec;
+ghost use Rattle.ti_text.specs.Ascii as ascii;
 
 use crate::heads::{begins_with_head, ends_with_newline, next_head, preface_len};
 use crate::walk::Blocks;
@@ -10,8 +11,8 @@ use crate::walk::Blocks;
 /// A last line without a newline belongs to the last block as it stands.
 pub fn blocks(source: &[u8]) -> Blocks<'_>
     ensures cut { spec.Cut source.now result.preface result.blocks }
-    ensures preface { result.preface ≡ spec.front_of 10 source.now }
-    ensures blocks { result.blocks ≡ spec.blocks_of 10 source.now }
+    ensures preface { result.preface ≡ spec.front_of ascii.newline source.now }
+    ensures blocks { result.blocks ≡ spec.blocks_of ascii.newline source.now }
     ensures len { length result.blocks ≤ length source.now }
 {
     let (preface, rest) = source.split_at(preface_len(source));

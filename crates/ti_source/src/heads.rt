@@ -2,6 +2,7 @@
 ghost use Rattle.std.specs.Prelude.{◌≡◌, ◌==◌, length};
 ghost use Rattle.ti_source.specs.Blocks as spec;
 ghost use Rattle.ti_source.specs.inside.Blocks as computed;
+ghost use Rattle.ti_text.specs.Ascii as ascii;
 
 use memchr::memchr;
 
@@ -17,7 +18,7 @@ pub(crate) fn begins_with_head(text: &[u8]) -> bool
 
 /// Whether the last byte of `text` is a newline.
 pub(crate) fn ends_with_newline(text: &[u8]) -> bool
-    ensures { result ≡ (spec.last_byte 0 text.now == 10) }
+    ensures { result ≡ (spec.last_byte 0 text.now == ascii.newline) }
 {
     text.last() == Some(&b'\n')
 }
@@ -38,7 +39,7 @@ pub(crate) fn next_head(text: &[u8]) -> usize
 
 /// The length of the lines of `source` before its first head line.
 pub(crate) fn preface_len(source: &[u8]) -> usize
-    ensures { result ≡ length (computed.front_of 10 source.now) }
+    ensures { result ≡ length (computed.front_of ascii.newline source.now) }
 {
     if begins_with_head(source) {
         0

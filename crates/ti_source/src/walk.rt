@@ -1,6 +1,7 @@
 //! The walk over the blocks of a source.
 ghost use Rattle.std.specs.Prelude.{◌≡◌, []};
 ghost use Rattle.ti_source.specs.Blocks as spec;
+ghost use Rattle.ti_text.specs.Ascii as ascii;
 
 use crate::heads::next_head;
 use std::marker::Model;
@@ -14,21 +15,22 @@ pub struct Blocks<'a> {
 }
 
 impl<'a> Model for Blocks<'a> {
+    ghost use Rattle.ti_text.specs.Ascii as ascii;
     ghost use Rattle.std.specs.Prelude.{◌≡◌, []};
     ghost use Rattle.ti_source.specs.inside.Blocks.{Pieces, front_of, blocks_of};
 
     ghost Value = { Pieces };
 
-    ghost view = { λ b. record { preface = b.preface.now; blocks = blocks_of 10 b.rest.now } };
+    ghost view = { λ b. record { preface = b.preface.now; blocks = blocks_of ascii.newline b.rest.now } };
 
-    ghost invariant = { λ b. front_of 10 b.rest.now ≡ [] };
+    ghost invariant = { λ b. front_of ascii.newline b.rest.now ≡ [] };
 }
 
 impl<'a> Blocks<'a> {
     pub(crate) fn new(preface: &'a [u8], rest: &'a [u8]) -> Blocks<'a>
-        requires { spec.front_of 10 rest.now ≡ [] }
+        requires { spec.front_of ascii.newline rest.now ≡ [] }
         ensures preface { result.preface ≡ preface.now }
-        ensures left { result.blocks ≡ spec.blocks_of 10 rest.now }
+        ensures left { result.blocks ≡ spec.blocks_of ascii.newline rest.now }
     {
         Blocks { preface, rest }
     }

@@ -1,7 +1,7 @@
 pub mod Asked
 pub mod Ending
 pub mod Filing
-pub mod Holding
+pub mod Inserting
 pub mod Printing
 pub mod Refusing
 pub mod Widths

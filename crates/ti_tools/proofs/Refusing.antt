@@ -2,8 +2,9 @@
 use Rattle.std.proofs.Common.{◌≡◌, ◌⊎◌, ℕ, suc, ◌+◌, false, List, [], ◌∷◌, ◌++◌, length, map, nat_lt, nat_le, refl, sym, ap, ◌∙◌, inl, inr, arith}
 use Rattle.std.specs.List.{concat}
 use Rattle.std.proofs.lemmas.List.{append_assoc, length-append}
+use Rattle.ti_text.specs.Limits.{block_bytes_max}
 use Rattle.ti_source.specs.Blocks.{Cut, blocks_of, front_of}
-use Rattle.ti_tools.specs.Sources.{ended, preface_of, refusal_after, refusal_of}
+use Rattle.ti_tools.specs.Sources.{ended, preface_of, refusal_after, refusal_within}
 use Rattle.ti_tools.proofs.Ending.{AllButLastEnded, blocks_of-all_but_last, preface_of-front, texts_of-blocks}
 
 -- The blocks before `offset`, so many, are not refused, and `rest` are the blocks from there on, as they stand.
@@ -12,7 +13,7 @@ pub record IsCheckedTo (most : ℕ) (source : List ℕ) (offset count : ℕ) (re
   pub whole : source ≡ seen ++ concat rest
   pub at : offset ≡ length seen
   pub ends : AllButLastEnded rest
-  pub same : refusal_of most source ≡ refusal_after most seen count (map ended rest)
+  pub same : refusal_within most source ≡ refusal_after most seen count (map ended rest)
 
 refusal_after-front : (most : ℕ) (before front : List ℕ) (blocks : List (List ℕ)) → (blocks ≡ []) ⊎ (before ≡ front)
     → refusal_after most before 0 (map ended blocks) ≡ refusal_after most front 0 (map ended blocks)
@@ -21,7 +22,7 @@ refusal_after-front most before front blocks (inr same) = rw same
 
 pub checked_to_start : (most : ℕ) (source preface : List ℕ) (blocks : List (List ℕ)) → Cut source preface blocks
     → preface ≡ front_of 10 source → blocks ≡ blocks_of 10 source → IsCheckedTo most source (length preface) 0 blocks
-unfolding refusal_of
+unfolding refusal_within
 checked_to_start most source preface blocks cut is_front is_blocks = record {
   seen = preface;
   whole = cut.whole;
@@ -41,7 +42,7 @@ all_but_last-rest text (next ∷ rest) ends = ends.1
 
 -- the next block is short enough, and not one too many
 pub checked_to_next : (most : ℕ) (source : List ℕ) (offset count : ℕ) (text : List ℕ) (rest : List (List ℕ))
-    → IsCheckedTo most source offset count (text ∷ rest) → nat_lt 1048576 (length (ended text)) ≡ false → nat_le most count ≡ false
+    → IsCheckedTo most source offset count (text ∷ rest) → nat_lt block_bytes_max (length (ended text)) ≡ false → nat_le most count ≡ false
     → IsCheckedTo most source (offset + length text) (count + 1) rest
 checked_to_next most source offset count text rest c short few = record {
   seen = c.seen ++ text;

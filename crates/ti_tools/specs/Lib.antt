@@ -6,7 +6,7 @@ pub mod InfocmpWords
 pub mod Commands
 pub mod Stopping
 pub mod EntryFiles
-pub mod Holding
+pub mod Insertions
 pub mod Jobs
 pub mod Sources
 pub mod Tic

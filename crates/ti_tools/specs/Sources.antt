@@ -1,6 +1,7 @@
 -- A source as the compiler takes it: its blocks, once a missing newline is put at its end, and why it is refused before
 -- any of it is compiled (the limits are own).
 use Rattle.std.specs.Prelude.{ℕ, suc, ◌+◌, ◌==◌, List, [], ◌∷◌, ◌++◌, length, Option, Some, None, nat_le, nat_lt, if◌then◌else◌}
+use Rattle.ti_text.specs.Limits.{block_bytes_max, blocks_max}
 use Rattle.ti_source.specs.Blocks.{blocks_of, front_of, last_byte}
 use Rattle.ti_source.specs.Lines.{line_count}
 use Rattle.ti_devices.specs.declared.tool_error.ToolError.{ToolError}
@@ -27,10 +28,14 @@ first_line source = line_count (preface_of source) + 1
 abbrev pub refusal_after : ℕ → List ℕ → ℕ → List (List ℕ) → Option ToolError
 refusal_after most before count [] = None
 refusal_after most before count (text ∷ texts) =
-    if nat_lt 1048576 (length text) then Some (BlockTooLong (line_count before + 1))
+    if nat_lt block_bytes_max (length text) then Some (BlockTooLong (line_count before + 1))
     else (if nat_le most count then Some TooManyBlocks
     else refusal_after most (before ++ text) (suc count) texts)
 
 -- why a source of which so many blocks may be compiled is refused, if it is
-unfoldable pub refusal_of : ℕ → List ℕ → Option ToolError
-refusal_of most source = refusal_after most (preface_of source) 0 (texts_of source)
+unfoldable pub refusal_within : ℕ → List ℕ → Option ToolError
+refusal_within most source = refusal_after most (preface_of source) 0 (texts_of source)
+
+-- why a source is refused, if it is: at most 65,535 blocks may be compiled
+abbrev pub source_refusal : List ℕ → Option ToolError
+source_refusal source = refusal_within blocks_max source

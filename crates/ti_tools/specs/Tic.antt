@@ -7,7 +7,7 @@ use Rattle.ti_meaning.specs.Faults.{SourceFault, faults}
 use Rattle.ti_meaning.specs.Report.{report}
 use Rattle.ti_tools.specs.EntryFiles.{files_of}
 use Rattle.ti_devices.specs.Placing.{entries}
-use Rattle.ti_tools.specs.Sources.{first_line, refusal_of, texts_of}
+use Rattle.ti_tools.specs.Sources.{first_line, source_refusal, texts_of}
 use Rattle.ti_devices.specs.Tree.{Entry}
 use Rattle.ti_tools.specs.declared.outcome.TicOutcome.{TicOutcome}
 use Rattle.ti_devices.specs.declared.tool_error.ToolError.{ToolError}
@@ -36,10 +36,10 @@ abbrev pub unless_refused : Option ToolError → Compilation → Result Compilat
 unless_refused None made = Ok made
 unless_refused (Some error) made = Err error
 
--- what comes of a source of which at most so many blocks may be compiled: a refusal, or all that its blocks make
-abbrev pub tic_result : ℕ → List ℕ → Bool → List ℕ → Result Compilation ToolError
-tic_result most source check dir =
-    unless_refused (refusal_of most source) (compilation check dir (first_line source) (texts_of source))
+-- what comes of a source: a refusal, or all that its blocks make
+abbrev pub tic_result : List ℕ → Bool → List ℕ → Result Compilation ToolError
+tic_result source check dir =
+    unless_refused (source_refusal source) (compilation check dir (first_line source) (texts_of source))
 
 -- an outcome that holds files and report in memory, as plain data
 abbrev pub compilation_of : TicOutcome → Compilation

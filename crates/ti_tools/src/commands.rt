@@ -10,6 +10,46 @@ use crate::rules::{flag, long_option, operand, operands, option};
 use clap::Command;
 use std::alloc::{AllocError, Global};
 
+/// What stands below the options in the help of the program.
+const TI_NOTES: &str = "\
+Exit status: 0 where all went well, 1 at a fault, 2 at wrong usage.
+'ti help TOOL' says more of each tool.
+
+Example:
+  ti tic -o ~/.terminfo dumb.ti";
+
+/// The same of `tic`.
+const TIC_NOTES: &str = "\
+The report of the faults in the source goes to standard error. A block without
+error gets its files also where another block has one.
+
+Exit status:
+  0  the source has no error, but perhaps warnings
+  1  the source has an error, or a file or a stream failed
+  2  wrong usage
+
+Example:
+  ti tic -o ~/.terminfo dumb.ti";
+
+/// The same of `session`.
+const SESSION_NOTES: &str = "\
+Each line of the script is a request; N is the position of a block, from 0:
+  i N    put in, before block N, the block that follows up to a line '.'
+  r N    put the block that follows up to a line '.' in the place of block N
+  d N    take block N out
+  m N M  move block N, so that it then stands at M
+  p N    print the entry of block N in hexadecimal, or 'none'
+  f      print the faults of the source, and a line '.'
+An edit is answered 'ok' or 'refused' and why, what is no request 'unknown'.
+
+Exit status:
+  0  the script was read to its end
+  1  a stream failed, or a line of the script is too long
+  2  wrong usage
+
+Example:
+  ti session < script.txt";
+
 /// What the help of `tput` says below its options.
 const TPUT_NOTES: &str = "CAP is a capability of terminfo(5), longname, init or reset.
 
@@ -43,7 +83,7 @@ fn tic<'a>(alloc: Global) -> Result<Command<'a>, AllocError>
     );
     Command::new(alloc, "tic")
         .about("Compile terminfo source into entries, one file for each name.")
-        .after_help("Example:\n  ti tic -o ~/.terminfo dumb.ti")
+        .after_help(TIC_NOTES)
         .arg(check)?
         .arg(dir)?
         .arg(file)
@@ -96,7 +136,7 @@ fn session<'a>(alloc: Global) -> Result<Command<'a>, AllocError>
     Ok(
         Command::new(alloc, "session")
             .about("Edit a source by a script on standard input, and answer each line.")
-            .after_help("Example:\n  ti session < script.txt"),
+            .after_help(SESSION_NOTES),
     )
 }
 
@@ -107,7 +147,7 @@ fn first_tools<'a>(alloc: Global) -> Result<Command<'a>, AllocError>
 {
     Command::new(alloc, "ti")
         .about("Tools for terminfo, the database of terminals.")
-        .after_help("Example:\n  ti tic -o ~/.terminfo dumb.ti")
+        .after_help(TI_NOTES)
         .subcommand_required(true)
         .subcommand(tic(alloc)?)?
         .subcommand(tput(alloc)?)

@@ -1,18 +1,18 @@
 //! Compiling a source into files.
-ghost use Rattle.std.specs.Prelude.{◌≡◌, ◌+◌, ◌≤◌, ◌^◌, [], ◌∷◌, ◌++◌, IfOk, map};
+ghost use Rattle.std.specs.Prelude.{◌≡◌, ◌+◌, ◌≤◌, ◌^◌, [], ◌∷◌, ◌++◌, IfOk, None, map};
 ghost use Rattle.std.specs.List.{list_any};
 ghost use Rattle.std.specs.String.{string_bytes};
 ghost use Rattle.ti_source.specs.Blocks.{blocks_of, front_of, last_byte};
 ghost use Rattle.ti_source.specs.Codes.{is_error};
 ghost use Rattle.ti_source.specs.Lines.{line_count};
 ghost use Rattle.ti_meaning.specs.Faults.{fault_seen};
-ghost use Rattle.ti_tools.specs.Sources.{first_line, texts_of};
+ghost use Rattle.ti_tools.specs.Sources.{first_line, source_refusal, texts_of};
 ghost use Rattle.ti_tools.specs.Tic.{IsTicAnswer, compilation, compilation_of, status_of, tic_result};
 
 use crate::entry_files::entry_files;
-use crate::held::hold;
+use crate::insertions::database_of;
 use crate::outcome::{TicOptions, TicOutcome};
-use crate::sources::{BLOCKS_MAX, check, is_ended, lines};
+use crate::sources::{check, is_ended, lines};
 use std::alloc::{AllocError, Global};
 use ti_base::{Database, Fault};
 use ti_devices::ToolError;
@@ -68,12 +68,13 @@ fn outcome(
 
 // Compiles a source whose last line has its newline.
 fn compile(alloc: Global, source: &[u8], options: &TicOptions) -> Result<TicOutcome, AllocError>
-    requires { last_byte 10 source.now ≡ 10 }
+    requires ended { last_byte 10 source.now ≡ 10 }
+    requires sound { source_refusal source.now ≡ None }
     ensures { IfOk result (λ outcome. compilation_of outcome ≡ compilation options.now.check
         (string_bytes options.now.dir) (line_count (front_of 10 source.now) + 1)
         (blocks_of 10 source.now)) }
 {
-    let database = hold(alloc, source)?;
+    let database = database_of(alloc, source)?;
     outcome(alloc, source, &database, options)
 }
 
@@ -93,6 +94,7 @@ fn compile_ended(
     source: &[u8],
     options: &TicOptions,
 ) -> Result<TicOutcome, AllocError>
+    requires { source_refusal source.now ≡ None }
     ensures { IfOk result (λ outcome. compilation_of outcome ≡ compilation options.now.check
         (string_bytes options.now.dir) (first_line source.now) (texts_of source.now)) }
 {
@@ -110,7 +112,7 @@ fn compile_ended(
 /// # Errors
 /// `BlockTooLong` or `TooManyBlocks`, of the first block at which one of them holds; then `Memory`.
 pub fn tic(alloc: Global, source: &[u8], options: &TicOptions) -> Result<TicOutcome, ToolError>
-    ensures { IsTicAnswer (tic_result BLOCKS_MAX source.now options.now.check
+    ensures { IsTicAnswer (tic_result source.now options.now.check
         (string_bytes options.now.dir)) result }
 {
     check(source)?;

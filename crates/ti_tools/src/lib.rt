@@ -4,7 +4,7 @@
 //! - `arguments`: what the words of a command line ask for, as a job of `jobs`; `commands` has the
 //!   options and the help of each tool
 //! - `compiling`: what `tic` makes of a source: files, a report and a status. Before it `sources`
-//!   refuses what is over a limit, `held` puts the blocks into a database, and `entry_files` names
+//!   refuses what is over a limit, `insertions` puts the blocks into a database, and `entry_files` names
 //!   the files of the entries
 //! - `listings`: what `infocmp` prints of entries
 //! - `laws`: that the listing of an entry, and its relative source, compile back to the entry
@@ -17,8 +17,8 @@ pub mod arguments;
 pub mod commands;
 pub mod compiling;
 mod entry_files;
-mod held;
 mod infocmp_words;
+mod insertions;
 pub mod jobs;
 pub mod laws;
 mod listings;

@@ -2,16 +2,11 @@
 ghost use Rattle.std.specs.Prelude.{◌≡◌, ◌+◌, ◌==◌, ◌≤◌, length, take, MatchResult, None, Some};
 ghost use Rattle.ti_source.specs.Blocks.{last_byte};
 ghost use Rattle.ti_source.specs.Lines.{line_count};
-ghost use Rattle.ti_tools.specs.Sources.{ended, refusal_of};
+ghost use Rattle.ti_tools.specs.Sources.{ended, source_refusal};
 
 use ti_devices::ToolError;
 use ti_source::blocks;
-
-/// The most bytes of a block.
-pub const BLOCK_MAX: usize = 1_048_576;
-
-/// The most blocks of a source.
-pub const BLOCKS_MAX: usize = 65_535;
+use ti_text::limits::{BLOCK_BYTES_MAX, BLOCKS_MAX};
 
 /// Whether the last line of a text has its newline.
 pub fn is_ended(text: &[u8]) -> bool
@@ -47,14 +42,14 @@ fn ended_len(text: &[u8]) -> usize
 /// # Errors
 /// `BlockTooLong` or `TooManyBlocks`, of the first block at which one of them holds.
 pub fn check(source: &[u8]) -> Result<(), ToolError>
-    ensures { MatchResult result (λ _. refusal_of BLOCKS_MAX source.now ≡ None)
-        (λ error. refusal_of BLOCKS_MAX source.now ≡ Some error) }
+    ensures { MatchResult result (λ _. source_refusal source.now ≡ None)
+        (λ error. source_refusal source.now ≡ Some error) }
 {
     let mut cut = blocks(source);
     let mut offset = cut.preface().len();
     let mut count = 0;
     while let Some(text) = cut.next() {
-        if ended_len(text) > BLOCK_MAX {
+        if ended_len(text) > BLOCK_BYTES_MAX {
             return Err(ToolError::BlockTooLong(lines(&source[..offset]) + 1));
         }
         if count >= BLOCKS_MAX {

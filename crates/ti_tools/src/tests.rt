@@ -105,6 +105,14 @@ Options:
   -o <DIR>    Write below DIR [default: $TERMINFO, else /usr/share/terminfo]
   -h, --help  Print help
 
+The report of the faults in the source goes to standard error. A block without
+error gets its files also where another block has one.
+
+Exit status:
+  0  the source has no error, but perhaps warnings
+  1  the source has an error, or a file or a stream failed
+  2  wrong usage
+
 Example:
   ti tic -o ~/.terminfo dumb.ti
 ";

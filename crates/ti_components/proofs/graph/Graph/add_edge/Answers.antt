@@ -1,5 +1,5 @@
-use Rattle.std.proofs.Common.{◌∙◌}
-use Rattle.ti_components.proofs.Rows.{rows_of-push_target, AreStarts-push_target}
+use Rattle.std.proofs.Common.{sym, ◌∙◌, ap, length}
+use Rattle.ti_components.proofs.Rows.{length-rows_of, rows_of-push_target, AreStarts-push_target}
 use Rattle.ti_components.proofs.graph.Graph.add_edge.Goals as goal
 
 pub invariant_of-self-2 : goal.invariant_of-self-2
@@ -9,3 +9,8 @@ invariant_of-self-2 c =
 pub returns-clause-ok : goal.returns-clause-ok
 returns-clause-ok c = λ before row e.
     rw c.in_ok-push.ensures.items (rows_of-push_target c.self.inside.targets.items c.args.target c.self.inside.starts.items c.self.invariant before row (c.self.view_is ∙ e))
+
+pub returns-clause-nodes : goal.returns-clause-nodes
+returns-clause-nodes c =
+    length-rows_of c.push.new.self.items c.self.inside.starts.items
+    ∙ (sym (length-rows_of c.self.inside.targets.items c.self.inside.starts.items) ∙ ap length c.self.view_is)

@@ -1,6 +1,7 @@
 -- The edits that put blocks into an empty database, one after the other (own).
 use Rattle.std.specs.Prelude.{ℕ, suc, Bool, true, false, List, [], ◌∷◌}
 use Rattle.ti_meaning.specs.Edits.{Change, insertion}
+use Rattle.ti_meaning.specs.declared.edits.EditError.TheVariants.{Memory}
 use Rattle.ti_meaning.specs.declared.edits.Outcome.{Outcome}
 use Rattle.ti_meaning.specs.declared.edits.Outcome.TheVariants.{Accepted, Refused}
 
@@ -13,3 +14,10 @@ insertions_from at (text ∷ texts) = insertion at text ∷ insertions_from (suc
 abbrev pub is_accepted : Outcome → Bool
 is_accepted Accepted = true
 is_accepted (Refused error) = false
+
+-- each edit was accepted, up to one for which memory was wanting, if there is one
+abbrev pub FailsByMemoryAlone : List Outcome → Type 0
+FailsByMemoryAlone [] = Unit {0}
+FailsByMemoryAlone (Accepted ∷ outcomes) = FailsByMemoryAlone outcomes
+FailsByMemoryAlone (Refused Memory ∷ outcomes) = Unit {0}
+FailsByMemoryAlone (Refused error ∷ outcomes) = ⊥

@@ -1,8 +1,8 @@
 use Rattle.std.proofs.Common.{◌≡◌, ◌++◌, map, length}
 use Rattle.ti_source.specs.Blocks.{blocks_of}
 use Rattle.ti_meaning.specs.Edits.{change_of}
-use Rattle.ti_tools.specs.Holding.{insertions_from}
-use Rattle.ti_tools.proofs.held.insertions.Given as goal
+use Rattle.ti_tools.specs.Insertions.{insertions_from}
+use Rattle.ti_tools.proofs.insertions.insertions.Given as goal
 
 -- the edits so far, and those of the blocks that are left, are those of all blocks
 abbrev pub invariant-loop-text : goal.invariant-loop-text

@@ -1,0 +1,25 @@
+//! How a job ends that stops before its work is done.
+use crate::error_stream::ErrorStream;
+use crate::failure::Failure;
+use ti_tools::{Counted, Job, ToolError, message, status};
+
+/// Says on standard error why a job stopped; `name` is that of the terminal, and `found` says that its entry was read. The
+/// answer is the status of the process, also where standard error takes nothing.
+pub fn end_job<R: Eprint>(rt: &R, job: &Job, name: &str, failure: Failure, found: bool) -> u8 {
+    match failure {
+        Failure::Tool(error) => {
+            let mut stream = Counted::new(ErrorStream::new(rt));
+            let _ = message(job, name, Some(&error), &mut stream);
+            status(job, &error, found)
+        }
+        Failure::NotText(what) => {
+            let tool = match job {
+                Job::Tic { .. } => "tic",
+                Job::Tput { .. } => "tput",
+                Job::Session => "session",
+            };
+            let _ = eprintln!(rt; "{tool}: {what} is not text");
+            status(job, &ToolError::Usage, found)
+        }
+    }
+}

@@ -1,0 +1,60 @@
+//! Reading files and standard input whole.
+use std::alloc::Global;
+use std::fs;
+use std::io::{self, ErrorKind, Read};
+use std::rt::Files;
+use ti_tools::ToolError;
+
+/// How often a file is read from before it is given up.
+const READS_MAX: u64 = 4_294_967_296;
+
+/// How many bytes are asked for at a time.
+const PIECE: usize = 16_384;
+
+/// All bytes that a reader has, or the first `limit + 1` where it has more. A read that was interrupted
+/// is made again.
+///
+/// # Errors
+/// What the reader answers; `Other` where 4,294,967,296 reads came to no end; `OutOfMemory` where a
+/// growth of memory was refused.
+pub fn read_whole(alloc: Global, reader: &mut impl Read, limit: usize) -> io::Result<Vec<u8>> {
+    let mut bytes = Vec::new(alloc);
+    let mut piece = [0u8; PIECE];
+    for _ in 0..READS_MAX {
+        let count = match reader.read(&mut piece) {
+            Ok(0) => return Ok(bytes),
+            Ok(count) => count,
+            Err(error) if error.kind() == ErrorKind::Interrupted => 0,
+            Err(error) => return Err(error),
+        };
+        bytes.extend_from_slice(&piece[..count])?;
+        if bytes.len() > limit {
+            bytes.truncate(limit + 1);
+            return Ok(bytes);
+        }
+    }
+    Err(io::Error::from(ErrorKind::Other))
+}
+
+/// The source of `tic`: all bytes of the file at `path`, or of standard input where there is none.
+///
+/// # Errors
+/// `ReadFault` where the file can't be opened or read to its end; then `Memory`.
+pub fn read_source<R: Files + Input>(
+    rt: &R,
+    alloc: Global,
+    path: Option<&str>,
+) -> Result<Vec<u8>, ToolError> {
+    let whole = match path {
+        Some(path) => match fs::open(rt, path) {
+            Ok(mut file) => read_whole(alloc, &mut file, usize::MAX),
+            Err(error) => Err(error),
+        },
+        None => read_whole(alloc, &mut rt.reader(), usize::MAX),
+    };
+    match whole {
+        Ok(source) => Ok(source),
+        Err(error) if error.kind() == ErrorKind::OutOfMemory => Err(ToolError::Memory),
+        Err(_) => Err(ToolError::ReadFault),
+    }
+}
