@@ -17,6 +17,7 @@ pub fn end_job<R: Eprint>(rt: &R, job: &Job, name: &str, failure: Failure, found
                 Job::Tic { .. } => "tic",
                 Job::Tput { .. } => "tput",
                 Job::Session => "session",
+                Job::Infocmp { .. } => "infocmp",
             };
             let _ = eprintln!(rt; "{tool}: {what} is not text");
             status(job, &ToolError::Usage, found)

@@ -2,8 +2,10 @@
 #![tactic(auto)]
 
 mod disk_tree;
+mod environment;
 mod error_stream;
 mod failure;
+mod infocmp_tool;
 mod job_end;
 mod session_tool;
 mod tic_tool;
@@ -11,12 +13,13 @@ mod tput_tool;
 mod whole;
 
 use crate::failure::Failure;
+use crate::infocmp_tool::InfocmpNames;
 use crate::job_end::end_job;
 use crate::tput_tool::TputWords;
 use std::process::ExitCode;
 use std::rt::{Env, Files};
 use std::{env, io};
-use ti_tools::{Job, ToolError, UsageError, command, job};
+use ti_tools::{InfocmpOptions, Job, ToolError, UsageError, command, job};
 
 fn main(rt: HostRuntime) -> ExitCode {
     ExitCode::from(run(&rt))
@@ -59,6 +62,24 @@ fn run_job<R: Env + Files + Input + Print + Eprint + AllocGlobal>(rt: &R, job: &
                 words: words.as_slice(),
             };
             tput_tool::run(rt, job, asked)
+        }
+        Job::Infocmp {
+            mode,
+            names,
+            layout,
+            first_dir,
+            other_dir,
+        } => {
+            let asked = InfocmpNames {
+                names: names.as_slice(),
+                first_dir: first_dir.as_ref().map(|dir| dir.as_str()),
+                other_dir: other_dir.as_ref().map(|dir| dir.as_str()),
+            };
+            let options = InfocmpOptions {
+                mode: *mode,
+                layout: *layout,
+            };
+            infocmp_tool::run(rt, job, asked, &options)
         }
         Job::Session => match session_tool::run(rt) {
             Ok(()) => 0,

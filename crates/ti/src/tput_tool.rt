@@ -1,13 +1,13 @@
 //! `ti tput`: writes what drives a terminal.
 use crate::disk_tree::DiskTree;
+use crate::environment::{entry_places, own_terminal};
 use crate::error_stream::ErrorStream;
 use crate::failure::Failure;
 use crate::job_end::end_job;
-use std::env::{self, VarError};
 use std::io::{self, Write};
 use std::rt::{Env, Files};
 use ti_compiled::View;
-use ti_tools::{Counted, Job, ToolError, entry, locate, message, places, tput, tput_lines};
+use ti_tools::{Counted, Job, ToolError, entry, locate, message, tput, tput_lines};
 
 /// What `tput` is to do.
 #[derive(Clone, Copy)]
@@ -56,32 +56,13 @@ pub fn run<R: Env + Files + Input + Print + Eprint + AllocGlobal>(
 fn terminal_name<R: Env + AllocGlobal>(rt: &R, term: Option<&str>) -> Result<String, Failure> {
     match term {
         Some(term) => Ok(String::from_str(rt.alloc(), term)?),
-        None => match variable(rt, "TERM")? {
-            Some(term) => Ok(term),
-            None => Err(Failure::Tool(ToolError::Usage)),
-        },
-    }
-}
-
-// What a variable of the environment is set to.
-fn variable<R: Env + AllocGlobal>(rt: &R, name: &'static str) -> Result<Option<String>, Failure> {
-    match env::var(rt, name) {
-        Ok(value) => Ok(Some(value)),
-        Err(VarError::NotPresent) => Ok(None),
-        Err(VarError::NotUnicode) => Err(Failure::NotText(name)),
-        Err(VarError::OutOfMemory) => Err(Failure::Tool(ToolError::Memory)),
+        None => own_terminal(rt),
     }
 }
 
 // The file of a terminal's entry.
 fn entry_file<R: Env + Files + AllocGlobal>(rt: &R, name: &str) -> Result<Vec<u8>, Failure> {
-    let terminfo = variable(rt, "TERMINFO")?;
-    let dirs = variable(rt, "TERMINFO_DIRS")?;
-    let places = places(
-        rt.alloc(),
-        terminfo.as_ref().map(|place| place.as_str()),
-        dirs.as_ref().map(|dirs| dirs.as_str()),
-    )?;
+    let places = entry_places(rt)?;
     let mut tree = DiskTree::new(rt);
     Ok(locate(rt.alloc(), &mut tree, name, places.as_slice())?)
 }

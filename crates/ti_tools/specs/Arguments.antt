@@ -57,13 +57,17 @@ tput_with rows words = tput_at (is_on (codes "lines") rows) (first_of (codes "te
 abbrev pub tput_task : List Row → Option Task
 tput_task rows = tput_with rows (words_in rows)
 
+-- the job of `infocmp` with these matches
+unfoldable pub infocmp_job_of : List Row → Option Task
+infocmp_job_of rows = option_map task_infocmp (infocmp_task rows)
+
 -- the job of a subcommand with these matches
 abbrev pub task_at : Text → List Row → Option Task
 task_at name rows =
     if bytes_eq name (codes "tic") then Some (tic_task rows)
     else if bytes_eq name (codes "tput") then tput_task rows
     else if bytes_eq name (codes "session") then Some task_session
-    else if bytes_eq name (codes "infocmp") then option_map task_infocmp (infocmp_task rows)
+    else if bytes_eq name (codes "infocmp") then infocmp_job_of rows
     else None
 
 -- the job of the subcommand that was used, with its matches

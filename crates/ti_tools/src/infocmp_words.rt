@@ -2,8 +2,8 @@
 ghost use Rattle.std.specs.Prelude.{◌≡◌, ◌⊎◌, IfErr, IfOk, None, Some, codes, false, map, option_map};
 ghost use Rattle.clap.specs.Words.{app_of, first_of, found_of, rows_of};
 ghost use Rattle.clap.specs.declared.builder.Command.TheViews.{out-Command as fields_of};
-ghost use Rattle.ti_tools.specs.Arguments.{task_infocmp};
-ghost use Rattle.ti_tools.specs.InfocmpWords.{chosen, chosen_with, infocmp_app, first_mode_rules, infocmp_task, infocmp_with, layout_rules, mode_for, name_rules, other_mode_rules, order_for, suits, width_for};
+ghost use Rattle.ti_tools.specs.Arguments.{infocmp_job_of, task_infocmp};
+ghost use Rattle.ti_tools.specs.InfocmpWords.{chosen, chosen_with, infocmp_app, first_mode_rules, infocmp_with, layout_rules, mode_for, name_rules, other_mode_rules, order_for, suits, width_for};
 ghost use Rattle.ti_tools.specs.Jobs.{task_of};
 
 use crate::arguments::UsageError;
@@ -250,10 +250,11 @@ fn infocmp_of(alloc: Global, matches: &ArgMatches<'_>, names: &[&str]) -> Result
 ///
 /// # Errors
 /// `Usage` where they ask for none; then `Memory`.
+#[tactic(auto, unfolding(crate::specs::Arguments::infocmp_job_of))]
 pub fn infocmp_job(alloc: Global, matches: &ArgMatches<'_>) -> Result<Job, UsageError>
-    ensures right { IfOk result (λ job. option_map task_infocmp (infocmp_task (rows_of (found_of matches.now))) ≡ Some (task_of job)) }
+    ensures right { IfOk result (λ job. infocmp_job_of (rows_of (found_of matches.now)) ≡ Some (task_of job)) }
     ensures refused { IfErr result (λ error. (error ≡ UsageError.Memory)
-        ⊎ ((error ≡ UsageError.Usage) × (option_map task_infocmp (infocmp_task (rows_of (found_of matches.now))) ≡ None))) }
+        ⊎ ((error ≡ UsageError.Usage) × (infocmp_job_of (rows_of (found_of matches.now)) ≡ None))) }
 {
     match values(matches, "name") {
         Some(names) => infocmp_of(alloc, matches, names),

@@ -1,0 +1,38 @@
+//! What the environment says of the terminal and of the places of entries.
+use crate::failure::Failure;
+use std::env::{self, VarError};
+use std::rt::Env;
+use ti_tools::{ToolError, places};
+
+// What a variable of the environment is set to.
+fn variable<R: Env + AllocGlobal>(rt: &R, name: &'static str) -> Result<Option<String>, Failure> {
+    match env::var(rt, name) {
+        Ok(value) => Ok(Some(value)),
+        Err(VarError::NotPresent) => Ok(None),
+        Err(VarError::NotUnicode) => Err(Failure::NotText(name)),
+        Err(VarError::OutOfMemory) => Err(Failure::Tool(ToolError::Memory)),
+    }
+}
+
+/// The name of the terminal that `TERM` names.
+///
+/// # Errors
+/// `Usage` where it is not set; that it is not text; `Memory`.
+pub fn own_terminal<R: Env + AllocGlobal>(rt: &R) -> Result<String, Failure> {
+    match variable(rt, "TERM")? {
+        Some(term) => Ok(term),
+        None => Err(Failure::Tool(ToolError::Usage)),
+    }
+}
+
+/// The places of entries, by `TERMINFO` and `TERMINFO_DIRS`.
+///
+/// # Errors
+/// That one of them is not text; `Memory`.
+pub fn entry_places<R: Env + AllocGlobal>(rt: &R) -> Result<Vec<String>, Failure> {
+    let terminfo = variable(rt, "TERMINFO")?;
+    let dirs = variable(rt, "TERMINFO_DIRS")?;
+    let terminfo = terminfo.as_ref().map(|place| place.as_str());
+    let dirs = dirs.as_ref().map(|dirs| dirs.as_str());
+    Ok(places(rt.alloc(), terminfo, dirs)?)
+}

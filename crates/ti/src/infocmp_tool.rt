@@ -1,0 +1,119 @@
+//! `ti infocmp`: prints entries as source, compares them, or tells one by others.
+use crate::disk_tree::DiskTree;
+use crate::environment::{entry_places, own_terminal};
+use crate::failure::Failure;
+use crate::job_end::end_job;
+use std::io::{self, Write};
+use std::rt::{Env, Files};
+use ti_tools::{InfocmpMode, InfocmpOptions, Job, ToolError, entry, infocmp, locate};
+
+/// Whose entries `infocmp` reads, and where.
+#[derive(Clone, Copy)]
+pub struct InfocmpNames<'a> {
+    /// The names of the terminals; none where the terminal's own is meant.
+    pub names: &'a [String],
+    /// The only place for the first name.
+    pub first_dir: Option<&'a str>,
+    /// The only place for the other names.
+    pub other_dir: Option<&'a str>,
+}
+
+/// Prints what the options ask for to standard output, and says on standard error why it did not. The entries are read in the
+/// order of their names, and the first that can't be ends the run. The answer is the status of the process.
+pub fn run<R: Env + Files + Print + Eprint + AllocGlobal>(
+    rt: &R,
+    job: &Job,
+    asked: InfocmpNames<'_>,
+    options: &InfocmpOptions,
+) -> u8 {
+    if !asked.names.is_empty() {
+        return run_names(rt, job, asked, options);
+    }
+    match own_names(rt, options.mode) {
+        Ok(names) => {
+            let asked = InfocmpNames {
+                names: names.as_slice(),
+                ..asked
+            };
+            run_names(rt, job, asked, options)
+        }
+        Err(failure) => end_job(rt, job, "", failure, false),
+    }
+}
+
+// The terminal's own name, which `-n` takes for both of its names.
+fn own_names<R: Env + AllocGlobal>(rt: &R, mode: InfocmpMode) -> Result<Vec<String>, Failure> {
+    let name = own_terminal(rt)?;
+    let mut names = Vec::new(rt.alloc());
+    if mode == InfocmpMode::Neither {
+        names.push(String::from_str(rt.alloc(), name.as_str())?)?;
+    }
+    names.push(name)?;
+    Ok(names)
+}
+
+// The same for names that are there.
+fn run_names<R: Env + Files + Print + Eprint + AllocGlobal>(
+    rt: &R,
+    job: &Job,
+    asked: InfocmpNames<'_>,
+    options: &InfocmpOptions,
+) -> u8 {
+    let mut files = Vec::new(rt.alloc());
+    let mut place = asked.first_dir;
+    for name in asked.names {
+        match entry_file(rt, name.as_str(), place) {
+            Ok(file) => {
+                if files.push(file).is_err() {
+                    return end_job(rt, job, "", Failure::Tool(ToolError::Memory), false);
+                }
+            }
+            Err(failure) => return end_job(rt, job, name.as_str(), failure, false),
+        }
+        place = asked.other_dir;
+    }
+    match print(rt, files.as_slice(), options) {
+        Ok(()) => 0,
+        Err(error) => end_job(rt, job, "", Failure::Tool(error), true),
+    }
+}
+
+// The file of a terminal's entry, looked for at one place alone where that is said. Its bytes are an entry.
+fn entry_file<R: Env + Files + AllocGlobal>(
+    rt: &R,
+    name: &str,
+    place: Option<&str>,
+) -> Result<Vec<u8>, Failure> {
+    let alloc = rt.alloc();
+    let places = match place {
+        Some(place) => {
+            let mut places = Vec::new(alloc);
+            places.push(String::from_str(alloc, place)?)?;
+            places
+        }
+        None => entry_places(rt)?,
+    };
+    let mut tree = DiskTree::new(rt);
+    let file = locate(alloc, &mut tree, name, places.as_slice())?;
+    let _ = entry(file.as_slice())?;
+    Ok(file)
+}
+
+// Prints what the options ask for of the entries in files.
+fn print<R: Print + AllocGlobal>(
+    rt: &R,
+    files: &[Vec<u8>],
+    options: &InfocmpOptions,
+) -> Result<(), ToolError> {
+    let mut views = Vec::new(rt.alloc());
+    for file in files {
+        if views.push(entry(file.as_slice())?).is_err() {
+            return Err(ToolError::Memory);
+        }
+    }
+    let text = infocmp(rt.alloc(), views.as_slice(), options)?;
+    match io::writer(rt).write_all(text.as_slice()) {
+        Ok(()) => Ok(()),
+        Err(_) => Err(ToolError::WriteFault),
+    }
+}
