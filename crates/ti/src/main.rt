@@ -2,15 +2,19 @@
 #![tactic(auto)]
 
 mod disk_tree;
+mod environment;
+mod error_stream;
 mod failure;
 mod session_tool;
 mod tic_tool;
+mod tput_tool;
 mod whole;
 
-use crate::failure::Failure;
+use crate::environment::words;
+use crate::failure::{Failure, end_job, end_program};
+use crate::tput_tool::TputWords;
 use std::process::ExitCode;
 use std::rt::{Env, Files};
-use std::{env, io};
 use ti_tools::{Job, ToolError, UsageError, command, job};
 
 fn main(rt: HostRuntime) -> ExitCode {
@@ -21,43 +25,45 @@ fn main(rt: HostRuntime) -> ExitCode {
 fn run<R: Env + Files + Input + Print + Eprint + AllocGlobal>(rt: &R) -> u8 {
     let words = match words(rt) {
         Ok(words) => words,
-        Err(failure) => return print_failure(rt, "ti", failure),
+        Err(failure) => return end_program(rt, failure),
     };
     match job(rt.alloc(), words.as_slice()) {
-        Ok(job) => match job {
-            Job::Tic { check, dir, file } => match tic_tool::run(rt, check, dir, file) {
-                Ok(status) => status,
-                Err(failure) => print_failure(rt, "tic", failure),
-            },
-            Job::Session => match session_tool::run(rt) {
-                Ok(()) => 0,
-                Err(error) => print_failure(rt, "session", Failure::Tool(error)),
-            },
-        },
-        Err(UsageError::Memory) => print_failure(rt, "ti", Failure::Tool(ToolError::Memory)),
+        Ok(job) => run_job(rt, &job),
+        Err(UsageError::Memory) => end_program(rt, Failure::Tool(ToolError::Memory)),
         Err(_) => print_usage(rt, words.as_slice()),
     }
 }
 
-// The words of the command line, the program's name first.
-fn words<R: Env + AllocGlobal>(rt: &R) -> Result<Vec<String>, Failure> {
-    match env::args(rt) {
-        Ok(words) => match words.collect(rt.alloc()) {
-            Ok(words) => Ok(words),
-            Err(_) => Err(Failure::Tool(ToolError::Memory)),
-        },
-        Err(error) if error.kind() == io::ErrorKind::OutOfMemory => {
-            Err(Failure::Tool(ToolError::Memory))
+// Does a job. The answer is the status of the process.
+fn run_job<R: Env + Files + Input + Print + Eprint + AllocGlobal>(rt: &R, job: &Job) -> u8 {
+    match job {
+        Job::Tic { check, dir, file } => {
+            let dir = dir.as_ref().map(|dir| dir.as_str());
+            let file = file.as_ref().map(|file| file.as_str());
+            match tic_tool::run(rt, *check, dir, file) {
+                Ok(status) => status,
+                Err(failure) => end_job(rt, job, "", failure, false),
+            }
         }
-        Err(_) => Err(Failure::NotText("the command line")),
+        Job::Tput {
+            lines,
+            term,
+            rate,
+            words,
+        } => {
+            let asked = TputWords {
+                lines: *lines,
+                term: term.as_ref().map(|term| term.as_str()),
+                rate: *rate,
+                words: words.as_slice(),
+            };
+            tput_tool::run(rt, job, asked)
+        }
+        Job::Session => match session_tool::run(rt) {
+            Ok(()) => 0,
+            Err(error) => end_job(rt, job, "", Failure::Tool(error), false),
+        },
     }
-}
-
-// Says in one line why a tool stopped. The status stays where standard error takes nothing.
-fn print_failure<R: Eprint>(rt: &R, tool: &str, failure: Failure) -> u8 {
-    let status = failure.status();
-    let _ = eprintln!(rt; "{tool}: {failure}");
-    status
 }
 
 // Prints the help that the words ask for, or what is wrong with them. The words are read again, since a
@@ -65,15 +71,15 @@ fn print_failure<R: Eprint>(rt: &R, tool: &str, failure: Failure) -> u8 {
 // standard error takes nothing.
 fn print_usage<R: Print + Eprint + AllocGlobal>(rt: &R, words: &[String]) -> u8 {
     let Ok(command) = command(rt.alloc()) else {
-        return print_failure(rt, "ti", Failure::Tool(ToolError::Memory));
+        return end_program(rt, Failure::Tool(ToolError::Memory));
     };
     let Err(error) = command.try_get_matches_from(words) else {
-        return print_failure(rt, "ti", Failure::Tool(ToolError::Usage));
+        return end_program(rt, Failure::Tool(ToolError::Usage));
     };
     let is_help = !error.use_stderr();
     match error.print(rt) {
         Ok(()) if is_help => 0,
-        Err(_) if is_help => print_failure(rt, "ti", Failure::Tool(ToolError::WriteFault)),
+        Err(_) if is_help => end_program(rt, Failure::Tool(ToolError::WriteFault)),
         _ => 2,
     }
 }

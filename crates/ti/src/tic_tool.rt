@@ -1,9 +1,8 @@
 //! `ti tic`: compiles a source into files.
 use crate::disk_tree::DiskTree;
+use crate::environment::variable;
 use crate::failure::Failure;
 use crate::whole::read_source;
-use std::alloc::AllocError;
-use std::env::{self, VarError};
 use std::rt::{Env, Files};
 use std::str;
 use ti_tools::{TicOptions, ToolError, TreeFault, place, tic};
@@ -19,13 +18,12 @@ const SYSTEM_FOLDER: &str = "/usr/share/terminfo";
 pub fn run<R: Env + Files + Input + Eprint + AllocGlobal>(
     rt: &R,
     check: bool,
-    dir: Option<String>,
-    file: Option<String>,
+    dir: Option<&str>,
+    file: Option<&str>,
 ) -> Result<u8, Failure> {
     let alloc = rt.alloc();
     let dir = folder(rt, check, dir)?;
-    let path = file.as_ref().map(|path| path.as_str());
-    let source = read_source(rt, alloc, path)?;
+    let source = read_source(rt, alloc, file)?;
     let outcome = tic(alloc, source.as_slice(), &TicOptions { check, dir })?;
     print_report(rt, outcome.report.as_slice())?;
     let mut tree = DiskTree::new(rt);
@@ -41,22 +39,17 @@ pub fn run<R: Env + Files + Input + Eprint + AllocGlobal>(
 fn folder<R: Env + AllocGlobal>(
     rt: &R,
     check: bool,
-    dir: Option<String>,
+    dir: Option<&str>,
 ) -> Result<String, Failure> {
     if let Some(dir) = dir {
-        return Ok(dir);
+        return Ok(String::from_str(rt.alloc(), dir)?);
     }
     if check {
         return Ok(String::new(rt.alloc()));
     }
-    match env::var(rt, "TERMINFO") {
-        Ok(dir) if !dir.is_empty() => Ok(dir),
-        Ok(_) | Err(VarError::NotPresent) => match String::from_str(rt.alloc(), SYSTEM_FOLDER) {
-            Ok(dir) => Ok(dir),
-            Err(AllocError) => Err(Failure::Tool(ToolError::Memory)),
-        },
-        Err(VarError::NotUnicode) => Err(Failure::NotText("TERMINFO")),
-        Err(VarError::OutOfMemory) => Err(Failure::Tool(ToolError::Memory)),
+    match variable(rt, "TERMINFO")? {
+        Some(dir) if !dir.is_empty() => Ok(dir),
+        _ => Ok(String::from_str(rt.alloc(), SYSTEM_FOLDER)?),
     }
 }
 
