@@ -51,7 +51,7 @@ Example:
   ti session < script.txt";
 
 /// What the help of `tput` says below its options.
-const TPUT_NOTES: &str = "CAP is a capability of terminfo(5), longname, init or reset.
+const TPUT_NOTES: &str = "The first WORD is a capability of terminfo(5), longname, init or reset.
 
 Exit status: 0; 1 where a flag or a string is absent; 2 at bad usage; 3 at an
 unknown terminal; 4 at an unknown capability or a bad string; 255 at a fault.
@@ -60,7 +60,7 @@ With -S, 4 and the number of bad lines, 255 at most.
 Examples:
   ti tput setaf 1
   ti tput cup 0 0
-  printf 'bold\nsetaf 2\n' | ti tput -S";
+  printf 'bold\\nsetaf 2\\n' | ti tput -S";
 
 // `tic [-c] [-o DIR] [FILE]`.
 fn tic<'a>(alloc: Global) -> Result<Command<'a>, AllocError>
@@ -113,18 +113,8 @@ fn tput<'a>(alloc: Global) -> Result<Command<'a>, AllocError>
     ensures app { IfOk result (λ command. app_of command ≡ tput_app) }
     ensures local { IfOk result (λ command. (fields_of command).has_globals ≡ false) }
 {
-    let lines = flag(
-        alloc,
-        "lines",
-        'S',
-        "Read commands from standard input, one a line",
-    );
-    let words = operands(
-        alloc,
-        "words",
-        "CAP [WORD]",
-        "The capability, and its parameters",
-    );
+    let lines = flag(alloc, "lines", 'S', "Read commands from standard input, one a line");
+    let words = operands(alloc, "words", "WORD", "The capability's name, and its parameters");
     tput_options(alloc)?.arg(lines)?.arg(words)
 }
 

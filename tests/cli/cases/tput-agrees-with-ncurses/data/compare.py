@@ -1,0 +1,75 @@
+"""Compares `ti tput` with ncurses's on the system's entries: each capability that ncurses lists, with as many parameters as its
+string takes, 0 to 2, alone and by `-S`. Prints what differs, and at the end how much there was to compare.
+
+Left out, since ncurses does not answer from the standard capability alone: `lines` and `cols`, where it asks the terminal and
+the environment, and `clear`, to which it adds the user-defined capability E3, which clears what has scrolled away.
+"""
+
+import os
+import re
+import subprocess
+import sys
+
+FOLDERS = ["/etc/terminfo", "/lib/terminfo", "/usr/share/terminfo"]
+ASKED_ELSEWHERE = {"lines", "cols", "clear"}
+
+
+def entries():
+    found = {}
+    for folder in FOLDERS:
+        for at, _, names in os.walk(folder):
+            for name in names:
+                found.setdefault(name, folder)
+    return found
+
+
+def run(tool, term, words, lines=None):
+    env = dict(os.environ, TERMINFO_DIRS=":".join(FOLDERS))
+    done = subprocess.run(
+        [*tool, "-T", term, *words], input=lines, env=env, stdout=subprocess.PIPE, stderr=subprocess.DEVNULL,
+        stdin=None if lines is not None else subprocess.DEVNULL,
+    )
+    return done.returncode, done.stdout
+
+
+def capabilities(term, folder):
+    listed = subprocess.run(["infocmp", "-1", "-A", folder, term], stdout=subprocess.PIPE, stderr=subprocess.DEVNULL)
+    for line in listed.stdout.decode("latin-1").split("\n"):
+        found = re.match(r"\t([A-Za-z0-9]+)([=#,])(.*)", line)
+        if found and found[1] not in ASKED_ELSEWHERE:
+            yield found[1], found[2], found[3]
+
+
+def commands(term, folder):
+    for name, kind, value in capabilities(term, folder):
+        yield [name]
+        if kind != "=":
+            continue
+        if "%p1" in value:
+            yield [name, "5"]
+        if "%p2" in value:
+            yield [name, "5", "7"]
+
+
+def main():
+    ours, theirs = ["ti", "tput"], ["tput"]
+    compared = 0
+    for term, folder in sorted(entries().items()):
+        every = list(commands(term, folder))
+        lines = "".join(" ".join(words) + "\n" for words in every).encode()
+        compared += len(every)
+        if run(ours, term, ["-S"], lines) == run(theirs, term, ["-S"], lines):
+            continue
+        for words in every:
+            one, other = run(ours, term, words), run(theirs, term, words)
+            if one != other:
+                print(f"{term} {' '.join(words)}: {one} {other}")
+    for term in ["xterm", "linux", "vt100"]:
+        for words in commands(term, entries().get(term, FOLDERS[0])):
+            one, other = run(ours, term, words), run(theirs, term, words)
+            if one != other:
+                print(f"{term} {' '.join(words)}: {one} {other}")
+    print("compared" if compared > 1000 else f"compared {compared} alone")
+
+
+main()
