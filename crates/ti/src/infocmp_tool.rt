@@ -3,6 +3,7 @@ use crate::disk_tree::DiskTree;
 use crate::environment::{entry_places, own_terminal};
 use crate::failure::Failure;
 use crate::job_end::end_job;
+use std::alloc::{AllocError, Global};
 use std::io::{self, Write};
 use std::rt::{Env, Files};
 use ti_tools::{InfocmpMode, InfocmpOptions, Job, ToolError, entry, infocmp, locate};
@@ -44,12 +45,17 @@ pub fn run<R: Env + Files + Print + Eprint + AllocGlobal>(
 // The terminal's own name, which `-n` takes for both of its names.
 fn own_names<R: Env + AllocGlobal>(rt: &R, mode: InfocmpMode) -> Result<Vec<String>, Failure> {
     let name = own_terminal(rt)?;
-    let mut names = Vec::new(rt.alloc());
-    if mode == InfocmpMode::Neither {
-        names.push(String::from_str(rt.alloc(), name.as_str())?)?;
+    let count = if mode == InfocmpMode::Neither { 2 } else { 1 };
+    Ok(copies(rt.alloc(), name.as_str(), count)?)
+}
+
+// A text so many times.
+fn copies(alloc: Global, text: &str, count: usize) -> Result<Vec<String>, AllocError> {
+    let mut copies = Vec::new(alloc);
+    for _ in 0..count {
+        copies.push(String::from_str(alloc, text)?)?;
     }
-    names.push(name)?;
-    Ok(names)
+    Ok(copies)
 }
 
 // The same for names that are there.
@@ -86,11 +92,7 @@ fn entry_file<R: Env + Files + AllocGlobal>(
 ) -> Result<Vec<u8>, Failure> {
     let alloc = rt.alloc();
     let places = match place {
-        Some(place) => {
-            let mut places = Vec::new(alloc);
-            places.push(String::from_str(alloc, place)?)?;
-            places
-        }
+        Some(place) => copies(alloc, place, 1)?,
         None => entry_places(rt)?,
     };
     let mut tree = DiskTree::new(rt);
