@@ -36,11 +36,7 @@ pub fn run<R: Env + Files + Input + Eprint + AllocGlobal>(
 
 // The folder of `-o`, else that of `TERMINFO` where it is set and not empty, else the system's. Nothing is
 // written for `-c`, so `TERMINFO` is not read then.
-fn folder<R: Env + AllocGlobal>(
-    rt: &R,
-    check: bool,
-    dir: Option<&str>,
-) -> Result<String, Failure> {
+fn folder<R: Env + AllocGlobal>(rt: &R, check: bool, dir: Option<&str>) -> Result<String, Failure> {
     if let Some(dir) = dir {
         return Ok(String::from_str(rt.alloc(), dir)?);
     }

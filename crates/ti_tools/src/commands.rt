@@ -58,7 +58,7 @@ With -S, 4 and the number of bad lines, 255 at most.
 Examples:
   ti tput setaf 1
   ti tput cup 0 0
-  printf 'bold\nsetaf 2\n' | ti tput -S";
+  printf 'bold\\nsetaf 2\\n' | ti tput -S";
 
 // An option that is on or off.
 fn flag<'a>(alloc: Global, id: &'a str, short: char, help: &'a str) -> Arg<'a>
@@ -169,8 +169,18 @@ fn tput<'a>(alloc: Global) -> Result<Command<'a>, AllocError>
     ensures app { IfOk result (λ command. app_of command ≡ tput_app) }
     ensures local { IfOk result (λ command. (fields_of command).has_globals ≡ false) }
 {
-    let lines = flag(alloc, "lines", 'S', "Read commands from standard input, one a line");
-    let words = operands(alloc, "words", "CAP [WORD]", "The capability, and its parameters");
+    let lines = flag(
+        alloc,
+        "lines",
+        'S',
+        "Read commands from standard input, one a line",
+    );
+    let words = operands(
+        alloc,
+        "words",
+        "CAP [WORD]",
+        "The capability, and its parameters",
+    );
     tput_options(alloc)?.arg(lines)?.arg(words)
 }
 
