@@ -3,7 +3,7 @@ use Rattle.std.proofs.Common.{◌≡◌, ◌⊎◌, ℕ, suc, ◌-◌, ◌<◌, 
 use Rattle.std.proofs.lemmas.Bool.{and_parts, cases_Bool, eqb-true, eq-eqb}
 use Rattle.std.proofs.lemmas.Option.{slice_get-get_or}
 use Rattle.ti_source.specs.Blocks.{begins_head, is_head, last_byte, front_of, blocks_of}
-use Rattle.ti_tools.specs.Sources.{ended, preface_of, texts_of}
+use Rattle.ti_tools.specs.Sources.{with_last_newline, preface_of, texts_of}
 
 last_byte-get_or : (before : ℕ) (text : List ℕ) → 0 < length text → last_byte before text ≡ get_or text (length text - 1) 0
 last_byte-get_or before [] h = absurd (omega arith)
@@ -41,16 +41,16 @@ front_of-ended before (x ∷ xs) e =
       | inr f ↦ rw f (front_of-ended x xs e)
     ]
 
-pub ended-of_newline : (text : List ℕ) → last_byte 10 text ≡ 10 → ended text ≡ text
+pub ended-of_newline : (text : List ℕ) → last_byte 10 text ≡ 10 → with_last_newline text ≡ text
 ended-of_newline text e = rw (eq-eqb (last_byte 10 text) 10 e)
 
 -- all but the last of these texts end with a newline
 abbrev pub AllButLastEnded : List (List ℕ) → Type 0
 AllButLastEnded [] = Unit {0}
 AllButLastEnded (text ∷ []) = Unit {0}
-AllButLastEnded (text ∷ next ∷ texts) = (ended text ≡ text) × AllButLastEnded (next ∷ texts)
+AllButLastEnded (text ∷ next ∷ texts) = (with_last_newline text ≡ text) × AllButLastEnded (next ∷ texts)
 
-all_but_last : (text : List ℕ) (texts : List (List ℕ)) → (texts ≡ []) ⊎ (ended text ≡ text) → AllButLastEnded texts → AllButLastEnded (text ∷ texts)
+all_but_last : (text : List ℕ) (texts : List (List ℕ)) → (texts ≡ []) ⊎ (with_last_newline text ≡ text) → AllButLastEnded texts → AllButLastEnded (text ∷ texts)
 all_but_last text [] h rest = tt
 all_but_last text (next ∷ texts) (inl bad) rest = absurd (cc)
 all_but_last text (next ∷ texts) (inr same) rest = (same, rest)
@@ -66,7 +66,7 @@ blocks_of-all_but_last before (x ∷ xs) =
     ]
 
 -- the blocks of a text that ends with a newline do so too
-blocks_of-of_newline : (before : ℕ) (s : List ℕ) → last_byte before s ≡ 10 → map ended (blocks_of before s) ≡ blocks_of before s
+blocks_of-of_newline : (before : ℕ) (s : List ℕ) → last_byte before s ≡ 10 → map with_last_newline (blocks_of before s) ≡ blocks_of before s
 blocks_of-of_newline before [] e = refl
 blocks_of-of_newline before (x ∷ xs) e =
     elim (cases_Bool (is_head before x)) [
@@ -94,14 +94,14 @@ front_of-newline before (x ∷ xs) f =
     ]
 
 -- the block that begins at `x`
-block-newline : (x : ℕ) (xs : List ℕ) → (last_byte x xs == 10) ≡ false → x ∷ front_of x (xs ++ 10 ∷ []) ≡ ended (x ∷ front_of x xs)
+block-newline : (x : ℕ) (xs : List ℕ) → (last_byte x xs == 10) ≡ false → x ∷ front_of x (xs ++ 10 ∷ []) ≡ with_last_newline (x ∷ front_of x xs)
 block-newline x xs f =
     elim (front_of-newline x xs f).apart [
       | inl all ↦ rw (all.1, all.2, f)
       | inr part ↦ ap (λ r. x ∷ r) part.0 ∙ sym (ended-of_newline (x ∷ front_of x xs) part.1)
     ]
 
-blocks_of-newline : (before : ℕ) (s : List ℕ) → (last_byte before s == 10) ≡ false → blocks_of before (s ++ 10 ∷ []) ≡ map ended (blocks_of before s)
+blocks_of-newline : (before : ℕ) (s : List ℕ) → (last_byte before s == 10) ≡ false → blocks_of before (s ++ 10 ∷ []) ≡ map with_last_newline (blocks_of before s)
 blocks_of-newline before [] f = rw (no_head_at_newline before f)
 blocks_of-newline before (x ∷ xs) f =
     elim (cases_Bool (is_head before x)) [
@@ -110,7 +110,7 @@ blocks_of-newline before (x ∷ xs) f =
     ]
 
 -- the blocks of a source are those of the source as it stands, each with a newline at its end
-pub texts_of-blocks : (source : List ℕ) → texts_of source ≡ map ended (blocks_of 10 source)
+pub texts_of-blocks : (source : List ℕ) → texts_of source ≡ map with_last_newline (blocks_of 10 source)
 texts_of-blocks source =
     elim (cases_Bool (last_byte 10 source == 10)) [
       | inl t ↦ rw t (sym (blocks_of-of_newline 10 source (eqb-true (last_byte 10 source) 10 t)))

@@ -13,7 +13,8 @@ use Rattle.ti_meaning.specs.Owner.{is_among, readings}
 use Rattle.ti_meaning.specs.Reaching.{is_owner}
 use Rattle.ti_meaning.specs.Faults.{distinct_after}
 use Rattle.ti_devices.specs.Tree.{Entry}
-use Rattle.ti_tools.specs.EntryFiles.{IsAsciiName, files_at, files_for, files_from, files_of, own_names, path_of}
+use Rattle.ti_tools.specs.EntryFiles.{IsAsciiName, files_at, files_for, files_from, files_of, own_names}
+use Rattle.ti_devices.specs.Paths.{path_of}
 
 -- the files for names that stand behind others
 abbrev pub files_behind : List ℕ → List ℕ → List Reading → ℕ → List (List ℕ) → List (List ℕ) → List Entry

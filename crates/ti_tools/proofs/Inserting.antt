@@ -8,7 +8,7 @@ use Rattle.ti_devices.specs.declared.tool_error.ToolError.TheVariants.{BlockTooL
 use Rattle.ti_source.specs.Blocks.{OneBlock, blocks_of, front_of, last_byte}
 use Rattle.ti_source.specs.Lines.{line_count}
 use Rattle.ti_meaning.specs.declared.edits.EditError.TheVariants.{Position, TooLong, NotOneBlock, TooMany, Memory}
-use Rattle.ti_tools.specs.Sources.{ended, preface_of, refusal_after, refusal_within, source_refusal, texts_of}
+use Rattle.ti_tools.specs.Sources.{with_last_newline, preface_of, refusal_after, refusal_within, source_refusal, texts_of}
 use Rattle.ti_tools.proofs.Ending.{ended-of_newline, last_byte-newline}
 use Rattle.std.specs.List.{list_all}
 use Rattle.std.proofs.lemmas.List.{append-nil, append_assoc, length-append}
@@ -103,7 +103,7 @@ pub blocks_fail_by_memory : (source : List ℕ) (changes : List Change) (outcome
     → source_refusal source ≡ None → All OneBlock (blocks_of 10 source) → FailsByMemoryAlone outcomes
 unfolding refusal_within
 blocks_fail_by_memory source changes outcomes last run same is_ended sound blocks =
-    let whole : ended source ≡ source = ended-of_newline source is_ended in
+    let whole : with_last_newline source ≡ source = ended-of_newline source is_ended in
     let checked = short_and_few 65535 (preface_of source) 0 (texts_of source) sound (omega arith) in
     let parts : All IsShortText (blocks_of 10 source) × (0 + length (blocks_of 10 source) ≤ 65535) =
     subst (λ (t : List ℕ). All IsShortText (blocks_of 10 t) × (0 + length (blocks_of 10 t) ≤ 65535)) whole checked in
@@ -114,6 +114,6 @@ blocks_fail_by_memory source changes outcomes last run same is_ended sound block
 pub refusal-newline : (source : List ℕ) → (last_byte 10 source == 10) ≡ false → source_refusal (source ++ 10 ∷ []) ≡ source_refusal source
 unfolding refusal_within
 refusal-newline source open_end =
-    let same : ended (source ++ 10 ∷ []) ≡ ended source =
+    let same : with_last_newline (source ++ 10 ∷ []) ≡ with_last_newline source =
     ended-of_newline (source ++ 10 ∷ []) (last_byte-newline 10 source) ∙ sym (rw open_end refl) in
     ap (λ (t : List ℕ). refusal_after 65535 (front_of 10 t) 0 (blocks_of 10 t)) same

@@ -4,7 +4,7 @@ use Rattle.std.specs.List.{concat}
 use Rattle.std.proofs.lemmas.List.{append_assoc, length-append}
 use Rattle.ti_text.specs.Limits.{block_bytes_max}
 use Rattle.ti_source.specs.Blocks.{Cut, blocks_of, front_of}
-use Rattle.ti_tools.specs.Sources.{ended, preface_of, refusal_after, refusal_within}
+use Rattle.ti_tools.specs.Sources.{with_last_newline, preface_of, refusal_after, refusal_within}
 use Rattle.ti_tools.proofs.Ending.{AllButLastEnded, blocks_of-all_but_last, preface_of-front, texts_of-blocks}
 
 -- The blocks before `offset`, so many, are not refused, and `rest` are the blocks from there on, as they stand.
@@ -13,10 +13,10 @@ pub record IsCheckedTo (most : ℕ) (source : List ℕ) (offset count : ℕ) (re
   pub whole : source ≡ seen ++ concat rest
   pub at : offset ≡ length seen
   pub ends : AllButLastEnded rest
-  pub same : refusal_within most source ≡ refusal_after most seen count (map ended rest)
+  pub same : refusal_within most source ≡ refusal_after most seen count (map with_last_newline rest)
 
 refusal_after-front : (most : ℕ) (before front : List ℕ) (blocks : List (List ℕ)) → (blocks ≡ []) ⊎ (before ≡ front)
-    → refusal_after most before 0 (map ended blocks) ≡ refusal_after most front 0 (map ended blocks)
+    → refusal_after most before 0 (map with_last_newline blocks) ≡ refusal_after most front 0 (map with_last_newline blocks)
 refusal_after-front most before front blocks (inl none) = rw none
 refusal_after-front most before front blocks (inr same) = rw same
 
@@ -32,9 +32,9 @@ checked_to_start most source preface blocks cut is_front is_blocks = record {
 }
 
 refusal_after-next : (most : ℕ) (seen : List ℕ) (count : ℕ) (text : List ℕ) (rest : List (List ℕ)) → AllButLastEnded (text ∷ rest)
-    → refusal_after most (seen ++ ended text) count (map ended rest) ≡ refusal_after most (seen ++ text) count (map ended rest)
+    → refusal_after most (seen ++ with_last_newline text) count (map with_last_newline rest) ≡ refusal_after most (seen ++ text) count (map with_last_newline rest)
 refusal_after-next most seen count text [] ends = refl
-refusal_after-next most seen count text (next ∷ rest) ends = ap (λ t. refusal_after most (seen ++ t) count (map ended (next ∷ rest))) ends.0
+refusal_after-next most seen count text (next ∷ rest) ends = ap (λ t. refusal_after most (seen ++ t) count (map with_last_newline (next ∷ rest))) ends.0
 
 all_but_last-rest : (text : List ℕ) (rest : List (List ℕ)) → AllButLastEnded (text ∷ rest) → AllButLastEnded rest
 all_but_last-rest text [] ends = tt
@@ -42,12 +42,12 @@ all_but_last-rest text (next ∷ rest) ends = ends.1
 
 -- the next block is short enough, and not one too many
 pub checked_to_next : (most : ℕ) (source : List ℕ) (offset count : ℕ) (text : List ℕ) (rest : List (List ℕ))
-    → IsCheckedTo most source offset count (text ∷ rest) → nat_lt block_bytes_max (length (ended text)) ≡ false → nat_le most count ≡ false
+    → IsCheckedTo most source offset count (text ∷ rest) → nat_lt block_bytes_max (length (with_last_newline text)) ≡ false → nat_le most count ≡ false
     → IsCheckedTo most source (offset + length text) (count + 1) rest
 checked_to_next most source offset count text rest c short few = record {
   seen = c.seen ++ text;
   whole = c.whole ∙ sym (append_assoc c.seen text (concat rest));
   at = let joined : length (c.seen ++ text) ≡ length c.seen + length text = length-append c.seen text in omega (arith, c.at, joined);
   ends = all_but_last-rest text rest c.ends;
-  same = c.same ∙ rw (short, few) (refusal_after-next most c.seen (suc count) text rest c.ends ∙ ap (λ k. refusal_after most (c.seen ++ text) k (map ended rest)) (omega arith));
+  same = c.same ∙ rw (short, few) (refusal_after-next most c.seen (suc count) text rest c.ends ∙ ap (λ k. refusal_after most (c.seen ++ text) k (map with_last_newline rest)) (omega arith));
 }

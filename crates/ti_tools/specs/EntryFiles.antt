@@ -7,11 +7,8 @@ use Rattle.ti_meaning.specs.Owner.{readings}
 use Rattle.ti_meaning.specs.Reaching.{is_owner}
 use Rattle.ti_meaning.specs.Faults.{distinct}
 use Rattle.ti_meaning.specs.Compiled.{compiled}
+use Rattle.ti_devices.specs.Paths.{path_of}
 use Rattle.ti_devices.specs.Tree.{Entry}
-
--- where the entry of a name stands below a folder
-abbrev pub path_of : List ℕ → List ℕ → List ℕ
-path_of dir name = dir ++ 47 ∷ take 1 name ++ 47 ∷ name
 
 -- those of the names that belong to the block at that position, each once
 abbrev pub own_names : List Reading → ℕ → List (List ℕ) → List (List ℕ)

@@ -8,16 +8,16 @@ use Rattle.ti_devices.specs.declared.tool_error.ToolError.{ToolError}
 use Rattle.ti_devices.specs.declared.tool_error.ToolError.TheVariants.{BlockTooLong, TooManyBlocks}
 
 -- a text with a newline at its end; an empty text has no line to end
-abbrev pub ended : List ℕ → List ℕ
-ended text = if last_byte 10 text == 10 then text else text ++ 10 ∷ []
+abbrev pub with_last_newline : List ℕ → List ℕ
+with_last_newline text = if last_byte 10 text == 10 then text else text ++ 10 ∷ []
 
 -- what stands before the first block
 abbrev pub preface_of : List ℕ → List ℕ
-preface_of source = front_of 10 (ended source)
+preface_of source = front_of 10 (with_last_newline source)
 
 -- the texts of the blocks
 abbrev pub texts_of : List ℕ → List (List ℕ)
-texts_of source = blocks_of 10 (ended source)
+texts_of source = blocks_of 10 (with_last_newline source)
 
 -- the number of the first block's first line
 abbrev pub first_line : List ℕ → ℕ

@@ -34,7 +34,7 @@ fn has_error(faults: &[Fault]) -> bool
 }
 
 // The status of a run with these faults: 1 where one of them is an error.
-fn status(faults: &[Fault]) -> u8
+fn report_status(faults: &[Fault]) -> u8
     ensures { result ≡ status_of (map fault_seen faults.now) }
 {
     if has_error(faults) { 1 } else { 0 }
@@ -62,7 +62,7 @@ fn outcome(
     Ok(TicOutcome {
         files,
         report,
-        status: status(faults.as_slice()),
+        status: report_status(faults.as_slice()),
     })
 }
 
@@ -89,7 +89,7 @@ fn with_newline(alloc: Global, text: &[u8]) -> Result<Vec<u8>, AllocError>
 }
 
 // Compiles a source that is not refused.
-fn compile_ended(
+fn compile_source(
     alloc: Global,
     source: &[u8],
     options: &TicOptions,
@@ -116,7 +116,7 @@ pub fn tic(alloc: Global, source: &[u8], options: &TicOptions) -> Result<TicOutc
         (string_bytes options.now.dir)) result }
 {
     check(source)?;
-    match compile_ended(alloc, source, options) {
+    match compile_source(alloc, source, options) {
         Ok(outcome) => Ok(outcome),
         Err(AllocError) => Err(ToolError::Memory),
     }

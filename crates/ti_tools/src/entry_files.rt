@@ -5,13 +5,14 @@ ghost use Rattle.std.specs.String.{string_bytes};
 ghost use Rattle.ti_source.specs.Blocks.{OneBlock, blocks_of, last_byte};
 ghost use Rattle.ti_meaning.specs.Owner.{is_among, readings};
 ghost use Rattle.ti_meaning.specs.Reaching.{is_owner};
-ghost use Rattle.ti_tools.specs.EntryFiles.{IsAsciiName, files_at, files_for, files_of, own_names, path_of};
+ghost use Rattle.ti_tools.specs.EntryFiles.{IsAsciiName, files_at, files_for, files_of, own_names};
+ghost use Rattle.ti_devices.specs.Paths.{path_of};
 ghost use Rattle.ti_devices.specs.Placing.{entries};
 
 use std::alloc::{AllocError, Global};
 use std::rc::RcSlice;
 use ti_base::Database;
-use ti_devices::File;
+use ti_devices::{File, entry_path};
 use ti_source::{blocks, blocks_are_single, parse};
 
 // Whether the name is one of these.
@@ -34,31 +35,6 @@ fn owns(database: &Database, name: &[u8], at: usize) -> bool
         Some(place) => place == at,
         None => false,
     }
-}
-
-// Adds a name to a path. Its bytes are ASCII.
-fn push_name(path: &mut String, name: &[u8]) -> Result<(), AllocError>
-    requires { All (λ byte. byte < 128) name.now }
-    ensures { OnOk result (string_bytes path.new ≡ string_bytes path.old ++ name.now) }
-{
-    for byte in name {
-        path.push(*byte as char)?;
-    }
-    Ok(())
-}
-
-// Where the entry of a name stands below a folder.
-fn entry_path(alloc: Global, dir: &str, name: &[u8]) -> Result<String, AllocError>
-    requires some { 0 < length name.now }
-    requires ascii { All (λ byte. byte < 128) name.now }
-    ensures { IfOk result (λ path. string_bytes path ≡ path_of dir.now name.now) }
-{
-    let mut path = String::from_str(alloc, dir)?;
-    path.push('/')?;
-    push_name(&mut path, &name[..1])?;
-    path.push('/')?;
-    push_name(&mut path, name)?;
-    Ok(path)
 }
 
 // Whether a name that stands behind these names of the block at `at` has a file of its own: it is

@@ -2,7 +2,7 @@
 ghost use Rattle.std.specs.Prelude.{◌≡◌, ◌+◌, ◌==◌, ◌≤◌, length, take, MatchResult, None, Some};
 ghost use Rattle.ti_source.specs.Blocks.{last_byte};
 ghost use Rattle.ti_source.specs.Lines.{line_count};
-ghost use Rattle.ti_tools.specs.Sources.{ended, source_refusal};
+ghost use Rattle.ti_tools.specs.Sources.{source_refusal, with_last_newline};
 
 use ti_devices::ToolError;
 use ti_source::blocks;
@@ -28,7 +28,7 @@ pub fn lines(text: &[u8]) -> usize
 
 // The bytes of a text once its last line is ended.
 fn ended_len(text: &[u8]) -> usize
-    ensures { result ≡ length (ended text.now) }
+    ensures { result ≡ length (with_last_newline text.now) }
 {
     if is_ended(text) {
         text.len()

@@ -2,7 +2,7 @@ use Rattle.std.proofs.Common.{◌∙◌, sym}
 use Rattle.clap.proofs.WalkLemmas.{list_any-map}
 use Rattle.ti_source.specs.Codes.{is_error}
 use Rattle.ti_meaning.specs.Faults.{SourceFault, fault_seen}
-use Rattle.ti_tools.proofs.compiling.status.Goals as goal
+use Rattle.ti_tools.proofs.compiling.report_status.Goals as goal
 
 pub returns-then-has_error : goal.returns-then-has_error
 returns-then-has_error c =
