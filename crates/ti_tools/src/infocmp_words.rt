@@ -18,6 +18,21 @@ use ti_list::{Layout, Order};
 /// The width of a listing's lines where none is said.
 const WIDTH: usize = 60;
 
+/// What stands below the options in the help.
+const NOTES: &str = "\
+A listing is source that 'ti tic' compiles back to the same entry; with '-u' it
+is, where the entries that it uses stand beside it.
+
+Exit status:
+  0  all entries were read, and the text was written
+  1  an entry is not there or is bad, or a file or a stream failed
+  2  wrong usage
+
+Examples:
+  ti infocmp -1 xterm
+  ti infocmp -d xterm vt100
+  ti infocmp -u xterm-256color xterm";
+
 // The options that list, and those that compare for differences.
 fn first_modes<'a>(alloc: Global, command: Command<'a>) -> Result<Command<'a>, AllocError>
     requires { (fields_of command).has_globals ≡ false }
@@ -120,7 +135,7 @@ pub fn infocmp<'a>(alloc: Global) -> Result<Command<'a>, AllocError>
 {
     let command = Command::new(alloc, "infocmp")
         .about("Print entries as source, compare them, or tell one by others.")
-        .after_help("Example:\n  ti infocmp -1 xterm");
+        .after_help(NOTES);
     let command = first_modes(alloc, command)?;
     let command = other_modes(alloc, command)?;
     let command = layouts(alloc, command)?;
