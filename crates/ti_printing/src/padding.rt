@@ -66,6 +66,26 @@ pub fn pad(alloc: Global, text: &[u8], lines: u32, line: &Line) -> Result<Vec<u8
     }
 }
 
+/// The same of a text that the caller gives up: one without padding is given back as it is, and takes no memory.
+///
+/// # Errors
+///
+/// Those of [`pad`].
+pub fn pad_owned(
+    alloc: Global,
+    text: Vec<u8>,
+    lines: u32,
+    line: &Line,
+) -> Result<Vec<u8>, PadError>
+    ensures ok { IfOk result (λ out. out.items ≡ padded text.items lines line.now) }
+    ensures too_much { (result ≡ Err PadError.TooMuch) ↔ (65536 < padding_of text.items lines line.now) }
+{
+    match memchr(b'$', text.as_slice()) {
+        None => Ok(text),
+        Some(_) => pad_parts(alloc, text.as_slice(), lines, line),
+    }
+}
+
 // The same, part by part.
 fn pad_parts(
     alloc: Global,
