@@ -129,8 +129,18 @@ fn tput<'a>(alloc: Global) -> Result<Command<'a>, AllocError>
     ensures app { IfOk result (λ command. app_of command ≡ tput_app) }
     ensures local { IfOk result (λ command. (fields_of command).has_globals ≡ false) }
 {
-    let lines = flag(alloc, "lines", 'S', "Read commands from standard input, one a line");
-    let words = operands(alloc, "words", "WORD", "The capability's name, and its parameters");
+    let lines = flag(
+        alloc,
+        "lines",
+        'S',
+        "Read commands from standard input, one a line",
+    );
+    let words = operands(
+        alloc,
+        "words",
+        "WORD",
+        "The capability's name, and its parameters",
+    );
     tput_options(alloc)?.arg(lines)?.arg(words)
 }
 

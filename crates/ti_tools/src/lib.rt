@@ -16,7 +16,6 @@
 pub mod arguments;
 pub mod commands;
 pub mod compiling;
-pub mod stopping;
 mod entry_files;
 mod held;
 pub mod jobs;
@@ -24,14 +23,15 @@ pub mod laws;
 mod listings;
 mod outcome;
 mod sources;
+pub mod stopping;
 
 pub use arguments::{UsageError, job};
 pub use commands::command;
 pub use compiling::tic;
-pub use stopping::{message, status};
 pub use jobs::Job;
 pub use listings::{InfocmpMode, InfocmpOptions, infocmp};
 pub use outcome::{TicOptions, TicOutcome};
+pub use stopping::{message, status};
 pub use ti_devices::{Counted, File, MemTree, Tally, ToolError, Tree, TreeFault, place};
 pub use ti_list::{Layout, Order};
 pub use ti_session::session;

@@ -35,11 +35,7 @@ pub struct InfocmpOptions {
 }
 
 // The listing of each entry in turn.
-fn listings(
-    alloc: Global,
-    views: &[View<'_>],
-    layout: &Layout,
-) -> Result<Vec<u8>, AllocError>
+fn listings(alloc: Global, views: &[View<'_>], layout: &Layout) -> Result<Vec<u8>, AllocError>
     ensures { IfOk result (λ text. text.items ≡ listings (map (λ view. shown view) views.now) layout.now) }
 {
     let Some((first, others)) = views.split_first() else {

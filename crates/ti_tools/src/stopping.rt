@@ -122,45 +122,118 @@ fn write_line<W: Write>(writer: &mut Counted<W>, line: Line<'_>) -> Result<(), T
     ensures { Wrote (observed W.contents writer.old) (observed W.contents writer.new)
         (concat (line_parts line.entry.tool.now line.entry.head.now line.entry.subject.now line.entry.link.now line.entry.detail.now line.entry.end.now)) result }
 {
-    write_parts(writer, &[line.tool, line.head, line.subject, line.link, line.detail, line.end])
+    write_parts(
+        writer,
+        &[
+            line.tool,
+            line.head,
+            line.subject,
+            line.link,
+            line.detail,
+            line.end,
+        ],
+    )
 }
 
 // The line of a fault that has no name or number.
-fn write_plain<W: Write>(writer: &mut Counted<W>, tool: &[u8], error: &ToolError) -> Result<(), ToolError>
+fn write_plain<W: Write>(
+    writer: &mut Counted<W>,
+    tool: &[u8],
+    error: &ToolError,
+) -> Result<(), ToolError>
     ensures { Wrote (observed W.contents writer.old) (observed W.contents writer.new)
         (concat (line_parts tool.now (codes ": ") [] [] (plain_text error.now) (codes "\n"))) result }
 {
-    write_line(writer, Line { tool, head: b": ", subject: b"", link: b"", detail: plain_text(error), end: b"\n" })
+    write_line(
+        writer,
+        Line {
+            tool,
+            head: b": ",
+            subject: b"",
+            link: b"",
+            detail: plain_text(error),
+            end: b"\n",
+        },
+    )
 }
 
 // The line on a name.
-fn write_named<W: Write>(writer: &mut Counted<W>, tool: &[u8], head: &[u8], name: &[u8]) -> Result<(), ToolError>
+fn write_named<W: Write>(
+    writer: &mut Counted<W>,
+    tool: &[u8],
+    head: &[u8],
+    name: &[u8],
+) -> Result<(), ToolError>
     ensures { Wrote (observed W.contents writer.old) (observed W.contents writer.new)
         (concat (line_parts tool.now head.now name.now [] [] (codes "\"\n"))) result }
 {
-    write_line(writer, Line { tool, head, subject: name, link: b"", detail: b"", end: b"\"\n" })
+    write_line(
+        writer,
+        Line {
+            tool,
+            head,
+            subject: name,
+            link: b"",
+            detail: b"",
+            end: b"\"\n",
+        },
+    )
 }
 
 // The line on a bad entry.
-fn write_refusal<W: Write>(writer: &mut Counted<W>, tool: &[u8], name: &[u8], why: ReadError) -> Result<(), ToolError>
+fn write_refusal<W: Write>(
+    writer: &mut Counted<W>,
+    tool: &[u8],
+    name: &[u8],
+    why: ReadError,
+) -> Result<(), ToolError>
     ensures { Wrote (observed W.contents writer.old) (observed W.contents writer.new)
         (concat (line_parts tool.now (codes ": bad entry \"") name.now (codes "\" (") (refusal_name why) (codes ")\n"))) result }
 {
-    write_line(writer, Line { tool, head: b": bad entry \"", subject: name, link: b"\" (", detail: refusal_name(why), end: b")\n" })
+    write_line(
+        writer,
+        Line {
+            tool,
+            head: b": bad entry \"",
+            subject: name,
+            link: b"\" (",
+            detail: refusal_name(why),
+            end: b")\n",
+        },
+    )
 }
 
 // The line on a block that is too long.
-fn write_block<W: Write>(writer: &mut Counted<W>, tool: &[u8], number: usize) -> Result<(), ToolError>
+fn write_block<W: Write>(
+    writer: &mut Counted<W>,
+    tool: &[u8],
+    number: usize,
+) -> Result<(), ToolError>
     ensures { Wrote (observed W.contents writer.old) (observed W.contents writer.new)
         (concat (line_parts tool.now (codes ": ") [] (codes "block too long at line ") (decimal number) (codes "\n"))) result }
 {
     let mut buffer = Buffer::new();
     let detail = buffer.format(number).as_bytes();
-    write_line(writer, Line { tool, head: b": ", subject: b"", link: b"block too long at line ", detail, end: b"\n" })
+    write_line(
+        writer,
+        Line {
+            tool,
+            head: b": ",
+            subject: b"",
+            link: b"block too long at line ",
+            detail,
+            end: b"\n",
+        },
+    )
 }
 
 // The line on a fault.
-fn write_fault<W: Write>(writer: &mut Counted<W>, tool: &[u8], name: &[u8], error: &ToolError) -> Result<(), ToolError>
+fn write_fault<W: Write>(
+    writer: &mut Counted<W>,
+    tool: &[u8],
+    name: &[u8],
+    error: &ToolError,
+) -> Result<(), ToolError>
     ensures { Wrote (observed W.contents writer.old) (observed W.contents writer.new)
         (concat (message_parts tool.now name.now (Some error.now))) result }
 {
@@ -178,7 +251,11 @@ fn write_fault<W: Write>(writer: &mut Counted<W>, tool: &[u8], name: &[u8], erro
 }
 
 // The line on a capability that is unknown, or whose string is bad.
-fn write_capability<W: Write>(writer: &mut Counted<W>, tool: &[u8], name: &[u8]) -> Result<(), ToolError>
+fn write_capability<W: Write>(
+    writer: &mut Counted<W>,
+    tool: &[u8],
+    name: &[u8],
+) -> Result<(), ToolError>
     ensures { Wrote (observed W.contents writer.old) (observed W.contents writer.new)
         (concat (message_parts tool.now name.now None)) result }
 {

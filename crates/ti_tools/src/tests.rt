@@ -1,5 +1,6 @@
 //! Worked command lines, with answers from the manuals and by hand.
 mod compiling;
+mod stopping;
 
 use crate::{Job, UsageError, job};
 use std::alloc::{AllocError, Global};
