@@ -4,6 +4,7 @@ ghost use Rattle.ti_param.specs.Codes.{span};
 ghost use Rattle.ti_text.specs.Digits.{is_decimal_digit, decimal};
 
 /// The number that the digits at the front spell, 0 where there are none; `u32::MAX` stands for any greater one.
+#[inline(always)]
 pub(crate) fn number(text: &[u8]) -> (u32, &[u8])
     ensures value { result.0 ≡ min (decimal (span is_decimal_digit text.now).0) (2 ^ 32 - 1) }
     ensures rest { result.1.now ≡ (span is_decimal_digit text.now).1 }

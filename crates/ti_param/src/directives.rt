@@ -8,6 +8,7 @@ use crate::decimals::number;
 use ti_printing::printf::{Conversion, Directive, Flags};
 
 /// A printf form: flags, width, precision, conversion.
+#[inline(always)]
 #[tactic(auto, unfolding(crate::specs::inside::Codes::directive_after))]
 pub(crate) fn directive(text: &[u8]) -> Option<(Directive, &[u8])>
     ensures { option_map (λ found. (found.0, found.1.now)) result ≡ directive_after text.now }
@@ -32,6 +33,7 @@ pub(crate) fn directive(text: &[u8]) -> Option<(Directive, &[u8])>
 }
 
 /// Whether a width begins with a 0.
+#[inline(always)]
 fn begins_with_zero(text: &[u8]) -> bool
     ensures { result ≡ begins_zero (span is_decimal_digit text.now).0 }
 {
@@ -45,6 +47,7 @@ fn begins_with_zero(text: &[u8]) -> bool
 const MOST: u32 = 999;
 
 /// The flags of a printf form; `-` and `+` are flags only after a `:`, since they are operators too.
+#[inline(always)]
 #[tactic(auto, unfolding(crate::specs::inside::Codes::flags_after))]
 fn flags(text: &[u8]) -> (Flags, &[u8])
     ensures { (result.0, result.1.now) ≡ flags_after text.now }
@@ -56,6 +59,7 @@ fn flags(text: &[u8]) -> (Flags, &[u8])
 }
 
 /// The flags at the front, with `-` and `+` among them where `signed` is set.
+#[inline(always)]
 fn flags_at(text: &[u8], signed: bool) -> (Flags, &[u8])
     ensures { (result.0, result.1.now) ≡ flags_of (span (is_flag signed) text.now) }
 {
@@ -72,6 +76,7 @@ fn flags_at(text: &[u8], signed: bool) -> (Flags, &[u8])
 }
 
 /// The flags with that of a byte, which is one.
+#[inline(always)]
 fn flag(flags: Flags, byte: u8, signed: bool) -> Option<Flags>
     ensures { result ≡ (if is_flag signed byte then Some (with_flag flags byte) else None) }
 {
@@ -97,6 +102,7 @@ fn flag(flags: Flags, byte: u8, signed: bool) -> Option<Flags>
 }
 
 /// The precision of a printf form, where it has one; `.` without digits is 0.
+#[inline(always)]
 #[tactic(auto, unfolding(crate::specs::inside::Codes::precision_after))]
 fn precision(text: &[u8]) -> Option<(Option<u16>, &[u8])>
     ensures { option_map (λ found. (found.0, found.1.now)) result ≡ precision_after text.now }
@@ -114,6 +120,7 @@ fn precision(text: &[u8]) -> Option<(Option<u16>, &[u8])>
 }
 
 /// What a printf form's last letter asks for.
+#[inline(always)]
 fn conversion(letter: u8) -> Option<Conversion>
     ensures { result ≡ row_for letter conversions }
 {

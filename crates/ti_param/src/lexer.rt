@@ -14,6 +14,7 @@ pub(crate) struct Placed {
 }
 
 /// The token that a byte and the text after it begin with: the code after a `%`, else the byte itself.
+#[inline(always)]
 fn first_token(byte: u8, after: &[u8]) -> Option<(Token, &[u8])>
     ensures { option_map (λ found. (found.0, found.1.now)) result ≡ first_token byte after.now }
 {
@@ -55,6 +56,7 @@ impl<'a> Lexer<'a> {
     }
 
     /// Takes the next token; None at the end, and at a `%` that begins no code.
+    #[inline(always)]
     pub(crate) fn next_token(&mut self) -> Option<Placed>
         ensures token { MatchOption result (self.old.tokens ≡ []) (λ found. self.old.tokens ≡ found ∷ self.new.tokens) }
         ensures stop { self.new.stop ≡ self.old.stop }

@@ -29,5 +29,5 @@ pub use acceptor::{one_reading, reading_is_computed};
 pub use errors::ParamError;
 pub use expansion::expand;
 pub use reader::one_code;
-pub use ti_printing::{Line, PadError, pad};
+pub use ti_printing::{Line, PadError, pad, pad_owned};
 pub use values::{Statics, Value};

@@ -11,6 +11,7 @@ use crate::directives::directive;
 
 /// The code at the front of the text after a `%`.
 #[tactic(auto, unfolding(crate::specs::inside::Codes::token_after))]
+#[inline(always)]
 pub(crate) fn read_token(text: &[u8]) -> Option<(Token, &[u8])>
     ensures { option_map (λ found. (found.0, found.1.now)) result ≡ token_after text.now }
 {
@@ -26,6 +27,7 @@ pub(crate) fn read_token(text: &[u8]) -> Option<(Token, &[u8])>
 
 /// The code of a letter that begins no printf form.
 #[tactic(auto, unfolding(crate::specs::inside::Codes::letter_after))]
+#[inline(always)]
 fn lettered_token(letter: u8, rest: &[u8]) -> Option<(Token, &[u8])>
     ensures { option_map (λ found. (found.0, found.1.now)) result ≡ letter_after letter rest.now }
 {
@@ -40,6 +42,7 @@ fn lettered_token(letter: u8, rest: &[u8]) -> Option<(Token, &[u8])>
 }
 
 /// The code that is this letter alone.
+#[inline(always)]
 fn simple_token(letter: u8) -> Option<Token>
     ensures { result ≡ row_for letter simple_tokens }
 {
@@ -60,6 +63,7 @@ fn simple_token(letter: u8) -> Option<Token>
 }
 
 /// The operator that is this letter.
+#[inline(always)]
 fn operator_of(letter: u8) -> Option<Operator>
     ensures { result ≡ row_for letter operators }
 {
@@ -82,6 +86,7 @@ fn operator_of(letter: u8) -> Option<Operator>
 }
 
 /// `%p1` to `%p9`, after the `p`.
+#[inline(always)]
 #[tactic(auto, unfolding(crate::specs::inside::Codes::parameter_after))]
 fn parameter(text: &[u8]) -> Option<(Token, &[u8])>
     ensures { option_map (λ found. (found.0, found.1.now)) result ≡ parameter_after text.now }
@@ -112,6 +117,7 @@ fn fetch(text: &[u8]) -> Option<(Token, &[u8])>
 }
 
 /// `%'c'`, after the first quote: the value of the byte, whatever it is.
+#[inline(always)]
 #[tactic(auto, unfolding(crate::specs::inside::Codes::byte_after))]
 fn byte(text: &[u8]) -> Option<(Token, &[u8])>
     ensures { option_map (λ found. (found.0, found.1.now)) result ≡ byte_after text.now }
@@ -125,6 +131,7 @@ fn byte(text: &[u8]) -> Option<(Token, &[u8])>
 }
 
 /// `%{n}`, after the brace: one or more digits, at most `LARGEST`.
+#[inline(always)]
 #[tactic(auto, unfolding(crate::specs::inside::Codes::number_after))]
 fn number_constant(text: &[u8]) -> Option<(Token, &[u8])>
     ensures { option_map (λ found. (found.0, found.1.now)) result ≡ number_after text.now }

@@ -3,3 +3,4 @@ pub mod Digits
 pub mod Layouts
 pub mod Numerals
 pub mod Paddings
+pub mod Plain

@@ -8,4 +8,4 @@
 pub mod padding;
 pub mod printf;
 
-pub use padding::{Line, PadError, pad};
+pub use padding::{Line, PadError, pad, pad_owned};

@@ -7,6 +7,7 @@ ghost use Rattle.ti_printing.specs.inside.Padding.{parts_of, padding_at, after_b
 #[cfg(test)]
 mod tests;
 
+use memchr::memchr;
 use std::alloc::{AllocError, Global};
 use thiserror::Error;
 use ti_text::room::fill_reserved;
@@ -56,6 +57,42 @@ impl From<AllocError> for PadError {
 /// `TooMuch` where the text asks for more than 65,536 pad bytes, which is found before any room is made;
 /// `Memory` where the room was refused.
 pub fn pad(alloc: Global, text: &[u8], lines: u32, line: &Line) -> Result<Vec<u8>, PadError>
+    ensures ok { IfOk result (λ out. out.items ≡ padded text.now lines line.now) }
+    ensures too_much { (result ≡ Err PadError.TooMuch) ↔ (65536 < padding_of text.now lines line.now) }
+{
+    match memchr(b'$', text) {
+        None => Ok(Vec::from_slice(alloc, text)?),
+        Some(_) => pad_parts(alloc, text, lines, line),
+    }
+}
+
+/// The same of a text that the caller gives up: one without padding is given back as it is, and takes no memory.
+///
+/// # Errors
+///
+/// Those of [`pad`].
+pub fn pad_owned(
+    alloc: Global,
+    text: Vec<u8>,
+    lines: u32,
+    line: &Line,
+) -> Result<Vec<u8>, PadError>
+    ensures ok { IfOk result (λ out. out.items ≡ padded text.items lines line.now) }
+    ensures too_much { (result ≡ Err PadError.TooMuch) ↔ (65536 < padding_of text.items lines line.now) }
+{
+    match memchr(b'$', text.as_slice()) {
+        None => Ok(text),
+        Some(_) => pad_parts(alloc, text.as_slice(), lines, line),
+    }
+}
+
+// The same, part by part.
+fn pad_parts(
+    alloc: Global,
+    text: &[u8],
+    lines: u32,
+    line: &Line,
+) -> Result<Vec<u8>, PadError>
     ensures ok { IfOk result (λ out. out.items ≡ padded text.now lines line.now) }
     ensures too_much { (result ≡ Err PadError.TooMuch) ↔ (65536 < padding_of text.now lines line.now) }
 {

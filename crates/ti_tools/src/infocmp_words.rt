@@ -134,7 +134,7 @@ pub fn infocmp<'a>(alloc: Global) -> Result<Command<'a>, AllocError>
     ensures local { IfOk result (λ command. (fields_of command).has_globals ≡ false) }
 {
     let command = Command::new(alloc, "infocmp")
-        .about("Print entries as source, compare them, or tell one by others.")
+        .about("List and compare entries, as source or side by side.")
         .after_help(NOTES);
     let command = first_modes(alloc, command)?;
     let command = other_modes(alloc, command)?;

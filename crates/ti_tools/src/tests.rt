@@ -1,6 +1,7 @@
 //! Worked command lines, with answers from the manuals and by hand.
 mod compiling;
 mod infocmp;
+mod stopping;
 
 use crate::{Job, UsageError, job};
 use std::alloc::{AllocError, Global};

@@ -10,7 +10,7 @@ use crate::parameters::parameters;
 use memchr::memrchr;
 use std::alloc::{AllocError, Global};
 use ti_compiled::View;
-use ti_param::{Line, PadError, ParamError, Statics, expand, pad};
+use ti_param::{Line, PadError, ParamError, Statics, expand, pad, pad_owned};
 
 /// The exit status of a capability that is unknown, or of which the string is bad.
 pub const BAD_COMMAND: u8 = 4;
@@ -29,6 +29,21 @@ fn padded_once(alloc: Global, text: &[u8], line: &Line) -> Result<Option<Vec<u8>
     ensures { IfOk result (λ found. items_of found ≡ padded_once line.now text.now) }
 {
     match pad(alloc, text, 1, line) {
+        Ok(bytes) => Ok(Some(bytes)),
+        Err(PadError::TooMuch) => Ok(None),
+        Err(PadError::Memory) => Err(AllocError),
+    }
+}
+
+// The same of a string that an expansion made.
+fn padded_output(
+    alloc: Global,
+    output: Vec<u8>,
+    line: &Line,
+) -> Result<Option<Vec<u8>>, AllocError>
+    ensures { IfOk result (λ found. items_of found ≡ padded_once line.now output.items) }
+{
+    match pad_owned(alloc, output, 1, line) {
         Ok(bytes) => Ok(Some(bytes)),
         Err(PadError::TooMuch) => Ok(None),
         Err(PadError::Memory) => Err(AllocError),
@@ -74,7 +89,7 @@ fn string(
     let mut after = *statics;
     match expand(alloc, text, &parameters(cap, words), &mut after) {
         Ok(output) => {
-            let bytes = padded_once(alloc, output.as_slice(), line)?;
+            let bytes = padded_output(alloc, output, line)?;
             if bytes.is_some() {
                 *statics = after;
             }

@@ -1,0 +1,86 @@
+//! Worked ends of tools, and the command lines of `tput`.
+use super::words;
+use crate::{Counted, Job, ToolError, UsageError, job, message, status};
+use std::alloc::{AllocError, Global};
+use std::test::Fail;
+use ti_compiled::ReadError;
+
+// A job of `tput`.
+fn tput_job(alloc: Global) -> Result<Job, AllocError> {
+    Ok(Job::Tput {
+        lines: false,
+        term: None,
+        rate: 9600,
+        words: words(alloc, &["cup", "4", "9"])?,
+    })
+}
+
+#[test]
+fn the_words_of_tput(rt: HostRuntime) -> Result<(), Fail> {
+    let alloc = rt.alloc();
+    let given = words(alloc, &["ti", "tput", "--rate", "9600", "cup", "4", "9"])?;
+    assert!(rt; job(alloc, given.as_slice())? == tput_job(alloc)?);
+    let refused: [&[&str]; 4] = [
+        &["ti", "tput"],
+        &["ti", "tput", "-S", "cols"],
+        &["ti", "tput", "--rate", "4294967296", "cols"],
+        &[
+            "ti", "tput", "u0", "0", "1", "2", "3", "4", "5", "6", "7", "8", "9",
+        ],
+    ];
+    for texts in refused {
+        let given = words(alloc, texts)?;
+        assert!(rt; job(alloc, given.as_slice()) == Err(UsageError::Usage));
+    }
+    Ok(())
+}
+
+#[test]
+fn statuses(rt: HostRuntime) -> Result<(), Fail> {
+    let tput = tput_job(rt.alloc())?;
+    assert_eq!(rt; status(&tput, &ToolError::NoTerminal, false), 3);
+    assert_eq!(rt; status(&tput, &ToolError::ReadFault, false), 3);
+    assert_eq!(rt; status(&tput, &ToolError::ReadFault, true), 255);
+    assert_eq!(rt; status(&tput, &ToolError::Usage, false), 2);
+    let tic = Job::Tic {
+        check: false,
+        dir: None,
+        file: None,
+    };
+    assert_eq!(rt; status(&tic, &ToolError::WriteFault, false), 1);
+    assert_eq!(rt; status(&Job::Session, &ToolError::Usage, false), 2);
+    Ok(())
+}
+
+#[test]
+fn messages(rt: HostRuntime) -> Result<(), Fail> {
+    let alloc = rt.alloc();
+    let tput = tput_job(alloc)?;
+    let cases: [(&str, Option<&ToolError>, &[u8]); 6] = [
+        (
+            "nosuch",
+            Some(&ToolError::NoTerminal),
+            b"tput: unknown terminal \"nosuch\"\n",
+        ),
+        (
+            "dumb",
+            Some(&ToolError::BadEntry(ReadError::Magic)),
+            b"tput: bad entry \"dumb\" (Magic)\n",
+        ),
+        ("zz", None, b"tput: unknown terminfo capability \"zz\"\n"),
+        ("init", None, b"tput: bad string \"init\"\n"),
+        ("", Some(&ToolError::Usage), b"tput: no terminal named\n"),
+        (
+            "",
+            Some(&ToolError::BlockTooLong(12)),
+            b"tput: block too long at line 12\n",
+        ),
+    ];
+    for (name, error, expected) in cases {
+        let mut writer = Counted::new(Vec::new(alloc));
+        assert!(rt; message(&tput, name, error, &mut writer) == Ok(()));
+        let written: Vec<u8> = writer.into_inner();
+        assert!(rt; written.as_slice() == expected, "{written:?}");
+    }
+    Ok(())
+}
