@@ -71,12 +71,7 @@ pub fn pad(alloc: Global, text: &[u8], lines: u32, line: &Line) -> Result<Vec<u8
 /// # Errors
 ///
 /// Those of [`pad`].
-pub fn pad_owned(
-    alloc: Global,
-    text: Vec<u8>,
-    lines: u32,
-    line: &Line,
-) -> Result<Vec<u8>, PadError>
+pub fn pad_owned(alloc: Global, text: Vec<u8>, lines: u32, line: &Line) -> Result<Vec<u8>, PadError>
     ensures ok { IfOk result (λ out. out.items ≡ padded text.items lines line.now) }
     ensures too_much { (result ≡ Err PadError.TooMuch) ↔ (65536 < padding_of text.items lines line.now) }
 {
@@ -87,12 +82,7 @@ pub fn pad_owned(
 }
 
 // The same, part by part.
-fn pad_parts(
-    alloc: Global,
-    text: &[u8],
-    lines: u32,
-    line: &Line,
-) -> Result<Vec<u8>, PadError>
+fn pad_parts(alloc: Global, text: &[u8], lines: u32, line: &Line) -> Result<Vec<u8>, PadError>
     ensures ok { IfOk result (λ out. out.items ≡ padded text.now lines line.now) }
     ensures too_much { (result ≡ Err PadError.TooMuch) ↔ (65536 < padding_of text.now lines line.now) }
 {
