@@ -230,6 +230,7 @@ fn the_largest_extended_entry(rt: HostRuntime) -> Result<(), Fail> {
     let larger = with_cbt(rt.alloc(), "x", 32748, ",cols#32768")?;
     let short = with_cbt(rt.alloc(), "x", 32747, ",cols#80")?;
     let mut database = source(rt.alloc(), &[&largest])?;
+    assert!(rt; database.len() == 1);
     let size = database.compiled(0).map_or(0, |entry| entry.len());
     assert_eq!(rt; size, 32768);
     assert_eq!(rt; database.replace(0, &larger), Ok(Edited {}));
