@@ -36,11 +36,7 @@ fn padded_once(alloc: Global, text: &[u8], line: &Line) -> Result<Option<Vec<u8>
 }
 
 // The same of a string that an expansion made.
-fn padded_output(
-    alloc: Global,
-    output: Vec<u8>,
-    line: &Line,
-) -> Result<Option<Vec<u8>>, AllocError>
+fn padded_output(alloc: Global, output: Vec<u8>, line: &Line) -> Result<Option<Vec<u8>>, AllocError>
     ensures { IfOk result (λ found. items_of found ≡ padded_once line.now output.items) }
 {
     match pad_owned(alloc, output, 1, line) {
