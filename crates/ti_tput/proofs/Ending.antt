@@ -2,7 +2,7 @@
 use Rattle.std.proofs.Common.{◌≡◌, ℕ, ◌+◌, ◌<◌, ◌≤◌, List, [], ◌∷◌, ◌++◌, length, Result, Ok, Err, refl, sym, ap, ◌∙◌, subst, arith, append_assoc, append-nil, inl, inr}
 use Rattle.std.proofs.lemmas.Grind.{flat_map-append}
 use Rattle.std.specs.List.{AllByRecursion, flat_map}
-use Rattle.std.specs.Io.KnownBytes.{Consumes, IsAtEnd}
+use Rattle.std.specs.Io.KnownBytes.{Consumes}
 use Rattle.ti_devices.proofs.LineSteps.{AllByRecursion-push}
 use Rattle.ti_devices.proofs.Written.{Consumes-then, Gives-none, Gives-then, TakesAll-none, TakesAll-then, TakesFront-then}
 use Rattle.ti_devices.specs.Counted.{Observed}

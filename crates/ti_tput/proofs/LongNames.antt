@@ -1,10 +1,9 @@
 -- The part of a names field after its last `|`.
-use Rattle.std.proofs.Common.{◌≡◌, ℕ, ◌+◌, ◌-◌, ◌<◌, ◌≤◌, Bool, true, false, not, List, length, take, drop, get_or, refl, sym, subst, ap, ◌∙◌, eqb, arith}
-use Rattle.std.specs.List.{after_last, suffix_len}
-use Rattle.std.proofs.lemmas.Bool.{true≢false}
+use Rattle.std.proofs.Common.{◌≡◌, ℕ, ◌+◌, ◌-◌, ◌<◌, Bool, true, false, not, List, length, take, drop, get_or, refl, sym, subst, ap, ◌∙◌, eqb, arith}
+use Rattle.std.specs.List.{suffix_len}
 use Rattle.std.proofs.lemmas.List.{take_all, length-drop}
 use Rattle.std.proofs.lemmas.List.Sums.{suffix_len_is}
-use Rattle.memchr.specs.Find.{IsLastByte, Nowhere, NoneAfter, Passes, is_byte}
+use Rattle.memchr.specs.Find.{Nowhere, NoneAfter, Passes, is_byte}
 use Rattle.ti_tput.specs.Results.{long_name}
 
 not_passing : (b : Bool) → (b ≡ true → ⊥) → not b ≡ true

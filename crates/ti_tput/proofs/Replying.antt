@@ -1,5 +1,5 @@
 -- What a bad command leaves, and lines one after another.
-use Rattle.std.proofs.Common.{◌≡◌, ◌≢◌, ℕ, suc, ◌+◌, ◌<◌, ◌≤◌, Bool, true, false, List, [], ◌∷◌, ◌++◌, length, take, Option, Some, None, refl, sym, subst, ap, ◌∙◌, cond, bytes_eq, ltb, append_assoc, append-nil, arith}
+use Rattle.std.proofs.Common.{◌≡◌, ◌≢◌, ℕ, suc, ◌<◌, ◌≤◌, Bool, true, false, List, [], ◌∷◌, length, take, Option, Some, None, refl, sym, subst, ap, ◌∙◌, cond, bytes_eq, ltb, arith}
 use Rattle.std.specs.Prelude.{codes, ℤ}
 use Rattle.std.proofs.lemmas.Bool.{lt-ltb, ne_eqb, ltb-true, ltb-false}
 use Rattle.std.proofs.lemmas.List.{take_all, length-take, nil_from_length}
@@ -8,7 +8,7 @@ use Rattle.ti_printing.specs.declared.padding.Line.{Line}
 use Rattle.ti_tput.specs.Entries.{Entry, Holding, flag_held, number_held, text_held, holding_of, line_of}
 use Rattle.ti_tput.specs.Parameters.{parameters}
 use Rattle.ti_tput.specs.Results.{Reply, holding_reply, init_strings, named_reply, padded_all, padded_once, reset_strings, sent, sent_expansion, string_reply, tput_result}
-use Rattle.ti_tput.specs.Runs.{Course, Step, bad_step, command_step, line_step, replied, steps, words_of}
+use Rattle.ti_tput.specs.Runs.{Course, bad_step, command_step, line_step, replied, words_of}
 
 -- a reply of status 4 writes nothing and leaves the variables
 Leaves : Reply → List ℤ → Type 0

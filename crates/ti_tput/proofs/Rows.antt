@@ -1,12 +1,12 @@
 -- Worked rows of the definitions.
-use Rattle.std.proofs.Common.{◌≡◌, refl, Some, None, List, [], ◌∷◌, ℕ, ap}
+use Rattle.std.proofs.Common.{◌≡◌, refl, Some, None, [], ◌∷◌}
 use Rattle.std.specs.Prelude.{codes, pos, neg_ℤ, replicate}
 use Rattle.ti_caps.specs.declared.capability.Kind.TheVariants.{Flag, Number, Text}
 use Rattle.ti_caps.specs.Names.{flag_names, number_names, text_names}
-use Rattle.ti_caps.specs.Tables.{capability, capability_named, names, place_of}
+use Rattle.ti_caps.specs.Tables.{capability, capability_named, names}
 use Rattle.ti_compiled.specs.Values.{contents, content_true, content_number, content_text}
 use Rattle.ti_param.specs.Meaning.{number, text}
-use Rattle.ti_tput.specs.Entries.{Entry, holding_of, line_of}
+use Rattle.ti_tput.specs.Entries.{Entry, holding_of}
 use Rattle.ti_tput.specs.Parameters.{spelled, parameters}
 use Rattle.ti_tput.specs.Results.{tput_result, reply}
 

@@ -1,11 +1,10 @@
 -- What a terminal holds after a line.
-use Rattle.std.proofs.Common.{◌≡◌, ◌≢◌, ℕ, suc, ◌+◌, ◌<◌, List, [], length, take, Option, Some, None, Result, Ok, Err, refl, sym, subst, ap, ◌∙◌, arith}
+use Rattle.std.proofs.Common.{◌≡◌, ◌≢◌, ℕ, suc, ◌+◌, ◌<◌, List, [], length, take, Option, Some, None, refl, sym, subst, ap, ◌∙◌, arith}
 use Rattle.std.specs.Prelude.{min, ℤ}
-use Rattle.ti_tput.specs.Commands.{Answers}
 use Rattle.ti_tput.specs.Entries.{Entry, entry_of, line_of}
 use Rattle.ti_tput.specs.Replies.{reply_of}
 use Rattle.ti_tput.specs.Results.{Reply, tput_result}
-use Rattle.ti_tput.specs.Runs.{Course, Step, bad_step, line_step, words_of}
+use Rattle.ti_tput.specs.Runs.{Course, Step, line_step, words_of}
 use Rattle.ti_tput.specs.Terminal.{Holds}
 use Rattle.ti_tput.specs.declared.replies.TputOutcome.{TputOutcome}
 use Rattle.ti_tput.specs.declared.terminal.Terminal.{Terminal}

@@ -1,6 +1,6 @@
 -- What an entry has of a capability that is asked for by its name (terminfo(5)), and its line (terminfo(5), "Delays and Padding").
-use Rattle.std.specs.Prelude.{ℕ, Bool, true, false, if◌then◌else◌, List, [], codes, slice_index, Option, Some, None, option_map, unwrap_or}
-use Rattle.ti_caps.specs.Tables.{Capability, capability_named}
+use Rattle.std.specs.Prelude.{ℕ, Bool, false, if◌then◌else◌, List, codes, slice_index, Option, Some, None, option_map, unwrap_or}
+use Rattle.ti_caps.specs.Tables.{capability_named}
 use Rattle.ti_caps.specs.declared.capability.Kind.{Kind}
 use Rattle.ti_caps.specs.declared.capability.Kind.TheVariants.{Flag, Number, Text}
 use Rattle.ti_compiled.specs.Values.{Content, Contents}

@@ -1,5 +1,5 @@
 -- What `tput` answers to a command (tput(1)): bytes, exit status and static variables.
-use Rattle.std.specs.Prelude.{◌≡◌, ℕ, ◌||◌, nat_lt, ◌==◌, Bool, true, false, not, if◌then◌else◌, List, [], ◌∷◌, ◌++◌, length, codes, bytes_eq, Option, Some, None, is_some, option_map, ℤ}
+use Rattle.std.specs.Prelude.{ℕ, ◌||◌, nat_lt, ◌==◌, Bool, false, if◌then◌else◌, List, [], ◌∷◌, ◌++◌, length, codes, bytes_eq, Option, Some, None, is_some, ℤ}
 use Rattle.std.specs.Fmt.{decimal}
 use Rattle.std.specs.List.{after_last}
 use Rattle.ti_param.specs.Expansion.{Expansion, expanded, bad_format, stack_full, expansion}

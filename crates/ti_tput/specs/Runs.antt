@@ -1,5 +1,5 @@
 -- What `tput -S` answers to the lines of its input (tput(1); the count of bad lines and the status are own).
-use Rattle.std.specs.Prelude.{ℕ, zero, suc, ◌+◌, ◌||◌, ◌==◌, nat_lt, min, Bool, if◌then◌else◌, List, [], ◌∷◌, ◌++◌, length, filter, replicate, Option, Some, None, ℤ, pos}
+use Rattle.std.specs.Prelude.{◌≡◌, ℕ, zero, suc, ◌+◌, ◌||◌, ◌==◌, nat_lt, min, Bool, if◌then◌else◌, List, [], ◌∷◌, ◌++◌, length, filter, replicate, Option, Some, None, ℤ, pos}
 use Rattle.std.specs.List.{slice_split}
 use Rattle.ti_tput.specs.Entries.{Entry}
 use Rattle.ti_tput.specs.Results.{Reply, tput_result}
@@ -76,3 +76,10 @@ pub record Run : Type 0 where
 abbrev pub tput_run : Entry → ℕ → List (List ℕ) → Run
 tput_run entry rate lines =
     let all = steps entry rate start lines in record { bytes = all.bytes; status = run_status all.after.bad }
+
+-- ---- laws
+
+-- a command that would end with status 4 writes nothing, and leaves the variables
+abbrev pub BadCommandsChangeNothing : Type 0
+BadCommandsChangeNothing = (entry : Entry) (words : List (List ℕ)) (rate : ℕ) (statics : List ℤ) (reply : Reply)
+    → tput_result entry words rate statics ≡ Some reply → reply.status ≡ 4 → (reply.bytes ≡ []) × (reply.statics ≡ statics)

@@ -1,5 +1,5 @@
 -- Where the entry of a terminal is looked for, and what its file says (term(5), "Storage location"; tput(1)).
-use Rattle.std.specs.Prelude.{◌≡◌, ℕ, suc, ◌≤◌, ◌<◌, ◌==◌, Bool, true, false, if◌then◌else◌, List, [], ◌∷◌, ◌++◌, length, map, take, codes, Option, Some, None, option_map, Result, Ok, Err, ◌⊎◌}
+use Rattle.std.specs.Prelude.{◌≡◌, ℕ, suc, ◌≤◌, ◌<◌, ◌==◌, true, false, if◌then◌else◌, List, [], ◌∷◌, ◌++◌, length, map, take, codes, Option, Some, None, option_map, Result, Ok, Err, ◌⊎◌}
 use Rattle.std.specs.List.{slice_split}
 use Rattle.std.specs.Global.{Vec}
 use Rattle.ti_compiled.specs.Reading.{Reads, Refused}

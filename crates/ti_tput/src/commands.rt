@@ -3,6 +3,7 @@ ghost use Rattle.std.specs.Prelude.{◌≡◌, ℕ, ℤ, OnErr, map, pos, replic
 ghost use Rattle.ti_tput.specs.Entries.{entry_of, line_of};
 ghost use Rattle.ti_tput.specs.Commands.{Answers, AnswersAlone};
 ghost use Rattle.ti_tput.specs.Results.{tput_result};
+ghost use Rattle.ti_tput.specs.Runs.{BadCommandsChangeNothing};
 
 use crate::entries::terminal_line;
 use crate::replies::{TputOutcome, answer_name};
@@ -64,3 +65,8 @@ pub fn tput(
     let mut statics = Statics::new();
     answer(alloc, view, &line, words, &mut statics)
 }
+
+/// A command that would end with status 4 writes nothing, and leaves the static variables.
+pub fn bad_commands_change_nothing()
+    ensures { BadCommandsChangeNothing }
+{}

@@ -1,4 +1,9 @@
 //! `tput`: the bytes that drive a terminal, from a compiled entry, as tput(1) has it.
+//!
+//! - `commands`: what one command is answered; `replies` makes its bytes and status, of what `entries` finds
+//!   in the entry and of the words, which `parameters` reads as numbers and texts
+//! - `streaming`: commands read line by line; `terminal` is what takes them, and `words` parts a line
+//! - `searching`: where an entry is looked for, its file, and the entry in it
 #![tactic(auto)]
 
 mod commands;
@@ -10,7 +15,7 @@ mod streaming;
 mod terminal;
 mod words;
 
-pub use commands::tput;
+pub use commands::{bad_commands_change_nothing, tput};
 pub use replies::TputOutcome;
 pub use searching::{entry, locate, places};
 pub use streaming::tput_lines;

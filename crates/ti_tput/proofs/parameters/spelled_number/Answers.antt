@@ -1,5 +1,4 @@
 use Rattle.std.proofs.Common.{◌∙◌, sym, arith, rules}
-use Rattle.ti_tput.proofs.Rows.{row-number}
 use Rattle.ti_tput.proofs.Numbers.{spelled-parse, spelled-plus, spelled-not_text}
 use Rattle.ti_tput.proofs.parameters.spelled_number.Goals as goal
 

@@ -1,4 +1,4 @@
-use Rattle.std.proofs.Common.{◌≡◌, ◌∙◌, ℕ, true, false, sym, rules}
+use Rattle.std.proofs.Common.{◌≡◌, true, false, rules}
 use Rattle.std.specs.Prelude.{bytes_eq, codes}
 use Rattle.ti_tput.proofs.Named.{named_reply-init}
 use Rattle.ti_tput.proofs.replies.answer_name.Goals as goal

@@ -1,9 +1,8 @@
-use Rattle.std.proofs.Common.{◌≡◌, ◌+◌, ◌∷◌, [], List, ℕ, Option, Some, None, map, drop, rules, arith, sym, subst, refl, ◌∙◌, length}
+use Rattle.std.proofs.Common.{◌+◌, Some, None, rules, ◌∙◌}
 use Rattle.std.specs.String.{string_bytes}
 use Rattle.std.proofs.lemmas.List.{drop_all}
 use Rattle.ti_devices.specs.Paths.{path_of}
-use Rattle.ti_devices.specs.Tree.{Files, Reads}
-use Rattle.ti_tput.specs.Searching.{Finds}
+use Rattle.ti_devices.specs.Tree.{Reads}
 use Rattle.ti_tput.proofs.Searches.{Finds-here, Finds-later, Finds-none, places-from}
 use Rattle.ti_tput.proofs.searching.search.Goals as goal
 

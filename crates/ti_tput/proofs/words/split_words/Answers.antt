@@ -1,5 +1,4 @@
-use Rattle.std.proofs.Common.{◌≡◌, length, arith, rules, sym, take, ◌++◌, map}
-use Rattle.ti_tput.specs.Runs.{words_of}
+use Rattle.std.proofs.Common.{◌≡◌, length, rules}
 use Rattle.ti_tput.proofs.Parting.{take_front}
 use Rattle.ti_tput.proofs.words.split_words.Goals as goal
 

@@ -1,4 +1,4 @@
-use Rattle.std.proofs.Common.{◌≡◌, ◌++◌, ◌-◌, ◌≤◌, length, take, map}
+use Rattle.std.proofs.Common.{◌≡◌, ◌++◌, ◌≤◌, length, map}
 use Rattle.arrayvec.specs.ArrayVec.{array_vec_len}
 use Rattle.ti_tput.specs.Runs.{words_of}
 use Rattle.ti_tput.proofs.words.split_words.Given as goal
