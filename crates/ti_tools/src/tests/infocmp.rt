@@ -65,21 +65,22 @@ fn words_of_infocmp(rt: HostRuntime) -> Result<(), Fail> {
         first_dir: places.pop(),
     };
     assert!(rt; job(alloc, all.as_slice())? == expected);
-    for refused in [
-        ["-c", "-n", "a", "b"].as_slice(),
-        &["-d", "a"],
-        &["-n", "a"],
-        &["-w", "19", "a"],
-        &["-w", "4097", "a"],
-    ] {
-        let mut line = words(alloc, &["ti", "infocmp"])?;
-        for word in refused {
-            line.push(String::from_str(alloc, word)?)?;
-        }
-        assert!(rt;
-            job(alloc, line.as_slice()) == Err(UsageError::Usage),
-            "{refused:?}"
-        );
+    Ok(())
+}
+
+#[test]
+fn words_that_infocmp_refuses(rt: HostRuntime) -> Result<(), Fail> {
+    let alloc = rt.alloc();
+    let refused: [&[&str]; 5] = [
+        &["ti", "infocmp", "-c", "-n", "a", "b"],
+        &["ti", "infocmp", "-d", "a"],
+        &["ti", "infocmp", "-n", "a"],
+        &["ti", "infocmp", "-w", "19", "a"],
+        &["ti", "infocmp", "-w", "4097", "a"],
+    ];
+    for texts in refused {
+        let given = words(alloc, texts)?;
+        assert!(rt; job(alloc, given.as_slice()) == Err(UsageError::Usage));
     }
     Ok(())
 }
