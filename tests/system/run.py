@@ -126,7 +126,7 @@ def fault(name, path, lines, pool, names, room):
     """What differs for one entry, or None."""
     with open(path, "rb") as file:
         magic = file.read(2)
-    if magic != b"\x1a\x01":
+    if magic not in (b"\x1a\x01", b"\x1e\x02"):
         return None if lines == ["refused Magic"] else f"magic {magic.hex()}, but {lines[:1]}"
     if any(it in lines for it in REFUSED_FLAGS):
         folder, had = room, without_refused_flags(path, names[0], room)
