@@ -3,8 +3,7 @@
 
 Every file below the system's terminfo folders is read by `ti_probe`, which prints what
 a view shows; Python's curses module asks ncurses for the same entry, each of the 497
-capabilities by its name. Entries in the extended number format must be refused as
-`Magic`. ncurses opens no hardcopy terminal (`hc`) and no generic one (`gn`), so it is
+capabilities by its name. A file of neither format must be refused as `Magic`. ncurses opens no hardcopy terminal (`hc`) and no generic one (`gn`), so it is
 asked for a copy of such an entry without that flag.
 
 The names of the capabilities are compared with the arrays `boolnames`, `numnames` and
