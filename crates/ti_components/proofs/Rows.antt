@@ -1,6 +1,8 @@
 -- The rows of a graph that is kept as one list of edges and the places where the rows start.
-use Rattle.std.proofs.Common.{◌≡◌, ℕ, zero, suc, ◌-◌, ◌≤◌, ◌⊎◌, inl, inr, List, [], ◌∷◌, ◌++◌, length, take, drop, Option, Some, slice_get, refl, sym, ap, arith, length-drop, length-append}
+use Rattle.std.proofs.Common.{◌≡◌, ℕ, zero, suc, ◌+◌, ◌-◌, ◌<◌, ◌≤◌, ◌⊎◌, inl, inr, List, [], ◌∷◌, ◌++◌, length, take, drop, Option, Some, slice_get, refl, sym, ap, arith, length-drop, length-append, length-take, get_or, sum_by, false, ◌==◌, ◌∙◌}
 use Rattle.std.proofs.lemmas.List.{drop_all, take_rest, drop-append-le, take-append-le}
+use Rattle.std.proofs.lemmas.List.Sums.{sum_by-cons}
+use Rattle.std.proofs.lemmas.Bool.{false≢true}
 use Rattle.std.proofs.lemmas.Option.{none-some, same_Some}
 use Rattle.ti_components.specs.Graph.{Rows, AddsEdge, row_from, rows_of, AreStarts, IsRow}
 
@@ -75,3 +77,25 @@ row_read targets (s ∷ (next ∷ starts)) zero start end h e (inr f) = absurd (
 row_read targets (s ∷ (next ∷ starts)) (suc i) start end h e f =
     let later = row_read targets (next ∷ starts) i start end h.1 e (elim f [ inl x ↦ inl x | inr x ↦ inr (omega (arith, x.0), x.1) ]) in
     record { climbs = later.climbs; within = later.within; row = later.row }
+
+-- ---- all edges
+
+-- the rows have the edges from the first start on
+pub edges_from : (targets : List (Option ℕ)) (start : ℕ) (starts : List ℕ) → AreStarts targets (start ∷ starts) → start + sum_by length (rows_of targets (start ∷ starts)) ≡ length targets
+edges_from targets s [] h =
+    let one = sum_by-cons length (drop s targets) [] in
+    omega (arith, one, length-drop s targets)
+edges_from targets s (next ∷ starts) h =
+    let within : next ≤ length targets = AreStarts-head targets next starts h.1 in
+    let rest = edges_from targets next starts h.1 in
+    let one = sum_by-cons length (take (next - s) (drop s targets)) (rows_of targets (next ∷ starts)) in
+    let climbs = h.0 in
+    omega (arith, one, length-take (next - s) (drop s targets), length-drop s targets)
+
+-- what is read of a graph that has a node
+pub edges_read : (targets : List (Option ℕ)) (starts : List ℕ) (rows : Rows) (len first nodes : ℕ) → AreStarts targets starts → rows_of targets starts ≡ rows → len ≡ length targets → nodes ≡ length starts → nodes == 0 ≡ false → first ≡ get_or starts 0 first → (first ≤ len) × (len - first ≡ sum_by length rows)
+edges_read targets [] rows len first nodes h r l n some e = absurd (false≢true (sym some ∙ ap (λ k. k == 0) n))
+edges_read targets (start ∷ starts) rows len first nodes h r l n some e =
+    let all = edges_from targets start starts h in
+    let same : sum_by length (rows_of targets (start ∷ starts)) ≡ sum_by length rows = ap (sum_by length) r in
+    (omega arith, omega arith)

@@ -1,5 +1,5 @@
 // A directed graph in two lists: the ends of all edges, and where the edges of each node begin.
-ghost use Rattle.std.specs.Prelude.{◌≡◌, ◌<◌, ◌↔◌, ◌++◌, ◌∷◌, [], ℕ, Some, slice_get, length, IsTrue, OnOk, OnErr, IfOk};
+ghost use Rattle.std.specs.Prelude.{◌≡◌, ◌<◌, ◌↔◌, ◌++◌, ◌∷◌, [], ℕ, Some, slice_get, sum_by, length, IsTrue, OnOk, OnErr, IfOk};
 ghost use Rattle.ti_components.specs.Graph.{AddsEdge, AreStarts, IsGraph, IsRow};
 
 use std::alloc::{AllocError, Global};
@@ -39,6 +39,16 @@ impl Graph {
         ensures { result ≡ length self.now }
     {
         self.starts.len()
+    }
+
+    /// The number of edges, with those that lead nowhere.
+    pub fn edge_count(&self) -> usize
+        ensures { result ≡ sum_by length self.now }
+    {
+        if self.starts.is_empty() {
+            return 0;
+        }
+        self.targets.len() - self.starts[0]
     }
 
     /// Adds a node without edges, the last of all. Where memory is short the graph stays.

@@ -4,7 +4,7 @@ use Rattle.std.proofs.lemmas.Bool.{cases_lt, cases_eq, cases_Bool, false≢true,
 use Rattle.std.proofs.lemmas.List.Elements.{filter-append}
 use Rattle.std.proofs.lemmas.Option.{same_Some, none-some}
 use Rattle.ti_index.specs.Labels.{Has, AreKnown, AreLabelled, IsDistinct}
-use Rattle.ti_index.specs.Listing.{ListsBefore, ListsToo, ListsNoMore}
+use Rattle.ti_index.specs.Listing.{Lists, ListsBefore, ListsToo, ListsNoMore}
 use Rattle.ti_index.proofs.Placing.{before_told}
 use Rattle.ti_index.proofs.Lists.{get_back, take_get, drop_get}
 
@@ -171,6 +171,9 @@ passing_at listed list t id count place e f before passes =
     let z : length (filter t (take place listed)) + 0 ≡ count = omega arith in
     let all : list ≡ filter t (take place listed) ++ id ∷ filter t (drop (suc place) listed) = e ∙ (filter_split t listed place id f ∙ (rw passes refl)) in
     rw all (rw z at back)
+
+pub lists_at : (listed list : List ℕ) (id count place : ℕ) → Lists listed list id → slice_get listed place ≡ Some id → ListsBefore listed list id count → slice_get list count ≡ Some id
+lists_at listed list id count place (t, e, passes) f before = passing_at listed list t id count place e f before passes
 
 pub put_there : (listed list : List ℕ) (id k : ℕ) → slice_get list k ≡ Some id → ListsToo listed list list id
 put_there listed list id k h t e =

@@ -1,7 +1,8 @@
 -- The laws of lists of the ids that pass a test.
 use Rattle.std.proofs.Common.{◌≡◌, ℕ, zero, suc, ◌<◌, inl, inr, List, [], ◌∷◌, Bool, false, Some, slice_get, filter, insert, remove, refl, sym, ◌∙◌, ap, arith}
-use Rattle.std.proofs.lemmas.Bool.{cases_Bool}
+use Rattle.std.proofs.lemmas.Bool.{cases_Bool, false≢true}
 use Rattle.std.proofs.lemmas.Option.{same_Some, none-some}
+use Rattle.ti_index.specs.Listing.{Lists}
 use Rattle.ti_index.specs.Laws.{ListsAreAmong, ListsStay, ListsAgree, IsFirstPassing, FirstsAreFirst}
 use Rattle.ti_index.proofs.Filtering.{filter_place}
 
@@ -68,3 +69,7 @@ none_passing (x ∷ listed) test e p id f =
 
 pub first_lists : FirstsAreFirst
 first_lists = record { some = first_passing; none = none_passing }
+
+-- a list that has an id is not empty
+pub lists_none : (listed : List ℕ) (id place : ℕ) → slice_get listed place ≡ Some id → Lists listed [] id → ⊥
+lists_none listed id place f (test, e, passes) = false≢true (sym (none_passing listed test (sym e) place id f) ∙ passes)

@@ -1,7 +1,7 @@
 -- What a change at one name leaves at the others.
-use Rattle.std.proofs.Common.{◌≡◌, ◌≢◌, ℕ, ◌-◌, ◌≤◌, ◌⊎◌, inl, inr, Bool, true, false, cond, not, ◌&&◌, nat_eq, List, [], ◌∷◌, filter, Option, Some, None, refl, sym, ◌∙◌, ap, arith}
+use Rattle.std.proofs.Common.{◌≡◌, ◌≢◌, ℕ, ◌≤◌, ◌⊎◌, inl, inr, Bool, true, false, cond, not, ◌&&◌, nat_eq, List, [], ◌∷◌, length, filter, Option, Some, None, refl, sym, ◌∙◌, ap, arith}
 use Rattle.std.specs.Option.{option_map_or, is_some}
-use Rattle.std.specs.Vec.{vec_len, vec_capacity}
+use Rattle.std.specs.Vec.{vec_capacity}
 use Rattle.std.specs.Ordering.{is_eq, nat_cmp, eq_by_cmp}
 use Rattle.std.specs.Cmp.{eq_by_cmp_equiv}
 use Rattle.std.specs.Cmp.Lexicographic.{slice_cmp, bytes_decides, nat_list_cmp_total, nat_list_eq_equiv}
@@ -15,7 +15,8 @@ use Rattle.std.proofs.lemmas.Map.Text.{is_eq-slice_cmp}
 use Rattle.ti_index.specs.declared.names.Mentions.{Mentions}
 use Rattle.ti_index.specs.declared.names.NameIndex.{NameIndex}
 use Rattle.ti_index.specs.Listing.{ListsNoMore}
-use Rattle.ti_index.specs.Names.{found_in, mentions_at, holders_at, users_at, IsSeenSame, KeepsRoom, KeepsOthers}
+use Rattle.ti_index.specs.Laws.{ListsFit}
+use Rattle.ti_index.specs.Names.{found_in, mentions_at, holders_at, users_at, IsSeenSame, KeepsCapacity, KeepsOthers}
 
 other_entries : {K X : Type 0} (eq : K → K → Bool) (test : K → Bool) (old new : List (K × X)) → KeepsOtherKeys eq test old new → (other : K → Bool) → IsKeyTest eq other → AreApart test other → lookup other new ≡ lookup other old
 unfolding KeepsOtherKeys
@@ -56,22 +57,20 @@ seen_by_others old new name other here others = elim (name_cases other name) [
       }
 ]
 
-room_by_others : (old new : NameIndex) (name other : List ℕ) → KeepsRoom old new name → KeepsOthers old new name → KeepsRoom old new other
-room_by_others old new name other here others = elim (name_cases other name) [
+capacity_by_others : (old new : NameIndex) (name other : List ℕ) → KeepsCapacity old new name → KeepsOthers old new name → KeepsCapacity old new other
+capacity_by_others old new name other here others = elim (name_cases other name) [
   | inl same ↦ rw same here
   | inr n ↦
       let e = others other n in
-      let a = ap (λ o. option_map_or (λ m. vec_capacity m.holders - vec_len m.holders) o 0) e in
-      let b = ap (λ o. option_map_or (λ m. vec_capacity m.users - vec_len m.users) o 0) e in
+      let a = ap (λ o. option_map_or (λ m. vec_capacity m.holders) o 0) e in
+      let b = ap (λ o. option_map_or (λ m. vec_capacity m.users) o 0) e in
       record { holders = omega (arith, a); users = omega (arith, b) }
 ]
 
--- the lists of an entry stay, and its room at least
+-- the lists of an entry stay, and no capacity is lost
 pub record IsGrown (old new : Mentions) : Type 0 where
   pub holders : new.holders.items ≡ old.holders.items
   pub users : new.users.items ≡ old.users.items
-  pub holders_len : vec_len new.holders ≡ vec_len old.holders
-  pub users_len : vec_len new.users ≡ vec_len old.users
   pub holders_room : vec_capacity old.holders ≤ vec_capacity new.holders
   pub users_room : vec_capacity old.users ≤ vec_capacity new.users
 
@@ -81,10 +80,10 @@ grown_seen old entries name m w found h grown other =
     (record { holders = rw (h.1, found) grown.holders; users = rw (h.1, found) grown.users })
     (others_kept name old.entries entries (Some w) h)
 
-pub grown_room : (old : NameIndex) (entries : BTreeMap (Vec ℕ Global) Mentions) (name : List ℕ) (m w : Mentions) → mentions_at old name ≡ Some m → UpdatesBy (λ x y. slice_cmp nat_cmp x.items y.items) (λ key. slice_cmp nat_cmp name key.items) old.entries entries (Some w) → IsGrown m w → (other : List ℕ) → KeepsRoom old (with_entries old entries) other
-grown_room old entries name m w found h grown other =
-    room_by_others old (with_entries old entries) name other
-    (record { holders = rw (h.1, found) (omega (arith, grown.holders_len, grown.holders_room)); users = rw (h.1, found) (omega (arith, grown.users_len, grown.users_room)) })
+pub grown_capacity : (old : NameIndex) (entries : BTreeMap (Vec ℕ Global) Mentions) (name : List ℕ) (m w : Mentions) → mentions_at old name ≡ Some m → UpdatesBy (λ x y. slice_cmp nat_cmp x.items y.items) (λ key. slice_cmp nat_cmp name key.items) old.entries entries (Some w) → IsGrown m w → (other : List ℕ) → KeepsCapacity old (with_entries old entries) other
+grown_capacity old entries name m w found h grown other =
+    capacity_by_others old (with_entries old entries) name other
+    (record { holders = rw (h.1, found) grown.holders_room; users = rw (h.1, found) grown.users_room })
     (others_kept name old.entries entries (Some w) h)
 
 -- an entry without blocks was brought
@@ -94,9 +93,9 @@ brought_seen old entries name w found h holders users other =
     (record { holders = rw (h.1, found) holders; users = rw (h.1, found) users })
     (others_kept name old.entries entries (Some w) h)
 
-pub brought_room : (old : NameIndex) (entries : BTreeMap (Vec ℕ Global) Mentions) (name : List ℕ) (w : Mentions) → mentions_at old name ≡ None → UpdatesBy (λ x y. slice_cmp nat_cmp x.items y.items) (λ key. slice_cmp nat_cmp name key.items) old.entries entries (Some w) → (other : List ℕ) → KeepsRoom old (with_entries old entries) other
-brought_room old entries name w found h other =
-    room_by_others old (with_entries old entries) name other
+pub brought_capacity : (old : NameIndex) (entries : BTreeMap (Vec ℕ Global) Mentions) (name : List ℕ) (w : Mentions) → mentions_at old name ≡ None → UpdatesBy (λ x y. slice_cmp nat_cmp x.items y.items) (λ key. slice_cmp nat_cmp name key.items) old.entries entries (Some w) → (other : List ℕ) → KeepsCapacity old (with_entries old entries) other
+brought_capacity old entries name w found h other =
+    capacity_by_others old (with_entries old entries) name other
     (record { holders = rw found (omega arith); users = rw found (omega arith) })
     (others_kept name old.entries entries (Some w) h)
 
@@ -131,5 +130,18 @@ none_from_test (Some m) e = absurd (false≢true (sym e))
 pub brought_key_seen : (old : NameIndex) (entries : BTreeMap (Vec ℕ Global) Mentions) (key name : List ℕ) (w : Mentions) → key ≡ name → mentions_at old name ≡ None → UpdatesBy (λ x y. slice_cmp nat_cmp x.items y.items) (λ k. slice_cmp nat_cmp key k.items) old.entries entries (Some w) → w.holders.items ≡ [] → w.users.items ≡ [] → (other : List ℕ) → IsSeenSame old (with_entries old entries) other
 brought_key_seen old entries key name w same found h = brought_seen old entries name w found (rw same at h)
 
-pub brought_key_room : (old : NameIndex) (entries : BTreeMap (Vec ℕ Global) Mentions) (key name : List ℕ) (w : Mentions) → key ≡ name → mentions_at old name ≡ None → UpdatesBy (λ x y. slice_cmp nat_cmp x.items y.items) (λ k. slice_cmp nat_cmp key k.items) old.entries entries (Some w) → (other : List ℕ) → KeepsRoom old (with_entries old entries) other
-brought_key_room old entries key name w same found h = brought_room old entries name w found (rw same at h)
+pub brought_key_capacity : (old : NameIndex) (entries : BTreeMap (Vec ℕ Global) Mentions) (key name : List ℕ) (w : Mentions) → key ≡ name → mentions_at old name ≡ None → UpdatesBy (λ x y. slice_cmp nat_cmp x.items y.items) (λ k. slice_cmp nat_cmp key k.items) old.entries entries (Some w) → (other : List ℕ) → KeepsCapacity old (with_entries old entries) other
+brought_key_capacity old entries key name w same found h = brought_capacity old entries name w found (rw same at h)
+
+-- ---- what a list can have
+
+holders_fit : (o : Option Mentions) → length (option_map_or (λ m. m.holders.items) o []) ≤ option_map_or (λ m. vec_capacity m.holders) o 0
+holders_fit None = omega arith
+holders_fit (Some m) = omega (arith, m.holders.ok.0, m.holders.ok.1)
+
+users_fit : (o : Option Mentions) → length (option_map_or (λ m. m.users.items) o []) ≤ option_map_or (λ m. vec_capacity m.users) o 0
+users_fit None = omega arith
+users_fit (Some m) = omega (arith, m.users.ok.0, m.users.ok.1)
+
+pub fitting_lists : ListsFit
+fitting_lists = record { holders = λ index name. holders_fit (mentions_at index name); users = λ index name. users_fit (mentions_at index name) }

@@ -1,6 +1,8 @@
 -- Laws of lists of the ids that pass a test, in the order of all.
-use Rattle.std.specs.Prelude.{ℕ, ◌≡◌, ◌<◌, List, [], Bool, true, false, Some, slice_get, filter, insert, remove}
+use Rattle.std.specs.Prelude.{ℕ, ◌≡◌, ◌<◌, ◌≤◌, List, [], length, Bool, true, false, Some, slice_get, filter, insert, remove}
 use Rattle.ti_index.specs.Listing.{AreAmong}
+use Rattle.ti_index.specs.Names.{holders_at, users_at, holder_capacity, user_capacity}
+use Rattle.ti_index.specs.declared.names.NameIndex.{NameIndex}
 
 -- each stands among all
 abbrev pub ListsAreAmong : Type 0
@@ -25,3 +27,8 @@ pub record IsFirstPassing (listed : List ℕ) (test : ℕ → Bool) (position id
 pub record FirstsAreFirst : Type 0 where
   pub some : (listed : List ℕ) (test : ℕ → Bool) (id : ℕ) → slice_get (filter test listed) 0 ≡ Some id → (position : ℕ) × IsFirstPassing listed test position id
   pub none : (listed : List ℕ) (test : ℕ → Bool) → filter test listed ≡ [] → (position id : ℕ) → slice_get listed position ≡ Some id → test id ≡ false
+
+-- the lists of a name have no more blocks than they can have without memory
+pub record ListsFit : Type 0 where
+  pub holders : (index : NameIndex) (name : List ℕ) → length (holders_at index name) ≤ holder_capacity index name
+  pub users : (index : NameIndex) (name : List ℕ) → length (users_at index name) ≤ user_capacity index name

@@ -1,5 +1,5 @@
 -- Lists of some ids of an ordered list, in its order: each is the ordered list without the ids that fail a test.
-use Rattle.std.specs.Prelude.{ℕ, ◌≡◌, List, Bool, Some, slice_get, length, filter, take, nat_eq, not, ◌&&◌, ◌||◌}
+use Rattle.std.specs.Prelude.{ℕ, ◌≡◌, List, Bool, true, Some, slice_get, length, filter, take, nat_eq, not, ◌&&◌, ◌||◌}
 use Rattle.ti_index.specs.Labels.{Has}
 
 -- each stands in the ordered list
@@ -17,3 +17,7 @@ ListsToo listed old new id = (test : ℕ → Bool) → old ≡ filter test liste
 -- of the ids that pass a test, the new list has all but the id
 abbrev pub ListsNoMore : List ℕ → List ℕ → List ℕ → ℕ → Type 0
 ListsNoMore listed old new id = (test : ℕ → Bool) → old ≡ filter test listed → new ≡ filter (λ x. not (nat_eq x id) && test x) listed
+
+-- the list has the ids that pass a test, and the id is one of them
+abbrev pub Lists : List ℕ → List ℕ → ℕ → Type 0
+Lists listed list id = (test : ℕ → Bool) × (list ≡ filter test listed) × (test id ≡ true)

@@ -1,7 +1,7 @@
 -- Names with the blocks that have and use them, as an index shows them.
-use Rattle.std.specs.Prelude.{ℕ, ◌≡◌, ◌≢◌, ◌≤◌, ◌-◌, List, [], Option}
+use Rattle.std.specs.Prelude.{ℕ, ◌≡◌, ◌≢◌, ◌<◌, ◌≤◌, List, [], length, Option}
 use Rattle.std.specs.Option.{option_map_or}
-use Rattle.std.specs.Vec.{vec_len, vec_capacity}
+use Rattle.std.specs.Vec.{vec_capacity}
 use Rattle.std.specs.BTreeMap.{BTreeMap, get_by}
 use Rattle.std.specs.Cmp.Lexicographic.{slice_cmp}
 use Rattle.std.specs.Ordering.{nat_cmp}
@@ -24,22 +24,29 @@ holders_at index name = option_map_or (λ m. m.holders.items) (mentions_at index
 abbrev pub users_at : NameIndex → List ℕ → List ℕ
 users_at index name = option_map_or (λ m. m.users.items) (mentions_at index name) []
 
--- for how many more there is room
-abbrev pub holder_room : NameIndex → List ℕ → ℕ
-holder_room index name = option_map_or (λ m. vec_capacity m.holders - vec_len m.holders) (mentions_at index name) 0
+-- how many blocks each list can have without memory
+abbrev pub holder_capacity : NameIndex → List ℕ → ℕ
+holder_capacity index name = option_map_or (λ m. vec_capacity m.holders) (mentions_at index name) 0
 
-abbrev pub user_room : NameIndex → List ℕ → ℕ
-user_room index name = option_map_or (λ m. vec_capacity m.users - vec_len m.users) (mentions_at index name) 0
+abbrev pub user_capacity : NameIndex → List ℕ → ℕ
+user_capacity index name = option_map_or (λ m. vec_capacity m.users) (mentions_at index name) 0
+
+-- there is room for one more
+abbrev pub HasHolderRoom : NameIndex → List ℕ → Type 0
+HasHolderRoom index name = length (holders_at index name) < holder_capacity index name
+
+abbrev pub HasUserRoom : NameIndex → List ℕ → Type 0
+HasUserRoom index name = length (users_at index name) < user_capacity index name
 
 -- both show the same blocks of a name
 pub record IsSeenSame (old new : NameIndex) (name : List ℕ) : Type 0 where
   pub holders : holders_at new name ≡ holders_at old name
   pub users : users_at new name ≡ users_at old name
 
--- no room was lost
-pub record KeepsRoom (old new : NameIndex) (name : List ℕ) : Type 0 where
-  pub holders : holder_room old name ≤ holder_room new name
-  pub users : user_room old name ≤ user_room new name
+-- no capacity was lost
+pub record KeepsCapacity (old new : NameIndex) (name : List ℕ) : Type 0 where
+  pub holders : holder_capacity old name ≤ holder_capacity new name
+  pub users : user_capacity old name ≤ user_capacity new name
 
 -- all other names are as before
 abbrev pub KeepsOthers : NameIndex → NameIndex → List ℕ → Type 0

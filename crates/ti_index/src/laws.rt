@@ -1,5 +1,5 @@
 // Laws of the lists that an index keeps, for what stands on them. They compute nothing.
-ghost use Rattle.ti_index.specs.Laws.{FirstsAreFirst, ListsAgree, ListsAreAmong, ListsStay};
+ghost use Rattle.ti_index.specs.Laws.{FirstsAreFirst, ListsAgree, ListsAreAmong, ListsFit, ListsStay};
 
 /// Each id of a list stands in the order of all.
 pub fn lists_are_among()
@@ -19,4 +19,9 @@ pub fn lists_agree()
 /// The first id of a list is the first of all that is of it.
 pub fn firsts_are_first()
     ensures { FirstsAreFirst }
+{}
+
+/// The lists of a name have no more blocks than they can have without memory.
+pub fn lists_fit()
+    ensures { ListsFit }
 {}

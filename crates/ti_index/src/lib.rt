@@ -16,6 +16,6 @@ mod order;
 #[cfg(test)]
 mod tests;
 
-pub use laws::{firsts_are_first, lists_agree, lists_are_among, lists_stay};
+pub use laws::{firsts_are_first, lists_agree, lists_are_among, lists_fit, lists_stay};
 pub use names::NameIndex;
 pub use order::Order;

@@ -1,15 +1,15 @@
 // Lists of ids in the order of all, changed id by id.
-ghost use Rattle.std.specs.Prelude.{◌<◌, ◌≤◌, ◌+◌, vec_len, vec_capacity};
+ghost use Rattle.std.specs.Prelude.{◌<◌, ◌≤◌, ◌+◌, ◌⊎◌, vec_len, vec_capacity};
 ghost use Rattle.ti_index.specs.Labels.{Has};
-ghost use Rattle.ti_index.specs.Listing.{AreAmong, ListsNoMore, ListsToo};
+ghost use Rattle.ti_index.specs.Listing.{AreAmong, Lists, ListsNoMore, ListsToo};
 
 use crate::order::Order;
 
-/// Puts an id into a list with room for it, unless it is there.
+/// Puts an id into a list, unless it is there. Where it is not, the list has room for it.
 pub(crate) fn put_in(order: &Order, list: &mut Vec<u32>, id: u32)
     requires stands { Has order.now.listed id }
     requires among { AreAmong list.old.items order.now.listed }
-    requires room { vec_len list.old < vec_capacity list.old }
+    requires room { (vec_len list.old < vec_capacity list.old) ⊎ Lists order.now.listed list.old.items id }
     ensures items { ListsToo order.now.listed list.old.items list.new.items id }
     ensures room { vec_capacity list.old ≤ vec_capacity list.new }
     ensures len { vec_len list.new ≤ vec_len list.old + 1 }

@@ -1,8 +1,8 @@
 // Names, each with the blocks that have it and those that use it.
-ghost use Rattle.std.specs.Prelude.{◌≡◌, ◌<◌, ℕ, List, [], IsSome, OnOk};
+ghost use Rattle.std.specs.Prelude.{◌≡◌, ◌⊎◌, ℕ, List, [], IsSome, OnOk};
 ghost use Rattle.ti_index.specs.Labels.{Has};
-ghost use Rattle.ti_index.specs.Listing.{AreAmong, ListsNoMore, ListsToo};
-ghost use Rattle.ti_index.specs.Names.{holders_at, users_at, mentions_at, holder_room, user_room, IsSeenSame, KeepsOthers, KeepsRoom};
+ghost use Rattle.ti_index.specs.Listing.{AreAmong, Lists, ListsNoMore, ListsToo};
+ghost use Rattle.ti_index.specs.Names.{holders_at, users_at, mentions_at, HasHolderRoom, HasUserRoom, IsSeenSame, KeepsCapacity, KeepsOthers};
 
 use crate::listing::{put_in, take_out};
 use crate::order::Order;
@@ -57,14 +57,14 @@ impl NameIndex {
         }
     }
 
-    /// Puts a block among those that have a name.
+    /// Puts a block among those that have a name. Room is needed where it is not one of them yet.
     pub fn add_holder(&mut self, order: &Order, name: &[u8], id: u32)
         requires stands { Has order.now.listed id }
         requires among { AreAmong (holders_at self.old name.now) order.now.listed }
-        requires room { 0 < holder_room self.old name.now }
+        requires room { HasHolderRoom self.old name.now ⊎ Lists order.now.listed (holders_at self.old name.now) id }
         ensures holders { ListsToo order.now.listed (holders_at self.old name.now) (holders_at self.new name.now) id }
         ensures users { users_at self.new name.now ≡ users_at self.old name.now }
-        ensures user_room { user_room self.new name.now ≡ user_room self.old name.now }
+        ensures capacity { KeepsCapacity self.old self.new name.now }
         ensures others { KeepsOthers self.old self.new name.now }
     {
         if let Some(mentions) = self.entries.get_mut(name) {
@@ -72,14 +72,14 @@ impl NameIndex {
         }
     }
 
-    /// Puts a block among those that use a name.
+    /// Puts a block among those that use a name. Room is needed where it is not one of them yet.
     pub fn add_user(&mut self, order: &Order, name: &[u8], id: u32)
         requires stands { Has order.now.listed id }
         requires among { AreAmong (users_at self.old name.now) order.now.listed }
-        requires room { 0 < user_room self.old name.now }
+        requires room { HasUserRoom self.old name.now ⊎ Lists order.now.listed (users_at self.old name.now) id }
         ensures users { ListsToo order.now.listed (users_at self.old name.now) (users_at self.new name.now) id }
         ensures holders { holders_at self.new name.now ≡ holders_at self.old name.now }
-        ensures holder_room { holder_room self.new name.now ≡ holder_room self.old name.now }
+        ensures capacity { KeepsCapacity self.old self.new name.now }
         ensures others { KeepsOthers self.old self.new name.now }
     {
         if let Some(mentions) = self.entries.get_mut(name) {
@@ -87,13 +87,13 @@ impl NameIndex {
         }
     }
 
-    /// Takes a block from among those that have a name. The room that it had stays.
+    /// Takes a block from among those that have a name. No capacity is lost.
     pub fn remove_holder(&mut self, order: &Order, name: &[u8], id: u32)
         requires stands { Has order.now.listed id }
         requires among { AreAmong (holders_at self.old name.now) order.now.listed }
         ensures holders { ListsNoMore order.now.listed (holders_at self.old name.now) (holders_at self.new name.now) id }
         ensures users { users_at self.new name.now ≡ users_at self.old name.now }
-        ensures room { KeepsRoom self.old self.new name.now }
+        ensures capacity { KeepsCapacity self.old self.new name.now }
         ensures others { KeepsOthers self.old self.new name.now }
     {
         if let Some(mentions) = self.entries.get_mut(name) {
@@ -101,13 +101,13 @@ impl NameIndex {
         }
     }
 
-    /// Takes a block from among those that use a name. The room that it had stays.
+    /// Takes a block from among those that use a name. No capacity is lost.
     pub fn remove_user(&mut self, order: &Order, name: &[u8], id: u32)
         requires stands { Has order.now.listed id }
         requires among { AreAmong (users_at self.old name.now) order.now.listed }
         ensures users { ListsNoMore order.now.listed (users_at self.old name.now) (users_at self.new name.now) id }
         ensures holders { holders_at self.new name.now ≡ holders_at self.old name.now }
-        ensures room { KeepsRoom self.old self.new name.now }
+        ensures capacity { KeepsCapacity self.old self.new name.now }
         ensures others { KeepsOthers self.old self.new name.now }
     {
         if let Some(mentions) = self.entries.get_mut(name) {
@@ -119,9 +119,9 @@ impl NameIndex {
     /// a difference, also where memory is short.
     pub fn reserve(&mut self, name: &[u8]) -> Result<(), AllocError>
         ensures seen { (other : List ℕ) → IsSeenSame self.old self.new other }
-        ensures kept { (other : List ℕ) → KeepsRoom self.old self.new other }
-        ensures holder_room { OnOk result (0 < holder_room self.new name.now) }
-        ensures user_room { OnOk result (0 < user_room self.new name.now) }
+        ensures capacity { (other : List ℕ) → KeepsCapacity self.old self.new other }
+        ensures holder_room { OnOk result (HasHolderRoom self.new name.now) }
+        ensures user_room { OnOk result (HasUserRoom self.new name.now) }
     {
         self.bring(name)?;
         self.grow(name)
@@ -130,7 +130,7 @@ impl NameIndex {
     /// Sees to an entry for a name.
     fn bring(&mut self, name: &[u8]) -> Result<(), AllocError>
         ensures seen { (other : List ℕ) → IsSeenSame self.old self.new other }
-        ensures kept { (other : List ℕ) → KeepsRoom self.old self.new other }
+        ensures capacity { (other : List ℕ) → KeepsCapacity self.old self.new other }
         ensures there { OnOk result (IsSome (mentions_at self.new name.now)) }
     {
         if self.entries.contains_key(name) {
@@ -149,9 +149,9 @@ impl NameIndex {
     fn grow(&mut self, name: &[u8]) -> Result<(), AllocError>
         requires { IsSome (mentions_at self.old name.now) }
         ensures seen { (other : List ℕ) → IsSeenSame self.old self.new other }
-        ensures kept { (other : List ℕ) → KeepsRoom self.old self.new other }
-        ensures holder_room { OnOk result (0 < holder_room self.new name.now) }
-        ensures user_room { OnOk result (0 < user_room self.new name.now) }
+        ensures capacity { (other : List ℕ) → KeepsCapacity self.old self.new other }
+        ensures holder_room { OnOk result (HasHolderRoom self.new name.now) }
+        ensures user_room { OnOk result (HasUserRoom self.new name.now) }
     {
         if let Some(mentions) = self.entries.get_mut(name) {
             mentions.holders.reserve(1)?;

@@ -1,6 +1,6 @@
 // The ids of blocks in the order of their list.
-ghost use Rattle.std.specs.Prelude.{◌≡◌, ◌<◌, ◌≤◌, ◌^◌, ◌++◌, ◌∷◌, ◌↔◌, [], ℕ, Some, slice_get, length, insert, remove, vec_len, vec_capacity, IsTrue, OnOk, OnErr};
-ghost use Rattle.ti_index.specs.Labels.{Has, IsDistinct};
+ghost use Rattle.std.specs.Prelude.{◌≡◌, ◌<◌, ◌≤◌, ◌+◌, ◌^◌, ◌++◌, ◌∷◌, ◌↔◌, [], ℕ, Some, slice_get, length, insert, remove, vec_len, vec_capacity, IsTrue, OnOk, OnErr};
+ghost use Rattle.ti_index.specs.Labels.{AreKnown, Has, IsDistinct};
 ghost use Rattle.ti_index.specs.Listing.{AreAmong, ListsBefore};
 
 use crate::labels::{find_place, make_label};
@@ -52,6 +52,16 @@ impl Order {
         &self.ids
     }
 
+    /// How many ids there are, those that stand in the list and those that are free. Each is below
+    /// that number.
+    pub fn count(&self) -> usize
+        ensures count { result ≡ length self.now.listed + length self.now.free }
+        ensures listed { AreKnown self.now.listed result }
+        ensures free { AreKnown self.now.free result }
+    {
+        self.labels.len()
+    }
+
     /// The position of an id that stands in the list, in time logarithmic in the list's length.
     pub fn position(&self, id: u32) -> usize
         requires { Has self.now.listed id }
@@ -99,6 +109,7 @@ impl Order {
         ensures listed { self.new.listed ≡ self.old.listed }
         ensures ok { OnOk result (0 < length self.new.free) }
         ensures kept { 0 < length self.old.free → self.new.free ≡ self.old.free }
+        ensures one { length self.new.free ≤ length self.old.free + 1 }
         ensures err { OnErr result (self.new ≡ self.old) }
     {
         if self.free.is_empty() {
@@ -118,6 +129,7 @@ impl Order {
         ensures listed { self.new.listed ≡ insert self.old.listed position result }
         ensures free { self.old.free ≡ self.new.free ++ result ∷ [] }
         ensures fresh { ¬ Has self.old.listed result }
+        ensures known { result < length self.old.listed + length self.old.free }
     {
         let label = make_label(&self.ids, &mut self.labels, position);
         let id = self.free.pop().unwrap();

@@ -67,6 +67,7 @@ fn ids_in_order(rt: HostRuntime) -> Result<(), Fail> {
     }
     // An id that was freed is used again.
     assert_eq!(rt; take(&mut order, 40), Some(59));
+    assert_eq!(rt; order.count(), 100);
     assert_eq!(rt; put(&mut order, 99)?, Some(59));
     assert_eq!(rt; order.ids().last().copied(), Some(59));
     assert_eq!(rt; take(&mut order, 100), None);

@@ -64,9 +64,15 @@ impl From<AllocError> for EditError {
     }
 }
 
-/// What an accepted edit tells.
-#[derive(Clone, Copy, PartialEq, Eq, Debug)]
-pub struct Edited {}
+/// What an accepted edit rebuilt.
+#[derive(PartialEq, Eq, Debug, Drop)]
+pub struct Edited {
+    /// The positions of the blocks that depend on the edit, in the new list, in ascending order.
+    pub rebuilt: Vec<usize>,
+    /// A step for each capability item that was laid and for each table of a used name that was
+    /// merged.
+    pub work: u64,
+}
 
 /// What came of one edit of several.
 #[derive(Clone, Copy, PartialEq, Eq, Debug)]

@@ -88,3 +88,12 @@ fn edge_past_the_last_node(rt: HostRuntime) -> Result<(), Fail> {
     assert_eq!(rt; graph.row(1), [None, Some(2)].as_slice());
     Ok(())
 }
+
+#[test]
+fn edges_are_counted(rt: HostRuntime) -> Result<(), Fail> {
+    let graph = graph_of(rt.alloc(), &[&[Some(1), None], &[Some(0)], &[]])?;
+    assert_eq!(rt; graph.edge_count(), 3);
+    let empty = graph_of(rt.alloc(), &[])?;
+    assert_eq!(rt; empty.edge_count(), 0);
+    Ok(())
+}

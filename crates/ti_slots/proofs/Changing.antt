@@ -1,0 +1,237 @@
+-- What is kept as a block is put in or taken out.
+use Rattle.std.proofs.Common.{◌≡◌, ◌≢◌, ◌<◌, ◌≤◌, ℕ, inl, inr, List, [], ◌∷◌, ◌++◌, map, length, get_or, set, Bool, false, not, nat_eq, ◌&&◌, Option, Some, None, slice_get, filter, insert, remove, refl, ◌∙◌, ap, arith, eq-eqb, length-append, length-set}
+use Rattle.std.specs.Option.{option_map_or, option_and_then, IsSome}
+use Rattle.std.specs.Str.{bytes_eq}
+use Rattle.std.proofs.lemmas.Bool.{cases_eq, cases_lt, false≢true}
+use Rattle.std.proofs.lemmas.Option.{slice_get_past, slice_get_read}
+use Rattle.ti_source.specs.Reading.{reading_of}
+use Rattle.ti_meaning.specs.Owner.{is_among}
+use Rattle.ti_meaning.specs.Reaching.{any_use}
+use Rattle.ti_index.specs.Labels.{Has, IsDistinct}
+use Rattle.ti_index.specs.declared.names.NameIndex.{NameIndex}
+use Rattle.ti_index.specs.Names.{holders_at, users_at, holder_capacity, user_capacity, KeepsCapacity}
+use Rattle.ti_slots.specs.declared.slots.Slot.{Slot}
+use Rattle.ti_slots.specs.declared.slots.Slots.{Slots}
+use Rattle.ti_slots.specs.Slots.{slot_at, reading_at, text_at, has_name, uses_name, empty_reading, StandsAt, IsIndexed}
+use Rattle.ti_slots.specs.Indexing.{named, used, Adds, Removes}
+use Rattle.ti_slots.specs.Changes.{HasRoomFor, KeepsRooms, PutsIn, TakesOut}
+use Rattle.ti_slots.proofs.Adding.{capacity_more}
+use Rattle.ti_slots.proofs.Listings.{list_before, list_with, list_left, list_without, fewer_pass, one_less, and_right, map_put, map_taken, get_set, get_set_other, stood_before, left_before, length-put, length-taken}
+
+-- ---- what stands in a slot alone decides
+
+slot_set : (slots : List (Option Slot)) (id : ℕ) (slot : Option Slot) → id < length slots → slot_at (set slots id slot) id ≡ slot
+slot_set slots id slot l = ap (λ o. option_and_then (λ s. s) o) (get_set slots id slot l)
+
+slot_set_other : (slots : List (Option Slot)) (id other : ℕ) (slot : Option Slot) → other ≢ id → slot_at (set slots id slot) other ≡ slot_at slots other
+slot_set_other slots id other slot n = ap (λ o. option_and_then (λ s. s) o) (get_set_other slots id other slot n)
+
+pub known_slot : (slots : List (Option Slot)) (id : ℕ) → IsSome (slot_at slots id) → id < length slots
+known_slot slots id e = elim (cases_lt id (length slots)) [
+  | inl less ↦ less
+  | inr more ↦ (let past : slot_at slots id ≡ None = ap (λ o. option_and_then (λ s. s) o) (slice_get_past slots id more) in absurd (false≢true (rw past at e)))
+]
+
+pub read_slot : (slots : List (Option Slot)) (id : ℕ) (slot : Option Slot) → id < length slots → slot ≡ get_or slots id slot → slot_at slots id ≡ slot
+read_slot slots id slot l e = ap (λ o. option_and_then (λ s. s) o) (slice_get_read slots (length slots) id slot refl l e)
+
+pub name_by_slot : (one : List (Option Slot)) (name : List ℕ) (id : ℕ) (slot : Option Slot) → slot_at one id ≡ slot → has_name one name id ≡ is_among name (option_map_or (λ s. reading_of s.block) slot empty_reading).names
+name_by_slot one name id slot e = ap (λ o. is_among name (option_map_or (λ s. reading_of s.block) o empty_reading).names) e
+
+pub use_by_slot : (one : List (Option Slot)) (name : List ℕ) (id : ℕ) (slot : Option Slot) → slot_at one id ≡ slot → uses_name one name id ≡ any_use (bytes_eq name) (option_map_or (λ s. reading_of s.block) slot empty_reading).items
+use_by_slot one name id slot e = ap (λ o. any_use (bytes_eq name) (option_map_or (λ s. reading_of s.block) o empty_reading).items) e
+
+pub reading_by_slot : (one other : List (Option Slot)) (id : ℕ) → slot_at one id ≡ slot_at other id → reading_at one id ≡ reading_at other id
+reading_by_slot one other id e = ap (λ o. option_map_or (λ s. reading_of s.block) o empty_reading) e
+
+pub text_by_slot : (one other : List (Option Slot)) (id : ℕ) → slot_at one id ≡ slot_at other id → text_at one id ≡ text_at other id
+text_by_slot one other id e = ap (λ o. option_map_or (λ s. s.text.items) o []) e
+
+-- ---- a block is put in
+
+pub record HasPut (a b : Slots) (mid : NameIndex) (at id : ℕ) (slot : Slot) : Type 0 where
+  pub within : at ≤ length a.order.listed
+  pub listed : b.order.listed ≡ insert a.order.listed at id
+  pub free : a.order.free ≡ b.order.free ++ id ∷ []
+  pub fresh : ¬ Has a.order.listed id
+  pub known : id < length a.slots.items
+  pub slots : b.slots.items ≡ set a.slots.items id (Some slot)
+  pub holders : Adds holders_at users_at b.order.listed (named slot.block.names.items) id a.names mid
+  pub users : Adds users_at holders_at b.order.listed (used slot.block.items.items) id mid b.names
+
+-- the lists of a name before, among the new ids
+pub holders_before : (a : Slots) (listed : List ℕ) (at id : ℕ) → IsIndexed a → listed ≡ insert a.order.listed at id → (Has a.order.listed id → ⊥) → (name : List ℕ) → holders_at a.names name ≡ filter (λ x. not (nat_eq x id) && has_name a.slots.items name x) listed
+holders_before a listed at id h e fresh name =
+    rw e (h.holders name ∙ list_before a.order.listed at id (has_name a.slots.items name) fresh)
+
+pub users_before : (a : Slots) (listed : List ℕ) (at id : ℕ) → IsIndexed a → listed ≡ insert a.order.listed at id → (Has a.order.listed id → ⊥) → (name : List ℕ) → users_at a.names name ≡ filter (λ x. not (nat_eq x id) && uses_name a.slots.items name x) listed
+users_before a listed at id h e fresh name =
+    rw e (h.users name ∙ list_before a.order.listed at id (uses_name a.slots.items name) fresh)
+
+put_here : (a b : Slots) (mid : NameIndex) (at id : ℕ) (slot : Slot) → HasPut a b mid at id slot → slot_at b.slots.items id ≡ Some slot
+put_here a b mid at id slot h = rw h.slots (slot_set a.slots.items id (Some slot) h.known)
+
+put_others : (a b : Slots) (mid : NameIndex) (at id : ℕ) (slot : Slot) → HasPut a b mid at id slot → (other : ℕ) → other ≢ id → slot_at b.slots.items other ≡ slot_at a.slots.items other
+put_others a b mid at id slot h other n = rw h.slots (slot_set_other a.slots.items id other (Some slot) n)
+
+put_filled : (a b : Slots) (mid : NameIndex) (at id : ℕ) (slot : Slot) → IsIndexed a → HasPut a b mid at id slot → (pos x : ℕ) → StandsAt b pos x → IsSome (slot_at b.slots.items x)
+put_filled a b mid at id slot i h pos x e = elim (cases_eq x id) [
+  | inl same ↦ rw (same, put_here a b mid at id slot h) refl
+  | inr apart ↦
+      let stood = stood_before a.order.listed at id pos x h.within (rw h.listed at e) apart in
+      rw (put_others a b mid at id slot h x apart) (i.filled stood.0 x stood.1)
+]
+
+put_indexed : (a b : Slots) (mid : NameIndex) (at id : ℕ) (slot : Slot) → IsIndexed a → HasPut a b mid at id slot → IsIndexed b
+put_indexed a b mid at id slot i h =
+    let here = put_here a b mid at id slot h in
+    let others = put_others a b mid at id slot h in
+    record {
+      places = omega (arith, i.places, ap length h.listed, length-put a.order.listed at id, ap length h.free, length-append b.order.free (id ∷ []), ap length h.slots, length-set a.slots.items id (Some slot));
+      filled = put_filled a b mid at id slot i h;
+      holders = λ name.
+          h.users.kept name
+          ∙ (h.holders.added name (λ x. not (nat_eq x id) && has_name a.slots.items name x) (holders_before a b.order.listed at id i h.listed h.fresh name)
+          ∙ list_with b.order.listed id (has_name a.slots.items name) (has_name b.slots.items name) (named slot.block.names.items name)
+          (λ x n. name_by_slot b.slots.items name x (slot_at a.slots.items x) (others x n))
+          (name_by_slot b.slots.items name id (Some slot) here));
+      users = λ name.
+          h.users.added name (λ x. not (nat_eq x id) && uses_name a.slots.items name x) (h.holders.kept name ∙ users_before a b.order.listed at id i h.listed h.fresh name)
+          ∙ list_with b.order.listed id (uses_name a.slots.items name) (uses_name b.slots.items name) (used slot.block.items.items name)
+          (λ x n. use_by_slot b.slots.items name x (slot_at a.slots.items x) (others x n))
+          (use_by_slot b.slots.items name id (Some slot) here);
+    }
+
+pub put_done : (a b : Slots) (mid : NameIndex) (at id : ℕ) (slot : Slot) → IsIndexed a → HasPut a b mid at id slot → PutsIn a b at slot id
+put_done a b mid at id slot i h =
+    let here = put_here a b mid at id slot h in
+    let others = put_others a b mid at id slot h in
+    let apart : (pos x : ℕ) → StandsAt a pos x → x ≢ id = λ pos x e same. h.fresh (pos, rw same at e) in
+    record {
+      indexed = put_indexed a b mid at id slot i h;
+      listed = h.listed;
+      fresh = h.fresh;
+      free = h.free;
+      here = here;
+      others = others;
+      capacity = λ name. capacity_more a.names mid b.names name (h.holders.capacity name) (h.users.capacity name);
+      blocks = ap (map (reading_at b.slots.items)) h.listed
+          ∙ map_put (reading_at b.slots.items) (reading_at a.slots.items) a.order.listed at id (reading_of slot.block)
+          (λ pos x e. reading_by_slot b.slots.items a.slots.items x (others x (apart pos x e)))
+          (ap (λ o. option_map_or (λ s. reading_of s.block) o empty_reading) here);
+      texts = ap (map (text_at b.slots.items)) h.listed
+          ∙ map_put (text_at b.slots.items) (text_at a.slots.items) a.order.listed at id slot.text.items
+          (λ pos x e. text_by_slot b.slots.items a.slots.items x (others x (apart pos x e)))
+          (ap (λ o. option_map_or (λ s. s.text.items) o []) here);
+    }
+
+-- ---- a block is taken out
+
+pub record HasTaken (a b : Slots) (mid : NameIndex) (at id : ℕ) (slot : Slot) : Type 0 where
+  pub stood : StandsAt a at id
+  pub distinct : IsDistinct a.order.listed
+  pub listed : b.order.listed ≡ remove a.order.listed at
+  pub free : b.order.free ≡ a.order.free ++ id ∷ []
+  pub was : slot_at a.slots.items id ≡ Some slot
+  pub known : id < length a.slots.items
+  pub slots : b.slots.items ≡ set a.slots.items id None
+  pub holders : Removes holders_at users_at a.order.listed (named slot.block.names.items) id a.names mid
+  pub users : Removes users_at holders_at a.order.listed (used slot.block.items.items) id mid b.names
+
+taken_gone : (a b : Slots) (mid : NameIndex) (at id : ℕ) (slot : Slot) → HasTaken a b mid at id slot → slot_at b.slots.items id ≡ None
+taken_gone a b mid at id slot h = rw h.slots (slot_set a.slots.items id None h.known)
+
+taken_others : (a b : Slots) (mid : NameIndex) (at id : ℕ) (slot : Slot) → HasTaken a b mid at id slot → (other : ℕ) → other ≢ id → slot_at b.slots.items other ≡ slot_at a.slots.items other
+taken_others a b mid at id slot h other n = rw h.slots (slot_set_other a.slots.items id other None n)
+
+-- the lists of a name after, among the old ids
+holders_after : (a b : Slots) (mid : NameIndex) (at id : ℕ) (slot : Slot) → IsIndexed a → HasTaken a b mid at id slot → (name : List ℕ) → holders_at b.names name ≡ filter (λ x. not (nat_eq x id) && has_name a.slots.items name x) a.order.listed
+holders_after a b mid at id slot i h name =
+    h.users.kept name
+    ∙ (h.holders.removed name (has_name a.slots.items name) (i.holders name)
+    ∙ list_left a.order.listed id (has_name a.slots.items name) (named slot.block.names.items name) (name_by_slot a.slots.items name id (Some slot) h.was))
+
+users_after : (a b : Slots) (mid : NameIndex) (at id : ℕ) (slot : Slot) → IsIndexed a → HasTaken a b mid at id slot → (name : List ℕ) → users_at b.names name ≡ filter (λ x. not (nat_eq x id) && uses_name a.slots.items name x) a.order.listed
+users_after a b mid at id slot i h name =
+    h.users.removed name (uses_name a.slots.items name) (h.holders.kept name ∙ i.users name)
+    ∙ list_left a.order.listed id (uses_name a.slots.items name) (used slot.block.items.items name) (use_by_slot a.slots.items name id (Some slot) h.was)
+
+taken_filled : (a b : Slots) (mid : NameIndex) (at id : ℕ) (slot : Slot) → IsIndexed a → HasTaken a b mid at id slot → (pos x : ℕ) → StandsAt b pos x → IsSome (slot_at b.slots.items x)
+taken_filled a b mid at id slot i h pos x e =
+    let stood = left_before a.order.listed at id pos x h.distinct h.stood (rw h.listed at e) in
+    rw (taken_others a b mid at id slot h x stood.1) (i.filled stood.0.0 x stood.0.1)
+
+taken_indexed : (a b : Slots) (mid : NameIndex) (at id : ℕ) (slot : Slot) → IsIndexed a → HasTaken a b mid at id slot → IsIndexed b
+taken_indexed a b mid at id slot i h =
+    let gone = taken_gone a b mid at id slot h in
+    let others = taken_others a b mid at id slot h in
+    record {
+      places = omega (arith, i.places, ap length h.listed, length-taken a.order.listed at id h.stood, ap length h.free, length-append a.order.free (id ∷ []), ap length h.slots, length-set a.slots.items id None);
+      filled = taken_filled a b mid at id slot i h;
+      holders = λ name. rw h.listed
+          (holders_after a b mid at id slot i h name
+          ∙ list_without a.order.listed at id (has_name a.slots.items name) (has_name b.slots.items name) h.stood
+          (λ x n. name_by_slot b.slots.items name x (slot_at a.slots.items x) (others x n))
+          (name_by_slot b.slots.items name id None gone));
+      users = λ name. rw h.listed
+          (users_after a b mid at id slot i h name
+          ∙ list_without a.order.listed at id (uses_name a.slots.items name) (uses_name b.slots.items name) h.stood
+          (λ x n. use_by_slot b.slots.items name x (slot_at a.slots.items x) (others x n))
+          (use_by_slot b.slots.items name id None gone));
+    }
+
+no_longer : (id : ℕ) (has : ℕ → Bool) → (not (nat_eq id id) && has id) ≡ false
+no_longer id has = rw (eq-eqb id id refl) refl
+
+-- the block leaves the room that it had
+taken_room : (a b : Slots) (mid : NameIndex) (at id : ℕ) (slot : Slot) → IsIndexed a → HasTaken a b mid at id slot → ((name : List ℕ) → length (holders_at a.names name) ≤ holder_capacity a.names name) → ((name : List ℕ) → length (users_at a.names name) ≤ user_capacity a.names name) → ((name : List ℕ) → KeepsCapacity a.names b.names name) → HasRoomFor b (reading_of slot.block)
+taken_room a b mid at id slot i h holders_fit users_fit capacity = record {
+  id = omega (arith, ap length h.free, length-append a.order.free (id ∷ []));
+  holders = λ name told.
+      let has = has_name a.slots.items name in
+      let less = one_less has (λ x. not (nat_eq x id) && has x) a.order.listed at id (λ x. and_right (not (nat_eq x id)) (has x)) h.stood
+      (name_by_slot a.slots.items name id (Some slot) h.was ∙ told) (no_longer id has) in
+      omega (arith, less, ap length (i.holders name), ap length (holders_after a b mid at id slot i h name), holders_fit name, (capacity name).holders);
+  users = λ name told.
+      let has = uses_name a.slots.items name in
+      let less = one_less has (λ x. not (nat_eq x id) && has x) a.order.listed at id (λ x. and_right (not (nat_eq x id)) (has x)) h.stood
+      (use_by_slot a.slots.items name id (Some slot) h.was ∙ told) (no_longer id has) in
+      omega (arith, less, ap length (i.users name), ap length (users_after a b mid at id slot i h name), users_fit name, (capacity name).users);
+}
+
+-- and takes none from another
+taken_rooms : (a b : Slots) (mid : NameIndex) (at id : ℕ) (slot : Slot) → IsIndexed a → HasTaken a b mid at id slot → ((name : List ℕ) → KeepsCapacity a.names b.names name) → KeepsRooms a b
+taken_rooms a b mid at id slot i h capacity block room = record {
+  id = omega (arith, ap length h.free, length-append a.order.free (id ∷ []));
+  holders = λ name told.
+      let has = has_name a.slots.items name in
+      let less = fewer_pass has (λ x. not (nat_eq x id) && has x) a.order.listed (λ x. and_right (not (nat_eq x id)) (has x)) in
+      omega (arith, less, ap length (i.holders name), ap length (holders_after a b mid at id slot i h name), room.holders name told, (capacity name).holders);
+  users = λ name told.
+      let has = uses_name a.slots.items name in
+      let less = fewer_pass has (λ x. not (nat_eq x id) && has x) a.order.listed (λ x. and_right (not (nat_eq x id)) (has x)) in
+      omega (arith, less, ap length (i.users name), ap length (users_after a b mid at id slot i h name), room.users name told, (capacity name).users);
+}
+
+pub taken_done : (a b : Slots) (mid : NameIndex) (at id : ℕ) (slot : Slot) → IsIndexed a → HasTaken a b mid at id slot → ((name : List ℕ) → length (holders_at a.names name) ≤ holder_capacity a.names name) → ((name : List ℕ) → length (users_at a.names name) ≤ user_capacity a.names name) → TakesOut a b at slot
+taken_done a b mid at id slot i h holders_fit users_fit =
+    let others = taken_others a b mid at id slot h in
+    let capacity : (name : List ℕ) → KeepsCapacity a.names b.names name = λ name. capacity_more a.names mid b.names name (h.holders.capacity name) (h.users.capacity name) in
+    let apart : (pos x : ℕ) → slice_get (remove a.order.listed at) pos ≡ Some x → x ≢ id = λ pos x e. (left_before a.order.listed at id pos x h.distinct h.stood e).1 in
+    record {
+      id = id;
+      indexed = taken_indexed a b mid at id slot i h;
+      stood = h.stood;
+      listed = h.listed;
+      free = h.free;
+      was = h.was;
+      gone = taken_gone a b mid at id slot h;
+      others = others;
+      capacity = capacity;
+      room = taken_room a b mid at id slot i h holders_fit users_fit capacity;
+      rooms = taken_rooms a b mid at id slot i h capacity;
+      blocks = ap (map (reading_at b.slots.items)) h.listed
+          ∙ map_taken (reading_at b.slots.items) (reading_at a.slots.items) a.order.listed at (λ pos x e. reading_by_slot b.slots.items a.slots.items x (others x (apart pos x e)));
+      texts = ap (map (text_at b.slots.items)) h.listed
+          ∙ map_taken (text_at b.slots.items) (text_at a.slots.items) a.order.listed at (λ pos x e. text_by_slot b.slots.items a.slots.items x (others x (apart pos x e)));
+    }

@@ -1,0 +1,5 @@
+pub mod Owners
+pub mod Adding
+pub mod Listings
+pub mod Changing
+pub mod Undoing

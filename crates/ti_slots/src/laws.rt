@@ -1,0 +1,7 @@
+// A law of the changes, for what stands on them. It computes nothing.
+ghost use Rattle.ti_slots.specs.Changes.{ChangesAreUndone};
+
+/// A change is undone by its opposite, without memory.
+pub fn changes_are_undone()
+    ensures { ChangesAreUndone }
+{}
