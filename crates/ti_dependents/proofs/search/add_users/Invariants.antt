@@ -1,0 +1,7 @@
+use Rattle.std.proofs.Common.{take}
+use Rattle.ti_index.specs.Labels.{Has}
+use Rattle.ti_dependents.specs.Search.{Adds}
+use Rattle.ti_dependents.proofs.search.add_users.Given as goal
+
+abbrev pub invariant-loop-id : goal.invariant-loop-id
+invariant-loop-id l = Adds (Has (take l.id-index l.id-items)) l.fn.found.keys l.found.keys

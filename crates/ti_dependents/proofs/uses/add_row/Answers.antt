@@ -1,0 +1,12 @@
+use Rattle.std.proofs.Common.{◌<◌, length, map, take, arith}
+use Rattle.ti_source.specs.Reading.{item_of}
+use Rattle.ti_dependents.proofs.Lists.{map-take_item}
+use Rattle.ti_dependents.proofs.Edges.{row_more}
+use Rattle.ti_dependents.proofs.uses.add_row.Goals as goal
+
+pub loop-item-preserved : goal.loop-item-preserved
+loop-item-preserved c =
+    let within : c.loop-item.item-index < length c.args.items.now = omega arith in
+    rw (map-take_item item_of c.args.items.now c.loop-item.item-index c.item-item.result within c.item-item.is)
+    (row_more c.args.slots.now c.args.found.now.keys (map item_of (take c.loop-item.item-index c.args.items.now)) (item_of c.item-item.result) c.edge_of.result
+    c.args.uses.now c.loop-item.uses c.add_edge.new.self c.loop-item.invariant c.in_ok-add_edge.ensures.ok c.edge_of.ensures)

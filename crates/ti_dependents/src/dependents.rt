@@ -1,0 +1,48 @@
+// The blocks that depend on an edit.
+ghost use Rattle.std.specs.Prelude.{◌≡◌, ℕ, Some, map, IfOk};
+ghost use Rattle.std.specs.Rc.{rc_slice_items};
+ghost use Rattle.ti_components.specs.Graph.{IsGraph};
+ghost use Rattle.ti_slots.specs.Slots.{IsIndexed, StandsAt};
+ghost use Rattle.ti_dependents.specs.Dependents.{AreDependentIds, IsGraphOfUses};
+
+use crate::search::search;
+use crate::uses::{graph_of_uses, places_of};
+use std::alloc::{AllocError, Global};
+use std::rc::RcSlice;
+use ti_components::Graph;
+use ti_slots::Slots;
+
+/// The blocks that depend on an edit, each once, and which of them use each other.
+#[derive(Drop)]
+pub struct Dependents {
+    /// The ids of the blocks.
+    pub ids: Vec<u32>,
+    /// Where each of them stands in the list.
+    pub places: Vec<usize>,
+    /// A node for each of them, by its place in `ids`. Its row has an edge for each item: to the
+    /// node of the owner of the name that the item uses, where that is one of them, else nowhere.
+    pub uses: Graph,
+}
+
+/// The blocks that depend on an edit of a list: the block put in, which has the id `put`, and each
+/// that reaches a name of it or one of the names `out` of the block taken out. The list is the new
+/// one. The time is linear, up to a logarithm, in what the blocks found say and in how many use
+/// their names. It fails where memory is short, and changes nothing.
+pub fn find_dependents(
+    alloc: Global,
+    slots: &Slots,
+    put: Option<u32>,
+    out: &[RcSlice<u8>],
+) -> Result<Dependents, AllocError>
+    requires indexed { IsIndexed slots.now }
+    requires put { (id : ℕ) → put ≡ Some id → (at : ℕ) × StandsAt slots.now at id }
+    ensures found { IfOk result (λ d. AreDependentIds slots.now put (map rc_slice_items out.now) d.ids.items d.places.items) }
+    ensures uses { IfOk result (λ d. IsGraphOfUses slots.now d.ids.items d.uses) }
+    ensures graph { IfOk result (λ d. IsGraph d.uses) }
+{
+    let found = search(alloc, slots, put, out)?;
+    let ids = Vec::from_slice(alloc, found.as_slice())?;
+    let places = places_of(alloc, &slots.order, &ids)?;
+    let uses = graph_of_uses(alloc, slots, &found)?;
+    Ok(Dependents { ids, places, uses })
+}

@@ -1,0 +1,18 @@
+//! Which blocks of a source depend on an edit: the block put in, and each block that reaches a name
+//! of the block taken out or put in, found by a search backwards along uses.
+//!
+//! - `blocks`: a block by its id
+//! - `dependents`: the blocks, and their uses of each other
+//! - `search`: the search for them
+//! - `uses`: where they stand, and which of them use each other
+#![tactic(auto)]
+
+mod blocks;
+mod dependents;
+mod search;
+mod uses;
+
+pub use dependents::{Dependents, find_dependents};
+
+#[cfg(test)]
+mod tests;

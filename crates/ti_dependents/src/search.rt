@@ -1,0 +1,111 @@
+// The search: the block put in and the users of touched names, then the users of each block found.
+ghost use Rattle.std.specs.Prelude.{◌≡◌, ◌↔◌, ℕ, Some, IsSome, IsTrue, length, map, OnOk, IfOk};
+ghost use Rattle.std.specs.Rc.{rc_slice_items};
+ghost use Rattle.ti_slots.specs.Slots.{slot_at, IsIndexed, IsOwnerId, StandsAt};
+ghost use Rattle.ti_dependents.specs.Search.{Adds, IsUserOf, IsUserOfOne, IsUserOfOwned, IsPutOrUser, IsSearch};
+
+use crate::blocks::block_of;
+use indexmap::IndexSet;
+use std::alloc::{AllocError, Global};
+use std::rc::RcSlice;
+use ti_slots::Slots;
+
+/// Adds the users of a name.
+fn add_users(slots: &Slots, name: &[u8], found: &mut IndexSet<u32>) -> Result<(), AllocError>
+    ensures { OnOk result (Adds (IsUserOf slots.now name.now) found.old.keys found.new.keys) }
+{
+    for id in slots.names.users(name) {
+        found.insert(*id)?;
+    }
+    Ok(())
+}
+
+/// Adds the users of each name.
+fn add_users_of_names(
+    slots: &Slots,
+    names: &[RcSlice<u8>],
+    found: &mut IndexSet<u32>,
+) -> Result<(), AllocError>
+    ensures { OnOk result (Adds (IsUserOfOne slots.now (map rc_slice_items names.now)) found.old.keys found.new.keys) }
+{
+    for name in names {
+        add_users(slots, name.as_slice(), found)?;
+    }
+    Ok(())
+}
+
+/// Whether a name belongs to the block with an id.
+fn owns(slots: &Slots, name: &[u8], id: u32) -> bool
+    requires { IsIndexed slots.now }
+    ensures { IsTrue result ↔ IsOwnerId slots.now name.now id }
+{
+    slots.owner(name) == Some(id)
+}
+
+/// Adds the users of those of the names that belong to the block with an id.
+fn add_users_of_owned(
+    slots: &Slots,
+    id: u32,
+    names: &[RcSlice<u8>],
+    found: &mut IndexSet<u32>,
+) -> Result<(), AllocError>
+    requires { IsIndexed slots.now }
+    ensures { OnOk result (Adds (IsUserOfOwned slots.now id (map rc_slice_items names.now)) found.old.keys found.new.keys) }
+{
+    for name in names {
+        if owns(slots, name.as_slice(), id) {
+            add_users(slots, name.as_slice(), found)?;
+        }
+    }
+    Ok(())
+}
+
+/// Adds a block and the users of its names.
+fn add_with_users(slots: &Slots, id: u32, found: &mut IndexSet<u32>) -> Result<(), AllocError>
+    requires { IsSome (slot_at slots.now.slots.items id) }
+    ensures { OnOk result (Adds (IsPutOrUser slots.now id) found.old.keys found.new.keys) }
+{
+    found.insert(id)?;
+    add_users_of_names(slots, &block_of(slots, id).names, found)?;
+    Ok(())
+}
+
+/// The block put in, if there is one, and the users of touched names.
+fn begin(
+    alloc: Global,
+    slots: &Slots,
+    put: Option<u32>,
+    out: &[RcSlice<u8>],
+) -> Result<IndexSet<u32>, AllocError>
+    requires indexed { IsIndexed slots.now }
+    requires put { (id : ℕ) → put ≡ Some id → (at : ℕ) × StandsAt slots.now at id }
+    ensures { IfOk result (λ found. IsSearch slots.now put (map rc_slice_items out.now) found.keys 0) }
+{
+    let mut found = IndexSet::new(alloc);
+    if let Some(id) = put {
+        add_with_users(slots, id, &mut found)?;
+    }
+    add_users_of_names(slots, out, &mut found)?;
+    Ok(found)
+}
+
+/// All blocks that depend on the edit, by their ids.
+pub(crate) fn search(
+    alloc: Global,
+    slots: &Slots,
+    put: Option<u32>,
+    out: &[RcSlice<u8>],
+) -> Result<IndexSet<u32>, AllocError>
+    requires indexed { IsIndexed slots.now }
+    requires put { (id : ℕ) → put ≡ Some id → (at : ℕ) × StandsAt slots.now at id }
+    ensures { IfOk result (λ found. IsSearch slots.now put (map rc_slice_items out.now) found.keys (length found.keys)) }
+{
+    let mut found = begin(alloc, slots, put, out)?;
+    let mut next = 0;
+    while next < found.len() {
+        let id = found[next];
+        add_users_of_owned(slots, id, &block_of(slots, id).names, &mut found)?;
+        next += 1;
+    }
+    Ok(found)
+}

@@ -1,0 +1,81 @@
+// Where the blocks found stand, and which of them use each other.
+ghost use Rattle.std.specs.Prelude.{◌≡◌, ◌<◌, ℕ, Some, IsSome, length, map, nat_eq, slice_get, OnOk, IfOk};
+ghost use Rattle.ti_source.specs.Reading.{item_of};
+ghost use Rattle.std.specs.List.{IsDistinct};
+ghost use Rattle.ti_index.specs.Labels.{Has, IsDistinct as AreDistinct};
+ghost use Rattle.ti_slots.specs.Slots.{slot_at, IsIndexed};
+ghost use Rattle.ti_components.specs.Graph.{IsGraph};
+ghost use Rattle.ti_dependents.specs.Dependents.{IsEdgeOf, IsGraphOfUses};
+ghost use Rattle.ti_dependents.specs.Uses.{AddsRow, ArePlaces};
+
+use crate::blocks::block_of;
+use indexmap::IndexSet;
+use std::alloc::{AllocError, Global};
+use ti_components::Graph;
+use ti_index::Order;
+use ti_slots::Slots;
+use ti_source::{Item, What};
+
+/// Where each of the ids stands in the list, in which no id stands twice.
+pub(crate) fn places_of(alloc: Global, order: &Order, ids: &[u32]) -> Result<Vec<usize>, AllocError>
+    requires { (i id : ℕ) → slice_get ids.now i ≡ Some id → Has order.now.listed id }
+    ensures places { IfOk result (λ places. ArePlaces order.now.listed ids.now places.items) }
+    ensures distinct { AreDistinct order.now.listed }
+{
+    // What the call says of the list is all that is wanted of it.
+    let _listed = order.ids();
+    let mut places = Vec::with_capacity(alloc, ids.len())?;
+    for id in ids {
+        places.push(order.position(*id))?;
+    }
+    Ok(places)
+}
+
+/// The place among the blocks found of the owner of the name that an item uses.
+fn edge_of(slots: &Slots, item: &Item, found: &IndexSet<u32>) -> Option<usize>
+    requires indexed { IsIndexed slots.now }
+    requires unique { IsDistinct nat_eq found.now.keys }
+    ensures { IsEdgeOf slots.now found.now.keys (item_of item.now) result }
+{
+    let What::Import(name) = &item.what else {
+        return None;
+    };
+    let owner = slots.owner(name.as_slice())?;
+    found.get_index_of(&owner)
+}
+
+/// Adds a node with an edge for each item.
+fn add_row(
+    slots: &Slots,
+    items: &[Item],
+    found: &IndexSet<u32>,
+    uses: &mut Graph,
+) -> Result<(), AllocError>
+    requires indexed { IsIndexed slots.now }
+    requires unique { IsDistinct nat_eq found.now.keys }
+    ensures { OnOk result (AddsRow slots.now found.now.keys (map item_of items.now) uses.old uses.new) }
+{
+    uses.add_node()?;
+    for item in items {
+        uses.add_edge(edge_of(slots, item, found))?;
+    }
+    Ok(())
+}
+
+/// Which of the blocks found use each other: a node for each, with an edge for each of its items.
+pub(crate) fn graph_of_uses(
+    alloc: Global,
+    slots: &Slots,
+    found: &IndexSet<u32>,
+) -> Result<Graph, AllocError>
+    requires indexed { IsIndexed slots.now }
+    requires filled { (i id : ℕ) → slice_get found.now.keys i ≡ Some id → IsSome (slot_at slots.now.slots.items id) }
+    ensures uses { IfOk result (λ graph. IsGraphOfUses slots.now found.now.keys graph) }
+    ensures graph { IfOk result IsGraph }
+{
+    let mut uses = Graph::with_capacity(alloc, found.len(), found.len())?;
+    for id in found.as_slice() {
+        add_row(slots, &block_of(slots, *id).items, found, &mut uses)?;
+    }
+    Ok(uses)
+}
