@@ -67,7 +67,7 @@ module _ (field : List ℕ) (c : Contents) (h : Header) (has : HasSizes field c 
     pub strings_counted : h.strings ≡ length (texts_below c (written_count c Text))
     strings_counted = let s = has.strings in let t = table_small in omega arith
 
-    header_laid : header h.format h.names h.flags h.numbers h.texts h.strings
+    pub header_laid : header h.format h.names h.flags h.numbers h.texts h.strings
         ≡ header (format_of c) (suc (length field)) (length (flags_below c (written_count c Flag))) (length (numbers_below (format_of c) c (written_count c Number))) (length (offsets_below c (written_count c Text))) (length (texts_below c (written_count c Text)))
     header_laid =
         same_header _ _ _ _ _ _ _ _ _ _ _ _ has.format has.names (has.flags ∙ sym (length-below _ (written_count c Flag))) (has.numbers ∙ sym (length-below _ (written_count c Number)))

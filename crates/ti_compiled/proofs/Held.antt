@@ -1,11 +1,11 @@
 -- What the entries of a table say of a capability, and what an edit of them changes.
-use Rattle.std.proofs.Common.{◌≡◌, ◌≢◌, ℕ, zero, suc, ◌+◌, ◌<◌, Bool, true, false, if◌then◌else◌, List, [], ◌∷◌, length, get_or, set, Option, Some, None, refl, sym, ◌∙◌, ap, arith, eqb-true, eq-eqb}
+use Rattle.std.proofs.Common.{◌≡◌, ◌≢◌, ℕ, zero, suc, ◌+◌, ◌<◌, Bool, true, false, cond, if◌then◌else◌, All, subst, List, [], ◌∷◌, length, get_or, set, Option, Some, None, refl, sym, ◌∙◌, ap, arith, eqb-true, eq-eqb}
 use Rattle.std.specs.List.{insert, remove}
 use Rattle.std.proofs.lemmas.Bool.{and_parts, and_from}
 use Rattle.ti_caps.specs.Tables.{Capability, IsCapability, capability, count_of}
 use Rattle.ti_caps.specs.declared.capability.Kind.{Kind}
 use Rattle.ti_caps.specs.declared.capability.Kind.TheVariants.{Flag, Number, Text}
-use Rattle.ti_compiled.specs.Values.{Content, Entry, contents, is_same, kind_place, rank_in, rank_of}
+use Rattle.ti_compiled.specs.Values.{Content, Entry, Agrees, AgreesIfSome, contents, is_same, kind_place, rank_in, rank_of}
 
 -- ---- whether two capabilities are one
 
@@ -125,3 +125,18 @@ says-remove (x ∷ es) c zero e within here other d =
 says-remove (x ∷ es) c (suc i) e within here other d =
     rw (says-remove es c i e (omega arith) here (later x es c i other) d)
     (exchanged (is_same c d) (is_same x.0 d) None (Some x.1) (contents es d) (apart_from x.0 c d (other 0 x (λ s. omega arith) (omega arith))))
+
+-- ---- what is held may be had
+
+module _ (c : Capability) where
+  agree_one : (x : Entry) (o : Option Content) → Agrees x.0 x.1 → AgreesIfSome c o → AgreesIfSome c (if is_same x.0 c then Some x.1 else o)
+  agree_one x o agrees rest =
+      elim (is_same x.0 c) as (λ b. is_same x.0 c ≡ b → AgreesIfSome c (cond b (Some x.1) o)) [
+        | true ↦ λ e. subst (λ d. Agrees d x.1) (one_from_same x.0 c e) agrees
+        | false ↦ λ e. rest
+      ] refl
+
+  pub agree_all : (es : List Entry) → All (λ e. IsCapability e.0 × Agrees e.0 e.1) es → AgreesIfSome c (contents es c)
+  unfolding contents
+  agree_all [] all = tt
+  agree_all (x ∷ es) all = agree_one x (contents es c) (all 0 x (omega arith)).1 (agree_all es (λ i d lt. all (suc i) d (omega arith)))

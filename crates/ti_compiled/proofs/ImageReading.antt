@@ -107,19 +107,19 @@ sound_offset c n i lt small (Some (content_text t)) e a =
     inl (omega (arith, there.within, small), there.has_end)
 sound_offset c n i lt small (Some content_cancelled) e a = absent_offset _
 
-record Sound (names : List ℕ) (c : Contents) : Type 0 where
-  some : 0 < length names
-  short : length names ≤ 127
-  no_nul : HasNoNul names
-  agree : (k : Capability) → IsCapability k → AgreesIfSome k (c k)
-  small : length (texts_below c (written_count c Text)) < 32768
+pub record Sound (names : List ℕ) (c : Contents) : Type 0 where
+  pub some : 0 < length names
+  pub short : length names ≤ 127
+  pub no_nul : HasNoNul names
+  pub agree : (k : Capability) → IsCapability k → AgreesIfSome k (c k)
+  pub small : length (texts_below c (written_count c Text)) < 32768
 
-record Counts (c : Contents) : Type 0 where
-  flags : written_count c Flag ≤ 44
-  numbers : written_count c Number ≤ 39
-  texts : written_count c Text ≤ 414
+pub record Counts (c : Contents) : Type 0 where
+  pub flags : written_count c Flag ≤ 44
+  pub numbers : written_count c Number ≤ 39
+  pub texts : written_count c Text ≤ 414
 
-counts : (c : Contents) → Counts c
+pub counts : (c : Contents) → Counts c
 counts c = record {
   flags = last_passing-le (λ i. is_there (of_kind c Flag i)) 44;
   numbers = last_passing-le (λ i. is_there (of_kind c Number i)) 39;
@@ -132,7 +132,7 @@ all_below f n P each k d lt =
     let within : k < n = omega (arith, length-below f n) in
     subst P (sym (get_or-below f n k d within)) (each k within)
 
-sections-sound : (names : List ℕ) (c : Contents) → Sound names c → AreSound (format_of c) (sections_of (format_of c) names c)
+pub sections-sound : (names : List ℕ) (c : Contents) → Sound names c → AreSound (format_of c) (sections_of (format_of c) names c)
 sections-sound names c h =
     let n = counts c in
     let F = written_count c Flag in
@@ -161,7 +161,7 @@ sections-sound names c h =
 
 -- ---- what the sections say is what the contents are
 
-not_there : (o : Option Content) → is_there o ≡ false → uncancelled o ≡ None
+pub not_there : (o : Option Content) → is_there o ≡ false → uncancelled o ≡ None
 not_there None e = refl
 not_there (Some content_true) e = absurd cc
 not_there (Some (content_number n)) e = absurd cc
@@ -169,7 +169,7 @@ not_there (Some (content_text t)) e = absurd cc
 not_there (Some content_cancelled) e = refl
 
 -- a place that is not written holds nothing
-past-written : (c : Contents) (kind : Kind) (i : ℕ) → written_count c kind ≤ i → i < count_of kind → uncancelled (c (capability kind i)) ≡ None
+pub past-written : (c : Contents) (kind : Kind) (i : ℕ) → written_count c kind ≤ i → i < count_of kind → uncancelled (c (capability kind i)) ≡ None
 past-written c kind i le lt = not_there (c (capability kind i)) (last_passing-past (λ k. is_there (of_kind c kind k)) (count_of kind) i le lt)
 
 flag-again : (i : ℕ) (o : Option Content) → AgreesIfSome (capability Flag i) o → flag_of (flag_value o) ≡ uncancelled o

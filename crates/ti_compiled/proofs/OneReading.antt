@@ -38,10 +38,10 @@ offset_fits strings n (inl plain) = omega (arith, plain.0)
 offset_fits strings n (inr void) = void.1
 
 -- names and contents are those of the sections that the header cuts
-read_names : (b m : List ℕ) (c : Contents) → Reads b m c → m ≡ take (length (names_section b) - 1) (names_section b)
+pub read_names : (b m : List ℕ) (c : Contents) → Reads b m c → m ≡ take (length (names_section b) - 1) (names_section b)
 read_names b m c r = r.named ∙ sym (names_before (names_section b) r.sections.names r.sections (found_of b m c r).names)
 
-read_contents : (b m : List ℕ) (c : Contents) → Reads b m c
+pub read_contents : (b m : List ℕ) (c : Contents) → Reads b m c
     → c ≡ contents_of (format_in b) (flags_section b) (numbers_in (format_in b) (numbers_section b)) (numbers_in Legacy (offsets_section b)) (strings_section b)
 read_contents b m c r =
     let f = found_of b m c r in

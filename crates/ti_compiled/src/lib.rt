@@ -21,6 +21,8 @@ mod writing;
 
 pub use fault::ReadError;
 pub use laws::{images_are_of_values, images_are_read, one_reading};
+pub use layout::{Format, HEADER_SIZE, Header};
+pub use sections::{number, word};
 pub use values::{Table, Value};
 pub use view::View;
 pub use writing::{WriteError, write};

@@ -95,6 +95,13 @@ impl Table {
         Ok(())
     }
 
+    /// What is so of every table: each value is one that its capability may have. It computes nothing.
+    pub fn values_agree(&self)
+        ensures { (c : Capability) → AgreesIfSome c (contents self.now c) }
+    {
+        let _ = &self.entries;
+    }
+
     // The capabilities that have a value, with it, in the order of the compiled entry.
     pub(crate) fn entries(&self) -> &[(Cap, Value)]
         ensures entries { entries_of result.now ≡ self.now }
