@@ -1,0 +1,60 @@
+-- What laying the items of a block makes of its table, and what its table makes of the block.
+use Rattle.std.proofs.Common.{◌≡◌, ℕ, suc, ◌<◌, ◌≤◌, true, false, List, length, nat_lt, Option, Some, slice_get, refl, sym, ◌∙◌, ap, subst}
+use Rattle.std.specs.Option.{option_or}
+use Rattle.std.proofs.lemmas.Bool.{lt-ltb, le-ltb}
+use Rattle.std.proofs.lemmas.Option.{none-some}
+use Rattle.ti_caps.specs.Tables.{Capability}
+use Rattle.ti_source.specs.declared.code.Code.{Code}
+use Rattle.ti_source.specs.Reading.{Reading, said_import}
+use Rattle.ti_compiled.specs.declared.values.Table.{Table}
+use Rattle.ti_compiled.specs.Values.{Contents, contents}
+use Rattle.ti_meaning.specs.Expansion.{Mention, values}
+use Rattle.ti_meaning.specs.Reaching.{used_name}
+use Rattle.ti_meaning.specs.Faults.{use_fault}
+use Rattle.ti_meaning.specs.Compiled.{EntryState, oversized, written, image_of, state_with, state_of}
+use Rattle.ti_meaning.specs.ValueTables.{Tells, IsLaid, IsTableOf, HasTable}
+use Rattle.ti_compiled.specs.Image.{limit_of}
+use Rattle.ti_meaning.proofs.Depth.{bounded}
+use Rattle.ti_meaning.proofs.Laying.{uses_at}
+use Rattle.ti_plan.specs.Settling.{IsUseAt, IsItemAt, AreUsesSound, IsUsedTable}
+
+-- an item that says a use is one
+pub use_of_item : (blocks : List Reading) (at index : ℕ) (name : List ℕ) → IsItemAt blocks at index (said_import name) → IsUseAt blocks at index name
+use_of_item blocks at index name h = record { block = h.block; stands = h.stands; item = h.item; places = h.places; uses = ap used_name h.is }
+
+-- a use of a block without faults has none
+pub no_fault : (blocks : List Reading) (at index : ℕ) (name : List ℕ) (code : Code) → IsItemAt blocks at index (said_import name) → AreUsesSound blocks at → ◌≡◌ {A = Option Code} (Some code) (use_fault blocks at name) → ⊥
+no_fault blocks at index name code h sound e =
+    let none = sound h.block name h.stands (uses_at h.block.items index h.item name h.places (ap used_name h.is)) in
+    none-some code (sym none ∙ sym e)
+
+-- the table of the used name's owner was laid
+pub laid_use : (blocks : List Reading) (name : List ℕ) (used old new : Contents) → IsUsedTable blocks name used → ((c : Capability) → new c ≡ option_or (old c) (used c)) → IsLaid blocks (said_import name) old new
+laid_use blocks name used old new u laid = record {
+  depth = suc (length blocks);
+  mentions = u.2.0;
+  expands = rw u.1 u.2.1;
+  lays = λ c valid. rw (← u.2.2 c valid) (laid c);
+}
+
+-- ---- the state that a table makes
+
+pub within : (b : Reading) (ms : List Mention) (bytes : List ℕ) → bytes ≡ image_of b ms → length bytes ≤ limit_of (values ms) → written bytes ≡ state_with b (Some ms)
+within b ms bytes e l =
+    let small : nat_lt (limit_of (values ms)) (length (image_of b ms)) ≡ false = le-ltb (limit_of (values ms)) (length (image_of b ms)) (rw (← e) l) in
+    rw (small, e) refl
+
+pub over : (b : Reading) (ms : List Mention) → limit_of (values ms) < length (image_of b ms) → oversized ≡ state_with b (Some ms)
+over b ms l =
+    let large : nat_lt (limit_of (values ms)) (length (image_of b ms)) ≡ true = lt-ltb (limit_of (values ms)) (length (image_of b ms)) l in
+    rw large refl
+
+-- the table that some depth gives is the block's
+pub has_table : (blocks : List Reading) (at : ℕ) (b : Reading) (t : Table) → slice_get blocks at ≡ Some b → IsTableOf blocks b (contents t) → HasTable contents blocks b (Some t)
+has_table blocks at b t s h = (h.mentions, bounded blocks h.depth at b h.mentions s h.expands, h.tells)
+
+pub state_is : (blocks : List Reading) (b : Reading) (t : Table) (seen : EntryState) → HasTable contents blocks b (Some t) → ((ms : List Mention) → Tells (contents t) ms → seen ≡ state_with b (Some ms)) → seen ≡ state_of blocks b
+state_is blocks b t seen h f = f h.0 h.2 ∙ ap (state_with b) (sym h.1)
+
+pub table_seen : (blocks : List Reading) (b : Reading) (t : Table) (o : Option Table) → o ≡ Some t → HasTable contents blocks b (Some t) → HasTable contents blocks b o
+table_seen blocks b t o e h = let P : Option Table → Type 0 = λ x. HasTable contents blocks b x in subst P (sym e) h

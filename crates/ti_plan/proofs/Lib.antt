@@ -1,0 +1,11 @@
+pub mod ItemLists
+pub mod Places
+pub mod UsedOwners
+pub mod BlockValues
+pub mod ItemFaults
+pub mod BlockFaults
+pub mod Following
+pub mod Rising
+pub mod Steps
+pub mod MadePlans
+pub mod PutFirst

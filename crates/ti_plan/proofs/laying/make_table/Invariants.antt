@@ -1,0 +1,15 @@
+use Rattle.std.proofs.Common.{◌≡◌, ◌+◌, map, take}
+use Rattle.ti_source.specs.Reading.{item_of}
+use Rattle.ti_compiled.specs.Values.{contents}
+use Rattle.ti_meaning.specs.ValueTables.{IsTableOfItems}
+use Rattle.ti_slots.specs.Slots.{blocks_of}
+use Rattle.ti_plan.proofs.laying.make_table.Given as goal
+
+abbrev pub ghost-lay_item : goal.ghost-lay_item
+ghost-lay_item g a = g.at
+
+abbrev pub invariant-loop-index : goal.invariant-loop-index
+invariant-loop-index g l = record {
+  laid : IsTableOfItems (blocks_of l.known.slots.now) (map item_of (take l.index l.block.items.items)) (contents l.table);
+  steps : l.work ≡ l.fn.work + l.index;
+}

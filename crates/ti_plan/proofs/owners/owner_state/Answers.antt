@@ -1,0 +1,76 @@
+use Rattle.std.proofs.Common.{Some, None, rules}
+use Rattle.std.proofs.lemmas.Option.{none-some, same_Some}
+use Rattle.ti_slots.specs.Slots.{blocks_of}
+use Rattle.ti_meaning.proofs.UseFaults.{use_fault_missing}
+use Rattle.ti_plan.proofs.Places.{row_at}
+use Rattle.ti_plan.proofs.UsedOwners.{fault_circular, state_inside, state_outside, read_use, read_edge, owner_within, node_within, one_component, two_components, settled_read}
+use Rattle.ti_plan.proofs.owners.owner_state.Goals as goal
+
+pub bounds : goal.bounds
+bounds g c =
+    let k = c.args.known.now in
+    row_at k.slots.now k.dependents.now c.requires.0.known.found c.args.node g.at c.args.index c.args.name.now c.row.result.now c.requires.0.stands c.requires.1 c.row.ensures
+
+pub offset_bounds-row-index : goal.offset_bounds-row-index
+offset_bounds-row-index g c = let b = bounds g c in search rules
+
+pub bounds-known-owner : goal.bounds-known-owner
+bounds-known-owner g c =
+    let k = c.args.known.now in
+    let u = read_use k.slots.now k.dependents.now k.component_of.now k.settled.now c.args.node g.at c.args.index c.args.name.now c.row.result.now c.requires.0.known c.requires.0.stands c.requires.1 c.row.ensures (Some c.in-Some.owner) c.in-Some.is in
+    (owner_within k.slots.now k.dependents.now k.component_of.now k.settled.now c.args.node g.at c.args.index c.args.name.now c.row.result.now c.in-Some.owner u).0
+
+pub offset_bounds-known-owner : goal.offset_bounds-known-owner
+offset_bounds-known-owner g c = let b = bounds-known-owner g c in search rules
+
+pub bounds-known-node : goal.bounds-known-node
+bounds-known-node g c =
+    let k = c.args.known.now in
+    node_within k.slots.now k.dependents.now k.component_of.now k.settled.now c.args.node g.at c.args.index c.args.name.now c.row.result.now c.requires.0.known c.row.ensures
+
+pub offset_bounds-known-node : goal.offset_bounds-known-node
+offset_bounds-known-node g c = let b = bounds-known-node g c in search rules
+
+pub returns-then-known-owner-clause-fault : goal.returns-then-known-owner-clause-fault
+returns-then-known-owner-clause-fault g c =
+    let k = c.args.known.now in
+    let u = read_use k.slots.now k.dependents.now k.component_of.now k.settled.now c.args.node g.at c.args.index c.args.name.now c.row.result.now c.requires.0.known c.requires.0.stands c.requires.1 c.row.ensures (Some c.in-Some.owner) c.in-Some.is in
+    let within = owner_within k.slots.now k.dependents.now k.component_of.now k.settled.now c.args.node g.at c.args.index c.args.name.now c.row.result.now c.in-Some.owner u in
+    let node = node_within k.slots.now k.dependents.now k.component_of.now k.settled.now c.args.node g.at c.args.index c.args.name.now c.row.result.now c.requires.0.known c.row.ensures in
+    fault_circular k.slots.now k.dependents.now k.component_of.now k.settled.now c.args.node g.at c.args.index c.args.name.now c.in-Some.owner u (one_component k.component_of.now c.args.node c.in-Some.owner node within.0 c.if-known-owner.true)
+
+pub bounds-known-owner-in-Some : goal.bounds-known-owner-in-Some
+bounds-known-owner-in-Some g c =
+    let k = c.args.known.now in
+    let u = read_use k.slots.now k.dependents.now k.component_of.now k.settled.now c.args.node g.at c.args.index c.args.name.now c.row.result.now c.requires.0.known c.requires.0.stands c.requires.1 c.row.ensures (Some c.in-Some.owner) c.in-Some.is in
+    (owner_within k.slots.now k.dependents.now k.component_of.now k.settled.now c.args.node g.at c.args.index c.args.name.now c.row.result.now c.in-Some.owner u).1
+
+pub offset_bounds-known-owner-in-Some : goal.offset_bounds-known-owner-in-Some
+offset_bounds-known-owner-in-Some g c = let b = bounds-known-owner-in-Some g c in search rules
+
+pub unreachable-requires : goal.unreachable-requires
+unreachable-requires g c =
+    let k = c.args.known.now in
+    let edge = read_edge k.slots.now k.dependents.now k.component_of.now k.settled.now c.args.node g.at c.args.index c.args.name.now c.row.result.now c.requires.0.known c.requires.0.stands c.requires.1 c.row.ensures c.in-Some.owner c.in-Some.is in
+    let w = settled_read k.component_of.now k.settled.now k.dependents.now.uses c.args.node c.in-Some.owner c.index-known-owner.result None c.requires.0.owners edge (two_components k.component_of.now c.args.node c.in-Some.owner c.if-known-owner.false) c.index-known-owner.is c.in-None-settled.is in
+    none-some w.0 w.2
+
+pub returns-in-Some-settled-clause-owner : goal.returns-in-Some-settled-clause-owner
+returns-in-Some-settled-clause-owner g c =
+    let k = c.args.known.now in
+    let apart = two_components k.component_of.now c.args.node c.in-Some.owner c.if-known-owner.false in
+    let u = read_use k.slots.now k.dependents.now k.component_of.now k.settled.now c.args.node g.at c.args.index c.args.name.now c.row.result.now c.requires.0.known c.requires.0.stands c.requires.1 c.row.ensures (Some c.in-Some.owner) c.in-Some.is in
+    let edge = read_edge k.slots.now k.dependents.now k.component_of.now k.settled.now c.args.node g.at c.args.index c.args.name.now c.row.result.now c.requires.0.known c.requires.0.stands c.requires.1 c.row.ensures c.in-Some.owner c.in-Some.is in
+    let w = settled_read k.component_of.now k.settled.now k.dependents.now.uses c.args.node c.in-Some.owner c.index-known-owner.result (Some c.in-Some-settled.settled) c.requires.0.owners edge apart c.index-known-owner.is c.in-Some-settled.is in
+    rw (same_Some c.in-Some-settled.settled w.0 w.2)
+    (state_inside k.slots.now k.dependents.now k.component_of.now k.settled.now c.args.node g.at c.args.index c.args.name.now c.in-Some.owner w.0 u apart w.1)
+
+pub returns-in-Some-owner-clause-owner : goal.returns-in-Some-owner-clause-owner
+returns-in-Some-owner-clause-owner g c =
+    let k = c.args.known.now in
+    let u = read_use k.slots.now k.dependents.now k.component_of.now k.settled.now c.args.node g.at c.args.index c.args.name.now c.row.result.now c.requires.0.known c.requires.0.stands c.requires.1 c.row.ensures None c.in-None.is in
+    state_outside k.slots.now k.dependents.now k.component_of.now k.settled.now c.args.node g.at c.args.index c.args.name.now c.in-Some-owner.id c.slot.result.now u (c.owner.ensures.some c.in-Some-owner.id c.in-Some-owner.is) c.slot.ensures
+
+pub returns-in-None-owner-clause-fault : goal.returns-in-None-owner-clause-fault
+returns-in-None-owner-clause-fault g c =
+    use_fault_missing (blocks_of c.args.known.now.slots.now) g.at c.args.name.now (c.owner.ensures.none c.in-None-owner.is)

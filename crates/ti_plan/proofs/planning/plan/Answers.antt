@@ -1,0 +1,15 @@
+use Rattle.std.proofs.Common.{map}
+use Rattle.std.specs.Rc.{rc_slice_items}
+use Rattle.ti_plan.proofs.MadePlans.{found_in, plan_is}
+use Rattle.ti_plan.proofs.planning.plan.Goals as goal
+
+pub make_plan-requires : goal.make_plan-requires
+make_plan-requires c =
+    let found = c.in_ok-dependents.ensures in
+    found_in c.args.slots.now c.args.put (map rc_slice_items c.args.out.now) c.in_ok-dependents.dependents c.requires.indexed c.requires.usable c.requires.ready c.ids-listed.ensures.distinct found.found found.uses found.graph
+
+pub returns : goal.returns
+returns c =
+    let found = c.in_ok-dependents.ensures in
+    let is = found_in c.args.slots.now c.args.put (map rc_slice_items c.args.out.now) c.in_ok-dependents.dependents c.requires.indexed c.requires.usable c.requires.ready c.ids-listed.ensures.distinct found.found found.uses found.graph in
+    plan_is c.args.slots.now c.args.put (map rc_slice_items c.args.out.now) c.in_ok-dependents.dependents c.in_ok-make_plan.field-0 is found.found c.in_ok-make_plan.ensures

@@ -1,0 +1,23 @@
+use Rattle.std.proofs.Common.{◌≡◌, map, sym, ◌∙◌, subst, ap}
+use Rattle.std.proofs.lemmas.Option.{same_Some}
+use Rattle.ti_source.specs.Reading.{reading_of}
+use Rattle.ti_slots.specs.Settled.{IsSettled, fault_at, state_seen}
+use Rattle.ti_slots.specs.Slots.{blocks_of}
+use Rattle.ti_plan.proofs.BlockFaults.{lasting_added}
+use Rattle.ti_plan.proofs.settling.settle.Goals as goal
+
+pub returns-clause-settled : goal.returns-clause-settled
+returns-clause-settled g c = λ block s.
+    let bs = blocks_of c.args.known.now.slots.now in
+    let b = reading_of c.block_at-block.result.now in
+    let none = ap (map (fault_at g.at)) c.new-faults.ensures.items in
+    let one = rw (c.deref.ensures.value, none) at c.in_ok-add_locals.ensures in
+    let three = rw c.deref-2.ensures.value at c.in_ok-add_entry_fault.ensures in
+    let same : b ≡ block = same_Some b block (sym c.block_at-block.ensures ∙ s) in
+    subst (λ x. IsSettled bs g.at x (record { state = c.in_ok-state.state; faults = c.add_entry_fault.new.faults })) same
+    (record {
+      table = c.in_ok-state.ensures.table;
+      state = c.in_ok-state.ensures.state;
+      faults = lasting_added bs g.at b (state_seen c.in_ok-state.state) (map (fault_at g.at) c.add_locals.new.faults.items) (map (fault_at g.at) c.add_item_faults.new.faults.items) (map (fault_at g.at) c.add_entry_fault.new.faults.items)
+          one c.in_ok-is_wrong.ensures.added three c.in_ok-state.ensures.state;
+    })

@@ -1,0 +1,142 @@
+// The values of a block: laying items into a table, the leftmost mention of a capability first.
+ghost use Rattle.std.specs.Prelude.{ℕ, ◌≡◌, ◌+◌, ◌<◌, ◌^◌, if◌then◌else◌, length, false, List, Some, None, slice_get, option_map, IfOk, OnOk};
+ghost use Rattle.std.specs.Option.{option_or};
+ghost use Rattle.ti_caps.specs.Tables.{Capability};
+ghost use Rattle.ti_source.specs.Reading.{item_of, reading_of, said_of};
+ghost use Rattle.ti_compiled.specs.Values.{contents, content_of, Agrees};
+ghost use Rattle.ti_meaning.specs.Expansion.{Mention, is_broken, same_capability};
+ghost use Rattle.ti_meaning.specs.Compiled.{state_of, state_with};
+ghost use Rattle.ti_meaning.specs.Dependents.{work_of};
+ghost use Rattle.ti_meaning.specs.Usable.{IsUsable, SetsWell};
+ghost use Rattle.ti_meaning.specs.ValueTables.{HasTable, IsLaid, IsTableOf, Tells};
+ghost use Rattle.ti_slots.specs.Settled.{state_seen, table_of};
+ghost use Rattle.ti_slots.specs.Slots.{blocks_of};
+ghost use Rattle.ti_plan.specs.Settling.{AreUsesSound, CanBeSettled, IsItemAt};
+
+use crate::owners::{Known, used_table};
+use std::alloc::{AllocError, Global};
+use ti_caps::Cap;
+use ti_compiled::{Table, Value, WriteError, write};
+use ti_slots::State;
+use ti_source::{Parsed, What};
+
+/// Lays a value into the table, unless the table mentions the capability already: a value or a
+/// cancel that is there stays.
+fn lay(table: &mut Table, cap: Cap, value: Value, work: &mut u64) -> Result<(), AllocError>
+    requires agrees { Agrees cap (content_of value) }
+    requires room { work.old + 1 < 2 ^ 64 }
+    ensures laid { OnOk result ((c : Capability) → contents table.new c
+        ≡ option_or (contents table.old c) (if same_capability cap c then Some (content_of value) else None)) }
+    ensures work { OnOk result (work.new ≡ work.old + 1) }
+{
+    *work += 1;
+    if table.get(cap).is_none() {
+        table.set(cap, Some(value))?;
+    }
+    Ok(())
+}
+
+/// Lays all values of another table, unless the table mentions their capabilities already.
+fn merge(table: &mut Table, used: &Table, work: &mut u64) -> Result<(), AllocError>
+    requires { work.old + 1 < 2 ^ 64 }
+    ensures merged { OnOk result ((c : Capability) → contents table.new c ≡ option_or (contents table.old c) (contents used.now c)) }
+    ensures work { OnOk result (work.new ≡ work.old + 1) }
+{
+    *work += 1;
+    table.merge(used)
+}
+
+/// Lays what an item of the block at a node stands for.
+fn lay_item(
+    known: &Known,
+    node: usize,
+    index: usize,
+    what: &What,
+    table: &mut Table,
+    work: &mut u64,
+) -> Result<(), AllocError>
+    ghost at: { ℕ }
+    requires ready { CanBeSettled known.now.slots.now known.now.dependents.now known.now.component_of.now known.now.settled.now node at }
+    requires item { IsItemAt (blocks_of known.now.slots.now) at index (said_of what.now) }
+    requires sets { SetsWell (said_of what.now) }
+    requires sound { AreUsesSound (blocks_of known.now.slots.now) at }
+    requires room { work.old + 1 < 2 ^ 64 }
+    ensures laid { OnOk result (IsLaid (blocks_of known.now.slots.now) (said_of what.now) (contents table.old) (contents table.new)) }
+    ensures work { OnOk result (work.new ≡ work.old + 1) }
+{
+    match what {
+        What::Flag(cap) => lay(table, *cap, Value::True, work)?,
+        What::Number(cap, number) => lay(table, *cap, Value::Number(*number), work)?,
+        What::Text(cap, text) => lay(table, *cap, Value::Text(text.clone()?), work)?,
+        What::Cancel(cap) => lay(table, *cap, Value::Cancelled, work)?,
+        What::Import(name) => {
+            let Ok(used) = used_table(known, node, index, name.as_slice()) else {
+                unreachable!()
+            };
+            merge(table, used, work)?;
+        }
+    }
+    Ok(())
+}
+
+/// The table of the block at a node, which is sound, as are its uses.
+fn make_table(
+    alloc: Global,
+    known: &Known,
+    node: usize,
+    block: &Parsed,
+    work: &mut u64,
+) -> Result<Table, AllocError>
+    ghost at: { ℕ }
+    requires ready { CanBeSettled known.now.slots.now known.now.dependents.now known.now.component_of.now known.now.settled.now node at }
+    requires block { slice_get (blocks_of known.now.slots.now) at ≡ Some (reading_of block.now) }
+    requires whole { is_broken (reading_of block.now) ≡ false }
+    requires sound { AreUsesSound (blocks_of known.now.slots.now) at }
+    requires room { work.old + length block.now.items.items < 2 ^ 64 }
+    ensures table { IfOk result (λ table. IsTableOf (blocks_of known.now.slots.now) (reading_of block.now) (contents table)) }
+    ensures work { OnOk result (work.new ≡ work.old + length block.now.items.items) }
+{
+    let mut table = Table::new(alloc);
+    for (index, item) in block.items.iter().enumerate() {
+        lay_item(known, node, index, &item.what, &mut table, work)?;
+    }
+    Ok(table)
+}
+
+/// What becomes of a sound block that has this table.
+fn make_state(alloc: Global, block: &Parsed, table: Table) -> Result<State, AllocError>
+    requires whole { is_broken (reading_of block.now) ≡ false }
+    requires usable { IsUsable (reading_of block.now) }
+    ensures table { IfOk result (λ state. table_of state ≡ Some table) }
+    ensures state { IfOk result (λ state. (mentions : List Mention) → Tells (contents table) mentions
+        → state_seen state ≡ state_with (reading_of block.now) (Some mentions)) }
+{
+    match write(alloc, &block.field, &table) {
+        Ok(bytes) => Ok(State::Compiled(table, bytes)),
+        Err(WriteError::TooLarge) => Ok(State::TooLarge(table)),
+        Err(WriteError::Memory) => Err(AllocError),
+        Err(WriteError::NamesTooLong) => unreachable!(),
+    }
+}
+
+/// What becomes of the block at a node, which is sound, as are its uses.
+pub(crate) fn compile(
+    alloc: Global,
+    known: &Known,
+    node: usize,
+    block: &Parsed,
+    work: &mut u64,
+) -> Result<State, AllocError>
+    ghost at: { ℕ }
+    requires ready { CanBeSettled known.now.slots.now known.now.dependents.now known.now.component_of.now known.now.settled.now node at }
+    requires block { slice_get (blocks_of known.now.slots.now) at ≡ Some (reading_of block.now) }
+    requires whole { is_broken (reading_of block.now) ≡ false }
+    requires sound { AreUsesSound (blocks_of known.now.slots.now) at }
+    requires room { work.old + length block.now.items.items < 2 ^ 64 }
+    ensures state { IfOk result (λ state. state_seen state ≡ state_of (blocks_of known.now.slots.now) (reading_of block.now)) }
+    ensures table { IfOk result (λ state. HasTable contents (blocks_of known.now.slots.now) (reading_of block.now) (table_of state)) }
+    ensures work { OnOk result (work.new ≡ work.old + work_of (blocks_of known.now.slots.now) (Some (reading_of block.now))) }
+{
+    let table = make_table(alloc, known, node, block, work)?;
+    Ok(make_state(alloc, block, table)?)
+}

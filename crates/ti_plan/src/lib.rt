@@ -1,0 +1,23 @@
+//! What an edit rebuilds: the blocks that depend on it, with the values, the entry and the faults of
+//! each, found along an order in which owners come before their users, and the work of that.
+//!
+//! - `plans`: the plan of an edit
+//! - `planning`: how it is made
+//! - `faults`: the faults of a block
+//! - `laying`: the values of a block, laid item by item
+//! - `settling`: what is found out about one block
+//! - `owners`: what becomes of the owners of used names
+#![tactic(auto)]
+
+mod faults;
+mod laying;
+mod owners;
+mod planning;
+mod plans;
+mod settling;
+
+pub use planning::plan;
+pub use plans::Plan;
+
+#[cfg(test)]
+mod tests;

@@ -1,0 +1,90 @@
+// What is found out about one block of a plan: what becomes of it, and its faults.
+ghost use Rattle.std.specs.Prelude.{ℕ, ◌≡◌, ◌+◌, ◌<◌, ◌^◌, map, length, slice_get, Some, IfOk, OnOk};
+ghost use Rattle.std.specs.Bool.{MatchBool};
+ghost use Rattle.std.specs.List.{list_any};
+ghost use Rattle.ti_source.specs.Codes.{is_error};
+ghost use Rattle.ti_source.specs.Reading.{Reading, fault_of, reading_of};
+ghost use Rattle.ti_compiled.specs.Values.{contents};
+ghost use Rattle.ti_meaning.specs.Compiled.{state_of};
+ghost use Rattle.ti_meaning.specs.Dependents.{work_of};
+ghost use Rattle.ti_meaning.specs.UseLaws.{HasUseAtFault};
+ghost use Rattle.ti_meaning.specs.ValueTables.{HasTable};
+ghost use Rattle.ti_slots.specs.Settled.{IsSettled, state_seen, table_of};
+ghost use Rattle.ti_slots.specs.Slots.{blocks_of};
+ghost use Rattle.ti_plan.specs.Settling.{AreUsesSound, CanBeSettled};
+
+use crate::faults::{add_entry_fault, add_item_faults, add_locals};
+use crate::laying::compile;
+use crate::owners::Known;
+use std::alloc::{AllocError, Global};
+use ti_slots::{Settled, State};
+use ti_source::{Local, Parsed};
+
+/// Whether one of the faults is an error.
+fn has_error(faults: &[Local]) -> bool
+    ensures { result ≡ list_any (λ f. is_error f.code) (map fault_of faults.now) }
+{
+    for fault in faults {
+        if fault.code.is_error() {
+            return true;
+        }
+    }
+    false
+}
+
+/// The block at a node, as it is read.
+fn block_at<'a>(known: &Known<'a>, node: usize) -> &'a Parsed
+    ghost at: { ℕ }
+    requires { CanBeSettled known.now.slots.now known.now.dependents.now known.now.component_of.now known.now.settled.now node at }
+    ensures { slice_get (blocks_of known.now.slots.now) at ≡ Some (reading_of result.now) }
+{
+    &known.slots.slot(known.dependents.ids[node]).block
+}
+
+/// What becomes of the block at a node, of which one use at least is at fault, or none.
+fn find_state(
+    alloc: Global,
+    known: &Known,
+    node: usize,
+    block: &Parsed,
+    is_wrong: bool,
+    work: &mut u64,
+) -> Result<State, AllocError>
+    ghost at: { ℕ }
+    requires ready { CanBeSettled known.now.slots.now known.now.dependents.now known.now.component_of.now known.now.settled.now node at }
+    requires block { slice_get (blocks_of known.now.slots.now) at ≡ Some (reading_of block.now) }
+    requires uses { MatchBool is_wrong (HasUseAtFault (blocks_of known.now.slots.now) at (reading_of block.now)) (AreUsesSound (blocks_of known.now.slots.now) at) }
+    requires room { work.old + length block.now.items.items < 2 ^ 64 }
+    ensures state { IfOk result (λ state. state_seen state ≡ state_of (blocks_of known.now.slots.now) (reading_of block.now)) }
+    ensures table { IfOk result (λ state. HasTable contents (blocks_of known.now.slots.now) (reading_of block.now) (table_of state)) }
+    ensures work { OnOk result (work.new ≡ work.old + work_of (blocks_of known.now.slots.now) (Some (reading_of block.now))) }
+{
+    if is_wrong || has_error(&block.faults) {
+        return Ok(State::Unresolved);
+    }
+    Ok(compile(alloc, known, node, block, work)?)
+}
+
+/// What is found out about the block at a node: what becomes of it, and its faults but those of
+/// names that earlier blocks own. A step is counted for each of its items, if it resolves.
+pub(crate) fn settle(
+    alloc: Global,
+    known: &Known,
+    node: usize,
+    work: &mut u64,
+) -> Result<Settled, AllocError>
+    ghost at: { ℕ }
+    requires ready { CanBeSettled known.now.slots.now known.now.dependents.now known.now.component_of.now known.now.settled.now node at }
+    requires room { (block : Reading) → slice_get (blocks_of known.now.slots.now) at ≡ Some block → work.old + length block.items < 2 ^ 64 }
+    ensures settled { IfOk result (λ settled. (block : Reading) → slice_get (blocks_of known.now.slots.now) at ≡ Some block
+        → IsSettled (blocks_of known.now.slots.now) at block settled) }
+    ensures work { OnOk result (work.new ≡ work.old + work_of (blocks_of known.now.slots.now) (slice_get (blocks_of known.now.slots.now) at)) }
+{
+    let block = block_at(known, node);
+    let mut faults = Vec::new(alloc);
+    add_locals(&block.faults, true, &mut faults)?;
+    let is_wrong = add_item_faults(known, node, block, &mut faults)?;
+    let state = find_state(alloc, known, node, block, is_wrong, work)?;
+    add_entry_fault(&block.names, &state, &mut faults)?;
+    Ok(Settled { state, faults })
+}
