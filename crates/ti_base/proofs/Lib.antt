@@ -1,7 +1,12 @@
 pub mod Lists
-pub mod Resolving
-pub mod Keeping
 pub mod Running
-pub mod Searching
-pub mod Faulting
 pub mod Counting
+pub mod SlotLists
+pub mod Untouched
+pub mod Installing
+pub mod Exchanges
+pub mod Telling
+pub mod KeptFaults
+pub mod NoDuplicates
+pub mod SlotFaults
+pub mod SlotEntries

@@ -4,7 +4,6 @@ pub use Rattle.ti_meaning.specs.Compiled
 pub use Rattle.ti_meaning.specs.Faults
 pub use Rattle.ti_meaning.specs.Report
 pub use Rattle.ti_meaning.specs.Edits
-pub mod Resolution
-pub mod Entries
-pub mod Search
 pub mod Kept
+pub mod KeptSlots
+pub mod Told

@@ -1,22 +1,18 @@
-// The edited source: the texts of its blocks, each as it is read, and the entries of all.
+// The edited source: its blocks under stable ids, with what was found out about each.
 ghost use Rattle.std.specs.Prelude.{◌≡◌, ◌<◌, ◌≤◌, [], length, map, slice_get, Some, option_map, IfOk, IfErr, OnOk};
-ghost use Rattle.ti_source.specs.Reading.{reading_of};
-ghost use Rattle.ti_source.specs.Parsing.{parsed};
-ghost use Rattle.ti_meaning.specs.Usable.{IsUsable};
 ghost use Rattle.ti_base.specs.Kept.{IsBlockText, IsTextRefusal};
+ghost use Rattle.ti_base.specs.KeptSlots.{IsSoundSlot};
 ghost use Rattle.ti_meaning.specs.Edits.{Run, change_of};
 
-use crate::changes::{
-    compile_inserted, compile_moved, compile_removed, compile_replaced, insert_reserved, move_item,
-};
-use crate::entries::Entry;
 use crate::faults::source_faults;
-use crate::owners::find_owner;
+use crate::owners::{find_owner, slot_of};
 use crate::report::write_report;
+use crate::slot_edits::{insert_slot, move_slot, remove_slot, replace_slot};
 use std::alloc::{AllocError, Global};
 use std::marker::Model;
 use ti_meaning::{Edit, EditError, Edited, Fault, Outcome};
-use ti_source::{Parsed, is_block, parse};
+use ti_slots::{Settled, Slot, Slots, State};
+use ti_source::{is_block, parse};
 
 /// The greatest length of a block in bytes.
 const BLOCK_BYTES_MAX: usize = 1_048_576;
@@ -26,40 +22,44 @@ const BLOCKS_MAX: usize = 65_535;
 
 /// A source of terminal descriptions as a list of blocks, which edits change one by one. It knows
 /// the compiled entry of each block and all faults, which are those of the whole current source
-/// taken afresh.
+/// taken afresh. An edit makes anew what it touches and leaves the rest.
 #[derive(Drop)]
 pub struct Database {
     alloc: Global,
-    texts: Vec<Vec<u8>>,
-    blocks: Vec<Parsed>,
-    entries: Vec<Entry>,
+    slots: Slots,
 }
 
 impl Model for Database {
-    ghost use Rattle.std.specs.Prelude.{List, ℕ, map};
-    ghost use Rattle.ti_source.specs.Reading.{reading_of};
+    ghost use Rattle.std.specs.Prelude.{List, ℕ};
 
     ghost Value = { List (List ℕ) };
 
-    ghost use Rattle.ti_base.specs.Entries.{state_seen};
-    ghost use Rattle.ti_base.specs.Kept.{IsKept};
+    ghost use Rattle.ti_slots.specs.Slots.{texts_of};
+    ghost use Rattle.ti_base.specs.KeptSlots.{AreKept};
 
-    ghost view = { λ d. map (λ t. t.items) d.texts.items };
+    ghost view = { λ d. texts_of d.slots };
 
-    ghost invariant = { λ d. IsKept
-        (map (λ t. t.items) d.texts.items) (map reading_of d.blocks.items) (map state_seen d.entries.items) };
+    ghost invariant = { λ d. AreKept d.slots };
 }
 
-/// The text of a block within the limit, copied, and the block as it is read.
-fn read_block(alloc: Global, text: &[u8]) -> Result<(Vec<u8>, Parsed), AllocError>
+/// The text of a block within the limit, copied, with the block as it is read; nothing is found out
+/// about it yet.
+fn read_slot(alloc: Global, text: &[u8]) -> Result<Slot, AllocError>
     requires { IsBlockText text.now }
-    ensures text { IfOk result (λ r. r.0.items ≡ text.now) }
-    ensures reading { IfOk result (λ r. reading_of r.1 ≡ parsed text.now) }
-    ensures usable { IfOk result (λ r. IsUsable (reading_of r.1)) }
+    ensures text { IfOk result (λ slot. slot.text.items ≡ text.now) }
+    ensures sound { IfOk result IsSoundSlot }
 {
     let block = parse(alloc, text)?;
-    let copy = Vec::from_slice(alloc, text)?;
-    Ok((copy, block))
+    let text = Vec::from_slice(alloc, text)?;
+    let settled = Settled {
+        state: State::Unresolved,
+        faults: Vec::new(alloc),
+    };
+    Ok(Slot {
+        text,
+        block,
+        settled,
+    })
 }
 
 /// Refuses a text that is too long, or no single block.
@@ -82,6 +82,7 @@ impl Database {
     ghost use Rattle.ti_meaning.specs.Faults.{fault_seen, faults};
     ghost use Rattle.ti_meaning.specs.Report.{report};
     ghost use Rattle.ti_meaning.specs.Edits.{Step, change_of, insertion, removal, relocation, replacement, outcome_of};
+    ghost use Rattle.ti_meaning.specs.Dependents.{Rebuilds};
 
     /// A source with no blocks. It takes no memory.
     pub fn new(alloc: Global) -> Database
@@ -89,9 +90,7 @@ impl Database {
     {
         Database {
             alloc,
-            texts: Vec::new(alloc),
-            blocks: Vec::new(alloc),
-            entries: Vec::new(alloc),
+            slots: Slots::new(alloc),
         }
     }
 
@@ -99,7 +98,7 @@ impl Database {
     pub fn len(&self) -> usize
         ensures { result ≡ length self.now }
     {
-        self.texts.len()
+        self.slots.order.ids().len()
     }
 
     /// The text of a block.
@@ -107,7 +106,7 @@ impl Database {
         requires { at < length self.now }
         ensures { slice_get self.now at ≡ Some result.now }
     {
-        &self.texts[at]
+        &slot_of(&self.slots, at).text
     }
 
     /// The compiled entry of a block, as term(5) lays it out; `None` where the block does not
@@ -116,8 +115,8 @@ impl Database {
         requires { at < length self.now }
         ensures { option_map (λ bytes. bytes.now) result ≡ compiled self.now at }
     {
-        match &self.entries[at] {
-            Entry::Compiled(bytes) => Some(bytes),
+        match &slot_of(&self.slots, at).settled.state {
+            State::Compiled(_, bytes) => Some(bytes),
             _ => None,
         }
     }
@@ -126,7 +125,7 @@ impl Database {
     pub fn owner(&self, name: &[u8]) -> Option<usize>
         ensures { result ≡ owner (readings self.now) name.now }
     {
-        find_owner(&self.blocks, name)
+        find_owner(&self.slots, name)
     }
 
     /// All faults, in the order of the blocks: for each block those of its header, one for each
@@ -135,7 +134,7 @@ impl Database {
     pub fn faults(&self) -> Result<Vec<Fault>, AllocError>
         ensures { IfOk result (λ all. map fault_seen all.items ≡ faults (readings self.now)) }
     {
-        let faults = source_faults(self.alloc, &self.blocks, &self.entries)?;
+        let faults = source_faults(self.alloc, &self.slots)?;
         Ok(faults)
     }
 
@@ -145,8 +144,8 @@ impl Database {
         requires { first_line ≤ 9223372036854775808 }
         ensures { IfOk result (λ text. text.items ≡ report self.now first_line) }
     {
-        let faults = source_faults(self.alloc, &self.blocks, &self.entries)?;
-        let report = write_report(self.alloc, &self.texts, &faults, first_line)?;
+        let faults = source_faults(self.alloc, &self.slots)?;
+        let report = write_report(self.alloc, &self.slots, &faults, first_line)?;
         Ok(report)
     }
 
@@ -154,72 +153,68 @@ impl Database {
     /// `Position` where `at` is past the end, `TooLong`, `NotOneBlock`, `TooMany`, and `Memory`
     /// where a growth was refused. After a refusal all is as before.
     pub fn insert(&mut self, at: usize, text: &[u8]) -> Result<Edited, EditError>
-        ensures { Step self.old (insertion at text.now) (outcome_of result) self.new }
+        ensures step { Step self.old (insertion at text.now) (outcome_of result) self.new }
+        ensures rebuilds { IfOk result (λ edited. Rebuilds self.old (insertion at text.now) edited.rebuilt.items edited.work) }
     {
-        if at > self.texts.len() {
+        if at > self.len() {
             return Err(EditError::Position);
         }
         check_text(text)?;
-        if self.texts.len() >= BLOCKS_MAX {
+        if self.len() >= BLOCKS_MAX {
             return Err(EditError::TooMany);
         }
-        let (copy, block) = read_block(self.alloc, text)?;
-        self.texts.reserve(1)?;
-        let entries = compile_inserted(self.alloc, &mut self.blocks, at, block)?;
-        insert_reserved(&mut self.texts, at, copy);
-        self.entries = entries;
-        Ok(Edited {})
+        let slot = read_slot(self.alloc, text)?;
+        let edited = insert_slot(self.alloc, &mut self.slots, at, slot)?;
+        Ok(edited)
     }
 
     /// Exchanges the block at `at`. The refusals, the first that holds: `Position` where there is
     /// no such block, `TooLong`, `NotOneBlock`, and `Memory` where a growth was refused. After a
     /// refusal all is as before.
     pub fn replace(&mut self, at: usize, text: &[u8]) -> Result<Edited, EditError>
-        ensures { Step self.old (replacement at text.now) (outcome_of result) self.new }
+        ensures step { Step self.old (replacement at text.now) (outcome_of result) self.new }
+        ensures rebuilds { IfOk result (λ edited. Rebuilds self.old (replacement at text.now) edited.rebuilt.items edited.work) }
     {
-        if at >= self.texts.len() {
+        if at >= self.len() {
             return Err(EditError::Position);
         }
         check_text(text)?;
-        let (copy, block) = read_block(self.alloc, text)?;
-        let entries = compile_replaced(self.alloc, &mut self.blocks, at, block)?;
-        self.texts[at] = copy;
-        self.entries = entries;
-        Ok(Edited {})
+        let slot = read_slot(self.alloc, text)?;
+        let edited = replace_slot(self.alloc, &mut self.slots, at, slot)?;
+        Ok(edited)
     }
 
     /// Takes the block at `at` out. The refusals: `Position` where there is no such block, and
     /// `Memory` where a growth was refused. After a refusal all is as before.
     pub fn remove(&mut self, at: usize) -> Result<Edited, EditError>
-        ensures { Step self.old (removal at) (outcome_of result) self.new }
+        ensures step { Step self.old (removal at) (outcome_of result) self.new }
+        ensures rebuilds { IfOk result (λ edited. Rebuilds self.old (removal at) edited.rebuilt.items edited.work) }
     {
-        if at >= self.texts.len() {
+        if at >= self.len() {
             return Err(EditError::Position);
         }
-        let entries = compile_removed(self.alloc, &mut self.blocks, at)?;
-        let _ = self.texts.remove(at);
-        self.entries = entries;
-        Ok(Edited {})
+        let edited = remove_slot(self.alloc, &mut self.slots, at)?;
+        Ok(edited)
     }
 
     /// Moves the block at `from`, so that it then stands at `to`. The refusals: `Position` where no
     /// block stands at `from` or none at `to`, and `Memory` where a growth was refused. After a
     /// refusal all is as before.
     pub fn relocate(&mut self, from: usize, to: usize) -> Result<Edited, EditError>
-        ensures { Step self.old (relocation from to) (outcome_of result) self.new }
+        ensures step { Step self.old (relocation from to) (outcome_of result) self.new }
+        ensures rebuilds { IfOk result (λ edited. Rebuilds self.old (relocation from to) edited.rebuilt.items edited.work) }
     {
-        if from >= self.texts.len() || to >= self.texts.len() {
+        if from >= self.len() || to >= self.len() {
             return Err(EditError::Position);
         }
-        let entries = compile_moved(self.alloc, &mut self.blocks, from, to)?;
-        move_item(&mut self.texts, from, to);
-        self.entries = entries;
-        Ok(Edited {})
+        let edited = move_slot(self.alloc, &mut self.slots, from, to)?;
+        Ok(edited)
     }
 
     /// Makes an edit: `insert`, `replace`, `remove` or `relocate`, with the refusals of that call.
     pub fn apply(&mut self, edit: &Edit<'_>) -> Result<Edited, EditError>
-        ensures { Step self.old (change_of edit.now) (outcome_of result) self.new }
+        ensures step { Step self.old (change_of edit.now) (outcome_of result) self.new }
+        ensures rebuilds { IfOk result (λ edited. Rebuilds self.old (change_of edit.now) edited.rebuilt.items edited.work) }
     {
         match *edit {
             Edit::Insert { at, text } => self.insert(at, text),

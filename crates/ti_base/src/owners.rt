@@ -1,48 +1,40 @@
-// Whose a name is.
-ghost use Rattle.std.specs.Prelude.{◌≡◌, ◌<◌, length, map, IfSome};
-ghost use Rattle.std.specs.List.{list_any};
-ghost use Rattle.std.specs.Rc.{rc_slice_items};
-ghost use Rattle.ti_source.specs.Codes.{is_error};
-ghost use Rattle.ti_source.specs.Reading.{reading_of, fault_of};
-ghost use Rattle.ti_meaning.specs.Owner.{is_among, owner};
-ghost use Rattle.ti_meaning.specs.Expansion.{is_broken};
+// The slots by position, and whose a name is.
+ghost use Rattle.std.specs.Prelude.{◌≡◌, ◌<◌, Some, length, slice_get};
+ghost use Rattle.ti_meaning.specs.Owner.{owner};
+ghost use Rattle.ti_meaning.specs.Faults.{is_owned_before};
+ghost use Rattle.ti_slots.specs.Slots.{IsIndexed, blocks_of};
+ghost use Rattle.ti_base.specs.KeptSlots.{slots_of};
 
-use std::rc::RcSlice;
-use ti_source::{Local, Parsed};
+use ti_slots::{Slot, Slots};
 
-/// Whether the name is one of these.
-pub(crate) fn is_named(names: &[RcSlice<u8>], name: &[u8]) -> bool
-    ensures { result ≡ is_among name.now (map rc_slice_items names.now) }
+/// The slot of the block at a position.
+pub(crate) fn slot_of(slots: &Slots, at: usize) -> &Slot
+    requires indexed { IsIndexed slots.now }
+    requires within { at < length slots.now.order.listed }
+    ensures { slice_get (slots_of slots.now) at ≡ Some (Some result.now) }
 {
-    for other in names {
-        if name == other.as_slice() {
-            return true;
-        }
-    }
-    false
+    slots.slot(slots.order.ids()[at])
 }
 
 /// The position of the first block that has the name, if there is one.
-pub(crate) fn find_owner(blocks: &[Parsed], name: &[u8]) -> Option<usize>
-    ensures owner { result ≡ owner (map reading_of blocks.now) name.now }
-    ensures within { IfSome result (λ at. at < length blocks.now) }
+pub(crate) fn find_owner(slots: &Slots, name: &[u8]) -> Option<usize>
+    requires { IsIndexed slots.now }
+    ensures { result ≡ owner (blocks_of slots.now) name.now }
 {
-    for (at, block) in blocks.iter().enumerate() {
-        if is_named(&block.names, name) {
-            return Some(at);
-        }
+    let _distinct = slots.order.ids();
+    match slots.owner(name) {
+        Some(id) => Some(slots.order.position(id)),
+        None => None,
     }
-    None
 }
 
-/// Whether one of the faults is an error.
-pub(crate) fn has_error(faults: &[Local]) -> bool
-    ensures { result ≡ list_any (λ f. is_error f.code) (map fault_of faults.now) }
+/// Whether the name belongs to a block before that position.
+pub(crate) fn is_owned_before(slots: &Slots, at: usize, name: &[u8]) -> bool
+    requires { IsIndexed slots.now }
+    ensures { result ≡ is_owned_before (blocks_of slots.now) at name.now }
 {
-    for fault in faults {
-        if fault.code.is_error() {
-            return true;
-        }
+    match find_owner(slots, name) {
+        Some(owner) => owner < at,
+        None => false,
     }
-    false
 }

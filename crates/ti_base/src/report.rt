@@ -6,10 +6,14 @@ ghost use Rattle.ti_source.specs.Codes.{code_text};
 ghost use Rattle.ti_meaning.specs.Report.{shown_byte, shown_detail, detail_text, fault_line, lines_before, lines_in, reported};
 ghost use Rattle.ti_meaning.specs.Faults.{fault_seen};
 ghost use Rattle.ti_meaning.specs.Bounds.{IsPlaced};
+ghost use Rattle.ti_slots.specs.Slots.{texts_of};
+ghost use Rattle.ti_base.specs.KeptSlots.{AreKept};
 
+use crate::owners::slot_of;
 use std::alloc::{AllocError, Global};
 use std::fmt::Write;
 use ti_meaning::Fault;
+use ti_slots::Slots;
 use ti_source::Code;
 
 /// What a report shows for a byte of a detail: `?` for one that does not print or is white space.
@@ -79,18 +83,18 @@ fn count_lines(text: &[u8]) -> usize
 }
 
 /// The number of lines before each of the texts.
-fn line_starts(alloc: Global, texts: &[Vec<u8>]) -> Result<Vec<u64>, AllocError>
-    requires few { length texts.now ≤ 65535 }
-    requires short { All (λ t. length t ≤ 1048576) (map (λ t. t.items) texts.now) }
+fn line_starts(alloc: Global, slots: &Slots) -> Result<Vec<u64>, AllocError>
+    requires { AreKept slots.now }
     ensures starts { IfOk result (λ starts. starts.items
-        ≡ map (lines_before (map (λ t. t.items) texts.now)) (range_with_len 0 (length texts.now))) }
+        ≡ map (lines_before (texts_of slots.now)) (range_with_len 0 (length (texts_of slots.now)))) }
     ensures small { IfOk result (λ starts. All (λ start. start ≤ 68719476736) starts.items) }
 {
-    let mut starts = Vec::with_capacity(alloc, texts.len())?;
+    let count = slots.order.ids().len();
+    let mut starts = Vec::with_capacity(alloc, count)?;
     let mut lines: u64 = 0;
-    for text in texts {
+    for at in 0..count {
         starts.push(lines)?;
-        lines += count_lines(text) as u64;
+        lines += count_lines(&slot_of(slots, at).text) as u64;
     }
     Ok(starts)
 }
@@ -98,18 +102,16 @@ fn line_starts(alloc: Global, texts: &[Vec<u8>]) -> Result<Vec<u64>, AllocError>
 /// The report of these faults of a source, whose first line has that number.
 pub(crate) fn write_report(
     alloc: Global,
-    texts: &[Vec<u8>],
+    slots: &Slots,
     faults: &[Fault],
     first_line: u64,
 ) -> Result<Vec<u8>, AllocError>
-    requires few { length texts.now ≤ 65535 }
-    requires short { All (λ t. length t ≤ 1048576) (map (λ t. t.items) texts.now) }
-    requires placed { All (IsPlaced (length texts.now)) (map fault_seen faults.now) }
+    requires kept { AreKept slots.now }
+    requires placed { All (IsPlaced (length (texts_of slots.now))) (map fault_seen faults.now) }
     requires first { first_line ≤ 9223372036854775808 }
-    ensures { IfOk result (λ out. out.items
-        ≡ flat_map (reported (map (λ t. t.items) texts.now) first_line) (map fault_seen faults.now)) }
+    ensures { IfOk result (λ out. out.items ≡ flat_map (reported (texts_of slots.now) first_line) (map fault_seen faults.now)) }
 {
-    let starts = line_starts(alloc, texts)?;
+    let starts = line_starts(alloc, slots)?;
     let mut out = Vec::new(alloc);
     for fault in faults {
         let number = first_line + starts[fault.block] + fault.line as u64 - 1;

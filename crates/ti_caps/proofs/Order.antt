@@ -48,38 +48,3 @@ names_apart rows order i j d l within =
     let low : i < length rows = omega arith in
     unequal_from_less _ _ (rw (← get_or-map name rows i d d.0 low, ← get_or-map name rows j d d.0 within)
     (Less-from_sorted _ (map name rows) i j d.0 order.sorted l (rw length-map within)))
-
-module _ (rs : List (Bor (List ℕ) × Kind × ℕ)) (order : IsInNameOrder (rows_of rs)) (x : List ℕ) where
-  rises : (k : ℕ) (d : Bor (List ℕ) × Kind × ℕ) → k + 1 < length rs → slice_cmp nat_cmp (get_or rs k d).0.now (get_or rs (k + 1) d).0.now ≡ Less
-  rises k d within =
-      let plain : Bor (List ℕ) × Kind × ℕ → Row = λ r. (r.0.now, r.1, r.2) in
-      let name = λ (r : Row). r.0 in
-      let here : k < length rs = omega arith in
-      let near : k < length (map plain rs) = rw length-map here in
-      let far : k + 1 < length (map plain rs) = rw length-map within in
-      let at_k : get_or (map name (map plain rs)) k [] ≡ (get_or rs k d).0.now = get_or-map name (map plain rs) k (plain d) [] near ∙ ap name (get_or-map plain rs k d (plain d) here) in
-      let at_next : get_or (map name (map plain rs)) (k + 1) [] ≡ (get_or rs (k + 1) d).0.now = get_or-map name (map plain rs) (k + 1) (plain d) [] far ∙ ap name (get_or-map plain rs (k + 1) d (plain d) within) in
-      let less = Less-from_sorted (slice_cmp nat_cmp) (map name (map plain rs)) k (k + 1) [] order.sorted (omega arith) (rw length-map far) in
-      cc
-
-  -- the comparisons with a name rise along the rows, as a binary search asks
-  comparisons_rise : IsNonDecreasingBy (λ r. ordering_index (slice_cmp nat_cmp r.0.now x)) rs
-  comparisons_rise = searchable_from_sorted nat_list_cmp_total (λ r. r.0.now) rs x (λ k d low within.
-      let name = λ (r : Bor (List ℕ) × Kind × ℕ). r.0.now in
-      let here : k < length rs = omega arith in
-      let below : slice_cmp nat_cmp (name (get_or rs k d)) (name (get_or rs (k + 1) d)) ≡ Less = rises k d within in
-      rw (nat_list_cmp_total.antisymm (name (get_or rs (k + 1) d)) (name (get_or rs k d)), below))
-
-  -- a binary search ends at the row of the name, or shows that there is none
-  pub found_row : (i : ℕ) (d : Bor (List ℕ) × Kind × ℕ) → i < length rs → slice_cmp nat_cmp (get_or rs i d).0.now x ≡ Equal → IsRowOf (rows_of rs) x (get_or rs i d).1 (get_or rs i d).2
-  found_row i d within equal =
-      let kind = (get_or rs i d).1 in
-      let index = (get_or rs i d).2 in
-      let same = text_from_equal _ _ equal in
-      (i, rw length-map within, get_or-map (λ r. (r.0.now, r.1, r.2)) rs i d (x, kind, index) within ∙ ap (λ n. (n, kind, index)) same)
-
-  pub no_row : (i : ℕ) → i ≤ length rs → IsBinarySearchResult (λ r. slice_cmp nat_cmp r.0.now x) rs (Err i) → HasNoRow (rows_of rs) x
-  no_row i within parted =
-      let parts = parted comparisons_rise in
-      All-map (λ r. r.0 ≢ x) (λ r. (r.0.now, r.1, r.2)) rs (λ k d l.
-      elim (cases_lt k i) [ inl below ↦ unequal_from_less _ _ (parts.0 k d (omega arith) below) | inr above ↦ unequal_from_greater _ _ (parts.1 k d above l) ])

@@ -1,5 +1,5 @@
 -- The table of all capabilities in the order of the bytes of their names, which a look-up searches (own).
-use Rattle.std.specs.Prelude.{◌≢◌, ℕ, List, map, All, Contains}
+use Rattle.std.specs.Prelude.{◌≢◌, ℕ, List, map, slice_index_or, All, Contains}
 use Rattle.std.specs.Ordering.{nat_cmp}
 use Rattle.std.specs.Cmp.Lexicographic.{slice_cmp}
 use Rattle.std.specs.List.Sorted.{IsStrictlySortedBy}
@@ -30,6 +30,10 @@ pub record IsInNameOrder (rows : List Row) : Type 0 where
 -- the table has this row
 abbrev pub IsRowOf : List Row → List ℕ → Kind → ℕ → Type 0
 IsRowOf rows name kind index = Contains rows (name, kind, index)
+
+-- the row at the place has another name
+abbrev pub IsOfAnother : List Row → ℕ → List ℕ → Type 0
+IsOfAnother rows place name = (d : Row) → (slice_index_or rows place d).0 ≢ name
 
 -- no row has this name
 abbrev pub HasNoRow : List Row → List ℕ → Type 0

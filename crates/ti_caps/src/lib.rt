@@ -3,11 +3,13 @@
 //!
 //! - `capability`: what a capability is, its kind and its index
 //! - `tables`: the names in the order of the compiled entry, and all of them by name
+//! - `keys`: a number for each name, by which a look-up searches
 //! - `lookup`: from a name to its capability, and back
 //! - `name_order`: the capabilities of each kind by name
 #![tactic(auto)]
 
 mod capability;
+mod keys;
 mod lookup;
 mod name_order;
 mod tables;

@@ -2,9 +2,10 @@
 ghost use Rattle.std.specs.Prelude.{◌≡◌, ◌≢◌, ◌<◌, length, [], IfSome, IfNone};
 ghost use Rattle.std.specs.List.{slice_index_or};
 ghost use Rattle.ti_caps.specs.Tables.{Capability, IsCapability, capability, capability_named, count_of, name_of, names, EveryNameIsFound, NamesAreDistinct};
-ghost use Rattle.ti_caps.specs.ByName.{IsInNameOrder, IsRowOf, HasNoRow, by_name, rows_of, texts_of};
+ghost use Rattle.ti_caps.specs.ByName.{IsRowOf, IsOfAnother, HasNoRow, by_name, rows_of, texts_of};
 
 use crate::capability::{Cap, Kind};
+use crate::keys::{KEYS, key_of};
 use crate::tables::{BY_NAME, FLAG_COUNT, FLAGS, NUMBER_COUNT, NUMBERS, TEXT_COUNT, TEXTS};
 
 /// How many capabilities of a kind there are: 44 flags, 39 numbers, 414 texts.
@@ -40,12 +41,15 @@ pub fn find(name: &[u8]) -> Option<Cap>
     Cap::at(kind, index)
 }
 
-// The kind and the index that the table gives to a name.
+// The kind and the index that the table gives to a name, by a binary search of its key.
 fn listed(name: &[u8]) -> Option<(Kind, usize)>
     ensures found { IfSome result (λ r. IsRowOf by_name name.now r.0 r.1) }
     ensures none { IfNone result (HasNoRow by_name name.now) }
 {
-    row_of(&BY_NAME, name)
+    match KEYS.binary_search(&key_of(name)) {
+        Ok(place) => row_at(&BY_NAME, place, name),
+        Err(_) => None,
+    }
 }
 
 /// No two capabilities have one name.
@@ -66,18 +70,17 @@ fn text_at(names: &'static [&'static str], index: usize) -> &'static str
     names[index]
 }
 
-// The kind and the index in the row of a name, by a binary search.
-fn row_of(rows: &[(&str, Kind, u16)], name: &[u8]) -> Option<(Kind, usize)>
-    requires { IsInNameOrder (rows_of rows.now) }
+// The kind and the index in the row at a place, where it is that of the name.
+fn row_at(rows: &[(&str, Kind, u16)], place: usize, name: &[u8]) -> Option<(Kind, usize)>
+    requires { place < length rows.now }
     ensures found { IfSome result (λ r. IsRowOf (rows_of rows.now) name.now r.0 r.1) }
-    ensures none { IfNone result (HasNoRow (rows_of rows.now) name.now) }
+    ensures none { IfNone result (IsOfAnother (rows_of rows.now) place name.now) }
 {
-    match rows.binary_search_by(|row| row.0.as_bytes().cmp(&name)) {
-        Ok(place) => {
-            let (_, kind, index) = rows[place];
-            Some((kind, index as usize))
-        }
-        Err(_) => None,
+    let (text, kind, index) = rows[place];
+    if text.as_bytes() == name {
+        Some((kind, index as usize))
+    } else {
+        None
     }
 }
 

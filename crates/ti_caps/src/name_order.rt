@@ -44,6 +44,7 @@ static TEXTS_BY_NAME: [u16; TEXT_COUNT] = [
 ];
 
 // The indexes of the capabilities of a kind, by name.
+#[inline]
 fn indexes_by_name(kind: Kind) -> &'static [u16]
     ensures { map (capability kind) result.now ≡ in_name_order kind }
 {
@@ -56,6 +57,7 @@ fn indexes_by_name(kind: Kind) -> &'static [u16]
 
 /// The capability that stands at a place, counted from 0, where those of a kind stand by the bytes of
 /// their names; `None` exactly where the kind does not have that many.
+#[inline]
 pub fn by_name(kind: Kind, place: usize) -> Option<Cap>
     ensures { result ≡ slice_get (in_name_order kind) place }
 {

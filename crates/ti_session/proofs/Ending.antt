@@ -4,7 +4,7 @@ use Rattle.std.specs.Io.KnownBytes.{Consumes, IsAtEnd}
 use Rattle.ti_devices.proofs.Written.{Consumes-then, Gives-none, Gives-then, TakesAll-none, TakesAll-then, TakesFront-more, TakesFront-then}
 use Rattle.ti_devices.specs.Counted.{Observed}
 use Rattle.ti_devices.specs.LineReader
-use Rattle.ti_devices.specs.LineReader.{ReadsLine, SpendsReads, ahead_of, limit_of, line_of, reads_left_of}
+use Rattle.ti_devices.specs.LineReader.{CannotReadOn, ReadsLine, SpendsReads, ahead_of, limit_of, line_of, reads_left_of, reads_max}
 use Rattle.ti_devices.specs.Lines.{with_newline}
 use Rattle.ti_devices.specs.Reading.{Gives}
 use Rattle.ti_devices.specs.Writing.{TakesAll, Wrote}
@@ -14,8 +14,8 @@ use Rattle.ti_devices.specs.declared.tool_error.ToolError.{ToolError}
 use Rattle.ti_devices.specs.declared.tool_error.ToolError.TheVariants.{Usage, NoTerminal, BadEntry, ReadFault, WriteFault, LineTooLong, BlockTooLong, TooManyBlocks, Memory}
 use Rattle.ti_session.specs.declared.editor.Editor.{Editor}
 use Rattle.ti_session.specs.Editor.{ActsOn, Holds}
-use Rattle.ti_session.specs.Script.{Complete, IsShortLine, Session, State, closing, line_max, meaning_in, start}
-use Rattle.ti_session.specs.Streaming.{CannotRead, Ends, reads_max}
+use Rattle.ti_session.specs.Script.{Complete, IsShortLine, Session, State, closing_reply, line_max, meaning_in, start}
+use Rattle.ti_session.specs.Streaming.{Ends}
 use Rattle.ti_session.proofs.Running.{Complete-last, Complete-ran, Ran, Ran-line, Ran-none, SoFar-ran, bytes_of, bytes_of-more}
 
 -- the lines that were read are answered, and what was read behind them is ahead
@@ -95,7 +95,7 @@ module _ (given left : Observed) (reading : LineReader) (editor : Editor) (befor
         })
 
   cannot : (next : LineReader) (later : Observed) → LineReader.CannotRead next left later → SpendsReads reading next left later
-      → CannotRead given later
+      → CannotReadOn given later
   cannot next later (inl failed) s = inl (failed ∙ ap (λ (n : ℕ). n + 1) p.gives.failures)
   cannot next later (inr used) s =
       let spends : reads_left_of next + later.reads ≡ reads_max + given.reads = spent next later s in
@@ -140,41 +140,41 @@ module _ (given left : Observed) (reading : LineReader) (editor : Editor) (befor
 -- all of the input was taken, with these replies
 module _ (given left before : Observed) (input : List ℕ) (gives : Gives given left input) (at_end : IsAtEnd left.bytes) (end : State)
     (replies : List ℕ) (complete : Complete input end replies) where
-  abbrev whole : Session input (replies ++ closing end.mode)
+  abbrev whole : Session input (replies ++ closing_reply end.mode)
   whole = record { end = end; replies = replies; complete = complete; whole = refl }
 
-  Ends-written : (now : Observed) → TakesAll before now (replies ++ closing end.mode) → Ends given left before now (Ok tt)
+  Ends-written : (now : Observed) → TakesAll before now (replies ++ closing_reply end.mode) → Ends given left before now (Ok tt)
   Ends-written now written = record {
     input = input;
-    output = replies ++ closing end.mode;
+    output = replies ++ closing_reply end.mode;
     gives = gives;
     at_end = at_end;
     session = whole;
     written = written;
   }
 
-  pub Ends-cut : (now : Observed) (e : ToolError) → Wrote before now (replies ++ closing end.mode) (Err e) → Ends given left before now (Err e)
+  pub Ends-cut : (now : Observed) (e : ToolError) → Wrote before now (replies ++ closing_reply end.mode) (Err e) → Ends given left before now (Err e)
   Ends-cut now e wrote =
       subst (λ (x : ToolError). Ends given left before now (Err x)) (sym wrote.0) (record {
         taken = input;
         rest = [];
-        output = replies ++ closing end.mode;
+        output = replies ++ closing_reply end.mode;
         gives = subst (λ (t : List ℕ). Gives given left t) (sym (append-nil input)) gives;
         is_output = inr (refl, at_end, whole);
         written = wrote.1;
       })
 
   pub Ends-closed : (middle now : Observed) (result : Result Unit ToolError) → TakesAll before middle replies
-      → Wrote middle now (closing end.mode) result → Ends given left before now result
-  Ends-closed middle now (Ok tt) written wrote = Ends-written now (TakesAll-then before middle now replies (closing end.mode) written wrote)
+      → Wrote middle now (closing_reply end.mode) result → Ends given left before now result
+  Ends-closed middle now (Ok tt) written wrote = Ends-written now (TakesAll-then before middle now replies (closing_reply end.mode) written wrote)
   Ends-closed middle now (Err e) written wrote =
-      Ends-cut now e (wrote.0, TakesFront-then before middle now replies (closing end.mode) written wrote.1)
+      Ends-cut now e (wrote.0, TakesFront-then before middle now replies (closing_reply end.mode) written wrote.1)
 
 module _ (given left : Observed) (reading : LineReader) (editor : Editor) (before now : Observed)
     (p : Progress given left reading editor before now) (next : LineReader) (later : Observed) where
   -- the script has ended behind a newline
   pub Ends-end : ReadsLine reading next left later (Ok End) → (now2 : Observed) (result : Result Unit ToolError)
-      → ((s : State) → Holds editor s → Wrote now now2 (closing s.mode) result) → Ends given later before now2 result
+      → ((s : State) → Holds editor s → Wrote now now2 (closing_reply s.mode) result) → Ends given later before now2 result
   Ends-end r now2 result closes =
       let gives : Gives given later (bytes_of p.lines) =
       subst (λ (t : List ℕ). Gives given later t)
@@ -191,7 +191,7 @@ module _ (given left : Observed) (reading : LineReader) (editor : Editor) (befor
 
     module _ (editor2 : Editor) (middle : Observed) where
       pub Ends-last : (acts : ActsOn (meaning_in p.state.mode (line_of next)) p.state editor2 now middle (Ok tt)) (now2 : Observed)
-          (result : Result Unit ToolError) → ((s : State) → Holds editor2 s → Wrote middle now2 (closing s.mode) result)
+          (result : Result Unit ToolError) → ((s : State) → Holds editor2 s → Wrote middle now2 (closing_reply s.mode) result)
           → Ends given later before now2 result
       Ends-last acts now2 result closes =
           let complete = Complete-last p.lines p.state acts.next (line_of next) p.output acts.reply p.ran r.4
@@ -206,6 +206,6 @@ module _ (given left : Observed) (reading : LineReader) (editor : Editor) (befor
           (short given left reading editor before now p (line_of next) r.5) r.6 acts.leads in
           Ends-cut given later before (bytes_of p.lines ++ line_of next) gives-last r.3 acts.next (p.output ++ acts.reply) complete middle e (
             acts.wrote.0,
-            TakesFront-more before middle (p.output ++ acts.reply) (closing acts.next.mode)
+            TakesFront-more before middle (p.output ++ acts.reply) (closing_reply acts.next.mode)
                 (TakesFront-then before now middle p.output acts.reply p.written acts.wrote.1),
           )

@@ -4,6 +4,9 @@ use Rattle.std.specs.Prelude.{bytes_eq, if◌then◌else◌}
 use Rattle.std.proofs.lemmas.List.{length-take-le, take_all, append_assoc}
 use native.Mathlib.Decide.{dec_le}
 use Prim.{yes, no}
+use Rattle.std.specs.declared.vec.Vec.{Vec}
+use Rattle.std.specs.declared.alloc.Global.{Global}
+use Rattle.ti_text.specs.Limits.{block_bytes_max}
 use Rattle.ti_meaning.specs.Edits.{Change, Step}
 use Rattle.ti_meaning.specs.declared.edits.EditError.TheVariants.{Position, TooLong, NotOneBlock, TooMany, Memory}
 use Rattle.ti_meaning.specs.declared.edits.Outcome.{Outcome}
@@ -12,13 +15,14 @@ use Rattle.ti_session.specs.declared.editor.Editor.{Editor}
 use Rattle.ti_session.specs.declared.requests.Opened.{Opened}
 use Rattle.ti_session.specs.declared.requests.Opened.TheVariants.{Insert, Replace}
 use Rattle.ti_devices.specs.declared.tool_error.ToolError.{ToolError}
-use Rattle.ti_session.specs.Editor.{Holds, ActsOn}
+use Rattle.ti_session.specs.Editor.{Holds, ActsOn, source_of}
+use Rattle.ti_session.specs.Places.{places_text}
 use Rattle.ti_devices.specs.Counted.{Observed}
 use Rattle.ti_devices.specs.Lines.{with_newline}
 use Rattle.ti_devices.specs.Writing.{Wrote}
 use Rattle.ti_session.specs.Replies.{CarriesOut, WroteReport}
 use Rattle.ti_session.specs.Requests.{mode_of, opened_change, opened_mode}
-use Rattle.ti_session.specs.Script.{Answers, Command, Leads, Meaning, Mode, State, meaning_outside, asks, edits, goes_on, meaning_in, outcome_text, outside, print_reply, prints, reports, state}
+use Rattle.ti_session.specs.Script.{Answers, Command, EditsSource, Leads, Meaning, Mode, Shows, Source, State, meaning_outside, asks, edits, goes_on, meaning_in, outcome_text, outside, print_reply, prints, rebuilds, reports, source, state}
 use Rattle.ti_devices.proofs.Written.{TakesAll-none}
 
 -- ---- a block of which only the front is held
@@ -33,8 +37,8 @@ take-none zero = refl
 take-none (suc n) = refl
 
 -- a text that is longer than a block may be is refused as its front is
-Step-of_long : (opened : Opened) (texts next : List (List ℕ)) (text front : List ℕ) (outcome : Outcome) → 1048576 < length front
-    → 1048576 < length text → Step texts (opened_change opened front) outcome next → Step texts (opened_change opened text) outcome next
+Step-of_long : (opened : Opened) (texts next : List (List ℕ)) (text front : List ℕ) (outcome : Outcome) → block_bytes_max < length front
+    → block_bytes_max < length text → Step texts (opened_change opened front) outcome next → Step texts (opened_change opened text) outcome next
 Step-of_long (Insert at) texts next text front Accepted long over step = let short = step.0.short in absurd (omega arith)
 Step-of_long (Insert at) texts next text front (Refused Position) long over step = step
 Step-of_long (Insert at) texts next text front (Refused TooLong) long over step = ((step.0.0, λ short. omega arith), step.1)
@@ -48,56 +52,68 @@ Step-of_long (Replace at) texts next text front (Refused NotOneBlock) long over 
 Step-of_long (Replace at) texts next text front (Refused TooMany) long over step = let short = step.0.1 in absurd (omega arith)
 Step-of_long (Replace at) texts next text front (Refused Memory) long over step = let short = step.0.short in absurd (omega arith)
 
-pub Step-of_front : (opened : Opened) (texts next : List (List ℕ)) (text : List ℕ) (limit : ℕ) (outcome : Outcome) → 1048576 < limit
-    → Step texts (opened_change opened (take limit text)) outcome next → Step texts (opened_change opened text) outcome next
-Step-of_front opened texts next text limit outcome room step = elim (dec_le (length text) limit) [
-  | yes fits ↦ subst (λ (t : List ℕ). Step texts (opened_change opened t) outcome next) (take_all limit text fits) step
+-- what is shown of an edit goes by its outcome, and a text that is too long is never accepted
+Shows-of_long : (opened : Opened) (texts next : List (List ℕ)) (text front : List ℕ) (outcome : Outcome) (before now : List ℕ)
+    → block_bytes_max < length front → Step texts (opened_change opened front) outcome next
+    → Shows texts (opened_change opened front) outcome before now → Shows texts (opened_change opened text) outcome before now
+Shows-of_long (Insert at) texts next text front Accepted before now long step shows = let short = step.0.short in absurd (omega arith)
+Shows-of_long (Replace at) texts next text front Accepted before now long step shows = let short = step.0.short in absurd (omega arith)
+Shows-of_long opened texts next text front (Refused error) before now long step shows = shows
+
+pub EditsSource-of_front : (opened : Opened) (source next : Source) (text : List ℕ) (limit : ℕ) (outcome : Outcome) → block_bytes_max < limit
+    → EditsSource source (opened_change opened (take limit text)) outcome next → EditsSource source (opened_change opened text) outcome next
+EditsSource-of_front opened source next text limit outcome room edited = elim (dec_le (length text) limit) [
+  | yes fits ↦ subst (λ (t : List ℕ). EditsSource source (opened_change opened t) outcome next) (take_all limit text fits) edited
   | no over ↦
       let front : length (take limit text) ≡ limit = length-take-le limit text (omega arith) in
-      Step-of_long opened texts next text (take limit text) outcome (omega arith) (omega arith) step
+      record {
+        step = Step-of_long opened source.texts next.texts text (take limit text) outcome (omega arith) (omega arith) edited.step;
+        shows = Shows-of_long opened source.texts next.texts text (take limit text) outcome source.rebuilt next.rebuilt (omega arith) edited.step edited.shows;
+      }
 ]
 
 -- ---- holding
 
 pub Holds-outside : (d d2 : Editor) (s : State) → s.mode ≡ outside → Holds d s → d2.block ≡ d.block → d2.opened ≡ d.opened
-    → Holds d2 (state d2.database outside)
+    → Holds d2 (state (source_of d2) outside)
 Holds-outside d d2 s is held same_block same_opened = record {
   text = held.text;
-  texts = refl;
+  source = refl;
   mode = sym is ∙ held.mode ∙ ap (λ (o : Option Opened). mode_of o held.text) (sym same_opened);
   block = rw same_block held.block;
   room = rw same_block held.room;
 }
 
 pub Holds-closed : (d d2 : Editor) (s : State) → Holds d s → d2.block ≡ d.block → d2.opened ≡ None
-    → Holds d2 (state d2.database outside)
+    → Holds d2 (state (source_of d2) outside)
 Holds-closed d d2 s held same_block none = record {
   text = held.text;
-  texts = refl;
+  source = refl;
   mode = ap (λ (o : Option Opened). mode_of o held.text) (sym none);
   block = rw same_block held.block;
   room = rw same_block held.room;
 }
 
-pub Holds-opened : (d d2 : Editor) (s : State) (opened : Opened) → Holds d s → d2.database ≡ d.database → d2.block.bytes ≡ []
-    → d2.block.limit ≡ d.block.limit → d2.opened ≡ Some opened → Holds d2 (state s.texts (opened_mode opened []))
-Holds-opened d d2 s opened held same_texts empty same_limit is = record {
+pub Holds-opened : (d d2 : Editor) (s : State) (opened : Opened) → Holds d s → source_of d2 ≡ source_of d → d2.block.bytes ≡ []
+    → d2.block.limit ≡ d.block.limit → d2.opened ≡ Some opened → Holds d2 (state s.source (opened_mode opened []))
+Holds-opened d d2 s opened held same_source empty same_limit is = record {
   text = [];
-  texts = same_texts ∙ held.texts;
+  source = same_source ∙ held.source;
   mode = ap (λ (o : Option Opened). mode_of o []) (sym is);
   block = empty ∙ sym (take-none d2.block.limit);
   room = rw same_limit held.room;
 }
 
 pub Holds-added : (d d2 : Editor) (s : State) (opened : Opened) (line : List ℕ) (held : Holds d s) → d2.database ≡ d.database
-    → d.opened ≡ Some opened → d2.opened ≡ d.opened → d2.block.limit ≡ d.block.limit
+    → d2.rebuilt ≡ d.rebuilt → d.opened ≡ Some opened → d2.opened ≡ d.opened → d2.block.limit ≡ d.block.limit
     → d2.block.bytes ≡ take d.block.limit (take d.block.limit (d.block.bytes ++ line) ++ 10 ∷ [])
-    → Holds d2 (state s.texts (opened_mode opened (held.text ++ with_newline line)))
-Holds-added d d2 s opened line held same_texts is same_opened same_limit added =
+    → Holds d2 (state s.source (opened_mode opened (held.text ++ with_newline line)))
+Holds-added d d2 s opened line held same_texts same_rebuilt is same_opened same_limit added =
     let limit = d.block.limit in
     let text = held.text in record {
       text = text ++ with_newline line;
-      texts = same_texts ∙ held.texts;
+      source = ap (λ (t : List (List ℕ)). source t d2.rebuilt.items) same_texts
+          ∙ ap (λ (r : Vec ℕ Global). source d.database r.items) same_rebuilt ∙ held.source;
       mode = ap (λ (o : Option Opened). mode_of o (text ++ with_newline line)) (sym (same_opened ∙ is));
       block = added ∙ ap (λ (t : List ℕ). take limit (take limit (t ++ line) ++ 10 ∷ [])) held.block
           ∙ ap (λ (t : List ℕ). take limit (t ++ 10 ∷ [])) (take-take-append limit text line)
@@ -131,39 +147,39 @@ meaning_in-meaning_outside mode line is = ap (λ (m : Mode). meaning_in m line) 
 -- ---- what a line leads to
 
 pub ActsOn-on : (meaning : Meaning) (s : State) (d : Editor) (now : Observed) (mode : Mode) → meaning ≡ goes_on mode
-    → Holds d (state s.texts mode) → ActsOn meaning s d now now (Ok tt)
+    → Holds d (state s.source mode) → ActsOn meaning s d now now (Ok tt)
 ActsOn-on meaning s d now mode is held = record {
-  next = state s.texts mode;
+  next = state s.source mode;
   reply = [];
-  leads = subst (λ (m : Meaning). Leads m s (state s.texts mode) []) (sym is) (refl, refl);
+  leads = subst (λ (m : Meaning). Leads m s (state s.source mode) []) (sym is) (refl, refl);
   holds = held;
   wrote = TakesAll-none now;
 }
 
 pub ActsOn-asks : (meaning : Meaning) (s : State) (d : Editor) (before now : Observed) (result : Result Unit ToolError) (command : Command)
-    (reply : List ℕ) → meaning ≡ asks command → Answers s.texts command d.database reply → Holds d (state d.database outside)
+    (reply : List ℕ) → meaning ≡ asks command → Answers s.source command (source_of d) reply → Holds d (state (source_of d) outside)
     → Wrote before now reply result → ActsOn meaning s d before now result
 ActsOn-asks meaning s d before now result command reply is answers held wrote = record {
-  next = state d.database outside;
+  next = state (source_of d) outside;
   reply = reply;
-  leads = subst (λ (m : Meaning). Leads m s (state d.database outside) reply) (sym is) (refl, answers);
+  leads = subst (λ (m : Meaning). Leads m s (state (source_of d) outside) reply) (sym is) (refl, answers);
   holds = held;
   wrote = wrote;
 }
 
 pub ActsOn-edits : (meaning : Meaning) (s : State) (d : Editor) (before now : Observed) (result : Result Unit ToolError) (change : Change)
-    (texts : List (List ℕ)) → meaning ≡ asks (edits change) → texts ≡ s.texts → CarriesOut texts change d.database before now result
-    → Holds d (state d.database outside) → ActsOn meaning s d before now result
-ActsOn-edits meaning s d before now result change texts is same carried held =
+    (source : Source) → meaning ≡ asks (edits change) → source ≡ s.source → CarriesOut source change (source_of d) before now result
+    → Holds d (state (source_of d) outside) → ActsOn meaning s d before now result
+ActsOn-edits meaning s d before now result change source is same carried held =
     ActsOn-asks meaning s d before now result (edits change) (outcome_text carried.outcome) is
-    (carried.outcome, subst (λ (t : List (List ℕ)). Step t change carried.outcome d.database) same carried.step, refl) held carried.wrote
+    (carried.outcome, subst (λ (x : Source). EditsSource x change carried.outcome (source_of d)) same carried.edited, refl) held carried.wrote
 
 pub ActsOn-reports : (meaning : Meaning) (s : State) (d : Editor) (before now : Observed) (result : Result Unit ToolError)
-    (texts : List (List ℕ)) → meaning ≡ asks reports → texts ≡ s.texts → d.database ≡ texts → WroteReport texts before now result
-    → Holds d (state d.database outside) → ActsOn meaning s d before now result
-ActsOn-reports meaning s d before now result texts is same kept (inl wrote) held =
+    (source : Source) → meaning ≡ asks reports → source ≡ s.source → source_of d ≡ source → WroteReport source.texts before now result
+    → Holds d (state (source_of d) outside) → ActsOn meaning s d before now result
+ActsOn-reports meaning s d before now result source is same kept (inl wrote) held =
     ActsOn-asks meaning s d before now result reports _ is (kept ∙ same, inl (rw same refl)) held wrote
-ActsOn-reports meaning s d before now result texts is same kept (inr wrote) held =
+ActsOn-reports meaning s d before now result source is same kept (inr wrote) held =
     ActsOn-asks meaning s d before now result reports _ is (kept ∙ same, inr refl) held wrote
 
 pub ActsOn-same : (meaning other : Meaning) (s : State) (d : Editor) (before now : Observed) (result : Result Unit ToolError) → meaning ≡ other
@@ -172,18 +188,25 @@ ActsOn-same meaning other s d before now result is led =
     subst (λ (m : Meaning). ActsOn m s d before now result) (sym is) led
 
 pub ActsOn-prints : (meaning : Meaning) (s : State) (d : Editor) (before now : Observed) (result : Result Unit ToolError) (at : ℕ)
-    (texts : List (List ℕ)) → meaning ≡ asks (prints at) → texts ≡ s.texts → d.database ≡ texts → Wrote before now (print_reply texts at) result
-    → Holds d (state d.database outside) → ActsOn meaning s d before now result
-ActsOn-prints meaning s d before now result at texts is same kept wrote held =
-    ActsOn-asks meaning s d before now result (prints at) (print_reply texts at) is
-    (kept ∙ same, ap (λ (t : List (List ℕ)). print_reply t at) same) held wrote
+    (source : Source) → meaning ≡ asks (prints at) → source ≡ s.source → source_of d ≡ source → Wrote before now (print_reply source.texts at) result
+    → Holds d (state (source_of d) outside) → ActsOn meaning s d before now result
+ActsOn-prints meaning s d before now result at source is same kept wrote held =
+    ActsOn-asks meaning s d before now result (prints at) (print_reply source.texts at) is
+    (kept ∙ same, ap (λ (x : Source). print_reply x.texts at) same) held wrote
 
-pub CarriesOut-of_front : (opened : Opened) (text : List ℕ) (limit : ℕ) (texts : List (List ℕ)) (change : Change) (next : List (List ℕ))
-    (before now : Observed) (result : Result Unit ToolError) → 1048576 < limit → change ≡ opened_change opened (take limit text)
-    → CarriesOut texts change next before now result → CarriesOut texts (opened_change opened text) next before now result
-CarriesOut-of_front opened text limit texts change next before now result room is carried =
+pub ActsOn-rebuilds : (meaning : Meaning) (s : State) (d : Editor) (before now : Observed) (result : Result Unit ToolError)
+    (source : Source) → meaning ≡ asks rebuilds → source ≡ s.source → source_of d ≡ source → Wrote before now (places_text source.rebuilt) result
+    → Holds d (state (source_of d) outside) → ActsOn meaning s d before now result
+ActsOn-rebuilds meaning s d before now result source is same kept wrote held =
+    ActsOn-asks meaning s d before now result rebuilds (places_text source.rebuilt) is
+    (kept ∙ same, ap (λ (x : Source). places_text x.rebuilt) same) held wrote
+
+pub CarriesOut-of_front : (opened : Opened) (text : List ℕ) (limit : ℕ) (source : Source) (change : Change) (next : Source)
+    (before now : Observed) (result : Result Unit ToolError) → block_bytes_max < limit → change ≡ opened_change opened (take limit text)
+    → CarriesOut source change next before now result → CarriesOut source (opened_change opened text) next before now result
+CarriesOut-of_front opened text limit source change next before now result room is carried =
     record {
       outcome = carried.outcome;
-      step = Step-of_front opened texts next text limit carried.outcome room (subst (λ (x : Change). Step texts x carried.outcome next) is carried.step);
+      edited = EditsSource-of_front opened source next text limit carried.outcome room (subst (λ (x : Change). EditsSource source x carried.outcome next) is carried.edited);
       wrote = carried.wrote;
     }

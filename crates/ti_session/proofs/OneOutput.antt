@@ -7,7 +7,8 @@ use Rattle.ti_meaning.specs.declared.edits.Outcome.TheVariants.{Accepted, Refuse
 use Rattle.ti_session.specs.ScriptLaws.{OneAnswer, OneOutput, DifferAtMemory, SaysMemory}
 use Rattle.ti_devices.proofs.CutLines.{one_split-law}
 use Rattle.ti_devices.specs.Lines.{with_last}
-use Rattle.ti_session.specs.Script.{Answers, Mode, Runs, State, asks, closing, edits, goes_on, meaning_in, outcome_text, outside, prints, refused_text, reports, start, state, unknown}
+use Rattle.ti_session.specs.Script.{Answers, Mode, Runs, Shows, Source, State, asks, closing_reply, edits, goes_on, meaning_in, outcome_text, outside, prints, rebuilds, refused_text, reports, source, start, state, nothing_known}
+use Rattle.ti_meaning.proofs.ExchangeLaws.{one_rebuilt}
 
 -- ---- answers
 
@@ -46,26 +47,37 @@ Step-one texts next later change (Refused TooMany) (Refused TooLong) x y = absur
 Step-one texts next later change (Refused TooMany) (Refused NotOneBlock) x y = absurd (y.0.2 x.0.2)
 Step-one texts next later change (Refused TooMany) (Refused TooMany) x y = inr (inr (refl, x.1 ∙ sym y.1))
 
-State-same : (a b : State) → a.texts ≡ b.texts → a.mode ≡ b.mode → a ≡ b
-State-same a b texts mode = ap (λ (t : List (List ℕ)). state t a.mode) texts ∙ ap (λ (m : Mode). state b.texts m) mode
+Source-same : (a b : Source) → a.texts ≡ b.texts → a.rebuilt ≡ b.rebuilt → a ≡ b
+Source-same a b texts rebuilt = ap (λ (t : List (List ℕ)). source t a.rebuilt) texts ∙ ap (λ (r : List ℕ). source b.texts r) rebuilt
 
-Leads-same : (after other : State) → after.mode ≡ outside → other.mode ≡ outside → after.texts ≡ other.texts → after ≡ other
-Leads-same after other a b texts = State-same after other texts (a ∙ sym b)
+State-same : (a b : State) → a.source ≡ b.source → a.mode ≡ b.mode → a ≡ b
+State-same a b same mode = ap (λ (x : Source). state x a.mode) same ∙ ap (λ (m : Mode). state b.source m) mode
 
-edits-one : (texts : List (List ℕ)) (after other : State) (reply answer : List ℕ) (change : Change) → after.mode ≡ outside → other.mode ≡ outside
-    → Answers texts (edits change) after.texts reply → Answers texts (edits change) other.texts answer
+Leads-same : (after other : State) → after.mode ≡ outside → other.mode ≡ outside → after.source ≡ other.source → after ≡ other
+Leads-same after other a b same = State-same after other same (a ∙ sym b)
+
+Shows-one : (texts : List (List ℕ)) (change : Change) (outcome : Outcome) (before now other : List ℕ) → Shows texts change outcome before now
+    → Shows texts change outcome before other → now ≡ other
+Shows-one texts change Accepted before now other x y = (one_rebuilt texts change now other x.0 y.0 x.1 y.1).0
+Shows-one texts change (Refused error) before now other x y = x ∙ sym y
+
+edits-one : (source : Source) (after other : State) (reply answer : List ℕ) (change : Change) → after.mode ≡ outside → other.mode ≡ outside
+    → Answers source (edits change) after.source reply → Answers source (edits change) other.source answer
     → (reply ≡ refused_text Memory) ⊎ (answer ≡ refused_text Memory) ⊎ ((after ≡ other) × (reply ≡ answer))
-edits-one texts after other reply answer change a b x y =
-    elim (Step-one texts after.texts other.texts change x.0 y.0 x.1 y.1) [
+edits-one source after other reply answer change a b x y =
+    elim (Step-one source.texts after.source.texts other.source.texts change x.0 y.0 x.1.step y.1.step) [
       | inl memory ↦ inl (x.2 ∙ ap outcome_text memory)
       | inr (inl memory) ↦ inr (inl (y.2 ∙ ap outcome_text memory))
-      | inr (inr same) ↦ inr (inr (Leads-same after other a b same.1, x.2 ∙ ap outcome_text same.0 ∙ sym y.2))
+      | inr (inr same) ↦
+          let shows : Shows source.texts change y.0 source.rebuilt after.source.rebuilt = subst (λ (o : Outcome). Shows source.texts change o source.rebuilt after.source.rebuilt) same.0 x.1.shows in
+          let rebuilt : after.source.rebuilt ≡ other.source.rebuilt = Shows-one source.texts change y.0 source.rebuilt after.source.rebuilt other.source.rebuilt shows y.1.shows in
+          inr (inr (Leads-same after other a b (Source-same after.source other.source same.1 rebuilt), x.2 ∙ ap outcome_text same.0 ∙ sym y.2))
     ]
 
-reports-one : (texts : List (List ℕ)) (after other : State) (reply answer : List ℕ) → after.mode ≡ outside → other.mode ≡ outside
-    → Answers texts reports after.texts reply → Answers texts reports other.texts answer
+reports-one : (source : Source) (after other : State) (reply answer : List ℕ) → after.mode ≡ outside → other.mode ≡ outside
+    → Answers source reports after.source reply → Answers source reports other.source answer
     → (reply ≡ refused_text Memory) ⊎ (answer ≡ refused_text Memory) ⊎ ((after ≡ other) × (reply ≡ answer))
-reports-one texts after other reply answer a b x y =
+reports-one source after other reply answer a b x y =
     elim x.1 [
       | inr memory ↦ inl memory
       | inl first ↦ elim y.1 [
@@ -76,11 +88,13 @@ reports-one texts after other reply answer a b x y =
 
 pub one_answer-law : OneAnswer
 one_answer-law (goes_on mode) before after other reply answer x y = inr (inr (x.0 ∙ sym y.0, x.1 ∙ sym y.1))
-one_answer-law (asks (edits change)) before after other reply answer x y = edits-one before.texts after other reply answer change x.0 y.0 x.1 y.1
+one_answer-law (asks (edits change)) before after other reply answer x y = edits-one before.source after other reply answer change x.0 y.0 x.1 y.1
 one_answer-law (asks (prints at)) before after other reply answer x y =
     inr (inr (Leads-same after other x.0 y.0 (x.1.0 ∙ sym y.1.0), x.1.1 ∙ sym y.1.1))
-one_answer-law (asks reports) before after other reply answer x y = reports-one before.texts after other reply answer x.0 y.0 x.1 y.1
-one_answer-law (asks unknown) before after other reply answer x y =
+one_answer-law (asks reports) before after other reply answer x y = reports-one before.source after other reply answer x.0 y.0 x.1 y.1
+one_answer-law (asks rebuilds) before after other reply answer x y =
+    inr (inr (Leads-same after other x.0 y.0 (x.1.0 ∙ sym y.1.0), x.1.1 ∙ sym y.1.1))
+one_answer-law (asks nothing_known) before after other reply answer x y =
     inr (inr (Leads-same after other x.0 y.0 (x.1.0 ∙ sym y.1.0), x.1.1 ∙ sym y.1.1))
 
 -- ---- outputs
@@ -146,9 +160,9 @@ one_output-law input output other a b =
     ap (λ (ls : List (List ℕ)). with_last ls x.rest) same.0 ∙ ap (λ (r : List ℕ). with_last y.lines r) same.1 in
     elim (Runs-one (with_last x.lines x.rest) start a.end b.end a.replies b.replies x.ran
     (subst (λ (ls : List (List ℕ)). Runs ls start b.end b.replies) (sym lines) y.ran)) [
-      | inl equal ↦ inl (a.whole ∙ ap (λ (r : List ℕ). r ++ closing a.end.mode) equal.1
-          ∙ ap (λ (s : State). b.replies ++ closing s.mode) equal.0 ∙ sym b.whole)
+      | inl equal ↦ inl (a.whole ∙ ap (λ (r : List ℕ). r ++ closing_reply a.end.mode) equal.1
+          ∙ ap (λ (s : State). b.replies ++ closing_reply s.mode) equal.0 ∙ sym b.whole)
       | inr part ↦ inr (subst (λ (o : List ℕ). DifferAtMemory output o) (sym b.whole)
-          (subst (λ (o : List ℕ). DifferAtMemory o (b.replies ++ closing b.end.mode)) (sym a.whole)
-          (DifferAtMemory-before a.replies b.replies (closing a.end.mode) (closing b.end.mode) part)))
+          (subst (λ (o : List ℕ). DifferAtMemory o (b.replies ++ closing_reply b.end.mode)) (sym a.whole)
+          (DifferAtMemory-before a.replies b.replies (closing_reply a.end.mode) (closing_reply b.end.mode) part)))
     ]

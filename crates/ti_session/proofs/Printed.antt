@@ -1,12 +1,14 @@
 -- What the reply to `p N` is, and what it is spelled by.
-use Rattle.std.proofs.Common.{◌≡◌, ℕ, ◌<◌, List, [], ◌∷◌, ◌++◌, length, take, drop, Some, sym, ap, ◌∙◌, append_assoc}
+use Rattle.std.proofs.Common.{◌≡◌, ℕ, ◌+◌, ◌<◌, List, [], ◌∷◌, ◌++◌, length, take, drop, get_or, Some, sym, ap, ◌∙◌, append_assoc, append-nil}
+use Rattle.std.specs.Fmt.{decimal}
 use Rattle.std.specs.Prelude.{if◌then◌else◌}
 use Rattle.std.specs.List.{flat_map}
 use Rattle.std.proofs.lemmas.Bool.{lt-ltb}
-use Rattle.std.proofs.lemmas.List.{take-append-drop}
+use Rattle.std.proofs.lemmas.List.{take-append-drop, take_more}
 use Rattle.std.proofs.lemmas.Grind.{flat_map-append}
 use Rattle.ti_meaning.specs.Compiled.{compiled}
 use Rattle.ti_meaning.specs.declared.edits.EditError.TheVariants.{Position}
+use Rattle.ti_session.specs.Places.{next_place, places_text}
 use Rattle.ti_session.specs.Script.{entry_text, hex_of, print_reply, refused_text}
 
 pub print_reply-some : (texts : List (List ℕ)) (at : ℕ) (bytes : List ℕ) → at < length texts → Some bytes ≡ compiled texts at
@@ -26,3 +28,17 @@ pub hex_of-parts : (front piece later bytes : List ℕ) → bytes ≡ (front ++ 
 hex_of-parts front piece later bytes is =
     ap (flat_map hex_of) is ∙ flat_map-append hex_of (front ++ piece) later
     ∙ ap (λ (t : List ℕ). t ++ flat_map hex_of later) (flat_map-append hex_of front piece)
+
+-- ---- positions
+
+pub places_text-some : (places others : List ℕ) (first : ℕ) → places ≡ first ∷ others → places_text places ≡ decimal first ++ (flat_map next_place others ++ 10 ∷ [])
+places_text-some places others first is = ap places_text is ∙ append_assoc (decimal first) (flat_map next_place others) (10 ∷ [])
+
+-- the positions before one, and all of them
+pub next_places-front : (places : List ℕ) (i : ℕ) → i < length places
+    → flat_map next_place places ≡ (flat_map next_place (take i places) ++ next_place (get_or places i 0)) ++ flat_map next_place (drop (i + 1) places)
+next_places-front places i low =
+    ap (flat_map next_place) (sym (take-append-drop (i + 1) places)) ∙ flat_map-append next_place (take (i + 1) places) (drop (i + 1) places)
+    ∙ ap (λ (t : List ℕ). t ++ flat_map next_place (drop (i + 1) places)) (ap (flat_map next_place) (take_more places i 0 low)
+    ∙ flat_map-append next_place (take i places) (get_or places i 0 ∷ [])
+    ∙ ap (λ (t : List ℕ). flat_map next_place (take i places) ++ t) (append-nil (next_place (get_or places i 0))))

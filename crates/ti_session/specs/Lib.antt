@@ -1,5 +1,6 @@
 -- The definitions that the contracts of this crate cite.
 pub mod Editor
+pub mod Places
 pub mod Replies
 pub mod Requests
 pub mod Script

@@ -1,6 +1,6 @@
 -- What the parts of the program write of a session's replies.
 use Rattle.std.specs.Prelude.{◌++◌, ℕ, List, Result, ◌⊎◌, codes}
-use Rattle.ti_meaning.specs.Edits.{Change, Step}
+use Rattle.ti_meaning.specs.Edits.{Change}
 use Rattle.ti_meaning.specs.Report.{report}
 use Rattle.ti_meaning.specs.declared.edits.EditError.TheVariants.{Memory}
 use Rattle.ti_meaning.specs.declared.edits.Outcome.{Outcome}
@@ -8,13 +8,12 @@ use Rattle.ti_devices.specs.Counted.{Observed}
 use Rattle.ti_devices.specs.Lines.{with_newline}
 use Rattle.ti_devices.specs.Writing.{Wrote}
 use Rattle.ti_devices.specs.declared.tool_error.ToolError.{ToolError}
-use Rattle.ti_session.specs.Script.{outcome_text, refused_text}
+use Rattle.ti_session.specs.Script.{Source, EditsSource, outcome_text, refused_text}
 
--- an edit leads from one list of texts to the next, and its outcome was written
-pub record CarriesOut (texts : List (List ℕ)) (change : Change) (next : List (List ℕ)) (before now : Observed) (result : Result Unit ToolError)
-    : Type 0 where
+-- an edit leads from one source to the next, and its outcome was written
+pub record CarriesOut (source : Source) (change : Change) (next : Source) (before now : Observed) (result : Result Unit ToolError) : Type 0 where
   pub outcome : Outcome
-  pub step : Step texts change outcome next
+  pub edited : EditsSource source change outcome next
   pub wrote : Wrote before now (outcome_text outcome) result
 
 -- the report was written with its end, or that memory is wanting

@@ -4,13 +4,13 @@ use Rattle.ti_meaning.specs.Edits.{Change, insertion, replacement, removal, relo
 use Rattle.ti_session.specs.declared.requests.Opened.{Opened}
 use Rattle.ti_session.specs.declared.requests.Opened.TheVariants.{Insert, Replace}
 use Rattle.ti_session.specs.declared.requests.Request.{Request}
-use Rattle.ti_session.specs.declared.requests.Request.TheVariants.{Nothing, Open, Remove, Relocate, Print, Report, Unknown}
-use Rattle.ti_session.specs.Script.{Mode, outside, putting_in, exchanging, Meaning, goes_on, asks, edits, prints, reports, unknown}
+use Rattle.ti_session.specs.declared.requests.Request.TheVariants.{Nothing, Open, Remove, Relocate, Print, Report, Rebuilt, Unknown}
+use Rattle.ti_session.specs.Script.{Mode, outside, in_insertion, in_replacement, Meaning, goes_on, asks, edits, prints, rebuilds, reports, nothing_known}
 
 -- the mode of a block that was opened, with this text so far
 abbrev pub opened_mode : Opened → List ℕ → Mode
-opened_mode (Insert at) text = putting_in at text
-opened_mode (Replace at) text = exchanging at text
+opened_mode (Insert at) text = in_insertion at text
+opened_mode (Replace at) text = in_replacement at text
 
 -- the mode where such a block is open, or none is
 abbrev pub mode_of : Option Opened → List ℕ → Mode
@@ -25,7 +25,8 @@ meaning_of (Remove at) = asks (edits (removal at))
 meaning_of (Relocate from to) = asks (edits (relocation from to))
 meaning_of (Print at) = asks (prints at)
 meaning_of Report = asks reports
-meaning_of Unknown = asks unknown
+meaning_of Rebuilt = asks rebuilds
+meaning_of Unknown = asks nothing_known
 
 -- the edit that the end of the block asks for
 abbrev pub opened_change : Opened → List ℕ → Change

@@ -1,14 +1,19 @@
 -- The session (own): a script whose lines edit a source and ask of it, and the replies to them.
-use Rattle.std.specs.Prelude.{◌≡◌, ℕ, ◌+◌, ◌-◌, ◌*◌, ◌/◌, ◌%◌, ◌&&◌, ◌==◌, nat_lt, nat_le, Bool, if◌then◌else◌, List, [], ◌∷◌, ◌++◌, length, take, drop, position, fold, codes, bytes_eq, Option, Some, None, ◌⊎◌}
+use Rattle.std.specs.Prelude.{◌≡◌, ℕ, ◌+◌, ◌-◌, ◌/◌, ◌%◌, ◌&&◌, ◌==◌, nat_lt, if◌then◌else◌, Option, Some, None, ◌⊎◌}
+use Rattle.std.specs.Prelude.{List, [], ◌∷◌, ◌++◌, length, take, drop, position, codes, bytes_eq}
 use Rattle.std.specs.List.{flat_map, list_all, AllByRecursion}
+use Rattle.ti_text.specs.Ascii as ascii
+use Rattle.ti_text.specs.Digits.{decimal, is_decimal_digit}
 use Rattle.ti_meaning.specs.Compiled.{compiled}
 use Rattle.ti_meaning.specs.Report.{report}
 use Rattle.ti_meaning.specs.Edits.{Change, insertion, replacement, removal, relocation, Step}
+use Rattle.ti_meaning.specs.Dependents.{Rebuilds}
 use Rattle.ti_meaning.specs.declared.edits.EditError.{EditError}
 use Rattle.ti_meaning.specs.declared.edits.EditError.TheVariants.{Position, TooLong, NotOneBlock, TooMany, Memory}
 use Rattle.ti_meaning.specs.declared.edits.Outcome.{Outcome}
 use Rattle.ti_meaning.specs.declared.edits.Outcome.TheVariants.{Accepted, Refused}
 use Rattle.ti_devices.specs.Lines.{IsWithin, Splits, with_last, with_newline}
+use Rattle.ti_session.specs.Places.{places_text}
 
 -- ---- lines
 
@@ -25,42 +30,36 @@ IsShortLine line = IsWithin line_max line
 -- between commands, or within a block that is to be put in or to take another's place: its position, and its text so far
 pub data Mode : Type 0 where
   outside : Mode
-  putting_in : ℕ → List ℕ → Mode
-  exchanging : ℕ → List ℕ → Mode
+  in_insertion : ℕ → List ℕ → Mode
+  in_replacement : ℕ → List ℕ → Mode
 
--- what is asked for: an edit; the entry of the block at a position; the report; or nothing that is known
+-- what is asked for: an edit; the entry of the block at a position; the report; which blocks the last accepted edit rebuilt;
+-- or nothing that is known
 pub data Command : Type 0 where
   edits : Change → Command
   prints : ℕ → Command
   reports : Command
-  unknown : Command
+  rebuilds : Command
+  nothing_known : Command
 
 -- a line leads to another mode, or it completes a command, and then the mode is outside
 pub data Meaning : Type 0 where
   goes_on : Mode → Meaning
   asks : Command → Meaning
 
--- whether the byte is a decimal digit
-abbrev pub is_digit : ℕ → Bool
-is_digit byte = nat_le 48 byte && nat_le byte 57
-
--- the number that decimal digits spell
-abbrev pub decimal : List ℕ → ℕ
-decimal digits = fold (λ value digit. 10 * value + (digit - 48)) 0 digits
-
 -- one to nine decimal digits
 abbrev pub number : List ℕ → Option ℕ
-number text = if nat_lt 0 (length text) && nat_lt (length text) 10 && list_all is_digit text then Some (decimal text) else None
+number text = if nat_lt 0 (length text) && nat_lt (length text) 10 && list_all is_decimal_digit text then Some (decimal text) else None
 
 -- a letter with a number: `i N`, `r N`, `d N`, `p N`
-abbrev pub meaning_numbered : ℕ → Option ℕ → Meaning
-meaning_numbered letter None = asks unknown
-meaning_numbered letter (Some n) =
-    if letter == 105 then goes_on (putting_in n [])
-    else if letter == 114 then goes_on (exchanging n [])
-    else if letter == 100 then asks (edits (removal n))
-    else if letter == 112 then asks (prints n)
-    else asks unknown
+abbrev pub meaning_with_number : ℕ → Option ℕ → Meaning
+meaning_with_number letter None = asks nothing_known
+meaning_with_number letter (Some n) =
+    if letter == ascii.byte_of "i" then goes_on (in_insertion n [])
+    else if letter == ascii.byte_of "r" then goes_on (in_replacement n [])
+    else if letter == ascii.byte_of "d" then asks (edits (removal n))
+    else if letter == ascii.byte_of "p" then asks (prints n)
+    else asks nothing_known
 
 -- both numbers, where both are there
 abbrev pub both : Option ℕ → Option ℕ → Option (ℕ × ℕ)
@@ -74,27 +73,33 @@ numbers_around text (Some place) = both (number (take place text)) (number (drop
 
 -- two numbers with one space between them
 abbrev pub two_numbers : List ℕ → Option (ℕ × ℕ)
-two_numbers text = numbers_around text (position (λ byte. byte == 32) text)
+two_numbers text = numbers_around text (position (λ byte. byte == ascii.space) text)
 
 -- the letter of a move with its two numbers: `m F T`
 abbrev pub moves : Option (ℕ × ℕ) → Meaning
-moves None = asks unknown
+moves None = asks nothing_known
 moves (Some places) = asks (edits (relocation places.0 places.1))
 
--- a line between commands: an empty one says nothing; `f` stands alone; a number follows one space, or two do
+-- a letter alone: `f`, `w`
+abbrev pub meaning_alone : ℕ → Meaning
+meaning_alone letter = if letter == ascii.byte_of "f" then asks reports else if letter == ascii.byte_of "w" then asks rebuilds else asks nothing_known
+
+-- a line between commands: an empty one says nothing; a letter stands alone; a number follows one space, or two do
 abbrev pub meaning_outside : List ℕ → Meaning
 meaning_outside [] = goes_on outside
-meaning_outside (letter ∷ []) = if letter == 102 then asks reports else asks unknown
+meaning_outside (letter ∷ []) = meaning_alone letter
 meaning_outside (letter ∷ space ∷ rest) =
-    if space == 32 then (if letter == 109 then moves (two_numbers rest) else meaning_numbered letter (number rest)) else asks unknown
+    if space == ascii.space
+    then (if letter == ascii.byte_of "m" then moves (two_numbers rest) else meaning_with_number letter (number rest))
+    else asks nothing_known
 
 -- a line in a mode: within a block, a line `.` ends it and any other belongs to it
 abbrev pub meaning_in : Mode → List ℕ → Meaning
 meaning_in outside line = meaning_outside line
-meaning_in (putting_in at block) line =
-    if bytes_eq line (codes ".") then asks (edits (insertion at block)) else goes_on (putting_in at (block ++ with_newline line))
-meaning_in (exchanging at block) line =
-    if bytes_eq line (codes ".") then asks (edits (replacement at block)) else goes_on (exchanging at (block ++ with_newline line))
+meaning_in (in_insertion at block) line =
+    if bytes_eq line (codes ".") then asks (edits (insertion at block)) else goes_on (in_insertion at (block ++ with_newline line))
+meaning_in (in_replacement at block) line =
+    if bytes_eq line (codes ".") then asks (edits (replacement at block)) else goes_on (in_replacement at (block ++ with_newline line))
 
 -- ---- replies
 
@@ -117,7 +122,7 @@ outcome_text (Refused error) = refused_text error
 
 -- the hexadecimal digit of that value, in lower case
 abbrev pub hex_digit : ℕ → ℕ
-hex_digit n = if nat_lt n 10 then 48 + n else 87 + n
+hex_digit n = if nat_lt n 10 then ascii.digit_0 + n else ascii.byte_of "a" + (n - 10)
 
 -- a byte as two hexadecimal digits, in lower case
 abbrev pub hex_of : ℕ → List ℕ
@@ -132,27 +137,48 @@ entry_text (Some bytes) = with_newline (flat_map hex_of bytes)
 abbrev pub print_reply : List (List ℕ) → ℕ → List ℕ
 print_reply texts at = if nat_lt at (length texts) then entry_text (compiled texts at) else refused_text Position
 
--- A command leads from one list of texts to the next, with its reply. An edit without cause, and a report, may be
--- refused for want of memory.
-abbrev pub Answers : List (List ℕ) → Command → List (List ℕ) → List ℕ → Type 0
-Answers texts (edits change) next reply = (outcome : Outcome) × Step texts change outcome next × (reply ≡ outcome_text outcome)
-Answers texts (prints at) next reply = (next ≡ texts) × (reply ≡ print_reply texts at)
-Answers texts reports next reply = (next ≡ texts) × ((reply ≡ report texts 1 ++ with_newline (codes ".")) ⊎ (reply ≡ refused_text Memory))
-Answers texts unknown next reply = (next ≡ texts) × (reply ≡ with_newline (codes "unknown"))
-
--- between two lines: the texts of the source's blocks, and the mode
-pub record State : Type 0 where
+-- the source that is edited: the texts of its blocks, and the positions that the last accepted edit rebuilt
+pub record Source : Type 0 where
   pub texts : List (List ℕ)
+  pub rebuilt : List ℕ
+
+-- the source of these texts, of which the last accepted edit rebuilt these positions
+abbrev pub source : List (List ℕ) → List ℕ → Source
+source texts rebuilt = record { texts = texts; rebuilt = rebuilt }
+
+-- the positions that are known to be rebuilt after an edit with that outcome: those of its own where it was accepted, and
+-- else the same as before
+abbrev pub Shows : List (List ℕ) → Change → Outcome → List ℕ → List ℕ → Type 0
+Shows texts change Accepted before now = (steps : ℕ) × Rebuilds texts change now steps
+Shows texts change (Refused error) before now = now ≡ before
+
+-- an edit with that outcome leads from one source to the next
+pub record EditsSource (source : Source) (change : Change) (outcome : Outcome) (next : Source) : Type 0 where
+  pub step : Step source.texts change outcome next.texts
+  pub shows : Shows source.texts change outcome source.rebuilt next.rebuilt
+
+-- A command leads from one source to the next, with its reply. An edit without cause, and a report, may be refused for want
+-- of memory.
+abbrev pub Answers : Source → Command → Source → List ℕ → Type 0
+Answers source (edits change) next reply = (outcome : Outcome) × EditsSource source change outcome next × (reply ≡ outcome_text outcome)
+Answers source (prints at) next reply = (next ≡ source) × (reply ≡ print_reply source.texts at)
+Answers source reports next reply = (next ≡ source) × ((reply ≡ report source.texts 1 ++ with_newline (codes ".")) ⊎ (reply ≡ refused_text Memory))
+Answers source rebuilds next reply = (next ≡ source) × (reply ≡ places_text source.rebuilt)
+Answers source nothing_known next reply = (next ≡ source) × (reply ≡ with_newline (codes "unknown"))
+
+-- between two lines: the source and the mode
+pub record State : Type 0 where
+  pub source : Source
   pub mode : Mode
 
--- the state of these texts and that mode
-abbrev pub state : List (List ℕ) → Mode → State
-state texts mode = record { texts = texts; mode = mode }
+-- the state of this source and that mode
+abbrev pub state : Source → Mode → State
+state source mode = record { source = source; mode = mode }
 
 -- what a line of that meaning leads to, with its reply
 abbrev pub Leads : Meaning → State → State → List ℕ → Type 0
-Leads (goes_on mode) before after reply = (after ≡ state before.texts mode) × (reply ≡ [])
-Leads (asks command) before after reply = (after.mode ≡ outside) × Answers before.texts command after.texts reply
+Leads (goes_on mode) before after reply = (after ≡ state before.source mode) × (reply ≡ [])
+Leads (asks command) before after reply = (after.mode ≡ outside) × Answers before.source command after.source reply
 
 -- lines lead from one state to another, with their replies in order
 abbrev pub Runs : List (List ℕ) → State → State → List ℕ → Type 0
@@ -162,14 +188,14 @@ Runs (line ∷ lines) before after output =
     × Leads (meaning_in before.mode line) before next reply × Runs lines next after later × (output ≡ reply ++ later)
 
 -- a script that ends inside a block is answered so
-abbrev pub closing : Mode → List ℕ
-closing outside = []
-closing (putting_in at block) = with_newline (codes "unfinished")
-closing (exchanging at block) = with_newline (codes "unfinished")
+abbrev pub closing_reply : Mode → List ℕ
+closing_reply outside = []
+closing_reply (in_insertion at block) = with_newline (codes "unfinished")
+closing_reply (in_replacement at block) = with_newline (codes "unfinished")
 
--- at the start there are no blocks, and none is open
+-- at the start there are no blocks, none was rebuilt, and none is open
 abbrev pub start : State
-start = state [] outside
+start = state (source [] []) outside
 
 -- lines within the limit are complete, and of a further line this front has come; they have led to that state, with their replies
 pub record SoFar (taken line : List ℕ) (end : State) (output : List ℕ) : Type 0 where
@@ -191,4 +217,4 @@ pub record Session (input output : List ℕ) : Type 0 where
   pub end : State
   pub replies : List ℕ
   pub complete : Complete input end replies
-  pub whole : output ≡ replies ++ closing end.mode
+  pub whole : output ≡ replies ++ closing_reply end.mode

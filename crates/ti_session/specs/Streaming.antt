@@ -1,16 +1,13 @@
 -- How a session over devices ends (own): what it has read, and what it has written.
-use Rattle.std.specs.Prelude.{◌≡◌, ℕ, ◌+◌, ◌<◌, List, [], ◌++◌, length, Result, Ok, Err, ◌⊎◌}
+use Rattle.std.specs.Prelude.{◌≡◌, ℕ, ◌<◌, List, [], ◌++◌, length, Result, Ok, Err, ◌⊎◌}
 use Rattle.std.specs.Io.KnownBytes.{Consumes, IsAtEnd}
 use Rattle.ti_devices.specs.Counted.{Observed}
+use Rattle.ti_devices.specs.LineReader.{CannotReadOn}
 use Rattle.ti_devices.specs.Reading.{Gives}
 use Rattle.ti_devices.specs.Writing.{TakesAll, TakesFront}
 use Rattle.ti_devices.specs.declared.tool_error.ToolError.{ToolError}
 use Rattle.ti_devices.specs.declared.tool_error.ToolError.TheVariants.{ReadFault, WriteFault, LineTooLong, Memory}
 use Rattle.ti_session.specs.Script.{IsShortLine, Session, SoFar, State, line_max}
-
--- the greatest number of reads
-abbrev pub reads_max : ℕ
-reads_max = 4294967296
 
 -- the script was read to its end, and all replies were written
 pub record Completes (given left before now : Observed) : Type 0 where
@@ -20,11 +17,6 @@ pub record Completes (given left before now : Observed) : Type 0 where
   pub at_end : IsAtEnd left.bytes
   pub session : Session input output
   pub written : TakesAll before now output
-
--- the reader failed, once, or it did not and has been read from as often as it may be
-abbrev pub CannotRead : Observed → Observed → Type 0
-CannotRead given left =
-    (left.failures ≡ given.failures + 1) ⊎ ((left.failures ≡ given.failures) × (left.reads ≡ given.reads + reads_max))
 
 -- no more can be read: the replies to the lines that are complete were written
 pub record StopsReading (given left before now : Observed) : Type 0 where
@@ -36,7 +28,7 @@ pub record StopsReading (given left before now : Observed) : Type 0 where
   pub so_far : SoFar taken line end output
   pub short : IsShortLine line
   pub written : TakesAll before now output
-  pub cause : CannotRead given left
+  pub cause : CannotReadOn given left
 
 -- a line that has begun is over the limit: the replies to the lines before it were written, and some bytes more were read
 pub record FindsLongLine (given left before now : Observed) : Type 0 where

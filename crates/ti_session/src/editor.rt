@@ -5,38 +5,49 @@ ghost use Rattle.ti_devices.specs.Counted.{observed};
 ghost use Rattle.ti_devices.specs.Writing.{Wrote};
 ghost use Rattle.ti_session.specs.Replies.{CarriesOut, WroteReport};
 ghost use Rattle.ti_session.specs.Requests.{opened_change};
-ghost use Rattle.ti_session.specs.Script.{asks, edits, print_reply};
+ghost use Rattle.ti_session.specs.Script.{asks, edits, print_reply, source};
 
-use crate::replies::{write_hex, write_outcome, write_refusal};
+use crate::replies::{write_hex, write_places, write_refusal};
 use crate::requests::{Opened, Request, read_request};
 use std::alloc::{AllocError, Global};
 use std::io::Write;
 use ti_base::{Database, Edit, EditError};
 use ti_devices::{Buffer, Counted, ToolError, write_out};
+use ti_text::limits::BLOCK_BYTES_MAX;
 
 /// How many bytes of a block are held: one more than a block may have.
-const BLOCK_ROOM: usize = 1_048_577;
+const BLOCK_ROOM: usize = BLOCK_BYTES_MAX + 1;
 
-/// The source that is edited, and the block that is open, if one is.
+/// The source that is edited, the positions that its last accepted edit rebuilt, and the block that
+/// is open, if one is.
 #[derive(Drop)]
 pub struct Editor {
     database: Database,
+    rebuilt: Vec<usize>,
     block: Buffer,
     opened: Option<Opened>,
 }
 
-// Makes an edit, and writes what came of it.
+// Makes an edit, and writes what came of it. Where it is accepted, the positions that it rebuilt
+// take the place of those before.
 fn carry_out<W: Write>(
     database: &mut Database,
+    rebuilt: &mut Vec<usize>,
     edit: &Edit<'_>,
     writer: &mut Counted<W>,
 ) -> Result<(), ToolError>
-    ensures { CarriesOut database.old (change_of edit.now) database.new
+    ensures { CarriesOut (source database.old rebuilt.old.items) (change_of edit.now)
+        (source database.new rebuilt.new.items)
         (observed W.contents writer.old)
         (observed W.contents writer.new) result }
 {
-    let answer = database.apply(edit);
-    write_outcome(writer, &answer)
+    match database.apply(edit) {
+        Ok(edited) => {
+            *rebuilt = edited.rebuilt;
+            write_out(writer, b"ok\n")
+        }
+        Err(error) => write_refusal(writer, error),
+    }
 }
 
 // Writes the entry of a block.
@@ -74,7 +85,7 @@ fn report<W: Write>(database: &Database, writer: &mut Counted<W>) -> Result<(), 
 
 impl Editor {
     ghost use Rattle.ti_session.specs.Editor.{Holds, ActsOn};
-    ghost use Rattle.ti_session.specs.Script.{State, meaning_outside, closing, meaning_in, outside, start};
+    ghost use Rattle.ti_session.specs.Script.{State, meaning_outside, closing_reply, meaning_in, outside, start};
 
     /// A source without blocks, with room for a block.
     ///
@@ -86,6 +97,7 @@ impl Editor {
         let block = Buffer::new(alloc, BLOCK_ROOM)?;
         Ok(Editor {
             database: Database::new(alloc),
+            rebuilt: Vec::new(alloc),
             block,
             opened: None,
         })
@@ -109,12 +121,25 @@ impl Editor {
                 self.opened = Some(opened);
                 Ok(())
             }
-            Request::Remove { at } => carry_out(&mut self.database, &Edit::Remove { at }, writer),
+            Request::Remove { at } => {
+                carry_out(
+                    &mut self.database,
+                    &mut self.rebuilt,
+                    &Edit::Remove { at },
+                    writer,
+                )
+            },
             Request::Relocate { from, to } => {
-                carry_out(&mut self.database, &Edit::Relocate { from, to }, writer)
-            }
+                carry_out(
+                    &mut self.database,
+                    &mut self.rebuilt,
+                    &Edit::Relocate { from, to },
+                    writer,
+                )
+            },
             Request::Print { at } => print(&self.database, at, writer),
             Request::Report => report(&self.database, writer),
+            Request::Rebuilt => write_places(writer, &self.rebuilt),
             Request::Unknown => write_out(writer, b"unknown\n"),
         }
     }
@@ -137,7 +162,7 @@ impl Editor {
             Opened::Replace { at } => Edit::Replace { at, text },
         };
         self.opened = None;
-        carry_out(&mut self.database, &edit, writer)
+        carry_out(&mut self.database, &mut self.rebuilt, &edit, writer)
     }
 
     /// Takes a line, and writes its reply.
@@ -173,7 +198,7 @@ impl Editor {
         ensures { (state : State) → Holds self.now state
             → Wrote (observed W.contents writer.old)
             (observed W.contents writer.new)
-            (closing state.mode) result }
+            (closing_reply state.mode) result }
     {
         if self.opened.is_none() {
             return Ok(());

@@ -1,14 +1,15 @@
 //! The replies of a session, written to a counted device.
 ghost use Rattle.std.specs.Prelude.{◌≡◌, ◌<◌, ◌≤◌, length};
 ghost use Rattle.std.specs.List.{flat_map};
-ghost use Rattle.ti_meaning.specs.Edits.{outcome_of};
 ghost use Rattle.ti_devices.specs.Counted.{observed};
 ghost use Rattle.ti_devices.specs.Writing.{Wrote};
-ghost use Rattle.ti_session.specs.Script.{hex_digit, hex_of, outcome_text, refused_text};
+ghost use Rattle.ti_session.specs.Places.{next_place, places_text};
+ghost use Rattle.ti_session.specs.Script.{hex_digit, hex_of, refused_text};
 
 use arrayvec::ArrayVec;
+use itoa::Buffer;
 use std::io::Write;
-use ti_base::{EditError, Edited};
+use ti_base::EditError;
 use ti_devices::{Counted, ToolError, write_out};
 
 /// How many bytes are spelled in hexadecimal at a time.
@@ -38,22 +39,46 @@ pub fn write_refusal<W: Write>(writer: &mut Counted<W>, error: EditError) -> Res
     write_out(writer, refusal(error))
 }
 
-/// Writes what came of an edit.
+/// Writes positions in decimal digits, with single spaces between, or `-` where there are none. It
+/// takes no memory.
 ///
 /// # Errors
 /// `WriteFault`.
-pub fn write_outcome<W: Write>(
-    writer: &mut Counted<W>,
-    answer: &Result<Edited, EditError>,
-) -> Result<(), ToolError>
+pub fn write_places<W: Write>(writer: &mut Counted<W>, places: &[usize]) -> Result<(), ToolError>
     ensures { Wrote (observed W.contents writer.old)
         (observed W.contents writer.new)
-        (outcome_text (outcome_of answer.now)) result }
+        (places_text places.now) result }
 {
-    match answer {
-        Ok(_) => write_out(writer, b"ok\n"),
-        Err(error) => write_refusal(writer, *error),
+    let Some((first, others)) = places.split_first() else {
+        return write_out(writer, b"-\n");
+    };
+    let mut digits = Buffer::new();
+    write_out(writer, digits.format(*first).as_bytes())?;
+    write_next_places(writer, others)?;
+    write_out(writer, b"\n")
+}
+
+// Writes a position behind a space.
+fn write_next_place<W: Write>(writer: &mut Counted<W>, place: usize) -> Result<(), ToolError>
+    ensures { Wrote (observed W.contents writer.old)
+        (observed W.contents writer.new)
+        (next_place place) result }
+{
+    let mut digits = Buffer::new();
+    write_out(writer, b" ")?;
+    write_out(writer, digits.format(place).as_bytes())
+}
+
+// Writes each of the positions behind a space.
+fn write_next_places<W: Write>(writer: &mut Counted<W>, places: &[usize]) -> Result<(), ToolError>
+    ensures { Wrote (observed W.contents writer.old)
+        (observed W.contents writer.new)
+        (flat_map next_place places.now) result }
+{
+    for place in places {
+        write_next_place(writer, *place)?;
     }
+    Ok(())
 }
 
 // A hexadecimal digit, in lower case.

@@ -1,7 +1,8 @@
 //! What a line of a session asks for, outside a block.
 ghost use Rattle.std.specs.Prelude.{◌≡◌, ◌==◌, ◌<◌, length, position, IfSome, Some};
+ghost use Rattle.ti_text.specs.Ascii as ascii;
 ghost use Rattle.ti_session.specs.Requests.{meaning_of};
-ghost use Rattle.ti_session.specs.Script.{meaning_outside, moves, number, meaning_numbered, two_numbers};
+ghost use Rattle.ti_session.specs.Script.{meaning_alone, meaning_outside, moves, number, meaning_with_number, two_numbers};
 
 /// A block that lines are to follow for, and the position that it is for.
 #[derive(Clone, Copy)]
@@ -44,6 +45,8 @@ pub enum Request {
     },
     /// To write the report.
     Report,
+    /// To show which blocks the last accepted edit rebuilt.
+    Rebuilt,
     /// It is no request.
     Unknown,
 }
@@ -67,7 +70,7 @@ fn number(text: &[u8]) -> Option<usize>
 
 // The place of the first space.
 fn first_space(text: &[u8]) -> Option<usize>
-    ensures place { result ≡ position (λ byte. byte == 32) text.now }
+    ensures place { result ≡ position (λ byte. byte == ascii.space) text.now }
     ensures within { IfSome result (λ place. place < length text.now) }
 {
     text.iter().position(|byte| *byte == b' ')
@@ -96,13 +99,24 @@ fn relocation(text: &[u8]) -> Request
 
 // What a letter with a number asks for.
 fn request_with_number(letter: u8, at: usize) -> Request
-    ensures { meaning_of result ≡ meaning_numbered letter (Some at) }
+    ensures { meaning_of result ≡ meaning_with_number letter (Some at) }
 {
     match letter {
         b'i' => Request::Open(Opened::Insert { at }),
         b'r' => Request::Open(Opened::Replace { at }),
         b'd' => Request::Remove { at },
         b'p' => Request::Print { at },
+        _ => Request::Unknown,
+    }
+}
+
+// What a letter alone asks for.
+fn request_alone(letter: u8) -> Request
+    ensures { meaning_of result ≡ meaning_alone letter }
+{
+    match letter {
+        b'f' => Request::Report,
+        b'w' => Request::Rebuilt,
         _ => Request::Unknown,
     }
 }
@@ -115,11 +129,7 @@ pub fn read_request(line: &[u8]) -> Request
         return Request::Nothing;
     };
     let Some((space, digits)) = rest.split_first() else {
-        return if *letter == b'f' {
-            Request::Report
-        } else {
-            Request::Unknown
-        };
+        return request_alone(*letter);
     };
     if *space != b' ' {
         return Request::Unknown;

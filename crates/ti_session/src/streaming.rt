@@ -1,7 +1,8 @@
 //! The session: a script read line by line, and its replies written as they come.
 ghost use Rattle.std.specs.Prelude.{◌+◌, ◌≤◌};
 ghost use Rattle.ti_devices.specs.Counted.{observed, reads_of};
-ghost use Rattle.ti_session.specs.Streaming.{Ends, reads_max};
+ghost use Rattle.ti_devices.specs.LineReader.{reads_max};
+ghost use Rattle.ti_session.specs.Streaming.{Ends};
 
 use crate::editor::Editor;
 use std::alloc::Global;

@@ -4,6 +4,9 @@ use Rattle.std.specs.Prelude.{◌&&◌, ◌||◌, not}
 use Rattle.std.proofs.Math.Seq.{drop-cons}
 use Rattle.std.proofs.lemmas.Bool.{eqb-true, eq-eqb, ne_eqb, ltb-true, not-true, and_parts, agree_below_at, cases_eq}
 use Rattle.std.proofs.lemmas.List.{drop_all}
+use Rattle.std.proofs.lemmas.Slice.Eq.{bytes_eq-Decides}
+use Rattle.std.specs.Str.{bytes_eq}
+use Rattle.ti_spelling.specs.inside.Writing.{is_plain}
 use Rattle.ti_spelling.specs.declared.spelling.Piece.{Piece}
 use Rattle.ti_spelling.specs.declared.spelling.UnescapeError.{UnescapeError}
 use Rattle.ti_spelling.specs.Spelling.{AreBytes, HasNoNul, is_percent, last_byte, is_empty, byte_text, written_from, written, WrittenSpells}
@@ -28,6 +31,24 @@ writes_on text value all before i lt done =
     let one : written_from (eqb i 0) before (drop i value) ≡ byte_text (is_percent before) (eqb i 0 || eqb i (length value - 1)) x ++ written_from false x (drop (suc i) value) =
     ap (written_from (eqb i 0) before) (drop-cons value i 0 lt) ∙ ap (λ (last : Bool). byte_text (is_percent before) (eqb i 0 || last) x ++ written_from false x (drop (suc i) value)) edge in
     rw (append_assoc, not_first, add-one) (ap (λ (rest : List ℕ). text ++ rest) (sym one) ∙ done)
+
+-- ---- a byte that is its own text
+
+is_own_text : (percent edge : Bool) (byte : ℕ) → Bool
+is_own_text percent edge byte = not (is_plain byte) || bytes_eq (byte_text percent edge byte) (byte ∷ [])
+
+own_text_each : (percent edge : Bool) (byte : ℕ) → byte < 256 → is_own_text percent edge byte ≡ true
+unfolding is_own_text byte_text
+own_text_each true true byte lt = agree_below_at (is_own_text true true) (λ b. true) 256 byte refl lt
+own_text_each true false byte lt = agree_below_at (is_own_text true false) (λ b. true) 256 byte refl lt
+own_text_each false true byte lt = agree_below_at (is_own_text false true) (λ b. true) 256 byte refl lt
+own_text_each false false byte lt = agree_below_at (is_own_text false false) (λ b. true) 256 byte refl lt
+
+pub plain_text : (percent edge : Bool) (byte : ℕ) → byte < 256 → is_plain byte ≡ true → byte_text percent edge byte ≡ byte ∷ []
+unfolding is_own_text
+plain_text percent edge byte lt plain =
+    (bytes_eq-Decides (byte_text percent edge byte) (byte ∷ [])).0
+    (sym (ap (λ (p : Bool). not p || bytes_eq (byte_text percent edge byte) (byte ∷ [])) plain) ∙ own_text_each percent edge byte lt)
 
 -- ---- reading it back
 

@@ -139,7 +139,7 @@ fn a_move_changes_owners(rt: HostRuntime) -> Result<(), Fail> {
 #[test]
 fn each_refusal_by_its_name(rt: HostRuntime) -> Result<(), Fail> {
     let mut database = source(rt.alloc(), &[b"a,\n", b"b,\n"])?;
-    assert_eq!(rt; database.insert(2, b"c,\n"), Ok(Edited {}));
+    database.insert(2, b"c,\n")?;
     assert_eq!(rt; database.insert(4, b"d,\n"), Err(EditError::Position));
     assert_eq!(rt; database.replace(3, b"d,\n"), Err(EditError::Position));
     assert_eq!(rt; database.remove(3), Err(EditError::Position));
@@ -175,7 +175,7 @@ fn the_longest_block(rt: HostRuntime) -> Result<(), Fail> {
     assert_eq!(rt; longest.len(), 1_048_576);
     let longer = with_comment(rt.alloc(), 1_048_572)?;
     let mut database = Database::new(rt.alloc());
-    assert_eq!(rt; database.insert(0, &longest), Ok(Edited {}));
+    database.insert(0, &longest)?;
     assert_eq!(rt; database.replace(0, &longer), Err(EditError::TooLong));
     assert_eq!(rt; database.replace(1, &longer), Err(EditError::Position));
     Ok(())
@@ -233,9 +233,9 @@ fn the_largest_extended_entry(rt: HostRuntime) -> Result<(), Fail> {
     assert!(rt; database.len() == 1);
     let size = database.compiled(0).map_or(0, |entry| entry.len());
     assert_eq!(rt; size, 32768);
-    assert_eq!(rt; database.replace(0, &larger), Ok(Edited {}));
+    database.replace(0, &larger)?;
     expect_report(&rt, &database, "1: E9 TooLarge x\n")?;
-    assert_eq!(rt; database.replace(0, &short), Ok(Edited {}));
+    database.replace(0, &short)?;
     expect_entry(&rt, &database, 0, None);
     Ok(())
 }
@@ -279,5 +279,89 @@ fn faults_stand_on_lines_of_their_blocks(rt: HostRuntime) -> Result<(), Fail> {
     assert_eq!(rt; (faults[0].block, faults[0].line), (1, 1));
     assert_eq!(rt; (faults[1].block, faults[1].line), (2, 2));
     assert_eq!(rt; faults[1].code, Code::MissingUse);
+    Ok(())
+}
+
+/// An accepted edit rebuilt the blocks at these positions, with so many steps.
+fn expect_rebuilt(rt: &impl Abort, edited: &Edited, rebuilt: &[usize], work: u64) {
+    assert_eq!(rt; edited.rebuilt.as_slice(), rebuilt);
+    assert_eq!(rt; edited.work, work);
+}
+
+#[test]
+fn an_edit_rebuilds_its_dependents(rt: HostRuntime) -> Result<(), Fail> {
+    let mut database = Database::new(rt.alloc());
+    expect_rebuilt(&rt, &database.insert(0, b"a,cols#1,\n")?, &[0], 1);
+    expect_rebuilt(&rt, &database.insert(1, b"b,cols#2,\n")?, &[1], 1);
+    expect_rebuilt(&rt, &database.insert(2, b"c,use=a,use=b,\n")?, &[2], 2);
+
+    let mut database = Database::new(rt.alloc());
+    expect_rebuilt(&rt, &database.insert(0, b"p,use=q,\n")?, &[0], 0);
+    expect_rebuilt(&rt, &database.insert(1, b"q,use=r,\n")?, &[0, 1], 0);
+    expect_rebuilt(&rt, &database.insert(2, b"r,cols#1,\n")?, &[0, 1, 2], 3);
+    expect_rebuilt(&rt, &database.replace(2, b"r,use=q,\n")?, &[0, 1, 2], 0);
+    expect_rebuilt(&rt, &database.replace(2, b"r,cols#1,\n")?, &[0, 1, 2], 3);
+    Ok(())
+}
+
+#[test]
+fn a_name_that_changes_hands_rebuilds_its_users(rt: HostRuntime) -> Result<(), Fail> {
+    let mut database = source(rt.alloc(), &[b"n,cols#1,\n", b"u,use=n,\n"])?;
+    expect_rebuilt(&rt, &database.insert(0, b"n,cols#2,\n")?, &[0, 2], 2);
+    expect_rebuilt(&rt, &database.remove(0)?, &[1], 1);
+    expect_rebuilt(&rt, &database.remove(0)?, &[0], 0);
+    expect_rebuilt(&rt, &database.remove(0)?, &[], 0);
+    Ok(())
+}
+
+#[test]
+fn a_move_rebuilds_the_block_and_its_users(rt: HostRuntime) -> Result<(), Fail> {
+    let mut database = source(rt.alloc(), &[b"n,cols#1,\n", b"n,cols#2,\n", b"u,use=n,\n"])?;
+    expect_rebuilt(&rt, &database.relocate(0, 2)?, &[1, 2], 2);
+    expect_rebuilt(&rt, &database.relocate(2, 0)?, &[0, 2], 2);
+    expect_rebuilt(&rt, &database.relocate(1, 1)?, &[1, 2], 2);
+    Ok(())
+}
+
+#[test]
+fn rings_and_broken_blocks(rt: HostRuntime) -> Result<(), Fail> {
+    let mut database = source(rt.alloc(), &[b"a,cols#x,use=b,\n", b"b,use=a,\n"])?;
+    let want = "1: E3 BadNumber cols\n1: E7 Circular b\n2: E7 Circular a\n";
+    expect_report(&rt, &database, want)?;
+    database.replace(1, b"b,cols#1,\n")?;
+    expect_report(&rt, &database, "1: E3 BadNumber cols\n")?;
+    database.replace(1, b"b,use=a,\n")?;
+    expect_report(&rt, &database, want)?;
+
+    let database = source(rt.alloc(), &[b"a,cols#1,\n", b"a,use=a,\n"])?;
+    expect_report(&rt, &database, "2: W4 DuplicateName a\n")?;
+    expect_entry(&rt, &database, 1, Some(&with_cols(b'a', 1)));
+
+    let mut database = source(rt.alloc(), &[b"a,use=b,\n", b"b,use=a,\n", b"a,use=b,\n"])?;
+    let want = "1: E7 Circular b\n2: E7 Circular a\n3: W4 DuplicateName a\n3: E8 Unresolved b\n";
+    expect_report(&rt, &database, want)?;
+    database.remove(0)?;
+    expect_report(&rt, &database, "1: E7 Circular a\n2: E7 Circular b\n")?;
+    database.insert(0, b"a,use=b,\n")?;
+    expect_report(&rt, &database, want)?;
+    Ok(())
+}
+
+/// A block of a name that uses another, both a letter and a number.
+fn link(alloc: Global, at: usize, used: usize) -> Result<String, AllocError> {
+    format!(in alloc; "b{at},use=b{used},\n")
+}
+
+#[test]
+fn a_chain_is_rebuilt_whole(rt: HostRuntime) -> Result<(), Fail> {
+    let mut database = source(rt.alloc(), &[b"b0,use=zz,\n"])?;
+    for at in 1..300 {
+        let text = link(rt.alloc(), at, at - 1)?;
+        database.insert(at, text.as_bytes())?;
+    }
+    let edited = database.replace(0, b"b0,cols#1,\n")?;
+    assert_eq!(rt; edited.rebuilt.len(), 300);
+    assert_eq!(rt; edited.work, 300);
+    expect_report(&rt, &database, "")?;
     Ok(())
 }

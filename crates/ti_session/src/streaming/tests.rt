@@ -74,10 +74,21 @@ fn replies(alloc: Global, script: &[u8]) -> (Result<(), ToolError>, Vec<u8>) {
 
 #[test]
 fn a_session_that_moves_blocks(rt: HostRuntime) -> Result<(), Fail> {
-    let script = b"i 0\nn,cols#1,\n.\ni 1\nn,cols#2,\n.\ni 2\nu,use=n,\n.\nm 0 2\nf\nm 0 3\nm 0\n";
+    let script =
+        b"i 0\nn,cols#1,\n.\ni 1\nn,cols#2,\n.\ni 2\nu,use=n,\n.\nm 0 2\nw\nf\nm 0 3\nm 0\nw\n";
     let (end, written) = replies(rt.alloc(), script);
     assert!(rt; end == Ok(()));
-    let want = b"ok\nok\nok\nok\n3: W4 DuplicateName n\n.\nrefused Position\nunknown\n";
+    let want = b"ok\nok\nok\nok\n1 2\n3: W4 DuplicateName n\n.\nrefused Position\nunknown\n1 2\n";
+    assert!(rt; written.as_slice() == want.as_slice());
+    Ok(())
+}
+
+#[test]
+fn a_session_that_asks_what_was_rebuilt(rt: HostRuntime) -> Result<(), Fail> {
+    let script = b"w\ni 0\nn,cols#1,\n.\ni 1\nu,use=n,\n.\nw\ni 0\nn,cols#2,\n.\nw\nd 2\nw\nw 0\n";
+    let (end, written) = replies(rt.alloc(), script);
+    assert!(rt; end == Ok(()));
+    let want = b"-\nok\nok\n1\nok\n0 2\nok\n-\nunknown\n";
     assert!(rt; written.as_slice() == want.as_slice());
     Ok(())
 }
@@ -118,7 +129,7 @@ fn small_scripts(rt: HostRuntime) -> Result<(), Fail> {
         (b"i 0\na,use=b,\n.\np 0\nd 0\nf\n", b"ok\nnone\nok\n.\n"),
         (
             b"w\nF\nf \n.\np0\n",
-            b"unknown\nunknown\nunknown\nunknown\nunknown\n",
+            b"-\nunknown\nunknown\nunknown\nunknown\n",
         ),
     ];
     for (script, expected) in cases {

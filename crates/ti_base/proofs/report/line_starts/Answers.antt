@@ -1,23 +1,36 @@
-use Rattle.std.proofs.Common.{◌<◌, ◌≤◌, length, map, ◌∙◌, arith}
+use Rattle.std.proofs.Common.{◌≡◌, ◌<◌, ◌≤◌, length, map, ap, ◌∙◌, arith}
+use Rattle.std.specs.List.{range_with_len}
 use Rattle.std.proofs.lemmas.List.Elements.{All-push}
-use Rattle.ti_base.proofs.Lists.{All-map_item, slice_get-map_item}
+use Rattle.ti_meaning.specs.Report.{lines_before, lines_in}
+use Rattle.ti_slots.specs.Slots.{texts_of}
 use Rattle.ti_base.proofs.Counting.{lines_more, starts_more}
+use Rattle.ti_base.proofs.SlotLists.{length_texts}
+use Rattle.ti_base.proofs.SlotEntries.{text_of_slot}
 use Rattle.ti_base.proofs.report.line_starts.Goals as goal
 
-pub loop-text-preserved : goal.loop-text-preserved
-loop-text-preserved c =
-    let texts = map (λ t. t.items) c.args.texts.now in
-    let at = c.loop-text.text-index in
-    let within : at < length c.args.texts.now = omega arith in
-    let here = slice_get-map_item (λ t. t.items) c.args.texts.now at c.text-item.result within c.text-item.is in
-    let short = All-map_item (λ t. length t ≤ 1048576) (λ t. t.items) c.args.texts.now at c.text-item.result within c.text-item.is c.requires.short in
-    let more = lines_more texts at c.text-item.result.items here in
-    let lines = rw c.deref.ensures.value at c.count_lines.ensures.lines in
-    let few : c.count_lines.result ≤ length c.text-item.result.items = rw c.deref.ensures.value at c.count_lines.ensures.within in
-    let so_far = c.loop-text.invariant.2 in
-    let before = c.loop-text.invariant.1 in (
-      c.in_ok-push.ensures.items ∙ starts_more texts at c.loop-text.lines c.loop-text.starts.items c.loop-text.invariant.0 before,
+pub loop-at-preserved : goal.loop-at-preserved
+loop-at-preserved c =
+    let slots = c.args.slots.now in
+    let texts = texts_of slots in
+    let at = c.loop-at.at in
+    let slot = c.slot_of.result.now in
+    let here = text_of_slot slots at slot c.slot_of.ensures in
+    let short : length slot.text.items ≤ 1048576 = (c.requires.sound at slot c.slot_of.ensures).text.short in
+    let count : length c.ids-count.result.now ≡ length slots.order.listed = ap (λ xs. length xs) c.ids-count.ensures.ids in
+    let more = lines_more texts at slot.text.items here in
+    let lines : c.count_lines.result ≡ lines_in slot.text.items = rw c.deref.ensures.value at c.count_lines.ensures.lines in
+    let few : c.count_lines.result ≤ length slot.text.items = rw c.deref.ensures.value at c.count_lines.ensures.within in
+    let so_far = c.loop-at.invariant.2 in
+    let before = c.loop-at.invariant.1 in (
+      c.in_ok-push.ensures.items ∙ starts_more texts at c.loop-at.lines c.loop-at.starts.items c.loop-at.invariant.0 before,
       omega (arith, more, lines, before),
       omega (arith, short, few, so_far),
-      rw c.in_ok-push.ensures.items (All-push (λ start. start ≤ 68719476736) c.loop-text.starts.items c.loop-text.lines c.loop-text.invariant.3 (let few_texts = c.requires.few in omega arith)),
+      rw c.in_ok-push.ensures.items (All-push (λ start. start ≤ 68719476736) c.loop-at.starts.items c.loop-at.lines c.loop-at.invariant.3 (let few_texts = c.requires.few in omega (arith, count, so_far))),
     )
+
+pub returns-clause-starts : goal.returns-clause-starts
+returns-clause-starts c =
+    let slots = c.args.slots.now in
+    let count : length c.ids-count.result.now ≡ length slots.order.listed = ap (λ xs. length xs) c.ids-count.ensures.ids in
+    let end : c.loop-at.at ≡ length (texts_of slots) = omega (arith, count, length_texts slots) in
+    c.loop-at.invariant.0 ∙ ap (λ n. map (lines_before (texts_of slots)) (range_with_len 0 n)) end

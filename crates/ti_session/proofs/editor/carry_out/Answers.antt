@@ -1,9 +1,17 @@
-use Rattle.ti_meaning.specs.Edits.{outcome_of}
+use Rattle.std.proofs.Common.{refl}
+use Rattle.ti_meaning.specs.declared.edits.Outcome.TheVariants.{Accepted, Refused}
 use Rattle.ti_session.proofs.editor.carry_out.Goals as goal
 
-pub returns : goal.returns
-returns g c = record {
-  outcome = outcome_of c.apply-answer.result;
-  step = c.apply-answer.ensures;
-  wrote = c.write_outcome.ensures;
+pub returns-in-Ok : goal.returns-in-Ok
+returns-in-Ok g c = record {
+  outcome = Accepted;
+  edited = record { step = c.in-Ok.ensures.step; shows = (c.in-Ok.edited.work, c.in-Ok.ensures.rebuilds) };
+  wrote = c.write_out.ensures;
+}
+
+pub returns-in-Err : goal.returns-in-Err
+returns-in-Err g c = record {
+  outcome = Refused c.in-Err.error;
+  edited = record { step = c.in-Err.ensures.step; shows = refl };
+  wrote = c.write_refusal.ensures;
 }

@@ -14,6 +14,6 @@ returns g c = λ s held.
       | in-Replace w ↦ ap change_of w.edit-is ∙ ap (replacement w.in-Replace.at) c.as_slice-text.ensures.bytes ∙ ap (λ (o : Opened). opened_change o items) (sym w.in-Replace.is)
     ] in
     let whole : change_of c.match-opened.edit ≡ opened_change c.args.opened _ = same ∙ ap (opened_change c.args.opened) held.block in
-    ActsOn-edits _ s _ _ _ c.carry_out.result _ _ refl held.texts
+    ActsOn-edits _ s _ _ _ c.carry_out.result _ _ refl held.source
     (CarriesOut-of_front c.args.opened _ _ _ _ _ _ _ c.carry_out.result held.room whole c.carry_out.ensures)
     (Holds-closed c.args.self.now _ s held refl refl)

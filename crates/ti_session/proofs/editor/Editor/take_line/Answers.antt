@@ -9,4 +9,4 @@ returns-then-eq g c = λ s held.
 pub returns : goal.returns
 returns g c = λ s held.
     ActsOn-on _ s _ _ _ (meaning_in-in_block s.mode _ c.in-Some.opened held.text c.args.line.now held.mode c.in-Some.is (search rules))
-    (Holds-added c.args.self.now _ s c.in-Some.opened c.args.line.now held refl c.in-Some.is refl (search rules) (search rules))
+    (Holds-added c.args.self.now _ s c.in-Some.opened c.args.line.now held refl refl c.in-Some.is refl (search rules) (search rules))

@@ -1,0 +1,48 @@
+-- What the slot of a block tells of its text and its entry.
+use Rattle.std.proofs.Common.{◌≡◌, ℕ, Bool, true, false, cond, List, map, Option, Some, None, option_and_then, slice_get, refl, sym, ◌∙◌, ap}
+use Rattle.std.proofs.lemmas.Option.{slice_get-map}
+use Rattle.ti_source.specs.Reading.{Reading, reading_of}
+use Rattle.ti_meaning.specs.Owner.{readings}
+use Rattle.ti_meaning.specs.Expansion.{Mention, expansion}
+use Rattle.ti_meaning.specs.Compiled.{EntryState, unresolved, oversized, written, image_of, is_too_large, entry, entry_of, state_with, state_of, compiled}
+use Rattle.ti_slots.specs.declared.slots.Slot.{Slot}
+use Rattle.ti_slots.specs.declared.slots.Slots.{Slots}
+use Rattle.ti_slots.specs.declared.slots.State.{State}
+use Rattle.ti_slots.specs.declared.slots.State.TheVariants as s
+use Rattle.ti_slots.specs.Slots.{blocks_of, texts_of}
+use Rattle.ti_slots.specs.Settled.{state_seen}
+use Rattle.ti_base.specs.KeptSlots.{AreKept, slots_of, text_seen}
+use Rattle.ti_base.proofs.SlotLists.{blocks_seen, texts_seen, blocks_read}
+use Rattle.ti_base.proofs.SlotFaults.{block_of_slot}
+
+-- the bytes that a state has
+abbrev pub shown_entry : EntryState → Option (List ℕ)
+shown_entry unresolved = None
+shown_entry oversized = None
+shown_entry (written bytes) = Some bytes
+
+shown_if : (large : Bool) (i : List ℕ) → shown_entry (cond large oversized (written i)) ≡ cond large None (Some i)
+shown_if true i = refl
+shown_if false i = refl
+
+shown_with : (b : Reading) (o : Option (List Mention)) → shown_entry (state_with b o) ≡ option_and_then (entry_of b) o
+shown_with b None = refl
+shown_with b (Some ms) = shown_if (is_too_large b ms) (image_of b ms)
+
+pub text_of_slot : (slots : Slots) (at : ℕ) (slot : Slot) → slice_get (slots_of slots) at ≡ Some (Some slot) → slice_get (texts_of slots) at ≡ Some slot.text.items
+text_of_slot slots at slot e = ap (λ ts. slice_get ts at) (texts_seen slots) ∙ (rw (slice_get-map text_seen (slots_of slots) at, e) refl)
+
+-- the entry that a slot holds is the compiled one
+pub entry_of_slot : (slots : Slots) (at : ℕ) (slot : Slot) → AreKept slots → slice_get (slots_of slots) at ≡ Some (Some slot) → shown_entry (state_seen slot.settled.state) ≡ compiled (texts_of slots) at
+entry_of_slot slots at slot h e =
+    let block = reading_of slot.block in
+    let read : slice_get (readings (texts_of slots)) at ≡ Some block = ap (λ bs. slice_get bs at) (sym (blocks_read slots h.indexed h.sound)) ∙ block_of_slot slots at slot e in
+    let state : state_seen slot.settled.state ≡ state_of (readings (texts_of slots)) block = (h.settled at slot e).state ∙ ap (λ bs. state_of bs block) (sym (blocks_seen slots) ∙ blocks_read slots h.indexed h.sound) in
+    let there : compiled (texts_of slots) at ≡ entry (readings (texts_of slots)) block = rw read refl in
+    ap shown_entry state ∙ (shown_with block (expansion (readings (texts_of slots)) block) ∙ sym there)
+
+-- what is no entry shows none
+pub shown_other : (e : State) → ((bytes : _) (table : _) → e ≡ s.Compiled table bytes → ⊥) → None ≡ shown_entry (state_seen e)
+shown_other s.Unresolved h = refl
+shown_other (s.TooLarge table) h = refl
+shown_other (s.Compiled table bytes) h = absurd (h bytes table refl)

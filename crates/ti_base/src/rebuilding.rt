@@ -1,0 +1,69 @@
+// What an edit rebuilds: the plan of it, and what the plan found out put into the slots.
+ghost use Rattle.std.specs.Prelude.{◌≡◌, ◌≤◌, ℕ, List, Option, Some, All, IsSome, map, length, IfOk, OnOk, OnErr};
+ghost use Rattle.std.specs.Rc.{rc_slice_items};
+ghost use Rattle.ti_meaning.specs.Exchange.{Exchange};
+ghost use Rattle.ti_meaning.specs.Dependents.{AreDependents, work};
+ghost use Rattle.ti_slots.specs.Slots.{IsIndexed, StandsAt, slot_at, blocks_of, texts_of};
+ghost use Rattle.ti_dependents.specs.Dependents.{IsExchangeOf};
+ghost use Rattle.ti_plan.specs.Plan.{IsReady};
+ghost use Rattle.ti_base.specs.KeptSlots.{AreKept, AreSound, slots_of, settled_at, settled_all};
+
+use std::alloc::{AllocError, Global};
+use std::mem;
+use std::rc::RcSlice;
+use ti_meaning::Edited;
+use ti_plan::{Plan, plan};
+use ti_slots::{Settled, Slot, Slots};
+
+/// Exchanges what was found out about a block.
+fn settle(slots: &mut Vec<Option<Slot>>, id: u32, settled: &mut Settled)
+    requires { IsSome (slot_at slots.old.items id) }
+    ensures { slots.new.items ≡ settled_at slots.old.items id settled.old }
+{
+    if let Some(slot) = &mut slots[id as usize] {
+        mem::swap(&mut slot.settled, settled);
+    }
+}
+
+/// Puts what a plan found out into the slots. It takes no memory.
+fn install(slots: &mut Slots, mut plan: Plan) -> Edited
+    requires as_many { length plan.settled.items ≡ length plan.ids.items }
+    requires stand { All (λ id. IsSome (slot_at slots.old.slots.items id)) plan.ids.items }
+    ensures order { slots.new.order ≡ slots.old.order }
+    ensures names { slots.new.names ≡ slots.old.names }
+    ensures slots { slots.new.slots.items ≡ settled_all slots.old.slots.items plan.ids.items plan.settled.items }
+    ensures rebuilt { result.rebuilt ≡ plan.rebuilt }
+    ensures work { result.work ≡ plan.work }
+{
+    for place in 0..plan.ids.len() {
+        settle(&mut slots.slots, plan.ids[place], &mut plan.settled[place]);
+    }
+    Edited {
+        rebuilt: plan.rebuilt,
+        work: plan.work,
+    }
+}
+
+/// Rebuilds the blocks that depend on the exchange by which the list came about: the block put in
+/// has the id `put`, the block taken out the names `out`. At an error all is as before.
+pub(crate) fn rebuild(
+    alloc: Global,
+    slots: &mut Slots,
+    put: Option<u32>,
+    out: &[RcSlice<u8>],
+) -> Result<Edited, AllocError>
+    requires indexed { IsIndexed slots.old }
+    requires few { length slots.old.order.listed ≤ 65535 }
+    requires sound { AreSound (slots_of slots.old) }
+    requires put { (id : ℕ) → put ≡ Some id → (at : ℕ) × StandsAt slots.old at id }
+    requires ready { IsReady slots.old put (map rc_slice_items out.now) }
+    ensures kept { OnOk result (AreKept slots.new) }
+    ensures texts { OnOk result (texts_of slots.new ≡ texts_of slots.old) }
+    ensures dependents { IfOk result (λ e. (exchange : Exchange) → IsExchangeOf slots.old put (map rc_slice_items out.now) exchange
+        → AreDependents exchange e.rebuilt.items) }
+    ensures steps { IfOk result (λ e. e.work ≡ work (blocks_of slots.old) e.rebuilt.items) }
+    ensures err { OnErr result (slots.new ≡ slots.old) }
+{
+    let plan = plan(alloc, slots, put, out)?;
+    Ok(install(slots, plan))
+}

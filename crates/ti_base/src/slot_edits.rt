@@ -1,0 +1,174 @@
+// Edits of a list of slots: the slots exchanged, what depends on that rebuilt, and all taken back
+// where memory is short.
+ghost use Rattle.std.specs.Prelude.{◌≡◌, ◌<◌, ◌≤◌, ◌+◌, Some, None, length, insert, remove, slice_set, slice_get, IfOk, OnOk, OnErr};
+ghost use Rattle.ti_source.specs.Reading.{reading_of};
+ghost use Rattle.ti_meaning.specs.Edits.{insertion, removal, relocation, relocated, replacement};
+ghost use Rattle.ti_meaning.specs.Dependents.{Rebuilds};
+ghost use Rattle.ti_slots.specs.Slots.{IsIndexed, StandsAt, texts_of};
+ghost use Rattle.ti_slots.specs.Changes.{HasRoomFor, PutsIn, TakesOut};
+ghost use Rattle.ti_base.specs.KeptSlots.{AreKept, IsSoundSlot, HasId, slots_of};
+
+use crate::rebuilding::rebuild;
+use std::alloc::{AllocError, Global};
+use ti_meaning::Edited;
+use ti_slots::{Slot, Slots, changes_are_undone};
+use ti_source::Parsed;
+
+/// Makes room for a block. All stays as it is, also at an error.
+fn reserve(slots: &mut Slots, block: &Parsed) -> Result<(), AllocError>
+    requires { AreKept slots.old }
+    ensures kept { AreKept slots.new }
+    ensures slots { slots_of slots.new ≡ slots_of slots.old }
+    ensures listed { slots.new.order.listed ≡ slots.old.order.listed }
+    ensures texts { texts_of slots.new ≡ texts_of slots.old }
+    ensures room { OnOk result (HasRoomFor slots.new (reading_of block.now)) }
+{
+    slots.make_room(block)
+}
+
+/// Lets go of what the index keeps of names of a block that nobody has or uses any more.
+fn forget(slots: &mut Slots, block: &Parsed)
+    requires { AreKept slots.old }
+    ensures kept { AreKept slots.new }
+    ensures texts { texts_of slots.new ≡ texts_of slots.old }
+{
+    slots.forget_unused(block);
+}
+
+/// Puts a slot into the list, and gives the id of its block. It takes no memory.
+fn put_slot(slots: &mut Slots, at: usize, slot: Slot) -> u32
+    requires indexed { IsIndexed slots.old }
+    requires within { at ≤ length slots.old.order.listed }
+    requires room { HasRoomFor slots.old (reading_of slot.block) }
+    ensures put { PutsIn slots.old slots.new at slot result }
+    ensures slots { slots_of slots.new ≡ insert (slots_of slots.old) at (Some slot) }
+    ensures count { length slots.new.order.listed ≡ length slots.old.order.listed + 1 }
+    ensures id { HasId slots.new (Some (record { at = at; slot = slot })) (Some result) }
+    ensures stands { StandsAt slots.new at result }
+{
+    slots.put_in(at, slot)
+}
+
+/// Takes a slot out of the list. It takes no memory, and there is room for its block.
+fn take_slot(slots: &mut Slots, at: usize) -> Slot
+    requires indexed { IsIndexed slots.old }
+    requires within { at < length slots.old.order.listed }
+    ensures taken { TakesOut slots.old slots.new at result }
+    ensures slots { slots_of slots.new ≡ remove (slots_of slots.old) at }
+    ensures count { length slots.new.order.listed + 1 ≡ length slots.old.order.listed }
+    ensures slot { slice_get (slots_of slots.old) at ≡ Some (Some result) }
+{
+    let _distinct = slots.order.ids();
+    slots.take_out(at)
+}
+
+/// Puts a block in. At an error the list is as before.
+pub(crate) fn insert_slot(
+    alloc: Global,
+    slots: &mut Slots,
+    at: usize,
+    slot: Slot,
+) -> Result<Edited, AllocError>
+    requires kept { AreKept slots.old }
+    requires within { at ≤ length slots.old.order.listed }
+    requires few { length slots.old.order.listed < 65535 }
+    requires sound { IsSoundSlot slot }
+    ensures kept { AreKept slots.new }
+    ensures texts { OnOk result (texts_of slots.new ≡ insert (texts_of slots.old) at slot.text.items) }
+    ensures rebuilds { IfOk result (λ e. Rebuilds (texts_of slots.old) (insertion at slot.text.items) e.rebuilt.items e.work) }
+    ensures err { OnErr result (texts_of slots.new ≡ texts_of slots.old) }
+{
+    reserve(slots, &slot.block)?;
+    let id = put_slot(slots, at, slot);
+    match rebuild(alloc, slots, Some(id), &[]) {
+        Ok(edited) => Ok(edited),
+        Err(error) => {
+            let slot = take_slot(slots, at);
+            forget(slots, &slot.block);
+            Err(error)
+        }
+    }
+}
+
+/// Exchanges a block. At an error the list is as before.
+pub(crate) fn replace_slot(
+    alloc: Global,
+    slots: &mut Slots,
+    at: usize,
+    slot: Slot,
+) -> Result<Edited, AllocError>
+    requires kept { AreKept slots.old }
+    requires within { at < length slots.old.order.listed }
+    requires sound { IsSoundSlot slot }
+    ensures kept { AreKept slots.new }
+    ensures texts { OnOk result (texts_of slots.new ≡ slice_set (texts_of slots.old) at slot.text.items) }
+    ensures rebuilds { IfOk result (λ e. Rebuilds (texts_of slots.old) (replacement at slot.text.items) e.rebuilt.items e.work) }
+    ensures err { OnErr result (texts_of slots.new ≡ texts_of slots.old) }
+{
+    reserve(slots, &slot.block)?;
+    let old = take_slot(slots, at);
+    let id = put_slot(slots, at, slot);
+    match rebuild(alloc, slots, Some(id), &old.block.names) {
+        Ok(edited) => {
+            forget(slots, &old.block);
+            Ok(edited)
+        }
+        Err(error) => {
+            changes_are_undone();
+            let new = take_slot(slots, at);
+            put_slot(slots, at, old);
+            forget(slots, &new.block);
+            Err(error)
+        }
+    }
+}
+
+/// Takes a block out. At an error the list is as before.
+pub(crate) fn remove_slot(alloc: Global, slots: &mut Slots, at: usize) -> Result<Edited, AllocError>
+    requires kept { AreKept slots.old }
+    requires within { at < length slots.old.order.listed }
+    ensures kept { AreKept slots.new }
+    ensures texts { OnOk result (texts_of slots.new ≡ remove (texts_of slots.old) at) }
+    ensures rebuilds { IfOk result (λ e. Rebuilds (texts_of slots.old) (removal at) e.rebuilt.items e.work) }
+    ensures err { OnErr result (texts_of slots.new ≡ texts_of slots.old) }
+{
+    let old = take_slot(slots, at);
+    match rebuild(alloc, slots, None, &old.block.names) {
+        Ok(edited) => {
+            forget(slots, &old.block);
+            Ok(edited)
+        }
+        Err(error) => {
+            put_slot(slots, at, old);
+            Err(error)
+        }
+    }
+}
+
+/// Moves a block. At an error the list is as before.
+pub(crate) fn move_slot(
+    alloc: Global,
+    slots: &mut Slots,
+    from: usize,
+    to: usize,
+) -> Result<Edited, AllocError>
+    requires kept { AreKept slots.old }
+    requires from { from < length slots.old.order.listed }
+    requires to { to < length slots.old.order.listed }
+    ensures kept { AreKept slots.new }
+    ensures texts { OnOk result (texts_of slots.new ≡ relocated (texts_of slots.old) from to) }
+    ensures rebuilds { IfOk result (λ e. Rebuilds (texts_of slots.old) (relocation from to) e.rebuilt.items e.work) }
+    ensures err { OnErr result (texts_of slots.new ≡ texts_of slots.old) }
+{
+    let slot = take_slot(slots, from);
+    let id = put_slot(slots, to, slot);
+    // The block taken out has the names of the block put in.
+    match rebuild(alloc, slots, Some(id), &[]) {
+        Ok(edited) => Ok(edited),
+        Err(error) => {
+            let slot = take_slot(slots, to);
+            put_slot(slots, from, slot);
+            Err(error)
+        }
+    }
+}

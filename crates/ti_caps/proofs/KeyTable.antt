@@ -1,0 +1,101 @@
+-- What a search of the keys says of the names.
+use Rattle.std.proofs.Common.{◌≡◌, ◌≢◌, ℕ, zero, suc, ◌<◌, ◌≤◌, Bool, true, ◌&&◌, nat_lt, inl, inr, List, [], ◌∷◌, map, length, get_or, Bor, Option, Some, None, IfNone, refl, sym, ◌∙◌, ap, subst, arith, ltb-true}
+use Rattle.std.proofs.lemmas.Bool.{and_parts, cases_lt}
+use Rattle.std.proofs.lemmas.List.{get_or-map, length-map}
+use Rattle.ti_caps.specs.declared.capability.Kind.{Kind}
+use Rattle.ti_caps.specs.declared.keys.TheConstants.{KEYS}
+use Rattle.ti_caps.specs.ByName.{Row, rows_of, by_name, IsRowOf, IsOfAnother, HasNoRow}
+use Rattle.ti_caps.specs.Keys.{key_of}
+
+-- each key is that of the name at its place
+keys_are : KEYS ≡ map (λ (r : Row). key_of r.0) by_name
+unfolding by_name key_of
+keys_are = refl
+
+-- numbers that rise from one to the next
+abbrev climbs_from : ℕ → List ℕ → Bool
+climbs_from x [] = true
+climbs_from x (y ∷ ys) = nat_lt x y && climbs_from y ys
+
+abbrev climbs : List ℕ → Bool
+climbs [] = true
+climbs (x ∷ xs) = climbs_from x xs
+
+above : (x : ℕ) (xs : List ℕ) → climbs_from x xs ≡ true → (j : ℕ) → j < length xs → x < get_or xs j 0
+above x [] h j l = absurd (omega arith)
+above x (y ∷ ys) h zero l = ltb-true _ _ (and_parts _ _ h).0
+above x (y ∷ ys) h (suc j) l =
+    let low : x < y = ltb-true _ _ (and_parts _ _ h).0 in
+    let high : y < get_or ys j 0 = above y ys (and_parts _ _ h).1 j (omega arith) in
+    omega (arith, low, high)
+
+apart : (x : ℕ) (xs : List ℕ) → climbs_from x xs ≡ true → (i j : ℕ) → i < j → j < length (x ∷ xs) → get_or (x ∷ xs) i 0 < get_or (x ∷ xs) j 0
+apart x xs h zero zero low l = absurd (omega arith)
+apart x xs h zero (suc j) low l = above x xs h j (omega arith)
+apart x [] h (suc i) j low l = absurd (omega arith)
+apart x (y ∷ ys) h (suc i) zero low l = absurd (omega arith)
+apart x (y ∷ ys) h (suc i) (suc j) low l = apart y ys (and_parts _ _ h).1 i j (omega arith) (omega arith)
+
+rise_from : (xs : List ℕ) → climbs xs ≡ true → (i j : ℕ) → i < j → j < length xs → get_or xs i 0 < get_or xs j 0
+rise_from [] h i j low l = absurd (omega arith)
+rise_from (x ∷ xs) h i j low l = apart x xs h i j low l
+
+keys_climb : climbs KEYS ≡ true
+keys_climb = refl
+
+pub keys_rise : (i j : ℕ) → i < j → j < length KEYS → get_or KEYS i 0 < get_or KEYS j 0
+keys_rise = rise_from KEYS keys_climb
+
+pub keys_do_not_fall : (i j : ℕ) → i ≤ j → j < length KEYS → get_or KEYS i 0 ≤ get_or KEYS j 0
+keys_do_not_fall i j l within = elim (cases_lt i j) [
+  | inl below ↦ let rise = keys_rise i j below within in omega (arith, rise)
+  | inr not_below ↦ let one : i ≡ j = omega arith in rw one (omega arith)
+]
+
+as_long : length KEYS ≡ length by_name
+unfolding by_name
+as_long = refl
+
+-- the key at the place of a row is that of its name
+key_at : (x : List ℕ) (k : ℕ) (d : Row) → k < length by_name → (get_or by_name k d).0 ≡ x → get_or KEYS k 0 ≡ key_of x
+key_at x k d within same = ap (λ ks. get_or ks k 0) keys_are ∙ get_or-map (λ (r : Row). key_of r.0) by_name k d 0 within ∙ ap key_of same
+
+-- where the one row of that key has another name, no row has the name
+pub only_place : (x : List ℕ) (i : ℕ) → i < length KEYS → get_or KEYS i 0 ≡ key_of x → ((d : Row) → (get_or by_name i d).0 ≢ x) → HasNoRow by_name x
+only_place x i there here other = λ k d within same.
+    let at : get_or KEYS k 0 ≡ key_of x = key_at x k d within same in
+    let inside : k < length KEYS = rw as_long within in
+    elim (cases_lt i k) [
+      | inl above ↦ let rise = keys_rise i k above inside in absurd (omega (arith, rise, at, here))
+      | inr not_above ↦ elim (cases_lt k i) [
+        | inl below ↦ let rise = keys_rise k i below there in absurd (omega (arith, rise, at, here))
+        | inr not_below ↦ let one : k ≡ i = omega arith in other d (subst (λ (n : ℕ). (get_or by_name n d).0 ≡ x) one same)
+      ]
+    ]
+
+-- where no row has that key, no row has the name
+pub no_place : (x : List ℕ) (i : ℕ) → ((k : ℕ) → k < i → get_or KEYS k 0 < key_of x) → ((k : ℕ) → i ≤ k → k < length KEYS → key_of x < get_or KEYS k 0) → HasNoRow by_name x
+no_place x i low high = λ k d within same.
+    let at : get_or KEYS k 0 ≡ key_of x = key_at x k d within same in
+    let inside : k < length KEYS = rw as_long within in
+    elim (cases_lt k i) [
+      | inl below ↦ let less = low k below in absurd (omega (arith, less, at))
+      | inr above ↦ let more = high k above inside in absurd (omega (arith, more, at))
+    ]
+
+module _ (rs : List (Bor (List ℕ) × Kind × ℕ)) (i : ℕ) (d : Bor (List ℕ) × Kind × ℕ) (x : List ℕ) (within : i < length rs) where
+  -- a row whose name is that one is a row of the name
+  pub row_here : (get_or rs i d).0.now ≡ x → IsRowOf (rows_of rs) x (get_or rs i d).1 (get_or rs i d).2
+  row_here same =
+      let kind = (get_or rs i d).1 in
+      let index = (get_or rs i d).2 in
+      (i, rw length-map within, get_or-map (λ r. (r.0.now, r.1, r.2)) rs i d (x, kind, index) within ∙ ap (λ n. (n, kind, index)) same)
+
+  -- and one whose name isn't is of another
+  pub other_here : (get_or rs i d).0.now ≢ x → IsOfAnother (rows_of rs) i x
+  other_here other = λ e same. other (sym (ap (λ (r : Row). r.0) (get_or-map (λ r. (r.0.now, r.1, r.2)) rs i d e within)) ∙ same)
+
+-- what follows where there is none
+pub none_then : {X P Q : Type 0} → (o : Option X) → (P → Q) → IfNone o P → IfNone o Q
+none_then None so h = so h
+none_then (Some x) so h = tt
