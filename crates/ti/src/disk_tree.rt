@@ -13,6 +13,10 @@ use ti_tools::{Tally, Tree, TreeFault};
 /// that was killed, or is another run's.
 const NAMES_TRIED: u32 = 1000;
 
+/// How many bytes of a file are asked for at a time. Most entries have no more than twice as many, and to make room for
+/// more would take longer than to read them.
+const PIECE: usize = 2048;
+
 /// The files of the system. What they hold is not known, so a contract sees the failures alone.
 ///
 /// A file is replaced whole: its bytes go into a new file beside it, which then takes its name. So what
@@ -82,7 +86,10 @@ fn read_file<R: Files>(
     limit: usize,
 ) -> io::Result<Option<Vec<u8>>> {
     match fs::open(rt, path) {
-        Ok(mut file) => Ok(Some(read_whole(alloc, &mut file, limit)?)),
+        Ok(mut file) => {
+            let mut piece = [0u8; PIECE];
+            Ok(Some(read_whole(alloc, &mut file, &mut piece, limit)?))
+        }
         Err(error) if is_absent(&error) => Ok(None),
         Err(error) => Err(error),
     }

@@ -8,20 +8,24 @@ use ti_tools::ToolError;
 /// How often a file is read from before it is given up.
 const READS_MAX: u64 = 4_294_967_296;
 
-/// How many bytes are asked for at a time.
+/// How many bytes of a source are asked for at a time.
 const PIECE: usize = 16_384;
 
-/// All bytes that a reader has, or the first `limit + 1` where it has more. A read that was interrupted
-/// is made again.
+/// All bytes that a reader has, or the first `limit + 1` where it has more. They come through `piece`, which
+/// has room for some. A read that was interrupted is made again.
 ///
 /// # Errors
 /// What the reader answers; `Other` where 4,294,967,296 reads came to no end; `OutOfMemory` where a
 /// growth of memory was refused.
-pub fn read_whole(alloc: Global, reader: &mut impl Read, limit: usize) -> io::Result<Vec<u8>> {
+pub fn read_whole(
+    alloc: Global,
+    reader: &mut impl Read,
+    piece: &mut [u8],
+    limit: usize,
+) -> io::Result<Vec<u8>> {
     let mut bytes = Vec::new(alloc);
-    let mut piece = [0u8; PIECE];
     for _ in 0..READS_MAX {
-        let count = match reader.read(&mut piece) {
+        let count = match reader.read(piece) {
             Ok(0) => return Ok(bytes),
             Ok(count) => count,
             Err(error) if error.kind() == ErrorKind::Interrupted => 0,
@@ -45,12 +49,13 @@ pub fn read_source<R: Files + Input>(
     alloc: Global,
     path: Option<&str>,
 ) -> Result<Vec<u8>, ToolError> {
+    let mut piece = [0u8; PIECE];
     let whole = match path {
         Some(path) => match fs::open(rt, path) {
-            Ok(mut file) => read_whole(alloc, &mut file, usize::MAX),
+            Ok(mut file) => read_whole(alloc, &mut file, &mut piece, usize::MAX),
             Err(error) => Err(error),
         },
-        None => read_whole(alloc, &mut rt.reader(), usize::MAX),
+        None => read_whole(alloc, &mut rt.reader(), &mut piece, usize::MAX),
     };
     match whole {
         Ok(source) => Ok(source),

@@ -39,6 +39,11 @@ abbrev pub CannotRead : LineReader → Observed → Observed → Type 0
 CannotRead now given left =
     (left.failures ≡ given.failures + 1) ⊎ ((left.failures ≡ given.failures) × (reads_left_of now ≡ 0))
 
+-- the reader failed, once, or it did not and has been read from as often as it may be
+abbrev pub CannotReadOn : Observed → Observed → Type 0
+CannotReadOn given left =
+    (left.failures ≡ given.failures + 1) ⊎ ((left.failures ≡ given.failures) × (left.reads ≡ given.reads + reads_max))
+
 -- What came next, of the bytes that were ahead and those that the reader gave: a line with its newline; at the end of the
 -- input a last line without one, or none; or a fault, behind the front of a line.
 abbrev pub ReadsLine : LineReader → LineReader → Observed → Observed → Result Next ToolError → Type 0

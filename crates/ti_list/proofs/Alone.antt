@@ -1,16 +1,16 @@
 -- The source of an entry that uses no others is its listing.
-use Rattle.std.proofs.Common.{◌≡◌, List, [], ◌∷◌, ◌++◌, Option, Some, None, refl, sym, ◌∙◌, ap}
+use Rattle.std.proofs.Common.{◌≡◌, List, [], ◌∷◌, Option, Some, None, refl}
 use Rattle.ti_caps.specs.Tables.{Capability}
 use Rattle.ti_compiled.specs.Values.{Content, Contents}
 use Rattle.ti_list.specs.declared.layout.Layout.{Layout}
-use Rattle.ti_list.specs.Listing.{item_for, items_for, in_order, listing}
-use Rattle.ti_list.specs.Relative.{Shown, difference, differing, relative}
+use Rattle.ti_list.specs.Listing.{items_for, listing}
+use Rattle.ti_list.specs.Relative.{Shown, difference, differing_contents, relative}
 
 alone : (own : Option Content) → difference own None ≡ own
 alone None = refl
 alone (Some x) = refl
 
-items-alone : (table : Contents) (caps : List Capability) → items_for (differing table []) caps ≡ items_for table caps
+items-alone : (table : Contents) (caps : List Capability) → items_for (differing_contents table []) caps ≡ items_for table caps
 items-alone table [] = refl
 items-alone table (c ∷ cs) = rw (alone (table c), items-alone table cs) refl
 

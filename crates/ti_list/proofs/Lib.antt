@@ -3,3 +3,4 @@ pub mod Orders
 pub mod Steps
 pub mod Alone
 pub mod Rows
+pub mod Rooms

@@ -1,5 +1,5 @@
 -- One capability of a kind after the other.
-use Rattle.std.proofs.Common.{◌≡◌, ℕ, suc, ◌+◌, ◌<◌, List, [], ◌∷◌, ◌++◌, length, drop, get_or, slice_get, Option, Some, None, refl, sym, ◌∙◌, ap, add-one, arith}
+use Rattle.std.proofs.Common.{◌≡◌, ℕ, ◌+◌, ◌<◌, List, [], ◌∷◌, ◌++◌, length, drop, get_or, slice_get, Option, Some, None, refl, sym, ◌∙◌, ap, add-one}
 use Rattle.std.proofs.Math.Seq.{drop-cons}
 use Rattle.std.proofs.lemmas.Option.{slice_get_within, get_or_from_slice_get}
 use Rattle.ti_caps.specs.Tables.{Capability}
@@ -8,7 +8,7 @@ use Rattle.ti_compiled.specs.Values.{Content, content_true, content_number, cont
 use Rattle.ti_list.specs.Contents.{said_for}
 use Rattle.ti_list.specs.declared.layout.Layout.{Layout}
 use Rattle.ti_list.specs.Flow.{flow}
-use Rattle.ti_list.specs.Listing.{further, item_for, items_for}
+use Rattle.ti_list.specs.Listing.{further_items, item_for, items_for}
 
 -- what stands at a place, and then what stands behind it
 pub drop_at : {X : Type 0} → (xs : List X) (place : ℕ) (x : X) → slice_get xs place ≡ Some x → drop place xs ≡ x ∷ drop (place + 1) xs
@@ -34,7 +34,7 @@ items-some table caps place c x at some = rw (drop_at caps place c at, some) (it
 -- after the item of a capability was written, what is still to come is as it was
 pub flow-some : (layout : Layout) (line : Option ℕ) (column : ℕ) (before after all : List ℕ) (table : Contents) (caps : List Capability) (place : ℕ) (c : Capability) (x : Content) (rest : List ℕ)
     → slice_get caps place ≡ Some c → table c ≡ Some x
-    → ((items : List Said) (end : List ℕ) → after ++ further layout column items end ≡ before ++ flow layout line (said_for c x ∷ items) end)
+    → ((items : List Said) (end : List ℕ) → after ++ further_items layout column items end ≡ before ++ flow layout line (said_for c x ∷ items) end)
     → before ++ flow layout line (items_for table (drop place caps)) rest ≡ all
     → after ++ flow layout (Some column) (items_for table (drop (place + 1) caps)) rest ≡ all
 flow-some layout line column before after all table caps place c x rest at some writes invariant =

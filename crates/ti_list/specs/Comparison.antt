@@ -2,6 +2,7 @@
 use Rattle.std.specs.Prelude.{ℕ, Bool, true, false, if◌then◌else◌, List, [], ◌∷◌, ◌++◌, Option, Some, None, codes}
 use Rattle.std.specs.Fmt.{decimal}
 use Rattle.std.specs.List.{flat_map}
+use Rattle.ti_text.specs.Ascii as ascii
 use Rattle.ti_caps.specs.Tables.{Capability, name_of}
 use Rattle.ti_caps.specs.declared.capability.Kind.{Kind}
 use Rattle.ti_caps.specs.declared.capability.Kind.TheVariants.{Flag, Number, Text}
@@ -24,28 +25,28 @@ abbrev pub value_text : Kind → Option Content → List ℕ
 value_text kind None = absent_text kind
 value_text kind (Some content_true) = codes "T"
 value_text kind (Some (content_number n)) = decimal n
-value_text kind (Some (content_text t)) = 39 ∷ written t ++ 39 ∷ []
+value_text kind (Some (content_text t)) = ascii.apostrophe ∷ written t ++ ascii.apostrophe ∷ []
 value_text kind (Some content_cancelled) = absent_text kind
 
 -- what parts the two values of a row
-abbrev pub between : Kind → List ℕ
-between Flag = codes ":"
-between Number = codes ", "
-between Text = codes ", "
+abbrev pub value_separator : Kind → List ℕ
+value_separator Flag = codes ":"
+value_separator Number = codes ", "
+value_separator Text = codes ", "
 
 -- whether both have the same, or neither has any
-abbrev pub same_held : Option Content → Option Content → Bool
-same_held None None = true
-same_held (Some one) (Some other) = same_content one other
-same_held _ _ = false
+abbrev pub have_same : Option Content → Option Content → Bool
+have_same None None = true
+have_same (Some one) (Some other) = same_content one other
+have_same _ _ = false
 
 -- the row of a capability that the two do not have alike
 abbrev pub differing_row : Capability → Option Content → Option Content → List ℕ
-differing_row c one other = 9 ∷ name_of c ++ codes ": " ++ value_text c.kind one ++ between c.kind ++ value_text c.kind other ++ codes ".\n"
+differing_row c one other = ascii.tab ∷ name_of c ++ codes ": " ++ value_text c.kind one ++ value_separator c.kind ++ value_text c.kind other ++ codes ".\n"
 
 -- the row of one that both have alike
 abbrev pub common_row : Capability → Option Content → List ℕ
-common_row c one = 9 ∷ name_of c ++ codes "= " ++ value_text c.kind one ++ codes ".\n"
+common_row c one = ascii.tab ∷ name_of c ++ codes "= " ++ value_text c.kind one ++ codes ".\n"
 
 -- the row of one that neither has
 abbrev pub neither_row : Capability → List ℕ
@@ -53,9 +54,9 @@ neither_row c = codes "\t!" ++ name_of c ++ codes ".\n"
 
 -- the row of a capability, given what the two entries have of it; nothing where the mode does not ask for it
 abbrev pub row : Mode → Capability → Option Content → Option Content → List ℕ
-row Differ c one other = if same_held one other then [] else differing_row c one other
+row Differ c one other = if have_same one other then [] else differing_row c one other
 row Common c None other = []
-row Common c (Some one) other = if same_held (Some one) other then common_row c (Some one) else []
+row Common c (Some one) other = if have_same (Some one) other then common_row c (Some one) else []
 row Neither c None None = neither_row c
 row Neither c None (Some other) = []
 row Neither c (Some one) other = []

@@ -1,5 +1,5 @@
 -- What the code holds of a capability, and what it says of it in an item (own).
-use Rattle.std.specs.Prelude.{ℕ, ◌<◌, List, length}
+use Rattle.std.specs.Prelude.{◌<◌, length}
 use Rattle.ti_caps.specs.Tables.{Capability}
 use Rattle.ti_source.specs.Reading.{Said, said_flag, said_number, said_text, said_cancel}
 use Rattle.ti_compiled.specs.Values.{Content, content_true, content_number, content_text, content_cancelled}

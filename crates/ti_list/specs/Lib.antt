@@ -4,3 +4,4 @@ pub mod Relative
 pub mod Comparison
 pub mod Contents
 pub mod Flow
+pub mod Room

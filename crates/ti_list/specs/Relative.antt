@@ -4,13 +4,14 @@ use Rattle.std.specs.Prelude.{ℕ, Bool, true, false, ◌==◌, if◌then◌else
 use Rattle.std.specs.List.{before_first}
 use Rattle.std.specs.Option.{option_or}
 use Rattle.std.specs.Str.{bytes_eq}
+use Rattle.ti_text.specs.Ascii as ascii
 use Rattle.ti_source.specs.Reading.{said_import}
 use Rattle.ti_compiled.specs.declared.view.View.{View}
 use Rattle.ti_compiled.specs.Shown.{names_of, held}
 use Rattle.ti_compiled.specs.Values.{Content, content_true, content_number, content_text, content_cancelled, Contents}
 use Rattle.ti_list.specs.declared.layout.Layout.{Layout}
 use Rattle.ti_list.specs.Items.{item_text}
-use Rattle.ti_list.specs.Listing.{listed, listing}
+use Rattle.ti_list.specs.Listing.{source_lines, listing}
 
 -- an entry as it is shown: its names field, and what it has of each capability
 pub record Shown : Type 0 where
@@ -47,17 +48,17 @@ difference (Some own) None = Some own
 difference (Some own) (Some theirs) = if same_content own theirs then None else Some own
 
 -- the same of each capability
-abbrev pub differing : Contents → List Shown → Contents
-differing table others c = difference (table c) (first_of others c)
+abbrev pub differing_contents : Contents → List Shown → Contents
+differing_contents table others c = difference (table c) (first_of others c)
 
 -- a use of each of the entries, by its first name, on a line of its own, and then the rest
 abbrev pub use_lines : List Shown → List ℕ → List ℕ
 use_lines [] rest = rest
-use_lines (other ∷ others) rest = 10 ∷ 9 ∷ item_text (said_import (first_name other.field)) ++ 44 ∷ use_lines others rest
+use_lines (other ∷ others) rest = ascii.newline ∷ ascii.tab ∷ item_text (said_import (first_name other.field)) ++ ascii.comma ∷ use_lines others rest
 
 -- the relative source of an entry: the items that differ, as in a listing, and then the uses
 abbrev pub relative : Shown → List Shown → Layout → List ℕ
-relative entry others layout = listed entry.field (differing entry.table others) layout (use_lines others (10 ∷ []))
+relative entry others layout = source_lines entry.field (differing_contents entry.table others) layout (use_lines others (ascii.newline ∷ []))
 
 -- the relative source of an entry and the listings of the others, each the text of a block
 abbrev pub with_others : Shown → List Shown → Layout → List (List ℕ)

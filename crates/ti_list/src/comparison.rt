@@ -1,7 +1,8 @@
 // Two entries compared capability by capability.
 ghost use Rattle.std.specs.Prelude.{◌≡◌, ◌++◌, option_map, IfOk, OnOk};
 ghost use Rattle.ti_compiled.specs.Shown.{held};
-ghost use Rattle.ti_list.specs.Comparison.{between, common_row, compared_kind, comparison, differing_row, kind_heading, neither_row, row, rows, same_held, value_text};
+ghost use Rattle.ti_list.specs.Comparison.{value_separator, common_row, compared_kind, comparison, differing_row};
+ghost use Rattle.ti_list.specs.Comparison.{kind_heading, neither_row, row, rows, have_same, value_text};
 ghost use Rattle.ti_list.specs.Contents.{content_of};
 ghost use Rattle.ti_list.specs.Listing.{in_order};
 ghost use Rattle.ti_list.specs.Relative.{shown};
@@ -37,8 +38,8 @@ fn push_value(out: &mut Vec<u8>, kind: Kind, content: Option<Content<'_>>) -> Re
 }
 
 // Whether two entries have the same of a capability, or neither has it.
-fn same_held(one: Option<Content<'_>>, other: Option<Content<'_>>) -> bool
-    ensures { result ≡ same_held (option_map content_of one.entry) (option_map content_of other.entry) }
+fn have_same(one: Option<Content<'_>>, other: Option<Content<'_>>) -> bool
+    ensures { result ≡ have_same (option_map content_of one.entry) (option_map content_of other.entry) }
 {
     match (one, other) {
         (None, None) => true,
@@ -48,8 +49,8 @@ fn same_held(one: Option<Content<'_>>, other: Option<Content<'_>>) -> bool
 }
 
 // What parts two values of a kind.
-fn between(kind: Kind) -> &'static [u8]
-    ensures { result.now ≡ between kind }
+fn value_separator(kind: Kind) -> &'static [u8]
+    ensures { result.now ≡ value_separator kind }
 {
     match kind {
         Kind::Flag => b":",
@@ -70,7 +71,7 @@ fn push_differing(
     out.extend_from_slice(name(cap).as_bytes())?;
     out.extend_from_slice(b": ")?;
     push_value(out, cap.kind(), one)?;
-    out.extend_from_slice(between(cap.kind()))?;
+    out.extend_from_slice(value_separator(cap.kind()))?;
     push_value(out, cap.kind(), other)?;
     out.extend_from_slice(b".\n")
 }
@@ -106,8 +107,8 @@ fn push_row(
     ensures { OnOk result (out.new.items ≡ out.old.items ++ row mode cap (option_map content_of one.entry) (option_map content_of other.entry)) }
 {
     match mode {
-        Mode::Differ if !same_held(one, other) => push_differing(out, cap, one, other),
-        Mode::Common if one.is_some() && same_held(one, other) => push_common(out, cap, one),
+        Mode::Differ if !have_same(one, other) => push_differing(out, cap, one, other),
+        Mode::Common if one.is_some() && have_same(one, other) => push_common(out, cap, one),
         Mode::Neither if one.is_none() && other.is_none() => push_neither(out, cap),
         _ => Ok(()),
     }

@@ -21,6 +21,7 @@ pub enum Content<'a> {
 }
 
 /// What an entry has of a capability.
+#[inline(always)]
 pub fn held<'a>(view: &View<'a>, cap: Cap) -> Option<Content<'a>>
     ensures is { option_map content_of result ≡ held view.now cap }
     ensures short { IfSome result (λ c. IsShort (content_of c)) }
@@ -45,6 +46,7 @@ pub fn held<'a>(view: &View<'a>, cap: Cap) -> Option<Content<'a>>
 }
 
 /// What the first of the entries that has the capability has of it.
+#[inline(always)]
 pub fn first_of<'a>(others: &[View<'a>], cap: Cap) -> Option<Content<'a>>
     ensures { option_map content_of result ≡ first_of (map (λ o. shown o) others.now) cap }
 {
@@ -69,6 +71,7 @@ pub fn same_content(one: Content<'_>, other: Content<'_>) -> bool
 }
 
 /// What a relative source says of a capability, where the entry has this of it and the others that.
+#[inline(always)]
 pub fn difference<'a>(own: Option<Content<'a>>, theirs: Option<Content<'_>>) -> Option<Content<'a>>
     ensures { option_map content_of result ≡ difference (option_map content_of own.entry) (option_map content_of theirs.entry) }
 {

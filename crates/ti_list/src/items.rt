@@ -1,47 +1,56 @@
 // An item as it is written in terminfo source, without the comma that ends it.
-ghost use Rattle.std.specs.Prelude.{◌≡◌, ◌+◌, ◌^◌, ◌<◌, ◌++◌, length, OnOk};
+ghost use Rattle.std.specs.Prelude.{◌≡◌, ◌+◌, ◌^◌, ◌<◌, ◌≤◌, ◌++◌, ◌∷◌, length, vec_len, vec_capacity};
+ghost use Rattle.std.specs.Fmt.{decimal};
 ghost use Rattle.ti_list.specs.Contents.{content_of, said_for, IsShort};
 ghost use Rattle.ti_list.specs.Items.{item_text};
+ghost use Rattle.ti_list.specs.Room.{item_room};
 
 use crate::contents::Content;
 use itoa::Buffer;
-use std::alloc::AllocError;
 use ti_caps::{Cap, name};
-use ti_spelling::{escaped_len, push_escaped};
+use ti_spelling::{MOST_ESCAPED, write_escaped};
+use ti_text::room::append_reserved;
 
-/// How many bytes the item has.
-pub fn item_len(cap: Cap, content: Content<'_>) -> usize
+/// Enough room for the item, with its comma and what stands before it.
+pub fn item_room(cap: Cap, content: Content<'_>) -> usize
     requires { IsShort (content_of content) }
-    ensures value { result ≡ length (item_text (said_for cap (content_of content.entry))) }
-    ensures fits { result < 2 ^ 63 + 2 ^ 18 }
+    ensures { result ≡ item_room (said_for cap (content_of content.entry)) }
 {
     let name = name(cap).len();
     match content {
-        Content::True => name,
-        Content::Number(number) => name + 1 + Buffer::new().format(number).len(),
-        Content::Text(text) => name + 1 + escaped_len(text),
-        Content::Cancelled => name + 1,
+        Content::True => name + 3,
+        Content::Number(_) => name + 14,
+        Content::Text(text) => name + 4 + MOST_ESCAPED * text.len(),
+        Content::Cancelled => name + 4,
     }
 }
 
-/// Appends the item. At an error a front part of it may have been appended.
-pub fn push_item_text(out: &mut Vec<u8>, cap: Cap, content: Content<'_>) -> Result<(), AllocError>
-    ensures { OnOk result (out.new.items ≡ out.old.items ++ item_text (said_for cap (content_of content.entry))) }
+/// Appends the item, into such room.
+pub fn write_item(out: &mut Vec<u8>, cap: Cap, content: Content<'_>)
+    requires { vec_len out.old + item_room (said_for cap (content_of content)) ≤ vec_capacity out.old + 3 }
+    ensures items { out.new.items ≡ out.old.items ++ item_text (said_for cap (content_of content.entry)) }
+    ensures len { vec_len out.new + 3 ≤ vec_len out.old + item_room (said_for cap (content_of content.entry)) }
+    ensures capacity { vec_capacity out.old ≤ vec_capacity out.new }
 {
-    out.extend_from_slice(name(cap).as_bytes())?;
+    append_reserved(out, name(cap).as_bytes());
     match content {
-        Content::True => Ok(()),
-        Content::Number(number) => {
-            out.push(b'#')?;
-            out.extend_from_slice(Buffer::new().format(number).as_bytes())
-        }
+        Content::True => {}
+        Content::Number(number) => write_number(out, number),
         Content::Text(text) => {
-            out.push(b'=')?;
-            push_escaped(out, text)
+            out.push_reserved(b'=');
+            write_escaped(out, text);
         }
-        Content::Cancelled => {
-            out.push(b'@')?;
-            Ok(())
-        }
+        Content::Cancelled => out.push_reserved(b'@'),
     }
+}
+
+// Appends a number, behind its sign.
+fn write_number(out: &mut Vec<u8>, number: u32)
+    requires { vec_len out.old + 11 ≤ vec_capacity out.old }
+    ensures items { out.new.items ≡ out.old.items ++ 35 ∷ decimal number }
+    ensures len { vec_len out.new ≤ vec_len out.old + 11 }
+    ensures capacity { vec_capacity out.old ≤ vec_capacity out.new }
+{
+    out.push_reserved(b'#');
+    append_reserved(out, Buffer::new().format(number).as_bytes());
 }

@@ -1,134 +1,216 @@
 // An entry as source text: its own items, or those in which it differs from others.
-ghost use Rattle.std.specs.Prelude.{◌≡◌, ℕ, ◌++◌, ◌∷◌, ◌↔◌, [], List, map, option_map, IfOk, IfSome, IsErrOf, OnOk};
+ghost use Rattle.std.specs.Prelude.{◌≡◌, ℕ, ◌+◌, ◌≤◌, ◌++◌, ◌∷◌, ◌↔◌, [], List, map, option_map, IfNone, IfOk, IfSome, IsErrOf, ◌<◌, vec_len, vec_capacity};
 ghost use Rattle.ti_compiled.specs.Shown.{held, names_of};
 ghost use Rattle.ti_source.specs.Reading.{Said};
 ghost use Rattle.ti_list.specs.Contents.{content_of, said_for, IsShort};
 ghost use Rattle.ti_list.specs.Flow.{flow};
-ghost use Rattle.ti_list.specs.Listing.{further, kind_items, lines_of, listing};
-ghost use Rattle.ti_list.specs.Relative.{differing, relative, shown, use_lines};
+ghost use Rattle.ti_list.specs.Items.{item_text};
+ghost use Rattle.ti_list.specs.Listing.{size_of, further_items, in_order, items_for, kind_items, lines_of, listing};
+ghost use Rattle.ti_list.specs.Room.{item_room, items_room, source_room, uses_room};
+ghost use Rattle.ti_list.specs.Relative.{differing_contents, relative, shown, use_lines};
 ghost use Rattle.ti_list.specs.declared.listing.ListError.TheVariants.{Memory};
 
 use crate::contents::{Content, difference, first_of, held};
-use crate::items::{item_len, push_item_text};
+use crate::items::{item_room, write_item};
 use crate::layout::{Layout, Order};
 use crate::order::cap_at;
 use std::alloc::{AllocError, Global};
 use thiserror::Error;
 use ti_caps::{Cap, Kind, count};
 use ti_compiled::View;
+use ti_text::room::append_reserved;
 
 /// The columns that a tab at the front of a line takes.
 const TAB: usize = 8;
 
 // What an entry's source says of a capability where it uses the others.
+#[inline(always)]
 fn said_of<'a>(view: &View<'a>, others: &[View<'a>], cap: Cap) -> Option<Content<'a>>
-    ensures is { option_map content_of result ≡ differing (held view.now) (map (λ o. shown o) others.now) cap }
+    ensures is { option_map content_of result ≡ differing_contents (held view.now) (map (λ o. shown o) others.now) cap }
     ensures short { IfSome result (λ c. IsShort (content_of c)) }
 {
     difference(held(view, cap), first_of(others, cap))
 }
 
+// Appends an item with its comma on a new line, behind a tab. Gives the columns that are then taken.
+fn write_below(out: &mut Vec<u8>, cap: Cap, content: Content<'_>) -> usize
+    requires short { IsShort (content_of content) }
+    requires room { vec_len out.old + item_room (said_for cap (content_of content)) ≤ vec_capacity out.old }
+    ensures items { out.new.items ≡ out.old.items ++ 10 ∷ 9 ∷ item_text (said_for cap (content_of content.entry)) ++ 44 ∷ [] }
+    ensures column { result ≡ 8 + size_of (said_for cap (content_of content.entry)) }
+    ensures len { vec_len out.new ≤ vec_len out.old + item_room (said_for cap (content_of content.entry)) }
+    ensures capacity { vec_capacity out.old ≤ vec_capacity out.new }
+{
+    let start = out.len();
+    out.push_reserved(b'\n');
+    out.push_reserved(b'\t');
+    write_item(out, cap, content);
+    out.push_reserved(b',');
+    TAB + (out.len() - start - 2)
+}
+
+// Appends an item with its comma behind a space, where so many columns are left for both; else it appends nothing. Gives the
+// columns that it took.
+fn write_beside(out: &mut Vec<u8>, room: usize, cap: Cap, content: Content<'_>) -> Option<usize>
+    requires short { IsShort (content_of content) }
+    requires room { vec_len out.old + item_room (said_for cap (content_of content)) ≤ vec_capacity out.old }
+    ensures some { IfSome result (λ took. (took ≡ 1 + size_of (said_for cap (content_of content.entry))) × (took ≤ room)
+        × (out.new.items ≡ out.old.items ++ 32 ∷ item_text (said_for cap (content_of content.entry)) ++ 44 ∷ [])) }
+    ensures none { IfNone result ((out.new.items ≡ out.old.items) × (room < 1 + size_of (said_for cap (content_of content.entry)))) }
+    ensures len { IfSome result (λ took. vec_len out.new ≤ vec_len out.old + item_room (said_for cap (content_of content.entry))) }
+    ensures capacity { vec_capacity out.old ≤ vec_capacity out.new }
+{
+    let start = out.len();
+    out.push_reserved(b' ');
+    write_item(out, cap, content);
+    let took = out.len() - start + 1;
+    if took <= room {
+        out.push_reserved(b',');
+        return Some(took);
+    }
+    out.truncate(start);
+    None
+}
+
 // Appends an item with its comma: behind a space where so many columns of the line are taken and it has room, else on
 // a new line. Gives the columns that are then taken.
-fn push_item(
+fn write_placed(
     out: &mut Vec<u8>,
     layout: &Layout,
     line: Option<usize>,
     cap: Cap,
     content: Content<'_>,
-) -> Result<usize, AllocError>
-    requires { IsShort (content_of content) }
-    ensures { IfOk result (λ column. (items : List Said) (rest : List ℕ)
-        → out.new.items ++ further layout.now column items rest
-        ≡ out.old.items ++ flow layout.now line (said_for cap (content_of content.entry) ∷ items) rest) }
+) -> usize
+    requires short { IsShort (content_of content) }
+    requires room { vec_len out.old + item_room (said_for cap (content_of content)) ≤ vec_capacity out.old }
+    ensures items { (items : List Said) (rest : List ℕ)
+        → out.new.items ++ further_items layout.now result items rest
+        ≡ out.old.items ++ flow layout.now line (said_for cap (content_of content.entry) ∷ items) rest }
+    ensures len { vec_len out.new ≤ vec_len out.old + item_room (said_for cap (content_of content.entry)) }
+    ensures capacity { vec_capacity out.old ≤ vec_capacity out.new }
 {
-    let len = item_len(cap, content) + 1;
-    let column = match line {
-        Some(taken) if !layout.one_per_line && layout.width.saturating_sub(taken) > len => {
-            out.push(b' ')?;
-            taken + 1 + len
+    if let Some(taken) = line {
+        if !layout.one_per_line {
+            let room = layout.width.saturating_sub(taken);
+            if let Some(took) = write_beside(out, room, cap, content) {
+                return taken + took;
+            }
         }
-        _ => {
-            out.extend_from_slice(b"\n\t")?;
-            TAB + len
-        }
-    };
-    push_item_text(out, cap, content)?;
-    out.push(b',')?;
-    Ok(column)
+    }
+    write_below(out, cap, content)
 }
 
 // Appends the items of a kind, of which the first begins a line.
-fn push_kind(
+#[inline(always)]
+fn write_kind<'a>(
     out: &mut Vec<u8>,
-    view: &View<'_>,
-    others: &[View<'_>],
+    view: &View<'a>,
+    others: &[View<'a>],
     layout: &Layout,
     kind: Kind,
-) -> Result<(), AllocError>
-    ensures { OnOk result ((rest : List ℕ) → out.new.items ++ rest ≡ out.old.items
-        ++ lines_of layout.now (kind_items layout.now (differing (held view.now) (map (λ o. shown o) others.now)) kind) rest) }
+)
+    requires { vec_len out.old + items_room (kind_items layout.now (differing_contents (held view.now) (map (λ o. shown o) others.now)) kind) ≤ vec_capacity out.old }
+    ensures items { (rest : List ℕ) → out.new.items ++ rest ≡ out.old.items
+        ++ lines_of layout.now (kind_items layout.now (differing_contents (held view.now) (map (λ o. shown o) others.now)) kind) rest }
+    ensures len { vec_len out.new ≤ vec_len out.old + items_room (kind_items layout.now (differing_contents (held view.now) (map (λ o. shown o) others.now)) kind) }
+    ensures capacity { vec_capacity out.old ≤ vec_capacity out.new }
 {
     let mut line = None;
     for place in 0..count(kind) {
         let cap = cap_at(layout.order, kind, place);
         if let Some(content) = said_of(view, others, cap) {
-            line = Some(push_item(out, layout, line, cap, content)?);
+            line = Some(write_placed(out, layout, line, cap, content));
         }
     }
-    Ok(())
 }
 
 // Appends a use of each of the others, on a line of its own.
-fn push_uses(out: &mut Vec<u8>, others: &[View<'_>]) -> Result<(), AllocError>
-    ensures { OnOk result ((rest : List ℕ) → out.new.items ++ rest ≡ out.old.items ++ use_lines (map (λ o. shown o) others.now) rest) }
+fn write_uses(out: &mut Vec<u8>, others: &[View<'_>])
+    requires { vec_len out.old + uses_room (map (λ o. shown o) others.now) ≤ vec_capacity out.old }
+    ensures items { (rest : List ℕ) → out.new.items ++ rest ≡ out.old.items ++ use_lines (map (λ o. shown o) others.now) rest }
+    ensures len { vec_len out.new ≤ vec_len out.old + uses_room (map (λ o. shown o) others.now) }
+    ensures capacity { vec_capacity out.old ≤ vec_capacity out.new }
 {
     for other in others {
-        out.extend_from_slice(b"\n\tuse=")?;
-        out.extend_from_slice(other.first_name())?;
-        out.push(b',')?;
+        append_reserved(out, b"\n\tuse=");
+        append_reserved(out, other.first_name());
+        out.push_reserved(b',');
     }
-    Ok(())
 }
 
-// At most how many bytes the source of an entry has that uses the others, where no number holds so many the greatest.
-fn room_for<'a>(view: &View<'a>, others: &[View<'a>]) -> usize {
-    let mut room = view.names().len().saturating_add(2);
-    for kind in [Kind::Flag, Kind::Number, Kind::Text] {
-        for place in 0..count(kind) {
-            let cap = cap_at(Order::Table, kind, place);
-            if let Some(content) = said_of(view, others, cap) {
-                room = room
-                    .saturating_add(item_len(cap, content))
-                    .saturating_add(3);
-            }
+// Enough room for the items of a kind; `None` where no number is so great.
+#[inline(always)]
+fn kind_room<'a>(view: &View<'a>, others: &[View<'a>], order: Order, kind: Kind) -> Option<usize>
+    ensures { IfSome result (λ room. room ≡ items_room (items_for (differing_contents (held view.now) (map (λ o. shown o) others.now)) (in_order order kind))) }
+{
+    let mut room = 0usize;
+    for place in 0..count(kind) {
+        let next = cap_at(order, kind, place);
+        if let Some(content) = said_of(view, others, next) {
+            room = room.checked_add(item_room(next, content))?;
         }
     }
-    for other in others {
-        room = room
-            .saturating_add(other.first_name().len())
-            .saturating_add(7);
-    }
-    room
+    Some(room)
 }
 
-// The source of an entry that uses the others: one allocation, whose size is known before.
-fn source_of(
+// Enough room for the uses of the others.
+fn uses_room(others: &[View<'_>]) -> Option<usize>
+    ensures { IfSome result (λ room. room ≡ uses_room (map (λ o. shown o) others.now)) }
+{
+    let mut room = 0usize;
+    for other in others {
+        room = room.checked_add(other.first_name().len())?.checked_add(7)?;
+    }
+    Some(room)
+}
+
+// Enough room for the source of an entry that uses the others.
+#[inline(always)]
+fn source_room<'a>(view: &View<'a>, others: &[View<'a>], order: Order) -> Option<usize>
+    ensures { IfSome result (λ room. room ≡ source_room (shown view.now) (map (λ o. shown o) others.now) order) }
+{
+    let flags = kind_room(view, others, order, Kind::Flag)?;
+    let numbers = kind_room(view, others, order, Kind::Number)?;
+    let texts = kind_room(view, others, order, Kind::Text)?;
+    let uses = uses_room(others)?;
+    view.names()
+        .len()
+        .checked_add(2)?
+        .checked_add(flags)?
+        .checked_add(numbers)?
+        .checked_add(texts)?
+        .checked_add(uses)
+}
+
+// Appends the source of an entry that uses the others, into such room. It takes no memory.
+#[inline(always)]
+fn write_source<'a>(out: &mut Vec<u8>, view: &View<'a>, others: &[View<'a>], layout: &Layout)
+    requires { vec_len out.old + source_room (shown view.now) (map (λ o. shown o) others.now) layout.now.order ≤ vec_capacity out.old }
+    ensures { out.new.items ≡ out.old.items ++ relative (shown view.now) (map (λ o. shown o) others.now) layout.now }
+{
+    append_reserved(out, view.names());
+    out.push_reserved(b',');
+    write_kind(out, view, others, layout, Kind::Flag);
+    write_kind(out, view, others, layout, Kind::Number);
+    write_kind(out, view, others, layout, Kind::Text);
+    write_uses(out, others);
+    out.push_reserved(b'\n');
+}
+
+// The source of an entry that uses the others, in one allocation: nothing that follows it can fail.
+#[inline(always)]
+fn source_of<'a>(
     alloc: Global,
-    view: &View<'_>,
-    others: &[View<'_>],
+    view: &View<'a>,
+    others: &[View<'a>],
     layout: &Layout,
 ) -> Result<Vec<u8>, AllocError>
     ensures { IfOk result (λ text. text.items ≡ relative (shown view.now) (map (λ o. shown o) others.now) layout.now) }
 {
-    let mut out = Vec::with_capacity(alloc, room_for(view, others))?;
-    out.extend_from_slice(view.names())?;
-    out.push(b',')?;
-    push_kind(&mut out, view, others, layout, Kind::Flag)?;
-    push_kind(&mut out, view, others, layout, Kind::Number)?;
-    push_kind(&mut out, view, others, layout, Kind::Text)?;
-    push_uses(&mut out, others)?;
-    out.push(b'\n')?;
+    // where no number is so great, no memory is either, and the growth is refused
+    let room = source_room(view, others, layout.order).unwrap_or(usize::MAX);
+    let mut out = Vec::with_capacity(alloc, room)?;
+    write_source(&mut out, view, others, layout);
     Ok(out)
 }
 

@@ -7,6 +7,7 @@ use crate::layout::Order;
 use ti_caps::{Cap, Kind, by_name};
 
 /// The capability at a place of the order, from 0.
+#[inline(always)]
 pub fn cap_at(order: Order, kind: Kind, place: usize) -> Cap
     requires { place < count_of kind }
     ensures { slice_get (in_order order kind) place ≡ Some result }

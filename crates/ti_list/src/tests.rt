@@ -63,6 +63,21 @@ fn lists_an_entry(rt: HostRuntime) -> Result<(), Fail> {
     Ok(())
 }
 
+// The names field and 2 bytes, 5 for `am`, 18 for `cols`, and 11, 10, 12 and 11 for the texts: a listing that had to grow
+// would have other room.
+#[test]
+fn a_listing_has_the_room_that_was_made_before(rt: HostRuntime) -> Result<(), Fail> {
+    let bytes = dumb(rt.alloc())?;
+    let view = View::read(&bytes)?;
+    for width in [20, 60, 4096] {
+        for order in [Order::Table, Order::Name] {
+            let text = list(rt.alloc(), &view, &layout(width, order))?;
+            assert_eq!(rt; text.capacity(), 23 + 2 + 5 + 18 + 11 + 10 + 12 + 11);
+        }
+    }
+    Ok(())
+}
+
 #[test]
 fn lists_in_the_order_asked_for(rt: HostRuntime) -> Result<(), Fail> {
     let view = View::read(V)?;
@@ -77,9 +92,9 @@ fn lists_in_the_order_asked_for(rt: HostRuntime) -> Result<(), Fail> {
 fn compares_two_entries(rt: HostRuntime) -> Result<(), Fail> {
     let (a, b) = (View::read(A)?, View::read(B)?);
     let text = compare(rt.alloc(), &a, &b, Mode::Differ, Order::Name)?;
-    let differing =
+    let differing_contents =
         b"comparing a to b.\n    comparing booleans.\n\tam: T:F.\n    comparing numbers.\n\tcols: 80, 132.\n    comparing strings.\n\tcr: NULL, '\\r'.\n";
-    assert_eq!(rt; text.as_slice(), differing.as_slice());
+    assert_eq!(rt; text.as_slice(), differing_contents.as_slice());
     let text = compare(rt.alloc(), &a, &b, Mode::Common, Order::Name)?;
     let common =
         b"comparing a to b.\n    comparing booleans.\n    comparing numbers.\n    comparing strings.\n\tbel= '^G'.\n";

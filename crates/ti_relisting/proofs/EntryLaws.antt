@@ -21,7 +21,7 @@ use Rattle.ti_meaning.specs.Expansion.{Mention, said, values, is_broken, expansi
 use Rattle.ti_meaning.specs.Compiled.{image_of, is_too_large, entry_of, entry, compiled}
 use Rattle.ti_list.specs.Items.{no_more, CanBeListed, IsListable}
 use Rattle.ti_list.specs.declared.layout.Layout.{Layout}
-use Rattle.ti_list.specs.Relative.{Shown, differing, use_lines, relative, with_others}
+use Rattle.ti_list.specs.Relative.{Shown, differing_contents, use_lines, relative, with_others}
 use Rattle.ti_relisting.specs.Shown.{CanHave, IsWithinLimit, CanBeShown, CanBeUsed}
 use Rattle.ti_relisting.specs.Entries.{IsEntry, IsUsedEntry}
 use Rattle.ti_relisting.specs.Laws.{PartsAreBlocks, ListingsCompile, RelativesCompile, ShownEntry, listings, Relisting, Relistings, RelativeSource}
@@ -224,7 +224,7 @@ listings-stand ordered stands layout (other ∷ others) used =
 
 relative-stands : EachKindIsInOrder → PartsAreBlocks → (entry : Shown) (others : List Shown) (layout : Layout) → CanBeShown entry → All CanBeUsed others → All OneBlock (with_others entry others layout)
 relative-stands ordered stands shown others layout can used =
-    let table = differing shown.table others in
+    let table = differing_contents shown.table others in
     All-cons OneBlock (relative shown others layout) (map (λ (other : Shown). listing other.field other.table layout) others)
     (stands shown.field can.names (items_for table (all_in layout.order) ++ uses_of others) (relative shown others layout) can.listable
     (all-can ordered table layout (uses_of others) (differing-can shown.table others can.holds) (uses-can others used))

@@ -14,29 +14,29 @@ use Rattle.ti_compiled.specs.Values.{Content, content_true, content_number, cont
 use Rattle.ti_meaning.specs.Expansion.{Mention, same_kind, same_capability, said, joined, mentions_of, expand_items}
 use Rattle.ti_list.specs.declared.layout.Layout.{Layout}
 use Rattle.ti_list.specs.Items.{item_text, IsTail, no_more, on_line, new_line, IsListing, CanBeListed}
-use Rattle.ti_list.specs.Listing.{item_for, items_for, kind_items, in_order, size_of, further, lines_of, listed, listing}
-use Rattle.ti_list.specs.Relative.{Shown, first_name, differing, use_lines}
+use Rattle.ti_list.specs.Listing.{item_for, items_for, kind_items, in_order, size_of, further_items, lines_of, source_lines, listing}
+use Rattle.ti_list.specs.Relative.{Shown, first_name, differing_contents, use_lines}
 use Rattle.ti_relisting.specs.Shown.{CanHave, CanHaveAll}
 use Rattle.ti_relisting.specs.Laid.{entry_items, uses_of, ListingsAreLaidOut, RelativesAreLaidOut}
 use Rattle.ti_relisting.proofs.Orders.{is_among, all_in, all_in-all}
 
 -- ---- the layout
 
-further-tail : (layout : Layout) (column : ℕ) (items more : List Said) (rest : List ℕ) → IsTail more rest → IsTail (items ++ more) (further layout column items rest)
+further-tail : (layout : Layout) (column : ℕ) (items more : List Said) (rest : List ℕ) → IsTail more rest → IsTail (items ++ more) (further_items layout column items rest)
 further-tail layout column [] more rest laid = laid
 further-tail layout column (item ∷ items) more rest laid =
     let broken = further-tail layout (8 + size_of item) items more rest laid in
     let same = further-tail layout (column + 1 + size_of item) items more rest laid in
     elim (layout.one_per_line || nat_lt layout.width (column + 1 + size_of item))
-    as (λ b. IsTail (item ∷ (items ++ more)) (cond b (10 ∷ 9 ∷ item_text item ++ 44 ∷ further layout (8 + size_of item) items rest) (32 ∷ item_text item ++ 44 ∷ further layout (column + 1 + size_of item) items rest))) [
-      | true ↦ new_line item (items ++ more) (further layout (8 + size_of item) items rest) broken
-      | false ↦ on_line item (items ++ more) (further layout (column + 1 + size_of item) items rest) same
+    as (λ b. IsTail (item ∷ (items ++ more)) (cond b (10 ∷ 9 ∷ item_text item ++ 44 ∷ further_items layout (8 + size_of item) items rest) (32 ∷ item_text item ++ 44 ∷ further_items layout (column + 1 + size_of item) items rest))) [
+      | true ↦ new_line item (items ++ more) (further_items layout (8 + size_of item) items rest) broken
+      | false ↦ on_line item (items ++ more) (further_items layout (column + 1 + size_of item) items rest) same
     ]
 
 pub lines-tail : (layout : Layout) (items more : List Said) (rest : List ℕ) → IsTail more rest → IsTail (items ++ more) (lines_of layout items rest)
 lines-tail layout [] more rest laid = laid
 lines-tail layout (item ∷ items) more rest laid =
-    new_line item (items ++ more) (further layout (8 + size_of item) items rest) (further-tail layout (8 + size_of item) items more rest laid)
+    new_line item (items ++ more) (further_items layout (8 + size_of item) items rest) (further-tail layout (8 + size_of item) items more rest laid)
 
 items_for-append : (table : Contents) (cs ds : List Capability) → items_for table (cs ++ ds) ≡ items_for table cs ++ items_for table ds
 items_for-append table [] ds = refl
@@ -51,7 +51,7 @@ entry_items-all layout table =
     sym (items_for-append table flags (numbers ++ texts) ∙ ap (λ l. items_for table flags ++ l) (items_for-append table numbers texts))
 
 -- a listing in any layout is one of the items of its entry, and then of those of the rest
-listed-is : (field : List ℕ) (table : Contents) (layout : Layout) (more : List Said) (rest : List ℕ) → IsTail more rest → IsListing field (entry_items layout table ++ more) (listed field table layout rest)
+listed-is : (field : List ℕ) (table : Contents) (layout : Layout) (more : List Said) (rest : List ℕ) → IsTail more rest → IsListing field (entry_items layout table ++ more) (source_lines field table layout rest)
 listed-is field table layout more rest laid =
     let flags = kind_items layout table Flag in
     let numbers = kind_items layout table Number in
@@ -73,13 +73,13 @@ uses-tail [] = no_more
 uses-tail (other ∷ others) = new_line (said_import (first_name other.field)) (uses_of others) (use_lines others (10 ∷ [])) (uses-tail others)
 
 pub relatives_laid : RelativesAreLaidOut
-relatives_laid entry others layout = listed-is entry.field (differing entry.table others) layout (uses_of others) (use_lines others (10 ∷ [])) (uses-tail others)
+relatives_laid entry others layout = listed-is entry.field (differing_contents entry.table others) layout (uses_of others) (use_lines others (10 ∷ [])) (uses-tail others)
 
 -- the same of the items of all capabilities
 pub listed-all : (field : List ℕ) (table : Contents) (layout : Layout) (more : List Said) (rest : List ℕ) → IsTail more rest
-    → IsListing field (items_for table (all_in layout.order) ++ more) (listed field table layout rest)
+    → IsListing field (items_for table (all_in layout.order) ++ more) (source_lines field table layout rest)
 listed-all field table layout more rest laid =
-    subst (λ items. IsListing field (items ++ more) (listed field table layout rest)) (entry_items-all layout table) (listed-is field table layout more rest laid)
+    subst (λ items. IsListing field (items ++ more) (source_lines field table layout rest)) (entry_items-all layout table) (listed-is field table layout more rest laid)
 
 -- ---- what can be listed
 

@@ -18,7 +18,7 @@ use Rattle.ti_meaning.specs.Expansion.{Mention, said, expand, expansion}
 use Rattle.ti_list.specs.declared.layout.Layout.{Layout}
 use Rattle.ti_list.specs.Items.{CanBeListed, IsReadAs}
 use Rattle.ti_list.specs.Listing.{listing}
-use Rattle.ti_list.specs.Relative.{Shown, first_name, same_content, first_of, difference, differing, use_lines, relative, with_others}
+use Rattle.ti_list.specs.Relative.{Shown, first_name, same_content, first_of, difference, differing_contents, use_lines, relative, with_others}
 use Rattle.ti_list.specs.Listing.{items_for}
 use Rattle.ti_relisting.specs.Laid.{uses_of}
 use Rattle.ti_relisting.specs.Shown.{CanHave, CanHaveAll, CanBeUsed}
@@ -66,7 +66,7 @@ difference-can c None (Some x) has = tt
 difference-can c (Some h) None has = has
 difference-can c (Some h) (Some x) has = elim (same_content h x) as (λ b. CanHave c (cond b None (Some h))) [ true ↦ tt | false ↦ has ]
 
-pub differing-can : (table : Contents) (others : List Shown) → CanHaveAll table → CanHaveAll (differing table others)
+pub differing-can : (table : Contents) (others : List Shown) → CanHaveAll table → CanHaveAll (differing_contents table others)
 differing-can table others holds c is = difference-can c (table c) (first_of others c) (holds c is)
 
 -- ---- the uses
@@ -127,7 +127,7 @@ relatives_compile ordered read images limits e others layout shown used owns wit
     let text = relative e others layout in
     let blocks = readings (with_others e others layout) in
     let block = parsed text in
-    let table = differing e.table others in
+    let table = differing_contents e.table others in
     let has : CanHaveAll table = differing-can e.table others shown.holds in
     let own = items_for table (all_in layout.order) in
     let is : IsReadAs e.field shown.names (own ++ uses_of others) block =

@@ -6,7 +6,7 @@ use Rattle.ti_compiled.specs.Values.{Contents}
 use Rattle.ti_list.specs.declared.layout.Layout.{Layout}
 use Rattle.ti_list.specs.Items.{IsListing}
 use Rattle.ti_list.specs.Listing.{kind_items, listing}
-use Rattle.ti_list.specs.Relative.{Shown, first_name, differing, relative}
+use Rattle.ti_list.specs.Relative.{Shown, first_name, differing_contents, relative}
 
 -- the items of an entry: flags, numbers, texts, each in the order that the layout asks for
 abbrev pub entry_items : Layout → Contents → List Said
@@ -25,4 +25,4 @@ ListingsAreLaidOut = (field : List ℕ) (table : Contents) (layout : Layout) →
 abbrev pub RelativesAreLaidOut : Type 0
 RelativesAreLaidOut =
     (entry : Shown) (others : List Shown) (layout : Layout)
-    → IsListing entry.field (entry_items layout (differing entry.table others) ++ uses_of others) (relative entry others layout)
+    → IsListing entry.field (entry_items layout (differing_contents entry.table others) ++ uses_of others) (relative entry others layout)

@@ -1,9 +1,7 @@
-pub mod Asked
 pub mod Ending
 pub mod Filing
 pub mod Inserting
 pub mod Printing
 pub mod Refusing
-pub mod Widths
-pub mod Rates
 pub mod Parts
+pub mod Reporting

@@ -6,8 +6,8 @@ use Rattle.ti_list.specs.declared.layout.Mode.TheVariants as rows
 use Rattle.ti_list.specs.Comparison.{comparison}
 use Rattle.ti_list.specs.Listing.{listing}
 use Rattle.ti_list.specs.Relative.{Shown, relative}
-use Rattle.ti_tools.specs.declared.listings.InfocmpMode.{InfocmpMode}
-use Rattle.ti_tools.specs.declared.listings.InfocmpMode.TheVariants as mode
+use Rattle.ti_commands.specs.declared.jobs.InfocmpMode.{InfocmpMode}
+use Rattle.ti_commands.specs.declared.jobs.InfocmpMode.TheVariants as mode
 use Rattle.ti_tools.specs.declared.listings.InfocmpOptions.{InfocmpOptions}
 
 -- the listing of each entry in turn
@@ -15,20 +15,20 @@ abbrev pub listings : List Shown → Layout → List ℕ
 listings entries layout = flat_map (λ (entry : Shown). listing entry.field entry.table layout) entries
 
 -- what is printed of the first entry and of others, of which there is one at least
-abbrev pub printed : InfocmpMode → Shown → List Shown → Layout → List ℕ
-printed mode.List first others layout = listings (first ∷ others) layout
-printed mode.Differ first others layout = flat_map (λ other. comparison first other rows.Differ layout.order) others
-printed mode.Common first others layout = flat_map (λ other. comparison first other rows.Common layout.order) others
-printed mode.Neither first others layout = flat_map (λ other. comparison first other rows.Neither layout.order) others
-printed mode.Relative first others layout = relative first others layout
+abbrev pub printed_text : InfocmpMode → Shown → List Shown → Layout → List ℕ
+printed_text mode.List first others layout = listings (first ∷ others) layout
+printed_text mode.Differ first others layout = flat_map (λ other. comparison first other rows.Differ layout.order) others
+printed_text mode.Common first others layout = flat_map (λ other. comparison first other rows.Common layout.order) others
+printed_text mode.Neither first others layout = flat_map (λ other. comparison first other rows.Neither layout.order) others
+printed_text mode.Relative first others layout = relative first others layout
 
 -- what is printed of one entry or none: their listings, and in another mode nothing, since it takes two
-abbrev pub printed_alone : InfocmpMode → List Shown → Layout → Option (List ℕ)
-printed_alone mode.List entries layout = Some (listings entries layout)
-printed_alone _ entries layout = None
+abbrev pub text_alone : InfocmpMode → List Shown → Layout → Option (List ℕ)
+text_alone mode.List entries layout = Some (listings entries layout)
+text_alone _ entries layout = None
 
 -- what infocmp prints; none where a mode other than listing has fewer than two entries
 abbrev pub infocmp_result : List Shown → InfocmpOptions → Option (List ℕ)
-infocmp_result [] options = printed_alone options.mode [] options.layout
-infocmp_result (first ∷ []) options = printed_alone options.mode (first ∷ []) options.layout
-infocmp_result (first ∷ other ∷ others) options = Some (printed options.mode first (other ∷ others) options.layout)
+infocmp_result [] options = text_alone options.mode [] options.layout
+infocmp_result (first ∷ []) options = text_alone options.mode (first ∷ []) options.layout
+infocmp_result (first ∷ other ∷ others) options = Some (printed_text options.mode first (other ∷ others) options.layout)

@@ -1,6 +1,7 @@
 -- A source as the compiler takes it: its blocks, once a missing newline is put at its end, and why it is refused before
 -- any of it is compiled (the limits are own).
 use Rattle.std.specs.Prelude.{ℕ, suc, ◌+◌, ◌==◌, List, [], ◌∷◌, ◌++◌, length, Option, Some, None, nat_le, nat_lt, if◌then◌else◌}
+use Rattle.ti_text.specs.Ascii as ascii
 use Rattle.ti_text.specs.Limits.{block_bytes_max, blocks_max}
 use Rattle.ti_source.specs.Blocks.{blocks_of, front_of, last_byte}
 use Rattle.ti_source.specs.Lines.{line_count}
@@ -9,15 +10,15 @@ use Rattle.ti_devices.specs.declared.tool_error.ToolError.TheVariants.{BlockTooL
 
 -- a text with a newline at its end; an empty text has no line to end
 abbrev pub with_last_newline : List ℕ → List ℕ
-with_last_newline text = if last_byte 10 text == 10 then text else text ++ 10 ∷ []
+with_last_newline text = if last_byte ascii.newline text == ascii.newline then text else text ++ ascii.newline ∷ []
 
 -- what stands before the first block
 abbrev pub preface_of : List ℕ → List ℕ
-preface_of source = front_of 10 (with_last_newline source)
+preface_of source = front_of ascii.newline (with_last_newline source)
 
 -- the texts of the blocks
 abbrev pub texts_of : List ℕ → List (List ℕ)
-texts_of source = blocks_of 10 (with_last_newline source)
+texts_of source = blocks_of ascii.newline (with_last_newline source)
 
 -- the number of the first block's first line
 abbrev pub first_line : List ℕ → ℕ

@@ -5,9 +5,10 @@ use Rattle.ti_caps.specs.Tables.{capability_named}
 use Rattle.ti_compiled.specs.declared.fault.ReadError.{ReadError}
 use Rattle.ti_compiled.specs.declared.fault.ReadError.TheVariants.{Short, Magic, Counts, Truncated, BadNames, BadFlag, BadNumber, BadOffset}
 use Rattle.ti_devices.specs.declared.tool_error.ToolError.{ToolError}
-use Rattle.ti_devices.specs.declared.tool_error.ToolError.TheVariants.{Usage, NoTerminal, BadEntry, ReadFault, WriteFault, LineTooLong, BlockTooLong, TooManyBlocks, Memory}
-use Rattle.ti_tools.specs.declared.jobs.Job.{Job}
-use Rattle.ti_tools.specs.declared.jobs.Job.TheVariants.{Infocmp, Session, Tic, Tput}
+use Rattle.ti_devices.specs.declared.tool_error.ToolError.TheVariants.{Usage, NoTerminal, BadEntry, ReadFault, WriteFault}
+use Rattle.ti_devices.specs.declared.tool_error.ToolError.TheVariants.{LineTooLong, BlockTooLong, TooManyBlocks, Memory}
+use Rattle.ti_commands.specs.declared.jobs.Job.{Job}
+use Rattle.ti_commands.specs.declared.jobs.Job.TheVariants.{Infocmp, Session, Tic, Tput}
 
 -- ---- the exit status
 

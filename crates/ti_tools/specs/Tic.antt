@@ -32,14 +32,14 @@ compilation check dir first texts = record {
 }
 
 -- the refusal of a source, if there is one, else what comes of it
-abbrev pub unless_refused : Option ToolError → Compilation → Result Compilation ToolError
-unless_refused None made = Ok made
-unless_refused (Some error) made = Err error
+abbrev pub refusal_or : Option ToolError → Compilation → Result Compilation ToolError
+refusal_or None made = Ok made
+refusal_or (Some error) made = Err error
 
 -- what comes of a source: a refusal, or all that its blocks make
 abbrev pub tic_result : List ℕ → Bool → List ℕ → Result Compilation ToolError
 tic_result source check dir =
-    unless_refused (source_refusal source) (compilation check dir (first_line source) (texts_of source))
+    refusal_or (source_refusal source) (compilation check dir (first_line source) (texts_of source))
 
 -- an outcome that holds files and report in memory, as plain data
 abbrev pub compilation_of : TicOutcome → Compilation

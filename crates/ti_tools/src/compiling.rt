@@ -2,6 +2,7 @@
 ghost use Rattle.std.specs.Prelude.{◌≡◌, ◌+◌, ◌≤◌, ◌^◌, [], ◌∷◌, ◌++◌, IfOk, None, map};
 ghost use Rattle.std.specs.List.{list_any};
 ghost use Rattle.std.specs.String.{string_bytes};
+ghost use Rattle.ti_text.specs.Ascii as ascii;
 ghost use Rattle.ti_source.specs.Blocks.{blocks_of, front_of, last_byte};
 ghost use Rattle.ti_source.specs.Codes.{is_error};
 ghost use Rattle.ti_source.specs.Lines.{line_count};
@@ -20,7 +21,7 @@ use ti_source::blocks;
 
 // The number of the line on which the first block of a source begins.
 fn first_number(source: &[u8]) -> u64
-    ensures number { result ≡ line_count (front_of 10 source.now) + 1 }
+    ensures number { result ≡ line_count (front_of ascii.newline source.now) + 1 }
     ensures bound { result ≤ 2 ^ 63 }
 {
     lines(blocks(source).preface()) as u64 + 1
@@ -47,10 +48,10 @@ fn outcome(
     database: &Database,
     options: &TicOptions,
 ) -> Result<TicOutcome, AllocError>
-    requires ended { last_byte 10 source.now ≡ 10 }
-    requires held { database.now ≡ blocks_of 10 source.now }
+    requires ended { last_byte ascii.newline source.now ≡ ascii.newline }
+    requires held { database.now ≡ blocks_of ascii.newline source.now }
     ensures { IfOk result (λ outcome. compilation_of outcome ≡ compilation options.now.check
-        (string_bytes options.now.dir) (line_count (front_of 10 source.now) + 1) database.now) }
+        (string_bytes options.now.dir) (line_count (front_of ascii.newline source.now) + 1) database.now) }
 {
     let report = database.report(first_number(source))?;
     let faults = database.faults()?;
@@ -68,11 +69,11 @@ fn outcome(
 
 // Compiles a source whose last line has its newline.
 fn compile(alloc: Global, source: &[u8], options: &TicOptions) -> Result<TicOutcome, AllocError>
-    requires ended { last_byte 10 source.now ≡ 10 }
+    requires ended { last_byte ascii.newline source.now ≡ ascii.newline }
     requires sound { source_refusal source.now ≡ None }
     ensures { IfOk result (λ outcome. compilation_of outcome ≡ compilation options.now.check
-        (string_bytes options.now.dir) (line_count (front_of 10 source.now) + 1)
-        (blocks_of 10 source.now)) }
+        (string_bytes options.now.dir) (line_count (front_of ascii.newline source.now) + 1)
+        (blocks_of ascii.newline source.now)) }
 {
     let database = database_of(alloc, source)?;
     outcome(alloc, source, &database, options)
@@ -80,7 +81,7 @@ fn compile(alloc: Global, source: &[u8], options: &TicOptions) -> Result<TicOutc
 
 // The text with a newline after it.
 fn with_newline(alloc: Global, text: &[u8]) -> Result<Vec<u8>, AllocError>
-    ensures { IfOk result (λ ended. ended.items ≡ text.now ++ 10 ∷ []) }
+    ensures { IfOk result (λ ended. ended.items ≡ text.now ++ ascii.newline ∷ []) }
 {
     let mut ended = Vec::with_capacity(alloc, text.len() + 1)?;
     ended.extend_from_slice(text)?;

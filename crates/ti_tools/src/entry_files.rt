@@ -2,6 +2,7 @@
 ghost use Rattle.std.specs.Prelude.{◌≡◌, ◌+◌, ◌<◌, ◌++◌, ◌∷◌, [], ◌&&◌, not, All, IfOk, OnOk, length, map};
 ghost use Rattle.std.specs.Rc.{rc_slice_items};
 ghost use Rattle.std.specs.String.{string_bytes};
+ghost use Rattle.ti_text.specs.Ascii as ascii;
 ghost use Rattle.ti_source.specs.Blocks.{OneBlock, blocks_of, last_byte};
 ghost use Rattle.ti_meaning.specs.Owner.{is_among, readings};
 ghost use Rattle.ti_meaning.specs.Reaching.{is_owner};
@@ -122,8 +123,8 @@ pub fn entry_files(
     database: &Database,
     dir: &str,
 ) -> Result<Vec<File>, AllocError>
-    requires ended { last_byte 10 source.now ≡ 10 }
-    requires held { database.now ≡ blocks_of 10 source.now }
+    requires ended { last_byte ascii.newline source.now ≡ ascii.newline }
+    requires held { database.now ≡ blocks_of ascii.newline source.now }
     ensures { IfOk result (λ files. entries files.items ≡ files_of dir.now database.now) }
 {
     blocks_are_single();

@@ -1,6 +1,7 @@
 //! A database of all blocks of a source.
 ghost use Rattle.std.specs.Prelude.{◌≡◌, IfOk, None, map, true};
 ghost use Rattle.std.specs.List.{list_all};
+ghost use Rattle.ti_text.specs.Ascii as ascii;
 ghost use Rattle.ti_source.specs.Blocks.{blocks_of, last_byte};
 ghost use Rattle.ti_meaning.specs.Edits.{change_of};
 ghost use Rattle.ti_tools.specs.Insertions.{FailsByMemoryAlone, insertions_from, is_accepted};
@@ -13,7 +14,7 @@ use ti_source::{blocks, blocks_are_single, each_has_cut};
 // The edits that put the blocks of a source into a database, each at the end.
 fn insertions<'a>(alloc: Global, source: &'a [u8]) -> Result<Vec<Edit<'a>>, AllocError>
     ensures { IfOk result (λ edits. map change_of edits.items
-        ≡ insertions_from 0 (blocks_of 10 source.now)) }
+        ≡ insertions_from 0 (blocks_of ascii.newline source.now)) }
 {
     let mut edits = Vec::new(alloc);
     let mut cut = blocks(source);
@@ -38,10 +39,10 @@ fn are_accepted(outcomes: &[Outcome]) -> bool
 // Puts the blocks of a source that is not refused into a database. None of them is refused there
 // but for want of memory.
 fn insert_blocks(alloc: Global, source: &[u8]) -> Result<(Database, Vec<Outcome>), AllocError>
-    requires ended { last_byte 10 source.now ≡ 10 }
+    requires ended { last_byte ascii.newline source.now ≡ ascii.newline }
     requires sound { source_refusal source.now ≡ None }
     ensures held { IfOk result (λ made. list_all is_accepted made.1.items ≡ true
-        → made.0 ≡ blocks_of 10 source.now) }
+        → made.0 ≡ blocks_of ascii.newline source.now) }
     ensures outcomes { IfOk result (λ made. FailsByMemoryAlone made.1.items) }
 {
     each_has_cut();
@@ -56,9 +57,9 @@ fn insert_blocks(alloc: Global, source: &[u8]) -> Result<(Database, Vec<Outcome>
 /// # Errors
 /// Want of memory.
 pub fn database_of(alloc: Global, source: &[u8]) -> Result<Database, AllocError>
-    requires ended { last_byte 10 source.now ≡ 10 }
+    requires ended { last_byte ascii.newline source.now ≡ ascii.newline }
     requires sound { source_refusal source.now ≡ None }
-    ensures { IfOk result (λ database. database ≡ blocks_of 10 source.now) }
+    ensures { IfOk result (λ database. database ≡ blocks_of ascii.newline source.now) }
 {
     let (database, outcomes) = insert_blocks(alloc, source)?;
     if are_accepted(outcomes.as_slice()) {

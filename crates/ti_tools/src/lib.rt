@@ -1,40 +1,31 @@
-//! The tools over terminfo entries, over any files and streams: what a command line asks for, and
-//! what a tool makes of its input.
+//! The tools over terminfo entries, over any files and streams: what a tool makes of its input.
 //!
-//! - `arguments`: what the words of a command line ask for, as a job of `jobs`; `commands` has the
-//!   options and the help of each tool
 //! - `compiling`: what `tic` makes of a source: files, a report and a status. Before it `sources`
 //!   refuses what is over a limit, `insertions` puts the blocks into a database, and `entry_files` names
 //!   the files of the entries
 //! - `listings`: what `infocmp` prints of entries
+//! - `stopping`: how a tool that stops ends: its status, and the line on standard error
 //! - `laws`: that the listing of an entry, and its relative source, compile back to the entry
 //!
-//! The crate `ti_session` below it has the session, and `ti_devices` the counted devices, the trees of files
-//! and the errors of the tools; their calls are public here too.
+//! The crate `ti_commands` below it has the command lines and their jobs, `ti_session` the session, and
+//! `ti_devices` the counted devices, the trees of files and the errors of the tools; their calls are public
+//! here too.
 #![tactic(auto)]
 
-pub mod arguments;
-pub mod commands;
 pub mod compiling;
 mod entry_files;
-mod infocmp_words;
 mod insertions;
-pub mod jobs;
 pub mod laws;
 mod listings;
-mod matches;
 mod outcome;
-mod rules;
 mod sources;
 pub mod stopping;
 
-pub use arguments::{UsageError, job};
-pub use commands::command;
 pub use compiling::tic;
-pub use jobs::Job;
-pub use listings::{InfocmpMode, InfocmpOptions, infocmp};
+pub use listings::{InfocmpOptions, infocmp};
 pub use outcome::{TicOptions, TicOutcome};
 pub use stopping::{message, status};
+pub use ti_commands::{InfocmpMode, Job, UsageError, command, job};
 pub use ti_devices::{Counted, File, MemTree, Tally, ToolError, Tree, TreeFault, place};
 pub use ti_list::{Layout, Order};
 pub use ti_session::session;

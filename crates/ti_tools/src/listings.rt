@@ -6,24 +6,10 @@ ghost use Rattle.ti_list.specs.Relative.{relative, shown};
 ghost use Rattle.ti_tools.specs.Infocmp.{infocmp_result, listings};
 
 use std::alloc::{AllocError, Global};
+use ti_commands::InfocmpMode;
 use ti_compiled::View;
 use ti_devices::ToolError;
 use ti_list::{Layout, ListError, Mode, Order, compare, list, relative};
-
-/// What `infocmp` prints of its entries.
-#[derive(Clone, Copy, PartialEq, Eq, Debug)]
-pub enum InfocmpMode {
-    /// Each entry in turn as source text.
-    List,
-    /// Where the first differs from each of the others.
-    Differ,
-    /// What the first has in common with each of the others.
-    Common,
-    /// What neither the first nor the other has, for each of the others.
-    Neither,
-    /// The first as source text that uses the others.
-    Relative,
-}
 
 /// The options of [`infocmp`].
 #[derive(Clone, Copy, PartialEq, Eq, Debug)]

@@ -1,5 +1,6 @@
 //! Sources before they are compiled: whether they are refused.
 ghost use Rattle.std.specs.Prelude.{◌≡◌, ◌+◌, ◌==◌, ◌≤◌, length, take, MatchResult, None, Some};
+ghost use Rattle.ti_text.specs.Ascii as ascii;
 ghost use Rattle.ti_source.specs.Blocks.{last_byte};
 ghost use Rattle.ti_source.specs.Lines.{line_count};
 ghost use Rattle.ti_tools.specs.Sources.{source_refusal, with_last_newline};
@@ -10,7 +11,7 @@ use ti_text::limits::{BLOCK_BYTES_MAX, BLOCKS_MAX};
 
 /// Whether the last line of a text has its newline.
 pub fn is_ended(text: &[u8]) -> bool
-    ensures { result ≡ (last_byte 10 text.now == 10) }
+    ensures { result ≡ (last_byte ascii.newline text.now == ascii.newline) }
 {
     match text.last() {
         Some(byte) => *byte == b'\n',

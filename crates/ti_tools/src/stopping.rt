@@ -3,12 +3,13 @@ ghost use Rattle.std.specs.Prelude.{◌≡◌, [], None, Some, codes, decimal, m
 ghost use Rattle.std.specs.List.{concat};
 ghost use Rattle.ti_devices.specs.Counted.{observed};
 ghost use Rattle.ti_devices.specs.Writing.{Wrote};
-ghost use Rattle.ti_tools.specs.Stopping.{is_known, line_parts, message_parts, message_text, plain_status, plain_text, refusal_name, status_of, tool_name, tput_status};
+ghost use Rattle.ti_tools.specs.Stopping.{plain_status, status_of, tput_status};
+ghost use Rattle.ti_tools.specs.Stopping.{is_known, line_parts, message_parts, message_text, plain_text, refusal_name, tool_name};
 
-use crate::jobs::Job;
 use itoa::Buffer;
 use std::io::Write;
 use ti_caps::find;
+use ti_commands::Job;
 use ti_compiled::ReadError;
 use ti_devices::{Counted, ToolError, write_out};
 

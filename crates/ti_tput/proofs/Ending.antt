@@ -7,7 +7,7 @@ use Rattle.ti_devices.proofs.LineSteps.{AllByRecursion-push}
 use Rattle.ti_devices.proofs.Written.{Consumes-then, Gives-none, Gives-then, TakesAll-none, TakesAll-then, TakesFront-then}
 use Rattle.ti_devices.specs.Counted.{Observed}
 use Rattle.ti_devices.specs.LineReader
-use Rattle.ti_devices.specs.LineReader.{ReadsLine, SpendsReads, ahead_of, limit_of, line_of, reads_left_of, reads_max}
+use Rattle.ti_devices.specs.LineReader.{CannotReadOn, ReadsLine, SpendsReads, ahead_of, limit_of, line_of, reads_left_of, reads_max}
 use Rattle.ti_devices.specs.Lines.{IsOneLine, with_last, with_newline}
 use Rattle.ti_devices.specs.Reading.{Gives}
 use Rattle.ti_devices.specs.Writing.{TakesAll, TakesFront}
@@ -17,7 +17,7 @@ use Rattle.ti_devices.specs.declared.tool_error.ToolError.{ToolError}
 use Rattle.ti_devices.specs.declared.tool_error.ToolError.TheVariants.{Usage, NoTerminal, BadEntry, ReadFault, WriteFault, LineTooLong, BlockTooLong, TooManyBlocks, Memory}
 use Rattle.ti_tput.specs.Entries.{Entry}
 use Rattle.ti_tput.specs.Runs.{Course, Step, line_step, run_status, start, steps, tput_run}
-use Rattle.ti_tput.specs.Streaming.{CannotRead, Ends, HasLines, IsShortLine, line_max}
+use Rattle.ti_tput.specs.Streaming.{Ends, HasLines, IsShortLine, line_max}
 use Rattle.ti_tput.specs.Terminal.{Holds, Took}
 use Rattle.ti_tput.specs.declared.terminal.Terminal.{Terminal}
 
@@ -198,7 +198,7 @@ module _ (entry : Entry) (rate : ℕ) where
           written = subst (λ (w : Observed). TakesAll before w (written_by p.lines)) (sym took) p.written;
         }
 
-      cannot : LineReader.CannotRead next left later → SpendsReads reading next left later → CannotRead given later
+      cannot : LineReader.CannotRead next left later → SpendsReads reading next left later → CannotReadOn given later
       cannot (inl failed) s = inl (failed ∙ ap (λ (n : ℕ). n + 1) p.gives.failures)
       cannot (inr used) s =
           let spends : reads_left_of next + later.reads ≡ reads_max + given.reads = spent next later s in

@@ -12,7 +12,7 @@ use Rattle.std.proofs.lemmas.Fmt.{IsAscii-from_digits}
 use Rattle.std.proofs.lemmas.Str.{IsUtf8-from_ascii}
 use Rattle.std.proofs.lemmas.Str.Ascii.{IsAscii-cons}
 use Rattle.std.proofs.lemmas.Str.Parse.{IsNumeralModel, numerals_by_value, tells_all_ascii_digits, parse_signed_plain, parse_signed_minus}
-use Rattle.ti_tput.specs.Parameters.{is_numeral, negative, positive, spelled}
+use Rattle.ti_tput.specs.Parameters.{is_numeral, negative_number, positive_number, word_number}
 
 own : IsNumeralModel (λ ds. all_ascii_digits ds ≡ true) (digits_value 10)
 own = numerals_by_value _ tells_all_ascii_digits
@@ -36,12 +36,12 @@ Decides-leb : (a b : ℕ) → Decides (leb a b) (a ≤ b)
 Decides-leb a b = (search rules, search rules)
 
 pub spelled-parse : {E : Type 0} (word : List ℕ) (r : Result ℤ E) → ParsesSigned w32 10 word r → get_or word 0 0 ≢ 43
-    → result_ok r ≡ spelled word
-unfolding spelled
+    → result_ok r ≡ word_number word
+unfolding word_number
 spelled-parse [] (Ok x) h plus = absurd (omega (arith, h.0.0))
 spelled-parse [] (Err e) h plus = refl
 spelled-parse (byte ∷ rest) r h plus =
-    elim (eqb byte 45) as (λ b. eqb byte 45 ≡ b → result_ok r ≡ cond b (negative rest) (positive (byte ∷ rest))) [
+    elim (eqb byte 45) as (λ b. eqb byte 45 ≡ b → result_ok r ≡ cond b (negative_number rest) (positive_number (byte ∷ rest))) [
       | true ↦ λ e. ok_when r _ _ _ (fits rest _ _ (Decides-leb (digits_value 10 rest) (2 ^ 31))) (parse_signed_minus own w32 (byte ∷ rest) r h (eqb-true _ _ e))
       | false ↦ λ e. ok_when r _ _ _ (fits (byte ∷ rest) _ _ (Decides-ltb (digits_value 10 (byte ∷ rest)) (2 ^ 31))) (parse_signed_plain own w32 (byte ∷ rest) r h plus (eqb-false _ _ e))
     ] refl
@@ -64,20 +64,20 @@ digits-of ds b e = second-true (ltb 0 (length ds)) (all_ascii_digits ds) (first-
 ascii-of : (ds : List ℕ) → all_ascii_digits ds ≡ true → IsAscii ds
 ascii-of ds e = IsAscii-from_digits ds (own.to ds e)
 
-pub spelled-plus : (word : List ℕ) → get_or word 0 0 ≡ 43 → spelled word ≡ None
-unfolding spelled
+pub spelled-plus : (word : List ℕ) → get_or word 0 0 ≡ 43 → word_number word ≡ None
+unfolding word_number
 spelled-plus [] e = refl
 spelled-plus (byte ∷ rest) e =
-    let P : ℕ → Type 0 = λ b. cond (eqb b 45) (negative rest) (positive (b ∷ rest)) ≡ None in
+    let P : ℕ → Type 0 = λ b. cond (eqb b 45) (negative_number rest) (positive_number (b ∷ rest)) ≡ None in
     subst P (sym e)
     (none_by (is_numeral (43 ∷ rest) && ltb (digits_value 10 (43 ∷ rest)) (2 ^ 31)) (Some (pos (digits_value 10 (43 ∷ rest))))
     (λ t. true≢false (sym (digits-of (43 ∷ rest) (ltb (digits_value 10 (43 ∷ rest)) (2 ^ 31)) t))))
 
-pub spelled-not_text : (word : List ℕ) → ¬ IsUtf8 word → spelled word ≡ None
-unfolding spelled
+pub spelled-not_text : (word : List ℕ) → ¬ IsUtf8 word → word_number word ≡ None
+unfolding word_number
 spelled-not_text [] bad = refl
 spelled-not_text (byte ∷ rest) bad =
-    elim (eqb byte 45) as (λ b. eqb byte 45 ≡ b → cond b (negative rest) (positive (byte ∷ rest)) ≡ None) [
+    elim (eqb byte 45) as (λ b. eqb byte 45 ≡ b → cond b (negative_number rest) (positive_number (byte ∷ rest)) ≡ None) [
       | true ↦ λ e. none_by (is_numeral rest && leb (digits_value 10 rest) (2 ^ 31)) (Some (neg_ℤ (pos (digits_value 10 rest))))
           (λ t. let is : byte ≡ 45 = eqb-true _ _ e in
           bad (IsUtf8-from_ascii (byte ∷ rest) (IsAscii-cons byte rest (omega arith) (ascii-of rest (digits-of rest _ t)))))

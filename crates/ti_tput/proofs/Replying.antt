@@ -7,28 +7,28 @@ use Rattle.ti_param.specs.Expansion.{Expansion, expanded, bad_format, stack_full
 use Rattle.ti_printing.specs.declared.padding.Line.{Line}
 use Rattle.ti_tput.specs.Entries.{Entry, Holding, flag_held, number_held, text_held, holding_of, line_of}
 use Rattle.ti_tput.specs.Parameters.{parameters}
-use Rattle.ti_tput.specs.Results.{Reply, holding_reply, init_strings, named_reply, padded_all, padded_once, reset_strings, sent, sent_expansion, string_reply, tput_result}
-use Rattle.ti_tput.specs.Runs.{Course, bad_step, command_step, line_step, replied, words_of}
+use Rattle.ti_tput.specs.Results.{Reply, holding_reply, init_strings, named_reply, padded_texts, padded_text, reset_strings, sent_reply, expansion_reply, string_reply, tput_result}
+use Rattle.ti_tput.specs.Runs.{Course, bad_step, command_step, line_step, reply_step, words_of}
 
 -- a reply of status 4 writes nothing and leaves the variables
 Leaves : Reply → List ℤ → Type 0
 Leaves r statics = r.status ≡ 4 → (r.bytes ≡ []) × (r.statics ≡ statics)
 
-sent-leaves : (made : Option (List ℕ)) (before after : List ℤ) → (sent made before after).status ≡ 4
-    → ((sent made before after).bytes ≡ []) × ((sent made before after).statics ≡ before)
+sent-leaves : (made : Option (List ℕ)) (before after : List ℤ) → (sent_reply made before after).status ≡ 4
+    → ((sent_reply made before after).bytes ≡ []) × ((sent_reply made before after).statics ≡ before)
 sent-leaves None before after four = (refl, refl)
 sent-leaves (Some bytes) before after four = absurd (omega arith)
 
-expansion-leaves : (line : Line) (before : List ℤ) (e : Expansion) → (sent_expansion line before e).status ≡ 4
-    → ((sent_expansion line before e).bytes ≡ []) × ((sent_expansion line before e).statics ≡ before)
-expansion-leaves line before (expanded output after) four = sent-leaves (padded_once line output) before after four
+expansion-leaves : (line : Line) (before : List ℤ) (e : Expansion) → (expansion_reply line before e).status ≡ 4
+    → ((expansion_reply line before e).bytes ≡ []) × ((expansion_reply line before e).statics ≡ before)
+expansion-leaves line before (expanded output after) four = sent-leaves (padded_text line output) before after four
 expansion-leaves line before (bad_format place) four = (refl, refl)
 expansion-leaves line before (stack_full place) four = (refl, refl)
 
 string-leaves : (line : Line) (cap : List ℕ) (words : List (List ℕ)) (statics : List ℤ) (text : List ℕ)
     → (string_reply line cap words statics text).status ≡ 4
     → ((string_reply line cap words statics text).bytes ≡ []) × ((string_reply line cap words statics text).statics ≡ statics)
-string-leaves line cap [] statics text four = sent-leaves (padded_once line text) statics statics four
+string-leaves line cap [] statics text four = sent-leaves (padded_text line text) statics statics four
 string-leaves line cap (word ∷ words) statics text four =
     expansion-leaves line statics (expansion text (parameters cap (word ∷ words)) statics) four
 
@@ -53,8 +53,8 @@ named-leaves : (entry : Entry) (rate : ℕ) (cap : List ℕ) (words : List (List
     → ((named_reply entry rate cap words statics).bytes ≡ []) × ((named_reply entry rate cap words statics).statics ≡ statics)
 named-leaves entry rate cap words statics =
     either-leaves (bytes_eq cap (codes "longname")) _ _ statics (λ four. absurd (omega arith))
-    (either-leaves (bytes_eq cap (codes "init")) _ _ statics (sent-leaves (padded_all (line_of entry rate) (init_strings entry)) statics statics)
-    (either-leaves (bytes_eq cap (codes "reset")) _ _ statics (sent-leaves (padded_all (line_of entry rate) (reset_strings entry)) statics statics)
+    (either-leaves (bytes_eq cap (codes "init")) _ _ statics (sent-leaves (padded_texts (line_of entry rate) (init_strings entry)) statics statics)
+    (either-leaves (bytes_eq cap (codes "reset")) _ _ statics (sent-leaves (padded_texts (line_of entry rate) (reset_strings entry)) statics statics)
     (holding-leaves (line_of entry rate) cap words statics (holding_of entry cap))))
 
 if_not : {X : Type 0} (b : Bool) (x y : X) → cond b None (Some x) ≡ Some y → (b ≡ false) × (x ≡ y)
@@ -95,7 +95,7 @@ nothing-front [] n e = refl
 nothing-front (word ∷ words) n e = absurd (cc)
 
 some-step : (entry : Entry) (rate : ℕ) (course : Course) (words : List (List ℕ)) → 0 < length words
-    → command_step entry rate course words ≡ replied course (tput_result entry words rate course.statics)
+    → command_step entry rate course words ≡ reply_step course (tput_result entry words rate course.statics)
 some-step entry rate course [] some = absurd (omega arith)
 some-step entry rate course (word ∷ words) some = refl
 
@@ -105,22 +105,22 @@ module _ (entry : Entry) (rate : ℕ) (course : Course) (line : List ℕ) (words
       let empty : words ≡ [] = nil_from_length words none in
       rw (nothing-front (words_of line) 10 (sym front ∙ empty)) refl
 
-  step-replied : 0 < length words → line_step entry rate course line ≡ replied course (tput_result entry words rate course.statics)
+  step-replied : 0 < length words → line_step entry rate course line ≡ reply_step course (tput_result entry words rate course.statics)
   step-replied some =
       let len : length words ≡ length (take 11 (words_of line)) = ap length front in
       let more : 0 < length (words_of line) = omega (arith, length-take 11 (words_of line)) in
       some-step entry rate course (words_of line) more
-      ∙ ap (replied course) (sym (ap (λ (w : List (List ℕ)). tput_result entry w rate course.statics) front ∙ tput_result-front entry (words_of line) rate course.statics))
+      ∙ ap (reply_step course) (sym (ap (λ (w : List (List ℕ)). tput_result entry w rate course.statics) front ∙ tput_result-front entry (words_of line) rate course.statics))
 
   pub step-usage : 0 < length words → tput_result entry words rate course.statics ≡ None → line_step entry rate course line ≡ bad_step course
-  step-usage some none = step-replied some ∙ ap (replied course) none
+  step-usage some none = step-replied some ∙ ap (reply_step course) none
 
   pub step-good : 0 < length words → (r : Reply) → tput_result entry words rate course.statics ≡ Some r → r.status ≢ 4
       → line_step entry rate course line ≡ record { after = record { bad = course.bad; statics = r.statics }; bytes = r.bytes }
-  step-good some r is other = step-replied some ∙ ap (replied course) is ∙ rw (ne_eqb r.status 4 other) refl
+  step-good some r is other = step-replied some ∙ ap (reply_step course) is ∙ rw (ne_eqb r.status 4 other) refl
 
   pub step-bad : 0 < length words → (r : Reply) → tput_result entry words rate course.statics ≡ Some r → r.status ≡ 4
       → (line_step entry rate course line ≡ bad_step course) × (r.bytes ≡ []) × (r.statics ≡ course.statics)
   step-bad some r is four =
       let left = bad-leaves entry words rate course.statics r is four in
-      (step-replied some ∙ ap (replied course) is ∙ rw four refl, left.0, left.1)
+      (step-replied some ∙ ap (reply_step course) is ∙ rw four refl, left.0, left.1)

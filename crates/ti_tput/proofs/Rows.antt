@@ -7,39 +7,39 @@ use Rattle.ti_caps.specs.Tables.{capability, capability_named, names}
 use Rattle.ti_compiled.specs.Values.{contents, content_true, content_number, content_text}
 use Rattle.ti_param.specs.Meaning.{number, text}
 use Rattle.ti_tput.specs.Entries.{Entry, holding_of}
-use Rattle.ti_tput.specs.Parameters.{spelled, parameters}
+use Rattle.ti_tput.specs.Parameters.{word_number, parameters}
 use Rattle.ti_tput.specs.Results.{tput_result, reply}
 
-pub row-number : spelled (codes "23") ≡ Some (pos 23)
-unfolding spelled
+pub row-number : word_number (codes "23") ≡ Some (pos 23)
+unfolding word_number
 row-number = refl
 
-row-minus : spelled (codes "-0") ≡ Some (pos 0)
-unfolding spelled
+row-minus : word_number (codes "-0") ≡ Some (pos 0)
+unfolding word_number
 row-minus = refl
 
-row-zeros : spelled (codes "007") ≡ Some (pos 7)
-unfolding spelled
+row-zeros : word_number (codes "007") ≡ Some (pos 7)
+unfolding word_number
 row-zeros = refl
 
-row-least : spelled (codes "-2147483648") ≡ Some (neg_ℤ (pos 2147483648))
-unfolding spelled
+row-least : word_number (codes "-2147483648") ≡ Some (neg_ℤ (pos 2147483648))
+unfolding word_number
 row-least = refl
 
-row-over : spelled (codes "2147483648") ≡ None
-unfolding spelled
+row-over : word_number (codes "2147483648") ≡ None
+unfolding word_number
 row-over = refl
 
-row-plus : spelled (codes "+5") ≡ None
-unfolding spelled
+row-plus : word_number (codes "+5") ≡ None
+unfolding word_number
 row-plus = refl
 
-row-sign : spelled (codes "-") ≡ None
-unfolding spelled
+row-sign : word_number (codes "-") ≡ None
+unfolding word_number
 row-sign = refl
 
 row-pfkey : parameters (codes "pfkey") (codes "1" ∷ codes "23" ∷ []) ≡ number (pos 1) ∷ text (codes "23") ∷ replicate 7 (number (pos 0))
-unfolding parameters spelled
+unfolding parameters word_number
 row-pfkey = refl
 
 -- an entry of the example's kind: am, cols#80, bel=^G

@@ -1,7 +1,9 @@
 -- What `tput` answers to a command (tput(1)): bytes, exit status and static variables.
-use Rattle.std.specs.Prelude.{ℕ, ◌||◌, nat_lt, ◌==◌, Bool, false, if◌then◌else◌, List, [], ◌∷◌, ◌++◌, length, codes, bytes_eq, Option, Some, None, is_some, ℤ}
+use Rattle.std.specs.Prelude.{ℕ, ◌||◌, nat_lt, ◌==◌, Bool, false, if◌then◌else◌, Option, Some, None, is_some, ℤ}
+use Rattle.std.specs.Prelude.{List, [], ◌∷◌, ◌++◌, length, codes, bytes_eq}
 use Rattle.std.specs.Fmt.{decimal}
 use Rattle.std.specs.List.{after_last}
+use Rattle.ti_text.specs.Ascii as ascii
 use Rattle.ti_param.specs.Expansion.{Expansion, expanded, bad_format, stack_full, expansion}
 use Rattle.ti_printing.specs.declared.padding.Line.{Line}
 use Rattle.ti_printing.specs.Padding.{padded, padding_of}
@@ -21,25 +23,25 @@ reply bytes status statics = record { bytes = bytes; status = status; statics = 
 -- ---- strings
 
 -- a string padded for one line; None where that is too much padding
-abbrev pub padded_once : Line → List ℕ → Option (List ℕ)
-padded_once line text = if nat_lt 65536 (padding_of text 1 line) then None else Some (padded text 1 line)
+abbrev pub padded_text : Line → List ℕ → Option (List ℕ)
+padded_text line text = if nat_lt 65536 (padding_of text 1 line) then None else Some (padded text 1 line)
 
 -- A string that was padded is written, and the variables are then those after it. One with too much padding is refused: nothing
 -- is written, status 4, and the variables are as before.
-abbrev pub sent : Option (List ℕ) → (before after : List ℤ) → Reply
-sent None before after = reply [] 4 before
-sent (Some bytes) before after = reply bytes 0 after
+abbrev pub sent_reply : Option (List ℕ) → (before after : List ℤ) → Reply
+sent_reply None before after = reply [] 4 before
+sent_reply (Some bytes) before after = reply bytes 0 after
 
 -- the string that an expansion gives; a fault of the format is refused alike
-abbrev pub sent_expansion : Line → List ℤ → Expansion → Reply
-sent_expansion line before (expanded output after) = sent (padded_once line output) before after
-sent_expansion line before (bad_format place) = reply [] 4 before
-sent_expansion line before (stack_full place) = reply [] 4 before
+abbrev pub expansion_reply : Line → List ℤ → Expansion → Reply
+expansion_reply line before (expanded output after) = sent_reply (padded_text line output) before after
+expansion_reply line before (bad_format place) = reply [] 4 before
+expansion_reply line before (stack_full place) = reply [] 4 before
 
 -- a string as it stands where there is no word, else expanded with the words
 abbrev pub string_reply : Line → List ℕ → List (List ℕ) → List ℤ → List ℕ → Reply
-string_reply line cap [] statics text = sent (padded_once line text) statics statics
-string_reply line cap (word ∷ words) statics text = sent_expansion line statics (expansion text (parameters cap (word ∷ words)) statics)
+string_reply line cap [] statics text = sent_reply (padded_text line text) statics statics
+string_reply line cap (word ∷ words) statics text = expansion_reply line statics (expansion text (parameters cap (word ∷ words)) statics)
 
 -- one text after another, where both are there
 abbrev pub both : Option (List ℕ) → Option (List ℕ) → Option (List ℕ)
@@ -48,18 +50,20 @@ both (Some front) None = None
 both None back = None
 
 -- those of the strings that are present, each padded for itself, in order; None where one has too much padding
-abbrev pub padded_all : Line → List (Option (List ℕ)) → Option (List ℕ)
-padded_all line [] = Some []
-padded_all line (None ∷ texts) = padded_all line texts
-padded_all line (Some text ∷ texts) = both (padded_once line text) (padded_all line texts)
+abbrev pub padded_texts : Line → List (Option (List ℕ)) → Option (List ℕ)
+padded_texts line [] = Some []
+padded_texts line (None ∷ texts) = padded_texts line texts
+padded_texts line (Some text ∷ texts) = both (padded_text line text) (padded_texts line texts)
 
 -- the strings that initialize a terminal
 abbrev pub init_strings : Entry → List (Option (List ℕ))
-init_strings entry = text_value (holding_of entry (codes "is1")) ∷ text_value (holding_of entry (codes "is2")) ∷ text_value (holding_of entry (codes "is3")) ∷ []
+init_strings entry =
+    text_value (holding_of entry (codes "is1")) ∷ text_value (holding_of entry (codes "is2")) ∷ text_value (holding_of entry (codes "is3")) ∷ []
 
 -- the strings that reset it
 abbrev pub own_reset_strings : Entry → List (Option (List ℕ))
-own_reset_strings entry = text_value (holding_of entry (codes "rs1")) ∷ text_value (holding_of entry (codes "rs2")) ∷ text_value (holding_of entry (codes "rs3")) ∷ []
+own_reset_strings entry =
+    text_value (holding_of entry (codes "rs1")) ∷ text_value (holding_of entry (codes "rs2")) ∷ text_value (holding_of entry (codes "rs3")) ∷ []
 
 -- whether one of the strings is present
 abbrev pub some_present : List (Option (List ℕ)) → Bool
@@ -74,12 +78,12 @@ reset_strings entry = if some_present (own_reset_strings entry) then own_reset_s
 
 -- the description of the terminal: the names field after its last `|`, the whole of it where there is none
 abbrev pub long_name : List ℕ → List ℕ
-long_name names = after_last (λ byte. byte == 124) names
+long_name names = after_last (λ byte. byte == ascii.bar) names
 
 -- a number, or -1 where it is absent, and a newline
 abbrev pub number_text : Option ℕ → List ℕ
-number_text None = codes "-1" ++ 10 ∷ []
-number_text (Some n) = decimal n ++ 10 ∷ []
+number_text None = codes "-1" ++ ascii.newline ∷ []
+number_text (Some n) = decimal n ++ ascii.newline ∷ []
 
 -- what is answered of a capability: nothing is written of a flag or of a string that is absent, and the status is then 1
 abbrev pub holding_reply : Line → List ℕ → List (List ℕ) → List ℤ → Option Holding → Reply
@@ -93,8 +97,8 @@ holding_reply line cap words statics (Some (text_held (Some text))) = string_rep
 abbrev pub named_reply : Entry → ℕ → List ℕ → List (List ℕ) → List ℤ → Reply
 named_reply entry rate cap words statics =
     if bytes_eq cap (codes "longname") then reply (long_name entry.names) 0 statics
-    else if bytes_eq cap (codes "init") then sent (padded_all (line_of entry rate) (init_strings entry)) statics statics
-    else if bytes_eq cap (codes "reset") then sent (padded_all (line_of entry rate) (reset_strings entry)) statics statics
+    else if bytes_eq cap (codes "init") then sent_reply (padded_texts (line_of entry rate) (init_strings entry)) statics statics
+    else if bytes_eq cap (codes "reset") then sent_reply (padded_texts (line_of entry rate) (reset_strings entry)) statics statics
     else holding_reply (line_of entry rate) cap words statics (holding_of entry cap)
 
 -- What a command answers; None is bad usage: no word, or more than nine parameters.

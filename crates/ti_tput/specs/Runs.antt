@@ -1,6 +1,8 @@
 -- What `tput -S` answers to the lines of its input (tput(1); the count of bad lines and the status are own).
-use Rattle.std.specs.Prelude.{◌≡◌, ℕ, zero, suc, ◌+◌, ◌||◌, ◌==◌, nat_lt, min, Bool, if◌then◌else◌, List, [], ◌∷◌, ◌++◌, length, filter, replicate, Option, Some, None, ℤ, pos}
+use Rattle.std.specs.Prelude.{◌≡◌, ℕ, zero, suc, ◌+◌, ◌||◌, ◌==◌, nat_lt, min, Bool, if◌then◌else◌, Option, Some, None, ℤ, pos}
+use Rattle.std.specs.Prelude.{List, [], ◌∷◌, ◌++◌, length, filter, replicate}
 use Rattle.std.specs.List.{slice_split}
+use Rattle.ti_text.specs.Ascii as ascii
 use Rattle.ti_tput.specs.Entries.{Entry}
 use Rattle.ti_tput.specs.Results.{Reply, tput_result}
 
@@ -8,7 +10,7 @@ use Rattle.ti_tput.specs.Results.{Reply, tput_result}
 
 -- white space is a space or a tab
 abbrev pub is_white : ℕ → Bool
-is_white byte = byte == 32 || byte == 9
+is_white byte = byte == ascii.space || byte == ascii.tab
 
 -- a word has a byte
 abbrev pub has_bytes : List ℕ → Bool
@@ -35,16 +37,16 @@ abbrev pub bad_step : Course → Step
 bad_step course = record { after = record { bad = suc course.bad; statics = course.statics }; bytes = [] }
 
 -- a line is bad where it would end with status 2 or 4
-abbrev pub replied : Course → Option Reply → Step
-replied course None = bad_step course
-replied course (Some reply) =
+abbrev pub reply_step : Course → Option Reply → Step
+reply_step course None = bad_step course
+reply_step course (Some reply) =
     if reply.status == 4 then bad_step course
     else record { after = record { bad = course.bad; statics = reply.statics }; bytes = reply.bytes }
 
 -- a line without words does nothing
 abbrev pub command_step : Entry → ℕ → Course → List (List ℕ) → Step
 command_step entry rate course [] = record { after = course; bytes = [] }
-command_step entry rate course (word ∷ words) = replied course (tput_result entry (word ∷ words) rate course.statics)
+command_step entry rate course (word ∷ words) = reply_step course (tput_result entry (word ∷ words) rate course.statics)
 
 -- what comes of a line
 abbrev pub line_step : Entry → ℕ → Course → List ℕ → Step

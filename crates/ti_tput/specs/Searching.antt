@@ -1,7 +1,9 @@
 -- Where the entry of a terminal is looked for, and what its file says (term(5), "Storage location"; tput(1)).
-use Rattle.std.specs.Prelude.{◌≡◌, ℕ, suc, ◌≤◌, ◌<◌, ◌==◌, true, false, if◌then◌else◌, List, [], ◌∷◌, ◌++◌, length, map, take, codes, Option, Some, None, option_map, Result, Ok, Err, ◌⊎◌}
+use Rattle.std.specs.Prelude.{◌≡◌, ◌⊎◌, ℕ, suc, ◌≤◌, ◌<◌, ◌==◌, true, false, if◌then◌else◌, Option, Some, None, option_map, Result, Ok, Err}
+use Rattle.std.specs.Prelude.{List, [], ◌∷◌, ◌++◌, length, map, take, codes}
 use Rattle.std.specs.List.{slice_split}
 use Rattle.std.specs.Global.{Vec}
+use Rattle.ti_text.specs.Ascii as ascii
 use Rattle.ti_compiled.specs.Reading.{Reads, Refused}
 use Rattle.ti_compiled.specs.Shown.{names_of, held}
 use Rattle.ti_compiled.specs.Values.{Contents}
@@ -33,7 +35,7 @@ place_of_part part = if length part == 0 then system_place else part
 -- the places that TERMINFO_DIRS names, where it is set: its parts between colons
 abbrev pub listed_places : Option (List ℕ) → List (List ℕ)
 listed_places None = []
-listed_places (Some dirs) = map place_of_part (slice_split (λ byte. byte == 58) dirs)
+listed_places (Some dirs) = map place_of_part (slice_split (λ byte. byte == ascii.colon) dirs)
 
 -- the places at which an entry is looked for, in their order
 unfoldable pub places_of : Option (List ℕ) → Option (List ℕ) → List (List ℕ)
@@ -71,7 +73,8 @@ Locates count files name places (Err _) = ⊥
 abbrev pub IsTooLong : ℕ → List ℕ → ReadError → Type 0
 IsTooLong limit bytes error =
     (limit < length bytes)
-    × (Refused (take (suc limit) bytes) error ⊎ ((error ≡ Counts) × (names : List ℕ) × (contents : Contents) × Reads (take (suc limit) bytes) names contents))
+    × (Refused (take (suc limit) bytes) error
+    ⊎ ((error ≡ Counts) × (names : List ℕ) × (contents : Contents) × Reads (take (suc limit) bytes) names contents))
 
 -- the entry that bytes within the limit read as, or their refusal
 abbrev pub Opens : ℕ → List ℕ → Result View ToolError → Type 0

@@ -3,7 +3,7 @@ use Rattle.std.specs.Prelude.{◌≡◌, ℕ, ◌+◌, ◌<◌, List, [], ◌++�
 use Rattle.std.specs.List.{AllByRecursion}
 use Rattle.std.specs.Io.KnownBytes.{Consumes, IsAtEnd}
 use Rattle.ti_devices.specs.Counted.{Observed}
-use Rattle.ti_devices.specs.LineReader.{reads_max}
+use Rattle.ti_devices.specs.LineReader.{CannotReadOn}
 use Rattle.ti_devices.specs.Lines.{IsWithin, Splits, with_last}
 use Rattle.ti_devices.specs.Reading.{Gives}
 use Rattle.ti_devices.specs.Writing.{TakesAll, TakesFront}
@@ -37,11 +37,6 @@ pub record Completes (entry : Entry) (rate : ℕ) (given left before now : Obser
   pub written : TakesAll before now (tput_run entry rate (with_last lines line)).bytes
   pub ends_with : status ≡ (tput_run entry rate (with_last lines line)).status
 
--- the reader failed, once, or it did not and has been read from as often as it may be
-abbrev pub CannotRead : Observed → Observed → Type 0
-CannotRead given left =
-    (left.failures ≡ given.failures + 1) ⊎ ((left.failures ≡ given.failures) × (left.reads ≡ given.reads + reads_max))
-
 -- no more can be read: what the complete lines write was written
 pub record StopsReading (entry : Entry) (rate : ℕ) (given left before now : Observed) : Type 0 where
   pub taken : List ℕ
@@ -51,7 +46,7 @@ pub record StopsReading (entry : Entry) (rate : ℕ) (given left before now : Ob
   pub has_lines : HasLines taken lines line
   pub short : IsShortLine line
   pub written : TakesAll before now (tput_run entry rate lines).bytes
-  pub cause : CannotRead given left
+  pub cause : CannotReadOn given left
 
 -- a line that has begun is over the limit: what the lines before it write was written, and some bytes more were read
 pub record FindsLongLine (entry : Entry) (rate : ℕ) (given left before now : Observed) : Type 0 where

@@ -1,14 +1,14 @@
 //! The words of a command as the parameters of a string.
 ghost use Rattle.std.specs.Prelude.{◌≡◌, map};
 ghost use Rattle.ti_param.specs.Meaning.{argument_of};
-ghost use Rattle.ti_tput.specs.Parameters.{is_text_place, parameter_at, parameters, spelled};
+ghost use Rattle.ti_tput.specs.Parameters.{is_text_place, parameter_at, parameters, word_number};
 
 use std::str::from_utf8;
 use ti_param::Value;
 
 /// The number that a word spells: an optional `-` and decimal digits, from -2,147,483,648 to 2,147,483,647.
 fn spelled_number(word: &[u8]) -> Option<i32>
-    ensures { result ≡ spelled word.now }
+    ensures { result ≡ word_number word.now }
 {
     if let [b'+', ..] = word {
         return None;

@@ -2,7 +2,8 @@
 ghost use Rattle.std.specs.Prelude.{◌≡◌, ℕ, ℤ, List, [], IfOk, OnErr, length, map, option_map};
 ghost use Rattle.std.specs.List.{after_last};
 ghost use Rattle.ti_tput.specs.Entries.{entry_of, holding_of, line_of, meaning_of};
-ghost use Rattle.ti_tput.specs.Results.{holding_reply, init_strings, long_name, named_reply, number_text, padded_all, padded_once, reply, reset_strings, sent, string_reply};
+ghost use Rattle.ti_tput.specs.Results.{holding_reply, init_strings, long_name, named_reply, number_text};
+ghost use Rattle.ti_tput.specs.Results.{padded_texts, padded_text, reply, reset_strings, sent_reply, string_reply};
 ghost use Rattle.ti_tput.specs.Replies.{items_of, reply_of, texts_of};
 
 use crate::entries::{CapabilityValue, terminal_line, text, value_of};
@@ -26,7 +27,7 @@ pub struct TputOutcome {
 
 // A string padded for one line; `None` where that is too much padding.
 fn padded_once(alloc: Global, text: &[u8], line: &Line) -> Result<Option<Vec<u8>>, AllocError>
-    ensures { IfOk result (λ found. items_of found ≡ padded_once line.now text.now) }
+    ensures { IfOk result (λ found. items_of found ≡ padded_text line.now text.now) }
 {
     match pad(alloc, text, 1, line) {
         Ok(bytes) => Ok(Some(bytes)),
@@ -37,7 +38,7 @@ fn padded_once(alloc: Global, text: &[u8], line: &Line) -> Result<Option<Vec<u8>
 
 // The same of a string that an expansion made.
 fn padded_output(alloc: Global, output: Vec<u8>, line: &Line) -> Result<Option<Vec<u8>>, AllocError>
-    ensures { IfOk result (λ found. items_of found ≡ padded_once line.now output.items) }
+    ensures { IfOk result (λ found. items_of found ≡ padded_text line.now output.items) }
 {
     match pad_owned(alloc, output, 1, line) {
         Ok(bytes) => Ok(Some(bytes)),
@@ -52,7 +53,7 @@ fn padded_all(
     texts: &[Option<&[u8]>],
     line: &Line,
 ) -> Result<Option<Vec<u8>>, AllocError>
-    ensures { IfOk result (λ found. items_of found ≡ padded_all line.now (texts_of texts.now)) }
+    ensures { IfOk result (λ found. items_of found ≡ padded_texts line.now (texts_of texts.now)) }
 {
     let mut bytes = Vec::new(alloc);
     for text in texts {
@@ -75,7 +76,7 @@ fn string(
     line: &Line,
     statics: &mut Statics,
 ) -> Result<Option<Vec<u8>>, AllocError>
-    ensures string { IfOk result (λ found. sent (items_of found) statics.new statics.new
+    ensures string { IfOk result (λ found. sent_reply (items_of found) statics.new statics.new
         ≡ string_reply line.now cap.now (map (λ word. word.now) words.now) statics.old text.now) }
     ensures err { OnErr result (statics.new ≡ statics.old) }
 {
@@ -98,7 +99,7 @@ fn string(
 
 // A string that was made is written; else nothing is, and the status is 4.
 fn outcome_of(alloc: Global, made: Option<Vec<u8>>) -> TputOutcome
-    ensures { (statics : List ℤ) → reply_of result statics ≡ sent (items_of made) statics statics }
+    ensures { (statics : List ℤ) → reply_of result statics ≡ sent_reply (items_of made) statics statics }
 {
     match made {
         Some(bytes) => TputOutcome { bytes, status: 0 },
@@ -174,7 +175,7 @@ fn answer_strings(
     texts: &[Option<&[u8]>],
     line: &Line,
 ) -> Result<TputOutcome, AllocError>
-    ensures { (statics : List ℤ) → IfOk result (λ outcome. reply_of outcome statics ≡ sent (padded_all line.now (texts_of texts.now)) statics statics) }
+    ensures { (statics : List ℤ) → IfOk result (λ outcome. reply_of outcome statics ≡ sent_reply (padded_texts line.now (texts_of texts.now)) statics statics) }
 {
     let made = padded_all(alloc, texts, line)?;
     Ok(outcome_of(alloc, made))

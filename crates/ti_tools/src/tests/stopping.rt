@@ -1,43 +1,22 @@
-//! Worked ends of tools, and the command lines of `tput`.
-use super::words;
-use crate::{Counted, Job, ToolError, UsageError, job, message, status};
-use std::alloc::{AllocError, Global};
+//! Worked ends of tools.
+use crate::{Counted, Job, ToolError, message, status};
+use std::alloc::Global;
 use std::test::Fail;
 use ti_compiled::ReadError;
 
 // A job of `tput`.
-fn tput_job(alloc: Global) -> Result<Job, AllocError> {
-    Ok(Job::Tput {
+fn tput_job(alloc: Global) -> Job {
+    Job::Tput {
         lines: false,
         term: None,
         rate: 9600,
-        words: words(alloc, &["cup", "4", "9"])?,
-    })
-}
-
-#[test]
-fn the_words_of_tput(rt: HostRuntime) -> Result<(), Fail> {
-    let alloc = rt.alloc();
-    let given = words(alloc, &["ti", "tput", "--rate", "9600", "cup", "4", "9"])?;
-    assert!(rt; job(alloc, given.as_slice())? == tput_job(alloc)?);
-    let refused: [&[&str]; 4] = [
-        &["ti", "tput"],
-        &["ti", "tput", "-S", "cols"],
-        &["ti", "tput", "--rate", "4294967296", "cols"],
-        &[
-            "ti", "tput", "u0", "0", "1", "2", "3", "4", "5", "6", "7", "8", "9",
-        ],
-    ];
-    for texts in refused {
-        let given = words(alloc, texts)?;
-        assert!(rt; job(alloc, given.as_slice()) == Err(UsageError::Usage));
+        words: Vec::new(alloc),
     }
-    Ok(())
 }
 
 #[test]
 fn statuses(rt: HostRuntime) -> Result<(), Fail> {
-    let tput = tput_job(rt.alloc())?;
+    let tput = tput_job(rt.alloc());
     assert_eq!(rt; status(&tput, &ToolError::NoTerminal, false), 3);
     assert_eq!(rt; status(&tput, &ToolError::ReadFault, false), 3);
     assert_eq!(rt; status(&tput, &ToolError::ReadFault, true), 255);
@@ -55,7 +34,7 @@ fn statuses(rt: HostRuntime) -> Result<(), Fail> {
 #[test]
 fn messages(rt: HostRuntime) -> Result<(), Fail> {
     let alloc = rt.alloc();
-    let tput = tput_job(alloc)?;
+    let tput = tput_job(alloc);
     let cases: [(&str, Option<&ToolError>, &[u8]); 6] = [
         (
             "nosuch",

@@ -1,5 +1,4 @@
 -- a source that uses no others is a listing
-use Rattle.std.proofs.Common.{◌≡◌, Option, Ok, Err, IfOk, ◌∙◌}
 use Rattle.ti_list.specs.Relative.{shown}
 use Rattle.ti_list.proofs.Alone.{relative-alone}
 use Rattle.ti_list.proofs.listing.list.Goals as goal

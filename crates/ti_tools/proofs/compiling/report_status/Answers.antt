@@ -1,5 +1,5 @@
 use Rattle.std.proofs.Common.{◌∙◌, sym}
-use Rattle.clap.proofs.WalkLemmas.{list_any-map}
+use Rattle.ti_tools.proofs.Reporting.{list_any-map}
 use Rattle.ti_source.specs.Codes.{is_error}
 use Rattle.ti_meaning.specs.Faults.{SourceFault, fault_seen}
 use Rattle.ti_tools.proofs.compiling.report_status.Goals as goal

@@ -1,0 +1,33 @@
+use Rattle.std.proofs.Common.{◌≡◌, Some, None, ◌∙◌, ap, sym, inl, inr}
+use Rattle.std.proofs.lemmas.Result.{IfErr-weaker, IfOk-weaker}
+use Rattle.clap.proofs.BuiltLemmas.{on_ok_always}
+use Rattle.ti_commands.specs.Jobs.{refusal_of}
+use Rattle.ti_commands.proofs.Asked.{IsRefusal-no_job, IsRefusal-of_fault, no_faults, task_in-matches}
+use Rattle.ti_commands.proofs.arguments.job.Goals as goal
+
+pub returns-in-Ok-clause-right : goal.returns-in-Ok-clause-right
+returns-in-Ok-clause-right c =
+    let same = task_in-matches _ _ c.in-Ok.matches c.in_ok-command.ensures.app c.in-Ok.ensures.matches in
+    IfOk-weaker c.used_job.result _ _ (λ j is. sym same ∙ is) c.used_job.ensures.right
+
+pub returns-in-Ok-clause-answered : goal.returns-in-Ok-clause-answered
+returns-in-Ok-clause-answered c = λ task is takes_words.
+    let same = task_in-matches _ _ c.in-Ok.matches c.in_ok-command.ensures.app c.in-Ok.ensures.matches in
+    IfErr-weaker c.used_job.result _ _ (λ e refused. elim refused [
+      | inl memory ↦ memory
+      | inr none ↦ let bad : Some task ≡ None = sym is ∙ sym same ∙ none.1 in absurd (cc)
+    ]) c.used_job.ensures.refused
+
+pub returns-in-Ok-clause-accepted : goal.returns-in-Ok-clause-accepted
+returns-in-Ok-clause-accepted c =
+    on_ok_always c.used_job.result (no_faults _ _ c.in-Ok.matches c.in_ok-command.ensures.app c.in-Ok.ensures.kinds)
+
+pub returns-in-Ok-clause-refused : goal.returns-in-Ok-clause-refused
+returns-in-Ok-clause-refused c =
+    let same = task_in-matches _ _ c.in-Ok.matches c.in_ok-command.ensures.app c.in-Ok.ensures.matches in
+    let no_fault = no_faults _ _ c.in-Ok.matches c.in_ok-command.ensures.app c.in-Ok.ensures.kinds in
+    IfErr-weaker c.used_job.result _ _ (λ e refused. IsRefusal-no_job _ _ e no_fault same refused) c.used_job.ensures.refused
+
+pub returns-in-Err-clause-refused : goal.returns-in-Err-clause-refused
+returns-in-Err-clause-refused c =
+    IsRefusal-of_fault _ _ _ c.in-Err.error _ c.in_ok-command.ensures.app c.in-Err.ensures.kinds (c.refusal.ensures ∙ ap refusal_of c.kind.ensures)

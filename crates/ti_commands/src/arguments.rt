@@ -1,0 +1,151 @@
+//! What the words of a command line ask for.
+ghost use Rattle.std.specs.Prelude.{◌≡◌, ◌⊎◌, [], IfErr, IfOk, None, OnOk, Some, codes, map, option_map, true};
+ghost use Rattle.std.specs.String.{string_bytes};
+ghost use Rattle.clap.specs.Words.{first_of, found_of, rows_of, subcommand_rows_of};
+ghost use Rattle.ti_commands.specs.Arguments.{Task, faults_of, is_word_count, job_of, rate_in, takes_words, task_in, tic_task, tput_task, tput_with};
+ghost use Rattle.ti_commands.specs.Jobs.{IsRefusal, refusal_of, task_of};
+ghost use Rattle.ti_commands.specs.declared.arguments.UsageError.TheVariants.{Memory};
+
+use crate::commands::command;
+use crate::infocmp_words::infocmp_job;
+use crate::jobs::Job;
+use crate::matches::{on, text, texts, value, values};
+use clap::ArgMatches;
+use clap::error::ErrorKind;
+use std::alloc::{AllocError, Global};
+use thiserror::Error;
+
+/// Why the words of a command line ask for no job.
+#[derive(Clone, Copy, Debug, PartialEq, Eq, Error)]
+pub enum UsageError {
+    /// The words are no command line of the program.
+    #[error("bad usage")]
+    Usage,
+    /// The words ask for help.
+    #[error("help was asked for")]
+    Help,
+    /// A growth of memory was refused.
+    #[error("out of memory")]
+    Memory,
+}
+
+impl From<AllocError> for UsageError {
+    ghost from_gives = { λ _ error. error ≡ Memory };
+
+    fn from(_error: AllocError) -> UsageError {
+        UsageError::Memory
+    }
+}
+
+// What a fault that clap finds is to the program.
+fn refusal(kind: ErrorKind) -> UsageError
+    ensures { result ≡ refusal_of kind }
+{
+    match kind {
+        ErrorKind::DisplayHelp => UsageError::Help,
+        ErrorKind::OutOfMemory => UsageError::Memory,
+        _ => UsageError::Usage,
+    }
+}
+
+fn tic_job(alloc: Global, matches: &ArgMatches<'_>) -> Result<Job, AllocError>
+    ensures { IfOk result (λ job. task_of job ≡ tic_task (rows_of (found_of matches.now))) }
+{
+    let check = on(matches, "check");
+    let dir = text(alloc, matches, "dir")?;
+    let file = text(alloc, matches, "file")?;
+    Ok(Job::Tic { check, dir, file })
+}
+
+// The rate of `--rate`, 0 where it is not there.
+fn rate(matches: &ArgMatches<'_>) -> Option<u32>
+    ensures { result ≡ rate_in (first_of (codes "rate") (rows_of (found_of matches.now))) }
+{
+    match value(matches, "rate") {
+        Some(text) => text.parse().ok(),
+        None => Some(0),
+    }
+}
+
+// Whether so many words may stand there: none with `-S`, else a name and at most nine parameters.
+fn is_word_count(lines: bool, count: usize) -> bool
+    ensures { result ≡ is_word_count lines count }
+{
+    if lines {
+        count == 0
+    } else {
+        0 < count && count < 11
+    }
+}
+
+// The job of `tput` with these words.
+fn tput_of(alloc: Global, matches: &ArgMatches<'_>, words: &[&str]) -> Result<Job, UsageError>
+    ensures right { IfOk result (λ job. tput_with (rows_of (found_of matches.now)) (map (λ word. word.now) words.now)
+        ≡ Some (task_of job)) }
+    ensures refused { IfErr result (λ error. (error ≡ UsageError.Memory)
+        ⊎ ((error ≡ UsageError.Usage) × (tput_with (rows_of (found_of matches.now)) (map (λ word. word.now) words.now) ≡ None))) }
+{
+    let lines = on(matches, "lines");
+    let Some(rate) = rate(matches) else {
+        return Err(UsageError::Usage);
+    };
+    if !is_word_count(lines, words.len()) {
+        return Err(UsageError::Usage);
+    }
+    let term = text(alloc, matches, "term")?;
+    let words = texts(alloc, words)?;
+    Ok(Job::Tput {
+        lines,
+        term,
+        rate,
+        words,
+    })
+}
+
+fn tput_job(alloc: Global, matches: &ArgMatches<'_>) -> Result<Job, UsageError>
+    ensures right { IfOk result (λ job. tput_task (rows_of (found_of matches.now)) ≡ Some (task_of job)) }
+    ensures refused { IfErr result (λ error. (error ≡ UsageError.Memory)
+        ⊎ ((error ≡ UsageError.Usage) × (tput_task (rows_of (found_of matches.now)) ≡ None))) }
+{
+    match values(matches, "words") {
+        Some(words) => tput_of(alloc, matches, words),
+        None => tput_of(alloc, matches, &[]),
+    }
+}
+
+// The job of the subcommand that was used.
+fn used_job(alloc: Global, matches: &ArgMatches<'_>) -> Result<Job, UsageError>
+    ensures right { IfOk result (λ job. task_in (subcommand_rows_of matches.now)
+        ≡ Some (task_of job)) }
+    ensures refused { IfErr result (λ error. (error ≡ UsageError.Memory)
+        ⊎ ((error ≡ UsageError.Usage) × (task_in (subcommand_rows_of matches.now) ≡ None))) }
+{
+    match matches.subcommand() {
+        Some(("tic", inner)) => Ok(tic_job(alloc, inner)?),
+        Some(("tput", inner)) => tput_job(alloc, inner),
+        Some(("session", _)) => Ok(Job::Session),
+        Some(("infocmp", inner)) => infocmp_job(alloc, inner),
+        _ => Err(UsageError::Usage),
+    }
+}
+
+/// What the words of a command line ask for. The first word is the program's name.
+///
+/// # Errors
+/// `Usage` where the words are no command line of the program, and `Help` where they ask for help;
+/// then `Memory`.
+pub fn job(alloc: Global, words: &[String]) -> Result<Job, UsageError>
+    ensures right { IfOk result (λ job. job_of (map string_bytes words.now) ≡ Some (task_of job)) }
+    ensures answered { (task : Task) → job_of (map string_bytes words.now) ≡ Some task
+        → takes_words (map string_bytes words.now) ≡ true
+        → IfErr result (λ error. error ≡ UsageError.Memory) }
+    ensures accepted { OnOk result (faults_of (map string_bytes words.now) ≡ []) }
+    ensures refused { IfErr result (IsRefusal (faults_of (map string_bytes words.now))
+        (job_of (map string_bytes words.now))) }
+{
+    let command = command(alloc)?;
+    match command.try_get_matches_from(words) {
+        Ok(matches) => used_job(alloc, &matches),
+        Err(error) => Err(refusal(error.kind())),
+    }
+}

@@ -1,0 +1,284 @@
+//! What the words behind `infocmp` are, for clap, and what they ask for.
+ghost use Rattle.std.specs.Prelude.{◌≡◌, ◌⊎◌, IfErr, IfOk, None, Some, codes, false, map, option_map};
+ghost use Rattle.clap.specs.Words.{app_of, first_of, found_of, rows_of};
+ghost use Rattle.clap.specs.declared.builder.Command.TheViews.{out-Command as fields_of};
+ghost use Rattle.ti_commands.specs.Arguments.{infocmp_job_of, task_infocmp};
+ghost use Rattle.ti_commands.specs.InfocmpWords.{infocmp_app, first_mode_rules, layout_rules, name_rules, other_mode_rules};
+ghost use Rattle.ti_commands.specs.InfocmpWords.{choice_in, choice_with, infocmp_with, mode_for, order_for, suits, width_for};
+ghost use Rattle.ti_commands.specs.Jobs.{task_of};
+
+use crate::arguments::UsageError;
+use crate::jobs::{InfocmpMode, Job};
+use crate::matches::{on, text, texts, value, values};
+use crate::rules::{flag, number, operands, option};
+use clap::{ArgMatches, Command};
+use std::alloc::{AllocError, Global};
+use ti_list::{Layout, Order};
+
+/// The width of a listing's lines where none is said.
+const WIDTH: usize = 60;
+
+/// The least width that may be asked for.
+const WIDTH_MIN: usize = 20;
+
+/// The greatest.
+const WIDTH_MAX: usize = 4096;
+
+/// What stands below the options in the help.
+const NOTES: &str = "\
+A listing is source that 'ti tic' compiles back to the same entry; with '-u' it
+is, where the entries that it uses stand beside it.
+
+Exit status:
+  0  all entries were read, and the text was written
+  1  an entry is not there or is bad, or a file or a stream failed
+  2  wrong usage
+
+Examples:
+  ti infocmp -1 xterm
+  ti infocmp -d xterm vt100
+  ti infocmp -u xterm-256color xterm";
+
+// The options that list, and those that compare for differences.
+fn first_modes<'a>(alloc: Global, command: Command<'a>) -> Result<Command<'a>, AllocError>
+    requires { (fields_of command).has_globals ≡ false }
+    ensures app { IfOk result (λ r. app_of r ≡ first_mode_rules (app_of command.entry)) }
+    ensures local { IfOk result (λ r. (fields_of r).has_globals ≡ false) }
+{
+    let list = flag(alloc, "list", 'I', "List each entry [default for one name]");
+    let differ = flag(
+        alloc,
+        "differ",
+        'd',
+        "Show where the first differs from each other [default for more]",
+    );
+    let common = flag(
+        alloc,
+        "common",
+        'c',
+        "Show what the first and each other have in common",
+    );
+    command.arg(list)?.arg(differ)?.arg(common)
+}
+
+// The options that name another mode.
+fn other_modes<'a>(alloc: Global, command: Command<'a>) -> Result<Command<'a>, AllocError>
+    requires { (fields_of command).has_globals ≡ false }
+    ensures app { IfOk result (λ r. app_of r ≡ other_mode_rules (app_of command.entry)) }
+    ensures local { IfOk result (λ r. (fields_of r).has_globals ≡ false) }
+{
+    let neither = flag(
+        alloc,
+        "neither",
+        'n',
+        "Show what neither the first nor each other has",
+    );
+    let relative = flag(
+        alloc,
+        "relative",
+        'u',
+        "List the first so that it uses the others",
+    );
+    command.arg(neither)?.arg(relative)
+}
+
+// The options that lay a listing out.
+fn layouts<'a>(alloc: Global, command: Command<'a>) -> Result<Command<'a>, AllocError>
+    requires { (fields_of command).has_globals ≡ false }
+    ensures app { IfOk result (λ r. app_of r ≡ layout_rules (app_of command.entry)) }
+    ensures local { IfOk result (λ r. (fields_of r).has_globals ≡ false) }
+{
+    let one = flag(alloc, "one", '1', "Give each item a line of its own");
+    let width = number(
+        alloc,
+        "width",
+        'w',
+        WIDTH_MIN as u64,
+        WIDTH_MAX as u64,
+        "Lines of at most N columns, from 20 to 4096 [default: 60]",
+    );
+    let sort = option(
+        alloc,
+        "sort",
+        's',
+        "ORDER",
+        "Sort by place in the entry (d) or by name (i) [default: i]",
+    );
+    command.arg(one)?.arg(width)?.arg(sort)
+}
+
+// Where entries stand, and the names.
+fn operands_of<'a>(alloc: Global, command: Command<'a>) -> Result<Command<'a>, AllocError>
+    requires { (fields_of command).has_globals ≡ false }
+    ensures app { IfOk result (λ r. app_of r ≡ name_rules (app_of command.entry)) }
+    ensures local { IfOk result (λ r. (fields_of r).has_globals ≡ false) }
+{
+    let first = option(
+        alloc,
+        "first",
+        'A',
+        "DIR",
+        "Look for the first name in DIR alone",
+    );
+    let other = option(
+        alloc,
+        "other",
+        'B',
+        "DIR",
+        "Look for the other names in DIR alone",
+    );
+    let names = operands(alloc, "name", "NAME", "The terminals [default: $TERM]");
+    command.arg(first)?.arg(other)?.arg(names)
+}
+
+/// `infocmp [-I|-d|-c|-n|-u] [-1] [-w N] [-s d|i] [-A DIR] [-B DIR] [NAME..]`.
+///
+/// # Errors
+/// Want of memory.
+pub fn infocmp<'a>(alloc: Global) -> Result<Command<'a>, AllocError>
+    ensures app { IfOk result (λ command. app_of command ≡ infocmp_app) }
+    ensures local { IfOk result (λ command. (fields_of command).has_globals ≡ false) }
+{
+    let command = Command::new(alloc, "infocmp")
+        .about("List and compare entries, as source or side by side.")
+        .after_help(NOTES);
+    let command = first_modes(alloc, command)?;
+    let command = other_modes(alloc, command)?;
+    let command = layouts(alloc, command)?;
+    operands_of(alloc, command)
+}
+
+/// The modes that options name.
+#[derive(Clone, Copy)]
+pub(crate) enum Choice {
+    Nothing,
+    One(InfocmpMode),
+    Several,
+}
+
+impl Choice {
+    // The choice once one more option is looked at.
+    fn with(self, on: bool, mode: InfocmpMode) -> Choice
+        ensures { result ≡ choice_with self on mode }
+    {
+        if !on {
+            return self;
+        }
+        match self {
+            Choice::Nothing => Choice::One(mode),
+            Choice::One(_) | Choice::Several => Choice::Several,
+        }
+    }
+}
+
+// The modes that the options name.
+fn choice_of(matches: &ArgMatches<'_>) -> Choice
+    ensures { result ≡ choice_in (rows_of (found_of matches.now)) }
+{
+    Choice::Nothing
+        .with(on(matches, "list"), InfocmpMode::List)
+        .with(on(matches, "differ"), InfocmpMode::Differ)
+        .with(on(matches, "common"), InfocmpMode::Common)
+        .with(on(matches, "neither"), InfocmpMode::Neither)
+        .with(on(matches, "relative"), InfocmpMode::Relative)
+}
+
+// Whether a mode can have so many names.
+fn suits(mode: InfocmpMode, names: usize) -> bool
+    ensures { result ≡ suits mode names }
+{
+    match mode {
+        InfocmpMode::List => true,
+        InfocmpMode::Neither => names != 1,
+        InfocmpMode::Differ | InfocmpMode::Common | InfocmpMode::Relative => names >= 2,
+    }
+}
+
+// The mode of so many names.
+fn mode_for(choice: Choice, names: usize) -> Option<InfocmpMode>
+    ensures { result ≡ mode_for choice names }
+{
+    match choice {
+        Choice::Nothing if names > 1 => Some(InfocmpMode::Differ),
+        Choice::Nothing => Some(InfocmpMode::List),
+        Choice::One(mode) if suits(mode, names) => Some(mode),
+        _ => None,
+    }
+}
+
+// The width that a text says.
+fn width_in(text: &str) -> Option<usize>
+    ensures { result ≡ width_for (Some text.now) }
+{
+    match text.parse::<usize>() {
+        Ok(width) if width >= WIDTH_MIN && width <= WIDTH_MAX => Some(width),
+        _ => None,
+    }
+}
+
+// The width that is said.
+fn width_of(matches: &ArgMatches<'_>) -> Option<usize>
+    ensures { result ≡ width_for (first_of (codes "width") (rows_of (found_of matches.now))) }
+{
+    match value(matches, "width") {
+        Some(text) => width_in(text),
+        None => Some(WIDTH),
+    }
+}
+
+// The order that is said.
+fn order_of(matches: &ArgMatches<'_>) -> Option<Order>
+    ensures { result ≡ order_for (first_of (codes "sort") (rows_of (found_of matches.now))) }
+{
+    match value(matches, "sort") {
+        None => Some(Order::Name),
+        Some("d") => Some(Order::Table),
+        Some("i") => Some(Order::Name),
+        Some(_) => None,
+    }
+}
+
+// The job of `infocmp` with these names.
+fn infocmp_of(alloc: Global, matches: &ArgMatches<'_>, names: &[&str]) -> Result<Job, UsageError>
+    ensures right { IfOk result (λ job. option_map task_infocmp (infocmp_with (rows_of (found_of matches.now)) (map (λ name. name.now) names.now))
+        ≡ Some (task_of job)) }
+    ensures refused { IfErr result (λ error. (error ≡ UsageError.Memory)
+        ⊎ ((error ≡ UsageError.Usage)
+        × (option_map task_infocmp (infocmp_with (rows_of (found_of matches.now)) (map (λ name. name.now) names.now)) ≡ None))) }
+{
+    let mode = mode_for(choice_of(matches), names.len());
+    let (Some(mode), Some(width), Some(order)) = (mode, width_of(matches), order_of(matches)) else {
+        return Err(UsageError::Usage);
+    };
+    let names = texts(alloc, names)?;
+    let first_dir = text(alloc, matches, "first")?;
+    let other_dir = text(alloc, matches, "other")?;
+    let layout = Layout {
+        width,
+        one_per_line: on(matches, "one"),
+        order,
+    };
+    Ok(Job::Infocmp {
+        mode,
+        names,
+        layout,
+        first_dir,
+        other_dir,
+    })
+}
+
+/// The job of `infocmp` with these matches.
+///
+/// # Errors
+/// `Usage` where they ask for none; then `Memory`.
+#[tactic(auto, unfolding(crate::specs::Arguments::infocmp_job_of))]
+pub fn infocmp_job(alloc: Global, matches: &ArgMatches<'_>) -> Result<Job, UsageError>
+    ensures right { IfOk result (λ job. infocmp_job_of (rows_of (found_of matches.now)) ≡ Some (task_of job)) }
+    ensures refused { IfErr result (λ error. (error ≡ UsageError.Memory)
+        ⊎ ((error ≡ UsageError.Usage) × (infocmp_job_of (rows_of (found_of matches.now)) ≡ None))) }
+{
+    match values(matches, "name") {
+        Some(names) => infocmp_of(alloc, matches, names),
+        None => infocmp_of(alloc, matches, &[]),
+    }
+}

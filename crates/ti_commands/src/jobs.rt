@@ -1,0 +1,57 @@
+//! The jobs of the program.
+use ti_list::Layout;
+
+/// What `infocmp` prints of its entries.
+#[derive(Clone, Copy, PartialEq, Eq, Debug)]
+pub enum InfocmpMode {
+    /// Each entry in turn as source text.
+    List,
+    /// Where the first differs from each of the others.
+    Differ,
+    /// What the first has in common with each of the others.
+    Common,
+    /// What neither the first nor the other has, for each of the others.
+    Neither,
+    /// The first as source text that uses the others.
+    Relative,
+}
+
+/// What the program is to do.
+#[derive(Debug, PartialEq, Eq, Drop)]
+pub enum Job {
+    /// Compile a source.
+    Tic {
+        /// Only report, and write no file.
+        check: bool,
+        /// Where the files are to stand, where it was said.
+        dir: Option<String>,
+        /// The file of the source, or `None` for standard input.
+        file: Option<String>,
+    },
+    /// Write what drives a terminal.
+    Tput {
+        /// Read commands from standard input, one a line.
+        lines: bool,
+        /// The terminal, where it was said.
+        term: Option<String>,
+        /// The speed of the line to it in bits a second; at 0 nothing is padded.
+        rate: u32,
+        /// A capability's name and its parameters; none with `lines`.
+        words: Vec<String>,
+    },
+    /// Read a script and answer it.
+    Session,
+    /// List, compare or relate entries.
+    Infocmp {
+        /// What is printed.
+        mode: InfocmpMode,
+        /// The names of the terminals; none where the terminal's own is meant.
+        names: Vec<String>,
+        /// How source text is laid out.
+        layout: Layout,
+        /// The only place for the entry of the first name, where it was said.
+        first_dir: Option<String>,
+        /// The only place for those of the other names, where it was said.
+        other_dir: Option<String>,
+    },
+}

@@ -1,0 +1,23 @@
+//! The command lines of the tools: what the words of a command line ask for.
+//!
+//! - `arguments`: the job that the words ask for, or why they ask for none
+//! - `jobs`: the jobs of the program
+//! - `commands`: each tool's options, their help and an example, for clap; `rules` has the kinds of options,
+//!   and `infocmp_words` what stands behind `infocmp`
+//! - `matches`: what clap's matches say of an argument
+#![tactic(auto)]
+
+pub mod arguments;
+pub mod commands;
+mod infocmp_words;
+pub mod jobs;
+mod matches;
+mod rules;
+
+pub use arguments::{UsageError, job};
+pub use commands::command;
+pub use jobs::{InfocmpMode, Job};
+pub use ti_list::{Layout, Order};
+
+#[cfg(test)]
+mod tests;

@@ -1,0 +1,17 @@
+use Rattle.std.proofs.Common.{◌≡◌, ℕ, ◌+◌, ◌≤◌, ◌++◌, List, map, drop, vec_len, vec_capacity}
+use Rattle.ti_compiled.specs.Shown.{held}
+use Rattle.ti_list.specs.Flow.{flow}
+use Rattle.ti_list.specs.Listing.{in_order, items_for, lines_of}
+use Rattle.ti_list.specs.Relative.{differing_contents, shown}
+use Rattle.ti_list.specs.Room.{items_room}
+use Rattle.ti_list.proofs.listing.write_kind.Given as goal
+
+abbrev pub invariant-loop-place : goal.invariant-loop-place
+invariant-loop-place l =
+    let table = differing_contents (held l.view) (map (λ o. shown o) l.others) in
+    let caps = in_order l.layout.order l.kind in
+    record {
+      done : (rest : List ℕ) → l.out.items ++ flow l.layout l.line (items_for table (drop l.place caps)) rest ≡ l.initial.out.items ++ lines_of l.layout (items_for table caps) rest;
+      len : vec_len l.out + items_room (items_for table (drop l.place caps)) ≤ vec_len l.initial.out + items_room (items_for table caps);
+      capacity : vec_capacity l.initial.out ≤ vec_capacity l.out;
+    }
