@@ -3,13 +3,28 @@
 #   make            builds the program (proving every crate that it stands on)
 #   make test       the merge gate and the black-box cases: what CI runs
 #   make cli        the black-box cases alone, on the built program
+#   make package    whether pages, completions and install are in order
 #   make wrong-bodies   the further wrong bodies, which the prover must refuse too
 #   make bench      times `ti tic -c` beside ncurses's tic, and an expansion
-#   make install    copies the program to PREFIX/bin (PREFIX is /usr/local)
+#   make install    puts the program, its pages and its completions below
+#                   DESTDIR and PREFIX (which is /usr/local); with TOOLS=1 also
+#                   ti-tic, ti-infocmp and ti-tput
+#   make uninstall  takes all of that away again
+#   make dist       makes ti-VERSION.tar.gz of the last commit, which builds
 
 PREFIX ?= /usr/local
+BINDIR ?= $(PREFIX)/bin
+MANDIR ?= $(PREFIX)/share/man
+BASHDIR ?= $(PREFIX)/share/bash-completion/completions
+ZSHDIR ?= $(PREFIX)/share/zsh/site-functions
+FISHDIR ?= $(PREFIX)/share/fish/vendor_completions.d
+VERSION ?= $(shell git log -1 --format=%cd --date=format:%Y%m%d 2>/dev/null || echo 0)
 
-.PHONY: all test cli wrong-bodies bench install
+PROGRAM = crates/ti/out/ti
+PAGES = man/ti.1 man/ti-tic.1 man/ti-infocmp.1 man/ti-tput.1 man/ti-session.1 man/ti-report.7
+TOOL_NAMES = ti-tic ti-infocmp ti-tput
+
+.PHONY: all test cli package wrong-bodies bench install uninstall dist
 
 all:
 	./ti --help >/dev/null
@@ -20,6 +35,9 @@ test:
 cli: all
 	python3 tests/cli/run.py
 
+package: all
+	python3 tests/package/run.py
+
 wrong-bodies:
 	tests/wrong-bodies
 
@@ -27,6 +45,37 @@ bench: all
 	cd crates/ti_bench && rt run >/dev/null 2>&1
 	python3 bench/run.py
 
-install: all
-	install -d "$(DESTDIR)$(PREFIX)/bin"
-	install -m 755 crates/ti/out/ti "$(DESTDIR)$(PREFIX)/bin/ti"
+# A program that is built is installed as it is, so that root needs no toolchain.
+install:
+	test -x $(PROGRAM) || ./ti --help >/dev/null
+	install -d "$(DESTDIR)$(BINDIR)" "$(DESTDIR)$(MANDIR)/man1" "$(DESTDIR)$(MANDIR)/man7"
+	install -d "$(DESTDIR)$(BASHDIR)" "$(DESTDIR)$(ZSHDIR)" "$(DESTDIR)$(FISHDIR)"
+	install -m 755 $(PROGRAM) "$(DESTDIR)$(BINDIR)/ti"
+	for page in $(PAGES); do \
+		install -m 644 "$$page" "$(DESTDIR)$(MANDIR)/man$${page##*.}/$${page##*/}" || exit 1; \
+	done
+	install -m 644 completions/ti.bash "$(DESTDIR)$(BASHDIR)/ti"
+	install -m 644 completions/_ti "$(DESTDIR)$(ZSHDIR)/_ti"
+	install -m 644 completions/ti.fish "$(DESTDIR)$(FISHDIR)/ti.fish"
+ifeq ($(TOOLS),1)
+	for tool in $(TOOL_NAMES); do \
+		printf '#!/bin/sh\nexec "$$(dirname -- "$$0")/ti" %s "$$@"\n' "$${tool#ti-}" \
+			>"$(DESTDIR)$(BINDIR)/$$tool" && chmod 755 "$(DESTDIR)$(BINDIR)/$$tool" || exit 1; \
+		ln -sf ti "$(DESTDIR)$(BASHDIR)/$$tool"; \
+		ln -sf ti.fish "$(DESTDIR)$(FISHDIR)/$$tool.fish"; \
+	done
+endif
+
+uninstall:
+	rm -f "$(DESTDIR)$(BINDIR)/ti"
+	for page in $(PAGES); do \
+		rm -f "$(DESTDIR)$(MANDIR)/man$${page##*.}/$${page##*/}"; \
+	done
+	rm -f "$(DESTDIR)$(BASHDIR)/ti" "$(DESTDIR)$(ZSHDIR)/_ti" "$(DESTDIR)$(FISHDIR)/ti.fish"
+	for tool in $(TOOL_NAMES); do \
+		rm -f "$(DESTDIR)$(BINDIR)/$$tool" "$(DESTDIR)$(BASHDIR)/$$tool" "$(DESTDIR)$(FISHDIR)/$$tool.fish"; \
+	done
+
+dist:
+	git archive --format=tar.gz --prefix=ti-$(VERSION)/ -o ti-$(VERSION).tar.gz HEAD
+	@echo ti-$(VERSION).tar.gz

@@ -1,15 +1,17 @@
 #!/usr/bin/env python3
 """Speed, beside ncurses's tools on the same work.
 
-    bench/run.py [PART..]      the parts named, or all: rates, entries, tools, machine
+    bench/run.py [PART..]      the parts named, or all: rates, entries, tools, machine, edits
 
 rates     MB/s (10^6 bytes a second) of `ti tic -c` on one-block sources of 64 KiB,
           256 KiB and 1 MiB, and of ncurses's `tic -c` on the last: the best of
           several runs
 entries   sources of many entries: 2,000 small ones, and 1,000 of which all but the
           first have uses, compiled into files
-tools     `ti tput` and `ti infocmp` on the system's own entries, where they are there
+tools     `ti tput` and `ti infocmp` on the system's own entry, where it is there; both read the same
+          file, and a run that fails or writes something else is not timed
 machine   what `ti_bench` prints of the libraries alone
+edits     edits of a database of 1,000 and of 65,535 blocks, a chain and a ring of uses
 
 Times on a shared machine are noisy; so `entries` and `tools` count instructions by
 valgrind's callgrind too, where that is installed, and give the ratio. A tool that is
@@ -41,6 +43,8 @@ SMALL = "\tam, cols#80, lines#24, bel=^G, cr=\\r, cud1=\\n, ind=\\n, cub1=^H,\n"
 RUNS = 40
 SECONDS = 600
 LONG = 2.0
+TERMINAL = "xterm-256color"
+FOLDERS = ["/etc/terminfo", "/lib/terminfo", "/usr/share/terminfo"]
 
 
 def source(size):
@@ -129,17 +133,33 @@ def entries(path):
         beside(what, [PROGRAM, "tic", "-o", out, name], ["tic", "-o", path("theirs"), name], runs=1)
 
 
+def output(words, stdin=None):
+    """What a run writes, or None where it fails."""
+    done = subprocess.run(words, input=stdin, stdout=subprocess.PIPE, stderr=subprocess.DEVNULL, timeout=SECONDS)
+    return done.stdout if done.returncode == 0 else None
+
+
 def tools(path):
     del path
-    for words in (["tput", "-T", "xterm-256color", "setaf", "200"], ["infocmp", "xterm-256color"]):
-        if subprocess.run([PROGRAM, *words], stdout=subprocess.DEVNULL, stderr=subprocess.DEVNULL).returncode != 0:
-            print(f"{' '.join(words)}: left out (no such tool yet, or no such entry here)")
+    folder = next((it for it in FOLDERS if os.path.exists(os.path.join(it, TERMINAL[0], TERMINAL))), None)
+    if folder is None:
+        print(f"tput, infocmp: left out ({TERMINAL} is in none of {', '.join(FOLDERS)})")
+        return
+    os.environ["TERMINFO"] = folder  # for both, so that both read the same file
+    lines = {f"tput -S, 10,000 lines '{line}'": f"{line}\n".encode() * 10_000 for line in ("bold", "setaf 12", "cup 4 9")}
+    works = [(" ".join(words), words, None) for words in (["tput", "-T", TERMINAL, "setaf", "200"], ["infocmp", TERMINAL])]
+    works += [(what, ["tput", "-T", TERMINAL, "-S"], text) for what, text in lines.items()]
+    for what, words, stdin in works:
+        ours = output([PROGRAM, *words], stdin)
+        # a run that fails is fast, so none is timed
+        if not ours:
+            print(f"{what}: ti failed, or wrote nothing")
             continue
-        beside(" ".join(words), [PROGRAM, *words], words)
-    lines = b"cup 4 9\nsetaf 12\nbold\n" * 3334
-    words = ["tput", "-T", "xterm-256color", "-S"]
-    if subprocess.run([PROGRAM, *words], input=lines, stdout=subprocess.DEVNULL, stderr=subprocess.DEVNULL).returncode == 0:
-        beside("tput -S, 10,002 lines", [PROGRAM, *words], words, stdin=lines)
+        # listings differ in layout and in what ncurses says of its file
+        if words[0] == "tput" and shutil.which("tput") and output(words, stdin) != ours:
+            print(f"{what}: ti and ncurses do not write the same")
+            continue
+        beside(what, [PROGRAM, *words], words, stdin=stdin)
 
 
 def machine(path):
@@ -149,7 +169,22 @@ def machine(path):
         subprocess.run([MACHINE, "1000000"], check=True)
 
 
-PARTS = {"rates": rates, "entries": entries, "tools": tools, "machine": machine}
+def edits(path):
+    del path
+    if not os.access(MACHINE, os.X_OK):
+        print("edits: left out (ti_bench is not built)")
+        return
+    for count, what in ((1000, "edits"), (65535, "edits"), (65535, "chain"), (1000, "ring"), (65535, "ring")):
+        with subprocess.Popen([MACHINE, str(count), what], stdout=subprocess.PIPE) as run:
+            printed = run.stdout.read().decode()
+            _, _, used = os.wait4(run.pid, 0)
+            run.returncode = 0
+        for line in printed.splitlines():
+            print(f"{count:,} blocks, {line}")
+        print(f"{count:,} blocks, {what}: {used.ru_maxrss / 1024:.0f} MB at most")
+
+
+PARTS = {"rates": rates, "entries": entries, "tools": tools, "machine": machine, "edits": edits}
 
 
 def main():

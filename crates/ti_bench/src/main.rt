@@ -1,15 +1,20 @@
 //! Times `ti_param::expand` on setaf's usual 256-colour format, and `ti_compiled::write` on a small
 //! and on a full entry. With a number N as its word it expands N times, lays N entries of each kind,
 //! and prints the nanoseconds of one; with a second word, `expand`, `small` or `full`, that alone.
-//! Without a word it only shows the bytes for the colours 3, 12 and 200, in hexadecimal.
+//! With the second word `edits`, `chain` or `ring` it edits a database of N blocks instead: small
+//! ones that use nothing; each with a use of the one before it; these, and the first with a use of
+//! the last. Without a word it only shows the bytes for the colours 3, 12 and 200, in hexadecimal.
 #![tactic(auto)]
 
+mod edits;
 mod laying;
 
+use edits::{close_ring, fill, fill_chain, move_middle, replace_many, replace_root};
 use laying::{full_table, lay_all, small_table};
 use std::rt::{Clock, Env};
 use std::time::Instant;
 use std::{env, io};
+use ti_base::{Database, EditError};
 use ti_compiled::Table;
 use ti_param::{Statics, Value, expand};
 
@@ -88,7 +93,71 @@ fn time_laying<R: Clock + Print + AllocGlobal>(
     print_time(rt, what, start, count, total)
 }
 
+/// How many edits of one kind are timed on a list.
+const TURNS: u32 = 1000;
+
+/// Prints how long an edit took, of so many, or why one was refused.
+fn print_edits<R: Clock + Print + AllocGlobal>(
+    rt: &R,
+    what: &str,
+    start: Instant,
+    count: u32,
+    done: Result<(), EditError>,
+) -> io::Result<()> {
+    let nanoseconds = start.elapsed(rt)?.as_nanos();
+    let each = nanoseconds / u128::from(count.max(1));
+    match done {
+        Ok(()) => println!(rt; "{what}: {each} ns each ({count} times)"),
+        Err(error) => println!(rt; "{what}: {error}"),
+    }
+}
+
+fn time_edits<R: Clock + Print + AllocGlobal>(rt: &R, count: u32) -> io::Result<()> {
+    let mut database = Database::new(rt.alloc());
+    let start = Instant::now(rt)?;
+    let done = fill(rt.alloc(), &mut database, count);
+    print_edits(rt, "insert at the end", start, count, done)?;
+    let start = Instant::now(rt)?;
+    let done = replace_many(rt.alloc(), &mut database, count, TURNS);
+    print_edits(rt, "replace", start, TURNS, done)?;
+    let start = Instant::now(rt)?;
+    let done = move_middle(rt.alloc(), &mut database, count, TURNS);
+    print_edits(rt, "remove and insert in the middle", start, TURNS, done)
+}
+
+fn time_chain<R: Clock + Print + AllocGlobal>(rt: &R, count: u32) -> io::Result<()> {
+    let mut database = Database::new(rt.alloc());
+    let start = Instant::now(rt)?;
+    let done = fill_chain(rt.alloc(), &mut database, count);
+    print_edits(rt, "insert at the end of a chain", start, count, done)?;
+    let start = Instant::now(rt)?;
+    let done = replace_root(&mut database);
+    print_edits(rt, "replace the root of a chain", start, 1, done)
+}
+
+fn time_ring<R: Clock + Print + AllocGlobal>(rt: &R, count: u32) -> io::Result<()> {
+    let mut database = Database::new(rt.alloc());
+    let done = fill_chain(rt.alloc(), &mut database, count);
+    if let Err(error) = done {
+        return println!(rt; "ring: {error}");
+    }
+    let start = Instant::now(rt)?;
+    let done = close_ring(rt.alloc(), &mut database, count);
+    let report = database.report(1);
+    print_edits(rt, "close a ring and report", start, 1, done)?;
+    match report {
+        Ok(text) => println!(rt; "its report: {} bytes", text.len()),
+        Err(_) => println!(rt; "its report: out of memory"),
+    }
+}
+
 fn time<R: Clock + Print + AllocGlobal>(rt: &R, count: u32, part: &str) -> io::Result<()> {
+    match part {
+        "edits" => return time_edits(rt, count),
+        "chain" => return time_chain(rt, count),
+        "ring" => return time_ring(rt, count),
+        _ => {}
+    }
     if part.is_empty() || part == "expand" {
         time_expansions(rt, count)?;
     }

@@ -1,0 +1,122 @@
+# Completion of ti for fish: options, terminal names from the places of entries,
+# capability names, and files.
+
+# The capabilities of terminfo(5), flags, numbers and strings, in the order of the tables.
+function __ti_capabilities
+    string split ' ' -- \
+        'bw am xsb xhp xenl eo gn hc km hs in da db mir msgr os eslok xt hz ul xon nxon mc5i' \
+        'chts nrrmc npc ndscr ccc bce hls xhpa crxm daisy xvpa sam cpix lpix OTbs OTns OTnc' \
+        'OTMT OTNL OTpt OTxr cols it lines lm xmc pb vt wsl nlab lh lw ma wnum colors pairs' \
+        'ncv bufsz spinv spinh maddr mjump mcs mls npins orc orl orhi orvi cps widcs btns' \
+        'bitwin bitype OTug OTdC OTdN OTdB OTdT OTkn cbt bel cr csr tbc clear el ed hpa' \
+        'cmdch cup cud1 home civis cub1 mrcup cnorm cuf1 ll cuu1 cvvis dch1 dl1 dsl hd smacs' \
+        'blink bold smcup smdc dim smir invis prot rev smso smul ech rmacs sgr0 rmcup rmdc' \
+        'rmir rmso rmul flash ff fsl is1 is2 is3 if ich1 il1 ip kbs ktbc kclr kctab kdch1' \
+        'kdl1 kcud1 krmir kel ked kf0 kf1 kf10 kf2 kf3 kf4 kf5 kf6 kf7 kf8 kf9 khome kich1' \
+        'kil1 kcub1 kll knp kpp kcuf1 kind kri khts kcuu1 rmkx smkx lf0 lf1 lf10 lf2 lf3 lf4' \
+        'lf5 lf6 lf7 lf8 lf9 rmm smm nel pad dch dl cud ich indn il cub cuf rin cuu pfkey' \
+        'pfloc pfx mc0 mc4 mc5 rep rs1 rs2 rs3 rf rc vpa sc ind ri sgr hts wind ht tsl uc hu' \
+        'iprog ka1 ka3 kb2 kc1 kc3 mc5p rmp acsc pln kcbt smxon rmxon smam rmam xonc xoffc' \
+        'enacs smln rmln kbeg kcan kclo kcmd kcpy kcrt kend kent kext kfnd khlp kmrk kmsg' \
+        'kmov knxt kopn kopt kprv kprt krdo kref krfr krpl krst kres ksav kspd kund kBEG' \
+        'kCAN kCMD kCPY kCRT kDC kDL kslt kEND kEOL kEXT kFND kHLP kHOM kIC kLFT kMSG kMOV' \
+        'kNXT kOPT kPRV kPRT kRDO kRPL kRIT kRES kSAV kSPD kUND rfi kf11 kf12 kf13 kf14 kf15' \
+        'kf16 kf17 kf18 kf19 kf20 kf21 kf22 kf23 kf24 kf25 kf26 kf27 kf28 kf29 kf30 kf31' \
+        'kf32 kf33 kf34 kf35 kf36 kf37 kf38 kf39 kf40 kf41 kf42 kf43 kf44 kf45 kf46 kf47' \
+        'kf48 kf49 kf50 kf51 kf52 kf53 kf54 kf55 kf56 kf57 kf58 kf59 kf60 kf61 kf62 kf63 el1' \
+        'mgc smgl smgr fln sclk dclk rmclk cwin wingo hup dial qdial tone pulse hook pause' \
+        'wait u0 u1 u2 u3 u4 u5 u6 u7 u8 u9 op oc initc initp scp setf setb cpi lpi chr cvr' \
+        'defc swidm sdrfq sitm slm smicm snlq snrmq sshm ssubm ssupm sum rwidm ritm rlm' \
+        'rmicm rshm rsubm rsupm rum mhpa mcud1 mcub1 mcuf1 mvpa mcuu1 porder mcud mcub mcuf' \
+        'mcuu scs smgb smgbp smglp smgrp smgt smgtp sbim scsd rbim rcsd subcs supcs docr' \
+        'zerom csnm kmous minfo reqmp getm setaf setab pfxl devt csin s0ds s1ds s2ds s3ds' \
+        'smglr smgtb birep binel bicr colornm defbi endbi setcolor slines dispc smpch rmpch' \
+        'smsc rmsc pctrm scesc scesa ehhlm elhlm elohlm erhlm ethlm evhlm sgr1 slength OTi2' \
+        'OTrs OTnl OTbc OTko OTma OTG2 OTG3 OTG1 OTG4 OTGR OTGL OTGU OTGD OTGH OTGV OTGC' \
+        'meml memu box1'
+end
+
+# The terminals of all places where entries are looked for.
+function __ti_terminals
+    set -l places
+    test -n "$TERMINFO"; and set -a places $TERMINFO
+    if set -q TERMINFO_DIRS
+        for part in (string split -- : "$TERMINFO_DIRS")
+            test -n "$part"; or set part /usr/share/terminfo
+            set -a places $part
+        end
+    end
+    set -a places /usr/share/terminfo
+    for place in $places
+        for path in $place/?*/*
+            test -f $path; and string split -r -m 1 -f 2 / -- $path
+        end
+    end
+end
+
+# Whether this tool stands in the command line, as `ti TOOL` or `ti-TOOL`.
+function __ti_is
+    set -l words (commandline -opc)
+    test "$words[1]" = ti; and test "$words[2]" = $argv[1]; and return
+    test "$words[1]" = ti-$argv[1]
+end
+
+# Whether no capability stands in the command line of tput yet, nor -S.
+function __ti_wants_capability
+    __ti_is tput; or return
+    set -l words (commandline -opc)
+    set -e words[1]
+    test "$words[1]" = tput; and set -e words[1]
+    while set -q words[1]
+        switch $words[1]
+            case -T --rate
+                set -e words[1]
+            case -S
+                return 1
+            case '-*'
+            case '*'
+                return 1
+        end
+        set -e words[1]
+    end
+end
+
+function __ti_wants_tool
+    set -l words (commandline -opc)
+    test (count $words) -eq 1
+end
+
+complete -c ti -n __ti_wants_tool -f -a tic -d 'Compile terminfo source into entries'
+complete -c ti -n __ti_wants_tool -f -a infocmp -d 'List and compare entries'
+complete -c ti -n __ti_wants_tool -f -a tput -d 'Write what drives a terminal'
+complete -c ti -n __ti_wants_tool -f -a session -d 'Edit a source by a script'
+complete -c ti -n __ti_wants_tool -f -a help -d 'Print the help of a tool'
+complete -c ti -n '__ti_is help' -f -a 'tic infocmp tput session'
+
+for command in ti ti-tic ti-infocmp ti-tput
+    complete -c $command -s h -l help -d 'Print help'
+
+    complete -c $command -n '__ti_is tic' -o c -d 'Check only: report, and write no file'
+    complete -c $command -n '__ti_is tic' -o o -x -a '(__fish_complete_directories)' -d 'Write below this folder'
+    complete -c $command -n '__ti_is tic' -F
+
+    complete -c $command -n '__ti_is infocmp' -f -a '(__ti_terminals)'
+    complete -c $command -n '__ti_is infocmp' -o I -d 'List each entry'
+    complete -c $command -n '__ti_is infocmp' -o d -d 'Show where the first differs from each other'
+    complete -c $command -n '__ti_is infocmp' -o c -d 'Show what the first and each other have in common'
+    complete -c $command -n '__ti_is infocmp' -o n -d 'Show what neither the first nor each other has'
+    complete -c $command -n '__ti_is infocmp' -o u -d 'List the first so that it uses the others'
+    complete -c $command -n '__ti_is infocmp' -o 1 -d 'Give each item a line of its own'
+    complete -c $command -n '__ti_is infocmp' -o w -x -d 'Columns of a line, from 20 to 4096'
+    complete -c $command -n '__ti_is infocmp' -o s -x -a 'd i' -d 'Sort by place in the entry (d) or by name (i)'
+    complete -c $command -n '__ti_is infocmp' -o A -x -a '(__fish_complete_directories)' -d 'Look for the first name there alone'
+    complete -c $command -n '__ti_is infocmp' -o B -x -a '(__fish_complete_directories)' -d 'Look for the other names there alone'
+
+    complete -c $command -n __ti_wants_capability -f -a 'longname init reset (__ti_capabilities)'
+    complete -c $command -n '__ti_is tput' -f
+    complete -c $command -n '__ti_is tput' -o T -x -a '(__ti_terminals)' -d 'The terminal'
+    complete -c $command -n '__ti_is tput' -l rate -x -d 'Pad for a line of so many bits a second'
+    complete -c $command -n '__ti_is tput' -o S -d 'Read commands from standard input, one a line'
+
+    complete -c $command -n '__ti_is session' -f
+end

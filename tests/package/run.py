@@ -1,0 +1,397 @@
+#!/usr/bin/env python3
+"""Whether what is shipped beside the program is in order.
+
+    tests/package/run.py [CHECK..]     the checks named, or all but `tarball-builds`
+
+options      the options and commands of pages, help and completions are one set, and the
+             capabilities that completions know are those of the program
+pages        the pages are clean under `mandoc -T lint`, and each says what a page is to say
+bash, fish, zsh
+             the shell gives the candidates that are wanted
+install      what `make install` puts into a folder runs from there, and `make uninstall`
+             takes all of it away
+copies       what cases of tests/cli hold of the repository's own files is still the same; with
+             the word `renew` behind it, it is made so
+tarball      `make dist` makes a tarball of every file of the commit
+tarball-builds
+             the program is built from that tarball, every proof anew: a quarter of an hour
+
+What needs a program that is not installed is skipped, and said to be. The last line is
+`package: N passed, M failed`.
+"""
+
+import os
+import pty
+import re
+import select
+import shutil
+import subprocess
+import sys
+import tarfile
+import tempfile
+import time
+
+HERE = os.path.dirname(os.path.abspath(__file__))
+TOP = os.path.dirname(os.path.dirname(HERE))
+PROGRAM = os.path.join(TOP, "crates", "ti", "out", "ti")
+TOOLS = ["tic", "infocmp", "tput", "session"]
+PAGES = ["ti.1", "ti-tic.1", "ti-infocmp.1", "ti-tput.1", "ti-session.1", "ti-report.7"]
+SECTIONS = ["NAME", "SYNOPSIS", "DESCRIPTION", "ENVIRONMENT", "FILES", "EXIT STATUS", "EXAMPLES", "COMPATIBILITY", "SEE ALSO"]
+CODES = [f"E{it}" for it in range(1, 10)] + [f"W{it}" for it in range(1, 5)]
+SHELLS = ["ti.bash", "_ti", "ti.fish"]
+# what a person types, and a candidate that must come, and one that must not
+CANDIDATES = [
+    ("ti i", "infocmp", "tic"),
+    ("ti help se", "session", "tic"),
+    ("ti tic -", "-o", "-T"),
+    ("ti tic lan", "lantern.ti", "dumb.ti"),
+    ("ti tput set", "setaf", "cup"),
+    ("ti tput -T la", "lantern3", "dumb"),
+    ("ti tput -T dumb longn", "longname", "cols"),
+    ("ti infocmp du", "dumb", "lantern3"),
+    ("ti infocmp lantern3 lantern2", "lantern2-n", "dumb"),
+    ("ti-tput -T du", "dumb", "lantern3"),
+]
+
+
+class Skipped(Exception):
+    """What a check needs is not installed."""
+
+
+def need(program):
+    if not shutil.which(program):
+        raise Skipped(f"{program} is not installed")
+
+
+def text_of(*parts):
+    with open(os.path.join(TOP, *parts), encoding="utf-8") as file:
+        return file.read()
+
+
+def output(words, stdin="", **more):
+    done = subprocess.run(words, input=stdin.encode(), stdout=subprocess.PIPE, stderr=subprocess.STDOUT, timeout=100, **more)
+    return done.stdout.decode(errors="replace")
+
+
+def ti(*words):
+    return output([PROGRAM, *words])
+
+
+def help_of(tool):
+    return ti("help", tool) if tool else ti("--help")
+
+
+def options_of_help(tool):
+    part = help_of(tool).split("\nOptions:\n")[1].split("\n\n")[0]
+    return {word for line in part.split("\n") for word in re.findall(r"(?:^ +|, )(--?[\w-]+)", line.split("  <")[0])}
+
+
+def page_of(tool):
+    return text_of("man", f"ti-{tool}.1" if tool else "ti.1")
+
+
+def flags(line):
+    """The options that a line of macros names."""
+    found = set()
+    for part in re.findall(r"Fl ((?:-?\w[\w-]*)(?: [,|] -?\w[\w-]*)*)", line):
+        for name in re.split(r" [,|] ", part):
+            found.add("-" + name)
+    return found
+
+
+def options_of_page(tool):
+    return {it for line in page_of(tool).split("\n") if line.startswith(".It Fl ") for it in flags(line)}
+
+
+def options_of_synopsis(tool):
+    synopsis = page_of(tool).split(".Sh SYNOPSIS\n")[1].split(".Sh ")[0]
+    return {it for line in synopsis.split("\n") for it in flags(line)}
+
+
+def bash_candidates(lines, folder=None):
+    env = dict(os.environ, TERMINFO="out", TERMINFO_DIRS="none::also")
+    asked = os.path.join(TOP, "completions", "ti.bash")
+    got = output(["bash", "--norc", os.path.join(HERE, "ask.bash"), asked], "".join(it + "\n" for it in lines), cwd=folder, env=env)
+    return {line.rpartition(": ")[0]: line.rpartition(": ")[2].split() for line in got.split("\n") if line}
+
+
+def fish_candidates(lines, folder=None):
+    env = dict(os.environ, TERMINFO="out", TERMINFO_DIRS="none::also", HOME=folder or "/nonexistent")
+    found = {}
+    for line in lines:
+        script = f"source {TOP}/completions/ti.fish; complete -C '{line}'"
+        got = output(["fish", "--no-config", "-c", script], cwd=folder, env=env)
+        found[line] = [it.split("\t")[0] for it in got.split("\n") if it]
+    return found
+
+
+class Zsh:
+    """An interactive zsh, asked for candidates by the key Tab; a compadd of ours writes each into a
+    file, and the key what the last word has become."""
+
+    def __init__(self, folder):
+        self.asked = os.path.join(folder, "asked")
+        with open(os.path.join(folder, ".zshrc"), "w", encoding="utf-8") as file:
+            file.write(f"asked={self.asked} PS1=\nfpath=({TOP}/completions $fpath)\nautoload -U compinit; compinit -u -D\n")
+            file.write("zle -N ask; ask() { zle complete-word; print -rl -- ${${(z)BUFFER}[-1]} done. >>$asked }; bindkey '^I' ask\n")
+            file.write("compadd() {\n  local -a hits\n  [[ ${@[1,(i)(-|--)]} == *-[OAD]\\ * ]] || {\n")
+            file.write("    builtin compadd -A hits \"$@\"\n    print -rl -- $hits >>$asked\n  }\n  builtin compadd \"$@\"\n}\n")
+            file.write("print done. >>$asked\n")
+        self.pid, self.terminal = pty.fork()
+        if self.pid == 0:
+            os.chdir(folder)
+            os.environ.update(TERM="dumb", TERMINFO="out", ZDOTDIR=folder)
+            os.execvp("zsh", ["zsh", "-i", "--no-globalrcs"])
+        self.answer("")
+
+    def answer(self, typed):
+        """What zsh has written into the file once it has done with what was typed."""
+        os.write(self.terminal, typed.encode())
+        end, said = time.monotonic() + 30, ""
+        while not said.endswith("done.\n"):
+            if time.monotonic() > end:
+                raise OSError(f"zsh does not answer: {said!r}")
+            if select.select([self.terminal], [], [], 0.02)[0]:
+                os.read(self.terminal, 65536)
+            if os.path.isfile(self.asked):
+                with open(self.asked, encoding="utf-8") as file:
+                    said = file.read()
+        os.remove(self.asked)
+        return said.split("\n")[:-2]
+
+    def candidates(self, line):
+        return self.answer(f"\x15{line}\t")
+
+    def close(self):
+        os.write(self.terminal, b"\x15exit\n")
+        os.close(self.terminal)
+        os.waitpid(self.pid, 0)
+
+
+def with_entries(check):
+    """Runs a check in a folder in which the examples lie and are compiled."""
+    with tempfile.TemporaryDirectory(prefix="ti-package-") as folder:
+        for name in ("dumb.ti", "lantern.ti"):
+            shutil.copy(os.path.join(TOP, "examples", name), folder)
+            subprocess.run([PROGRAM, "tic", "-o", "out", name], cwd=folder, check=True)
+        yield from check(folder)
+
+
+def faults_of_candidates(shell, found):
+    for line, wanted, other in CANDIDATES:
+        got = found.get(line, [])
+        if wanted not in got or other in got:
+            yield f"{shell}: candidates of {line!r} are {got[:20]}, wanted {wanted!r} and not {other!r}"
+
+
+def check_bash():
+    need("bash")
+    yield from with_entries(lambda folder: faults_of_candidates("bash", bash_candidates([it[0] for it in CANDIDATES], folder)))
+
+
+def check_fish():
+    need("fish")
+    yield from with_entries(lambda folder: faults_of_candidates("fish", fish_candidates([it[0] for it in CANDIDATES], folder)))
+
+
+def check_zsh():
+    need("zsh")
+
+    def asked(folder):
+        zsh = Zsh(folder)
+        try:
+            found = {line: zsh.candidates(line) for line, _, _ in CANDIDATES}
+        finally:
+            zsh.close()
+        yield from faults_of_candidates("zsh", found)
+
+    yield from with_entries(asked)
+
+
+def check_options():
+    for tool in ["", *TOOLS]:
+        name = f"ti {tool}".strip()
+        helped = options_of_help(tool)
+        for where, got in (("page", options_of_page(tool)), ("synopsis", options_of_synopsis(tool) | {"-h", "--help"})):
+            if got != helped and not (tool == "" and where == "synopsis"):
+                yield f"{name}: the {where} has {sorted(got)}, the help {sorted(helped)}"
+        if shutil.which("bash"):
+            got = set(bash_candidates([f"{name} -"])[f"{name} -"])
+            if got != helped:
+                yield f"{name}: completion in bash has {sorted(got)}, the help {sorted(helped)}"
+        if shutil.which("fish"):
+            got = {it for found in fish_candidates([f"{name} -", f"{name} --"]).values() for it in found}
+            if got != helped:
+                yield f"{name}: completion in fish has {sorted(got)}, the help {sorted(helped)}"
+        zsh = text_of("completions", "_ti")
+        part = zsh.split("\n_ti() {")[1] if tool == "" else zsh.split(f"        {tool})\n")[1].split(";;")[0]
+        got = set(re.findall(r"'(?:\([^)]*\))?(--?[\w-]+)\[", part)) | set(re.findall(r"(?<=[{,])--?[\w-]+(?=[},])", part))
+        if got != helped:
+            yield f"{name}: completion in zsh has {sorted(got)}, the help {sorted(helped)}"
+    commands = set(re.findall(r"^  (\w+)  ", help_of("").split("Commands:\n")[1].split("\n\n")[0], re.M))
+    if commands != {*TOOLS, "help"}:
+        yield f"the tools are {sorted(commands)}"
+    requests = re.findall(r"^  (\w) ", help_of("session").split("from 0:\n")[1].split("\nAn edit")[0], re.M)
+    shown = re.findall(r"^\.It Ic (\w)(?: Ar|$)", page_of("session"), re.M)
+    if requests != shown:
+        yield f"the page of session has the requests {shown}, the help {requests}"
+    yield from capability_faults()
+
+
+def capability_faults():
+    with tempfile.TemporaryDirectory(prefix="ti-package-") as folder:
+        output([PROGRAM, "tic", "-o", folder], "empty|no capability,\n")
+        absent = output([PROGRAM, "infocmp", "-n", "-s", "d", "-A", folder, "-B", folder, "empty", "empty"])
+    known = re.findall(r"^\t!(\w+)\.$", absent, re.M)
+    for name in SHELLS:
+        part = re.search(r"_ti_capabilities(?:='|=\(|\n    string split ' ' -- \\\n)(.*?)(?:'\n\n|\)\n|\nend)", text_of("completions", name), re.S)
+        if re.findall(r"\w+", part[1]) != known:
+            yield f"{name}: its capabilities are not the {len(known)} of the program"
+
+
+def check_pages():
+    codes = re.findall(r"^\.Ss ([EW]\d) (\w+)$", text_of("man", "ti-report.7"), re.M)
+    if [it for it, _ in codes] != CODES:
+        yield f"ti-report.7 has the codes {codes}"
+    table = re.findall(r"^\| ([EW]\d) \| (\w+) \|", text_of("README.md"), re.M)
+    if table and table != codes:
+        yield "the codes of README.md are not those of ti-report.7"
+    for name in PAGES:
+        lacking = [it for it in SECTIONS if f".Sh {it}\n" not in text_of("man", name)]
+        if name == "ti-report.7":
+            lacking = [it for it in lacking if it not in ("SYNOPSIS", "ENVIRONMENT", "FILES", "EXIT STATUS")]
+        if lacking:
+            yield f"{name}: no section {', '.join(lacking)}"
+    need("mandoc")
+    for name in PAGES:
+        said = output(["mandoc", "-T", "lint", name], cwd=os.path.join(TOP, "man"))
+        for line in said.split("\n"):
+            # whether ncurses's own pages are installed here is no fault of ours
+            foreign = re.search(r"mandoc\.db|referenced manual not found: Xr (tic|infocmp|tput|term|terminfo) \d", line)
+            if line and not foreign:
+                yield line
+
+
+def files_below(folder):
+    return sorted(os.path.relpath(os.path.join(at, it), folder) for at, _, names in os.walk(folder) for it in names)
+
+
+def check_install():
+    need("make")
+    with tempfile.TemporaryDirectory(prefix="ti-package-") as folder:
+        words = ["make", "-s", f"DESTDIR={folder}", "PREFIX=/usr", "TOOLS=1"]
+        said = output([*words, "install"], cwd=TOP)
+        if said:
+            yield f"make install says {said!r}"
+        here = lambda *parts: os.path.join(folder, "usr", *parts)
+        installed = files_below(folder)
+        wanted = ["usr/bin/ti", "usr/bin/ti-infocmp", "usr/bin/ti-tic", "usr/bin/ti-tput"]
+        wanted += ["usr/share/bash-completion/completions/ti", "usr/share/fish/vendor_completions.d/ti.fish"]
+        wanted += ["usr/share/zsh/site-functions/_ti", "usr/share/man/man7/ti-report.7"]
+        wanted += [f"usr/share/man/man1/{it}" for it in PAGES if it.endswith(".1")]
+        for name in sorted(set(wanted) - set(installed)):
+            yield f"make install puts no {name}"
+        env = {"PATH": here("bin") + ":/usr/bin:/bin", "TERMINFO": os.path.join(folder, "out")}
+        script = "ti tic dumb.ti && ti-tic -o again dumb.ti && cmp $TERMINFO/d/dumb again/d/dumb &&"
+        script += " ti-tput -T dumb cols && ti-infocmp dumb | head -n 1; ti-tput -T dumb bw; echo $?"
+        shutil.copy(os.path.join(TOP, "examples", "dumb.ti"), folder)
+        got = output(["sh", "-c", script], cwd=folder, env=env)
+        if got != "80\ndumb|80-column dumb tty,\n1\n":
+            yield f"the installed program gives {got!r}"
+        before = set(files_below(folder)) - set(installed)
+        output([*words, "uninstall"], cwd=TOP)
+        for name in sorted(set(files_below(folder)) - before):
+            yield f"make uninstall leaves {name}"
+
+
+def copies():
+    """The files that cases hold and that are named as one of the repository's own, each with that one: the gate
+    takes no links there."""
+    own = {"README.md": "README.md", "transcript.py": os.path.join("tests", "package", "transcript.py")}
+    for folder in ("man", "examples"):
+        own.update({name: os.path.join(folder, name) for name in os.listdir(os.path.join(TOP, folder)) if name != "README.md"})
+    for path in files_below(os.path.join(TOP, "tests", "cli", "cases")):
+        case, _, name = path.partition(os.sep + "data" + os.sep)
+        if not case.startswith("package-") and (case, name) != ("infocmp-of-the-examples-compiles-back", "comet.ti"):
+            continue
+        if name.startswith("examples" + os.sep) or (case, name) == ("package-walk-through-the-examples", "README.md"):
+            yield path, os.path.join("examples", os.path.basename(name))
+        elif name in own:
+            yield path, own[name]
+
+
+def check_copies():
+    renew = sys.argv[-1] == "renew"
+    seen = 0
+    for copy, own in copies():
+        here, there = os.path.join(TOP, "tests", "cli", "cases", copy), os.path.join(TOP, own)
+        seen += 1
+        if renew:
+            shutil.copyfile(there, here)
+        elif open(here, "rb").read() != open(there, "rb").read():
+            yield f"{copy} is not {own} any more; tests/package/run.py copies renew"
+    if seen < 32:
+        yield f"only {seen} copies were found"
+
+
+def unpacked(folder):
+    """Makes the tarball and unpacks it; gives the folder that it holds."""
+    need("git")
+    copy = os.path.join(folder, "copy")
+    if subprocess.run(["git", "clone", "-q", "--no-hardlinks", TOP, copy], stderr=subprocess.DEVNULL).returncode:
+        raise Skipped("this is no repository of git")
+    name = output(["make", "-s", "dist"], cwd=copy).strip()
+    with tarfile.open(os.path.join(copy, name)) as packed:
+        packed.extractall(folder)
+    return os.path.join(folder, name[: -len(".tar.gz")]), copy
+
+
+def check_tarball():
+    with tempfile.TemporaryDirectory(prefix="ti-package-") as folder:
+        made, copy = unpacked(folder)
+        tracked = output(["git", "ls-files"], cwd=copy).split("\n")[:-1]
+        packed = sorted(it for it in tracked if os.path.lexists(os.path.join(made, it)))
+        if sorted(tracked) != packed:
+            yield f"the tarball lacks {sorted(set(tracked) - set(packed))[:5]}"
+        if not os.access(os.path.join(made, "ti"), os.X_OK):
+            yield "the tarball's ti cannot be run"
+
+
+def check_tarball_builds():
+    need("rt")
+    with tempfile.TemporaryDirectory(prefix="ti-package-") as folder:
+        made, _ = unpacked(folder)
+        subprocess.run(["./ti", "tic", "-o", "out", "examples/dumb.ti"], cwd=made, check=True)
+        size = os.path.getsize(os.path.join(made, "out", "d", "dumb"))
+        if size != 308:
+            yield f"out/d/dumb has {size} bytes"
+
+
+CHECKS = {
+    "options": check_options, "pages": check_pages, "bash": check_bash, "fish": check_fish, "zsh": check_zsh,
+    "install": check_install, "copies": check_copies, "tarball": check_tarball, "tarball-builds": check_tarball_builds,
+}
+
+
+def main():
+    wanted = [it for it in sys.argv[1:] if it != "renew"] or [it for it in CHECKS if it != "tarball-builds"]
+    passed = failed = 0
+    for name in wanted:
+        faults = []
+        try:
+            faults.extend(CHECKS[name]())
+        except Skipped as why:
+            print(f"{name}: skipped{' in part' if faults else ''}, since {why}")
+            if not faults:
+                continue
+        except (subprocess.SubprocessError, OSError, IndexError, KeyError, TypeError) as fault:
+            faults.append(f"{type(fault).__name__}: {fault}")
+        for it in faults:
+            print(f"{name}: {it}")
+        passed, failed = (passed, failed + 1) if faults else (passed + 1, failed)
+    print(f"package: {passed} passed, {failed} failed")
+    return 1 if failed else 0
+
+
+if __name__ == "__main__":
+    sys.exit(main())
