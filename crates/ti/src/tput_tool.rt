@@ -6,7 +6,7 @@ use crate::failure::Failure;
 use crate::job_end::end_job;
 use std::io::{self, Write};
 use std::rt::{Env, Files};
-use ti_compiled::View;
+use ti_layout::View;
 use ti_tools::{Counted, Job, ToolError, entry, locate, message, tput, tput_lines};
 
 /// What `tput` is to do.

@@ -3,8 +3,8 @@ use Rattle.std.proofs.Common.{◌≡◌, ℕ, inl, inr, List, [], ◌∷◌, map
 use Rattle.std.proofs.lemmas.Option.{slice_get-map}
 use Rattle.std.proofs.lemmas.List.{length-map}
 use Rattle.ti_source.specs.Reading.{Reading, reading_of}
-use Rattle.ti_compiled.specs.declared.values.Table.{Table}
-use Rattle.ti_compiled.specs.Values.{contents}
+use Rattle.ti_layout.specs.declared.values.Table.{Table}
+use Rattle.ti_layout.specs.Values.{contents}
 use Rattle.ti_meaning.specs.Expansion.{expansion}
 use Rattle.ti_meaning.specs.Compiled.{state_of}
 use Rattle.ti_meaning.specs.Faults.{SourceFault}

@@ -1,11 +1,11 @@
 //! Entries to be laid: small ones, as of a plain terminal, and full ones of 400 texts.
 ghost use Rattle.std.specs.Prelude.{◌↔◌, ◌≤◌, IsTrue};
-ghost use Rattle.ti_compiled.specs.Values.{HasNoNul};
+ghost use Rattle.ti_layout.specs.Values.{HasNoNul};
 
 use std::alloc::{AllocError, Global};
 use std::rc::RcSlice;
 use ti_caps::{Cap, Kind};
-use ti_compiled::{Table, Value, write};
+use ti_layout::{Table, Value, write};
 
 const NAMES: &[u8] = b"bench|a made-up terminal";
 

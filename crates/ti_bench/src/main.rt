@@ -1,4 +1,4 @@
-//! Times `ti_param::expand` on setaf's usual 256-colour format, and `ti_compiled::write` on a small
+//! Times `ti_param::expand` on setaf's usual 256-colour format, and `ti_layout::write` on a small
 //! and on a full entry. With a number N as its word it expands N times, lays N entries of each kind,
 //! and prints the nanoseconds of one; with a second word, `expand`, `small` or `full`, that alone.
 //! With the second word `edits`, `chain` or `ring` it edits a database of N blocks instead: small
@@ -15,7 +15,7 @@ use std::rt::{Clock, Env};
 use std::time::Instant;
 use std::{env, io};
 use ti_base::{Database, EditError};
-use ti_compiled::Table;
+use ti_layout::Table;
 use ti_param::{Statics, Value, expand};
 
 const SETAF: &[u8] = b"\x1b[%?%p1%{8}%<%t3%p1%d%e%p1%{16}%<%t9%p1%{8}%-%d%e38;5;%p1%d%;m";

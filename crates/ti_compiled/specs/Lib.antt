@@ -1,10 +1,4 @@
-pub mod Values
-pub mod Layout
-pub mod Image
-pub mod Reading
-pub mod Cutting
-pub mod Shown
-pub mod Sound
-pub mod Laws
-pub mod Sizes
-pub mod Merging
+pub mod Held
+pub mod Parts
+pub mod Headers
+pub mod Changes

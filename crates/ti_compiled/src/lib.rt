@@ -1,28 +1,19 @@
-//! Compiled terminfo entries, as term(5) lays them out.
+//! Compiled terminfo entries that are changed in place.
 //!
-//! - `values`: the values of an entry, a finite map from capabilities
-//! - `merging`: two such maps made one, where the first decides
-//! - `layout`: the two formats, and the numbers of a header
-//! - `writing`: an entry written from its names and values
-//! - `view`: an entry read where it lies, each name and value a slice of the caller's bytes
-//! - `sections`: the sections of an entry, cut by its header and each looked through once
-//! - `fault`: why bytes are no entry
-//! - `laws`: what the definitions of reading settle, and that what is written is read again
+//! - `image`: an entry's bytes, one capability of which is given another value without laying the rest anew
+//!
+//! The crate `ti_layout` below it has values, the layout, the writer and the reader, whose calls are public here too.
 #![tactic(auto)]
 
-mod fault;
-mod laws;
-mod layout;
-mod merging;
-mod sections;
-mod values;
-mod view;
-mod writing;
+mod bytes;
+mod flags;
+mod header;
+mod image;
+mod numbers;
+mod texts;
 
-pub use fault::ReadError;
-pub use laws::{images_are_of_values, images_are_read, one_reading};
-pub use layout::{Format, HEADER_SIZE, Header};
-pub use sections::{number, word};
-pub use values::{Table, Value};
-pub use view::View;
-pub use writing::{WriteError, write};
+pub use image::Image;
+pub use ti_layout::{
+    Format, HEADER_SIZE, Header, ReadError, Table, Value, View, WriteError, images_are_of_values, images_are_read, number,
+    one_reading, word, write,
+};

@@ -4,7 +4,7 @@ ghost use Rattle.ti_devices.specs.declared.tool_error.ToolError.TheVariants.{Mem
 
 use std::alloc::AllocError;
 use thiserror::Error;
-use ti_compiled::ReadError;
+use ti_layout::ReadError;
 
 /// Why a tool stops before its work is done.
 #[derive(Clone, Copy, Debug, PartialEq, Eq, Error)]

@@ -1,7 +1,7 @@
 -- The source of an entry that uses no others is its listing.
 use Rattle.std.proofs.Common.{◌≡◌, List, [], ◌∷◌, Option, Some, None, refl}
 use Rattle.ti_caps.specs.Tables.{Capability}
-use Rattle.ti_compiled.specs.Values.{Content, Contents}
+use Rattle.ti_layout.specs.Values.{Content, Contents}
 use Rattle.ti_list.specs.declared.layout.Layout.{Layout}
 use Rattle.ti_list.specs.Listing.{items_for, listing}
 use Rattle.ti_list.specs.Relative.{Shown, difference, differing_contents, relative}

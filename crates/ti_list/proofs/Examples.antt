@@ -7,7 +7,7 @@ use Rattle.ti_caps.specs.Names.{flag_names, number_names, text_names}
 use Rattle.std.specs.Fmt.{digits}
 use Rattle.ti_caps.specs.declared.capability.Kind.TheVariants.{Flag, Number, Text}
 use Rattle.ti_spelling.specs.Spelling.{byte_text}
-use Rattle.ti_compiled.specs.Values.{content_true, content_number, content_text, Contents, contents}
+use Rattle.ti_layout.specs.Values.{content_true, content_number, content_text, Contents, contents}
 use Rattle.ti_list.specs.declared.layout.Layout.{Layout}
 use Rattle.ti_list.specs.declared.layout.Order.{Order}
 use Rattle.ti_list.specs.declared.layout.Order.TheVariants as order

@@ -2,7 +2,7 @@
 use Rattle.std.proofs.Common.{◌≡◌, ℕ, ◌+◌, ◌≤◌, List, length, drop, slice_get, Some, None, ap}
 use Rattle.std.proofs.lemmas.List.{drop_all}
 use Rattle.ti_caps.specs.Tables.{Capability}
-use Rattle.ti_compiled.specs.Values.{Content, Contents}
+use Rattle.ti_layout.specs.Values.{Content, Contents}
 use Rattle.ti_list.specs.Contents.{said_for}
 use Rattle.ti_list.specs.Listing.{items_for}
 use Rattle.ti_list.specs.Room.{item_room, items_room}

@@ -2,7 +2,7 @@
 use Rattle.std.proofs.Common.{◌≡◌, ℕ, ◌+◌, ◌≤◌, List, ◌++◌, length, drop, slice_get, Option, Some, refl, sym, ◌∙◌, ap, append_assoc, append-nil}
 use Rattle.std.proofs.lemmas.List.{drop_all}
 use Rattle.ti_caps.specs.Tables.{Capability}
-use Rattle.ti_compiled.specs.Values.{Content, Contents}
+use Rattle.ti_layout.specs.Values.{Content, Contents}
 use Rattle.ti_list.specs.declared.layout.Mode.{Mode}
 use Rattle.ti_list.specs.Comparison.{row, rows}
 use Rattle.ti_list.proofs.Steps.{drop_at}

@@ -7,7 +7,7 @@ use Rattle.ti_caps.specs.Tables.{Capability, name_of}
 use Rattle.ti_caps.specs.declared.capability.Kind.{Kind}
 use Rattle.ti_caps.specs.declared.capability.Kind.TheVariants.{Flag, Number, Text}
 use Rattle.ti_spelling.specs.Spelling.{written}
-use Rattle.ti_compiled.specs.Values.{Content, content_true, content_number, content_text, content_cancelled, Contents}
+use Rattle.ti_layout.specs.Values.{Content, content_true, content_number, content_text, content_cancelled, Contents}
 use Rattle.ti_list.specs.declared.layout.Order.{Order}
 use Rattle.ti_list.specs.declared.layout.Mode.{Mode}
 use Rattle.ti_list.specs.declared.layout.Mode.TheVariants.{Differ, Common, Neither}

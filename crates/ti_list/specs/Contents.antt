@@ -2,7 +2,7 @@
 use Rattle.std.specs.Prelude.{◌<◌, length}
 use Rattle.ti_caps.specs.Tables.{Capability}
 use Rattle.ti_source.specs.Reading.{Said, said_flag, said_number, said_text, said_cancel}
-use Rattle.ti_compiled.specs.Values.{Content, content_true, content_number, content_text, content_cancelled}
+use Rattle.ti_layout.specs.Values.{Content, content_true, content_number, content_text, content_cancelled}
 use Rattle.ti_list.specs.declared.contents.Content.{Content as ContentInMemory}
 use Rattle.ti_list.specs.declared.contents.Content.TheVariants as memory
 

@@ -7,7 +7,7 @@ use Rattle.ti_caps.specs.NameOrder.{in_name_order}
 use Rattle.ti_caps.specs.declared.capability.Kind.{Kind}
 use Rattle.ti_caps.specs.declared.capability.Kind.TheVariants.{Flag, Number, Text}
 use Rattle.ti_source.specs.Reading.{Said, said_flag, said_number, said_text, said_cancel}
-use Rattle.ti_compiled.specs.Values.{Content, content_true, content_number, content_text, content_cancelled, Contents}
+use Rattle.ti_layout.specs.Values.{Content, content_true, content_number, content_text, content_cancelled, Contents}
 use Rattle.ti_list.specs.declared.layout.Order.{Order}
 use Rattle.ti_list.specs.declared.layout.Order.TheVariants as order
 use Rattle.ti_list.specs.declared.layout.Layout.{Layout}

@@ -6,9 +6,9 @@ use Rattle.std.specs.Option.{option_or}
 use Rattle.std.specs.Str.{bytes_eq}
 use Rattle.ti_text.specs.Ascii as ascii
 use Rattle.ti_source.specs.Reading.{said_import}
-use Rattle.ti_compiled.specs.declared.view.View.{View}
-use Rattle.ti_compiled.specs.Shown.{names_of, held}
-use Rattle.ti_compiled.specs.Values.{Content, content_true, content_number, content_text, content_cancelled, Contents}
+use Rattle.ti_layout.specs.declared.view.View.{View}
+use Rattle.ti_layout.specs.Shown.{names_of, held}
+use Rattle.ti_layout.specs.Values.{Content, content_true, content_number, content_text, content_cancelled, Contents}
 use Rattle.ti_list.specs.declared.layout.Layout.{Layout}
 use Rattle.ti_list.specs.Items.{item_text}
 use Rattle.ti_list.specs.Listing.{source_lines, listing}

@@ -1,6 +1,6 @@
 // Two entries compared capability by capability.
 ghost use Rattle.std.specs.Prelude.{◌≡◌, ◌++◌, option_map, IfOk, OnOk};
-ghost use Rattle.ti_compiled.specs.Shown.{held};
+ghost use Rattle.ti_layout.specs.Shown.{held};
 ghost use Rattle.ti_list.specs.Comparison.{value_separator, common_row, compared_kind, comparison, differing_row};
 ghost use Rattle.ti_list.specs.Comparison.{kind_heading, neither_row, row, rows, have_same, value_text};
 ghost use Rattle.ti_list.specs.Contents.{content_of};
@@ -13,7 +13,7 @@ use crate::order::cap_at;
 use itoa::Buffer;
 use std::alloc::{AllocError, Global};
 use ti_caps::{Cap, Kind, count, name};
-use ti_compiled::View;
+use ti_layout::View;
 use ti_spelling::push_escaped;
 
 // Appends what an entry has of a capability of the kind: `T` or `F`, a number, a text in quotes, `NULL` where it has none.

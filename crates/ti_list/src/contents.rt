@@ -1,11 +1,11 @@
 // What an entry has of a capability, and how it differs from what others have.
 ghost use Rattle.std.specs.Prelude.{◌≡◌, map, option_map, IfSome};
-ghost use Rattle.ti_compiled.specs.Shown.{held};
+ghost use Rattle.ti_layout.specs.Shown.{held};
 ghost use Rattle.ti_list.specs.Contents.{content_of, IsShort};
 ghost use Rattle.ti_list.specs.Relative.{difference, first_of, same_content, shown};
 
 use ti_caps::{Cap, Kind};
-use ti_compiled::View;
+use ti_layout::View;
 
 /// What an item says of its capability.
 #[derive(Clone, Copy)]

@@ -1,6 +1,6 @@
 // An entry as source text: its own items, or those in which it differs from others.
 ghost use Rattle.std.specs.Prelude.{◌≡◌, ℕ, ◌+◌, ◌≤◌, ◌++◌, ◌∷◌, ◌↔◌, [], List, map, option_map, IfNone, IfOk, IfSome, IsErrOf, ◌<◌, vec_len, vec_capacity};
-ghost use Rattle.ti_compiled.specs.Shown.{held, names_of};
+ghost use Rattle.ti_layout.specs.Shown.{held, names_of};
 ghost use Rattle.ti_source.specs.Reading.{Said};
 ghost use Rattle.ti_list.specs.Contents.{content_of, said_for, IsShort};
 ghost use Rattle.ti_list.specs.Flow.{flow};
@@ -17,7 +17,7 @@ use crate::order::cap_at;
 use std::alloc::{AllocError, Global};
 use thiserror::Error;
 use ti_caps::{Cap, Kind, count};
-use ti_compiled::View;
+use ti_layout::View;
 use ti_text::room::append_reserved;
 
 /// The columns that a tab at the front of a line takes.

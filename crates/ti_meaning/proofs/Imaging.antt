@@ -3,10 +3,10 @@ use Rattle.std.proofs.Common.{◌≡◌, ℕ, ◌<◌, ◌≤◌, Bool, true, fa
 use Rattle.std.proofs.lemmas.Bool.{lt-ltb, le-ltb}
 use Rattle.std.proofs.lemmas.Option.{same_Some, none-some}
 use Rattle.ti_source.specs.Reading.{Reading}
-use Rattle.ti_compiled.specs.Values.{Content, content_true, content_number, content_text, content_cancelled, Contents}
-use Rattle.ti_compiled.specs.Image.{image, limit_of}
-use Rattle.ti_compiled.specs.Laws.{uncancelled, ShowSame}
-use Rattle.ti_compiled.proofs.OfValues.{images_are_of_values, limits_are_of_values}
+use Rattle.ti_layout.specs.Values.{Content, content_true, content_number, content_text, content_cancelled, Contents}
+use Rattle.ti_layout.specs.Image.{image, limit_of}
+use Rattle.ti_layout.specs.Laws.{uncancelled, ShowSame}
+use Rattle.ti_layout.proofs.OfValues.{images_are_of_values, limits_are_of_values}
 use Rattle.ti_meaning.specs.Expansion.{Mention, said, values, is_broken, expansion}
 use Rattle.ti_meaning.specs.Compiled.{image_of, is_too_large, entry_of, EntryState, oversized, written, state_of}
 use Rattle.ti_meaning.specs.ValueTables.{Tells}

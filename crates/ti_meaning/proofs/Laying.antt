@@ -4,7 +4,7 @@ use Rattle.std.specs.Option.{option_or}
 use Rattle.std.proofs.lemmas.Option.{same_Some, none-some}
 use Rattle.ti_caps.specs.Tables.{Capability}
 use Rattle.ti_source.specs.Reading.{Reading, ReadItem, Said, said_flag, said_number, said_text, said_cancel, said_import}
-use Rattle.ti_compiled.specs.Values.{Contents, Content}
+use Rattle.ti_layout.specs.Values.{Contents, Content}
 use Rattle.ti_meaning.specs.Owner.{owned}
 use Rattle.ti_meaning.specs.Expansion.{Mention, said, same_capability, is_broken, joined, mentions_of, expand_items}
 use Rattle.ti_meaning.specs.Reaching.{used_name, Uses}

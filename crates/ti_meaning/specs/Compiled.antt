@@ -2,7 +2,7 @@
 -- gives, for a block that resolves and whose image is within its limit: 32,768 bytes where a number is over 32,767, else 4,096.
 use Rattle.std.specs.Prelude.{ℕ, List, length, Option, Some, None, option_and_then, slice_get, Bool, nat_lt, if◌then◌else◌}
 use Rattle.ti_source.specs.Reading.{Reading}
-use Rattle.ti_compiled.specs.Image.{image, limit_of}
+use Rattle.ti_layout.specs.Image.{image, limit_of}
 use Rattle.ti_meaning.specs.Owner.{readings}
 use Rattle.ti_meaning.specs.Expansion.{Mention, values, expansion}
 

@@ -1,7 +1,7 @@
 -- What compiling and reporting want of a block as it is read (own).
 use Rattle.std.specs.Prelude.{ℕ, ◌≡◌, ◌≢◌, ◌≤◌, false, [], length, All}
 use Rattle.ti_source.specs.Reading.{Reading, ReadItem, ReadFault, Said, said_flag, said_number, said_text, said_cancel, said_import}
-use Rattle.ti_compiled.specs.Values.{content_true, content_number, content_text, content_cancelled, Agrees, HasNoNul}
+use Rattle.ti_layout.specs.Values.{content_true, content_number, content_text, content_cancelled, Agrees, HasNoNul}
 use Rattle.ti_meaning.specs.Expansion.{is_broken}
 
 -- an item gives its capability a value that fits it

@@ -3,7 +3,7 @@ use Rattle.std.specs.Prelude.{ℕ, ◌≡◌, List, Option, Some, None, option_a
 use Rattle.std.specs.Option.{option_or}
 use Rattle.ti_caps.specs.Tables.{Capability, IsCapability}
 use Rattle.ti_source.specs.Reading.{Reading, ReadItem, Said}
-use Rattle.ti_compiled.specs.Values.{Contents}
+use Rattle.ti_layout.specs.Values.{Contents}
 use Rattle.ti_meaning.specs.Owner.{owned}
 use Rattle.ti_meaning.specs.Expansion.{Mention, said, mentions_of, expand_items, expand, expansion}
 

@@ -6,14 +6,14 @@ use Rattle.std.proofs.lemmas.Option.{none-some}
 use Rattle.ti_caps.specs.Tables.{Capability}
 use Rattle.ti_source.specs.declared.code.Code.{Code}
 use Rattle.ti_source.specs.Reading.{Reading, said_import}
-use Rattle.ti_compiled.specs.declared.values.Table.{Table}
-use Rattle.ti_compiled.specs.Values.{Contents, contents}
+use Rattle.ti_layout.specs.declared.values.Table.{Table}
+use Rattle.ti_layout.specs.Values.{Contents, contents}
 use Rattle.ti_meaning.specs.Expansion.{Mention, values}
 use Rattle.ti_meaning.specs.Reaching.{used_name}
 use Rattle.ti_meaning.specs.Faults.{use_fault}
 use Rattle.ti_meaning.specs.Compiled.{EntryState, oversized, written, image_of, state_with, state_of}
 use Rattle.ti_meaning.specs.ValueTables.{Tells, IsLaid, IsTableOf, HasTable}
-use Rattle.ti_compiled.specs.Image.{limit_of}
+use Rattle.ti_layout.specs.Image.{limit_of}
 use Rattle.ti_meaning.proofs.Depth.{bounded}
 use Rattle.ti_meaning.proofs.Laying.{uses_at}
 use Rattle.ti_plan.specs.Settling.{IsUseAt, IsItemAt, AreUsesSound, IsUsedTable}

@@ -5,7 +5,7 @@ use Rattle.std.proofs.lemmas.Option.{same_Some, none-some, slice_get_within, get
 use Rattle.ti_source.specs.declared.code.Code.{Code}
 use Rattle.ti_source.specs.declared.code.Code.TheVariants.{Circular}
 use Rattle.ti_source.specs.Reading.{Reading}
-use Rattle.ti_compiled.specs.Values.{contents}
+use Rattle.ti_layout.specs.Values.{contents}
 use Rattle.ti_meaning.specs.Owner.{owner}
 use Rattle.ti_meaning.specs.Reaching.{LeadsTo, leads_to}
 use Rattle.ti_meaning.specs.Faults.{use_fault}

@@ -1,7 +1,7 @@
 -- What is known while the blocks that depend on an edit are settled (own).
 use Rattle.std.specs.Prelude.{ℕ, ◌≡◌, ◌<◌, ◌⊎◌, ◌↔◌, List, length, slice_index, Option, Some, None, is_some, Bool, slice_get, All, Contains, false}
 use Rattle.ti_source.specs.Reading.{Reading, ReadItem, Said}
-use Rattle.ti_compiled.specs.Values.{contents, Contents}
+use Rattle.ti_layout.specs.Values.{contents, Contents}
 use Rattle.ti_source.specs.Sound.{IsRising}
 use Rattle.ti_meaning.specs.Dependents.{work}
 use Rattle.ti_meaning.specs.Owner.{owned}

@@ -3,7 +3,7 @@ ghost use Rattle.std.specs.Prelude.{ℕ, ◌≡◌, ◌+◌, ◌<◌, ◌^◌, i
 ghost use Rattle.std.specs.Option.{option_or};
 ghost use Rattle.ti_caps.specs.Tables.{Capability};
 ghost use Rattle.ti_source.specs.Reading.{item_of, reading_of, said_of};
-ghost use Rattle.ti_compiled.specs.Values.{contents, content_of, Agrees};
+ghost use Rattle.ti_layout.specs.Values.{contents, content_of, Agrees};
 ghost use Rattle.ti_meaning.specs.Expansion.{Mention, is_broken, same_capability};
 ghost use Rattle.ti_meaning.specs.Compiled.{state_of, state_with};
 ghost use Rattle.ti_meaning.specs.Dependents.{work_of};
@@ -16,7 +16,7 @@ ghost use Rattle.ti_plan.specs.Settling.{AreUsesSound, CanBeSettled, IsItemAt};
 use crate::owners::{Known, used_table};
 use std::alloc::{AllocError, Global};
 use ti_caps::Cap;
-use ti_compiled::{Table, Value, WriteError, write};
+use ti_layout::{Table, Value, WriteError, write};
 use ti_slots::State;
 use ti_source::{Parsed, What};
 

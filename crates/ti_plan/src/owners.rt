@@ -1,11 +1,11 @@
 // What becomes of the owners of used names, and what is wrong with a use.
 ghost use Rattle.std.specs.Prelude.{ℕ, ◌≡◌, Some, None, IfOk, IfErr};
-ghost use Rattle.ti_compiled.specs.Values.{contents};
+ghost use Rattle.ti_layout.specs.Values.{contents};
 ghost use Rattle.ti_meaning.specs.Faults.{use_fault};
 ghost use Rattle.ti_slots.specs.Slots.{blocks_of};
 ghost use Rattle.ti_plan.specs.Settling.{CanBeSettled, IsOwnerState, IsUseAt, IsUsedTable};
 
-use ti_compiled::Table;
+use ti_layout::Table;
 use ti_dependents::Dependents;
 use ti_slots::{Settled, Slots, State};
 use ti_source::Code;

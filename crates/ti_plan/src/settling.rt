@@ -4,7 +4,7 @@ ghost use Rattle.std.specs.Bool.{MatchBool};
 ghost use Rattle.std.specs.List.{list_any};
 ghost use Rattle.ti_source.specs.Codes.{is_error};
 ghost use Rattle.ti_source.specs.Reading.{Reading, fault_of, reading_of};
-ghost use Rattle.ti_compiled.specs.Values.{contents};
+ghost use Rattle.ti_layout.specs.Values.{contents};
 ghost use Rattle.ti_meaning.specs.Compiled.{state_of};
 ghost use Rattle.ti_meaning.specs.Dependents.{work_of};
 ghost use Rattle.ti_meaning.specs.UseLaws.{HasUseAtFault};

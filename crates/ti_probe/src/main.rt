@@ -9,7 +9,7 @@ use std::io::Write;
 use std::rt::{Env, Files};
 use std::{env, fs, io};
 use ti_caps::{Cap, Kind, count, name};
-use ti_compiled::{ReadError, View};
+use ti_layout::{ReadError, View};
 
 /// The longest file that is read.
 const FILE_MAX: usize = 65_536;

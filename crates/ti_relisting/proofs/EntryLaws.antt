@@ -12,10 +12,10 @@ use Rattle.ti_source.specs.Parsing.{parsed, HasReading}
 use Rattle.ti_source.specs.Sound.{EachIsWellRead}
 use Rattle.ti_spelling.specs.Spelling.{AreBytes}
 use Rattle.ti_spelling.specs.inside.Spelling.{UnescapedAgrees, ValuesAreSound}
-use Rattle.ti_compiled.specs.Values.{Contents}
-use Rattle.ti_compiled.specs.Image.{image, limit_of}
-use Rattle.ti_compiled.specs.Reading.{Reads, OneReading}
-use Rattle.ti_compiled.specs.Laws.{uncancelled, ImagesAreRead, ImagesAreOfValues, LimitsAreOfValues}
+use Rattle.ti_layout.specs.Values.{Contents}
+use Rattle.ti_layout.specs.Image.{image, limit_of}
+use Rattle.ti_layout.specs.Reading.{Reads, OneReading}
+use Rattle.ti_layout.specs.Laws.{uncancelled, ImagesAreRead, ImagesAreOfValues, LimitsAreOfValues}
 use Rattle.ti_meaning.specs.Owner.{owned, readings}
 use Rattle.ti_meaning.specs.Expansion.{Mention, said, values, is_broken, expansion}
 use Rattle.ti_meaning.specs.Compiled.{image_of, is_too_large, entry_of, entry, compiled}

@@ -6,9 +6,9 @@ use Rattle.ti_caps.specs.Names.{flag_names, number_names, text_names}
 use Rattle.ti_caps.specs.declared.capability.Kind.TheVariants.{Flag, Number}
 use Rattle.ti_caps.specs.Tables.{capability, names, capability_named}
 use Rattle.ti_source.specs.Parsing.{parsed}
-use Rattle.ti_compiled.specs.Values.{content_true, content_number, Contents, contents}
-use Rattle.ti_compiled.specs.Layout.{spelled}
-use Rattle.ti_compiled.specs.Image.{image, last_passing, some_below, below, texts_below}
+use Rattle.ti_layout.specs.Values.{content_true, content_number, Contents, contents}
+use Rattle.ti_layout.specs.Layout.{spelled}
+use Rattle.ti_layout.specs.Image.{image, last_passing, some_below, below, texts_below}
 use Rattle.ti_meaning.specs.Compiled.{compiled}
 use Rattle.ti_list.specs.declared.layout.Layout.{Layout}
 use Rattle.ti_list.specs.declared.layout.Order.TheVariants as order

@@ -7,8 +7,8 @@ use Rattle.std.proofs.lemmas.List.Elements.{All-nil, All-cons, All-head, All-tai
 use Rattle.ti_caps.specs.Tables.{Capability, IsCapability}
 use Rattle.ti_source.specs.Reading.{Said, said_flag, said_number, said_text, said_cancel, said_import, ReadItem, Reading}
 use Rattle.ti_source.specs.Sound.{SetsItsKind}
-use Rattle.ti_compiled.specs.Values.{Content, content_true, content_number, content_text, content_cancelled, AgreesIfSome}
-use Rattle.ti_compiled.specs.Laws.{uncancelled}
+use Rattle.ti_layout.specs.Values.{Content, content_true, content_number, content_text, content_cancelled, AgreesIfSome}
+use Rattle.ti_layout.specs.Laws.{uncancelled}
 use Rattle.ti_meaning.specs.Owner.{is_among, owned}
 use Rattle.ti_meaning.specs.Expansion.{Mention, same_capability, said, is_broken, joined, mentions_of, expand_items, expand}
 use Rattle.ti_relisting.specs.Shown.{CanHave}

@@ -2,7 +2,7 @@
 use Rattle.std.specs.Prelude.{◌≡◌, ◌≢◌, ℕ, List, All, Some}
 use Rattle.ti_spelling.specs.Spelling.{AreBytes}
 use Rattle.ti_source.specs.Blocks.{last_byte, Cut, OneBlock}
-use Rattle.ti_compiled.specs.Reading.{Reads}
+use Rattle.ti_layout.specs.Reading.{Reads}
 use Rattle.ti_meaning.specs.Compiled.{compiled}
 use Rattle.ti_list.specs.Relative.{Shown, first_name}
 

@@ -2,7 +2,7 @@
 use Rattle.std.specs.Prelude.{ℕ, List, [], ◌∷◌, ◌++◌}
 use Rattle.ti_caps.specs.declared.capability.Kind.TheVariants.{Flag, Number, Text}
 use Rattle.ti_source.specs.Reading.{Said, said_import}
-use Rattle.ti_compiled.specs.Values.{Contents}
+use Rattle.ti_layout.specs.Values.{Contents}
 use Rattle.ti_list.specs.declared.layout.Layout.{Layout}
 use Rattle.ti_list.specs.Items.{IsListing}
 use Rattle.ti_list.specs.Listing.{kind_items, listing}

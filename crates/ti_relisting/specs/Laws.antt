@@ -4,8 +4,8 @@ use Rattle.std.specs.List.{concat}
 use Rattle.ti_source.specs.Blocks.{Cut, OneBlock}
 use Rattle.ti_source.specs.Parsing.{parsed}
 use Rattle.ti_source.specs.Reading.{Said}
-use Rattle.ti_compiled.specs.Values.{Contents}
-use Rattle.ti_compiled.specs.Image.{image}
+use Rattle.ti_layout.specs.Values.{Contents}
+use Rattle.ti_layout.specs.Image.{image}
 use Rattle.ti_meaning.specs.Owner.{readings, owner}
 use Rattle.ti_meaning.specs.Compiled.{compiled}
 use Rattle.ti_list.specs.declared.layout.Layout.{Layout}

@@ -3,8 +3,8 @@ use Rattle.std.specs.Prelude.{◌≢◌, ◌≤◌, ℕ, List, length, All, Opti
 use Rattle.ti_caps.specs.Tables.{Capability, IsCapability}
 use Rattle.ti_spelling.specs.Spelling.{AreBytes}
 use Rattle.ti_source.specs.Header.{IsLookupName}
-use Rattle.ti_compiled.specs.Values.{Content, content_true, content_number, content_text, content_cancelled, Contents, Agrees}
-use Rattle.ti_compiled.specs.Image.{image, limit_of}
+use Rattle.ti_layout.specs.Values.{Content, content_true, content_number, content_text, content_cancelled, Contents, Agrees}
+use Rattle.ti_layout.specs.Image.{image, limit_of}
 use Rattle.ti_list.specs.Items.{IsListable}
 use Rattle.ti_list.specs.Relative.{Shown, first_name}
 

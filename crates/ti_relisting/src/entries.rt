@@ -5,7 +5,7 @@ ghost use Rattle.ti_relisting.specs.Entries.{EntriesOfSources};
 use crate::reading_back::parts_are_blocks;
 use crate::relisting::{listings_compile, relatives_compile};
 use ti_caps::each_kind_is_in_order;
-use ti_compiled::{images_are_of_values, images_are_read, one_reading as entries_have_one_reading};
+use ti_layout::{images_are_of_values, images_are_read, one_reading as entries_have_one_reading};
 use ti_source::{blocks_are_single, each_is_well_read, one_outcome, one_reading};
 
 /// Each entry of a source of bytes that is empty or ends with a newline is one of those that the laws speak of.

@@ -3,7 +3,7 @@ ghost use Rattle.ti_relisting.specs.Laws.{ListingsCompile, RelativesCompile};
 
 use crate::reading_back::parts_are_read;
 use ti_caps::each_kind_is_in_order;
-use ti_compiled::images_are_of_values;
+use ti_layout::images_are_of_values;
 
 /// The listing of a names field and contents that a source can give, in any layout, compiles to their image, in whatever
 /// source it stands.

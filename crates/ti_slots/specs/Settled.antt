@@ -2,8 +2,8 @@
 use Rattle.std.specs.Prelude.{ℕ, ◌≡◌, List, map, Option, Some, None, option_map}
 use Rattle.std.specs.Rc.{rc_slice_items}
 use Rattle.ti_source.specs.Reading.{Reading}
-use Rattle.ti_compiled.specs.declared.values.Table.{Table}
-use Rattle.ti_compiled.specs.Values.{contents}
+use Rattle.ti_layout.specs.declared.values.Table.{Table}
+use Rattle.ti_layout.specs.Values.{contents}
 use Rattle.ti_meaning.specs.Compiled.{EntryState, unresolved, oversized, written, state_of}
 use Rattle.ti_meaning.specs.Faults.{SourceFault}
 use Rattle.ti_meaning.specs.KeptBlocks.{lasting_faults}

@@ -5,7 +5,7 @@ ghost use Rattle.ti_slots.specs.Slots.{blocks_of, slot_at, IsIndexed, IsOwnerId}
 
 use std::alloc::Global;
 use std::rc::RcSlice;
-use ti_compiled::Table;
+use ti_layout::Table;
 use ti_index::{NameIndex, Order};
 use ti_source::{Code, Parsed};
 

@@ -2,8 +2,8 @@
 use Rattle.std.specs.Prelude.{ℕ, Bool, if◌then◌else◌, ◌||◌, List, [], ◌∷◌, codes, bytes_eq, decimal, Option, Some, None, is_some}
 use Rattle.std.specs.List.{concat}
 use Rattle.ti_caps.specs.Tables.{capability_named}
-use Rattle.ti_compiled.specs.declared.fault.ReadError.{ReadError}
-use Rattle.ti_compiled.specs.declared.fault.ReadError.TheVariants.{Short, Magic, Counts, Truncated, BadNames, BadFlag, BadNumber, BadOffset}
+use Rattle.ti_layout.specs.declared.fault.ReadError.{ReadError}
+use Rattle.ti_layout.specs.declared.fault.ReadError.TheVariants.{Short, Magic, Counts, Truncated, BadNames, BadFlag, BadNumber, BadOffset}
 use Rattle.ti_devices.specs.declared.tool_error.ToolError.{ToolError}
 use Rattle.ti_devices.specs.declared.tool_error.ToolError.TheVariants.{Usage, NoTerminal, BadEntry, ReadFault, WriteFault}
 use Rattle.ti_devices.specs.declared.tool_error.ToolError.TheVariants.{LineTooLong, BlockTooLong, TooManyBlocks, Memory}

@@ -10,7 +10,7 @@ use itoa::Buffer;
 use std::io::Write;
 use ti_caps::find;
 use ti_commands::Job;
-use ti_compiled::ReadError;
+use ti_layout::ReadError;
 use ti_devices::{Counted, ToolError, write_out};
 
 // The exit status of `tput`.

@@ -4,7 +4,7 @@ use Rattle.std.specs.Prelude.{codes, pos, neg_ℤ, replicate}
 use Rattle.ti_caps.specs.declared.capability.Kind.TheVariants.{Flag, Number, Text}
 use Rattle.ti_caps.specs.Names.{flag_names, number_names, text_names}
 use Rattle.ti_caps.specs.Tables.{capability, capability_named, names}
-use Rattle.ti_compiled.specs.Values.{contents, content_true, content_number, content_text}
+use Rattle.ti_layout.specs.Values.{contents, content_true, content_number, content_text}
 use Rattle.ti_param.specs.Meaning.{number, text}
 use Rattle.ti_tput.specs.Entries.{Entry, holding_of}
 use Rattle.ti_tput.specs.Parameters.{word_number, parameters}

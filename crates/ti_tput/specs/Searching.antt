@@ -4,12 +4,12 @@ use Rattle.std.specs.Prelude.{List, [], ◌∷◌, ◌++◌, length, map, take, 
 use Rattle.std.specs.List.{slice_split}
 use Rattle.std.specs.Global.{Vec}
 use Rattle.ti_text.specs.Ascii as ascii
-use Rattle.ti_compiled.specs.Reading.{Reads, Refused}
-use Rattle.ti_compiled.specs.Shown.{names_of, held}
-use Rattle.ti_compiled.specs.Values.{Contents}
-use Rattle.ti_compiled.specs.declared.fault.ReadError.{ReadError}
-use Rattle.ti_compiled.specs.declared.fault.ReadError.TheVariants.{Counts}
-use Rattle.ti_compiled.specs.declared.view.View.{View}
+use Rattle.ti_layout.specs.Reading.{Reads, Refused}
+use Rattle.ti_layout.specs.Shown.{names_of, held}
+use Rattle.ti_layout.specs.Values.{Contents}
+use Rattle.ti_layout.specs.declared.fault.ReadError.{ReadError}
+use Rattle.ti_layout.specs.declared.fault.ReadError.TheVariants.{Counts}
+use Rattle.ti_layout.specs.declared.view.View.{View}
 use Rattle.ti_devices.specs.Paths.{path_of}
 use Rattle.ti_devices.specs.Tree.{Files}
 use Rattle.ti_devices.specs.declared.tool_error.ToolError.{ToolError}

@@ -8,7 +8,7 @@ ghost use Rattle.ti_tput.specs.Runs.{BadCommandsChangeNothing};
 use crate::entries::terminal_line;
 use crate::replies::{TputOutcome, answer_name};
 use std::alloc::Global;
-use ti_compiled::View;
+use ti_layout::View;
 use ti_devices::ToolError;
 use ti_param::{Line, Statics};
 

@@ -3,7 +3,7 @@ ghost use Rattle.std.specs.Prelude.{◌≡◌, IfSome, Some, option_map};
 ghost use Rattle.ti_tput.specs.Entries.{entry_of, flag_value, holding_of, line_of, meaning_of, number_value, pad_byte_of, text_value};
 
 use ti_caps::{Kind, find};
-use ti_compiled::View;
+use ti_layout::View;
 use ti_param::Line;
 
 /// What an entry has of a capability.

@@ -10,7 +10,7 @@ use crate::entries::{CapabilityValue, terminal_line, text, value_of};
 use crate::parameters::parameters;
 use memchr::memrchr;
 use std::alloc::{AllocError, Global};
-use ti_compiled::View;
+use ti_layout::View;
 use ti_param::{Line, PadError, ParamError, Statics, expand, pad, pad_owned};
 
 /// The exit status of a capability that is unknown, or of which the string is bad.

@@ -8,7 +8,7 @@ ghost use Rattle.ti_tput.specs.Streaming.{Ends};
 use crate::terminal::Terminal;
 use std::alloc::Global;
 use std::io::{Read, Write};
-use ti_compiled::View;
+use ti_layout::View;
 use ti_devices::{Counted, LineReader, Next, ToolError};
 
 /// The greatest length of a line, without its newline.

@@ -10,7 +10,7 @@ use crate::replies::BAD_COMMAND;
 use crate::words::split_words;
 use std::alloc::{AllocError, Global};
 use std::io::Write;
-use ti_compiled::View;
+use ti_layout::View;
 use ti_devices::{Counted, ToolError, write_out};
 use ti_param::{Line, Statics};
 

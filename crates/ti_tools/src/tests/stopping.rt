@@ -2,7 +2,7 @@
 use crate::{Counted, Job, ToolError, message, status};
 use std::alloc::Global;
 use std::test::Fail;
-use ti_compiled::ReadError;
+use ti_layout::ReadError;
 
 // A job of `tput`.
 fn tput_job(alloc: Global) -> Job {

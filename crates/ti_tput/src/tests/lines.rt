@@ -3,7 +3,7 @@ use super::{compiled, dumb};
 use crate::{entry, tput_lines};
 use std::alloc::Global;
 use std::test::Fail;
-use ti_compiled::View;
+use ti_layout::View;
 use ti_devices::{Counted, ToolError};
 
 // What the lines write, and how they end.

@@ -3,7 +3,7 @@ use super::dumb;
 use crate::{entry, locate, places};
 use std::alloc::{AllocError, Global};
 use std::test::Fail;
-use ti_compiled::ReadError;
+use ti_layout::ReadError;
 use ti_devices::{MemTree, ToolError, Tree};
 
 fn strings(alloc: Global, texts: &[&str]) -> Result<Vec<String>, AllocError> {

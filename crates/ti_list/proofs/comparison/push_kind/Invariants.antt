@@ -1,5 +1,5 @@
 use Rattle.std.proofs.Common.{◌≡◌, ◌++◌, drop}
-use Rattle.ti_compiled.specs.Shown.{held}
+use Rattle.ti_layout.specs.Shown.{held}
 use Rattle.ti_list.specs.Comparison.{rows}
 use Rattle.ti_list.specs.Listing.{in_order}
 use Rattle.ti_list.proofs.comparison.push_kind.Given as goal

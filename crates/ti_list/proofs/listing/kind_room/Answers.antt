@@ -1,6 +1,6 @@
 -- each step adds the room of one item, or there is none
 use Rattle.std.proofs.Common.{◌≡◌, ◌≤◌, map, option_map, Some, None, length, refl, sym, ◌∙◌, arith}
-use Rattle.ti_compiled.specs.Shown.{held}
+use Rattle.ti_layout.specs.Shown.{held}
 use Rattle.ti_list.specs.Contents.{content_of}
 use Rattle.ti_list.specs.Listing.{in_order}
 use Rattle.ti_list.specs.Relative.{differing_contents, shown}

@@ -1,5 +1,5 @@
 use Rattle.std.proofs.Common.{◌≡◌, ◌+◌, map, drop}
-use Rattle.ti_compiled.specs.Shown.{held}
+use Rattle.ti_layout.specs.Shown.{held}
 use Rattle.ti_list.specs.Listing.{in_order, items_for}
 use Rattle.ti_list.specs.Relative.{differing_contents, shown}
 use Rattle.ti_list.specs.Room.{items_room}

@@ -1,7 +1,7 @@
 -- each step writes the item of one capability, or there is none
 use Rattle.std.proofs.Common.{◌≡◌, ◌≤◌, ◌++◌, map, option_map, Some, None, length, refl, sym, ◌∙◌, ap, arith}
 use Rattle.std.proofs.lemmas.List.{drop_all}
-use Rattle.ti_compiled.specs.Shown.{held}
+use Rattle.ti_layout.specs.Shown.{held}
 use Rattle.ti_list.specs.Contents.{content_of}
 use Rattle.ti_list.specs.Flow.{flow}
 use Rattle.ti_list.specs.Listing.{in_order, items_for}

@@ -1,5 +1,5 @@
 use Rattle.std.proofs.Common.{◌≡◌, ℕ, ◌+◌, ◌≤◌, ◌++◌, List, map, drop, vec_len, vec_capacity}
-use Rattle.ti_compiled.specs.Shown.{held}
+use Rattle.ti_layout.specs.Shown.{held}
 use Rattle.ti_list.specs.Flow.{flow}
 use Rattle.ti_list.specs.Listing.{in_order, items_for, lines_of}
 use Rattle.ti_list.specs.Relative.{differing_contents, shown}

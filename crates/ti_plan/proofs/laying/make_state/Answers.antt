@@ -1,7 +1,7 @@
 use Rattle.std.proofs.Common.{◌∙◌, ◌<◌, ◌≤◌, length, refl, subst}
 use Rattle.ti_source.specs.Reading.{reading_of}
-use Rattle.ti_compiled.specs.Image.{limit_of}
-use Rattle.ti_compiled.specs.Values.{contents}
+use Rattle.ti_layout.specs.Image.{limit_of}
+use Rattle.ti_layout.specs.Values.{contents}
 use Rattle.ti_meaning.specs.Compiled.{image_of}
 use Rattle.ti_meaning.proofs.Imaging.{image_tells, limit_tells}
 use Rattle.ti_plan.proofs.BlockValues.{within, over}

@@ -1,7 +1,7 @@
 use Rattle.std.proofs.Common.{◌<◌, ◌≤◌, map, take, length, arith, refl}
 use Rattle.std.proofs.lemmas.List.{take_all}
 use Rattle.ti_source.specs.Reading.{reading_of, item_of}
-use Rattle.ti_compiled.specs.Values.{contents}
+use Rattle.ti_layout.specs.Values.{contents}
 use Rattle.ti_meaning.specs.Usable.{SetsWell}
 use Rattle.ti_meaning.proofs.Laying.{table_of_one_more, table_of_block}
 use Rattle.ti_slots.specs.Slots.{blocks_of}

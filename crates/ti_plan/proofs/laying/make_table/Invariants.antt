@@ -1,6 +1,6 @@
 use Rattle.std.proofs.Common.{◌≡◌, ◌+◌, map, take}
 use Rattle.ti_source.specs.Reading.{item_of}
-use Rattle.ti_compiled.specs.Values.{contents}
+use Rattle.ti_layout.specs.Values.{contents}
 use Rattle.ti_meaning.specs.ValueTables.{IsTableOfItems}
 use Rattle.ti_slots.specs.Slots.{blocks_of}
 use Rattle.ti_plan.proofs.laying.make_table.Given as goal

@@ -1,0 +1,102 @@
+-- An image of names and contents is read as them, so bytes that are such an image keep what is so of every image.
+use Rattle.std.proofs.Common.{◌≡◌, ◌≢◌, ℕ, ◌<◌, ◌≤◌, [], ◌∷◌, true, false, cond, List, length, Option, Some, None, refl, sym, ap, ◌∙◌, subst, arith}
+use Rattle.std.specs.Prelude.{option_and_then, OnOk, OnErr}
+use Rattle.std.proofs.Common.{Result, Ok, Err}
+use Rattle.ti_layout.specs.declared.writing.WriteError.{WriteError}
+use Rattle.std.proofs.lemmas.List.{get_or_past}
+use Rattle.std.proofs.lemmas.Option.{slice_get_past}
+use Rattle.ti_caps.specs.Tables.{Capability, IsCapability, capability, count_of}
+use Rattle.ti_caps.specs.declared.capability.Kind.{Kind}
+use Rattle.ti_caps.specs.declared.capability.Kind.TheVariants.{Flag, Number, Text}
+use Rattle.ti_layout.specs.declared.layout.Format.{Format}
+use Rattle.ti_layout.specs.Image.{image, limit_of}
+use Rattle.ti_layout.specs.Laws.{uncancelled}
+use Rattle.ti_layout.specs.Reading.{Reads, says, flag_of, number_of, text_of}
+use Rattle.ti_layout.specs.Values.{Content, content_true, content_number, content_text, content_cancelled, Contents, AgreesIfSome, HasNoNul, is_same}
+use Rattle.ti_layout.proofs.Held.{one_from_same}
+use Rattle.ti_layout.proofs.OneReading.{read_names, read_contents}
+use Rattle.ti_layout.proofs.ImageReading.{images_are_read}
+use Rattle.ti_layout.proofs.OfValues.{images_are_of_values, limits_are_of_values}
+use Rattle.ti_compiled.specs.Held.{names_in, contents_in, given, IsImage}
+
+uncancelled-twice : (o : Option Content) → uncancelled (uncancelled o) ≡ uncancelled o
+uncancelled-twice None = refl
+uncancelled-twice (Some content_true) = refl
+uncancelled-twice (Some (content_number n)) = refl
+uncancelled-twice (Some (content_text t)) = refl
+uncancelled-twice (Some content_cancelled) = refl
+
+uncancelled-agrees : (c : Capability) (o : Option Content) → AgreesIfSome c o → AgreesIfSome c (uncancelled o)
+uncancelled-agrees c None a = a
+uncancelled-agrees c (Some content_true) a = a
+uncancelled-agrees c (Some (content_number n)) a = a
+uncancelled-agrees c (Some (content_text t)) a = a
+uncancelled-agrees c (Some content_cancelled) a = tt
+
+-- the sections say nothing of what is no capability
+says_past : (w : Format) (flags numbers offsets strings : List ℕ) → length flags ≤ 44 → length numbers ≤ 39 → length offsets ≤ 414
+    → (kind : Kind) (index : ℕ) → count_of kind ≤ index → says w flags numbers offsets strings kind index ≡ None
+says_past w flags numbers offsets strings f n o Flag index past = ap flag_of (get_or_past flags index 0 (omega arith))
+says_past w flags numbers offsets strings f n o Number index past = ap (option_and_then (number_of w)) (slice_get_past numbers index (omega arith))
+says_past w flags numbers offsets strings f n o Text index past = ap (option_and_then (text_of strings)) (slice_get_past offsets index (omega arith))
+
+-- what the bytes of an image hold
+pub record Again (bytes names : List ℕ) (contents : Contents) : Type 0 where
+  pub names_read : names_in bytes ≡ names
+  pub contents_read : (c : Capability) → IsCapability c → contents_in bytes c ≡ uncancelled (contents c)
+  pub kept : IsImage bytes
+
+pub read_again : (bytes names : List ℕ) (contents : Contents) → 0 < length names → length names ≤ 127 → HasNoNul names
+    → ((c : Capability) → IsCapability c → AgreesIfSome c (contents c)) → length bytes ≤ limit_of contents → bytes ≡ image names contents → Again bytes names contents
+read_again bytes names contents some short no_nul agree within whole =
+    let r = images_are_read names contents some short no_nul agree (subst (λ (b : List ℕ). length b ≤ limit_of contents) whole within) in
+    let reads = subst (λ b. Reads b names r.0) (sym whole) r.1 in
+    let n = read_names bytes names r.0 reads in
+    let d = read_contents bytes names r.0 reads in
+    let said : (c : Capability) → IsCapability c → contents_in bytes c ≡ uncancelled (contents c) = λ c valid. ap (λ (f : Contents). f c) (sym d) ∙ r.2 c valid in
+    let same : (c : Capability) → IsCapability c → uncancelled (contents c) ≡ uncancelled (contents_in bytes c) = λ c valid. sym (ap uncancelled (said c valid) ∙ uncancelled-twice (contents c)) in
+    let again : image names contents ≡ image (names_in bytes) (contents_in bytes) =
+    ap (λ m. image m contents) n ∙ images_are_of_values (names_in bytes) contents (contents_in bytes) same in
+    let limits = limits_are_of_values contents (contents_in bytes) same in
+    record {
+      names_read = sym n;
+      contents_read = said;
+      kept = record {
+        imaged = record {
+          some = subst (λ (m : List ℕ). 0 < length m) n some;
+          short = subst (λ (m : List ℕ). length m ≤ 127) n short;
+          no_nul = subst HasNoNul n no_nul;
+          agree = λ c valid. subst (AgreesIfSome c) (sym (said c valid)) (uncancelled-agrees c (contents c) (agree c valid));
+          present = λ c valid. ap uncancelled (said c valid) ∙ uncancelled-twice (contents c) ∙ sym (said c valid);
+          past = λ kind index past.
+              ap (λ (f : Contents). f (capability kind index)) (sym d ∙ reads.held)
+              ∙ says_past reads.format reads.sections.flags reads.sections.numbers reads.sections.offsets reads.sections.strings reads.sound.flag_count reads.sound.number_count reads.sound.text_count kind index past;
+          within = subst (λ (b : List ℕ). length b ≤ limit_of (contents_in bytes)) (whole ∙ again) (subst (λ n. length bytes ≤ n) limits within);
+        };
+        whole = whole ∙ again;
+      };
+    }
+
+pub some_bytes : (xs : List ℕ) → xs ≢ [] → 0 < length xs
+some_bytes [] none = absurd (none refl)
+some_bytes (x ∷ xs) none = omega arith
+
+pub given_agrees : (d : Contents) (k : Capability) (v : Option Content) → AgreesIfSome k v → (x : Capability) → AgreesIfSome x (d x) → AgreesIfSome x (given d k v x)
+given_agrees d k v agrees x old = elim (is_same k x) as (λ b. is_same k x ≡ b → AgreesIfSome x (cond b v (d x))) [
+  | true ↦ λ e. subst (λ y. AgreesIfSome y v) (one_from_same k x e) agrees
+  | false ↦ λ e. old
+] refl
+
+-- what is given leaves an image
+pub given_again : (b bytes : List ℕ) → IsImage b → (k : Capability) (v : Option Content) → AgreesIfSome k v
+    → length (image (names_in b) (given (contents_in b) k v)) ≤ limit_of (given (contents_in b) k v) → bytes ≡ image (names_in b) (given (contents_in b) k v) → Again bytes (names_in b) (given (contents_in b) k v)
+given_again b bytes is k v agrees within whole =
+    let d = contents_in b in
+    read_again bytes (names_in b) (given d k v) is.imaged.some is.imaged.short is.imaged.no_nul
+    (λ x valid. given_agrees d k v agrees x (is.imaged.agree x valid))
+    (subst (λ (y : List ℕ). length y ≤ limit_of (given d k v)) (sym whole) within) whole
+
+pub kept_after : (r : Result (Unit {0}) WriteError) (b new : List ℕ) → IsImage b → (k : Capability) (v : Option Content) → AgreesIfSome k v → OnOk r (new ≡ image (names_in b) (given (contents_in b) k v))
+    → OnOk r (length (image (names_in b) (given (contents_in b) k v)) ≤ limit_of (given (contents_in b) k v)) → OnErr r (new ≡ b) → IsImage new
+kept_after (Ok x) b new is k v agrees made within same = (given_again b new is k v agrees within made).kept
+kept_after (Err x) b new is k v agrees made within same = subst IsImage (sym same) is

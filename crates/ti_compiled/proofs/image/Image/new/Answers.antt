@@ -1,0 +1,18 @@
+use Rattle.ti_layout.specs.Values.{contents}
+use Rattle.ti_compiled.proofs.Kept.{Again, read_again, some_bytes}
+use Rattle.ti_compiled.proofs.image.Image.new.Goals as goal
+use Rattle.ti_compiled.proofs.image.Image.new.Goals.{In_ok-bytes}
+
+again : (c : In_ok-bytes) → Again c.in_ok-bytes.bytes.items c.args.names.now (contents c.args.table.now)
+again c =
+    let ok = c.in_ok-bytes.ensures.ok in
+    read_again c.in_ok-bytes.bytes.items c.args.names.now (contents c.args.table.now) (some_bytes c.args.names.now c.requires.present) ok.1 c.requires.no_nul (λ k valid. c.values_agree.ensures k) ok.2 ok.0
+
+pub invariant_of-result : goal.invariant_of-result
+invariant_of-result c = (again c).kept
+
+pub returns-clause-names : goal.returns-clause-names
+returns-clause-names c = (again c).names_read
+
+pub returns-clause-contents : goal.returns-clause-contents
+returns-clause-contents c = (again c).contents_read

@@ -1,8 +1,0 @@
-use Rattle.ti_compiled.proofs.OfValues.{images_are_of_values, limits_are_of_values}
-use Rattle.ti_compiled.proofs.laws.images_are_of_values.Goals as goal
-
-pub returns-clause-images : goal.returns-clause-images
-returns-clause-images c = images_are_of_values
-
-pub returns-clause-limits : goal.returns-clause-limits
-returns-clause-limits c = limits_are_of_values

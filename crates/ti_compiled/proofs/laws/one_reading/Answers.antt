@@ -1,5 +1,0 @@
-use Rattle.ti_compiled.proofs.OneReading.{one_entry, one_refusal, not_both}
-use Rattle.ti_compiled.proofs.laws.one_reading.Goals as goal
-
-pub returns : goal.returns
-returns c = (one_entry, one_refusal, not_both)

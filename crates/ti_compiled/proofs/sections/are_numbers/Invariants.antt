@@ -1,7 +1,0 @@
-use Rattle.std.proofs.Common.{ℕ, ◌*◌, ◌<◌}
-use Rattle.ti_compiled.specs.Layout.{width}
-use Rattle.ti_compiled.specs.Reading.{number_at, IsNumber}
-use Rattle.ti_compiled.proofs.sections.are_numbers.Given as goal
-
-abbrev pub invariant-loop-index : goal.invariant-loop-index
-invariant-loop-index l = (k : ℕ) → k < l.index → IsNumber l.format (number_at l.format (width l.format * k) l.numbers)

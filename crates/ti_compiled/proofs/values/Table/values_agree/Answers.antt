@@ -1,9 +1,0 @@
-use Rattle.std.proofs.Common.{List, subst}
-use Rattle.ti_compiled.specs.Values.{Entry, IsKept}
-use Rattle.ti_compiled.proofs.Held.{agree_all}
-use Rattle.ti_compiled.proofs.values.Table.values_agree.Goals as goal
-
-pub returns : goal.returns
-returns c =
-    let kept = subst (λ (es : List Entry). IsKept es) c.self.view_is c.self.invariant in
-    λ k. agree_all k c.args.self.now kept.agree

@@ -1,6 +1,0 @@
-use Rattle.ti_compiled.specs.Values.{entries_of}
-use Rattle.ti_compiled.proofs.Counting.{HeaderSoFar}
-use Rattle.ti_compiled.proofs.writing.header_of.Given as goal
-
-abbrev pub invariant-loop-entry : goal.invariant-loop-entry
-invariant-loop-entry l = HeaderSoFar (entries_of l.entries) l.names l.entry-index l.header

@@ -1,6 +1,0 @@
-use Rattle.ti_compiled.specs.Values.{entries_of}
-use Rattle.ti_compiled.proofs.Laying.{HasNumbers}
-use Rattle.ti_compiled.proofs.writing.push_numbers.Given as goal
-
-abbrev pub invariant-loop-entry : goal.invariant-loop-entry
-invariant-loop-entry l = HasNumbers l.format (entries_of l.entries) l.initial.image.items l.image.items l.entry-index l.places

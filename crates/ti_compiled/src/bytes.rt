@@ -1,0 +1,52 @@
+// Parts of an entry's bytes that grow, shrink or are written over where they lie. The room for
+// them is there, so none of these takes memory.
+ghost use Rattle.std.specs.Prelude.{◌≡◌, ℕ, ◌+◌, ◌≤◌, List, length, vec_len, vec_capacity};
+ghost use Rattle.ti_compiled.specs.Parts.{opened, closed, resized, Replaces};
+
+// Puts as many bytes in at a place.
+fn open(bytes: &mut Vec<u8>, at: usize, count: usize, fill: u8)
+    requires within { at ≤ vec_len bytes.old }
+    requires room { vec_len bytes.old + count ≤ vec_capacity bytes.old }
+    ensures items { bytes.new.items ≡ opened bytes.old.items at count fill }
+    ensures len { vec_len bytes.new ≡ vec_len bytes.old + count }
+    ensures capacity { vec_capacity bytes.old ≤ vec_capacity bytes.new }
+{
+    let _ = bytes.resize(bytes.len() + count, fill);
+    bytes[at..].rotate_right(count);
+}
+
+// Takes as many bytes out at a place.
+fn close(bytes: &mut Vec<u8>, at: usize, count: usize)
+    requires within { at + count ≤ vec_len bytes.old }
+    ensures items { bytes.new.items ≡ closed bytes.old.items at count }
+    ensures len { vec_len bytes.new + count ≡ vec_len bytes.old }
+    ensures capacity { vec_capacity bytes.old ≤ vec_capacity bytes.new }
+{
+    bytes[at..].rotate_left(count);
+    bytes.truncate(bytes.len() - count);
+}
+
+/// Cuts the part of a size that lies at a place to another size, or fills it up to that.
+pub fn resize_part(bytes: &mut Vec<u8>, at: usize, size: usize, wanted: usize, fill: u8)
+    requires within { at + size ≤ vec_len bytes.old }
+    requires room { vec_len bytes.old + wanted ≤ vec_capacity bytes.old + size }
+    ensures part { Replaces bytes.old.items bytes.new.items at size (λ m. resized m wanted fill) }
+    ensures len { vec_len bytes.new + size ≡ vec_len bytes.old + wanted }
+    ensures capacity { vec_capacity bytes.old ≤ vec_capacity bytes.new }
+{
+    if wanted >= size {
+        open(bytes, at + size, wanted - size, fill);
+    } else {
+        close(bytes, at + wanted, size - wanted);
+    }
+}
+
+/// Writes bytes over those at a place.
+pub fn overwrite(bytes: &mut Vec<u8>, at: usize, part: &[u8])
+    requires within { at + length part.now ≤ vec_len bytes.old }
+    ensures part { Replaces bytes.old.items bytes.new.items at (length part.now) (λ m. part.now) }
+    ensures len { vec_len bytes.new ≡ vec_len bytes.old }
+    ensures capacity { vec_capacity bytes.new ≡ vec_capacity bytes.old }
+{
+    bytes[at..at + part.len()].copy_from_slice(part);
+}

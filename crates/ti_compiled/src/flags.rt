@@ -1,0 +1,90 @@
+// A flag of an image set or taken away: a byte for each flag up to the last that is set, and then
+// the zero byte where the names and the flags are an odd number of bytes.
+ghost use Rattle.std.specs.Prelude.{◌≡◌, ◌≢◌, ℕ, suc, ◌<◌, ◌≤◌, ◌↔◌, length, slice_index, vec_capacity, IsErrOf, OnOk, OnErr};
+ghost use Rattle.ti_caps.specs.Tables.{capability};
+ghost use Rattle.ti_caps.specs.declared.capability.Kind.TheVariants.{Flag};
+ghost use Rattle.ti_layout.specs.Image.{image, limit_of, flag_value};
+ghost use Rattle.ti_layout.specs.Sizes.{HasSizes};
+ghost use Rattle.ti_compiled.specs.Changes.{flag_content};
+ghost use Rattle.ti_compiled.specs.Held.{names_in, contents_in, given, IsImage};
+
+use crate::bytes::resize_part;
+use crate::header::{header_of, make_room, write_header};
+use ti_layout::{HEADER_SIZE, Header, WriteError};
+
+// One more than the last flag that is set, and 0 where none is.
+fn last_set(flags: &[u8]) -> usize
+    ensures within { result ≤ length flags.now }
+    ensures last { (j : ℕ) → suc j ≡ result → slice_index flags.now j ≢ 0 }
+    ensures past { (j : ℕ) → result ≤ j → j < length flags.now → slice_index flags.now j ≡ 0 }
+{
+    let mut end = flags.len();
+    while end > 0 && flags[end - 1] == 0 {
+        end -= 1;
+    }
+    end
+}
+
+// The sizes of the image when the flag is set or taken away.
+fn sizes_with_flag(bytes: &[u8], old: &Header, index: usize, on: bool) -> Header
+    requires image { IsImage bytes.now }
+    requires old { HasSizes (names_in bytes.now) (contents_in bytes.now) old.now }
+    requires index { index < 44 }
+    ensures { HasSizes (names_in bytes.now) (given (contents_in bytes.now) (capability Flag index) (flag_content on)) result }
+{
+    let start = HEADER_SIZE + old.names;
+    let flags = if on {
+        old.flags.max(index + 1)
+    } else if index + 1 == old.flags {
+        last_set(&bytes[start..start + index])
+    } else {
+        old.flags
+    };
+    Header { flags, ..*old }
+}
+
+fn flag_byte(on: bool) -> u8
+    ensures { result ≡ flag_value (flag_content on) }
+{
+    u8::from(on)
+}
+
+// Sets the flag or takes it away, where the sizes are known and there is room.
+fn change_flag(bytes: &mut Vec<u8>, old: &Header, new: &Header, index: usize, on: bool)
+    requires image { IsImage bytes.old.items }
+    requires index { index < 44 }
+    requires old { HasSizes (names_in bytes.old.items) (contents_in bytes.old.items) old.now }
+    requires new { HasSizes (names_in bytes.old.items) (given (contents_in bytes.old.items) (capability Flag index) (flag_content on)) new.now }
+    requires small { length (image (names_in bytes.old.items) (given (contents_in bytes.old.items) (capability Flag index) (flag_content on))) ≤ limit_of (given (contents_in bytes.old.items) (capability Flag index) (flag_content on)) }
+    requires room { length (image (names_in bytes.old.items) (given (contents_in bytes.old.items) (capability Flag index) (flag_content on))) ≤ vec_capacity bytes.old }
+    ensures { bytes.new.items ≡ image (names_in bytes.old.items) (given (contents_in bytes.old.items) (capability Flag index) (flag_content on)) }
+{
+    let start = HEADER_SIZE + old.names;
+    let size = old.flags + (old.names + old.flags) % 2;
+    let wanted = new.flags + (new.names + new.flags) % 2;
+    resize_part(bytes, start, size, wanted, 0);
+    if index < wanted {
+        bytes[start + index] = flag_byte(on);
+    }
+    write_header(bytes, new);
+}
+
+/// Sets a flag or takes it away. A refused change leaves the image.
+pub fn set_flag(bytes: &mut Vec<u8>, index: usize, on: bool) -> Result<(), WriteError>
+    requires image { IsImage bytes.old.items }
+    requires index { index < 44 }
+    ensures ok { OnOk result (bytes.new.items ≡ image (names_in bytes.old.items) (given (contents_in bytes.old.items) (capability Flag index) (flag_content on))) }
+    ensures within { OnOk result (length (image (names_in bytes.old.items) (given (contents_in bytes.old.items) (capability Flag index) (flag_content on))) ≤ limit_of (given (contents_in bytes.old.items) (capability Flag index) (flag_content on))) }
+    ensures too_large { IsErrOf result WriteError.TooLarge ↔ (limit_of (given (contents_in bytes.old.items) (capability Flag index) (flag_content on)) < length (image (names_in bytes.old.items) (given (contents_in bytes.old.items) (capability Flag index) (flag_content on)))) }
+    ensures memory { IsErrOf result WriteError.Memory → length (image (names_in bytes.old.items) (given (contents_in bytes.old.items) (capability Flag index) (flag_content on))) ≤ limit_of (given (contents_in bytes.old.items) (capability Flag index) (flag_content on)) }
+    ensures names_fit { IsErrOf result WriteError.NamesTooLong → ⊥ }
+    ensures err { OnErr result (bytes.new.items ≡ bytes.old.items) }
+{
+    let old = header_of(bytes);
+    let new = sizes_with_flag(bytes, &old, index, on);
+    let room = make_room(bytes, &new);
+    if room.is_ok() {
+        change_flag(bytes, &old, &new, index, on);
+    }
+    room
+}

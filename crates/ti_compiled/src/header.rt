@@ -1,0 +1,98 @@
+// The header of an image: the sizes of its sections.
+ghost use Rattle.std.specs.Prelude.{◌≡◌, ℕ, ◌+◌, ◌≤◌, ◌<◌, ◌↔◌, List, length, vec_len, vec_capacity, IsErrOf, OnOk};
+ghost use Rattle.ti_caps.specs.declared.capability.Kind.TheVariants.{Text};
+ghost use Rattle.ti_layout.specs.Image.{image, limit_of, texts_below, written_count};
+ghost use Rattle.ti_layout.specs.Layout as layout;
+ghost use Rattle.ti_layout.specs.Layout.{number_bytes};
+ghost use Rattle.ti_layout.specs.Sizes.{HasSizes};
+ghost use Rattle.ti_layout.specs.Values.{Contents};
+ghost use Rattle.ti_compiled.specs.Held.{names_in, contents_in, IsImage};
+ghost use Rattle.ti_compiled.specs.Headers.{IsHeaderAt};
+ghost use Rattle.ti_compiled.specs.Parts.{Replaces};
+
+use crate::bytes::overwrite;
+use ti_layout::{Format, HEADER_SIZE, Header, WriteError, word};
+
+/// The numbers that a header spells.
+fn read_header(bytes: &[u8]) -> Header
+    requires { 12 ≤ length bytes.now }
+    ensures { IsHeaderAt bytes.now result }
+{
+    let format = match word(bytes, 0) {
+        0o1036 => Format::Extended,
+        _ => Format::Legacy,
+    };
+    Header {
+        format,
+        names: word(bytes, 2),
+        flags: word(bytes, 4),
+        numbers: word(bytes, 6),
+        texts: word(bytes, 8),
+        strings: word(bytes, 10),
+    }
+}
+
+/// The sizes of what an image holds.
+pub fn header_of(bytes: &[u8]) -> Header
+    requires { IsImage bytes.now }
+    ensures sizes { HasSizes (names_in bytes.now) (contents_in bytes.now) result }
+    ensures names { result.names ≤ 128 }
+    ensures strings { result.strings ≡ length (texts_below (contents_in bytes.now) (written_count (contents_in bytes.now) Text)) }
+    ensures strings_fit { result.strings < 32768 }
+{
+    read_header(bytes)
+}
+
+/// Makes room for an image of these sizes, where it is within its limit.
+pub fn make_room(bytes: &mut Vec<u8>, header: &Header) -> Result<(), WriteError>
+    requires names { header.now.names < 65536 }
+    requires flags { header.now.flags < 65536 }
+    requires numbers { header.now.numbers < 65536 }
+    requires texts { header.now.texts < 65536 }
+    ensures items { bytes.new.items ≡ bytes.old.items }
+    ensures room { (names : List ℕ) (c : Contents) → HasSizes names c header.now → OnOk result (length (image names c) ≤ vec_capacity bytes.new) }
+    ensures within { (names : List ℕ) (c : Contents) → HasSizes names c header.now → OnOk result (length (image names c) ≤ limit_of c) }
+    ensures too_large { (names : List ℕ) (c : Contents) → HasSizes names c header.now → IsErrOf result WriteError.TooLarge ↔ (limit_of c < length (image names c)) }
+    ensures memory { (names : List ℕ) (c : Contents) → HasSizes names c header.now → IsErrOf result WriteError.Memory → length (image names c) ≤ limit_of c }
+    ensures names_fit { IsErrOf result WriteError.NamesTooLong → ⊥ }
+{
+    let size = header.size();
+    if size > header.format.limit() {
+        return Err(WriteError::TooLarge);
+    }
+    let missing = size.saturating_sub(bytes.len());
+    bytes.reserve(missing)?;
+    Ok(())
+}
+
+/// The two bytes of a number, the low one first; what does not fit is dropped.
+pub fn word_bytes(word: usize) -> [u8; 2]
+    ensures { result ≡ number_bytes Format.Legacy word }
+{
+    [(word % 256) as u8, (word / 256 % 256) as u8]
+}
+
+fn header_bytes(header: &Header) -> [u8; HEADER_SIZE]
+    ensures { result ≡ layout.header header.now.format header.now.names header.now.flags header.now.numbers header.now.texts header.now.strings }
+{
+    let magic = word_bytes(header.format.magic() as usize);
+    let names = word_bytes(header.names);
+    let flags = word_bytes(header.flags);
+    let numbers = word_bytes(header.numbers);
+    let texts = word_bytes(header.texts);
+    let strings = word_bytes(header.strings);
+    [
+        magic[0], magic[1], names[0], names[1], flags[0], flags[1], numbers[0], numbers[1],
+        texts[0], texts[1], strings[0], strings[1],
+    ]
+}
+
+/// Writes a header over the one that the bytes begin with.
+pub fn write_header(bytes: &mut Vec<u8>, header: &Header)
+    requires { 12 ≤ vec_len bytes.old }
+    ensures header { Replaces bytes.old.items bytes.new.items 0 12 (λ _. layout.header header.now.format header.now.names header.now.flags header.now.numbers header.now.texts header.now.strings) }
+    ensures len { vec_len bytes.new ≡ vec_len bytes.old }
+{
+    let spelled = header_bytes(header);
+    overwrite(bytes, 0, &spelled);
+}

@@ -1,0 +1,157 @@
+// A compiled entry, and one capability of it changed where it lies.
+ghost use Rattle.std.specs.Prelude.{None, ◌≡◌, ◌≢◌, ◌<◌, ◌≤◌, ◌↔◌, [], List, length, option_map, IfOk, IfSome, IsErrOf, OnOk, OnErr};
+ghost use Rattle.ti_caps.specs.Tables.{Capability, IsCapability};
+ghost use Rattle.ti_caps.specs.declared.capability.Kind.TheVariants.{Flag, Number, Text};
+ghost use Rattle.ti_layout.specs.Image.{image, limit_of, HasNoNul};
+ghost use Rattle.ti_layout.specs.Laws.{uncancelled};
+ghost use Rattle.ti_layout.specs.Values.{content_of, contents, AgreesIfSome};
+ghost use Rattle.ti_compiled.specs.Changes.{flag_content, number_content, text_content, image_with, limit_with};
+ghost use Rattle.ti_compiled.specs.Held.{names_in, contents_in};
+
+use crate::flags::set_flag;
+use crate::numbers::set_number;
+use crate::texts::set_text;
+use std::alloc::{AllocError, Global};
+use std::marker::Model;
+use ti_caps::{Cap, Kind};
+use ti_layout::{Table, Value, WriteError, write};
+
+/// A compiled entry of term(5), within its limit. Contracts see its bytes, and `names_in` and
+/// `contents_in` read from them the names and what each capability has, a cancelled one being
+/// absent; the bytes are the image of these.
+#[derive(Drop)]
+pub struct Image {
+    bytes: Vec<u8>,
+}
+
+impl Model for Image {
+    ghost use Rattle.std.specs.Prelude.{ℕ, List};
+    ghost use Rattle.ti_compiled.specs.Held.{IsImage};
+
+    ghost Value = { List ℕ };
+
+    ghost view = { λ i. i.bytes.items };
+
+    ghost invariant = { λ i. IsImage i.bytes.items };
+}
+
+impl Image {
+    /// The image of a names field and a table.
+    ///
+    /// # Errors
+    /// Those of [`write`], each exactly where `write` answers it.
+    pub fn new(alloc: Global, names: &[u8], table: &Table) -> Result<Image, WriteError>
+        requires present { names.now ≢ [] }
+        requires no_nul { HasNoNul names.now }
+        ensures image { IfOk result (λ i. i ≡ image names.now (contents table.now)) }
+        ensures names { IfOk result (λ i. names_in i ≡ names.now) }
+        ensures contents { IfOk result (λ i. (c : Capability) → IsCapability c → contents_in i c ≡ uncancelled (contents table.now c)) }
+        ensures names_too_long { IsErrOf result WriteError.NamesTooLong ↔ (127 < length names.now) }
+        ensures too_large { IsErrOf result WriteError.TooLarge ↔ ((length names.now ≤ 127) × (limit_of (contents table.now) < length (image names.now (contents table.now)))) }
+        ensures memory { IsErrOf result WriteError.Memory → (length names.now ≤ 127) × (length (image names.now (contents table.now)) ≤ limit_of (contents table.now)) }
+    {
+        table.values_agree();
+        let bytes = write(alloc, names, table)?;
+        Ok(Image { bytes })
+    }
+
+    /// The bytes of the entry.
+    pub fn bytes(&self) -> &[u8]
+        ensures bytes { result.now ≡ self.now }
+        ensures image { result.now ≡ image (names_in self.now) (contents_in self.now) }
+        ensures within { length result.now ≤ limit_of (contents_in self.now) }
+    {
+        self.bytes.as_slice()
+    }
+
+    /// The same entry once more.
+    pub fn copy(&self, alloc: Global) -> Result<Image, AllocError>
+        ensures { IfOk result (λ i. i ≡ self.now) }
+    {
+        let bytes = Vec::from_slice(alloc, &self.bytes)?;
+        Ok(Image { bytes })
+    }
+
+    // Sets a flag or takes it away. A refused change leaves the image.
+    fn set_flag(&mut self, cap: Cap, on: bool) -> Result<(), WriteError>
+        requires kind { cap.kind ≡ Flag }
+        ensures ok { OnOk result (self.new ≡ image_with self.old cap (flag_content on)) }
+        ensures within { OnOk result (length (image_with self.old cap (flag_content on)) ≤ limit_with self.old cap (flag_content on)) }
+        ensures too_large { IsErrOf result WriteError.TooLarge ↔ (limit_with self.old cap (flag_content on) < length (image_with self.old cap (flag_content on))) }
+        ensures memory { IsErrOf result WriteError.Memory → length (image_with self.old cap (flag_content on)) ≤ limit_with self.old cap (flag_content on) }
+        ensures names_fit { IsErrOf result WriteError.NamesTooLong → ⊥ }
+        ensures err { OnErr result (self.new ≡ self.old) }
+    {
+        set_flag(&mut self.bytes, cap.index(), on)
+    }
+
+    // Gives a number or takes it away. A refused change leaves the image.
+    fn set_number(&mut self, cap: Cap, number: Option<u32>) -> Result<(), WriteError>
+        requires kind { cap.kind ≡ Number }
+        requires fits { IfSome number (λ n. n ≤ 2147483647) }
+        ensures ok { OnOk result (self.new ≡ image_with self.old cap (number_content number)) }
+        ensures within { OnOk result (length (image_with self.old cap (number_content number)) ≤ limit_with self.old cap (number_content number)) }
+        ensures too_large { IsErrOf result WriteError.TooLarge ↔ (limit_with self.old cap (number_content number) < length (image_with self.old cap (number_content number))) }
+        ensures memory { IsErrOf result WriteError.Memory → length (image_with self.old cap (number_content number)) ≤ limit_with self.old cap (number_content number) }
+        ensures names_fit { IsErrOf result WriteError.NamesTooLong → ⊥ }
+        ensures err { OnErr result (self.new ≡ self.old) }
+    {
+        set_number(&mut self.bytes, cap.index(), number)
+    }
+
+    // Gives a text or takes it away. A refused change leaves the image.
+    fn set_text(&mut self, cap: Cap, text: Option<&[u8]>) -> Result<(), WriteError>
+        requires kind { cap.kind ≡ Text }
+        requires no_nul { IfSome text (λ t. HasNoNul t.now) }
+        ensures ok { OnOk result (self.new ≡ image_with self.old cap (text_content (option_map (λ t. t.now) text.entry))) }
+        ensures within { OnOk result (length (image_with self.old cap (text_content (option_map (λ t. t.now) text.entry))) ≤ limit_with self.old cap (text_content (option_map (λ t. t.now) text.entry))) }
+        ensures too_large { IsErrOf result WriteError.TooLarge ↔ (limit_with self.old cap (text_content (option_map (λ t. t.now) text.entry)) < length (image_with self.old cap (text_content (option_map (λ t. t.now) text.entry)))) }
+        ensures memory { IsErrOf result WriteError.Memory → length (image_with self.old cap (text_content (option_map (λ t. t.now) text.entry))) ≤ limit_with self.old cap (text_content (option_map (λ t. t.now) text.entry)) }
+        ensures names_fit { IsErrOf result WriteError.NamesTooLong → ⊥ }
+        ensures err { OnErr result (self.new ≡ self.old) }
+    {
+        set_text(&mut self.bytes, cap.index(), text)
+    }
+
+    // Takes away what a capability has. A refused change leaves the image.
+    fn take_away(&mut self, cap: Cap) -> Result<(), WriteError>
+        ensures ok { OnOk result (self.new ≡ image_with self.old cap None) }
+        ensures within { OnOk result (length (image_with self.old cap None) ≤ limit_with self.old cap None) }
+        ensures too_large { IsErrOf result WriteError.TooLarge ↔ (limit_with self.old cap None < length (image_with self.old cap None)) }
+        ensures memory { IsErrOf result WriteError.Memory → length (image_with self.old cap None) ≤ limit_with self.old cap None }
+        ensures names_fit { IsErrOf result WriteError.NamesTooLong → ⊥ }
+        ensures err { OnErr result (self.new ≡ self.old) }
+    {
+        match cap.kind() {
+            Kind::Flag => self.set_flag(cap, false),
+            Kind::Number => self.set_number(cap, None),
+            Kind::Text => self.set_text(cap, None),
+        }
+    }
+
+    /// Gives a capability a value, or takes away what it has; a cancelled value is absent. The part
+    /// behind the place is moved, and the rest stays as it was. A refused change leaves the image.
+    ///
+    /// # Errors
+    /// [`WriteError::TooLarge`] exactly where [`write`] of the names and the new values answers it,
+    /// and [`WriteError::Memory`]; never [`WriteError::NamesTooLong`].
+    pub fn set(&mut self, cap: Cap, value: Option<Value>) -> Result<(), WriteError>
+        requires agrees { AgreesIfSome cap (option_map content_of value) }
+        ensures ok { OnOk result (self.new ≡ image_with self.old cap (uncancelled (option_map content_of value))) }
+        ensures within { OnOk result (length (image_with self.old cap (uncancelled (option_map content_of value))) ≤ limit_with self.old cap (uncancelled (option_map content_of value))) }
+        ensures too_large { IsErrOf result WriteError.TooLarge ↔ (limit_with self.old cap (uncancelled (option_map content_of value)) < length (image_with self.old cap (uncancelled (option_map content_of value)))) }
+        ensures memory { IsErrOf result WriteError.Memory → length (image_with self.old cap (uncancelled (option_map content_of value))) ≤ limit_with self.old cap (uncancelled (option_map content_of value)) }
+        ensures names_fit { IsErrOf result WriteError.NamesTooLong → ⊥ }
+        ensures err { OnErr result (self.new ≡ self.old) }
+    {
+        match value {
+            Some(Value::True) => self.set_flag(cap, true),
+            Some(Value::Number(number)) => self.set_number(cap, Some(number)),
+            Some(Value::Text(text)) => self.set_text(cap, Some(text.as_slice())),
+            Some(Value::Cancelled) | None => self.take_away(cap),
+        }
+    }
+}
+
+#[cfg(test)]
+mod tests;

@@ -1,0 +1,174 @@
+// A number of an image given, replaced or taken away. The section's numbers, 39 at most, are
+// read and spelled again, wider or narrower where the format changes.
+ghost use Rattle.std.specs.Prelude.{◌≡◌, ◌≢◌, ℕ, suc, ◌+◌, ◌*◌, ◌%◌, ◌<◌, ◌≤◌, List, length, take, slice_index, vec_len, vec_capacity, Option, IfSome, ◌↔◌, IsErrOf, OnOk, OnErr};
+ghost use Rattle.ti_layout.specs.Image.{image, limit_of, below, format_of};
+ghost use Rattle.ti_layout.specs.Layout as layout;
+ghost use Rattle.ti_layout.specs.Layout.{spelled, number_bytes};
+ghost use Rattle.ti_layout.specs.Sizes.{HasSizes};
+ghost use Rattle.ti_layout.specs.Values.{Contents};
+ghost use Rattle.ti_compiled.specs.Changes.{wide_value, with_number, HasNumbers};
+ghost use Rattle.ti_compiled.specs.Held.{names_in, contents_in, IsImage};
+ghost use Rattle.ti_compiled.specs.Parts.{Replaces};
+
+use crate::bytes::{overwrite, resize_part};
+use crate::header::{header_of, make_room, write_header};
+use ti_layout::{Format, HEADER_SIZE, Header, WriteError, number};
+
+// What stands for a number that is absent, of either format.
+const ABSENT: u32 = u32::MAX;
+
+// The greatest number of the legacy format.
+const SHORT_MAX: u32 = 32767;
+
+// Where the numbers begin.
+fn numbers_place(header: &Header) -> usize
+    requires names { header.now.names < 65536 }
+    requires flags { header.now.flags < 65536 }
+    ensures { result ≡ 12 + header.now.names + header.now.flags + (header.now.names + header.now.flags) % 2 }
+{
+    HEADER_SIZE + header.names + header.flags + (header.names + header.flags) % 2
+}
+
+// The numbers of an image, each with what stands for it.
+fn read_numbers(bytes: &[u8], header: &Header) -> [u32; 39]
+    requires image { IsImage bytes.now }
+    requires sizes { HasSizes (names_in bytes.now) (contents_in bytes.now) header.now }
+    ensures { result ≡ below (wide_value (contents_in bytes.now)) 39 }
+{
+    let mut values = [ABSENT; 39];
+    let place = numbers_place(header);
+    let width = header.format.width();
+    for at in 0..header.numbers {
+        let number = number(bytes, place + width * at, header.format);
+        if number < header.format.negative() {
+            values[at] = number;
+        }
+    }
+    values
+}
+
+// The format that numbers want.
+fn format_for(values: &[u32]) -> Format
+    ensures { (c : Contents) → values.now ≡ below (wide_value c) 39 → HasNumbers c → result ≡ format_of c }
+{
+    for value in values {
+        if *value > SHORT_MAX && *value != ABSENT {
+            return Format::Extended;
+        }
+    }
+    Format::Legacy
+}
+
+// One more than the last number that is there, and 0 where none is.
+fn last_number(values: &[u32]) -> usize
+    ensures within { result ≤ length values.now }
+    ensures last { (j : ℕ) → suc j ≡ result → slice_index values.now j ≢ 4294967295 }
+    ensures past { (j : ℕ) → result ≤ j → j < length values.now → slice_index values.now j ≡ 4294967295 }
+{
+    let mut end = values.len();
+    while end > 0 && values[end - 1] == ABSENT {
+        end -= 1;
+    }
+    end
+}
+
+// Writes a number, of which what does not fit is dropped.
+fn put_number(bytes: &mut Vec<u8>, at: usize, format: Format, number: u32)
+    requires within { at + layout.width format ≤ vec_len bytes.old }
+    ensures part { Replaces bytes.old.items bytes.new.items at (layout.width format) (λ _. number_bytes format number) }
+    ensures len { vec_len bytes.new ≡ vec_len bytes.old }
+{
+    let low = [(number % 256) as u8, (number / 256 % 256) as u8];
+    match format {
+        Format::Legacy => overwrite(bytes, at, &low),
+        Format::Extended => {
+            let high = [
+                (number / 65_536 % 256) as u8,
+                (number / 16_777_216 % 256) as u8,
+            ];
+            overwrite(bytes, at, &[low[0], low[1], high[0], high[1]]);
+        }
+    }
+}
+
+// Writes as many of the numbers one after the other.
+fn put_numbers(bytes: &mut Vec<u8>, place: usize, format: Format, values: &[u32], count: usize)
+    requires count { count ≤ length values.now }
+    requires few { count ≤ 39 }
+    requires within { place + layout.width format * count ≤ vec_len bytes.old }
+    ensures part { Replaces bytes.old.items bytes.new.items place (layout.width format * count) (λ _. spelled format (take count values.now)) }
+    ensures len { vec_len bytes.new ≡ vec_len bytes.old }
+{
+    let width = format.width();
+    for at in 0..count {
+        put_number(bytes, place + width * at, format, values[at]);
+    }
+}
+
+// The numbers of the image when one is given or taken away.
+fn numbers_with(bytes: &[u8], old: &Header, index: usize, number: Option<u32>) -> [u32; 39]
+    requires image { IsImage bytes.now }
+    requires old { HasSizes (names_in bytes.now) (contents_in bytes.now) old.now }
+    requires index { index < 39 }
+    ensures { result ≡ below (wide_value (with_number bytes.now index number)) 39 }
+{
+    let mut values = read_numbers(bytes, old);
+    values[index] = number.unwrap_or(ABSENT);
+    values
+}
+
+// The sizes of the image when it has these numbers.
+fn sizes_with_numbers(old: &Header, values: &[u32]) -> Header
+    ensures sizes { (b : List ℕ) (i : ℕ) (n : Option ℕ) → IsImage b → HasSizes (names_in b) (contents_in b) old.now → i < 39 → IfSome n (λ n. n ≤ 2147483647)
+        → values.now ≡ below (wide_value (with_number b i n)) 39 → HasSizes (names_in b) (with_number b i n) result }
+    ensures names { result.names ≡ old.now.names }
+    ensures flags { result.flags ≡ old.now.flags }
+    ensures numbers { result.numbers ≤ length values.now }
+    ensures texts { result.texts ≡ old.now.texts }
+{
+    Header {
+        format: format_for(values),
+        numbers: last_number(values),
+        ..*old
+    }
+}
+
+// Gives the image these numbers, where the sizes are known and there is room.
+fn change_numbers(bytes: &mut Vec<u8>, old: &Header, new: &Header, values: &[u32])
+    requires image { IsImage bytes.old.items }
+    requires old { HasSizes (names_in bytes.old.items) (contents_in bytes.old.items) old.now }
+    requires count { new.now.numbers ≤ length values.now }
+    requires few { new.now.numbers ≤ 39 }
+    requires room { vec_len bytes.old + layout.width new.now.format * new.now.numbers ≤ vec_capacity bytes.old + layout.width old.now.format * old.now.numbers }
+    ensures { (i : ℕ) (n : Option ℕ) → i < 39 → HasSizes (names_in bytes.old.items) (with_number bytes.old.items i n) new.now → values.now ≡ below (wide_value (with_number bytes.old.items i n)) 39
+        → length (image (names_in bytes.old.items) (with_number bytes.old.items i n)) ≤ limit_of (with_number bytes.old.items i n) → bytes.new.items ≡ image (names_in bytes.old.items) (with_number bytes.old.items i n) }
+{
+    let place = numbers_place(old);
+    let size = old.format.width() * old.numbers;
+    let wanted = new.format.width() * new.numbers;
+    resize_part(bytes, place, size, wanted, 0);
+    put_numbers(bytes, place, new.format, values, new.numbers);
+    write_header(bytes, new);
+}
+
+/// Gives a number or takes it away. A refused change leaves the image.
+pub fn set_number(bytes: &mut Vec<u8>, index: usize, number: Option<u32>) -> Result<(), WriteError>
+    requires image { IsImage bytes.old.items }
+    requires index { index < 39 }
+    requires fits { IfSome number (λ n. n ≤ 2147483647) }
+    ensures ok { OnOk result (bytes.new.items ≡ image (names_in bytes.old.items) (with_number bytes.old.items index number)) }
+    ensures within { OnOk result (length (image (names_in bytes.old.items) (with_number bytes.old.items index number)) ≤ limit_of (with_number bytes.old.items index number)) }
+    ensures too_large { IsErrOf result WriteError.TooLarge ↔ (limit_of (with_number bytes.old.items index number) < length (image (names_in bytes.old.items) (with_number bytes.old.items index number))) }
+    ensures memory { IsErrOf result WriteError.Memory → length (image (names_in bytes.old.items) (with_number bytes.old.items index number)) ≤ limit_of (with_number bytes.old.items index number) }
+    ensures names_fit { IsErrOf result WriteError.NamesTooLong → ⊥ }
+    ensures err { OnErr result (bytes.new.items ≡ bytes.old.items) }
+{
+    let old = header_of(bytes);
+    let values = numbers_with(bytes, &old, index, number);
+    let new = sizes_with_numbers(&old, &values);
+    let room = make_room(bytes, &new);
+    if room.is_ok() {
+        change_numbers(bytes, &old, &new, &values);
+    }
+    room
+}

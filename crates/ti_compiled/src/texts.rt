@@ -1,0 +1,201 @@
+// A text of an image given, replaced or taken away: the string table holds the texts one after the
+// other, and an offset for each text up to the last that is there leads into it.
+ghost use Rattle.std.specs.Prelude.{◌≡◌, ◌≢◌, ℕ, suc, ◌+◌, ◌-◌, ◌*◌, ◌%◌, ◌<◌, ◌≤◌, List, ◌++◌, length, vec_len, vec_capacity, Option, option_map, ◌↔◌, IsErrOf, OnOk, OnErr};
+ghost use Rattle.ti_caps.specs.Tables.{capability};
+ghost use Rattle.ti_caps.specs.declared.capability.Kind.TheVariants.{Text};
+ghost use Rattle.ti_layout.specs.Image.{image, below, limit_of, texts_below};
+ghost use Rattle.ti_layout.specs.Layout as layout;
+ghost use Rattle.ti_layout.specs.Layout.{spelled, number_bytes};
+ghost use Rattle.ti_layout.specs.Reading.{word_at};
+ghost use Rattle.ti_layout.specs.Sizes.{HasSizes};
+ghost use Rattle.ti_compiled.specs.Changes.{text_content};
+ghost use Rattle.ti_compiled.specs.Held.{names_in, contents_in, given, IsImage};
+ghost use Rattle.ti_compiled.specs.Parts.{Replaces, moved_later, piece};
+
+use crate::bytes::{overwrite, resize_part};
+use crate::header::{header_of, make_room, word_bytes, write_header};
+use ti_layout::{Format, HEADER_SIZE, Header, WriteError, word};
+
+// The offset that an absent text has.
+const ABSENT: usize = 0xffff;
+
+// Where the offsets begin.
+fn offsets_place(header: &Header) -> usize
+    requires names { header.now.names < 65536 }
+    requires flags { header.now.flags < 65536 }
+    requires numbers { header.now.numbers < 65536 }
+    ensures { result ≡ 12 + header.now.names + header.now.flags + (header.now.names + header.now.flags) % 2 + layout.width header.now.format * header.now.numbers }
+{
+    let gap = (header.names + header.flags) % 2;
+    HEADER_SIZE + header.names + header.flags + gap + header.format.width() * header.numbers
+}
+
+// Where the text of an index begins in the string table, or would begin: the first offset from it
+// on that is there, and else the end of the table.
+fn start_of(bytes: &[u8], header: &Header, index: usize) -> usize
+    requires image { IsImage bytes.now }
+    requires sizes { HasSizes (names_in bytes.now) (contents_in bytes.now) header.now }
+    requires index { index ≤ 414 }
+    ensures { result ≡ length (texts_below (contents_in bytes.now) index) }
+{
+    let place = offsets_place(header);
+    for at in index..header.texts {
+        let offset = word(bytes, place + 2 * at);
+        if offset != ABSENT {
+            return offset;
+        }
+    }
+    header.strings
+}
+
+// One more than the last offset of a text that is there among the first ones, and 0 where none is.
+fn last_there(bytes: &[u8], place: usize, count: usize) -> usize
+    requires { place + 2 * count ≤ length bytes.now }
+    ensures within { result ≤ count }
+    ensures last { (j : ℕ) → suc j ≡ result → word_at (place + 2 * j) bytes.now ≢ 65535 }
+    ensures past { (j : ℕ) → result ≤ j → j < count → word_at (place + 2 * j) bytes.now ≡ 65535 }
+{
+    let mut end = count;
+    while end > 0 && word(bytes, place + 2 * (end - 1)) == ABSENT {
+        end -= 1;
+    }
+    end
+}
+
+// Puts a text with its NUL, or nothing, in the place of another.
+fn replace_text(bytes: &mut Vec<u8>, at: usize, size: usize, text: Option<&[u8]>)
+    requires within { at + size ≤ vec_len bytes.old }
+    requires room { vec_len bytes.old + length (piece (option_map (λ t. t.now) text)) ≤ vec_capacity bytes.old + size }
+    ensures part { Replaces bytes.old.items bytes.new.items at size (λ _. piece (option_map (λ t. t.now) text.entry)) }
+    ensures len { vec_len bytes.new + size ≡ vec_len bytes.old + length (piece (option_map (λ t. t.now) text.entry)) }
+    ensures capacity { vec_capacity bytes.old ≤ vec_capacity bytes.new }
+{
+    match text {
+        Some(text) => {
+            resize_part(bytes, at, size, text.len() + 1, 0);
+            overwrite(bytes, at, text);
+            overwrite(bytes, at + text.len(), &[0]);
+        }
+        None => resize_part(bytes, at, size, 0, 0),
+    }
+}
+
+// Moves the offsets from an index on, where a text before them takes other bytes.
+fn move_later(
+    bytes: &mut Vec<u8>,
+    place: usize,
+    from: usize,
+    to: usize,
+    removed: usize,
+    added: usize,
+)
+    requires within { place + 2 * to ≤ vec_len bytes.old }
+    requires added { added ≤ 65536 }
+    ensures moved { (p r : List ℕ) (f : ℕ → ℕ) → bytes.old.items ≡ p ++ (spelled Format.Legacy (below f to) ++ r) → length p ≡ place → ((j : ℕ) → f j ≤ 65535)
+        → bytes.new.items ≡ p ++ (spelled Format.Legacy (below (moved_later f from removed added) to) ++ r) }
+    ensures len { vec_len bytes.new ≡ vec_len bytes.old }
+{
+    for at in from..to {
+        let offset = word(bytes, place + 2 * at);
+        if offset != ABSENT {
+            let moved = (offset + added).saturating_sub(removed);
+            overwrite(bytes, place + 2 * at, &word_bytes(moved));
+        }
+    }
+}
+
+// How many bytes a text takes in the table.
+fn piece_len(text: Option<&[u8]>) -> usize
+    requires { length (piece (option_map (λ t. t.now) text)) ≤ 65536 }
+    ensures { result ≡ length (piece (option_map (λ t. t.now) text.entry)) }
+{
+    match text {
+        Some(text) => text.len() + 1,
+        None => 0,
+    }
+}
+
+// The sizes of the image when the text is given or taken away.
+fn sizes_with_text(bytes: &[u8], old: &Header, index: usize, text: Option<&[u8]>) -> Header
+    requires image { IsImage bytes.now }
+    requires old { HasSizes (names_in bytes.now) (contents_in bytes.now) old.now }
+    requires index { index < 414 }
+    ensures { HasSizes (names_in bytes.now) (given (contents_in bytes.now) (capability Text index) (text_content (option_map (λ t. t.now) text.entry))) result }
+{
+    let start = start_of(bytes, old, index);
+    let end = start_of(bytes, old, index + 1);
+    let others = old.strings - (end - start);
+    match text {
+        Some(text) => Header {
+            texts: old.texts.max(index + 1),
+            strings: others.saturating_add(text.len()).saturating_add(1),
+            ..*old
+        },
+        None => Header {
+            texts: if index + 1 == old.texts {
+                last_there(bytes, offsets_place(old), index)
+            } else {
+                old.texts
+            },
+            strings: others,
+            ..*old
+        },
+    }
+}
+
+// Gives the text an offset, where it is among those that are written.
+fn put_offset(bytes: &mut Vec<u8>, place: usize, count: usize, index: usize, offset: usize)
+    requires within { place + 2 * count ≤ vec_len bytes.old }
+    ensures put { (p r : List ℕ) (f g : ℕ → ℕ) → bytes.old.items ≡ p ++ (spelled Format.Legacy (below f count) ++ r) → length p ≡ place → (index < count → g index ≡ offset)
+        → ((j : ℕ) → j ≢ index → g j ≡ f j) → bytes.new.items ≡ p ++ (spelled Format.Legacy (below g count) ++ r) }
+    ensures len { vec_len bytes.new ≡ vec_len bytes.old }
+{
+    if index < count {
+        overwrite(bytes, place + 2 * index, &word_bytes(offset));
+    }
+}
+
+// Gives the text or takes it away, where the sizes are known and there is room.
+fn change_text(bytes: &mut Vec<u8>, old: &Header, new: &Header, index: usize, text: Option<&[u8]>)
+    requires image { IsImage bytes.old.items }
+    requires index { index < 414 }
+    requires old { HasSizes (names_in bytes.old.items) (contents_in bytes.old.items) old.now }
+    requires new { HasSizes (names_in bytes.old.items) (given (contents_in bytes.old.items) (capability Text index) (text_content (option_map (λ t. t.now) text))) new.now }
+    requires small { length (image (names_in bytes.old.items) (given (contents_in bytes.old.items) (capability Text index) (text_content (option_map (λ t. t.now) text)))) ≤ limit_of (given (contents_in bytes.old.items) (capability Text index) (text_content (option_map (λ t. t.now) text))) }
+    requires room { length (image (names_in bytes.old.items) (given (contents_in bytes.old.items) (capability Text index) (text_content (option_map (λ t. t.now) text)))) ≤ vec_capacity bytes.old }
+    ensures { bytes.new.items ≡ image (names_in bytes.old.items) (given (contents_in bytes.old.items) (capability Text index) (text_content (option_map (λ t. t.now) text.entry))) }
+{
+    let start = start_of(bytes, old, index);
+    let removed = start_of(bytes, old, index + 1) - start;
+    let added = piece_len(text);
+    let place = offsets_place(old);
+    let offset = match text {
+        Some(_) => start,
+        None => ABSENT,
+    };
+    replace_text(bytes, place + 2 * old.texts + start, removed, text);
+    resize_part(bytes, place, 2 * old.texts, 2 * new.texts, 0xff);
+    put_offset(bytes, place, new.texts, index, offset);
+    move_later(bytes, place, index + 1, new.texts, removed, added);
+    write_header(bytes, new);
+}
+
+/// Gives a text or takes it away. A refused change leaves the image.
+pub fn set_text(bytes: &mut Vec<u8>, index: usize, text: Option<&[u8]>) -> Result<(), WriteError>
+    requires image { IsImage bytes.old.items }
+    requires index { index < 414 }
+    ensures ok { OnOk result (bytes.new.items ≡ image (names_in bytes.old.items) (given (contents_in bytes.old.items) (capability Text index) (text_content (option_map (λ t. t.now) text.entry)))) }
+    ensures within { OnOk result (length (image (names_in bytes.old.items) (given (contents_in bytes.old.items) (capability Text index) (text_content (option_map (λ t. t.now) text.entry)))) ≤ limit_of (given (contents_in bytes.old.items) (capability Text index) (text_content (option_map (λ t. t.now) text.entry)))) }
+    ensures too_large { IsErrOf result WriteError.TooLarge ↔ (limit_of (given (contents_in bytes.old.items) (capability Text index) (text_content (option_map (λ t. t.now) text.entry))) < length (image (names_in bytes.old.items) (given (contents_in bytes.old.items) (capability Text index) (text_content (option_map (λ t. t.now) text.entry))))) }
+    ensures memory { IsErrOf result WriteError.Memory → length (image (names_in bytes.old.items) (given (contents_in bytes.old.items) (capability Text index) (text_content (option_map (λ t. t.now) text.entry)))) ≤ limit_of (given (contents_in bytes.old.items) (capability Text index) (text_content (option_map (λ t. t.now) text.entry))) }
+    ensures names_fit { IsErrOf result WriteError.NamesTooLong → ⊥ }
+    ensures err { OnErr result (bytes.new.items ≡ bytes.old.items) }
+{
+    let old = header_of(bytes);
+    let new = sizes_with_text(bytes, &old, index, text);
+    let room = make_room(bytes, &new);
+    if room.is_ok() {
+        change_text(bytes, &old, &new, index, text);
+    }
+    room
+}

@@ -1,9 +1,0 @@
-use Rattle.std.proofs.Common.{◌≡◌}
-use Rattle.ti_image.proofs.Moving.{mixed}
-use Rattle.ti_compiled.specs.Image.{below}
-use Rattle.ti_image.specs.Changes.{wide_value}
-use Rattle.ti_image.specs.Held.{contents_in}
-use Rattle.ti_image.proofs.numbers.read_numbers.Given as goal
-
-abbrev pub invariant-loop-at : goal.invariant-loop-at
-invariant-loop-at l = l.values ≡ below (mixed (λ _. 4294967295) (wide_value (contents_in l.bytes)) l.at) 39

@@ -1,4 +1,0 @@
-pub mod Held
-pub mod Parts
-pub mod Headers
-pub mod Changes

@@ -1,0 +1,90 @@
+-- The parts that the writer lays in turn are the entry, and its size is known before.
+use Rattle.std.proofs.Common.{◌≡◌, ℕ, suc, ◌+◌, ◌-◌, ◌%◌, ◌^◌, ◌<◌, ◌≤◌, min, List, [], ◌∷◌, ◌++◌, length, replicate, refl, sym, ap, ◌∙◌, arith, append_assoc, append-nil}
+use Rattle.ti_caps.specs.declared.capability.Kind.TheVariants.{Flag, Number, Text}
+use Rattle.ti_layout.specs.declared.layout.Format.{Format}
+use Rattle.ti_layout.specs.declared.layout.Format.TheVariants.{Legacy}
+use Rattle.ti_layout.specs.declared.layout.Header.{Header}
+use Rattle.ti_layout.specs.Layout.{entry_size, header, limit, magic, number_bytes, spelled}
+use Rattle.ti_layout.specs.Image.{image, even_gap, flags_below, format_of, limit_of, numbers_below, offsets_below, texts_below, written_count}
+use Rattle.ti_layout.specs.Sizes.{HasSizes, at_most_max}
+use Rattle.ti_layout.specs.Values.{Contents}
+use Rattle.ti_layout.proofs.Below.{length-below}
+use Rattle.ti_layout.proofs.Sizes.{length-image, limit-le, strings_small}
+use Rattle.ti_layout.proofs.Whole.{header-bytes}
+
+six : (v a b c d e f : List ℕ) → (((((v ++ a) ++ b) ++ c) ++ d) ++ e) ++ f ≡ v ++ (a ++ b ++ c ++ d ++ e ++ f)
+six v a b c d e f = simp append_assoc
+
+-- six numbers added in turn are a header
+pub header_pushed : (w : Format) (n f m t s : ℕ) (v0 v1 v2 v3 v4 v5 v6 : List ℕ) → v1 ≡ v0 ++ number_bytes Legacy (magic w) → v2 ≡ v1 ++ number_bytes Legacy n → v3 ≡ v2 ++ number_bytes Legacy f
+    → v4 ≡ v3 ++ number_bytes Legacy m → v5 ≡ v4 ++ number_bytes Legacy t → v6 ≡ v5 ++ number_bytes Legacy s → v6 ≡ v0 ++ header w n f m t s
+header_pushed w n f m t s v0 v1 v2 v3 v4 v5 v6 e1 e2 e3 e4 e5 e6 =
+    let W : ℕ → List ℕ = λ k. number_bytes Legacy k in
+    e6 ∙ ap (λ x. x ++ W s) (e5 ∙ ap (λ x. x ++ W t) (e4 ∙ ap (λ x. x ++ W m) (e3 ∙ ap (λ x. x ++ W f) (e2 ∙ ap (λ x. x ++ W n) e1))))
+    ∙ six v0 (W (magic w)) (W n) (W f) (W m) (W t) (W s) ∙ ap (λ x. v0 ++ x) (sym (header-bytes w n f m t s))
+
+-- a size as it is counted
+counted_size : (fixed strings : ℕ) → min (fixed + min strings (2 ^ 64 - 1)) (2 ^ 64 - 1) ≡ min (fixed + strings) (2 ^ 64 - 1)
+counted_size fixed strings = omega arith
+
+sized : (w w' : Format) (n n' f f' m m' t t' s s' : ℕ) → w ≡ w' → n ≡ n' → f ≡ f' → m ≡ m' → t ≡ t' → s ≡ s' → entry_size w n f m t s ≡ entry_size w' n' f' m' t' s'
+sized w w' n n' f f' m m' t t' s s' a b c d e g = rw (a, b, c, d, e, g) refl
+
+same_header : (w w' : Format) (n n' f f' m m' t t' s s' : ℕ) → w ≡ w' → n ≡ n' → f ≡ f' → m ≡ m' → t ≡ t' → s ≡ s' → header w n f m t s ≡ header w' n' f' m' t' s'
+same_header w w' n n' f f' m m' t t' s s' a b c d e g = rw (a, b, c, d, e, g) refl
+
+joined : (a b x y : List ℕ) → a ≡ b → x ≡ y → a ++ x ≡ b ++ y
+joined a b x y e g = ap (λ t. t ++ x) e ∙ ap (λ t. b ++ t) g
+
+module _ (field : List ℕ) (c : Contents) (h : Header) (has : HasSizes field c h) where
+  size_of_header : entry_size h.format h.names h.flags h.numbers h.texts h.strings
+      ≡ entry_size (format_of c) (suc (length field)) (written_count c Flag) (written_count c Number) (written_count c Text) (at_most_max (length (texts_below c (written_count c Text))))
+  size_of_header = sized _ _ _ _ _ _ _ _ _ _ _ _ has.format has.names has.flags has.numbers has.texts has.strings
+
+  pub size_counted : (size : ℕ) → size ≡ at_most_max (entry_size h.format h.names h.flags h.numbers h.texts h.strings) → size ≡ at_most_max (length (image field c))
+  size_counted size e =
+      e ∙ ap at_most_max size_of_header ∙ counted_size _ (length (texts_below c (written_count c Text))) ∙ ap at_most_max (sym (length-image field c))
+
+  -- the limit is of the entry's format
+  pub over_limit : (size most : ℕ) → size ≡ at_most_max (entry_size h.format h.names h.flags h.numbers h.texts h.strings) → most ≡ limit h.format → most < size → limit_of c < length (image field c)
+  over_limit size most e l over =
+      let s = size_counted size e in
+      let m : most ≡ limit_of c = l ∙ ap limit has.format in
+      omega arith
+
+  pub within_limit : (size most : ℕ) → size ≡ at_most_max (entry_size h.format h.names h.flags h.numbers h.texts h.strings) → most ≡ limit h.format → size ≤ most → length (image field c) ≤ limit_of c
+  within_limit size most e l within =
+      let s = size_counted size e in
+      let m : most ≡ limit_of c = l ∙ ap limit has.format in
+      let k = limit-le (format_of c) in
+      omega arith
+
+  module _ (small : length (image field c) ≤ limit_of c) where
+    -- an entry that is small has a small string table, whose size is counted
+    pub table_small : length (texts_below c (written_count c Text)) < 32768
+    table_small = strings_small field c small
+
+    pub strings_counted : h.strings ≡ length (texts_below c (written_count c Text))
+    strings_counted = let s = has.strings in let t = table_small in omega arith
+
+    pub header_laid : header h.format h.names h.flags h.numbers h.texts h.strings
+        ≡ header (format_of c) (suc (length field)) (length (flags_below c (written_count c Flag))) (length (numbers_below (format_of c) c (written_count c Number))) (length (offsets_below c (written_count c Text))) (length (texts_below c (written_count c Text)))
+    header_laid =
+        same_header _ _ _ _ _ _ _ _ _ _ _ _ has.format has.names (has.flags ∙ sym (length-below _ (written_count c Flag))) (has.numbers ∙ sym (length-below _ (written_count c Number)))
+        (has.texts ∙ sym (length-below _ (written_count c Text))) strings_counted
+
+    -- what is added in turn is the entry
+    pub laid : (v0 v1 v2 v3 v4 v5 v6 v7 v8 : List ℕ) → v0 ≡ [] → v1 ≡ v0 ++ header h.format h.names h.flags h.numbers h.texts h.strings → v2 ≡ v1 ++ field → v3 ≡ v2 ++ 0 ∷ []
+        → v4 ≡ v3 ++ flags_below c (written_count c Flag) → v5 ≡ v4 ++ replicate ((h.names + h.flags) % 2) 0 → v6 ≡ v5 ++ spelled h.format (numbers_below h.format c (written_count c Number))
+        → v7 ≡ v6 ++ spelled Legacy (offsets_below c (written_count c Text)) → v8 ≡ v7 ++ texts_below c (written_count c Text) → v8 ≡ image field c
+    unfolding image
+    laid v0 v1 v2 v3 v4 v5 v6 v7 v8 e0 e1 e2 e3 e4 e5 e6 e7 e8 =
+        let w = format_of c in
+        let numbers : spelled h.format (numbers_below h.format c (written_count c Number)) ≡ spelled w (numbers_below w c (written_count c Number)) = ap (λ f. spelled f (numbers_below f c (written_count c Number))) has.format in
+        let gap : replicate {A = ℕ} ((h.names + h.flags) % 2) 0 ≡ even_gap field (written_count c Flag) = ap (λ n. replicate {A = ℕ} (n % 2) 0) (ap (λ n. n + h.flags) has.names ∙ ap (λ n. suc (length field) + n) has.flags) in
+        let first : v1 ≡ header w (suc (length field)) (length (flags_below c (written_count c Flag))) (length (numbers_below w c (written_count c Number))) (length (offsets_below c (written_count c Text))) (length (texts_below c (written_count c Text))) =
+        e1 ∙ ap (λ x. x ++ header h.format h.names h.flags h.numbers h.texts h.strings) e0 ∙ header_laid in
+        e8 ∙ ap (λ x. x ++ texts_below c (written_count c Text))
+        (e7 ∙ ap (λ x. x ++ spelled Legacy (offsets_below c (written_count c Text)))
+        (e6 ∙ joined _ _ _ _ (e5 ∙ joined _ _ _ _ (e4 ∙ ap (λ x. x ++ flags_below c (written_count c Flag)) (e3 ∙ ap (λ x. x ++ 0 ∷ []) (e2 ∙ ap (λ x. x ++ field) first))) gap) numbers))
+        ∙ sym (append-nil _)

@@ -1,0 +1,57 @@
+-- How long an entry is.
+use Rattle.std.proofs.Common.{◌≡◌, ℕ, suc, ◌+◌, ◌*◌, ◌%◌, ◌≤◌, ◌<◌, List, [], ◌∷◌, ◌++◌, length, ◌∙◌, arith}
+use Rattle.std.proofs.lemmas.List.{length-append, length-replicate}
+use Rattle.ti_caps.specs.declared.capability.Kind.TheVariants.{Flag, Number, Text}
+use Rattle.ti_layout.specs.declared.layout.Format.{Format}
+use Rattle.ti_layout.specs.declared.layout.Format.TheVariants.{Legacy, Extended}
+use Rattle.ti_layout.specs.Layout.{Sections, header, laid_out, limit, entry_size, spelled, width}
+use Rattle.ti_layout.specs.Image.{image, even_gap, flags_below, format_of, limit_of, numbers_below, offsets_below, sections_of, texts_below, written_count}
+use Rattle.ti_layout.specs.Values.{Contents}
+use Rattle.ti_layout.proofs.Below.{length-below}
+use Rattle.ti_layout.proofs.Parts.{length-header}
+use Rattle.ti_layout.proofs.Spelled.{length-spelled}
+
+length-nine : (h n z f g m o s r : List ℕ) → length (h ++ n ++ z ++ f ++ g ++ m ++ o ++ s ++ r) ≡ length h + length n + length z + length f + length g + length m + length o + length s + length r
+length-nine h n z f g m o s r = simp length-append
+
+sums : (h n z f g m o s r x y : ℕ) → h ≡ 12 → m ≡ x → o ≡ y → h + n + 1 + f + g + m + o + s + r ≡ 13 + n + f + g + x + y + s + r
+sums h n z f g m o s r x y a b c = omega arith
+
+pub length-laid_out : (w : Format) (s : Sections)
+    → length (laid_out w s) ≡ 13 + length s.names + length s.flags + length s.gap + width w * length s.numbers + 2 * length s.offsets + length s.strings + length s.rest
+length-laid_out w s =
+    let H = header w (suc (length s.names)) (length s.flags) (length s.numbers) (length s.offsets) (length s.strings) in
+    let l = length-nine H s.names (0 ∷ []) s.flags s.gap (spelled w s.numbers) (spelled Legacy s.offsets) s.strings s.rest in
+    let h : length H ≡ 12 = length-header w (suc (length s.names)) (length s.flags) (length s.numbers) (length s.offsets) (length s.strings) in
+    let m = length-spelled w s.numbers in
+    let o : length (spelled Legacy s.offsets) ≡ 2 * length s.offsets = length-spelled Legacy s.offsets in
+    l ∙ sums _ _ 0 _ _ _ _ _ _ _ _ h m o
+
+whole : (n f g x o s : ℕ) → 13 + n + f + g + x + 2 * o + s + 0 ≡ 12 + suc n + f + g + x + 2 * o + s
+whole n f g x o s = omega arith
+
+pub length-image : (names : List ℕ) (c : Contents)
+    → length (image names c) ≡ entry_size (format_of c) (suc (length names)) (written_count c Flag) (written_count c Number) (written_count c Text) (length (texts_below c (written_count c Text)))
+unfolding image
+length-image names c =
+    let w = format_of c in
+    let F = written_count c Flag in
+    let f : length (flags_below c F) ≡ F = length-below _ F in
+    let g : length (even_gap names F) ≡ (suc (length names) + F) % 2 = length-replicate ((suc (length names) + F) % 2) 0 in
+    let m : length (numbers_below w c (written_count c Number)) ≡ written_count c Number = length-below _ (written_count c Number) in
+    let o : length (offsets_below c (written_count c Text)) ≡ written_count c Text = length-below _ (written_count c Text) in
+    length-laid_out w (sections_of w names c) ∙ rw (f, g, m, o) (whole _ _ _ _ _ _)
+
+pub limit-le : (w : Format) → limit w ≤ 32768
+limit-le Legacy = omega arith
+limit-le Extended = omega arith
+
+bounded : (l n f g x o s k : ℕ) → l ≡ 12 + suc n + f + g + x + 2 * o + s → l ≤ k → k ≤ 32768 → s < 32768
+bounded l n f g x o s k e le m = omega arith
+
+-- the string table of an entry within its limit
+pub strings_small : (names : List ℕ) (c : Contents) → length (image names c) ≤ limit_of c → length (texts_below c (written_count c Text)) < 32768
+strings_small names c within =
+    let l = length-image names c in
+    let m = limit-le (format_of c) in
+    bounded _ _ _ _ _ _ _ _ l within m

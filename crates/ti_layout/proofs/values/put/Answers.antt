@@ -1,0 +1,33 @@
+-- the value is written over the one there, or placed in the gap
+use Rattle.std.proofs.Common.{◌≡◌, true, subst}
+use Rattle.std.specs.Option.{is_some}
+use Rattle.ti_layout.specs.Values.{IsAt, IsGapFor, entries_of}
+use Rattle.ti_layout.proofs.Held.{contents_nowhere}
+use Rattle.ti_layout.proofs.Places.{nowhere, kept-written, sets-written, kept-placed, sets-placed}
+use Rattle.ti_layout.proofs.values.put.Goals as goal
+
+pub returns-in-Ok-clause-kept : goal.returns-in-Ok-clause-kept
+returns-in-Ok-clause-kept c =
+    let at = subst (λ xs. IsAt (entries_of xs) c.args.cap c.in-Ok.at) c.deref.ensures.value c.in-Ok.ensures.found in
+    kept-written _ c.requires.kept _ _ _ c.place.ensures.valid c.requires.agrees at
+
+pub returns-in-Ok-clause-ok : goal.returns-in-Ok-clause-ok
+returns-in-Ok-clause-ok c =
+    let at = subst (λ xs. IsAt (entries_of xs) c.args.cap c.in-Ok.at) c.deref.ensures.value c.in-Ok.ensures.found in
+    sets-written _ c.requires.kept _ _ _ c.place.ensures.valid c.requires.agrees at
+
+pub returns-in_ok-insert-in-Err-clause-kept : goal.returns-in_ok-insert-in-Err-clause-kept
+returns-in_ok-insert-in-Err-clause-kept c =
+    let gap = subst (λ xs. IsGapFor (entries_of xs) c.args.cap c.in-Err.at) c.deref.ensures.value c.in-Err.ensures.absent in
+    rw c.in_ok-insert-in-Err.ensures.items (kept-placed _ c.requires.kept _ _ _ c.place.ensures.valid c.requires.agrees gap)
+
+pub returns-in_ok-insert-in-Err-clause-ok : goal.returns-in_ok-insert-in-Err-clause-ok
+returns-in_ok-insert-in-Err-clause-ok c =
+    let gap = subst (λ xs. IsGapFor (entries_of xs) c.args.cap c.in-Err.at) c.deref.ensures.value c.in-Err.ensures.absent in
+    rw c.in_ok-insert-in-Err.ensures.items (sets-placed _ c.requires.kept _ _ _ c.place.ensures.valid c.requires.agrees gap)
+
+pub returns-in_err-insert-in-Err-clause-in_place : goal.returns-in_err-insert-in-Err-clause-in_place
+returns-in_err-insert-in-Err-clause-in_place c found =
+    let gap = subst (λ xs. IsGapFor (entries_of xs) c.args.cap c.in-Err.at) c.deref.ensures.value c.in-Err.ensures.absent in
+    let never = subst (λ o. is_some o ≡ true) (contents_nowhere _ _ (nowhere _ c.requires.kept _ _ gap)) found in
+    cc

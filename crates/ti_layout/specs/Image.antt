@@ -1,0 +1,138 @@
+-- The bytes of a compiled entry as they are written (term(5)): the layout of a names field and of what the capabilities have.
+use Rattle.std.specs.Prelude.{ℕ, zero, suc, ◌+◌, ◌%◌, Bool, true, false, nat_lt, if◌then◌else◌, List, [], ◌∷◌, ◌++◌, length, replicate, Option, Some, None}
+use Rattle.ti_caps.specs.Tables.{capability, count_of}
+use Rattle.ti_caps.specs.declared.capability.Kind.{Kind}
+use Rattle.ti_caps.specs.declared.capability.Kind.TheVariants.{Flag, Number, Text}
+use Rattle.ti_layout.specs.declared.layout.Format.{Format}
+use Rattle.ti_layout.specs.declared.layout.Format.TheVariants.{Legacy, Extended}
+use Rattle.ti_layout.specs.Layout.{Sections, absent, laid_out, limit}
+use Rattle.ti_layout.specs.Values.{Content, content_true, content_number, content_text, content_cancelled, Contents}
+pub use Rattle.ti_layout.specs.Values.{HasNoNul}
+
+-- ---- words for lists that are made place by place
+
+-- one more than the last place below n that passes, and 0 where none does
+unfoldable pub last_passing : (ℕ → Bool) → ℕ → ℕ
+last_passing test zero = 0
+last_passing test (suc n) = if test n then suc n else last_passing test n
+
+-- whether a place below n passes
+unfoldable pub some_below : (ℕ → Bool) → ℕ → Bool
+some_below test zero = false
+some_below test (suc n) = if test n then true else some_below test n
+
+-- the values of the places below n, in order
+unfoldable pub below : (ℕ → ℕ) → ℕ → List ℕ
+below value zero = []
+below value (suc n) = below value n ++ value n ∷ []
+
+-- what the places of a kind have
+abbrev pub Places : Type 0
+Places = ℕ → Option Content
+
+-- what the capabilities of a kind have, by their index
+abbrev pub of_kind : Contents → Kind → Places
+of_kind contents kind index = contents (capability kind index)
+
+-- ---- what is there, and how it is written
+
+-- absent and cancelled are not there
+abbrev pub is_there : Option Content → Bool
+is_there None = false
+is_there (Some content_true) = true
+is_there (Some (content_number n)) = true
+is_there (Some (content_text t)) = true
+is_there (Some content_cancelled) = false
+
+-- the byte of a flag: 1 where it is there, else 0
+abbrev pub flag_value : Option Content → ℕ
+flag_value None = 0
+flag_value (Some content_true) = 1
+flag_value (Some (content_number n)) = 0
+flag_value (Some (content_text t)) = 0
+flag_value (Some content_cancelled) = 0
+
+-- a number that is there, else what stands for one that is absent
+abbrev pub number_value : ℕ → Option Content → ℕ
+number_value void None = void
+number_value void (Some content_true) = void
+number_value void (Some (content_number n)) = n
+number_value void (Some (content_text t)) = void
+number_value void (Some content_cancelled) = void
+
+-- a text with the NUL that ends it
+abbrev pub text_piece : Option Content → List ℕ
+text_piece None = []
+text_piece (Some content_true) = []
+text_piece (Some (content_number n)) = []
+text_piece (Some (content_text t)) = t ++ 0 ∷ []
+text_piece (Some content_cancelled) = []
+
+-- the offset of a text that is there, else what stands for one that is absent
+abbrev pub offset_value : ℕ → Option Content → ℕ
+offset_value offset None = 65535
+offset_value offset (Some content_true) = 65535
+offset_value offset (Some (content_number n)) = 65535
+offset_value offset (Some (content_text t)) = offset
+offset_value offset (Some content_cancelled) = 65535
+
+-- ---- the format
+
+-- whether there is a number that a signed number of 16 bits does not hold
+abbrev pub is_wide : Option Content → Bool
+is_wide None = false
+is_wide (Some content_true) = false
+is_wide (Some (content_number n)) = nat_lt 32767 n
+is_wide (Some (content_text t)) = false
+is_wide (Some content_cancelled) = false
+
+-- numbers of 32 bits are written only where there is such a number
+abbrev pub format_of : Contents → Format
+format_of contents = if some_below (λ i. is_wide (of_kind contents Number i)) 39 then Extended else Legacy
+
+-- the most bytes that the entry of these contents may have
+abbrev pub limit_of : Contents → ℕ
+limit_of contents = limit (format_of contents)
+
+-- ---- the sections
+
+-- how many places of a kind are written: up to the last that is there
+abbrev pub written_count : Contents → Kind → ℕ
+written_count contents kind = last_passing (λ i. is_there (of_kind contents kind i)) (count_of kind)
+
+-- a byte for each flag below n
+abbrev pub flags_below : Contents → ℕ → List ℕ
+flags_below contents n = below (λ i. flag_value (of_kind contents Flag i)) n
+
+-- each number below n
+abbrev pub numbers_below : Format → Contents → ℕ → List ℕ
+numbers_below format contents n = below (λ i. number_value (absent format) (of_kind contents Number i)) n
+
+-- the texts below n, one after the other, each with its NUL
+unfoldable pub texts_below : Contents → ℕ → List ℕ
+texts_below contents zero = []
+texts_below contents (suc n) = texts_below contents n ++ text_piece (of_kind contents Text n)
+
+-- the offset of each text below n: the length of the texts before it
+abbrev pub offsets_below : Contents → ℕ → List ℕ
+offsets_below contents n = below (λ i. offset_value (length (texts_below contents i)) (of_kind contents Text i)) n
+
+-- the zero byte where the names with their NUL and the flags are an odd number of bytes
+abbrev pub even_gap : List ℕ → ℕ → List ℕ
+even_gap names flags = replicate ((suc (length names) + flags) % 2) 0
+
+-- each count stops at the last that is there; the texts lie in table order, without sharing
+abbrev pub sections_of : Format → List ℕ → Contents → Sections
+sections_of format names contents = record {
+  names = names;
+  flags = flags_below contents (written_count contents Flag);
+  gap = even_gap names (written_count contents Flag);
+  numbers = numbers_below format contents (written_count contents Number);
+  offsets = offsets_below contents (written_count contents Text);
+  strings = texts_below contents (written_count contents Text);
+  rest = [];
+}
+
+-- The compiled entry of a names field and of what the capabilities have.
+unfoldable pub image : List ℕ → Contents → List ℕ
+image names contents = laid_out (format_of contents) (sections_of (format_of contents) names contents)

@@ -1,0 +1,78 @@
+-- The layout of a compiled entry (term(5), "Legacy storage format" and "Extended number format"): six numbers, and then the
+-- sections that they size. The two formats differ in the first number and in the bytes that the number of a capability takes.
+use Rattle.std.specs.Prelude.{ℕ, suc, ◌+◌, ◌*◌, ◌/◌, ◌%◌, List, [], ◌∷◌, ◌++◌, length}
+use Rattle.ti_layout.specs.declared.layout.Format.{Format}
+use Rattle.ti_layout.specs.declared.layout.Format.TheVariants.{Legacy, Extended}
+
+-- ---- the two formats
+
+-- the first number of an entry: 0432 and 01036 octal
+abbrev pub magic : Format → ℕ
+magic Legacy = 282
+magic Extended = 542
+
+-- how many bytes the number of a capability takes
+abbrev pub width : Format → ℕ
+width Legacy = 2
+width Extended = 4
+
+-- the first number that is negative as a signed number
+abbrev pub negative : Format → ℕ
+negative Legacy = 32768
+negative Extended = 2147483648
+
+-- -2, which stands for cancelled
+abbrev pub cancelled : Format → ℕ
+cancelled Legacy = 65534
+cancelled Extended = 4294967294
+
+-- -1, which stands for absent
+abbrev pub absent : Format → ℕ
+absent Legacy = 65535
+absent Extended = 4294967295
+
+-- the most bytes of an entry (own)
+abbrev pub limit : Format → ℕ
+limit Legacy = 4096
+limit Extended = 32768
+
+-- ---- numbers as bytes, the low one first
+
+-- the bytes of a number, of which those that do not fit are dropped
+abbrev pub number_bytes : Format → ℕ → List ℕ
+number_bytes Legacy n = (n % 256) ∷ (n / 256 % 256) ∷ []
+number_bytes Extended n = (n % 256) ∷ (n / 256 % 256) ∷ (n / 65536 % 256) ∷ (n / 16777216 % 256) ∷ []
+
+-- the bytes of numbers, one after the other
+unfoldable pub spelled : Format → List ℕ → List ℕ
+spelled format [] = []
+spelled format (n ∷ ns) = number_bytes format n ++ spelled format ns
+
+-- ---- an entry in its sections
+
+-- The names without their NUL; a byte a flag; the zero byte, or nothing; the numbers; the offsets into the string table; that
+-- table; what follows, which is not looked at.
+pub record Sections : Type 0 where
+  pub names : List ℕ
+  pub flags : List ℕ
+  pub gap : List ℕ
+  pub numbers : List ℕ
+  pub offsets : List ℕ
+  pub strings : List ℕ
+  pub rest : List ℕ
+
+-- The magic number, the size of the names with their NUL, how many flags, numbers and offsets there are, and the size of the
+-- string table: two bytes each, in either format.
+abbrev pub header : Format → ℕ → ℕ → ℕ → ℕ → ℕ → List ℕ
+header format names flags numbers offsets strings = spelled Legacy (magic format ∷ names ∷ flags ∷ numbers ∷ offsets ∷ strings ∷ [])
+
+-- the bytes of an entry with these sections: the header with their sizes, and then they in this order
+abbrev pub laid_out : Format → Sections → List ℕ
+laid_out format s =
+    header format (suc (length s.names)) (length s.flags) (length s.numbers) (length s.offsets) (length s.strings)
+    ++ s.names ++ 0 ∷ [] ++ s.flags ++ s.gap ++ spelled format s.numbers ++ spelled Legacy s.offsets ++ s.strings ++ s.rest
+
+-- how many bytes that is, without what follows: the names have this size with their NUL, and the numbers begin at an even place
+abbrev pub entry_size : Format → ℕ → ℕ → ℕ → ℕ → ℕ → ℕ
+entry_size format names flags numbers offsets strings =
+    12 + names + flags + (names + flags) % 2 + width format * numbers + 2 * offsets + strings

@@ -1,0 +1,10 @@
+pub mod Values
+pub mod Layout
+pub mod Image
+pub mod Reading
+pub mod Cutting
+pub mod Shown
+pub mod Sound
+pub mod Laws
+pub mod Sizes
+pub mod Merging

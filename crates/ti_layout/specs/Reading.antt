@@ -1,0 +1,238 @@
+-- What the bytes of a compiled entry say (term(5), "Legacy storage format" and "Extended number format"), and why bytes are refused.
+use Rattle.std.specs.Prelude.{◌≡◌, ◌≢◌, ℕ, suc, ◌+◌, ◌*◌, ◌-◌, ◌/◌, ◌%◌, ◌<◌, ◌≤◌, ◌==◌, nat_lt, if◌then◌else◌, List, length, drop, slice_index, slice_range, slice_get, All, Option, Some, None, option_and_then, ◌⊎◌}
+use Rattle.std.specs.List.{before_first}
+use Rattle.ti_caps.specs.declared.capability.Kind.{Kind}
+use Rattle.ti_caps.specs.declared.capability.Kind.TheVariants.{Flag, Number, Text}
+use Rattle.ti_layout.specs.declared.fault.ReadError.{ReadError}
+use Rattle.ti_layout.specs.declared.fault.ReadError.TheVariants.{Short, Magic, Counts, Truncated, BadNames, BadFlag, BadNumber, BadOffset}
+use Rattle.ti_layout.specs.declared.layout.Format.{Format}
+use Rattle.ti_layout.specs.declared.layout.Format.TheVariants.{Legacy, Extended}
+use Rattle.ti_layout.specs.Image.{below}
+use Rattle.ti_layout.specs.Layout.{Sections, absent, cancelled, laid_out, magic, negative, width}
+use Rattle.ti_layout.specs.Values.{Content, content_true, content_number, content_text, Contents, HasNoNul}
+
+-- ---- the numbers that bytes spell
+
+-- the 16-bit number, its low byte first, that stands at a place
+abbrev pub word_at : ℕ → List ℕ → ℕ
+word_at at bytes = slice_index bytes at + 256 * slice_index bytes (at + 1)
+
+-- the number of a format, its low byte first, that stands at a place
+abbrev pub number_at : Format → ℕ → List ℕ → ℕ
+number_at Legacy at bytes = word_at at bytes
+number_at Extended at bytes =
+    slice_index bytes at + 256 * (slice_index bytes (at + 1) + 256 * (slice_index bytes (at + 2) + 256 * slice_index bytes (at + 3)))
+
+-- how many numbers of a format a section has
+abbrev pub count_in : Format → List ℕ → ℕ
+count_in format section = length section / width format
+
+-- those numbers
+abbrev pub numbers_in : Format → List ℕ → List ℕ
+numbers_in format section = below (λ i. number_at format (width format * i) section) (count_in format section)
+
+-- ---- what may stand in a section
+
+-- 0 and 1, and the absent and cancelled of old writers
+abbrev pub IsFlagByte : ℕ → Type 0
+IsFlagByte b = (b < 2) ⊎ (254 ≤ b)
+
+-- not negative as a signed number
+abbrev pub IsPlain : Format → ℕ → Type 0
+IsPlain format n = n < negative format
+
+-- -1 and -2: absent, cancelled
+abbrev pub IsVoid : Format → ℕ → Type 0
+IsVoid format n = (cancelled format ≤ n) × (n ≤ absent format)
+
+-- a NUL stands at the offset or after it, within the table
+abbrev pub HasEnd : List ℕ → ℕ → Type 0
+HasEnd strings offset = (i : ℕ) × (offset ≤ i) × (i < length strings) × (slice_index strings i ≡ 0)
+
+-- a number that is not negative, or stands for absent or cancelled
+abbrev pub IsNumber : Format → ℕ → Type 0
+IsNumber format n = IsPlain format n ⊎ IsVoid format n
+
+-- an offset that leads to a text with its NUL, or stands for absent or cancelled
+abbrev pub IsOffset : List ℕ → ℕ → Type 0
+IsOffset strings n = (IsPlain Legacy n × HasEnd strings n) ⊎ IsVoid Legacy n
+
+-- the sizes of the sections are within the limits, and each flag, number and offset may stand there
+pub record AreSound (format : Format) (s : Sections) : Type 0 where
+  pub some_names : 0 < length s.names
+  pub names_size : length s.names < 32767
+  pub no_nul : HasNoNul s.names
+  pub flag_count : length s.flags ≤ 44
+  pub number_count : length s.numbers ≤ 39
+  pub text_count : length s.offsets ≤ 414
+  pub strings_size : length s.strings < 32768
+  pub gap_size : length s.gap ≡ (suc (length s.names) + length s.flags) % 2
+  pub flags : All IsFlagByte s.flags
+  pub numbers : All (IsNumber format) s.numbers
+  pub offsets : All (IsOffset s.strings) s.offsets
+
+-- ---- what the sections say
+
+-- what a flag's byte says: 1 is true, and any other absent
+abbrev pub flag_of : ℕ → Option Content
+flag_of b = if b == 1 then Some content_true else None
+
+-- what the number of a place says: itself, or absent where it is negative
+abbrev pub number_of : Format → ℕ → Option Content
+number_of format n = if nat_lt n (negative format) then Some (content_number n) else None
+
+-- the bytes from an offset to before the first NUL
+abbrev pub text_from : List ℕ → ℕ → List ℕ
+text_from strings offset = before_first (λ b. b == 0) (drop offset strings)
+
+-- what an offset says: the text that begins there, or absent where it is negative
+abbrev pub text_of : List ℕ → ℕ → Option Content
+text_of strings n = if nat_lt n (negative Legacy) then Some (content_text (text_from strings n)) else None
+
+-- what the sections say of the capability of a kind and an index, absent past the section's end
+abbrev pub says : Format → List ℕ → List ℕ → List ℕ → List ℕ → Kind → ℕ → Option Content
+says format flags numbers offsets strings Flag index = flag_of (slice_index flags index)
+says format flags numbers offsets strings Number index = option_and_then (number_of format) (slice_get numbers index)
+says format flags numbers offsets strings Text index = option_and_then (text_of strings) (slice_get offsets index)
+
+-- what the sections say of each capability
+abbrev pub contents_of : Format → List ℕ → List ℕ → List ℕ → List ℕ → Contents
+contents_of format flags numbers offsets strings c = says format flags numbers offsets strings c.kind c.index
+
+-- The bytes are an entry with these names and these contents. A cancelled value is absent.
+pub record Reads (bytes names : List ℕ) (contents : Contents) : Type 0 where
+  pub format : Format
+  pub sections : Sections
+  pub sound : AreSound format sections
+  pub whole : bytes ≡ laid_out format sections
+  pub named : names ≡ sections.names
+  pub held : contents ≡ contents_of format sections.flags sections.numbers sections.offsets sections.strings
+
+-- ---- why bytes are refused (own order)
+
+-- the format that the first number tells, where it is one of the two
+abbrev pub format_in : List ℕ → Format
+format_in bytes = if word_at 0 bytes == magic Extended then Extended else Legacy
+
+-- where the sections begin and end by the numbers of the header: the size of the names with their NUL
+abbrev pub names_size : List ℕ → ℕ
+names_size bytes = word_at 2 bytes
+
+-- how many flags there are, by the header
+abbrev pub flag_count : List ℕ → ℕ
+flag_count bytes = word_at 4 bytes
+
+-- how many numbers there are, by the header
+abbrev pub number_count : List ℕ → ℕ
+number_count bytes = word_at 6 bytes
+
+-- how many offsets of texts there are, by the header
+abbrev pub text_count : List ℕ → ℕ
+text_count bytes = word_at 8 bytes
+
+-- the size of the string table, by the header
+abbrev pub strings_size : List ℕ → ℕ
+strings_size bytes = word_at 10 bytes
+
+-- where the flags begin: behind the header and the names
+abbrev pub flags_place : List ℕ → ℕ
+flags_place bytes = 12 + names_size bytes
+
+-- where the numbers begin: behind the flags, at an even place
+abbrev pub numbers_place : List ℕ → ℕ
+numbers_place bytes = flags_place bytes + flag_count bytes + (names_size bytes + flag_count bytes) % 2
+
+-- where the offsets begin: behind the numbers
+abbrev pub offsets_place : List ℕ → ℕ
+offsets_place bytes = numbers_place bytes + width (format_in bytes) * number_count bytes
+
+-- where the string table begins: behind the offsets
+abbrev pub strings_place : List ℕ → ℕ
+strings_place bytes = offsets_place bytes + 2 * text_count bytes
+
+-- where the string table ends, and with it the entry
+abbrev pub end_place : List ℕ → ℕ
+end_place bytes = strings_place bytes + strings_size bytes
+
+-- the sections, where the bytes are that long: the names with their NUL
+abbrev pub names_section : List ℕ → List ℕ
+names_section bytes = slice_range bytes 12 (flags_place bytes)
+
+-- the flags, a byte each
+abbrev pub flags_section : List ℕ → List ℕ
+flags_section bytes = slice_range bytes (flags_place bytes) (flags_place bytes + flag_count bytes)
+
+-- the numbers, by the width of the format
+abbrev pub numbers_section : List ℕ → List ℕ
+numbers_section bytes = slice_range bytes (numbers_place bytes) (offsets_place bytes)
+
+-- the offsets, two bytes each
+abbrev pub offsets_section : List ℕ → List ℕ
+offsets_section bytes = slice_range bytes (offsets_place bytes) (strings_place bytes)
+
+-- the string table
+abbrev pub strings_section : List ℕ → List ℕ
+strings_section bytes = slice_range bytes (strings_place bytes) (end_place bytes)
+
+-- a size is negative, or a count is negative or over its table
+abbrev pub HasBadCount : List ℕ → Type 0
+HasBadCount bytes =
+    (32768 ≤ names_size bytes) ⊎ (44 < flag_count bytes) ⊎ (39 < number_count bytes)
+    ⊎ (414 < text_count bytes) ⊎ (32768 ≤ strings_size bytes)
+
+-- below two bytes, a NUL before the last byte, or none there
+abbrev pub HasBadNames : List ℕ → Type 0
+HasBadNames names =
+    (length names < 2) ⊎ ((k : ℕ) × (suc k < length names) × (slice_index names k ≡ 0))
+    ⊎ (slice_index names (length names - 1) ≢ 0)
+
+-- a byte that is neither 0 nor 1, nor the absent or cancelled of old writers
+abbrev pub HasBadFlag : List ℕ → Type 0
+HasBadFlag flags = (k : ℕ) × (k < length flags) × (2 ≤ slice_index flags k) × (slice_index flags k < 254)
+
+-- some number of a section
+abbrev pub SomeNumber : Format → List ℕ → (ℕ → Type 0) → Type 0
+SomeNumber format section P = (k : ℕ) × (k < count_in format section) × P (number_at format (width format * k) section)
+
+-- below -2 as a signed number
+abbrev pub HasBadNumber : Format → List ℕ → Type 0
+HasBadNumber format numbers = SomeNumber format numbers (λ n. (negative format ≤ n) × (n < cancelled format))
+
+-- Below -2, at or past the table's size, or with no NUL behind it in the table: in each case no NUL
+-- stands at it or after it in the table, whose size is below 32,768.
+abbrev pub HasBadOffset : List ℕ → List ℕ → Type 0
+HasBadOffset offsets strings = SomeNumber Legacy offsets (λ n. (n < cancelled Legacy) × ¬ HasEnd strings n)
+
+-- what each refusal says of the bytes
+abbrev pub Holds : List ℕ → ReadError → Type 0
+Holds bytes Short = length bytes < 12
+Holds bytes Magic = (word_at 0 bytes ≢ magic Legacy) × (word_at 0 bytes ≢ magic Extended)
+Holds bytes Counts = HasBadCount bytes
+Holds bytes Truncated = length bytes < end_place bytes
+Holds bytes BadNames = HasBadNames (names_section bytes)
+Holds bytes BadFlag = HasBadFlag (flags_section bytes)
+Holds bytes BadNumber = HasBadNumber (format_in bytes) (numbers_section bytes)
+Holds bytes BadOffset = HasBadOffset (offsets_section bytes) (strings_section bytes)
+
+-- the order in which they are looked for
+abbrev pub rank : ReadError → ℕ
+rank Short = 1
+rank Magic = 2
+rank Counts = 3
+rank Truncated = 4
+rank BadNames = 5
+rank BadFlag = 6
+rank BadNumber = 7
+rank BadOffset = 8
+
+-- the refusal holds, and none before it does
+pub record Refused (bytes : List ℕ) (error : ReadError) : Type 0 where
+  pub holds : Holds bytes error
+  pub first : (earlier : ReadError) → rank earlier < rank error → ¬ Holds bytes earlier
+
+-- Bytes are an entry in one way at most, are refused in one way at most, and never both.
+abbrev pub OneReading : Type 0
+OneReading =
+    ((bytes m n : List ℕ) (c d : Contents) → Reads bytes m c → Reads bytes n d → (m ≡ n) × (c ≡ d))
+    × ((bytes : List ℕ) (e f : ReadError) → Refused bytes e → Refused bytes f → e ≡ f)
+    × ((bytes names : List ℕ) (c : Contents) (e : ReadError) → Reads bytes names c → Refused bytes e → ⊥)

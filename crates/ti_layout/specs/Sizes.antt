@@ -1,0 +1,22 @@
+-- What the writer knows of an entry before it asks for memory (own).
+use Rattle.std.specs.Prelude.{◌≡◌, ◌^◌, ◌-◌, ◌≤◌, ℕ, suc, List, length, min}
+use Rattle.ti_caps.specs.declared.capability.Kind.TheVariants.{Flag, Number, Text}
+use Rattle.ti_layout.specs.declared.layout.Header.{Header}
+use Rattle.ti_layout.specs.Values.{Contents}
+use Rattle.ti_layout.specs.Image.{format_of, texts_below, written_count}
+
+-- a size as it is counted: no more than 2^64 - 1
+abbrev pub at_most_max : ℕ → ℕ
+at_most_max n = min n (2 ^ 64 - 1)
+
+-- the header's numbers, of names that are short: the size of the string table as it is counted
+pub record HasSizes (field : List ℕ) (contents : Contents) (h : Header) : Type 0 where
+  pub format : h.format ≡ format_of contents
+  pub names : h.names ≡ suc (length field)
+  pub flags : h.flags ≡ written_count contents Flag
+  pub numbers : h.numbers ≡ written_count contents Number
+  pub texts : h.texts ≡ written_count contents Text
+  pub strings : h.strings ≡ at_most_max (length (texts_below contents (written_count contents Text)))
+  pub flags_fit : h.flags ≤ 44
+  pub numbers_fit : h.numbers ≤ 39
+  pub texts_fit : h.texts ≤ 414

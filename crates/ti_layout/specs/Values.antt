@@ -1,0 +1,103 @@
+-- What an entry has of a capability (term(5)), apart from where it lies in memory.
+use Rattle.std.specs.Prelude.{◌≡◌, ◌≢◌, ℕ, ◌+◌, ◌<◌, ◌≤◌, ◌==◌, ◌&&◌, Bool, if◌then◌else◌, List, [], ◌∷◌, map, length, slice_index, slice_index_or, All, Option, Some, None}
+use Rattle.std.specs.Rc.{rc_slice_items}
+use Rattle.ti_caps.specs.Tables.{Capability, IsCapability}
+use Rattle.ti_caps.specs.declared.capability.Kind.{Kind}
+use Rattle.ti_caps.specs.declared.capability.Kind.TheVariants.{Flag, Number, Text}
+use Rattle.ti_layout.specs.declared.values.Value.{Value}
+use Rattle.ti_layout.specs.declared.values.Value.TheVariants.{True, Cancelled}
+use Rattle.ti_layout.specs.declared.values.Value.TheVariants as v
+
+-- a flag, a number, a text, or a value that is cancelled
+pub data Content : Type 0 where
+  content_true : Content
+  content_number : ℕ → Content
+  content_text : List ℕ → Content
+  content_cancelled : Content
+
+-- a finite map: what each of the capabilities has
+abbrev pub Contents : Type 0
+Contents = Capability → Option Content
+
+-- what a value says, as plain data
+abbrev pub content_of : Value → Content
+content_of True = content_true
+content_of (v.Number n) = content_number n
+content_of (v.Text t) = content_text (rc_slice_items t)
+content_of Cancelled = content_cancelled
+
+-- no byte is NUL, which ends a text in an entry
+abbrev pub HasNoNul : List ℕ → Type 0
+HasNoNul text = All (λ byte. byte ≢ 0) text
+
+-- the capability may have the content: the kinds agree, a number is at most 2,147,483,647, a text has no NUL
+abbrev pub Agrees : Capability → Content → Type 0
+Agrees c content_true = c.kind ≡ Flag
+Agrees c (content_number n) = (c.kind ≡ Number) × (n ≤ 2147483647)
+Agrees c (content_text t) = (c.kind ≡ Text) × HasNoNul t
+Agrees c content_cancelled = Unit {0}
+
+-- the capability may have the content, if there is one
+abbrev pub AgreesIfSome : Capability → Option Content → Type 0
+AgreesIfSome c None = Unit {0}
+AgreesIfSome c (Some content) = Agrees c content
+
+-- ---- own: a table as a list of capabilities with what they have
+
+-- a capability, and what it has
+abbrev pub Entry : Type 0
+Entry = Capability × Content
+
+-- the entries of a slice of capabilities and values
+abbrev pub entries_of : List (Capability × Value) → List Entry
+entries_of held = map (λ e. (e.0, content_of e.1)) held
+
+-- the kinds in the order of the compiled entry
+abbrev pub kind_place : Kind → ℕ
+kind_place Flag = 0
+kind_place Number = 1
+kind_place Text = 2
+
+-- whether two capabilities are one
+abbrev pub is_same : Capability → Capability → Bool
+is_same c d = (kind_place c.kind == kind_place d.kind) && (c.index == d.index)
+
+-- what the entries say of a capability
+unfoldable pub contents : List Entry → Contents
+contents [] c = None
+contents (e ∷ es) c = if is_same e.0 c then Some e.1 else contents es c
+
+-- where a kind begins among all 497 capabilities, in the order of the compiled entry
+abbrev pub rank_in : Kind → ℕ
+rank_in Flag = 0
+rank_in Number = 44
+rank_in Text = 83
+
+-- the place of a capability among them
+abbrev pub rank_of : Capability → ℕ
+rank_of c = rank_in c.kind + c.index
+
+-- the place of the entry at i
+abbrev pub rank_at : List Entry → ℕ → ℕ
+rank_at es i = slice_index (map (λ e. rank_of e.0) es) i
+
+-- each capability comes after those before it, and may have what it has
+pub record IsKept (es : List Entry) : Type 0 where
+  pub rises : (i j : ℕ) → i < j → j < length es → rank_at es i < rank_at es j
+  pub agree : All (λ e. IsCapability e.0 × Agrees e.0 e.1) es
+
+-- the capability stands at place i
+pub record IsAt (es : List Entry) (c : Capability) (i : ℕ) : Type 0 where
+  pub in_range : i < length es
+  pub is_here : (e : Entry) → (slice_index_or es i e).0 ≡ c
+
+-- the capability would stand at place i
+pub record IsGapFor (es : List Entry) (c : Capability) (i : ℕ) : Type 0 where
+  pub in_range : i ≤ length es
+  pub before : (j : ℕ) → j < i → rank_at es j < rank_of c
+  pub after : (j : ℕ) → i ≤ j → j < length es → rank_of c < rank_at es j
+
+-- the new entries give the capability this content, and say of every other one what the old ones say
+pub record SetsOnly (old new : List Entry) (c : Capability) (content : Option Content) : Type 0 where
+  pub this_one : contents new c ≡ content
+  pub others : (d : Capability) → d ≢ c → contents new d ≡ contents old d

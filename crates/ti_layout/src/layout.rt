@@ -1,0 +1,100 @@
+// The two formats of a compiled entry, and the numbers of its header.
+ghost use Rattle.std.specs.Prelude.{◌≡◌, ◌≤◌, ◌<◌, IsTrue};
+ghost use Rattle.ti_layout.specs.Layout as layout;
+ghost use Rattle.ti_layout.specs.Sizes.{at_most_max};
+
+/// The bytes of a header.
+pub const HEADER_SIZE: usize = 12;
+
+/// The formats of term(5). They differ in the magic number and in the bytes that the number of a
+/// capability takes.
+#[derive(Clone, Copy)]
+pub enum Format {
+    /// The legacy storage format: numbers of 16 bits.
+    Legacy,
+    /// The extended number format: numbers of 32 bits.
+    Extended,
+}
+
+impl Format {
+    /// The first number of an entry.
+    pub fn magic(self) -> u16
+        ensures { result ≡ layout.magic self }
+    {
+        match self {
+            Format::Legacy => 0o432,
+            Format::Extended => 0o1036,
+        }
+    }
+
+    /// The bytes of the number of a capability.
+    pub fn width(self) -> usize
+        ensures value { result ≡ layout.width self }
+        ensures some { 2 ≤ result }
+        ensures fits { result ≤ 4 }
+    {
+        match self {
+            Format::Legacy => 2,
+            Format::Extended => 4,
+        }
+    }
+
+    /// The first number that is negative as a signed number.
+    pub fn negative(self) -> u32
+        ensures { result ≡ layout.negative self }
+    {
+        match self {
+            Format::Legacy => 0x8000,
+            Format::Extended => 0x8000_0000,
+        }
+    }
+
+    /// -2, which stands for a cancelled number; -1 stands for an absent one.
+    pub fn cancelled(self) -> u32
+        ensures { result ≡ layout.cancelled self }
+    {
+        match self {
+            Format::Legacy => 0xfffe,
+            Format::Extended => 0xffff_fffe,
+        }
+    }
+
+    /// The most bytes of an entry that is written.
+    pub fn limit(self) -> usize
+        ensures { result ≡ layout.limit self }
+    {
+        match self {
+            Format::Legacy => 4096,
+            Format::Extended => 32768,
+        }
+    }
+}
+
+/// What a header says: the format, and the sizes of the sections.
+#[derive(Clone, Copy)]
+pub struct Header {
+    pub format: Format,
+    /// The bytes of the names, with their NUL.
+    pub names: usize,
+    pub flags: usize,
+    pub numbers: usize,
+    pub texts: usize,
+    /// The bytes of the string table.
+    pub strings: usize,
+}
+
+impl Header {
+    /// The bytes of an entry with this header; the greatest number where they are more.
+    pub fn size(&self) -> usize
+        requires names { self.now.names < 65536 }
+        requires flags { self.now.flags < 65536 }
+        requires numbers { self.now.numbers < 65536 }
+        requires texts { self.now.texts < 65536 }
+        ensures { result ≡ at_most_max (layout.entry_size self.now.format self.now.names self.now.flags self.now.numbers self.now.texts self.now.strings) }
+    {
+        let gap = (self.names + self.flags) % 2;
+        let numbers = self.format.width() * self.numbers;
+        let fixed = HEADER_SIZE + self.names + self.flags + gap + numbers + 2 * self.texts;
+        fixed.saturating_add(self.strings)
+    }
+}

@@ -1,0 +1,28 @@
+//! Compiled terminfo entries, as term(5) lays them out.
+//!
+//! - `values`: the values of an entry, a finite map from capabilities
+//! - `merging`: two such maps made one, where the first decides
+//! - `layout`: the two formats, and the numbers of a header
+//! - `writing`: an entry written from its names and values
+//! - `view`: an entry read where it lies, each name and value a slice of the caller's bytes
+//! - `sections`: the sections of an entry, cut by its header and each looked through once
+//! - `fault`: why bytes are no entry
+//! - `laws`: what the definitions of reading settle, and that what is written is read again
+#![tactic(auto)]
+
+mod fault;
+mod laws;
+mod layout;
+mod merging;
+mod sections;
+mod values;
+mod view;
+mod writing;
+
+pub use fault::ReadError;
+pub use laws::{images_are_of_values, images_are_read, one_reading};
+pub use layout::{Format, HEADER_SIZE, Header};
+pub use sections::{number, word};
+pub use values::{Table, Value};
+pub use view::View;
+pub use writing::{WriteError, write};

@@ -1,0 +1,91 @@
+// Two tables made one, in one walk over both: the values of each stand in the order of the entry.
+ghost use Rattle.std.specs.Prelude.{◌≡◌, ◌++◌, ◌∷◌, [], IfOk, OnOk, MatchOption};
+ghost use Rattle.std.specs.Option.{option_or};
+ghost use Rattle.ti_caps.specs.Tables.{Capability};
+ghost use Rattle.ti_layout.specs.Merging.{IsPastBoth, TurnIs};
+ghost use Rattle.ti_layout.specs.Values.{contents, content_of, entries_of, IsKept};
+
+use crate::values::{Value, rank};
+use std::alloc::{AllocError, Global};
+use std::cmp::Ordering;
+use ti_caps::Cap;
+
+/// Whose value comes next: of the first, of the second, or of both, which have the same capability.
+enum Turn {
+    First,
+    Second,
+    Both,
+}
+
+fn whose_turn(
+    first: &[(Cap, Value)],
+    at_first: usize,
+    second: &[(Cap, Value)],
+    at_second: usize,
+) -> Option<Turn>
+    ensures { MatchOption result
+        (IsPastBoth (entries_of first.now) at_first (entries_of second.now) at_second)
+        (TurnIs (entries_of first.now) at_first (entries_of second.now) at_second) }
+{
+    match (first.get(at_first), second.get(at_second)) {
+        (None, None) => None,
+        (Some(_), None) => Some(Turn::First),
+        (None, Some(_)) => Some(Turn::Second),
+        (Some(of_first), Some(of_second)) => {
+            Some(match rank(of_first.0).cmp(&rank(of_second.0)) {
+                Ordering::Less => Turn::First,
+                Ordering::Equal => Turn::Both,
+                Ordering::Greater => Turn::Second,
+            })
+        }
+    }
+}
+
+/// Adds a value once more, its text shared.
+fn push_copy(merged: &mut Vec<(Cap, Value)>, entry: &(Cap, Value)) -> Result<(), AllocError>
+    ensures { OnOk result (entries_of merged.new.items ≡ entries_of merged.old.items ++ (entry.now.0, content_of entry.now.1) ∷ []) }
+{
+    let value = match &entry.1 {
+        Value::True => Value::True,
+        Value::Number(number) => Value::Number(*number),
+        Value::Text(text) => Value::Text(text.clone()?),
+        Value::Cancelled => Value::Cancelled,
+    };
+    merged.push((entry.0, value))?;
+    Ok(())
+}
+
+/// What the first has, and of what it has nothing of, what the second has.
+pub fn merge(
+    alloc: Global,
+    first: &[(Cap, Value)],
+    second: &[(Cap, Value)],
+) -> Result<Vec<(Cap, Value)>, AllocError>
+    requires first { IsKept (entries_of first.now) }
+    requires second { IsKept (entries_of second.now) }
+    ensures kept { IfOk result (λ merged. IsKept (entries_of merged.items)) }
+    ensures merges { IfOk result (λ merged. (c : Capability) → contents (entries_of merged.items) c
+        ≡ option_or (contents (entries_of first.now) c) (contents (entries_of second.now) c)) }
+{
+    let mut merged = Vec::with_capacity(alloc, first.len().saturating_add(second.len()))?;
+    let mut at_first = 0;
+    let mut at_second = 0;
+    while let Some(turn) = whose_turn(first, at_first, second, at_second) {
+        match turn {
+            Turn::First => {
+                push_copy(&mut merged, &first[at_first])?;
+                at_first += 1;
+            }
+            Turn::Second => {
+                push_copy(&mut merged, &second[at_second])?;
+                at_second += 1;
+            }
+            Turn::Both => {
+                push_copy(&mut merged, &first[at_first])?;
+                at_first += 1;
+                at_second += 1;
+            }
+        }
+    }
+    Ok(merged)
+}

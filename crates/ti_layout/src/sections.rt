@@ -1,0 +1,158 @@
+// The sections of a compiled entry: cut by the header's numbers, and each looked through once.
+ghost use Rattle.std.specs.Prelude.{◌≡◌, ◌≢◌, ℕ, ◌+◌, ◌*◌, ◌<◌, ◌≤◌, length, slice_index, IsTrue, MatchBool, IfOk, IfErr};
+ghost use Rattle.ti_layout.specs.Layout as layout;
+ghost use Rattle.ti_layout.specs.Reading.{word_at, number_at, Refused, HasBadNames, HasBadFlag, HasBadNumber, HasBadOffset};
+ghost use Rattle.ti_layout.specs.Cutting.{HasHeader, IsCut, AreNames, AreFlags, AreNumbers, AreOffsets};
+
+use crate::fault::ReadError;
+use crate::layout::{Format, HEADER_SIZE, Header};
+use byteorder::{ByteOrder, LittleEndian};
+use memchr::{memchr, memrchr};
+
+/// The first size or offset that is negative as a signed number of 16 bits.
+const NEGATIVE: usize = 0x8000;
+/// -2, a cancelled offset; -1 is an absent one.
+const CANCELLED: usize = 0xfffe;
+
+const FLAGS_MAX: usize = 44;
+
+const NUMBERS_MAX: usize = 39;
+
+const TEXTS_MAX: usize = 414;
+
+/// The sections of an entry, as they lie in its bytes; the names with their NUL.
+#[derive(Clone, Copy)]
+pub struct Sections<'a> {
+    pub format: Format,
+    pub names: &'a [u8],
+    pub flags: &'a [u8],
+    pub numbers: &'a [u8],
+    pub offsets: &'a [u8],
+    pub strings: &'a [u8],
+}
+
+/// The 16-bit number that stands at a place, its low byte first.
+pub fn word(bytes: &[u8], at: usize) -> usize
+    requires { at + 2 ≤ length bytes.now }
+    ensures value { result ≡ word_at at bytes.now }
+    ensures fits { result < 65536 }
+{
+    LittleEndian::read_u16(&bytes[at..]) as usize
+}
+
+/// The number of a format that stands at a place, its low byte first.
+pub fn number(bytes: &[u8], at: usize, format: Format) -> u32
+    requires { at + layout.width format ≤ length bytes.now }
+    ensures value { result ≡ number_at format at bytes.now }
+    ensures fits { result ≤ layout.absent format }
+{
+    let rest = &bytes[at..];
+    match format {
+        Format::Legacy => u32::from(LittleEndian::read_u16(rest)),
+        Format::Extended => LittleEndian::read_u32(rest),
+    }
+}
+
+/// The header's numbers, or the first of Short, Magic and Counts that holds.
+fn read_header(bytes: &[u8]) -> Result<Header, ReadError>
+    ensures found { IfOk result (λ h. HasHeader bytes.now h) }
+    ensures refused { IfErr result (λ e. Refused bytes.now e) }
+{
+    if bytes.len() < HEADER_SIZE {
+        return Err(ReadError::Short);
+    }
+    let format = match word(bytes, 0) {
+        0o432 => Format::Legacy,
+        0o1036 => Format::Extended,
+        _ => return Err(ReadError::Magic),
+    };
+    let header = Header {
+        format,
+        names: word(bytes, 2),
+        flags: word(bytes, 4),
+        numbers: word(bytes, 6),
+        texts: word(bytes, 8),
+        strings: word(bytes, 10),
+    };
+    if header.names >= NEGATIVE
+        || header.flags > FLAGS_MAX
+        || header.numbers > NUMBERS_MAX
+        || header.texts > TEXTS_MAX
+        || header.strings >= NEGATIVE
+    {
+        return Err(ReadError::Counts);
+    }
+    Ok(header)
+}
+
+/// The sections, or the first of Short, Magic, Counts and Truncated that holds.
+pub fn cut(bytes: &[u8]) -> Result<Sections<'_>, ReadError>
+    ensures found { IfOk result (λ s. IsCut bytes.now s) }
+    ensures refused { IfErr result (λ e. Refused bytes.now e) }
+{
+    let header = read_header(bytes)?;
+    let end = header.size();
+    if bytes.len() < end {
+        return Err(ReadError::Truncated);
+    }
+    let flags = HEADER_SIZE + header.names;
+    let gap = (header.names + header.flags) % 2;
+    let numbers = flags + header.flags + gap;
+    let offsets = numbers + header.format.width() * header.numbers;
+    let strings = offsets + 2 * header.texts;
+    Ok(Sections {
+        format: header.format,
+        names: &bytes[HEADER_SIZE..flags],
+        flags: &bytes[flags..flags + header.flags],
+        numbers: &bytes[numbers..offsets],
+        offsets: &bytes[offsets..strings],
+        strings: &bytes[strings..end],
+    })
+}
+
+/// Whether a section is names of a byte at least, and then its only NUL.
+pub fn are_names(names: &[u8]) -> bool
+    ensures { MatchBool result (AreNames names.now) (HasBadNames names.now) }
+{
+    names.len() >= 2 && memchr(0, names) == Some(names.len() - 1)
+}
+
+pub fn are_flags(flags: &[u8]) -> bool
+    ensures { MatchBool result (AreFlags flags.now) (HasBadFlag flags.now) }
+{
+    for flag in flags {
+        if *flag >= 2 && *flag < 0xfe {
+            return false;
+        }
+    }
+    true
+}
+
+pub fn are_numbers(numbers: &[u8], format: Format) -> bool
+    ensures { MatchBool result (AreNumbers format numbers.now) (HasBadNumber format numbers.now) }
+{
+    let width = format.width();
+    for index in 0..numbers.len() / width {
+        let number = number(numbers, width * index, format);
+        if number >= format.negative() && number < format.cancelled() {
+            return false;
+        }
+    }
+    true
+}
+
+/// Whether each offset is void or leads to a text with its NUL. One search serves them all: an
+/// offset does so exactly where it is not past the table's last NUL.
+pub fn are_offsets(offsets: &[u8], strings: &[u8]) -> bool
+    requires { length strings.now < 32768 }
+    ensures { MatchBool result (AreOffsets offsets.now strings.now) (HasBadOffset offsets.now strings.now) }
+{
+    let ends = memrchr(0, strings).map_or(0, |last| last + 1);
+    for index in 0..offsets.len() / 2 {
+        let offset = word(offsets, 2 * index);
+        if offset >= ends && offset < CANCELLED {
+            return false;
+        }
+    }
+    true
+}

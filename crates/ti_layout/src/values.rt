@@ -1,0 +1,179 @@
+// The values of an entry, and the table that holds them by capability.
+ghost use Rattle.std.specs.Prelude.{◌≡◌, ◌≢◌, Option, Some, None, option_map, OnOk, OnErr, IfOk, IfErr, IfSome, IsNone, IsOk, IsSome, vec_len, length};
+ghost use Rattle.std.specs.Option.{option_or};
+ghost use Rattle.ti_caps.specs.Tables.{Capability, IsCapability};
+ghost use Rattle.ti_layout.specs.Values.{contents, content_of, entries_of, rank_of, Agrees, AgreesIfSome, IsAt, IsGapFor, IsKept, SetsOnly};
+
+use crate::merging::merge;
+use std::alloc::{AllocError, Global};
+use std::marker::Model;
+use std::rc::RcSlice;
+use ti_caps::{Cap, Kind, count};
+
+/// What an entry has of a capability.
+#[derive(Debug, Drop)]
+pub enum Value {
+    /// A flag that is there.
+    True,
+    /// A number, at most 2,147,483,647.
+    Number(u32),
+    /// A text without NUL.
+    Text(RcSlice<u8>),
+    /// Cancelled, as by `name@`, and so not there.
+    Cancelled,
+}
+
+/// The values of an entry: a finite map from capabilities to values.
+#[derive(Drop)]
+pub struct Table {
+    entries: Vec<(Cap, Value)>,
+}
+
+impl Model for Table {
+    ghost use Rattle.std.specs.Prelude.{List};
+    ghost use Rattle.ti_layout.specs.Values.{Entry, IsKept, entries_of};
+
+    ghost Value = { List Entry };
+
+    ghost view = { λ t. entries_of t.entries.items };
+
+    ghost invariant = { λ t. IsKept (entries_of t.entries.items) };
+}
+
+impl Table {
+    /// A table without values. It takes no memory.
+    #[tactic(auto, unfolding(crate::specs::Values::contents))]
+    pub fn new(alloc: Global) -> Table
+        ensures { (c : Capability) → contents result c ≡ None }
+    {
+        Table {
+            entries: Vec::new(alloc),
+        }
+    }
+
+    /// The value of a capability, or `None` where it has none.
+    pub fn get(&self, cap: Cap) -> Option<&Value>
+        ensures found { option_map (λ v. content_of v.now) result ≡ contents self.now cap }
+        ensures agrees { IfSome result (λ v. Agrees cap (content_of v.now)) }
+    {
+        find(&self.entries, cap)
+    }
+
+    /// Gives a capability a value, or with `None` takes its value away, and leaves every other one.
+    /// The kinds agree, a number is at most 2,147,483,647 and a text holds no NUL. Where memory is short the
+    /// table stays as it was and the value is dropped.
+    pub fn set(&mut self, cap: Cap, value: Option<Value>) -> Result<(), AllocError>
+        requires { AgreesIfSome cap (option_map content_of value) }
+        ensures set { OnOk result (contents self.new cap ≡ option_map content_of value) }
+        ensures others { OnOk result ((c : Capability) → c ≢ cap → contents self.new c ≡ contents self.old c) }
+        ensures err { OnErr result (self.new ≡ self.old) }
+
+        // Only a value for a capability that has none needs memory.
+        ensures taken_away { IsNone value → IsOk result }
+        ensures in_place { IsSome (contents self.old cap) → IsOk result }
+    {
+        match value {
+            Some(value) => put(&mut self.entries, cap, value),
+            None => {
+                take_out(&mut self.entries, cap);
+                Ok(())
+            }
+        }
+    }
+}
+
+impl Table {
+    /// Gives each capability that has no value the value that it has in the other table, its text
+    /// shared: what the table has decides, a cancelled value too. One walk over both. Where memory is
+    /// short the table stays as it was.
+    pub fn merge(&mut self, other: &Table) -> Result<(), AllocError>
+        ensures merged { OnOk result ((c : Capability) → contents self.new c ≡ option_or (contents self.old c) (contents other.now c)) }
+        ensures err { OnErr result (self.new ≡ self.old) }
+    {
+        let merged = merge(*self.entries.allocator(), &self.entries, &other.entries)?;
+        self.entries = merged;
+        Ok(())
+    }
+
+    /// What is so of every table: each value is one that its capability may have. It computes nothing.
+    pub fn values_agree(&self)
+        ensures { (c : Capability) → AgreesIfSome c (contents self.now c) }
+    {
+        let _ = &self.entries;
+    }
+
+    // The capabilities that have a value, with it, in the order of the compiled entry.
+    pub(crate) fn entries(&self) -> &[(Cap, Value)]
+        ensures entries { entries_of result.now ≡ self.now }
+        ensures kept { IsKept (entries_of result.now) }
+    {
+        &self.entries
+    }
+}
+
+// The place of a capability among all, in the order of the compiled entry.
+pub(crate) fn rank(cap: Cap) -> usize
+    ensures value { result ≡ rank_of cap }
+    ensures valid { IsCapability cap }
+{
+    match cap.kind() {
+        Kind::Flag => cap.index(),
+        Kind::Number => count(Kind::Flag) + cap.index(),
+        Kind::Text => count(Kind::Flag) + count(Kind::Number) + cap.index(),
+    }
+}
+
+// Where a capability stands, or where it would stand.
+fn place(entries: &[(Cap, Value)], cap: Cap) -> Result<usize, usize>
+    requires { IsKept (entries_of entries.now) }
+    ensures valid { IsCapability cap }
+    ensures found { IfOk result (IsAt (entries_of entries.now) cap) }
+    ensures absent { IfErr result (IsGapFor (entries_of entries.now) cap) }
+{
+    let wanted = rank(cap);
+    entries.binary_search_by_key(&wanted, |entry| rank(entry.0))
+}
+
+// The value of a capability.
+fn find(entries: &[(Cap, Value)], cap: Cap) -> Option<&Value>
+    requires { IsKept (entries_of entries.now) }
+    ensures found { option_map (λ v. content_of v.now) result ≡ contents (entries_of entries.now) cap }
+    ensures agrees { IfSome result (λ v. Agrees cap (content_of v.now)) }
+{
+    match place(entries, cap) {
+        Ok(at) => Some(&entries[at].1),
+        Err(_) => None,
+    }
+}
+
+// Gives a capability a value, in its place.
+fn put(entries: &mut Vec<(Cap, Value)>, cap: Cap, value: Value) -> Result<(), AllocError>
+    requires kept { IsKept (entries_of entries.old.items) }
+    requires agrees { Agrees cap (content_of value) }
+    ensures kept { IsKept (entries_of entries.new.items) }
+    ensures ok { OnOk result (SetsOnly (entries_of entries.old.items) (entries_of entries.new.items) cap (Some (content_of value))) }
+    ensures err { OnErr result (entries.new.items ≡ entries.old.items) }
+    ensures in_place { IsSome (contents (entries_of entries.old.items) cap) → IsOk result }
+{
+    match place(entries, cap) {
+        Ok(at) => {
+            entries[at] = (cap, value);
+            Ok(())
+        }
+        Err(at) => {
+            entries.insert(at, (cap, value))?;
+            Ok(())
+        }
+    }
+}
+
+// Takes the value of a capability away.
+fn take_out(entries: &mut Vec<(Cap, Value)>, cap: Cap)
+    requires { IsKept (entries_of entries.old.items) }
+    ensures kept { IsKept (entries_of entries.new.items) }
+    ensures gone { SetsOnly (entries_of entries.old.items) (entries_of entries.new.items) cap None }
+{
+    if let Ok(at) = place(entries, cap) {
+        let _ = entries.remove(at);
+    }
+}

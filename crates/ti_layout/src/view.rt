@@ -1,0 +1,133 @@
+// A compiled entry read where it lies: each name and value is a slice of the caller's bytes.
+ghost use Rattle.std.specs.Prelude.{◌≡◌, ◌==◌, ◌<◌, length, IfOk, IfErr};
+ghost use Rattle.std.specs.List.{before_first};
+ghost use Rattle.std.specs.Option.{option_copied};
+ghost use Rattle.ti_caps.specs.declared.capability.Kind.TheVariants.{Flag, Number, Text};
+ghost use Rattle.ti_layout.specs.Reading.{Reads, Refused};
+ghost use Rattle.ti_layout.specs.Sound.{OffsetsEnd};
+
+use crate::fault::ReadError;
+use crate::layout::Format;
+use crate::sections::{are_flags, are_names, are_numbers, are_offsets, cut, number, word};
+use memchr::memchr;
+use ti_caps::Cap;
+
+/// The first offset that is negative as a signed number of 16 bits.
+const NEGATIVE: usize = 0x8000;
+
+/// A compiled entry of term(5), in the legacy storage format or the extended number format, read
+/// where it lies. It holds slices of the bytes that it was read from, so it takes no memory;
+/// contracts see its names and what each capability has.
+#[derive(Clone, Copy)]
+pub struct View<'a> {
+    format: Format,
+    names: &'a [u8],
+    flags: &'a [u8],
+    numbers: &'a [u8],
+    offsets: &'a [u8],
+    strings: &'a [u8],
+    // each plain offset leads into the string table
+    ghost ends: { OffsetsEnd offsets.now strings.now },
+    // which is no longer than a header can tell
+    pub ghost short: { length strings.now < 32768 },
+}
+
+impl<'a> View<'a> {
+    ghost use Rattle.ti_layout.specs.Shown.{names_of, held, shown_flag, shown_number, shown_text};
+
+    /// Reads an entry. One pass over the sections and one search of the string table: the time is
+    /// linear in the bytes, however many offsets lead into one text.
+    ///
+    /// # Errors
+    /// The first of the refusals of [`ReadError`], in its order, that holds of the bytes.
+    pub fn read(bytes: &'a [u8]) -> Result<View<'a>, ReadError>
+        ensures found { IfOk result (λ v. Reads bytes.now (names_of v) (held v)) }
+        ensures refused { IfErr result (λ e. Refused bytes.now e) }
+    {
+        let sections = cut(bytes)?;
+        if !are_names(sections.names) {
+            return Err(ReadError::BadNames);
+        }
+        if !are_flags(sections.flags) {
+            return Err(ReadError::BadFlag);
+        }
+        if !are_numbers(sections.numbers, sections.format) {
+            return Err(ReadError::BadNumber);
+        }
+        if !are_offsets(sections.offsets, sections.strings) {
+            return Err(ReadError::BadOffset);
+        }
+        Ok(View {
+            format: sections.format,
+            names: &sections.names[..sections.names.len() - 1],
+            flags: sections.flags,
+            numbers: sections.numbers,
+            offsets: sections.offsets,
+            strings: sections.strings,
+        })
+    }
+
+    /// The names field, without its NUL.
+    pub fn names(&self) -> &'a [u8]
+        ensures { result.now ≡ names_of self.now }
+    {
+        self.names
+    }
+
+    /// The first name: the names field up to its first `|`, or the whole of it.
+    pub fn first_name(&self) -> &'a [u8]
+        ensures { result.now ≡ before_first (λ b. b == 124) (names_of self.now) }
+    {
+        match memchr(b'|', self.names) {
+            Some(place) => &self.names[..place],
+            None => self.names,
+        }
+    }
+
+    /// Whether a flag is set. One that is absent or cancelled is not.
+    pub fn flag(&self, cap: Cap) -> bool
+        requires { cap.kind ≡ Flag }
+        ensures { result ≡ shown_flag (held self.now cap) }
+    {
+        self.flags.get(cap.index()) == Some(&1)
+    }
+
+    /// The value of a number; `None` where it is absent or cancelled.
+    pub fn number(&self, cap: Cap) -> Option<u32>
+        requires { cap.kind ≡ Number }
+        ensures { result ≡ shown_number (held self.now cap) }
+    {
+        let width = self.format.width();
+        if cap.index() >= self.numbers.len() / width {
+            return None;
+        }
+        let number = number(self.numbers, width * cap.index(), self.format);
+        if number < self.format.negative() {
+            Some(number)
+        } else {
+            None
+        }
+    }
+
+    /// The value of a text, without its NUL; `None` where it is absent or cancelled.
+    pub fn text(&self, cap: Cap) -> Option<&'a [u8]>
+        requires { cap.kind ≡ Text }
+        ensures { option_copied result ≡ shown_text (held self.now cap) }
+    {
+        if cap.index() >= self.offsets.len() / 2 {
+            return None;
+        }
+        let offset = word(self.offsets, 2 * cap.index());
+        if offset >= NEGATIVE {
+            return None;
+        }
+        let rest = &self.strings[offset..];
+        match memchr(0, rest) {
+            Some(len) => Some(&rest[..len]),
+            None => Some(rest),
+        }
+    }
+}
+
+#[cfg(test)]
+mod tests;

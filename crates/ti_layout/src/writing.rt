@@ -1,0 +1,258 @@
+// An entry written as term(5) lays it out. The entries of a table stand in the order of the entry,
+// so each section is laid in one walk over them: what is absent before a value is filled up in one
+// step, and what is absent behind the last value is not written.
+ghost use Rattle.std.specs.Prelude.{◌≡◌, ◌≢◌, ◌<◌, ◌≤◌, ◌↔◌, ◌+◌, ◌*◌, ◌++◌, [], length, replicate, Some, IfOk, IsErrOf, OnOk, MatchBool};
+ghost use Rattle.ti_caps.specs.declared.capability.Kind.TheVariants.{Flag, Number, Text};
+ghost use Rattle.ti_layout.specs.Image.{is_wide as is_wide_content};
+ghost use Rattle.ti_layout.specs.Image.{image, format_of, limit_of, written_count, flags_below, numbers_below, texts_below, offsets_below, even_gap, HasNoNul};
+ghost use Rattle.ti_layout.specs.Layout as layout;
+ghost use Rattle.ti_layout.specs.Layout.{spelled, number_bytes};
+ghost use Rattle.ti_layout.specs.Sizes.{HasSizes};
+ghost use Rattle.ti_layout.specs.Values.{contents, content_of, entries_of, IsKept};
+ghost use Rattle.ti_layout.specs.declared.writing.WriteError.TheVariants.{Memory};
+
+use crate::layout::{Format, Header};
+use crate::values::{Table, Value};
+use byteorder::{ByteOrder, LittleEndian};
+use std::alloc::{AllocError, Global};
+use thiserror::Error;
+use ti_caps::Cap;
+
+// The most bytes of names.
+const NAMES_MAX: usize = 127;
+
+// The greatest number of the legacy format.
+const SHORT_MAX: u32 = 32767;
+
+// A number or an offset that is absent has this in each of its bytes.
+const ABSENT: u8 = 0xFF;
+
+/// Why an entry is not written: the first of these that holds, in this order.
+#[derive(Clone, Copy, PartialEq, Eq, Debug, Error)]
+pub enum WriteError {
+    /// The names take more than 127 bytes.
+    #[error("NamesTooLong")]
+    NamesTooLong,
+    /// The entry would take more bytes than its limit: 32,768 where a number is over 32,767, else 4,096.
+    #[error("TooLarge")]
+    TooLarge,
+    /// There is no memory for the entry.
+    #[error("Memory")]
+    Memory,
+}
+
+impl From<AllocError> for WriteError {
+    ghost from_gives = { λ _ e. e ≡ Memory };
+
+    fn from(_e: AllocError) -> WriteError {
+        WriteError::Memory
+    }
+}
+
+/// The compiled entry of a names field and a table.
+///
+/// Where a number is over 32,767 the numbers take 32 bits, else 16. Each count stops at the last
+/// capability that is there. A flag is 1 or 0; a number or an offset is -1 where the capability is
+/// absent or cancelled. The texts lie in table order without sharing, the first at offset 0. All
+/// sizes are known before memory is asked for.
+pub fn write(alloc: Global, names: &[u8], table: &Table) -> Result<Vec<u8>, WriteError>
+    requires present { names.now ≢ [] }
+    requires no_nul { HasNoNul names.now }
+    ensures ok { IfOk result (λ v. (v.items ≡ image names.now (contents table.now)) × (length names.now ≤ 127) × (length v.items ≤ limit_of (contents table.now))) }
+
+    // The first that holds, and want of memory only where neither does.
+    ensures names_too_long { IsErrOf result WriteError.NamesTooLong ↔ (127 < length names.now) }
+    ensures too_large { IsErrOf result WriteError.TooLarge ↔ ((length names.now ≤ 127) × (limit_of (contents table.now) < length (image names.now (contents table.now)))) }
+    ensures memory { IsErrOf result WriteError.Memory → (length names.now ≤ 127) × (length (image names.now (contents table.now)) ≤ limit_of (contents table.now)) }
+{
+    if names.len() > NAMES_MAX {
+        return Err(WriteError::NamesTooLong);
+    }
+    let entries = table.entries();
+    let header = header_of(names, entries);
+    if header.size() > header.format.limit() {
+        return Err(WriteError::TooLarge);
+    }
+    Ok(laid_out(alloc, names, entries, &header)?)
+}
+
+// Whether a number is over the greatest of the legacy format.
+fn is_wide(value: &Value) -> bool
+    ensures { result ≡ is_wide_content (Some (content_of value.now)) }
+{
+    matches!(value, Value::Number(number) if *number > SHORT_MAX)
+}
+
+// The format that the numbers want.
+fn format_wanted(entries: &[(Cap, Value)]) -> Format
+    requires { IsKept (entries_of entries.now) }
+    ensures { result ≡ format_of (contents (entries_of entries.now)) }
+{
+    for entry in entries {
+        if is_wide(&entry.1) {
+            return Format::Extended;
+        }
+    }
+    Format::Legacy
+}
+
+// The numbers of the header. A size of the string table that no number holds is the greatest number.
+fn header_of(names: &[u8], entries: &[(Cap, Value)]) -> Header
+    requires names { length names.now ≤ 127 }
+    requires kept { IsKept (entries_of entries.now) }
+    ensures { HasSizes names.now (contents (entries_of entries.now)) result }
+{
+    let mut header = Header {
+        format: format_wanted(entries),
+        names: names.len() + 1,
+        flags: 0,
+        numbers: 0,
+        texts: 0,
+        strings: 0,
+    };
+    for entry in entries {
+        let places = entry.0.index() + 1;
+        match &entry.1 {
+            Value::True => header.flags = places,
+            Value::Number(_) => header.numbers = places,
+            Value::Text(text) => {
+                header.texts = places;
+                header.strings = header.strings.saturating_add(text.len()).saturating_add(1);
+            }
+            Value::Cancelled => {}
+        }
+    }
+    header
+}
+
+// The entry, of sizes that are known.
+fn laid_out(
+    alloc: Global,
+    names: &[u8],
+    entries: &[(Cap, Value)],
+    header: &Header,
+) -> Result<Vec<u8>, AllocError>
+    requires names { length names.now ≤ 127 }
+    requires kept { IsKept (entries_of entries.now) }
+    requires sizes { HasSizes names.now (contents (entries_of entries.now)) header.now }
+    requires small { length (image names.now (contents (entries_of entries.now))) ≤ limit_of (contents (entries_of entries.now)) }
+    ensures { IfOk result (λ v. v.items ≡ image names.now (contents (entries_of entries.now))) }
+{
+    let mut image = Vec::with_capacity(alloc, header.size())?;
+    push_header(&mut image, header)?;
+    image.extend_from_slice(names)?;
+    image.push(0)?;
+    push_flags(&mut image, entries)?;
+    push_fill(&mut image, (header.names + header.flags) % 2, 0)?;
+    push_numbers(&mut image, entries, header.format)?;
+    push_offsets(&mut image, entries)?;
+    push_texts(&mut image, entries)?;
+    Ok(image)
+}
+
+// Adds a byte as often as that.
+fn push_fill(image: &mut Vec<u8>, count: usize, byte: u8) -> Result<(), AllocError>
+    ensures { OnOk result (image.new.items ≡ image.old.items ++ replicate count byte) }
+{
+    let len = image.len();
+    image.resize(len.saturating_add(count), byte)
+}
+
+// Adds a number of a format, its low byte first.
+fn push_number(image: &mut Vec<u8>, number: u32, format: Format) -> Result<(), AllocError>
+    ensures { OnOk result (image.new.items ≡ image.old.items ++ number_bytes format number) }
+{
+    let mut bytes = [0; 4];
+    LittleEndian::write_u32(&mut bytes, number);
+    image.extend_from_slice(&bytes[..format.width()])
+}
+
+// Adds the six numbers of the header.
+fn push_header(image: &mut Vec<u8>, header: &Header) -> Result<(), AllocError>
+    requires names { header.now.names < 65536 }
+    requires flags { header.now.flags < 65536 }
+    requires numbers { header.now.numbers < 65536 }
+    requires texts { header.now.texts < 65536 }
+    requires strings { header.now.strings < 65536 }
+    ensures { OnOk result (image.new.items ≡ image.old.items ++ layout.header header.now.format header.now.names header.now.flags header.now.numbers header.now.texts header.now.strings) }
+{
+    push_number(image, u32::from(header.format.magic()), Format::Legacy)?;
+    push_number(image, header.names as u32, Format::Legacy)?;
+    push_number(image, header.flags as u32, Format::Legacy)?;
+    push_number(image, header.numbers as u32, Format::Legacy)?;
+    push_number(image, header.texts as u32, Format::Legacy)?;
+    push_number(image, header.strings as u32, Format::Legacy)?;
+    Ok(())
+}
+
+// Adds a byte for each flag up to the last that is there.
+fn push_flags(image: &mut Vec<u8>, entries: &[(Cap, Value)]) -> Result<(), AllocError>
+    requires { IsKept (entries_of entries.now) }
+    ensures { OnOk result (image.new.items ≡ image.old.items ++ flags_below (contents (entries_of entries.now)) (written_count (contents (entries_of entries.now)) Flag)) }
+{
+    let mut places = 0;
+    for entry in entries {
+        if let Value::True = &entry.1 {
+            push_fill(image, entry.0.index() - places, 0)?;
+            image.push(1)?;
+            places = entry.0.index() + 1;
+        }
+    }
+    Ok(())
+}
+
+// Adds the numbers up to the last that is there.
+fn push_numbers(
+    image: &mut Vec<u8>,
+    entries: &[(Cap, Value)],
+    format: Format,
+) -> Result<(), AllocError>
+    requires { IsKept (entries_of entries.now) }
+    ensures { OnOk result (image.new.items ≡ image.old.items ++ spelled format (numbers_below format (contents (entries_of entries.now)) (written_count (contents (entries_of entries.now)) Number))) }
+{
+    let mut places = 0;
+    for entry in entries {
+        if let Value::Number(number) = &entry.1 {
+            push_fill(image, format.width() * (entry.0.index() - places), ABSENT)?;
+            push_number(image, *number, format)?;
+            places = entry.0.index() + 1;
+        }
+    }
+    Ok(())
+}
+
+// Adds where each text begins in the string table, up to the last that is there.
+fn push_offsets(image: &mut Vec<u8>, entries: &[(Cap, Value)]) -> Result<(), AllocError>
+    requires kept { IsKept (entries_of entries.now) }
+    requires fits { length (texts_below (contents (entries_of entries.now)) (written_count (contents (entries_of entries.now)) Text)) < 65536 }
+    ensures { OnOk result (image.new.items ≡ image.old.items ++ spelled Format.Legacy (offsets_below (contents (entries_of entries.now)) (written_count (contents (entries_of entries.now)) Text))) }
+{
+    let mut places = 0;
+    let mut offset = 0;
+    for entry in entries {
+        if let Value::Text(text) = &entry.1 {
+            push_fill(image, 2 * (entry.0.index() - places), ABSENT)?;
+            push_number(image, offset as u32, Format::Legacy)?;
+            places = entry.0.index() + 1;
+            offset += text.len() + 1;
+        }
+    }
+    Ok(())
+}
+
+// Adds the string table: each text with the NUL that ends it.
+fn push_texts(image: &mut Vec<u8>, entries: &[(Cap, Value)]) -> Result<(), AllocError>
+    requires { IsKept (entries_of entries.now) }
+    ensures { OnOk result (image.new.items ≡ image.old.items ++ texts_below (contents (entries_of entries.now)) (written_count (contents (entries_of entries.now)) Text)) }
+{
+    for entry in entries {
+        if let Value::Text(text) = &entry.1 {
+            image.extend_from_slice(text.as_slice())?;
+            image.push(0)?;
+        }
+    }
+    Ok(())
+}
+
+#[cfg(test)]
+mod tests;
