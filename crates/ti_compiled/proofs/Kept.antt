@@ -1,6 +1,6 @@
 -- An image of names and contents is read as them, so bytes that are such an image keep what is so of every image.
 use Rattle.std.proofs.Common.{◌≡◌, ◌≢◌, ℕ, ◌<◌, ◌≤◌, [], ◌∷◌, true, false, cond, List, length, Option, Some, None, refl, sym, ap, ◌∙◌, subst, arith}
-use Rattle.std.specs.Prelude.{option_and_then, OnOk, OnErr}
+use Rattle.std.specs.Prelude.{◌↔◌, option_and_then, IsErrOf, OnOk, OnErr}
 use Rattle.std.proofs.Common.{Result, Ok, Err}
 use Rattle.ti_layout.specs.declared.writing.WriteError.{WriteError}
 use Rattle.std.proofs.lemmas.List.{get_or_past}
@@ -17,7 +17,10 @@ use Rattle.ti_layout.proofs.Held.{one_from_same}
 use Rattle.ti_layout.proofs.OneReading.{read_names, read_contents}
 use Rattle.ti_layout.proofs.ImageReading.{images_are_read}
 use Rattle.ti_layout.proofs.OfValues.{images_are_of_values, limits_are_of_values}
+use Rattle.ti_layout.specs.declared.writing.WriteError.TheVariants.{TooLarge}
+use Rattle.ti_compiled.specs.Changes.{HoldsGiven, IsWithin, IsOver}
 use Rattle.ti_compiled.specs.Held.{names_in, contents_in, given, IsImage}
+use Rattle.ti_compiled.proofs.Carried.{carried}
 
 uncancelled-twice : (o : Option Content) → uncancelled (uncancelled o) ≡ uncancelled o
 uncancelled-twice None = refl
@@ -96,7 +99,43 @@ given_again b bytes is k v agrees within whole =
     (λ x valid. given_agrees d k v agrees x (is.imaged.agree x valid))
     (subst (λ (y : List ℕ). length y ≤ limit_of (given d k v)) (sym whole) within) whole
 
-pub kept_after : (r : Result (Unit {0}) WriteError) (b new : List ℕ) → IsImage b → (k : Capability) (v : Option Content) → AgreesIfSome k v → OnOk r (new ≡ image (names_in b) (given (contents_in b) k v))
+kept_after : (r : Result (Unit {0}) WriteError) (b new : List ℕ) → IsImage b → (k : Capability) (v : Option Content) → AgreesIfSome k v → OnOk r (new ≡ image (names_in b) (given (contents_in b) k v))
     → OnOk r (length (image (names_in b) (given (contents_in b) k v)) ≤ limit_of (given (contents_in b) k v)) → OnErr r (new ≡ b) → IsImage new
 kept_after (Ok x) b new is k v agrees made within same = (given_again b new is k v agrees within made).kept
 kept_after (Err x) b new is k v agrees made within same = subst IsImage (sym same) is
+
+given_present : (d : Contents) (k : Capability) (v : Option Content) → uncancelled v ≡ v → (x : Capability) → uncancelled (d x) ≡ d x → uncancelled (given d k v x) ≡ given d k v x
+given_present d k v present x old = elim (is_same k x) as (λ b. uncancelled (cond b v (d x)) ≡ cond b v (d x)) [ true ↦ present | false ↦ old ]
+
+given_names : (r : Result (Unit {0}) WriteError) (b new : List ℕ) → IsImage b → (k : Capability) (v : Option Content) → AgreesIfSome k v → OnOk r (new ≡ image (names_in b) (given (contents_in b) k v))
+    → OnOk r (length (image (names_in b) (given (contents_in b) k v)) ≤ limit_of (given (contents_in b) k v)) → OnOk r (names_in new ≡ names_in b)
+given_names (Ok x) b new is k v agrees made within = (given_again b new is k v agrees within made).names_read
+given_names (Err x) b new is k v agrees made within = tt
+
+given_contents : (r : Result (Unit {0}) WriteError) (b new : List ℕ) → IsImage b → (k : Capability) (v : Option Content) → AgreesIfSome k v → uncancelled v ≡ v → OnOk r (new ≡ image (names_in b) (given (contents_in b) k v))
+    → OnOk r (length (image (names_in b) (given (contents_in b) k v)) ≤ limit_of (given (contents_in b) k v)) → OnOk r (HoldsGiven b new k v)
+given_contents (Ok x) b new is k v agrees present made within = record {
+  says = λ c valid. (given_again b new is k v agrees within made).contents_read c valid ∙ given_present (contents_in b) k v present c (is.imaged.present c valid);
+}
+given_contents (Err x) b new is k v agrees present made within = tt
+
+-- what is so where a value was given by its kind and place, or was refused
+pub record AfterGiving (r : Result (Unit {0}) WriteError) (b new : List ℕ) (k : Capability) (v : Option Content) : Type 0 where
+  pub kept : IsImage new
+  pub within : OnOk r (IsWithin (names_in b) (given (contents_in b) k v))
+  pub too_large : IsErrOf r TooLarge ↔ IsOver (names_in b) (given (contents_in b) k v)
+  pub names : OnOk r (names_in new ≡ names_in b)
+  pub contents : OnOk r (HoldsGiven b new k v)
+
+pub after_giving : (r : Result (Unit {0}) WriteError) (x b new : List ℕ) (k : Capability) (kind : Kind) (i : ℕ) (v : Option Content) → x ≡ b → k.kind ≡ kind → i ≡ k.index
+    → IsImage x → AgreesIfSome (capability kind i) v → uncancelled v ≡ v → OnOk r (new ≡ image (names_in x) (given (contents_in x) (capability kind i) v))
+    → OnOk r (IsWithin (names_in x) (given (contents_in x) (capability kind i) v)) → (IsErrOf r TooLarge ↔ IsOver (names_in x) (given (contents_in x) (capability kind i) v)) → OnErr r (new ≡ x)
+    → AfterGiving r b new k v
+after_giving r x b new k kind i v same e f is agrees present made within over left =
+    carried (λ y d. AfterGiving r y new d v) x b k kind i same e f (record {
+      kept = kept_after r x new is (capability kind i) v agrees made within left;
+      within = within;
+      too_large = over;
+      names = given_names r x new is (capability kind i) v agrees made within;
+      contents = given_contents r x new is (capability kind i) v agrees present made within;
+    })

@@ -1,10 +1,13 @@
 -- What a capability is given, by its kind (own).
-use Rattle.std.specs.Prelude.{ℕ, ◌<◌, Bool, true, false, List, Option, Some, None, option_map}
-use Rattle.ti_caps.specs.Tables.{Capability, capability}
-use Rattle.ti_caps.specs.declared.capability.Kind.TheVariants.{Number}
+use Rattle.std.specs.Prelude.{◌≡◌, ℕ, ◌<◌, ◌≤◌, Bool, true, false, List, length, Option, Some, None, option_map}
+use Rattle.std.specs.Borrow.{Bor}
+use Rattle.ti_caps.specs.Tables.{Capability, IsCapability, capability}
+use Rattle.ti_caps.specs.declared.capability.Kind.TheVariants.{Flag, Number, Text}
 use Rattle.ti_layout.specs.Image.{image, limit_of, number_value, of_kind}
 use Rattle.ti_compiled.specs.Held.{names_in, contents_in, given}
-use Rattle.ti_layout.specs.Values.{Content, content_true, content_number, content_text, Contents, AgreesIfSome}
+use Rattle.ti_layout.specs.Laws.{uncancelled}
+use Rattle.ti_layout.specs.Values.{Content, content_true, content_number, content_text, content_of, Contents, AgreesIfSome}
+use Rattle.ti_layout.specs.declared.values.Value.{Value}
 
 -- a flag that is set or is not
 abbrev pub flag_content : Bool → Option Content
@@ -18,6 +21,25 @@ number_content number = option_map content_number number
 -- a text, or none
 abbrev pub text_content : Option (List ℕ) → Option Content
 text_content text = option_map content_text text
+
+-- what a value that is lent says
+abbrev pub content_lent : Option (Bor Value) → Option Content
+content_lent value = option_map (λ (v : Bor Value). content_of v.now) value
+
+-- a text that is lent, or none
+abbrev pub text_lent : Option (Bor (List ℕ)) → Option Content
+text_lent text = text_content (option_map (λ (t : Bor (List ℕ)). t.now) text)
+
+-- the image of these names and contents is within its limit, or is over it
+abbrev pub IsWithin : List ℕ → Contents → Type 0
+IsWithin names contents = length (image names contents) ≤ limit_of contents
+
+abbrev pub IsOver : List ℕ → Contents → Type 0
+IsOver names contents = limit_of contents < length (image names contents)
+
+-- new bytes hold what the old ones do, with another content of a capability
+pub record HoldsGiven (old new : List ℕ) (cap : Capability) (content : Option Content) : Type 0 where
+  pub says : (c : Capability) → IsCapability c → contents_in new c ≡ given (contents_in old) cap content c
 
 -- the image of what the bytes hold, with another content of a capability, and the most bytes that it may have
 abbrev pub image_with : List ℕ → Capability → Option Content → List ℕ

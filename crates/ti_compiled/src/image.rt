@@ -5,7 +5,7 @@ ghost use Rattle.ti_caps.specs.declared.capability.Kind.TheVariants.{Flag, Numbe
 ghost use Rattle.ti_layout.specs.Image.{image, limit_of, HasNoNul};
 ghost use Rattle.ti_layout.specs.Laws.{uncancelled};
 ghost use Rattle.ti_layout.specs.Values.{content_of, contents, AgreesIfSome};
-ghost use Rattle.ti_compiled.specs.Changes.{flag_content, number_content, text_content, image_with, limit_with};
+ghost use Rattle.ti_compiled.specs.Changes.{flag_content, number_content, text_content, image_with, limit_with, HoldsGiven};
 ghost use Rattle.ti_compiled.specs.Held.{names_in, contents_in};
 
 use crate::flags::set_flag;
@@ -101,6 +101,8 @@ impl Image {
     fn set_flag(&mut self, cap: Cap, on: bool) -> Result<(), WriteError>
         requires kind { cap.kind ≡ Flag }
         ensures ok { OnOk result (self.new ≡ image_with self.old cap (flag_content on)) }
+        ensures names { OnOk result (names_in self.new ≡ names_in self.old) }
+        ensures contents { OnOk result (HoldsGiven self.old self.new cap (flag_content on)) }
         ensures within { OnOk result (length (image_with self.old cap (flag_content on)) ≤ limit_with self.old cap (flag_content on)) }
         ensures too_large { IsErrOf result WriteError.TooLarge ↔ (limit_with self.old cap (flag_content on) < length (image_with self.old cap (flag_content on))) }
         ensures memory { IsErrOf result WriteError.Memory → length (image_with self.old cap (flag_content on)) ≤ limit_with self.old cap (flag_content on) }
@@ -115,6 +117,8 @@ impl Image {
         requires kind { cap.kind ≡ Number }
         requires fits { IfSome number (λ n. n ≤ 2147483647) }
         ensures ok { OnOk result (self.new ≡ image_with self.old cap (number_content number)) }
+        ensures names { OnOk result (names_in self.new ≡ names_in self.old) }
+        ensures contents { OnOk result (HoldsGiven self.old self.new cap (number_content number)) }
         ensures within { OnOk result (length (image_with self.old cap (number_content number)) ≤ limit_with self.old cap (number_content number)) }
         ensures too_large { IsErrOf result WriteError.TooLarge ↔ (limit_with self.old cap (number_content number) < length (image_with self.old cap (number_content number))) }
         ensures memory { IsErrOf result WriteError.Memory → length (image_with self.old cap (number_content number)) ≤ limit_with self.old cap (number_content number) }
@@ -129,6 +133,8 @@ impl Image {
         requires kind { cap.kind ≡ Text }
         requires no_nul { IfSome text (λ t. HasNoNul t.now) }
         ensures ok { OnOk result (self.new ≡ image_with self.old cap (text_content (option_map (λ t. t.now) text.entry))) }
+        ensures names { OnOk result (names_in self.new ≡ names_in self.old) }
+        ensures contents { OnOk result (HoldsGiven self.old self.new cap (text_content (option_map (λ t. t.now) text.entry))) }
         ensures within { OnOk result (length (image_with self.old cap (text_content (option_map (λ t. t.now) text.entry))) ≤ limit_with self.old cap (text_content (option_map (λ t. t.now) text.entry))) }
         ensures too_large { IsErrOf result WriteError.TooLarge ↔ (limit_with self.old cap (text_content (option_map (λ t. t.now) text.entry)) < length (image_with self.old cap (text_content (option_map (λ t. t.now) text.entry)))) }
         ensures memory { IsErrOf result WriteError.Memory → length (image_with self.old cap (text_content (option_map (λ t. t.now) text.entry))) ≤ limit_with self.old cap (text_content (option_map (λ t. t.now) text.entry)) }
@@ -141,6 +147,8 @@ impl Image {
     // Takes away what a capability has. A refused change leaves the image.
     fn take_away(&mut self, cap: Cap) -> Result<(), WriteError>
         ensures ok { OnOk result (self.new ≡ image_with self.old cap None) }
+        ensures names { OnOk result (names_in self.new ≡ names_in self.old) }
+        ensures contents { OnOk result (HoldsGiven self.old self.new cap None) }
         ensures within { OnOk result (length (image_with self.old cap None) ≤ limit_with self.old cap None) }
         ensures too_large { IsErrOf result WriteError.TooLarge ↔ (limit_with self.old cap None < length (image_with self.old cap None)) }
         ensures memory { IsErrOf result WriteError.Memory → length (image_with self.old cap None) ≤ limit_with self.old cap None }
@@ -154,6 +162,27 @@ impl Image {
         }
     }
 
+    /// Gives a capability a value, or takes away what it has; a cancelled value is absent. A refused
+    /// change leaves the image.
+    pub(crate) fn set_value(&mut self, cap: Cap, value: Option<&Value>) -> Result<(), WriteError>
+        requires agrees { AgreesIfSome cap (option_map (λ v. content_of v.now) value) }
+        ensures ok { OnOk result (self.new ≡ image_with self.old cap (uncancelled (option_map (λ v. content_of v.now) value.entry))) }
+        ensures names { OnOk result (names_in self.new ≡ names_in self.old) }
+        ensures contents { OnOk result (HoldsGiven self.old self.new cap (uncancelled (option_map (λ v. content_of v.now) value.entry))) }
+        ensures within { OnOk result (length (image_with self.old cap (uncancelled (option_map (λ v. content_of v.now) value.entry))) ≤ limit_with self.old cap (uncancelled (option_map (λ v. content_of v.now) value.entry))) }
+        ensures too_large { IsErrOf result WriteError.TooLarge ↔ (limit_with self.old cap (uncancelled (option_map (λ v. content_of v.now) value.entry)) < length (image_with self.old cap (uncancelled (option_map (λ v. content_of v.now) value.entry)))) }
+        ensures memory { IsErrOf result WriteError.Memory → length (image_with self.old cap (uncancelled (option_map (λ v. content_of v.now) value.entry))) ≤ limit_with self.old cap (uncancelled (option_map (λ v. content_of v.now) value.entry)) }
+        ensures names_fit { IsErrOf result WriteError.NamesTooLong → ⊥ }
+        ensures err { OnErr result (self.new ≡ self.old) }
+    {
+        match value {
+            Some(Value::True) => self.set_flag(cap, true),
+            Some(Value::Number(number)) => self.set_number(cap, Some(*number)),
+            Some(Value::Text(text)) => self.set_text(cap, Some(text.as_slice())),
+            Some(Value::Cancelled) | None => self.take_away(cap),
+        }
+    }
+
     /// Gives a capability a value, or takes away what it has; a cancelled value is absent. The part
     /// behind the place is moved, and the rest stays as it was. A refused change leaves the image.
     ///
@@ -163,18 +192,15 @@ impl Image {
     pub fn set(&mut self, cap: Cap, value: Option<Value>) -> Result<(), WriteError>
         requires agrees { AgreesIfSome cap (option_map content_of value) }
         ensures ok { OnOk result (self.new ≡ image_with self.old cap (uncancelled (option_map content_of value))) }
+        ensures names { OnOk result (names_in self.new ≡ names_in self.old) }
+        ensures contents { OnOk result (HoldsGiven self.old self.new cap (uncancelled (option_map content_of value))) }
         ensures within { OnOk result (length (image_with self.old cap (uncancelled (option_map content_of value))) ≤ limit_with self.old cap (uncancelled (option_map content_of value))) }
         ensures too_large { IsErrOf result WriteError.TooLarge ↔ (limit_with self.old cap (uncancelled (option_map content_of value)) < length (image_with self.old cap (uncancelled (option_map content_of value)))) }
         ensures memory { IsErrOf result WriteError.Memory → length (image_with self.old cap (uncancelled (option_map content_of value))) ≤ limit_with self.old cap (uncancelled (option_map content_of value)) }
         ensures names_fit { IsErrOf result WriteError.NamesTooLong → ⊥ }
         ensures err { OnErr result (self.new ≡ self.old) }
     {
-        match value {
-            Some(Value::True) => self.set_flag(cap, true),
-            Some(Value::Number(number)) => self.set_number(cap, Some(number)),
-            Some(Value::Text(text)) => self.set_text(cap, Some(text.as_slice())),
-            Some(Value::Cancelled) | None => self.take_away(cap),
-        }
+        self.set_value(cap, value.as_ref())
     }
 }
 

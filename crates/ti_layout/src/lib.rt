@@ -1,7 +1,7 @@
 //! Compiled terminfo entries, as term(5) lays them out.
 //!
 //! - `values`: the values of an entry, a finite map from capabilities
-//! - `merging`: two such maps made one, where the first decides
+//! - `merging`: a walk over two such maps, and both made one, where the first decides
 //! - `layout`: the two formats, and the numbers of a header
 //! - `writing`: an entry written from its names and values
 //! - `view`: an entry read where it lies, each name and value a slice of the caller's bytes
@@ -22,6 +22,7 @@ mod writing;
 pub use fault::ReadError;
 pub use laws::{images_are_of_values, images_are_read, one_reading};
 pub use layout::{Format, HEADER_SIZE, Header};
+pub use merging::{Turn, whose_turn};
 pub use sections::{number, word};
 pub use values::{Table, Value};
 pub use view::View;

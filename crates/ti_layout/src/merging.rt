@@ -1,4 +1,5 @@
-// Two tables made one, in one walk over both: the values of each stand in the order of the entry.
+// A walk over two tables, the values of each of which stand in the order of the entry, and two tables
+// made one by it.
 ghost use Rattle.std.specs.Prelude.{◌≡◌, ◌++◌, ◌∷◌, [], IfOk, OnOk, MatchOption};
 ghost use Rattle.std.specs.Option.{option_or};
 ghost use Rattle.ti_caps.specs.Tables.{Capability};
@@ -10,14 +11,19 @@ use std::alloc::{AllocError, Global};
 use std::cmp::Ordering;
 use ti_caps::Cap;
 
-/// Whose value comes next: of the first, of the second, or of both, which have the same capability.
-enum Turn {
+/// Whose value comes next in a walk over two tables.
+pub enum Turn {
+    /// That of the first.
     First,
+    /// That of the second.
     Second,
+    /// Those of both, which have the same capability.
     Both,
 }
 
-fn whose_turn(
+/// Whose value comes next, where so many of the first and of the second are passed; `None` where
+/// nothing is left of either.
+pub fn whose_turn(
     first: &[(Cap, Value)],
     at_first: usize,
     second: &[(Cap, Value)],

@@ -102,8 +102,8 @@ impl Table {
         let _ = &self.entries;
     }
 
-    // The capabilities that have a value, with it, in the order of the compiled entry.
-    pub(crate) fn entries(&self) -> &[(Cap, Value)]
+    /// The capabilities that have a value, with it, in the order of the compiled entry.
+    pub fn entries(&self) -> &[(Cap, Value)]
         ensures entries { entries_of result.now ≡ self.now }
         ensures kept { IsKept (entries_of result.now) }
     {

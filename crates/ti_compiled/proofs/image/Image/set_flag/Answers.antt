@@ -1,28 +1,41 @@
-use Rattle.std.proofs.Common.{◌<◌, ◌≤◌, ◌↔◌, ℕ, Bool, true, false, length, refl, IsErrOf}
+use Rattle.std.proofs.Common.{◌≡◌, ℕ, Bool, true, false, refl}
 use Rattle.ti_caps.specs.Tables.{capability}
 use Rattle.ti_caps.specs.declared.capability.Kind.TheVariants.{Flag}
+use Rattle.ti_layout.specs.Laws.{uncancelled}
 use Rattle.ti_layout.specs.Values.{AgreesIfSome}
-use Rattle.ti_layout.specs.declared.writing.WriteError.TheVariants.{TooLarge}
-use Rattle.std.specs.Prelude.{OnOk}
-use Rattle.ti_compiled.specs.Changes.{flag_content, image_with, limit_with}
-use Rattle.ti_compiled.proofs.Carried.{carried}
-use Rattle.ti_compiled.proofs.Kept.{kept_after}
+use Rattle.ti_compiled.specs.Changes.{flag_content}
+use Rattle.ti_compiled.proofs.Kept.{after_giving}
 use Rattle.ti_compiled.proofs.image.Image.set_flag.Goals as goal
 
 flag_agrees : (i : ℕ) (on : Bool) → AgreesIfSome (capability Flag i) (flag_content on)
 flag_agrees i true = refl
 flag_agrees i false = tt
 
+flag_present : (on : Bool) → uncancelled (flag_content on) ≡ flag_content on
+flag_present true = refl
+flag_present false = refl
+
 pub invariant_of-self : goal.invariant_of-self
 invariant_of-self c =
-    kept_after c.set_flag.result c.self.inside.bytes.items c.set_flag.new.bytes.items c.self.invariant (capability Flag c.index.result) (flag_content c.args.on) (flag_agrees c.index.result c.args.on) c.set_flag.ensures.ok c.set_flag.ensures.within c.set_flag.ensures.err
+    (after_giving c.set_flag.result c.self.inside.bytes.items c.args.self.now c.set_flag.new.bytes.items c.args.cap Flag c.index.result (flag_content c.args.on) c.self.view_is c.requires.kind c.index.ensures.value
+    c.self.invariant (flag_agrees c.index.result c.args.on) (flag_present c.args.on) c.set_flag.ensures.ok c.set_flag.ensures.within c.set_flag.ensures.too_large c.set_flag.ensures.err).kept
 
 pub returns-clause-within : goal.returns-clause-within
 returns-clause-within c =
-    carried (λ b k. OnOk c.set_flag.result (length (image_with b k (flag_content c.args.on)) ≤ limit_with b k (flag_content c.args.on))) c.self.inside.bytes.items c.args.self.now c.args.cap Flag c.index.result
-    c.self.view_is c.requires.kind c.index.ensures.value c.set_flag.ensures.within
+    (after_giving c.set_flag.result c.self.inside.bytes.items c.args.self.now c.set_flag.new.bytes.items c.args.cap Flag c.index.result (flag_content c.args.on) c.self.view_is c.requires.kind c.index.ensures.value
+    c.self.invariant (flag_agrees c.index.result c.args.on) (flag_present c.args.on) c.set_flag.ensures.ok c.set_flag.ensures.within c.set_flag.ensures.too_large c.set_flag.ensures.err).within
 
 pub returns-clause-too_large : goal.returns-clause-too_large
 returns-clause-too_large c =
-    carried (λ b k. IsErrOf c.set_flag.result TooLarge ↔ (limit_with b k (flag_content c.args.on) < length (image_with b k (flag_content c.args.on)))) c.self.inside.bytes.items c.args.self.now c.args.cap Flag c.index.result
-    c.self.view_is c.requires.kind c.index.ensures.value c.set_flag.ensures.too_large
+    (after_giving c.set_flag.result c.self.inside.bytes.items c.args.self.now c.set_flag.new.bytes.items c.args.cap Flag c.index.result (flag_content c.args.on) c.self.view_is c.requires.kind c.index.ensures.value
+    c.self.invariant (flag_agrees c.index.result c.args.on) (flag_present c.args.on) c.set_flag.ensures.ok c.set_flag.ensures.within c.set_flag.ensures.too_large c.set_flag.ensures.err).too_large
+
+pub returns-clause-names : goal.returns-clause-names
+returns-clause-names c =
+    (after_giving c.set_flag.result c.self.inside.bytes.items c.args.self.now c.set_flag.new.bytes.items c.args.cap Flag c.index.result (flag_content c.args.on) c.self.view_is c.requires.kind c.index.ensures.value
+    c.self.invariant (flag_agrees c.index.result c.args.on) (flag_present c.args.on) c.set_flag.ensures.ok c.set_flag.ensures.within c.set_flag.ensures.too_large c.set_flag.ensures.err).names
+
+pub returns-clause-contents : goal.returns-clause-contents
+returns-clause-contents c =
+    (after_giving c.set_flag.result c.self.inside.bytes.items c.args.self.now c.set_flag.new.bytes.items c.args.cap Flag c.index.result (flag_content c.args.on) c.self.view_is c.requires.kind c.index.ensures.value
+    c.self.invariant (flag_agrees c.index.result c.args.on) (flag_present c.args.on) c.set_flag.ensures.ok c.set_flag.ensures.within c.set_flag.ensures.too_large c.set_flag.ensures.err).contents
