@@ -139,3 +139,19 @@ after_giving r x b new k kind i v same e f is agrees present made within over le
       names = given_names r x new is (capability kind i) v agrees made within;
       contents = given_contents r x new is (capability kind i) v agrees present made within;
     })
+
+-- an image of the same names and values is the image of any contents that say them
+pub record LaidAs (i names : List ℕ) (t : Contents) : Type 0 where
+  pub whole : i ≡ image names t
+  pub within : IsWithin names t
+
+pub laid_as : (i names : List ℕ) (t : Contents) → i ≡ image (names_in i) (contents_in i) → IsWithin (names_in i) (contents_in i) → names_in i ≡ names
+    → ((c : Capability) → IsCapability c → contents_in i c ≡ uncancelled (t c)) → LaidAs i names t
+laid_as i names t whole within named said =
+    let same : (c : Capability) → IsCapability c → uncancelled (contents_in i c) ≡ uncancelled (t c) = λ c valid. ap uncancelled (said c valid) ∙ uncancelled-twice (t c) in
+    let again : image (names_in i) (contents_in i) ≡ image names t = images_are_of_values (names_in i) (contents_in i) t same ∙ ap (λ n. image n t) named in
+    let limits = limits_are_of_values (contents_in i) t same in
+    record {
+      whole = whole ∙ again;
+      within = subst (λ n. length (image names t) ≤ n) limits (subst (λ (b : List ℕ). length b ≤ limit_of (contents_in i)) again within);
+    }

@@ -20,3 +20,4 @@ pub mod NumberFormats
 pub mod NumbersPut
 pub mod NumberChange
 pub mod Carried
+pub mod TableWalk

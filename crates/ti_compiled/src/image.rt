@@ -5,12 +5,13 @@ ghost use Rattle.ti_caps.specs.declared.capability.Kind.TheVariants.{Flag, Numbe
 ghost use Rattle.ti_layout.specs.Image.{image, limit_of, HasNoNul};
 ghost use Rattle.ti_layout.specs.Laws.{uncancelled};
 ghost use Rattle.ti_layout.specs.Values.{content_of, contents, AgreesIfSome};
-ghost use Rattle.ti_compiled.specs.Changes.{flag_content, number_content, text_content, image_with, limit_with, HoldsGiven};
+ghost use Rattle.ti_compiled.specs.Changes.{flag_content, number_content, text_content, image_with, limit_with, HoldsGiven, IsWithin};
 ghost use Rattle.ti_compiled.specs.Held.{names_in, contents_in};
 
 use crate::flags::set_flag;
 use crate::header::names_of;
 use crate::numbers::set_number;
+use crate::patching::changed_copy;
 use crate::texts::set_text;
 use std::alloc::{AllocError, Global};
 use std::marker::Model;
@@ -72,7 +73,9 @@ impl Image {
         names_of(&self.bytes)
     }
 
-    /// The same entry with the values of another table.
+    /// The same entry with the values of another table: a copy in which each capability that changes
+    /// is set. Where the copy has no room or an image between would be over its limit, the entry is
+    /// laid anew.
     ///
     /// # Errors
     /// [`WriteError::TooLarge`] exactly where [`write`] answers it, and [`WriteError::Memory`].
@@ -85,8 +88,21 @@ impl Image {
         ensures memory { IsErrOf result WriteError.Memory → length (image (names_in self.now) (contents new.now)) ≤ limit_of (contents new.now) }
         ensures names_fit { IsErrOf result WriteError.NamesTooLong → ⊥ }
     {
-        let _ = old;
-        Image::new(alloc, names_of(&self.bytes), new)
+        match changed_copy(self, alloc, old.entries(), new.entries()) {
+            Ok(image) => {
+                image.is_laid();
+                Ok(image)
+            }
+            Err(_) => Image::new(alloc, names_of(&self.bytes), new),
+        }
+    }
+
+    // What is so of every image. It computes nothing.
+    fn is_laid(&self)
+        ensures whole { self.now ≡ image (names_in self.now) (contents_in self.now) }
+        ensures within { IsWithin (names_in self.now) (contents_in self.now) }
+    {
+        let _ = &self.bytes;
     }
 
     /// The same entry once more.

@@ -10,6 +10,7 @@ mod flags;
 mod header;
 mod image;
 mod numbers;
+mod patching;
 mod texts;
 
 pub use image::Image;

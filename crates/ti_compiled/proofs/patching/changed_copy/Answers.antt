@@ -1,0 +1,106 @@
+use Rattle.std.proofs.Common.{◌<◌, length, get_or, sym, ap, subst, ◌∙◌}
+use Rattle.std.proofs.lemmas.List.{length-map}
+use Rattle.ti_caps.specs.Tables.{Capability, IsCapability}
+use Rattle.std.specs.Prelude.{◌≡◌, Some, None}
+use Rattle.ti_layout.specs.Laws.{uncancelled}
+use Rattle.ti_layout.specs.Merging.{TurnIs, IsPastBoth}
+use Rattle.ti_layout.specs.declared.values.Value.{Value}
+use Rattle.ti_layout.specs.Values.{content_of, entries_of}
+use Rattle.ti_layout.proofs.Walked.{item_read}
+use Rattle.ti_compiled.specs.Held.{names_in, contents_in, given}
+use Rattle.ti_compiled.proofs.TableWalk.{Patches, entry_agrees, patches_none, patches_all, takes_away, gives, renews, still_held}
+use Rattle.ti_compiled.proofs.patching.changed_copy.Goals as goal
+
+pub loop-turn-init : goal.loop-turn-init
+loop-turn-init c =
+    let same = sym c.in_ok-copy.ensures in
+    record {
+      names = sym (ap names_in same);
+      patches = subst (λ i. Patches (entries_of c.args.old.now) (entries_of c.args.new.now) (contents_in i) 0 0) same
+          (patches_none (entries_of c.args.old.now) (entries_of c.args.new.now) (contents_in c.args.image.now) c.requires.old c.requires.new c.requires.held);
+    }
+
+pub give-requires : goal.give-requires
+give-requires c =
+    let turn = subst (TurnIs (entries_of c.args.old.now) c.loop-turn.at_old (entries_of c.args.new.now) c.loop-turn.at_new) c.in-Second.is c.in-Some.ensures in
+    let within : c.loop-turn.at_new < length c.args.new.now = rw length-map at turn.0 in
+    record { agrees = entry_agrees c.args.new.now c.requires.new c.loop-turn.at_new c.index-new-at_new.result within c.index-new-at_new.is }
+
+pub renew-requires-clause-agrees : goal.renew-requires-clause-agrees
+renew-requires-clause-agrees c =
+    let turn = subst (TurnIs (entries_of c.args.old.now) c.loop-turn.at_old (entries_of c.args.new.now) c.loop-turn.at_new) c.in-Both.is c.in-Some.ensures in
+    let within : c.loop-turn.at_new < length c.args.new.now = rw length-map at turn.1 in
+    entry_agrees c.args.new.now c.requires.new c.loop-turn.at_new c.index-new-at_new-in-Both.result within c.index-new-at_new-in-Both.is
+
+pub renew-requires-clause-held : goal.renew-requires-clause-held
+renew-requires-clause-held c =
+    let fs = entries_of c.args.old.now in
+    let ss = entries_of c.args.new.now in
+    let i = c.loop-turn.at_old in
+    let j = c.loop-turn.at_new in
+    let x = c.index-old-at_old-in-Both.result in
+    let y = c.index-new-at_new-in-Both.result in
+    let turn = subst (TurnIs fs i ss j) c.in-Both.is c.in-Some.ensures in
+    let within_o : i < length c.args.old.now = rw length-map at turn.0 in
+    let within_n : j < length c.args.new.now = rw length-map at turn.1 in
+    still_held fs ss c.requires.old c.requires.new (contents_in c.loop-turn.copy) i j c.loop-turn.invariant.patches (x.0, content_of x.1) (y.0, content_of y.1)
+    turn.0 (item_read _ _ x within_o c.index-old-at_old-in-Both.is) turn.1 (item_read _ _ y within_n c.index-new-at_new-in-Both.is) turn.2
+    ∙ ap (λ (e : Capability × Value). uncancelled (Some (content_of e.1))) c.index-old-at_old-in-Both.is
+
+pub loop-turn-preserved-in-First : goal.loop-turn-preserved-in-First
+loop-turn-preserved-in-First c =
+    let fs = entries_of c.args.old.now in
+    let ss = entries_of c.args.new.now in
+    let i = c.loop-turn.at_old in
+    let j = c.loop-turn.at_new in
+    let x = c.index-old-at_old.result in
+    let turn = subst (TurnIs fs i ss j) c.in-First.is c.in-Some.ensures in
+    let within : i < length c.args.old.now = rw length-map at turn.0 in
+    let done = c.in_ok-set_value-in-First.ensures in
+    record {
+      names = done.names ∙ c.loop-turn.invariant.names;
+      patches = takes_away fs ss c.requires.old c.requires.new (contents_in c.loop-turn.copy) i j c.loop-turn.invariant.patches (x.0, content_of x.1) turn.0 (item_read _ _ x within c.index-old-at_old.is) turn.1
+          (contents_in c.set_value.new.self)
+          (subst (λ (e : Capability × Value). (d : Capability) → IsCapability d → contents_in c.set_value.new.self d ≡ given (contents_in c.loop-turn.copy) e.0 None d) (sym c.index-old-at_old.is) done.contents.says);
+    }
+
+pub loop-turn-preserved-in-Second : goal.loop-turn-preserved-in-Second
+loop-turn-preserved-in-Second c =
+    let fs = entries_of c.args.old.now in
+    let ss = entries_of c.args.new.now in
+    let i = c.loop-turn.at_old in
+    let j = c.loop-turn.at_new in
+    let x = c.index-new-at_new.result in
+    let turn = subst (TurnIs fs i ss j) c.in-Second.is c.in-Some.ensures in
+    let within : j < length c.args.new.now = rw length-map at turn.0 in
+    let done = c.in_ok-give-in-Second.ensures in
+    record {
+      names = done.names ∙ c.loop-turn.invariant.names;
+      patches = gives fs ss c.requires.old c.requires.new (contents_in c.loop-turn.copy) i j c.loop-turn.invariant.patches (x.0, content_of x.1) turn.0 (item_read _ _ x within c.index-new-at_new.is) turn.1
+          (contents_in c.give.new.image) done.contents.says;
+    }
+
+pub loop-turn-preserved : goal.loop-turn-preserved
+loop-turn-preserved c =
+    let fs = entries_of c.args.old.now in
+    let ss = entries_of c.args.new.now in
+    let i = c.loop-turn.at_old in
+    let j = c.loop-turn.at_new in
+    let x = c.index-old-at_old-in-Both.result in
+    let y = c.index-new-at_new-in-Both.result in
+    let turn = subst (TurnIs fs i ss j) c.in-Both.is c.in-Some.ensures in
+    let within_o : i < length c.args.old.now = rw length-map at turn.0 in
+    let within_n : j < length c.args.new.now = rw length-map at turn.1 in
+    let done = c.in_ok-renew-in-Both.ensures in
+    record {
+      names = done.names ∙ c.loop-turn.invariant.names;
+      patches = renews fs ss c.requires.old c.requires.new (contents_in c.loop-turn.copy) i j c.loop-turn.invariant.patches (x.0, content_of x.1) (y.0, content_of y.1)
+          turn.0 (item_read _ _ x within_o c.index-old-at_old-in-Both.is) turn.1 (item_read _ _ y within_n c.index-new-at_new-in-Both.is) turn.2
+          (contents_in c.renew.new.image) done.contents.says;
+    }
+
+pub returns-clause-names : goal.returns-clause-names
+returns-clause-names c = c.loop-turn.invariant.names
+
+pub returns-clause-contents : goal.returns-clause-contents
+returns-clause-contents c = patches_all (entries_of c.args.old.now) (entries_of c.args.new.now) (contents_in c.loop-turn.copy) c.loop-turn.at_old c.loop-turn.at_new c.requires.old c.requires.new c.loop-turn.invariant.patches c.in_default.ensures
