@@ -1,8 +1,10 @@
 -- The header of an image has the sizes of what it holds.
-use Rattle.std.proofs.Common.{◌≡◌, ℕ, ◌≤◌, ◌<◌, List, length, sym, ◌∙◌, subst, arith}
+use Rattle.std.proofs.Common.{◌≡◌, ℕ, suc, ◌+◌, ◌-◌, ◌≤◌, ◌<◌, List, [], ◌∷◌, ◌++◌, length, drop, take, sym, ap, ◌∙◌, subst, arith}
+use Rattle.std.proofs.lemmas.List.{length-append, take-take}
 use Rattle.ti_caps.specs.declared.capability.Kind.TheVariants.{Flag, Number, Text}
 use Rattle.ti_layout.specs.declared.layout.Header.{Header}
 use Rattle.ti_layout.specs.Image.{image, format_of, sections_of, written_count, texts_below}
+use Rattle.ti_layout.specs.Reading.{names_section, names_size, word_at}
 use Rattle.ti_layout.specs.Sizes.{HasSizes, at_most_max}
 use Rattle.ti_layout.specs.Values.{Contents}
 use Rattle.ti_layout.proofs.Below.{length-below}
@@ -20,6 +22,27 @@ found_image names c is =
 
 pub found_in : (b : List ℕ) → IsImage b → Found b (format_of (contents_in b)) (sections_of (format_of (contents_in b)) (names_in b) (contents_in b))
 found_in b is = subst (λ (x : List ℕ). Found x (format_of (contents_in b)) (sections_of (format_of (contents_in b)) (names_in b) (contents_in b))) (sym is.whole) (found_image (names_in b) (contents_in b) is.imaged)
+
+-- the names lie between the header and their NUL
+pub record Named (b : List ℕ) (size : ℕ) : Type 0 where
+  pub some : 1 ≤ size
+  pub within : 12 + size ≤ length b
+  pub are : take (12 + size - 1 - 12) (drop 12 b) ≡ names_in b
+
+pub named_in : (b : List ℕ) → IsImage b → (size : ℕ) → size ≡ word_at 2 b → Named b size
+named_in b is size e =
+    let f = found_in b is in
+    let s : size ≡ suc (length (names_in b)) = e ∙ f.names_size in
+    let w = f.whole in
+    let n : length (names_section b) ≡ size = ap (λ (x : List ℕ). length x) f.names ∙ length-append (names_in b) (0 ∷ []) ∙ omega (arith, s) in
+    record {
+      some = omega arith;
+      within = omega arith;
+      are =
+          let m : 12 + size - 1 - 12 ≡ length (names_section b) - 1 = omega arith in
+          let o : length (names_section b) - 1 ≤ 12 + names_size b - 12 = omega arith in
+          ap (λ x. take x (drop 12 b)) m ∙ sym (take-take (length (names_section b) - 1) (12 + names_size b - 12) (drop 12 b) o);
+    }
 
 small_max : (n : ℕ) → n < 32768 → n ≡ at_most_max n
 small_max n lt = omega arith

@@ -1,11 +1,11 @@
 // The header of an image: the sizes of its sections.
-ghost use Rattle.std.specs.Prelude.{◌≡◌, ℕ, ◌+◌, ◌≤◌, ◌<◌, ◌↔◌, List, length, vec_len, vec_capacity, IsErrOf, OnOk};
+ghost use Rattle.std.specs.Prelude.{◌≡◌, ◌≢◌, ℕ, ◌+◌, ◌≤◌, ◌<◌, ◌↔◌, List, [], length, vec_len, vec_capacity, IsErrOf, OnOk};
 ghost use Rattle.ti_caps.specs.declared.capability.Kind.TheVariants.{Text};
 ghost use Rattle.ti_layout.specs.Image.{image, limit_of, texts_below, written_count};
 ghost use Rattle.ti_layout.specs.Layout as layout;
 ghost use Rattle.ti_layout.specs.Layout.{number_bytes};
 ghost use Rattle.ti_layout.specs.Sizes.{HasSizes};
-ghost use Rattle.ti_layout.specs.Values.{Contents};
+ghost use Rattle.ti_layout.specs.Values.{Contents, HasNoNul};
 ghost use Rattle.ti_compiled.specs.Held.{names_in, contents_in, IsImage};
 ghost use Rattle.ti_compiled.specs.Headers.{IsHeaderAt};
 ghost use Rattle.ti_compiled.specs.Parts.{Replaces};
@@ -41,6 +41,17 @@ pub fn header_of(bytes: &[u8]) -> Header
     ensures strings_fit { result.strings < 32768 }
 {
     read_header(bytes)
+}
+
+/// The names field of an image, without its NUL.
+pub fn names_of(bytes: &[u8]) -> &[u8]
+    requires { IsImage bytes.now }
+    ensures names { result.now ≡ names_in bytes.now }
+    ensures present { result.now ≢ [] }
+    ensures no_nul { HasNoNul result.now }
+    ensures short { length result.now ≤ 127 }
+{
+    &bytes[HEADER_SIZE..HEADER_SIZE + word(bytes, 2) - 1]
 }
 
 /// Makes room for an image of these sizes, where it is within its limit.

@@ -9,6 +9,7 @@ ghost use Rattle.ti_compiled.specs.Changes.{flag_content, number_content, text_c
 ghost use Rattle.ti_compiled.specs.Held.{names_in, contents_in};
 
 use crate::flags::set_flag;
+use crate::header::names_of;
 use crate::numbers::set_number;
 use crate::texts::set_text;
 use std::alloc::{AllocError, Global};
@@ -62,6 +63,30 @@ impl Image {
         ensures within { length result.now ≤ limit_of (contents_in self.now) }
     {
         self.bytes.as_slice()
+    }
+
+    /// The names field of the entry.
+    pub fn names(&self) -> &[u8]
+        ensures { result.now ≡ names_in self.now }
+    {
+        names_of(&self.bytes)
+    }
+
+    /// The same entry with the values of another table.
+    ///
+    /// # Errors
+    /// [`WriteError::TooLarge`] exactly where [`write`] answers it, and [`WriteError::Memory`].
+    pub fn patch(&self, alloc: Global, old: &Table, new: &Table) -> Result<Image, WriteError>
+        requires held { (c : Capability) → IsCapability c → contents_in self.now c ≡ uncancelled (contents old.now c) }
+        ensures image { IfOk result (λ i. i ≡ image (names_in self.now) (contents new.now)) }
+        ensures names { IfOk result (λ i. names_in i ≡ names_in self.now) }
+        ensures contents { IfOk result (λ i. (c : Capability) → IsCapability c → contents_in i c ≡ uncancelled (contents new.now c)) }
+        ensures too_large { IsErrOf result WriteError.TooLarge ↔ (limit_of (contents new.now) < length (image (names_in self.now) (contents new.now))) }
+        ensures memory { IsErrOf result WriteError.Memory → length (image (names_in self.now) (contents new.now)) ≤ limit_of (contents new.now) }
+        ensures names_fit { IsErrOf result WriteError.NamesTooLong → ⊥ }
+    {
+        let _ = old;
+        Image::new(alloc, names_of(&self.bytes), new)
     }
 
     /// The same entry once more.

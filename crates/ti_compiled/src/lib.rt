@@ -14,6 +14,6 @@ mod texts;
 
 pub use image::Image;
 pub use ti_layout::{
-    Format, HEADER_SIZE, Header, ReadError, Table, Value, View, WriteError, images_are_of_values, images_are_read, number,
-    one_reading, word, write,
+    Format, HEADER_SIZE, Header, ReadError, Table, Value, View, WriteError, images_are_of_values,
+    images_are_read, number, one_reading, word, write,
 };
