@@ -14,10 +14,10 @@ returns-in-Ok-clause-state c = λ mentions tells.
     let field = c.args.slot.now.block.field.items in
     let t = contents c.args.table in
     let small : length (image field t) ≤ limit_of t =
-        elim (cases_lt (limit_of t) (length (image field t))) [
-          | inl large ↦ absurd (false≢true (sym (ap is_ok (c.in-Ok.ensures.too_large.1 large))))
-          | inr fits ↦ fits
-        ]
+    elim (cases_lt (limit_of t) (length (image field t))) [
+      | inl large ↦ absurd (false≢true (sym (ap is_ok (c.in-Ok.ensures.too_large.1 large))))
+      | inr fits ↦ fits
+    ]
     in
     within (reading_of c.args.slot.now.block) mentions c.in-Ok.image (c.in-Ok.ensures.image ∙ image_tells field t mentions tells)
     (subst (λ n. length c.in-Ok.image ≤ n) (limit_tells t mentions tells) (subst (λ (i : List ℕ). length i ≤ limit_of t) (sym c.in-Ok.ensures.image) small))
