@@ -15,6 +15,7 @@ use Rattle.ti_meaning.proofs.Exchanging.{list_any-append}
 use Rattle.ti_meaning.proofs.ExchangeLaws.{exchanged}
 use Rattle.ti_meaning.proofs.Placing.{get-insert, get-insert_at, split-insert}
 use Rattle.ti_index.specs.Labels.{Has, IsDistinct}
+use Rattle.ti_slots.specs.declared.slots.Settled.{Settled}
 use Rattle.ti_slots.specs.declared.slots.Slot.{Slot}
 use Rattle.ti_slots.specs.declared.slots.Slots.{Slots}
 use Rattle.ti_slots.specs.Slots.{IsIndexed, StandsAt, slot_at, reading_at, blocks_of, texts_of}
@@ -22,7 +23,7 @@ use Rattle.ti_slots.specs.Changes.{HasRoomFor, KeepsRooms, PutsIn, TakesOut, Sho
 use Rattle.ti_slots.specs.Settled.{IsSettled}
 use Rattle.ti_dependents.specs.Dependents.{IsExchangeOf}
 use Rattle.ti_plan.specs.Plan.{OthersAreSettled, IsReady}
-use Rattle.ti_base.specs.KeptSlots.{AreKept, AreSettled, AreSound, IsSoundSlot, PlacedSlot, slots_of, reading_seen, text_seen, with_slot, block_seen, exchange_with, HasId}
+use Rattle.ti_base.specs.KeptSlots.{AreKept, AreSettled, AreSound, IsSoundSlot, PlacedSlot, slots_of, reading_seen, text_seen, with_slot, block_seen, exchange_with, HasId, with_settled}
 use Rattle.ti_base.proofs.SlotLists.{blocks_seen, texts_seen, length_slots, length_texts, slot_there, id_there, are_filled, read_from_texts, blocks_read, readings_with}
 use Rattle.ti_base.proofs.Untouched.{others_settled, settled_in}
 
@@ -37,6 +38,10 @@ sound_with rest at new l s h k slot e =
       | inl here ↦ subst IsSoundSlot (same_Some new slot (same_Some (Some new) (Some slot) (sym (get-insert_at rest at (Some new) l) ∙ (ap (slice_get (insert rest at (Some new))) here ∙ e)))) s
       | inr there ↦ h there.0 slot (sym (get-insert rest at (Some new) there.0 l) ∙ (ap (slice_get (insert rest at (Some new))) there.1 ∙ e))
     ]
+
+-- a slot is as sound, whatever was found out about its block
+pub sound_settled : (slot : Slot) (settled : Settled) → IsSoundSlot slot → IsSoundSlot (with_settled settled slot)
+sound_settled slot settled h = record { text = h.text; read = h.read; usable = h.usable }
 
 -- ---- an edit
 
@@ -159,13 +164,18 @@ pub back_removed : (old taken tried back : Slots) (at : ℕ) (slot : Slot) → s
 back_removed old taken tried back at slot s e f g =
     g ∙ (ap (λ x. insert (slots_of x) at (Some slot)) f ∙ (ap (λ xs. insert xs at (Some slot)) e ∙ insert-remove (slots_of old) at (Some slot) s))
 
-pub back_replaced : (old room taken put tried out back : Slots) (at : ℕ) (slot before : Slot) → slots_of room ≡ slots_of old → at < length room.order.listed → slice_get (slots_of room) at ≡ Some (Some before) → slots_of taken ≡ remove (slots_of room) at → slots_of put ≡ insert (slots_of taken) at (Some slot) → tried ≡ put → slots_of out ≡ remove (slots_of tried) at → slots_of back ≡ insert (slots_of out) at (Some before) → slots_of back ≡ slots_of old
-back_replaced old room taken put tried out back at slot before e l s f g h i j =
+-- the slot taken out again is the one put in, so it gives back what was found out about the block before
+pub back_replaced : (old room taken put tried out back : Slots) (at : ℕ) (slot before again given : Slot) (settled : Settled) → given ≡ with_settled settled before → slots_of room ≡ slots_of old → at < length room.order.listed → slice_get (slots_of room) at ≡ Some (Some before) → slots_of taken ≡ remove (slots_of room) at → slots_of put ≡ insert (slots_of taken) at (Some (with_settled before.settled slot)) → tried ≡ put → slice_get (slots_of tried) at ≡ Some (Some again) → slots_of out ≡ remove (slots_of tried) at → slots_of back ≡ insert (slots_of out) at (Some (with_settled again.settled given)) → slots_of back ≡ slots_of old
+back_replaced old room taken put tried out back at slot before again given found give e l s f g h r i j =
+    let new : Slot = with_settled before.settled slot in
     let w : at < length (slots_of room) = omega (arith, length_slots room) in
     let n = length-remove (slots_of room) at w in
     let m : at ≤ length (slots_of taken) = (let k : length (slots_of taken) ≡ length (remove (slots_of room) at) = ap (λ xs. length xs) f in omega arith) in
-    let again : slots_of out ≡ slots_of taken = i ∙ (ap (λ x. remove (slots_of x) at) h ∙ (ap (λ xs. remove xs at) g ∙ remove-insert (slots_of taken) at (Some slot) m)) in
-    j ∙ (ap (λ xs. insert xs at (Some before)) (again ∙ f) ∙ (insert-remove (slots_of room) at (Some before) s ∙ e))
+    let left : slots_of out ≡ slots_of taken = i ∙ (ap (λ x. remove (slots_of x) at) h ∙ (ap (λ xs. remove xs at) g ∙ remove-insert (slots_of taken) at (Some new) m)) in
+    let same : Some new ≡ Some again = same_Some (Some new) (Some again) (sym (get-insert_at (slots_of taken) at (Some new) m) ∙ (ap (λ xs. slice_get xs at) (sym g) ∙ (ap (λ x. slice_get (slots_of x) at) (sym h) ∙ r))) in
+    let settled : before.settled ≡ again.settled = ap (λ (x : Slot). x.settled) (same_Some new again same) in
+    let restored : with_settled again.settled given ≡ before = ap (with_settled again.settled) give ∙ ap (λ x. with_settled x before) (sym settled) in
+    j ∙ (ap (insert (slots_of out) at) (ap (λ (x : Slot). Some x) restored) ∙ (ap (λ xs. insert xs at (Some before)) (left ∙ f) ∙ (insert-remove (slots_of room) at (Some before) s ∙ e)))
 
 pub back_moved : (old taken put tried out back : Slots) (from to : ℕ) (slot again : Slot) → from < length old.order.listed → to < length old.order.listed → slice_get (slots_of old) from ≡ Some (Some slot) → slots_of taken ≡ remove (slots_of old) from → slots_of put ≡ insert (slots_of taken) to (Some slot) → tried ≡ put → slice_get (slots_of tried) to ≡ Some (Some again) → slots_of out ≡ remove (slots_of tried) to → slots_of back ≡ insert (slots_of out) from (Some again) → slots_of back ≡ slots_of old
 back_moved old taken put tried out back from to slot again l m s f g h r i j =

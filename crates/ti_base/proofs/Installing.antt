@@ -5,6 +5,7 @@ use Rattle.std.specs.Str.{bytes_eq}
 use Rattle.std.proofs.lemmas.Bool.{cases_eq}
 use Rattle.std.proofs.lemmas.List.{length-map, length-set, drop-set-lt}
 use Rattle.std.proofs.lemmas.Option.{same_Some, none-some, slice_get-map, get_or_from_slice_get}
+use Rattle.ti_text.specs.Limits.{blocks_max}
 use Rattle.ti_source.specs.Reading.{Reading, reading_of}
 use Rattle.ti_source.specs.Parsing.{parsed}
 use Rattle.ti_meaning.specs.Owner.{is_among}
@@ -21,8 +22,9 @@ use Rattle.ti_plan.specs.declared.plans.Plan.{Plan}
 use Rattle.ti_plan.specs.Plan.{IsReady, IsPlan}
 use Rattle.ti_base.specs.Kept.{IsBlockText}
 use Rattle.ti_base.specs.KeptSlots.{AreKept, AreSettled, AreSound, slots_of, reading_seen, text_seen, with_settled, settled_at, settled_all}
-use Rattle.ti_base.proofs.Lists.{drop_item}
-use Rattle.ti_base.proofs.SlotLists.{blocks_seen, length_slots, slot_there, id_there, are_filled, item_there}
+use Rattle.ti_index.proofs.Lists.{item_at}
+use Rattle.ti_plan.proofs.ItemLists.{drop_item}
+use Rattle.ti_base.proofs.SlotLists.{blocks_seen, length_slots, slot_there, id_there, are_filled}
 use Rattle.ti_base.proofs.Untouched.{settled_in}
 
 -- ---- one exchange
@@ -219,7 +221,7 @@ all_settled old new put out plan ready is h at slot e =
     ] in
     settled_in (blocks_of old) (map reading_seen (slots_of new)) at (reading_of slot.block) slot.settled blocks (subst (λ r. IsSettled (blocks_of old) at r slot.settled) read here)
 
-pub kept_installed : (old new : Slots) (put : Option ℕ) (out : List (List ℕ)) (plan : Plan) → IsIndexed old → length old.order.listed ≤ 65535 → AreSound (slots_of old) → IsReady old put out → IsPlan old put out plan → AreInstalled old new plan.ids.items plan.settled.items → AreKept new
+pub kept_installed : (old new : Slots) (put : Option ℕ) (out : List (List ℕ)) (plan : Plan) → IsIndexed old → length old.order.listed ≤ blocks_max → AreSound (slots_of old) → IsReady old put out → IsPlan old put out plan → AreInstalled old new plan.ids.items plan.settled.items → AreKept new
 kept_installed old new put out plan indexed few sound ready is h = record {
   indexed = index_stays old new plan.ids.items plan.settled.items h indexed;
   few = (let n : length new.order.listed ≡ length old.order.listed = ap (λ o. length o.listed) h.order in omega arith);
@@ -238,6 +240,6 @@ all_usable slots h sound = λ k d l.
 
 pub all_stand : (slots : Slots) (put : Option ℕ) (out : List (List ℕ)) (plan : Plan) → IsIndexed slots → IsPlan slots put out plan → All (λ id. IsSome (slot_at slots.slots.items id)) plan.ids.items
 all_stand slots put out plan h is = λ k d l.
-    let id = item_there plan.ids.items k l in
+    let id = item_at plan.ids.items k l in
     let at = is.stands k id.0 id.1 in
     subst (λ n. IsSome (slot_at slots.slots.items n)) (sym (get_or_from_slice_get plan.ids.items k id.0 d id.1)) (h.filled at.0 id.0 at.1)

@@ -5,6 +5,7 @@ use Rattle.ti_source.specs.Reading.{Reading, reading_of}
 use Rattle.ti_meaning.specs.Owner.{readings}
 use Rattle.ti_meaning.specs.Expansion.{Mention, expansion}
 use Rattle.ti_meaning.specs.Compiled.{EntryState, unresolved, oversized, written, image_of, is_too_large, entry, entry_of, state_with, state_of, compiled}
+use Rattle.ti_slots.specs.declared.entries.Entry.{Entry}
 use Rattle.ti_slots.specs.declared.slots.Slot.{Slot}
 use Rattle.ti_slots.specs.declared.slots.Slots.{Slots}
 use Rattle.ti_slots.specs.declared.slots.State.{State}
@@ -42,7 +43,7 @@ entry_of_slot slots at slot h e =
     ap shown_entry state ∙ (shown_with block (expansion (readings (texts_of slots)) block) ∙ sym there)
 
 -- what is no entry shows none
-pub shown_other : (e : State) → ((bytes : _) (table : _) → e ≡ s.Compiled table bytes → ⊥) → None ≡ shown_entry (state_seen e)
+pub shown_other : (e : State) → ((entry : Entry) → e ≡ s.Compiled entry → ⊥) → None ≡ shown_entry (state_seen e)
 shown_other s.Unresolved h = refl
 shown_other (s.TooLarge table) h = refl
-shown_other (s.Compiled table bytes) h = absurd (h bytes table refl)
+shown_other (s.Compiled entry) h = absurd (h entry refl)

@@ -11,6 +11,7 @@ use Rattle.ti_meaning.specs.Owner.{readings}
 use Rattle.ti_meaning.specs.Exchange.{with_block, HasPlace, shifted}
 use Rattle.ti_meaning.proofs.EditedLists.{map-insert}
 use Rattle.ti_meaning.proofs.Placing.{get-insert}
+use Rattle.ti_index.proofs.Lists.{item_at}
 use Rattle.ti_slots.specs.declared.slots.Slot.{Slot}
 use Rattle.ti_slots.specs.declared.slots.Slots.{Slots}
 use Rattle.ti_slots.specs.Slots.{IsIndexed, StandsAt, slot_at, reading_at, text_at, blocks_of, texts_of}
@@ -56,15 +57,10 @@ some_there : (o : Option Slot) → IsSome o → (slot : Slot) × (o ≡ Some slo
 some_there None h = absurd (false≢true h)
 some_there (Some slot) h = (slot, refl)
 
-pub item_there : {X : Type 0} (xs : List X) (at : ℕ) → at < length xs → (x : X) × (slice_get xs at ≡ Some x)
-item_there [] at l = absurd (omega arith)
-item_there (x ∷ xs) zero l = (x, refl)
-item_there (x ∷ xs) (suc at) l = item_there xs at (omega arith)
-
 pub are_filled : (slots : Slots) → IsIndexed slots → AreFilled (slots_of slots)
 are_filled slots h at l =
     let within : at < length slots.order.listed = omega (arith, length_slots slots) in
-    let id = item_there slots.order.listed at within in
+    let id = item_at slots.order.listed at within in
     let slot = some_there (slot_at slots.slots.items id.0) (h.filled at id.0 id.1) in
     (slot.0, slot_there slots at id.0 slot.0 id.1 slot.1)
 

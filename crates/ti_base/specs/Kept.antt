@@ -1,5 +1,6 @@
 -- Which texts a database takes (own).
 use Rattle.std.specs.Prelude.{ℕ, ◌≤◌, List, length}
+use Rattle.ti_text.specs.Limits.{block_bytes_max}
 use Rattle.ti_source.specs.Blocks.{OneBlock}
 use Rattle.ti_meaning.specs.declared.edits.EditError.{EditError}
 use Rattle.ti_meaning.specs.declared.edits.EditError.TheVariants.{TooLong, NotOneBlock}
@@ -7,10 +8,10 @@ use Rattle.ti_meaning.specs.declared.edits.EditError.TheVariants.{TooLong, NotOn
 -- the text of one block, within the limit of 1,048,576 bytes
 pub record IsBlockText (text : List ℕ) : Type 0 where
   pub block : OneBlock text
-  pub short : length text ≤ 1048576
+  pub short : length text ≤ block_bytes_max
 
 -- why such a text is refused
 abbrev pub IsTextRefusal : List ℕ → EditError → Type 0
-IsTextRefusal text TooLong = ¬ (length text ≤ 1048576)
-IsTextRefusal text NotOneBlock = (length text ≤ 1048576) × (¬ (OneBlock text))
+IsTextRefusal text TooLong = ¬ (length text ≤ block_bytes_max)
+IsTextRefusal text NotOneBlock = (length text ≤ block_bytes_max) × (¬ (OneBlock text))
 IsTextRefusal text _ = ⊥

@@ -1,6 +1,7 @@
 -- What a database keeps of its blocks (own): the slot of each, in the order of the list.
 use Rattle.std.specs.Prelude.{ℕ, ◌≡◌, ◌≤◌, ◌↔◌, List, [], ◌∷◌, length, map, insert, slice_set, Option, Some, None, option_map, slice_get}
 use Rattle.std.specs.Option.{option_map_or}
+use Rattle.ti_text.specs.Limits.{blocks_max}
 use Rattle.ti_source.specs.Reading.{Reading, reading_of}
 use Rattle.ti_source.specs.Parsing.{parsed}
 use Rattle.ti_meaning.specs.Usable.{IsUsable}
@@ -41,7 +42,7 @@ AreSettled listed = (at : ℕ) (slot : Slot) → slice_get listed at ≡ Some (S
 -- at most 65,535 blocks, indexed, each read from its text and settled
 pub record AreKept (slots : Slots) : Type 0 where
   pub indexed : IsIndexed slots
-  pub few : length slots.order.listed ≤ 65535
+  pub few : length slots.order.listed ≤ blocks_max
   pub sound : AreSound (slots_of slots)
   pub settled : AreSettled (slots_of slots)
 

@@ -13,12 +13,7 @@ use std::marker::Model;
 use ti_meaning::{Edit, EditError, Edited, Fault, Outcome};
 use ti_slots::{Settled, Slot, Slots, State};
 use ti_source::{is_block, parse};
-
-/// The greatest length of a block in bytes.
-const BLOCK_BYTES_MAX: usize = 1_048_576;
-
-/// The greatest number of blocks.
-const BLOCKS_MAX: usize = 65_535;
+use ti_text::limits::{BLOCK_BYTES_MAX, BLOCKS_MAX};
 
 /// A source of terminal descriptions as a list of blocks, which edits change one by one. It knows
 /// the compiled entry of each block and all faults, which are those of the whole current source
@@ -116,7 +111,7 @@ impl Database {
         ensures { option_map (λ bytes. bytes.now) result ≡ compiled self.now at }
     {
         match &slot_of(&self.slots, at).settled.state {
-            State::Compiled(_, bytes) => Some(bytes),
+            State::Compiled(entry) => Some(entry.image.bytes()),
             _ => None,
         }
     }

@@ -1,6 +1,7 @@
 // What an edit rebuilds: the plan of it, and what the plan found out put into the slots.
 ghost use Rattle.std.specs.Prelude.{◌≡◌, ◌≤◌, ℕ, List, Option, Some, All, IsSome, map, length, IfOk, OnOk, OnErr};
 ghost use Rattle.std.specs.Rc.{rc_slice_items};
+ghost use Rattle.ti_text.specs.Limits.{blocks_max};
 ghost use Rattle.ti_meaning.specs.Exchange.{Exchange};
 ghost use Rattle.ti_meaning.specs.Dependents.{AreDependents, work};
 ghost use Rattle.ti_slots.specs.Slots.{IsIndexed, StandsAt, slot_at, blocks_of, texts_of};
@@ -53,7 +54,7 @@ pub(crate) fn rebuild(
     out: &[RcSlice<u8>],
 ) -> Result<Edited, AllocError>
     requires indexed { IsIndexed slots.old }
-    requires few { length slots.old.order.listed ≤ 65535 }
+    requires few { length slots.old.order.listed ≤ blocks_max }
     requires sound { AreSound (slots_of slots.old) }
     requires put { (id : ℕ) → put ≡ Some id → (at : ℕ) × StandsAt slots.old at id }
     requires ready { IsReady slots.old put (map rc_slice_items out.now) }

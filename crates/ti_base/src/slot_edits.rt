@@ -1,15 +1,17 @@
 // Edits of a list of slots: the slots exchanged, what depends on that rebuilt, and all taken back
 // where memory is short.
 ghost use Rattle.std.specs.Prelude.{◌≡◌, ◌<◌, ◌≤◌, ◌+◌, Some, None, length, insert, remove, slice_set, slice_get, IfOk, OnOk, OnErr};
+ghost use Rattle.ti_text.specs.Limits.{blocks_max};
 ghost use Rattle.ti_source.specs.Reading.{reading_of};
 ghost use Rattle.ti_meaning.specs.Edits.{insertion, removal, relocation, relocated, replacement};
 ghost use Rattle.ti_meaning.specs.Dependents.{Rebuilds};
 ghost use Rattle.ti_slots.specs.Slots.{IsIndexed, StandsAt, texts_of};
 ghost use Rattle.ti_slots.specs.Changes.{HasRoomFor, PutsIn, TakesOut};
-ghost use Rattle.ti_base.specs.KeptSlots.{AreKept, IsSoundSlot, HasId, slots_of};
+ghost use Rattle.ti_base.specs.KeptSlots.{AreKept, IsSoundSlot, HasId, slots_of, with_settled};
 
 use crate::rebuilding::rebuild;
 use std::alloc::{AllocError, Global};
+use std::mem;
 use ti_meaning::Edited;
 use ti_slots::{Slot, Slots, changes_are_undone};
 use ti_source::Parsed;
@@ -49,6 +51,22 @@ fn put_slot(slots: &mut Slots, at: usize, slot: Slot) -> u32
     slots.put_in(at, slot)
 }
 
+/// The same in place of a slot that was taken out, the two having what was found out about each other's
+/// blocks: the entry that stood here is there to be patched until the new block is rebuilt.
+fn put_slot_over(slots: &mut Slots, at: usize, mut slot: Slot, old: &mut Slot) -> u32
+    requires indexed { IsIndexed slots.old }
+    requires within { at ≤ length slots.old.order.listed }
+    requires room { HasRoomFor slots.old (reading_of slot.block) }
+    ensures old { old.new ≡ with_settled slot.settled old.old }
+    ensures put { PutsIn slots.old slots.new at (with_settled old.old.settled slot) result }
+    ensures slots { slots_of slots.new ≡ insert (slots_of slots.old) at (Some (with_settled old.old.settled slot)) }
+    ensures id { HasId slots.new (Some (record { at = at; slot = with_settled old.old.settled slot })) (Some result) }
+    ensures stands { StandsAt slots.new at result }
+{
+    mem::swap(&mut slot.settled, &mut old.settled);
+    put_slot(slots, at, slot)
+}
+
 /// Takes a slot out of the list. It takes no memory, and there is room for its block.
 fn take_slot(slots: &mut Slots, at: usize) -> Slot
     requires indexed { IsIndexed slots.old }
@@ -71,7 +89,7 @@ pub(crate) fn insert_slot(
 ) -> Result<Edited, AllocError>
     requires kept { AreKept slots.old }
     requires within { at ≤ length slots.old.order.listed }
-    requires few { length slots.old.order.listed < 65535 }
+    requires few { length slots.old.order.listed < blocks_max }
     requires sound { IsSoundSlot slot }
     ensures kept { AreKept slots.new }
     ensures texts { OnOk result (texts_of slots.new ≡ insert (texts_of slots.old) at slot.text.items) }
@@ -106,8 +124,8 @@ pub(crate) fn replace_slot(
     ensures err { OnErr result (texts_of slots.new ≡ texts_of slots.old) }
 {
     reserve(slots, &slot.block)?;
-    let old = take_slot(slots, at);
-    let id = put_slot(slots, at, slot);
+    let mut old = take_slot(slots, at);
+    let id = put_slot_over(slots, at, slot, &mut old);
     match rebuild(alloc, slots, Some(id), &old.block.names) {
         Ok(edited) => {
             forget(slots, &old.block);
@@ -115,8 +133,8 @@ pub(crate) fn replace_slot(
         }
         Err(error) => {
             changes_are_undone();
-            let new = take_slot(slots, at);
-            put_slot(slots, at, old);
+            let mut new = take_slot(slots, at);
+            put_slot_over(slots, at, old, &mut new);
             forget(slots, &new.block);
             Err(error)
         }

@@ -1,9 +1,13 @@
-// The values of a block: laying items into a table, the leftmost mention of a capability first.
-ghost use Rattle.std.specs.Prelude.{ℕ, ◌≡◌, ◌+◌, ◌<◌, ◌^◌, if◌then◌else◌, length, false, List, Some, None, slice_get, option_map, IfOk, OnOk};
+// The values of a block and its entry: items are laid into a table, the leftmost mention of a capability first, and the
+// entry that the block had before is patched to have these values.
+ghost use Rattle.std.specs.Prelude.{ℕ, ◌≡◌, ◌+◌, ◌<◌, ◌^◌, ◌↔◌, if◌then◌else◌, length, false, List, Some, None, slice_get, option_map, IfOk, IsErrOf, OnOk};
 ghost use Rattle.std.specs.Option.{option_or};
-ghost use Rattle.ti_caps.specs.Tables.{Capability};
+ghost use Rattle.ti_caps.specs.Tables.{Capability, IsCapability};
 ghost use Rattle.ti_source.specs.Reading.{item_of, reading_of, said_of};
+ghost use Rattle.ti_layout.specs.Image.{image, limit_of};
+ghost use Rattle.ti_layout.specs.Laws.{uncancelled};
 ghost use Rattle.ti_layout.specs.Values.{contents, content_of, Agrees};
+ghost use Rattle.ti_compiled.specs.Held.{contents_in};
 ghost use Rattle.ti_meaning.specs.Expansion.{Mention, is_broken, same_capability};
 ghost use Rattle.ti_meaning.specs.Compiled.{state_of, state_with};
 ghost use Rattle.ti_meaning.specs.Dependents.{work_of};
@@ -16,8 +20,8 @@ ghost use Rattle.ti_plan.specs.Settling.{AreUsesSound, CanBeSettled, IsItemAt};
 use crate::owners::{Known, used_table};
 use std::alloc::{AllocError, Global};
 use ti_caps::Cap;
-use ti_layout::{Table, Value, WriteError, write};
-use ti_slots::State;
+use ti_compiled::{Image, Table, Value, WriteError};
+use ti_slots::{Entry, Slot, State};
 use ti_source::{Parsed, What};
 
 /// Lays a value into the table, unless the table mentions the capability already: a value or a
@@ -103,16 +107,35 @@ fn make_table(
     Ok(table)
 }
 
+/// The image of a sound block that has this table. Where the entry that the block had before has the
+/// same names, a copy of it is patched; else the image is laid anew.
+fn make_image(alloc: Global, slot: &Slot, table: &Table) -> Result<Image, WriteError>
+    requires whole { is_broken (reading_of slot.now.block) ≡ false }
+    requires usable { IsUsable (reading_of slot.now.block) }
+    ensures image { IfOk result (λ i. i ≡ image slot.now.block.field.items (contents table.now)) }
+    ensures contents { IfOk result (λ i. (c : Capability) → IsCapability c → contents_in i c ≡ uncancelled (contents table.now c)) }
+    ensures too_large { IsErrOf result WriteError.TooLarge ↔ (limit_of (contents table.now) < length (image slot.now.block.field.items (contents table.now))) }
+    ensures names_fit { IsErrOf result WriteError.NamesTooLong → ⊥ }
+{
+    let names = &slot.block.field;
+    match slot.settled.state.entry() {
+        Some(before) if before.image.names() == names.as_slice() => {
+            before.image.patch(alloc, &before.table, table)
+        }
+        _ => Image::new(alloc, names, table),
+    }
+}
+
 /// What becomes of a sound block that has this table.
-fn make_state(alloc: Global, block: &Parsed, table: Table) -> Result<State, AllocError>
-    requires whole { is_broken (reading_of block.now) ≡ false }
-    requires usable { IsUsable (reading_of block.now) }
+fn make_state(alloc: Global, slot: &Slot, table: Table) -> Result<State, AllocError>
+    requires whole { is_broken (reading_of slot.now.block) ≡ false }
+    requires usable { IsUsable (reading_of slot.now.block) }
     ensures table { IfOk result (λ state. table_of state ≡ Some table) }
     ensures state { IfOk result (λ state. (mentions : List Mention) → Tells (contents table) mentions
-        → state_seen state ≡ state_with (reading_of block.now) (Some mentions)) }
+        → state_seen state ≡ state_with (reading_of slot.now.block) (Some mentions)) }
 {
-    match write(alloc, &block.field, &table) {
-        Ok(bytes) => Ok(State::Compiled(table, bytes)),
+    match make_image(alloc, slot, &table) {
+        Ok(image) => Ok(State::Compiled(Entry { table, image })),
         Err(WriteError::TooLarge) => Ok(State::TooLarge(table)),
         Err(WriteError::Memory) => Err(AllocError),
         Err(WriteError::NamesTooLong) => unreachable!(),
@@ -124,19 +147,19 @@ pub(crate) fn compile(
     alloc: Global,
     known: &Known,
     node: usize,
-    block: &Parsed,
+    slot: &Slot,
     work: &mut u64,
 ) -> Result<State, AllocError>
     ghost at: { ℕ }
     requires ready { CanBeSettled known.now.slots.now known.now.dependents.now known.now.component_of.now known.now.settled.now node at }
-    requires block { slice_get (blocks_of known.now.slots.now) at ≡ Some (reading_of block.now) }
-    requires whole { is_broken (reading_of block.now) ≡ false }
+    requires block { slice_get (blocks_of known.now.slots.now) at ≡ Some (reading_of slot.now.block) }
+    requires whole { is_broken (reading_of slot.now.block) ≡ false }
     requires sound { AreUsesSound (blocks_of known.now.slots.now) at }
-    requires room { work.old + length block.now.items.items < 2 ^ 64 }
-    ensures state { IfOk result (λ state. state_seen state ≡ state_of (blocks_of known.now.slots.now) (reading_of block.now)) }
-    ensures table { IfOk result (λ state. HasTable contents (blocks_of known.now.slots.now) (reading_of block.now) (table_of state)) }
-    ensures work { OnOk result (work.new ≡ work.old + work_of (blocks_of known.now.slots.now) (Some (reading_of block.now))) }
+    requires room { work.old + length slot.now.block.items.items < 2 ^ 64 }
+    ensures state { IfOk result (λ state. state_seen state ≡ state_of (blocks_of known.now.slots.now) (reading_of slot.now.block)) }
+    ensures table { IfOk result (λ state. HasTable contents (blocks_of known.now.slots.now) (reading_of slot.now.block) (table_of state)) }
+    ensures work { OnOk result (work.new ≡ work.old + work_of (blocks_of known.now.slots.now) (Some (reading_of slot.now.block))) }
 {
-    let table = make_table(alloc, known, node, block, work)?;
-    Ok(make_state(alloc, block, table)?)
+    let table = make_table(alloc, known, node, &slot.block, work)?;
+    Ok(make_state(alloc, slot, table)?)
 }

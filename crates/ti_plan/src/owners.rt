@@ -5,7 +5,7 @@ ghost use Rattle.ti_meaning.specs.Faults.{use_fault};
 ghost use Rattle.ti_slots.specs.Slots.{blocks_of};
 ghost use Rattle.ti_plan.specs.Settling.{CanBeSettled, IsOwnerState, IsUseAt, IsUsedTable};
 
-use ti_layout::Table;
+use ti_compiled::Table;
 use ti_dependents::Dependents;
 use ti_slots::{Settled, Slots, State};
 use ti_source::Code;
@@ -68,6 +68,7 @@ pub(crate) fn used_table<'a>(
 {
     match owner_state(known, node, index, name)? {
         State::Unresolved => Err(Code::Unresolved),
-        State::TooLarge(table) | State::Compiled(table, _) => Ok(table),
+        State::TooLarge(table) => Ok(table),
+        State::Compiled(entry) => Ok(&entry.table),
     }
 }

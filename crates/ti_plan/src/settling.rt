@@ -17,8 +17,8 @@ use crate::faults::{add_entry_fault, add_item_faults, add_locals};
 use crate::laying::compile;
 use crate::owners::Known;
 use std::alloc::{AllocError, Global};
-use ti_slots::{Settled, State};
-use ti_source::{Local, Parsed};
+use ti_slots::{Settled, Slot, State};
+use ti_source::Local;
 
 /// Whether one of the faults is an error.
 fn has_error(faults: &[Local]) -> bool
@@ -32,13 +32,13 @@ fn has_error(faults: &[Local]) -> bool
     false
 }
 
-/// The block at a node, as it is read.
-fn block_at<'a>(known: &Known<'a>, node: usize) -> &'a Parsed
+/// The slot of the block at a node, in which what was found out before is still there.
+fn slot_of<'a>(known: &Known<'a>, node: usize) -> &'a Slot
     ghost at: { ℕ }
     requires { CanBeSettled known.now.slots.now known.now.dependents.now known.now.component_of.now known.now.settled.now node at }
-    ensures { slice_get (blocks_of known.now.slots.now) at ≡ Some (reading_of result.now) }
+    ensures { slice_get (blocks_of known.now.slots.now) at ≡ Some (reading_of result.now.block) }
 {
-    &known.slots.slot(known.dependents.ids[node]).block
+    known.slots.slot(known.dependents.ids[node])
 }
 
 /// What becomes of the block at a node, of which one use at least is at fault, or none.
@@ -46,23 +46,23 @@ fn find_state(
     alloc: Global,
     known: &Known,
     node: usize,
-    block: &Parsed,
+    slot: &Slot,
     is_wrong: bool,
     work: &mut u64,
 ) -> Result<State, AllocError>
     ghost at: { ℕ }
     requires ready { CanBeSettled known.now.slots.now known.now.dependents.now known.now.component_of.now known.now.settled.now node at }
-    requires block { slice_get (blocks_of known.now.slots.now) at ≡ Some (reading_of block.now) }
-    requires uses { MatchBool is_wrong (HasUseAtFault (blocks_of known.now.slots.now) at (reading_of block.now)) (AreUsesSound (blocks_of known.now.slots.now) at) }
-    requires room { work.old + length block.now.items.items < 2 ^ 64 }
-    ensures state { IfOk result (λ state. state_seen state ≡ state_of (blocks_of known.now.slots.now) (reading_of block.now)) }
-    ensures table { IfOk result (λ state. HasTable contents (blocks_of known.now.slots.now) (reading_of block.now) (table_of state)) }
-    ensures work { OnOk result (work.new ≡ work.old + work_of (blocks_of known.now.slots.now) (Some (reading_of block.now))) }
+    requires block { slice_get (blocks_of known.now.slots.now) at ≡ Some (reading_of slot.now.block) }
+    requires uses { MatchBool is_wrong (HasUseAtFault (blocks_of known.now.slots.now) at (reading_of slot.now.block)) (AreUsesSound (blocks_of known.now.slots.now) at) }
+    requires room { work.old + length slot.now.block.items.items < 2 ^ 64 }
+    ensures state { IfOk result (λ state. state_seen state ≡ state_of (blocks_of known.now.slots.now) (reading_of slot.now.block)) }
+    ensures table { IfOk result (λ state. HasTable contents (blocks_of known.now.slots.now) (reading_of slot.now.block) (table_of state)) }
+    ensures work { OnOk result (work.new ≡ work.old + work_of (blocks_of known.now.slots.now) (Some (reading_of slot.now.block))) }
 {
-    if is_wrong || has_error(&block.faults) {
+    if is_wrong || has_error(&slot.block.faults) {
         return Ok(State::Unresolved);
     }
-    Ok(compile(alloc, known, node, block, work)?)
+    Ok(compile(alloc, known, node, slot, work)?)
 }
 
 /// What is found out about the block at a node: what becomes of it, and its faults but those of
@@ -80,11 +80,11 @@ pub(crate) fn settle(
         → IsSettled (blocks_of known.now.slots.now) at block settled) }
     ensures work { OnOk result (work.new ≡ work.old + work_of (blocks_of known.now.slots.now) (slice_get (blocks_of known.now.slots.now) at)) }
 {
-    let block = block_at(known, node);
+    let slot = slot_of(known, node);
     let mut faults = Vec::new(alloc);
-    add_locals(&block.faults, true, &mut faults)?;
-    let is_wrong = add_item_faults(known, node, block, &mut faults)?;
-    let state = find_state(alloc, known, node, block, is_wrong, work)?;
-    add_entry_fault(&block.names, &state, &mut faults)?;
+    add_locals(&slot.block.faults, true, &mut faults)?;
+    let is_wrong = add_item_faults(known, node, &slot.block, &mut faults)?;
+    let state = find_state(alloc, known, node, slot, is_wrong, work)?;
+    add_entry_fault(&slot.block.names, &state, &mut faults)?;
     Ok(Settled { state, faults })
 }

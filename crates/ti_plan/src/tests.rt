@@ -95,7 +95,9 @@ fn expect(
     assert!(rt; node < plan.settled.len());
     let settled = &plan.settled[node];
     match (&settled.state, end) {
-        (State::Compiled(_, bytes), Some(end)) => assert!(rt; bytes.ends_with(end)),
+        (State::Compiled(entry), Some(end)) => {
+            assert!(rt; entry.image.bytes().ends_with(end));
+        }
         (State::Unresolved, None) => {}
         _ => return Err(Fail::new("another state")),
     }

@@ -8,6 +8,7 @@ use Rattle.ti_meaning.specs.Compiled.{EntryState, unresolved, oversized, written
 use Rattle.ti_meaning.specs.Faults.{SourceFault}
 use Rattle.ti_meaning.specs.KeptBlocks.{lasting_faults}
 use Rattle.ti_meaning.specs.ValueTables.{HasTable}
+use Rattle.ti_slots.specs.declared.entries.Entry.{Entry}
 use Rattle.ti_slots.specs.declared.slots.KeptFault.{KeptFault}
 use Rattle.ti_slots.specs.declared.slots.Settled.{Settled}
 use Rattle.ti_slots.specs.declared.slots.State.{State}
@@ -17,13 +18,19 @@ use Rattle.ti_slots.specs.declared.slots.State.TheVariants as s
 abbrev pub state_seen : State → EntryState
 state_seen s.Unresolved = unresolved
 state_seen (s.TooLarge table) = oversized
-state_seen (s.Compiled table bytes) = written bytes.items
+state_seen (s.Compiled entry) = written entry.image
 
 -- the table of its values, where it resolves
 abbrev pub table_of : State → Option Table
 table_of s.Unresolved = None
 table_of (s.TooLarge table) = Some table
-table_of (s.Compiled table bytes) = Some table
+table_of (s.Compiled entry) = Some entry.table
+
+-- the entry, where the block has one
+abbrev pub entry_of : State → Option Entry
+entry_of s.Unresolved = None
+entry_of (s.TooLarge table) = None
+entry_of (s.Compiled entry) = Some entry
 
 -- a kept fault of the block at that position
 abbrev pub fault_at : ℕ → KeptFault → SourceFault

@@ -1,11 +1,12 @@
 // The blocks of a source, each in a slot under an id that stays with it.
-ghost use Rattle.std.specs.Prelude.{◌≡◌, ℕ, [], None, Some, IsSome};
+ghost use Rattle.std.specs.Prelude.{◌≡◌, ℕ, [], None, Some, IsSome, option_map};
 ghost use Rattle.ti_meaning.specs.Owner.{owner};
 ghost use Rattle.ti_slots.specs.Slots.{blocks_of, slot_at, IsIndexed, IsOwnerId};
 
+use crate::entries::Entry;
 use std::alloc::Global;
 use std::rc::RcSlice;
-use ti_layout::Table;
+use ti_compiled::Table;
 use ti_index::{NameIndex, Order};
 use ti_source::{Code, Parsed};
 
@@ -28,8 +29,22 @@ pub enum State {
     Unresolved,
     /// It resolves to these values, and its entry is over the limit.
     TooLarge(Table),
-    /// It resolves to these values, and this is its entry, as term(5) lays it out.
-    Compiled(Table, Vec<u8>),
+    /// It resolves, and this is its entry.
+    Compiled(Entry),
+}
+
+impl State {
+    ghost use Rattle.ti_slots.specs.Settled.{entry_of};
+
+    /// The entry, where the block has one.
+    pub fn entry(&self) -> Option<&Entry>
+        ensures { option_map (λ entry. entry.now) result ≡ entry_of self.now }
+    {
+        match self {
+            State::Compiled(entry) => Some(entry),
+            _ => None,
+        }
+    }
 }
 
 /// What was found out about a block in its list.

@@ -4,7 +4,7 @@ use Rattle.std.specs.Str.{bytes_eq}
 use Rattle.ti_meaning.specs.Faults.{fault_seen, is_owned_before, name_faults}
 use Rattle.ti_slots.specs.Slots.{blocks_of}
 use Rattle.ti_base.specs.Told.{is_told}
-use Rattle.ti_base.proofs.Lists.{drop_item, map-take_item}
+use Rattle.ti_plan.proofs.ItemLists.{drop_item, map-take_item}
 use Rattle.ti_base.proofs.Telling.{passed_more, told_more}
 use Rattle.ti_base.proofs.faults.add_name_faults.Goals as goal
 use Rattle.ti_base.proofs.faults.add_name_faults.Goals.{then-is_to_tell+in_ok-tell+in_ok-add_name_fault, else-is_to_tell}

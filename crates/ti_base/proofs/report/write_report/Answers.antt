@@ -2,7 +2,7 @@ use Rattle.std.proofs.Common.{rules, ◌+◌, ◌<◌, ◌≤◌, length, map, t
 use Rattle.ti_meaning.specs.Bounds.{IsPlaced}
 use Rattle.ti_meaning.specs.Faults.{fault_seen}
 use Rattle.ti_slots.specs.Slots.{texts_of}
-use Rattle.ti_base.proofs.Lists.{All-map_item, map-take_item}
+use Rattle.ti_plan.proofs.ItemLists.{All-map_item, map-take_item}
 use Rattle.ti_base.proofs.Counting.{start_read, length_starts, one_more_line}
 use Rattle.ti_base.proofs.report.write_report.Goals as goal
 

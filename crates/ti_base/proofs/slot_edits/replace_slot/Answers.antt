@@ -4,9 +4,11 @@ use Rattle.std.specs.Rc.{rc_slice_items}
 use Rattle.ti_source.specs.Reading.{reading_of}
 use Rattle.ti_meaning.specs.Edits.{replacement}
 use Rattle.ti_meaning.specs.Dependents.{Rebuilds}
+use Rattle.ti_slots.specs.declared.slots.Slot.{Slot}
 use Rattle.ti_slots.specs.declared.slots.Slots.{Slots}
-use Rattle.ti_base.specs.KeptSlots.{PlacedSlot, slots_of}
-use Rattle.ti_base.proofs.Exchanges.{replaced, edit_ready, edit_rebuilds, sound_replaced, back_replaced, room_again, kept_back, texts_back}
+use Rattle.ti_slots.specs.Changes.{HasRoomFor}
+use Rattle.ti_base.specs.KeptSlots.{PlacedSlot, slots_of, with_settled}
+use Rattle.ti_base.proofs.Exchanges.{replaced, edit_ready, edit_rebuilds, sound_replaced, sound_settled, back_replaced, room_again, kept_back, texts_back}
 use Rattle.ti_base.proofs.slot_edits.replace_slot.Goals as goal
 
 still_within : (old room : Slots) (at : ℕ) → room.order.listed ≡ old.order.listed → at < length old.order.listed → at < length room.order.listed
@@ -16,10 +18,10 @@ pub rebuild-requires-clause-sound : goal.rebuild-requires-clause-sound
 rebuild-requires-clause-sound c =
     let room = c.reserve in
     let taken = c.take_slot-old in
-    sound_replaced room.new.slots taken.new.slots c.put_slot-id.new.slots c.args.at c.args.slot taken.result (still_within c.args.slots.now room.new.slots c.args.at room.ensures.listed c.requires.within) c.requires.sound room.ensures.kept.sound taken.ensures.slot taken.ensures.slots c.put_slot-id.ensures.slots
+    sound_replaced room.new.slots taken.new.slots c.put_slot_over-id.new.slots c.args.at (with_settled taken.result.settled c.args.slot) taken.result (still_within c.args.slots.now room.new.slots c.args.at room.ensures.listed c.requires.within) (sound_settled c.args.slot taken.result.settled c.requires.sound) room.ensures.kept.sound taken.ensures.slot taken.ensures.slots c.put_slot_over-id.ensures.slots
 
 pub rebuild-requires-clause-put : goal.rebuild-requires-clause-put
-rebuild-requires-clause-put c = λ id e. (c.args.at, c.put_slot-id.ensures.stands ∙ e)
+rebuild-requires-clause-put c = λ id e. (c.args.at, c.put_slot_over-id.ensures.stands ∙ e)
 
 pub rebuild-requires-clause-ready : goal.rebuild-requires-clause-ready
 rebuild-requires-clause-ready c =
@@ -27,20 +29,23 @@ rebuild-requires-clause-ready c =
     let kept = c.reserve.ensures.kept in
     let taken = c.take_slot-old in
     let out : PlacedSlot = record { at = c.args.at; slot = taken.result } in
-    let put : PlacedSlot = record { at = c.args.at; slot = c.args.slot } in
-    edit_ready room c.put_slot-id.new.slots (replacement c.args.at c.args.slot.text.items) (remove (slots_of room) c.args.at) (Some out) (Some put) (Some c.put_slot-id.result) (map rc_slice_items c.deref.result.now) (ap (map rc_slice_items) (sym c.deref.ensures.value))
-    (replaced room c.put_slot-id.new.slots c.args.at c.args.slot taken.result kept c.requires.sound (still_within c.args.slots.now room c.args.at c.reserve.ensures.listed c.requires.within) taken.ensures.slot
-    (c.put_slot-id.ensures.slots ∙ ap (λ xs. insert xs c.args.at (Some c.args.slot)) taken.ensures.slots))
-    kept.settled c.put_slot-id.ensures.id
+    let slot = with_settled taken.result.settled c.args.slot in
+    let sound = sound_settled c.args.slot taken.result.settled c.requires.sound in
+    let put : PlacedSlot = record { at = c.args.at; slot = slot } in
+    edit_ready room c.put_slot_over-id.new.slots (replacement c.args.at c.args.slot.text.items) (remove (slots_of room) c.args.at) (Some out) (Some put) (Some c.put_slot_over-id.result) (map rc_slice_items c.deref.result.now) (ap (λ (s : Slot). map rc_slice_items s.block.names.items) (sym c.put_slot_over-id.ensures.old) ∙ ap (map rc_slice_items) (sym c.deref.ensures.value))
+    (replaced room c.put_slot_over-id.new.slots c.args.at slot taken.result kept sound (still_within c.args.slots.now room c.args.at c.reserve.ensures.listed c.requires.within) taken.ensures.slot
+    (c.put_slot_over-id.ensures.slots ∙ ap (λ xs. insert xs c.args.at (Some slot)) taken.ensures.slots))
+    kept.settled c.put_slot_over-id.ensures.id
 
 pub returns-in-Ok-clause-texts : goal.returns-in-Ok-clause-texts
 returns-in-Ok-clause-texts c =
     let room = c.reserve.new.slots in
     let taken = c.take_slot-old in
+    let slot = with_settled taken.result.settled c.args.slot in
     c.forget.ensures.texts
     ∙ (c.in-Ok.ensures.texts
-    ∙ ((replaced room c.put_slot-id.new.slots c.args.at c.args.slot taken.result c.reserve.ensures.kept c.requires.sound (still_within c.args.slots.now room c.args.at c.reserve.ensures.listed c.requires.within) taken.ensures.slot
-    (c.put_slot-id.ensures.slots ∙ ap (λ xs. insert xs c.args.at (Some c.args.slot)) taken.ensures.slots)).texts
+    ∙ ((replaced room c.put_slot_over-id.new.slots c.args.at slot taken.result c.reserve.ensures.kept (sound_settled c.args.slot taken.result.settled c.requires.sound) (still_within c.args.slots.now room c.args.at c.reserve.ensures.listed c.requires.within) taken.ensures.slot
+    (c.put_slot_over-id.ensures.slots ∙ ap (λ xs. insert xs c.args.at (Some slot)) taken.ensures.slots)).texts
     ∙ ap (λ ts. set ts c.args.at c.args.slot.text.items) c.reserve.ensures.texts))
 
 pub returns-in-Ok-clause-rebuilds : goal.returns-in-Ok-clause-rebuilds
@@ -48,42 +53,45 @@ returns-in-Ok-clause-rebuilds c =
     let room = c.reserve.new.slots in
     let kept = c.reserve.ensures.kept in
     let taken = c.take_slot-old in
-    let new = c.put_slot-id.new.slots in
+    let new = c.put_slot_over-id.new.slots in
     let within = still_within c.args.slots.now room c.args.at c.reserve.ensures.listed c.requires.within in
     let out : PlacedSlot = record { at = c.args.at; slot = taken.result } in
-    let put : PlacedSlot = record { at = c.args.at; slot = c.args.slot } in
+    let slot = with_settled taken.result.settled c.args.slot in
+    let sound = sound_settled c.args.slot taken.result.settled c.requires.sound in
+    let put : PlacedSlot = record { at = c.args.at; slot = slot } in
     let change = replacement c.args.at c.args.slot.text.items in
     let e = c.in-Ok.edited in
     subst (λ ts. Rebuilds ts change e.rebuilt.items e.work) c.reserve.ensures.texts
-    (edit_rebuilds room new change (remove (slots_of room) c.args.at) (Some out) (Some put) (Some c.put_slot-id.result) (map rc_slice_items c.deref.result.now) e.rebuilt.items e.work (ap (map rc_slice_items) (sym c.deref.ensures.value))
-    (replaced room new c.args.at c.args.slot taken.result kept c.requires.sound within taken.ensures.slot (c.put_slot-id.ensures.slots ∙ ap (λ xs. insert xs c.args.at (Some c.args.slot)) taken.ensures.slots))
-    c.put_slot-id.ensures.id c.put_slot-id.ensures.put.indexed
-    (sound_replaced room taken.new.slots new c.args.at c.args.slot taken.result within c.requires.sound kept.sound taken.ensures.slot taken.ensures.slots c.put_slot-id.ensures.slots)
+    (edit_rebuilds room new change (remove (slots_of room) c.args.at) (Some out) (Some put) (Some c.put_slot_over-id.result) (map rc_slice_items c.deref.result.now) e.rebuilt.items e.work (ap (λ (s : Slot). map rc_slice_items s.block.names.items) (sym c.put_slot_over-id.ensures.old) ∙ ap (map rc_slice_items) (sym c.deref.ensures.value))
+    (replaced room new c.args.at slot taken.result kept sound within taken.ensures.slot (c.put_slot_over-id.ensures.slots ∙ ap (λ xs. insert xs c.args.at (Some slot)) taken.ensures.slots))
+    c.put_slot_over-id.ensures.id c.put_slot_over-id.ensures.put.indexed
+    (sound_replaced room taken.new.slots new c.args.at slot taken.result within sound kept.sound taken.ensures.slot taken.ensures.slots c.put_slot_over-id.ensures.slots)
     c.in-Ok.ensures.dependents c.in-Ok.ensures.steps)
 
 pub forget-requires-in-Err : goal.forget-requires-in-Err
 forget-requires-in-Err c =
     let taken = c.take_slot-old in
-    kept_back c.args.slots.now c.put_slot.new.slots c.requires.kept c.put_slot.ensures.put.indexed
-    (back_replaced c.args.slots.now c.reserve.new.slots taken.new.slots c.put_slot-id.new.slots c.rebuild.new.slots c.take_slot-new.new.slots c.put_slot.new.slots c.args.at c.args.slot taken.result c.reserve.ensures.slots
-    (still_within c.args.slots.now c.reserve.new.slots c.args.at c.reserve.ensures.listed c.requires.within) taken.ensures.slot taken.ensures.slots c.put_slot-id.ensures.slots c.in-Err.ensures.err c.take_slot-new.ensures.slots c.put_slot.ensures.slots)
+    kept_back c.args.slots.now c.put_slot_over.new.slots c.requires.kept c.put_slot_over.ensures.put.indexed
+    (back_replaced c.args.slots.now c.reserve.new.slots taken.new.slots c.put_slot_over-id.new.slots c.rebuild.new.slots c.take_slot-new.new.slots c.put_slot_over.new.slots c.args.at c.args.slot taken.result c.take_slot-new.result c.put_slot_over-id.new.old c.args.slot.settled c.put_slot_over-id.ensures.old c.reserve.ensures.slots
+    (still_within c.args.slots.now c.reserve.new.slots c.args.at c.reserve.ensures.listed c.requires.within) taken.ensures.slot taken.ensures.slots c.put_slot_over-id.ensures.slots c.in-Err.ensures.err c.take_slot-new.ensures.slot c.take_slot-new.ensures.slots c.put_slot_over.ensures.slots)
 
 pub returns-in-Err-clause-err : goal.returns-in-Err-clause-err
 returns-in-Err-clause-err c =
     let taken = c.take_slot-old in
     c.forget-in-Err.ensures.texts
-    ∙ texts_back c.args.slots.now c.put_slot.new.slots
-    (back_replaced c.args.slots.now c.reserve.new.slots taken.new.slots c.put_slot-id.new.slots c.rebuild.new.slots c.take_slot-new.new.slots c.put_slot.new.slots c.args.at c.args.slot taken.result c.reserve.ensures.slots
-    (still_within c.args.slots.now c.reserve.new.slots c.args.at c.reserve.ensures.listed c.requires.within) taken.ensures.slot taken.ensures.slots c.put_slot-id.ensures.slots c.in-Err.ensures.err c.take_slot-new.ensures.slots c.put_slot.ensures.slots)
+    ∙ texts_back c.args.slots.now c.put_slot_over.new.slots
+    (back_replaced c.args.slots.now c.reserve.new.slots taken.new.slots c.put_slot_over-id.new.slots c.rebuild.new.slots c.take_slot-new.new.slots c.put_slot_over.new.slots c.args.at c.args.slot taken.result c.take_slot-new.result c.put_slot_over-id.new.old c.args.slot.settled c.put_slot_over-id.ensures.old c.reserve.ensures.slots
+    (still_within c.args.slots.now c.reserve.new.slots c.args.at c.reserve.ensures.listed c.requires.within) taken.ensures.slot taken.ensures.slots c.put_slot_over-id.ensures.slots c.in-Err.ensures.err c.take_slot-new.ensures.slot c.take_slot-new.ensures.slots c.put_slot_over.ensures.slots)
 
-pub put_slot-id-requires-clause-room : goal.put_slot-id-requires-clause-room
-put_slot-id-requires-clause-room c = c.take_slot-old.ensures.taken.rooms (reading_of c.args.slot.block) c.in_ok-reserve.ensures.room
+pub put_slot_over-id-requires-clause-room : goal.put_slot_over-id-requires-clause-room
+put_slot_over-id-requires-clause-room c = c.take_slot-old.ensures.taken.rooms (reading_of c.args.slot.block) c.in_ok-reserve.ensures.room
 
-pub put_slot-requires-clause-room : goal.put_slot-requires-clause-room
-put_slot-requires-clause-room c =
+pub put_slot_over-requires-clause-room : goal.put_slot_over-requires-clause-room
+put_slot_over-requires-clause-room c =
     let taken = c.take_slot-old in
     let room = c.reserve in
     let within = still_within c.args.slots.now room.new.slots c.args.at room.ensures.listed c.requires.within in
     let fits : c.args.at ≤ length taken.new.slots.order.listed = omega (arith, within, taken.ensures.count) in
-    room_again c.changes_are_undone.ensures taken.new.slots c.put_slot-id.new.slots c.rebuild.new.slots c.take_slot-new.new.slots c.args.at c.args.slot c.take_slot-new.result c.put_slot-id.result (reading_of taken.result.block)
-    taken.ensures.taken.indexed fits taken.ensures.taken.room c.put_slot-id.ensures.put c.in-Err.ensures.err c.take_slot-new.ensures.taken
+    subst (λ (s : Slot). HasRoomFor c.take_slot-new.new.slots (reading_of s.block)) (sym c.put_slot_over-id.ensures.old)
+    (room_again c.changes_are_undone.ensures taken.new.slots c.put_slot_over-id.new.slots c.rebuild.new.slots c.take_slot-new.new.slots c.args.at (with_settled taken.result.settled c.args.slot) c.take_slot-new.result c.put_slot_over-id.result (reading_of taken.result.block)
+    taken.ensures.taken.indexed fits taken.ensures.taken.room c.put_slot_over-id.ensures.put c.in-Err.ensures.err c.take_slot-new.ensures.taken)

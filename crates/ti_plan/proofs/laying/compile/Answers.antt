@@ -11,20 +11,20 @@ use Rattle.ti_plan.proofs.laying.compile.Goals as goal
 pub returns-clause-state : goal.returns-clause-state
 returns-clause-state g c =
     let blocks = blocks_of c.args.known.now.slots.now in
-    let block = reading_of c.args.block.now in
+    let block = reading_of c.args.slot.now.block in
     state_is blocks block c.in_ok-table.table (state_seen c.in_ok-make_state.field-0) (has_table blocks g.at block c.in_ok-table.table c.requires.1.0 c.in_ok-table.ensures.table) c.in_ok-make_state.ensures.state
 
 pub returns-clause-table : goal.returns-clause-table
 returns-clause-table g c =
     let blocks = blocks_of c.args.known.now.slots.now in
-    let block = reading_of c.args.block.now in
+    let block = reading_of c.args.slot.now.block in
     table_seen blocks block c.in_ok-table.table (table_of c.in_ok-make_state.field-0) c.in_ok-make_state.ensures.table (has_table blocks g.at block c.in_ok-table.table c.requires.1.0 c.in_ok-table.ensures.table)
 
 pub returns-clause-work : goal.returns-clause-work
 returns-clause-work g c =
     let blocks = blocks_of c.args.known.now.slots.now in
-    let block = reading_of c.args.block.now in
-    let items = c.args.block.now.items.items in
+    let block = reading_of c.args.slot.now.block in
+    let items = c.args.slot.now.block.items.items in
     let table = has_table blocks g.at block c.in_ok-table.table c.requires.1.0 c.in_ok-table.ensures.table in
     let steps : c.make_table.new.work ≡ c.args.work.now + length items = c.in_ok-table.ensures.work in
     let all : work_of blocks (Some block) ≡ length items = all_work blocks block table.0 table.1 ∙ length-map items item_of in

@@ -10,16 +10,16 @@ use Rattle.ti_plan.proofs.settling.find_state.Goals.{then-is_wrong-via-then-is_w
 pub returns-then-is_wrong-clause-table : goal.returns-then-is_wrong-clause-table
 returns-then-is_wrong-clause-table g c =
     let bs = blocks_of c.args.known.now.slots.now in
-    let b = reading_of c.args.block.now in
+    let b = reading_of c.args.slot.now.block in
     elim c.then-is_wrong.branch [
       | then-is_wrong-via-then-is_wrong w ↦ no_expansion bs g.at b c.requires.1.0 (MatchBool-at_true _ _ w.if-is_wrong.true c.requires.1.1.0)
       | then-is_wrong-via-else-is_wrong+then-has_error w ↦ never_broken bs b (rw w.deref.ensures.value at (sym w.if-has_error.ensures))
     ]
 
 pub returns-then-is_wrong-clause-state : goal.returns-then-is_wrong-clause-state
-returns-then-is_wrong-clause-state g c = unresolved_state (blocks_of c.args.known.now.slots.now) (reading_of c.args.block.now) (returns-then-is_wrong-clause-table g c)
+returns-then-is_wrong-clause-state g c = unresolved_state (blocks_of c.args.known.now.slots.now) (reading_of c.args.slot.now.block) (returns-then-is_wrong-clause-table g c)
 
 pub returns-then-is_wrong-clause-work : goal.returns-then-is_wrong-clause-work
 returns-then-is_wrong-clause-work g c =
-    let none = no_work (blocks_of c.args.known.now.slots.now) (reading_of c.args.block.now) (returns-then-is_wrong-clause-table g c) in
+    let none = no_work (blocks_of c.args.known.now.slots.now) (reading_of c.args.slot.now.block) (returns-then-is_wrong-clause-table g c) in
     omega (arith, none)

@@ -9,11 +9,11 @@ use Rattle.ti_plan.proofs.settling.settle.Goals as goal
 pub returns-clause-settled : goal.returns-clause-settled
 returns-clause-settled g c = λ block s.
     let bs = blocks_of c.args.known.now.slots.now in
-    let b = reading_of c.block_at-block.result.now in
+    let b = reading_of c.slot_of-slot.result.now.block in
     let none = ap (map (fault_at g.at)) c.new-faults.ensures.items in
     let one = rw (c.deref.ensures.value, none) at c.in_ok-add_locals.ensures in
     let three = rw c.deref-2.ensures.value at c.in_ok-add_entry_fault.ensures in
-    let same : b ≡ block = same_Some b block (sym c.block_at-block.ensures ∙ s) in
+    let same : b ≡ block = same_Some b block (sym c.slot_of-slot.ensures ∙ s) in
     subst (λ x. IsSettled bs g.at x (record { state = c.in_ok-state.state; faults = c.add_entry_fault.new.faults })) same
     (record {
       table = c.in_ok-state.ensures.table;

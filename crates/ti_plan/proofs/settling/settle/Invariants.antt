@@ -1,7 +1,7 @@
 use Rattle.ti_plan.proofs.settling.settle.Given as goal
 
-abbrev pub ghost-block_at : goal.ghost-block_at
-ghost-block_at g a = g.at
+abbrev pub ghost-slot_of : goal.ghost-slot_of
+ghost-slot_of g a = g.at
 
 abbrev pub ghost-add_locals : goal.ghost-add_locals
 ghost-add_locals g a = g.at

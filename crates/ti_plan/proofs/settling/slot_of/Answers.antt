@@ -1,5 +1,5 @@
 use Rattle.ti_plan.proofs.Places.{node_read, slot_there, slot_read}
-use Rattle.ti_plan.proofs.settling.block_at.Goals as goal
+use Rattle.ti_plan.proofs.settling.slot_of.Goals as goal
 
 pub slot-requires : goal.slot-requires
 slot-requires g c =

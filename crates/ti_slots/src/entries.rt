@@ -1,0 +1,18 @@
+// The entry of a block.
+ghost use Rattle.std.specs.Prelude.{◌≡◌};
+ghost use Rattle.ti_caps.specs.Tables.{Capability, IsCapability};
+ghost use Rattle.ti_layout.specs.Laws.{uncancelled};
+ghost use Rattle.ti_layout.specs.Values.{contents};
+ghost use Rattle.ti_compiled.specs.Held.{contents_in};
+
+use ti_compiled::{Image, Table};
+
+/// The entry of a block, as term(5) lays it out, and the values that it has.
+#[derive(Drop)]
+pub struct Entry {
+    /// The values.
+    pub table: Table,
+    /// The entry.
+    pub image: Image,
+    pub ghost held: { (c : Capability) → IsCapability c → contents_in image c ≡ uncancelled (contents table c) },
+}
