@@ -6,8 +6,9 @@
 rates     MB/s (10^6 bytes a second) of `ti tic -c` on one-block sources of 64 KiB,
           256 KiB and 1 MiB, and of ncurses's `tic -c` on the last: the best of
           several runs
-entries   sources of many entries: 2,000 small ones, and 1,000 of which all but the
-          first have uses, compiled into files
+entries   sources of many entries, compiled into files: 1,800 of 1.1 KB each, 1,800 of
+          which 1,500 have a use, 2,000 small ones, and 1,000 of which all but the first
+          use one before them
 tools     `ti tput` and `ti infocmp` on the system's own entry, where it is there; both read the same
           file, and a run that fails or writes something else is not timed
 machine   what `ti_bench` prints of the libraries alone
@@ -39,6 +40,9 @@ ITEMS = r"""
 	sgr=%?%p9%t\E(0%e\E(B%;\E[0%?%p6%t;1%;%?%p5%t;2%;%?%p2%t;4%;%?%p1%p3%|%t;7%;m,
 # a comment line between wrapped lines
 """
+KEYS = "".join(
+    "\t" + ", ".join(f"kf{key}=\\E[{key};2~" for key in range(first, first + 6)) + ",\n" for first in range(1, 37, 6)
+)
 SMALL = "\tam, cols#80, lines#24, bel=^G, cr=\\r, cud1=\\n, ind=\\n, cub1=^H,\n"
 RUNS = 40
 SECONDS = 600
@@ -53,6 +57,20 @@ def source(size):
     while len(text) + len(body) <= size:
         text += body
     return (text + "#" * (size - len(text) - 1) + "\n").encode() if len(text) < size else text.encode()
+
+
+def large_entries(count):
+    """So many entries of 1.1 KB each, none of which uses another."""
+    items = ITEMS.lstrip("\n") + KEYS
+    return "".join(f"e{i}|a large entry,\n{items}" for i in range(count)).encode()
+
+
+def entries_with_uses(roots, users):
+    """So many entries that use none, and so many that each use one of these and say a little more."""
+    items = ITEMS.lstrip("\n")
+    first = "".join(f"r{i}|a root,\n{items}" for i in range(roots))
+    rest = "".join(f"v{i}|a variant,\n\tcols#{i % 200 + 1}, kf1=\\EO{i}, use=r{i % roots},\n" for i in range(users))
+    return (first + rest).encode()
 
 
 def small_entries(count):
@@ -126,7 +144,13 @@ def rates(path):
 
 
 def entries(path):
-    for what, text in (("2,000 small entries", small_entries(2000)), ("1,000 entries with uses", chained_entries(1000))):
+    works = {
+        "1,800 entries of 1.1 KB": large_entries(1800),
+        "1,800 entries, 1,500 with a use": entries_with_uses(300, 1500),
+        "2,000 small entries": small_entries(2000),
+        "1,000 entries in a chain of uses": chained_entries(1000),
+    }
+    for what, text in works.items():
         name, out = path("many.ti"), path("out")
         with open(name, "wb") as file:
             file.write(text)

@@ -98,8 +98,15 @@ fn read_file<R: Files>(
 // Puts a file of these bytes at the path, in place of what stands there, and makes the folders on its path
 // that are missing. Where that fails nothing is left beside it.
 fn replace_file<R: Files + AllocGlobal>(rt: &R, path: &str, bytes: &[u8]) -> io::Result<()> {
-    make_folders(rt, path)?;
-    let (new_path, file) = create_beside(rt, path)?;
+    let (new_path, file) = match create_beside(rt, path) {
+        // Its folder is there for most files, so it is looked for only where the file can't be made.
+        Err(error) if is_absent(&error) => {
+            make_folders(rt, path)?;
+            create_beside(rt, path)?
+        }
+        Err(error) => return Err(error),
+        Ok(created) => created,
+    };
     let replaced = match write_whole(file, bytes) {
         Ok(()) => fs::rename(rt, new_path.as_str(), path),
         Err(error) => Err(error),

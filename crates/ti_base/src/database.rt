@@ -1,5 +1,6 @@
 // The edited source: its blocks under stable ids, with what was found out about each.
 ghost use Rattle.std.specs.Prelude.{◌≡◌, ◌<◌, ◌≤◌, [], length, map, slice_get, Some, option_map, IfOk, IfErr, OnOk};
+ghost use Rattle.std.specs.Rc.{rc_slice_items};
 ghost use Rattle.ti_base.specs.Kept.{IsBlockText, IsTextRefusal};
 ghost use Rattle.ti_base.specs.KeptSlots.{IsSoundSlot};
 ghost use Rattle.ti_meaning.specs.Edits.{Run, change_of};
@@ -10,6 +11,7 @@ use crate::report::write_report;
 use crate::slot_edits::{insert_slot, move_slot, remove_slot, replace_slot};
 use std::alloc::{AllocError, Global};
 use std::marker::Model;
+use std::rc::RcSlice;
 use ti_meaning::{Edit, EditError, Edited, Fault, Outcome};
 use ti_slots::{Settled, Slot, Slots, State};
 use ti_source::{is_block, parse};
@@ -116,6 +118,14 @@ impl Database {
         }
     }
 
+    /// The lookup names of a block, in their order. A name may stand there twice.
+    pub fn names(&self, at: usize) -> &[RcSlice<u8>]
+        requires { at < length self.now }
+        ensures { option_map (λ block. block.names) (slice_get (readings self.now) at) ≡ Some (map rc_slice_items result.now) }
+    {
+        &slot_of(&self.slots, at).block.names
+    }
+
     /// The position of the first block that has the name among its lookup names, if one has it.
     pub fn owner(&self, name: &[u8]) -> Option<usize>
         ensures { result ≡ owner (readings self.now) name.now }
@@ -139,8 +149,18 @@ impl Database {
         requires { first_line ≤ 9223372036854775808 }
         ensures { IfOk result (λ text. text.items ≡ report self.now first_line) }
     {
-        let faults = source_faults(self.alloc, &self.slots)?;
-        let report = write_report(self.alloc, &self.slots, &faults, first_line)?;
+        let found = source_faults(self.alloc, &self.slots)?;
+        let report = self.report_of(&found, first_line)?;
+        Ok(report)
+    }
+
+    /// The report, as `report` gives it, for who has the faults that `faults` gave of this source.
+    pub fn report_of(&self, found: &[Fault], first_line: u64) -> Result<Vec<u8>, AllocError>
+        requires all { map fault_seen found.now ≡ faults (readings self.now) }
+        requires first { first_line ≤ 9223372036854775808 }
+        ensures { IfOk result (λ text. text.items ≡ report self.now first_line) }
+    {
+        let report = write_report(self.alloc, &self.slots, found, first_line)?;
         Ok(report)
     }
 

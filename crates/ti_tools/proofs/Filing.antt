@@ -1,12 +1,13 @@
 -- The files of entries, name by name and block by block.
-use Rattle.std.proofs.Common.{◌≡◌, ℕ, suc, ◌+◌, ◌<◌, Bool, true, false, ◌&&◌, not, List, [], ◌∷◌, ◌++◌, length, map, filter, take, drop, get_or, All, None, Some, refl, sym, ap, ap₂, ◌∙◌, subst, inl, inr, arith}
+use Rattle.std.proofs.Common.{◌≡◌, ℕ, zero, suc, ◌+◌, ◌<◌, ◌≤◌, option_map, slice_get, Bool, true, false, ◌&&◌, not, List, [], ◌∷◌, ◌++◌, length, map, filter, take, drop, get_or, All, None, Some, refl, sym, ap, ap₂, ◌∙◌, subst, inl, inr, arith}
 use Rattle.std.proofs.lemmas.Bool.{and_parts, cases_Bool}
 use Rattle.std.proofs.lemmas.List.{append-nil, append_assoc, get_or-map, length-map, take-map, take_more}
+use Rattle.std.proofs.lemmas.Option.{same_Some, slice_get-get_or, slice_get-map}
 use Rattle.std.proofs.lemmas.List.Elements.{All-get_or, All-nil, All-tail, All-weaker}
 use Rattle.std.proofs.Math.Seq.{drop-cons}
 use Rattle.ti_source.specs.Blocks.{OneBlock}
 use Rattle.ti_source.specs.Header.{IsLookupName, IsNameByte}
-use Rattle.ti_source.specs.Parsing.{Parses, ReadsHeader, bad_header, good_header, long_header, parsed}
+use Rattle.ti_source.specs.Parsing.{HasReading, Parses, ReadsHeader, bad_header, good_header, long_header, parsed}
 use Rattle.ti_source.specs.Reading.{ReadFault, Reading}
 use Rattle.ti_meaning.specs.Compiled.{compiled}
 use Rattle.ti_meaning.specs.Owner.{is_among, readings}
@@ -102,6 +103,12 @@ name_at f items index item name within is_item is_name = record {
   front = sym (take-map f index items);
 }
 
+-- the names up to that place are those before, and it
+pub front_more : {A : Type 0} (f : A → List ℕ) (items : List A) (index : ℕ) (name : List ℕ) → IsNameAt f items index name
+    → map f (take (index + 1) items) ≡ map f (take index items) ++ name ∷ []
+front_more f items index name place =
+    sym (take-map f (index + 1) items) ∙ names_to (map f items) index name place.within place.is ∙ ap (λ names. names ++ name ∷ []) (sym place.front)
+
 module _ {A : Type 0} (f : A → List ℕ) (dir image : List ℕ) (blocks : List Reading) (at : ℕ) (items : List A) (index : ℕ) (name : List ℕ)
     (b : Bool) (place : IsNameAt f items index name) (test : b ≡ (not (is_among name (map f (take index items))) && is_owner blocks name at)) where
   pub left_by_none : b ≡ false → files_left dir image blocks at (map f items) index ≡ files_left dir image blocks at (map f items) (index + 1)
@@ -119,27 +126,35 @@ pub files_joined : (old new : List Entry) (file : Entry) (left next wanted : Lis
 files_joined old new file left next wanted is_new is_left whole =
     rw is_new (append_assoc old (file ∷ []) next ∙ ap (λ files. old ++ files) (sym is_left) ∙ whole)
 
--- The files of the blocks before `at` were made, and `rest` are the blocks from there on.
-pub record IsFiledTo (dir : List ℕ) (texts : List (List ℕ)) (files : List Entry) (at : ℕ) (rest : List (List ℕ)) : Type 0 where
-  pub joined : files ++ files_from dir texts at rest ≡ files_of dir texts
-  pub count : at + length rest ≡ length texts
-  pub single : All OneBlock rest
+-- the files of the blocks before `at` were made
+abbrev pub IsFiledTo : List ℕ → List (List ℕ) → List Entry → ℕ → Type 0
+IsFiledTo dir texts files at = files ++ files_from dir texts at (drop at texts) ≡ files_of dir texts
 
-pub filed_to_start : (dir : List ℕ) (texts : List (List ℕ)) → All OneBlock texts → IsFiledTo dir texts [] 0 texts
+pub filed_to_start : (dir : List ℕ) (texts : List (List ℕ)) → IsFiledTo dir texts [] 0
 unfolding files_of
-filed_to_start dir texts single = record { joined = refl; count = omega arith; single = single }
+filed_to_start dir texts = refl
 
-pub filed_to_next : (dir : List ℕ) (texts : List (List ℕ)) (old new : List Entry) (at : ℕ) (text : List ℕ) (rest : List (List ℕ))
-    → IsFiledTo dir texts old at (text ∷ rest) → new ≡ old ++ files_at dir texts at text → IsFiledTo dir texts new (at + 1) rest
-filed_to_next dir texts old new at text rest filed is_new = record {
-  joined =
-      let next : suc at ≡ at + 1 = omega arith in
-      ap (λ files. files ++ files_from dir texts (at + 1) rest) is_new
-      ∙ append_assoc old (files_at dir texts at text) (files_from dir texts (at + 1) rest)
-      ∙ ap (λ k. old ++ (files_at dir texts at text ++ files_from dir texts k rest)) (sym next) ∙ filed.joined;
-  count = let c : at + length (text ∷ rest) ≡ length texts = filed.count in omega (arith, c);
-  single = All-tail OneBlock text rest filed.single;
-}
+pub filed_to_next : (dir : List ℕ) (texts : List (List ℕ)) (old new : List Entry) (at : ℕ) → at < length texts
+    → ((text : List ℕ) → slice_get texts at ≡ Some text → new ≡ old ++ files_at dir texts at text)
+    → IsFiledTo dir texts old at → IsFiledTo dir texts new (at + 1)
+filed_to_next dir texts old new at within added filed =
+    let text = get_or texts at [] in
+    let next : suc at ≡ at + 1 = omega arith in
+    let rest : drop at texts ≡ text ∷ drop (at + 1) texts = drop-cons texts at [] within ∙ ap (λ k. text ∷ drop k texts) next in
+    let is_new = added text (slice_get-get_or texts at [] within) in
+    ap (λ files. files ++ files_from dir texts (at + 1) (drop (at + 1) texts)) is_new
+    ∙ append_assoc old (files_at dir texts at text) (files_from dir texts (at + 1) (drop (at + 1) texts))
+    ∙ ap (λ k. old ++ (files_at dir texts at text ++ files_from dir texts k (drop (at + 1) texts))) (sym next)
+    ∙ ap (λ texts_left. old ++ files_from dir texts at texts_left) (sym rest) ∙ filed
+
+pub filed_to_end : (dir : List ℕ) (texts : List (List ℕ)) (files : List Entry) (at : ℕ) → length texts ≤ at → IsFiledTo dir texts files at → files ≡ files_of dir texts
+filed_to_end dir texts files at past filed = sym (append-nil files) ∙ ap (λ left. files ++ files_from dir texts at left) (sym (drop_past texts at past)) ∙ filed
+  where
+    drop_past : (xs : List (List ℕ)) (k : ℕ) → length xs ≤ k → drop k xs ≡ []
+    drop_past [] zero p = refl
+    drop_past [] (suc k) p = refl
+    drop_past (x ∷ xs) zero p = absurd (omega arith)
+    drop_past (x ∷ xs) (suc k) p = drop_past xs k (omega arith)
 
 -- a block without an entry has no files
 pub files_at-none : (dir : List ℕ) (texts : List (List ℕ)) (at : ℕ) (text : List ℕ) (old : List Entry) → compiled texts at ≡ None
@@ -152,6 +167,14 @@ pub files_at-some : (dir : List ℕ) (texts : List (List ℕ)) (at : ℕ) (text 
 files_at-some dir texts at text image names old new some is_names is_new =
     is_new ∙ rw some (ap (λ ns. old ++ files_for dir image (own_names (readings texts) at ns)) is_names)
 
+-- the names of a block, by its text
+pub names_of_text : (texts names : List (List ℕ)) (at : ℕ) (text : List ℕ) → slice_get texts at ≡ Some text
+    → option_map (λ (block : Reading). block.names) (slice_get (readings texts) at) ≡ Some names → names ≡ (parsed text).names
+names_of_text texts names at text is named =
+    let there : slice_get (readings texts) at ≡ Some (parsed text) = rw (slice_get-map parsed texts at, is) refl in
+    let same : Some (parsed text).names ≡ Some names = sym (ap (λ o. option_map (λ (block : Reading). block.names) o) there) ∙ named in
+    sym (same_Some (parsed text).names names same)
+
 -- ---- lookup names are ASCII
 
 IsAsciiName-lookup : (name : List ℕ) → IsLookupName name → IsAsciiName name
@@ -163,5 +186,11 @@ names_read _ _ _ (bad_header field bad) = All-nil IsAsciiName
 names_read _ _ _ (long_header field names header long) = All-weaker IsLookupName IsAsciiName IsAsciiName-lookup names header.lookup
 names_read _ _ _ (good_header field names header short) = All-weaker IsLookupName IsAsciiName IsAsciiName-lookup names header.lookup
 
-pub names_ascii : (block : List ℕ) (reading : Reading) → Parses block reading → All IsAsciiName reading.names
-names_ascii block reading parses = names_read reading.field reading.names parses.of_header parses.reads_header
+names_parsed : (block : List ℕ) (reading : Reading) → Parses block reading → All IsAsciiName reading.names
+names_parsed block reading parses = names_read reading.field reading.names parses.of_header parses.reads_header
+
+pub names_ascii : (texts names : List (List ℕ)) (at : ℕ) → HasReading → at < length texts
+    → option_map (λ (block : Reading). block.names) (slice_get (readings texts) at) ≡ Some names → All IsAsciiName names
+names_ascii texts names at read within named =
+    let text = get_or texts at [] in
+    subst (All IsAsciiName) (sym (names_of_text texts names at text (slice_get-get_or texts at [] within) named)) (names_parsed text (parsed text) (read text))

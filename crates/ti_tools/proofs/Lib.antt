@@ -5,3 +5,4 @@ pub mod Printing
 pub mod Refusing
 pub mod Parts
 pub mod Reporting
+pub mod Seeing

@@ -1,5 +1,5 @@
 //! Compiling a source into files.
-ghost use Rattle.std.specs.Prelude.{◌≡◌, ◌+◌, ◌≤◌, ◌^◌, [], ◌∷◌, ◌++◌, IfOk, None, map};
+ghost use Rattle.std.specs.Prelude.{◌≡◌, ◌+◌, ◌≤◌, ◌^◌, [], ◌∷◌, ◌++◌, IfOk, Ok, map};
 ghost use Rattle.std.specs.List.{list_any};
 ghost use Rattle.std.specs.String.{string_bytes};
 ghost use Rattle.ti_text.specs.Ascii as ascii;
@@ -15,7 +15,7 @@ use crate::insertions::database_of;
 use crate::outcome::{TicOptions, TicOutcome};
 use crate::sources::{check, is_ended, lines};
 use std::alloc::{AllocError, Global};
-use ti_base::{Database, Fault};
+use ti_base::{Database, EditError, Fault};
 use ti_devices::ToolError;
 use ti_source::blocks;
 
@@ -41,24 +41,23 @@ fn report_status(faults: &[Fault]) -> u8
     if has_error(faults) { 1 } else { 0 }
 }
 
-// What comes of the source whose blocks the database holds.
+// What comes of the blocks that the database holds, of which the first begins on the line of that number.
 fn outcome(
     alloc: Global,
-    source: &[u8],
     database: &Database,
+    first_line: u64,
     options: &TicOptions,
 ) -> Result<TicOutcome, AllocError>
-    requires ended { last_byte ascii.newline source.now ≡ ascii.newline }
-    requires held { database.now ≡ blocks_of ascii.newline source.now }
+    requires { first_line ≤ 2 ^ 63 }
     ensures { IfOk result (λ outcome. compilation_of outcome ≡ compilation options.now.check
-        (string_bytes options.now.dir) (line_count (front_of ascii.newline source.now) + 1) database.now) }
+        (string_bytes options.now.dir) first_line database.now) }
 {
-    let report = database.report(first_number(source))?;
     let faults = database.faults()?;
+    let report = database.report_of(faults.as_slice(), first_line)?;
     let files = if options.check {
         Vec::new(alloc)
     } else {
-        entry_files(alloc, source, database, options.dir.as_str())?
+        entry_files(alloc, database, options.dir.as_str())?
     };
     Ok(TicOutcome {
         files,
@@ -68,15 +67,13 @@ fn outcome(
 }
 
 // Compiles a source whose last line has its newline.
-fn compile(alloc: Global, source: &[u8], options: &TicOptions) -> Result<TicOutcome, AllocError>
-    requires ended { last_byte ascii.newline source.now ≡ ascii.newline }
-    requires sound { source_refusal source.now ≡ None }
-    ensures { IfOk result (λ outcome. compilation_of outcome ≡ compilation options.now.check
-        (string_bytes options.now.dir) (line_count (front_of ascii.newline source.now) + 1)
-        (blocks_of ascii.newline source.now)) }
+fn compile(alloc: Global, source: &[u8], options: &TicOptions) -> Result<TicOutcome, EditError>
+    requires { last_byte ascii.newline source.now ≡ ascii.newline }
+    ensures { IfOk result (λ outcome. tic_result source.now options.now.check
+        (string_bytes options.now.dir) ≡ Ok (compilation_of outcome)) }
 {
     let database = database_of(alloc, source)?;
-    outcome(alloc, source, &database, options)
+    Ok(outcome(alloc, &database, first_number(source), options)?)
 }
 
 // The text with a newline after it.
@@ -89,15 +86,14 @@ fn with_newline(alloc: Global, text: &[u8]) -> Result<Vec<u8>, AllocError>
     Ok(ended)
 }
 
-// Compiles a source that is not refused.
+// Compiles a source.
 fn compile_source(
     alloc: Global,
     source: &[u8],
     options: &TicOptions,
-) -> Result<TicOutcome, AllocError>
-    requires { source_refusal source.now ≡ None }
-    ensures { IfOk result (λ outcome. compilation_of outcome ≡ compilation options.now.check
-        (string_bytes options.now.dir) (first_line source.now) (texts_of source.now)) }
+) -> Result<TicOutcome, EditError>
+    ensures { IfOk result (λ outcome. tic_result source.now options.now.check
+        (string_bytes options.now.dir) ≡ Ok (compilation_of outcome)) }
 {
     if is_ended(source) {
         return compile(alloc, source, options);
@@ -116,9 +112,12 @@ pub fn tic(alloc: Global, source: &[u8], options: &TicOptions) -> Result<TicOutc
     ensures { IsTicAnswer (tic_result source.now options.now.check
         (string_bytes options.now.dir)) result }
 {
-    check(source)?;
     match compile_source(alloc, source, options) {
         Ok(outcome) => Ok(outcome),
-        Err(AllocError) => Err(ToolError::Memory),
+        // What is wrong with the source comes before want of memory.
+        Err(_) => {
+            check(source)?;
+            Err(ToolError::Memory)
+        }
     }
 }

@@ -1,32 +1,19 @@
 //! The files of a source's compiled entries.
-ghost use Rattle.std.specs.Prelude.{◌≡◌, ◌+◌, ◌<◌, ◌++◌, ◌∷◌, [], ◌&&◌, not, All, IfOk, OnOk, length, map};
+ghost use Rattle.std.specs.Prelude.{◌≡◌, ◌<◌, ◌++◌, ◌∷◌, ◌||◌, ◌&&◌, [], List, ℕ, All, IfOk, OnOk, Some, length, map, not, slice_get};
 ghost use Rattle.std.specs.Rc.{rc_slice_items};
-ghost use Rattle.std.specs.String.{string_bytes};
-ghost use Rattle.ti_text.specs.Ascii as ascii;
-ghost use Rattle.ti_source.specs.Blocks.{OneBlock, blocks_of, last_byte};
-ghost use Rattle.ti_meaning.specs.Owner.{is_among, readings};
+ghost use Rattle.std.specs.Str.{bytes_eq};
+ghost use Rattle.ti_meaning.specs.Owner.{readings};
 ghost use Rattle.ti_meaning.specs.Reaching.{is_owner};
-ghost use Rattle.ti_tools.specs.EntryFiles.{IsAsciiName, files_at, files_for, files_of, own_names};
+ghost use Rattle.ti_tools.specs.EntryFiles.{IsAsciiName, files_at, files_for, files_of, is_seen, own_names};
 ghost use Rattle.ti_devices.specs.Paths.{path_of};
 ghost use Rattle.ti_devices.specs.Placing.{entries};
 
 use std::alloc::{AllocError, Global};
+use std::collections::BTreeSet;
 use std::rc::RcSlice;
 use ti_base::Database;
 use ti_devices::{File, entry_path};
-use ti_source::{blocks, blocks_are_single, parse};
-
-// Whether the name is one of these.
-fn is_named(names: &[RcSlice<u8>], name: &[u8]) -> bool
-    ensures { result ≡ is_among name.now (map rc_slice_items names.now) }
-{
-    for other in names {
-        if name == other.as_slice() {
-            return true;
-        }
-    }
-    false
-}
+use ti_source::one_reading;
 
 // Whether the name belongs to the block at that position.
 fn owns(database: &Database, name: &[u8], at: usize) -> bool
@@ -38,13 +25,31 @@ fn owns(database: &Database, name: &[u8], at: usize) -> bool
     }
 }
 
-// Whether a name that stands behind these names of the block at `at` has a file of its own: it is
-// none of them, and the block's.
-fn has_file(database: &Database, before: &[RcSlice<u8>], name: &[u8], at: usize) -> bool
-    ensures { result ≡ (not (is_among name.now (map rc_slice_items before.now))
-        && is_owner (readings database.now) name.now at) }
+// Puts a name among those seen, and tells whether it is new there.
+fn see<'a>(seen: &mut BTreeSet<&'a [u8]>, name: &'a [u8]) -> Result<bool, AllocError>
+    ensures new { IfOk result (λ is_new. is_new ≡ not (is_seen seen.old name.now)) }
+    ensures seen { OnOk result ((other : List ℕ) → is_seen seen.new other ≡ (bytes_eq other name.now || is_seen seen.old other)) }
 {
-    !is_named(before, name) && owns(database, name, at)
+    Ok(seen.insert(name)?)
+}
+
+// Whether a name of the block at `at` has a file of its own: it is the block's, and none of those seen.
+// Then it is seen from now on.
+fn has_file<'a>(
+    database: &Database,
+    seen: &mut BTreeSet<&'a [u8]>,
+    name: &'a [u8],
+    at: usize,
+) -> Result<bool, AllocError>
+    ensures is { IfOk result (λ has_file. has_file
+        ≡ (is_owner (readings database.now) name.now at && not (is_seen seen.old name.now))) }
+    ensures seen { OnOk result ((other : List ℕ) → is_seen seen.new other
+        ≡ ((is_owner (readings database.now) name.now at && bytes_eq other name.now) || is_seen seen.old other)) }
+{
+    if !owns(database, name, at) {
+        return Ok(false);
+    }
+    see(seen, name)
 }
 
 // Adds the file of a name.
@@ -80,36 +85,34 @@ fn add_files(
         ++ files_for dir.now image.now
         (own_names (readings database.now) at (map rc_slice_items names.now))) }
 {
-    for (index, name) in names.iter().enumerate() {
+    let mut seen = BTreeSet::new(alloc);
+    for name in names {
         let name = name.as_slice();
-        if !has_file(database, &names[..index], name, at) {
-            continue;
+        if has_file(database, &mut seen, name, at)? {
+            push_file(alloc, files, dir, name, image)?;
         }
-        push_file(alloc, files, dir, name, image)?;
     }
     Ok(())
 }
 
-// Adds the files of the entry of the block at `at`, which has this text, if it has an entry.
+// Adds the files of the entry of the block at `at`, if it has an entry.
 fn add_block(
     alloc: Global,
     files: &mut Vec<File>,
     dir: &str,
-    text: &[u8],
     database: &Database,
     at: usize,
 ) -> Result<(), AllocError>
-    requires block { OneBlock text.now }
-    requires within { at < length database.now }
-    ensures { OnOk result (entries files.new.items
-        ≡ entries files.old.items ++ files_at dir.now database.now at text.now) }
+    requires { at < length database.now }
+    ensures { OnOk result ((text : List ℕ) → slice_get database.now at ≡ Some text → entries files.new.items
+        ≡ entries files.old.items ++ files_at dir.now database.now at text) }
 {
+    // A law, with no code: each block is read, so its names are ASCII.
+    one_reading();
     let Some(image) = database.compiled(at) else {
         return Ok(());
     };
-    let parsed = parse(alloc, text)?;
-    let names = parsed.names.as_slice();
-    add_files(alloc, files, dir, names, image, database, at)?;
+    add_files(alloc, files, dir, database.names(at), image, database, at)?;
     Ok(())
 }
 
@@ -117,23 +120,12 @@ fn add_block(
 ///
 /// # Errors
 /// Want of memory.
-pub fn entry_files(
-    alloc: Global,
-    source: &[u8],
-    database: &Database,
-    dir: &str,
-) -> Result<Vec<File>, AllocError>
-    requires ended { last_byte ascii.newline source.now ≡ ascii.newline }
-    requires held { database.now ≡ blocks_of ascii.newline source.now }
+pub fn entry_files(alloc: Global, database: &Database, dir: &str) -> Result<Vec<File>, AllocError>
     ensures { IfOk result (λ files. entries files.items ≡ files_of dir.now database.now) }
 {
-    blocks_are_single();
     let mut files = Vec::new(alloc);
-    let mut at = 0;
-    let mut cut = blocks(source);
-    while let Some(text) = cut.next() {
-        add_block(alloc, &mut files, dir, text, database, at)?;
-        at += 1;
+    for at in 0..database.len() {
+        add_block(alloc, &mut files, dir, database, at)?;
     }
     Ok(files)
 }

@@ -7,8 +7,8 @@ ghost use Rattle.ti_tools.specs.Infocmp.{infocmp_result, listings};
 
 use std::alloc::{AllocError, Global};
 use ti_commands::InfocmpMode;
-use ti_layout::View;
 use ti_devices::ToolError;
+use ti_layout::View;
 use ti_list::{Layout, ListError, Mode, Order, compare, list, relative};
 
 /// The options of [`infocmp`].

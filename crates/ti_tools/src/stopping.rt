@@ -10,8 +10,8 @@ use itoa::Buffer;
 use std::io::Write;
 use ti_caps::find;
 use ti_commands::Job;
-use ti_layout::ReadError;
 use ti_devices::{Counted, ToolError, write_out};
+use ti_layout::ReadError;
 
 // The exit status of `tput`.
 fn tput_status(error: &ToolError, found: bool) -> u8

@@ -282,6 +282,30 @@ fn faults_stand_on_lines_of_their_blocks(rt: HostRuntime) -> Result<(), Fail> {
     Ok(())
 }
 
+#[test]
+fn names_and_a_report_of_faults_that_are_there(rt: HostRuntime) -> Result<(), Fail> {
+    let blocks: [&[u8]; 3] = [
+        b"a|n|a|the first,\n",
+        b"b|,\n",
+        b"n|c|n|the last,\n\tuse=zz,\n",
+    ];
+    let database = source(rt.alloc(), &blocks)?;
+    let wanted: [&[&[u8]]; 3] = [&[b"a", b"n", b"a"], &[], &[b"n", b"c"]];
+    for (at, wanted) in wanted.iter().enumerate() {
+        assert!(rt; at < database.len());
+        let names = database.names(at);
+        assert_eq!(rt; names.len(), wanted.len());
+        for (name, wanted) in names.iter().zip(wanted.iter()) {
+            assert_eq!(rt; name.as_slice(), *wanted);
+        }
+    }
+    let faults = database.faults()?;
+    let report = database.report_of(&faults, 7)?;
+    let want = b"8: E1 BadHeader\n9: W4 DuplicateName n\n10: E6 MissingUse zz\n";
+    assert_eq!(rt; report.as_slice(), want.as_slice());
+    Ok(())
+}
+
 /// An accepted edit rebuilt the blocks at these positions, with so many steps.
 fn expect_rebuilt(rt: &impl Abort, edited: &Edited, rebuilt: &[usize], work: u64) {
     assert_eq!(rt; edited.rebuilt.as_slice(), rebuilt);

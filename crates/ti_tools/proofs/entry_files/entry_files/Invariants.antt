@@ -2,5 +2,5 @@ use Rattle.ti_tools.proofs.Filing.{IsFiledTo}
 use Rattle.ti_devices.specs.Placing.{entries}
 use Rattle.ti_tools.proofs.entry_files.entry_files.Given as goal
 
-abbrev pub invariant-loop-text : goal.invariant-loop-text
-invariant-loop-text l = IsFiledTo l.dir l.database (entries l.files.items) l.at l.cut.blocks
+abbrev pub invariant-loop-at : goal.invariant-loop-at
+invariant-loop-at l = IsFiledTo l.dir l.database (entries l.files.items) l.at

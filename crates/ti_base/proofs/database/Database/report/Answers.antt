@@ -1,27 +1,10 @@
-use Rattle.std.proofs.Common.{◌≡◌, ℕ, List, length, map, All, ap, sym, ◌∙◌}
-use Rattle.std.specs.List.{flat_map}
+use Rattle.std.proofs.Common.{map, ap, ◌∙◌}
 use Rattle.ti_meaning.specs.Owner.{readings}
-use Rattle.ti_meaning.specs.Bounds.{IsPlaced}
-use Rattle.ti_meaning.specs.Faults.{SourceFault, fault_seen, faults}
-use Rattle.ti_meaning.specs.Report.{report, reported}
-use Rattle.ti_meaning.proofs.Bounding.{faults_placed}
-use Rattle.ti_slots.specs.Slots.{blocks_of, texts_of}
-use Rattle.ti_base.proofs.SlotLists.{blocks_read, length_blocks, length_texts}
-use Rattle.ti_base.proofs.Installing.{all_usable}
+use Rattle.ti_meaning.specs.Faults.{fault_seen, faults}
+use Rattle.ti_base.proofs.SlotLists.{blocks_read}
 use Rattle.ti_base.proofs.database.Database.report.Goals as goal
 
-placed_as : (n m : ℕ) (all found : List SourceFault) → n ≡ m → found ≡ all → All (IsPlaced n) all → All (IsPlaced m) found
-placed_as n m all found e f h = rw (← e, f) h
-
-pub write_report-requires-clause-placed : goal.write_report-requires-clause-placed
-write_report-requires-clause-placed c =
-    let slots = c.self.inside.slots in
-    let kept = c.self.invariant in
-    placed_as (length (blocks_of slots)) (length (texts_of slots)) (faults (blocks_of slots)) (map fault_seen c.deref.result.now) (length_blocks slots ∙ sym (length_texts slots))
-    (ap (map fault_seen) c.deref.ensures.value ∙ c.in_ok-faults.ensures) (faults_placed (blocks_of slots) (all_usable slots kept.indexed kept.sound))
-
-pub returns : goal.returns
-returns c =
-    let slots = c.self.inside.slots in
-    let found = ap (map fault_seen) c.deref.ensures.value ∙ (c.in_ok-faults.ensures ∙ ap faults (blocks_read slots c.self.invariant.indexed c.self.invariant.sound)) in
-    c.in_ok-report.ensures ∙ (ap (flat_map (reported (texts_of slots) c.args.first_line)) found ∙ ap (λ texts. report texts c.args.first_line) c.self.view_is)
+pub report_of-requires-clause-all : goal.report_of-requires-clause-all
+report_of-requires-clause-all c =
+    ap (map fault_seen) c.deref.ensures.value
+    ∙ (c.in_ok-found.ensures ∙ ap faults (blocks_read c.self.inside.slots c.self.invariant.indexed c.self.invariant.sound ∙ ap readings c.self.view_is))
