@@ -178,7 +178,10 @@ fn each_write_failing_in_turn(rt: HostRuntime) -> Result<(), Fail> {
             let stop = session(alloc, &mut reader, &mut writer);
             let taken = writer.into_inner().taken;
             assert!(rt; stop == Err(ToolError::WriteFault), "at {room}: {end:?}");
-            assert!(rt; Some(taken.as_slice()) == REPLIES.get(..room), "at {room}: {end:?}");
+            assert!(rt;
+                Some(taken.as_slice()) == REPLIES.get(..room),
+                "at {room}: {end:?}"
+            );
         }
     }
     Ok(())
@@ -235,7 +238,10 @@ fn each_read_failing_in_turn(rt: HostRuntime) -> Result<(), Fail> {
             let written = writer.into_inner();
             let expected = answered(alloc, &commands, reads)?;
             assert!(rt; stop == Err(ToolError::ReadFault), "at {reads}: {end:?}");
-            assert!(rt; written.as_slice() == expected.as_slice(), "at {reads}: {end:?}");
+            assert!(rt;
+                written.as_slice() == expected.as_slice(),
+                "at {reads}: {end:?}"
+            );
         }
     }
     Ok(())
