@@ -1,4 +1,6 @@
 //! Worked scripts, with replies from the manuals and by hand; devices that fail in mid-stream.
+ghost use Rattle.std.specs.Prelude.{◌≡◌, IfOk};
+
 use crate::{Counted, ToolError, session};
 use std::alloc::{AllocError, Global};
 use std::io::{self, ErrorKind, Read, Write};
@@ -13,17 +15,41 @@ const REPLIES: &[u8] = b"ok\nok\nok\n\
 ok\n4: W1 UnknownCapability foo\n5: E6 MissingUse zz\n6: E3 BadNumber cols\n.\n\
 1a01020000000000000000006b00\nrefused Position\nunknown\n";
 
-/// A reader that gives one byte a read, and fails at a read.
+/// What a device answers when it comes to its end.
+#[derive(Clone, Copy, Debug)]
+enum End {
+    /// A fault.
+    Fails,
+    /// That the call was interrupted, which is a fault like any other here.
+    IsInterrupted,
+    /// No byte: the end of an input, and a writer that takes nothing.
+    MovesNothing,
+}
+
+impl End {
+    fn answer(self) -> io::Result<usize>
+        ensures { IfOk result (λ count. count ≡ 0) }
+    {
+        match self {
+            End::Fails => Err(io::Error::from(ErrorKind::Other)),
+            End::IsInterrupted => Err(io::Error::from(ErrorKind::Interrupted)),
+            End::MovesNothing => Ok(0),
+        }
+    }
+}
+
+/// A reader that gives one byte a read, so many times.
 #[derive(Drop)]
 struct Drip<'a> {
     rest: &'a [u8],
     reads_left: usize,
+    end: End,
 }
 
 impl Read for Drip<'_> {
     fn read(&mut self, buf: &mut [u8]) -> io::Result<usize> {
         if self.reads_left == 0 {
-            return Err(io::Error::from(ErrorKind::Other));
+            return self.end.answer();
         }
         self.reads_left -= 1;
         let Some((first, rest)) = self.rest.split_first() else {
@@ -38,17 +64,18 @@ impl Read for Drip<'_> {
     }
 }
 
-/// A writer that takes one byte a call, and fails when it has taken so many.
+/// A writer that takes one byte a call, and so many in all.
 #[derive(Drop)]
 struct Narrow {
     taken: Vec<u8>,
     room: usize,
+    end: End,
 }
 
 impl Write for Narrow {
     fn write(&mut self, buf: &[u8]) -> io::Result<usize> {
         if self.taken.len() >= self.room {
-            return Err(io::Error::from(ErrorKind::Other));
+            return self.end.answer();
         }
         match buf.first() {
             Some(byte) => {
@@ -143,16 +170,19 @@ fn small_scripts(rt: HostRuntime) -> Result<(), Fail> {
 #[test]
 fn each_write_failing_in_turn(rt: HostRuntime) -> Result<(), Fail> {
     let alloc = rt.alloc();
-    for room in 0..REPLIES.len() {
-        let mut reader = Counted::new(SCRIPT);
-        let mut writer = Counted::new(Narrow {
-            taken: Vec::new(alloc),
-            room,
-        });
-        let end = session(alloc, &mut reader, &mut writer);
-        let taken = writer.into_inner().taken;
-        assert!(rt; end == Err(ToolError::WriteFault), "at {room}");
-        assert!(rt; Some(taken.as_slice()) == REPLIES.get(..room), "at {room}");
+    for end in [End::Fails, End::IsInterrupted, End::MovesNothing] {
+        for room in 0..REPLIES.len() {
+            let mut reader = Counted::new(SCRIPT);
+            let taken = Vec::new(alloc);
+            let mut writer = Counted::new(Narrow { taken, room, end });
+            let stop = session(alloc, &mut reader, &mut writer);
+            let taken = writer.into_inner().taken;
+            assert!(rt; stop == Err(ToolError::WriteFault), "at {room}: {end:?}");
+            assert!(rt;
+                Some(taken.as_slice()) == REPLIES.get(..room),
+                "at {room}: {end:?}"
+            );
+        }
     }
     Ok(())
 }
@@ -178,28 +208,60 @@ fn answered(
 #[test]
 fn each_read_failing_in_turn(rt: HostRuntime) -> Result<(), Fail> {
     let alloc = rt.alloc();
-    let commands: [(&[u8], &[u8]); 5] = [
-        (b"i 0\nk,\n# one\n.\n", b"ok\n"),
-        (b"\np 0\n", b"1a01020000000000000000006b00\n"),
+    let commands: [(&[u8], &[u8]); 9] = [
+        (b"i 0\na,foo,\n.\n", b"ok\n"),
+        (b"i 1\nb,use=zz,\n.\n", b"ok\n"),
+        (b"i 2\nc,cols#9x,\n.\n", b"ok\n"),
+        (
+            b"f\n",
+            b"1: W1 UnknownCapability foo\n2: E6 MissingUse zz\n3: E3 BadNumber cols\n.\n",
+        ),
+        (b"i 0\nk,\n# one\n# two\n.\n", b"ok\n"),
+        (
+            b"f\n",
+            b"4: W1 UnknownCapability foo\n5: E6 MissingUse zz\n6: E3 BadNumber cols\n.\n",
+        ),
+        (b"p 0\n", b"1a01020000000000000000006b00\n"),
         (b"d 9\n", b"refused Position\n"),
-        (b"i 0\nk,", b""),
-        (b"", b""),
+        (b"zap\n", b"unknown\n"),
     ];
-    let mut script = Vec::new(alloc);
-    for (lines, _) in commands {
-        script.extend_from_slice(lines)?;
+    for end in [End::Fails, End::IsInterrupted] {
+        for reads in 0..SCRIPT.len() + 1 {
+            let rest = SCRIPT;
+            let mut reader = Counted::new(Drip {
+                rest,
+                reads_left: reads,
+                end,
+            });
+            let mut writer = Counted::new(Vec::new(alloc));
+            let stop = session(alloc, &mut reader, &mut writer);
+            let written = writer.into_inner();
+            let expected = answered(alloc, &commands, reads)?;
+            assert!(rt; stop == Err(ToolError::ReadFault), "at {reads}: {end:?}");
+            assert!(rt;
+                written.as_slice() == expected.as_slice(),
+                "at {reads}: {end:?}"
+            );
+        }
     }
-    for reads in 0..script.len() + 1 {
+    Ok(())
+}
+
+#[test]
+fn each_read_ending_the_script(rt: HostRuntime) -> Result<(), Fail> {
+    let alloc = rt.alloc();
+    for reads in 0..SCRIPT.len() + 1 {
         let mut reader = Counted::new(Drip {
-            rest: script.as_slice(),
+            rest: SCRIPT,
             reads_left: reads,
+            end: End::MovesNothing,
         });
         let mut writer = Counted::new(Vec::new(alloc));
-        let end = session(alloc, &mut reader, &mut writer);
+        let stop = session(alloc, &mut reader, &mut writer);
         let written = writer.into_inner();
-        let expected = answered(alloc, &commands, reads)?;
-        assert!(rt; end == Err(ToolError::ReadFault), "at {reads}");
-        assert!(rt; written.as_slice() == expected.as_slice(), "at {reads}");
+        let (_, expected) = replies(alloc, SCRIPT.get(..reads).unwrap_or(SCRIPT));
+        assert!(rt; stop == Ok(()), "at {reads}");
+        assert!(rt; written == expected, "at {reads}");
     }
     Ok(())
 }
