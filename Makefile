@@ -4,6 +4,7 @@
 #   make test       the merge gate and the black-box cases: what CI runs
 #   make cli        the black-box cases alone, on the built program
 #   make package    whether pages, completions and install are in order
+#   make hostile    malicious inputs of full size, and 20,000 made at random
 #   make wrong-bodies   the further wrong bodies, which the prover must refuse too
 #   make bench      times `ti tic -c` beside ncurses's tic, and an expansion
 #   make install    puts the program, its pages and its completions below
@@ -24,7 +25,7 @@ PROGRAM = crates/ti/out/ti
 PAGES = man/ti.1 man/ti-tic.1 man/ti-infocmp.1 man/ti-tput.1 man/ti-session.1 man/ti-report.7
 TOOL_NAMES = ti-tic ti-infocmp ti-tput
 
-.PHONY: all test cli package wrong-bodies bench install uninstall dist
+.PHONY: all test cli package hostile wrong-bodies bench install uninstall dist
 
 all:
 	./ti --help >/dev/null
@@ -37,6 +38,10 @@ cli: all
 
 package: all
 	python3 tests/package/run.py
+
+hostile: all
+	cd crates/ti_probe && rt run >/dev/null
+	python3 tests/hostile/run.py --all
 
 wrong-bodies:
 	tests/wrong-bodies

@@ -1,0 +1,278 @@
+"""Malicious entry files: those of every changed byte, odd ones, texts that are costly to print."""
+
+import itertools
+import os
+import shutil
+import struct
+import tempfile
+
+from limits import PROBE, ROOM
+from model.base import compile_source
+from model.caps import FLAG, FIND, NAMES_OF, NUMBER, TEXT, name
+from model.entry import read, read_file
+from model.listing import compared, listed, relative
+
+CASES = []
+DUMB = b"dumb|80-column dumb tty,\n\tam, cols#80, bel=^G, cr=\\r, cud1=\\n, ind=\\n,\n"
+HEADER_LEN = 12
+CHANGES = (0x00, 0x01, 0x7F, 0x80, 0xFF)
+# how many files one run of a program is given
+AT_ONCE = 400
+
+
+def case(name, long=False):
+    def keep(body):
+        CASES.append((name, body, long))
+        return body
+    return keep
+
+
+class Room:
+    """A folder of entries, each under its name, for one case."""
+
+    def __enter__(self):
+        self.path = tempfile.mkdtemp(prefix="ti-hostile-", dir=ROOM)
+        return self
+
+    def __exit__(self, *_):
+        shutil.rmtree(self.path)
+
+    def put(self, name, content):
+        folder = os.path.join(self.path, name[0])
+        os.makedirs(folder, exist_ok=True)
+        with open(os.path.join(folder, name), "wb") as file:
+            file.write(content)
+
+    def places(self):
+        return ["-A", self.path, "-B", self.path]
+
+
+def dumb():
+    return compile_source(DUMB)[0][b"dumb"]
+
+
+def changed_entries():
+    """The entry with each byte set to each of the changes, and each two bytes of its header."""
+    plain = dumb()
+    found = {}
+    for at, to in itertools.product(range(len(plain)), CHANGES):
+        found[f"a{at}-{to:02x}"] = with_bytes(plain, {at: to})
+    for first, second in itertools.combinations(range(HEADER_LEN), 2):
+        for one, other in itertools.product(CHANGES, CHANGES):
+            found[f"h{first}-{one:02x}-{second}-{other:02x}"] = with_bytes(plain, {first: one, second: other})
+    return found
+
+
+def with_bytes(content, changes):
+    content = bytearray(content)
+    for at, to in changes.items():
+        content[at] = to
+    return bytes(content)
+
+
+def probed(entry, refusal):
+    """The lines that ti_probe prints of an entry."""
+    if refusal is not None:
+        return [f"refused {refusal}"]
+    names, values = entry
+    lines = [f"names={names.hex()}", "first name=" + names.split(b"|")[0].hex()]
+    for kind in (FLAG, NUMBER, TEXT):
+        for at, word in enumerate(NAMES_OF[kind]):
+            value = values.get((kind, at))
+            if value is not None:
+                word = word.decode()
+                lines.append(word if kind == FLAG else f"{word}#{value}" if kind == NUMBER else f"{word}={value.hex()}")
+    return lines
+
+
+def tput_lines(entry):
+    """For each capability a line of `tput -S`, without words; and what they all write."""
+    names, values = entry
+    lines = b"".join(it + b"\n" for it in FIND) + b"longname\n"
+    out = b""
+    for cap in FIND.values():
+        value = values.get(cap)
+        if cap[0] == NUMBER:
+            out += b"%d\n" % (-1 if value is None else value)
+        elif cap[0] == TEXT and value is not None:
+            out += value
+    return lines, out + names.split(b"|")[-1]
+
+
+@case("each byte of an entry, and each two of its header, changed: what a view shows")
+def changed_bytes_shown(take):
+    entries = changed_entries()
+    with Room() as room:
+        for it, content in entries.items():
+            room.put(it, content)
+        paths = {it: os.path.join(room.path, it[0], it) for it in entries}
+        for at in range(0, len(entries), AT_ONCE):
+            some = list(entries)[at : at + AT_ONCE]
+            done = take([paths[it] for it in some], program=PROBE)
+            wanted = [line for it in some for line in (f"file {paths[it]}", *probed(*read(entries[it])))]
+            if done.status != 0 or done.out.decode().splitlines() != wanted:
+                return f"status {done.status}, of {some[0]} to {some[-1]}"
+    return None
+
+
+@case("each byte of an entry, and each two of its header, changed: listed, compared, relative to each other")
+def changed_bytes_listed(take):
+    entries = {it: read(content)[0] for it, content in changed_entries().items()}
+    contents = changed_entries()
+    good = [it for it, entry in entries.items() if entry is not None]
+    shapes = {contents[it][:HEADER_LEN]: it for it in good}
+    with Room() as room:
+        for it in contents:
+            room.put(it, contents[it])
+        for at in range(0, len(good), AT_ONCE):
+            some = good[at : at + AT_ONCE]
+            found = [entries[it] for it in some]
+            first, others = found[0], found[1:]
+            fault = take.fault(["infocmp", "-I", *room.places(), *some], b"", 0, b"".join(map(listed, found)))
+            for mode in "dcn":
+                out = b"".join(compared(first, it, mode) for it in others)
+                fault = fault or take.fault(["infocmp", "-" + mode, *room.places(), *some], b"", 0, out)
+            fault = fault or take.fault(["infocmp", "-u", *room.places(), *some], b"", 0, relative(first, others))
+            if fault is not None:
+                return fault
+    return None if len(shapes) > 20 else "too few headers are accepted"
+
+
+@case("each byte of an entry, and each two of its header, changed: every capability printed, or refused")
+def changed_bytes_printed(take):
+    with Room() as room:
+        env = {"TERMINFO": room.path}
+        seen = set()
+        for it, content in changed_entries().items():
+            entry, refusal = read(content)
+            key = refusal or repr(entry)
+            if key in seen:
+                continue
+            seen.add(key)
+            room.put(it, content)
+            if entry is None:
+                err = f'tput: bad entry "{it}" ({refusal})\n'.encode()
+                fault = take.fault(["tput", "-T", it, "cols"], b"", 3, err=err, env=env)
+            else:
+                lines, out = tput_lines(entry)
+                fault = take.fault(["tput", "-T", it, "-S"], lines, 0, out, env=env)
+            if fault is not None:
+                return f"{it}: {fault}"
+    return None
+
+
+def refused(content):
+    return read_file(content)[1]
+
+
+@case("odd files: none, of nothing, of ones, of counts, too long, of every length")
+def odd_files(take):
+    plain = dumb()
+    contents = {
+        "empty": b"", "ones": b"\xff" * 12, "counts": b"\x1a\x01" + b"\xff" * 10,
+        "long-dumb": plain + b"\0" * (65_537 - len(plain)), "long-zero": b"\0" * 65_537,
+        "longest-dumb": plain + b"\xff" * (65_536 - len(plain)), "huge": plain + b"\0" * 100_000_000,
+        "extended": b"\x1e\x02" + plain[2:], "greatest": b"\x1a\x01" + b"\xff\x7f" * 5 + b"x" * 60_000,
+        **{f"cut{at}": plain[:at] for at in range(len(plain))},
+    }
+    wanted = {"ones": "Magic", "counts": "Counts", "long-dumb": "Counts", "long-zero": "Magic", "empty": "Short"}
+    with Room() as room:
+        for it, content in contents.items():
+            refusal = refused(content)
+            if wanted.get(it, refusal) != refusal:
+                return f"the model says {refusal} of {it}"
+            room.put(it, content)
+            env = {"TERMINFO": room.path}
+            if refusal is None:
+                fault = take.fault(["infocmp", it], b"", 0, listed(read(content)[0]), env=env)
+            else:
+                err = f'infocmp: bad entry "{it}" ({refusal})\n'.encode()
+                fault = take.fault(["infocmp", it], b"", 1, err=err, env=env)
+            if fault is not None:
+                return f"{it}: {fault}"
+    return None
+
+
+def of_one_text(text, offsets):
+    """An entry whose offsets lead into one text."""
+    table = text + b"\0"
+    header = struct.pack("<6H", 0x011A, 2, 0, 0, len(offsets), len(table))
+    return header + b"x\0" + struct.pack(f"<{len(offsets)}H", *offsets) + table
+
+
+@case("414 offsets into one text of 32,000 bytes: read, printed, listed, compared")
+def one_text(take):
+    shapes = {
+        "same": of_one_text(b"A" * 32_000, [0] * 414),
+        "apart": of_one_text(b"A" * 32_000, [at * 77 for at in range(414)]),
+        "last": of_one_text(b"A" * 31_999 + b"B", [0] * 414),
+        "unended": of_one_text(b"A" * 32_000, [0] * 414)[:-1] + b"A",
+    }
+    with Room() as room:
+        env = {"TERMINFO": room.path}
+        for it, content in shapes.items():
+            room.put(it, content)
+        entries = {it: read(content)[0] for it, content in shapes.items()}
+        fault = take.fault(["tput", "-T", "same", "box1"], b"", 0, b"A" * 32_000, env=env)
+        fault = fault or take.fault(
+            ["infocmp", "unended"], b"", 1, err=b'infocmp: bad entry "unended" (BadOffset)\n', env=env)
+        for it in ("same", "apart"):
+            fault = fault or take.fault(["infocmp", it], b"", 0, listed(entries[it]), env=env)
+        fault = fault or take.fault(
+            ["infocmp", "-d", "same", "last"], b"", 0, compared(entries["same"], entries["last"], "d"), env=env)
+        return fault or take.fault(
+            ["infocmp", "-u", "same"] + ["last"] * 20, b"", 0, relative(entries["same"], [entries["last"]] * 20), env=env)
+
+
+# a text of a capability, the words that follow its name, the status, what is written
+TEXTS = (
+    (b"%?" * 16_000, ["1"], 4, b""),
+    (b"%?" * 64, ["1"], 0, b""),
+    (b"%?%p1%t" + b"%%" * 16_000, ["0"], 0, b""),
+    (b"%?%p1%t" + b"%%" * 16_000, ["1"], 0, b"%" * 16_000),
+    (b"%?%p1%t" + b"%?%p1%tA%eB%;" * 2_400 + b"%eC%;", ["1"], 0, b"A" * 2_400),
+    (b"%?%p1%tA%e" * 3_200 + b"B", ["0"], 4, b""),
+    (b"%?" + b"%p1%tA%e" * 3_200 + b"B%;", ["0"], 0, b"B"),
+    (b"%p1" * 20, ["1"], 0, b""),
+    (b"%p1" * 21, ["1"], 4, b""),
+    (b"%p1%" + b"0" * 32_000 + b"d", ["7"], 0, b"7"),
+    (b"%p1%999.999d" * 2_000, ["7"], 0, (b"0" * 998 + b"7") * 2_000),
+    (b"%{" + b"9" * 32_000 + b"}%d", ["7"], 4, b""),
+    (b"%{" + b"0" * 32_000 + b"}%d", ["7"], 0, b"0"),
+    (b"$<" * 16_000, [], 0, b"$<" * 16_000),
+    (b"$<1" * 10_000, [], 0, b"$<1" * 10_000),
+    (b"$<99999*/>" * 3_000, [], 0, b""),
+    (b"%" * 32_000, ["1"], 0, b"%" * 16_000),
+    (b"%i" * 16_000 + b"%p1%d", ["2147483647"], 0, b"-2147467649"),
+)
+
+
+@case("texts of 32,000 bytes with hostile parameters and paddings")
+def hostile_texts(take):
+    with Room() as room:
+        env = {"TERMINFO": room.path}
+        for at, (text, words, status, out) in enumerate(TEXTS):
+            it = f"t{at}"
+            room.put(it, of_one_text(text, [0]))
+            err = b'tput: bad string "cbt"\n' if status == 4 else b""
+            fault = take.fault(["tput", "-T", it, "cbt", *words], b"", status, out, err, env=env)
+            if fault is not None:
+                return f"{text[:20]!r}..: {fault}"
+            # padded at the highest rate too, where all else is alike but what is too much
+            if text.startswith(b"$<99999"):
+                fault = take.fault(["tput", "-T", it, "--rate", "4294967295", "cbt"], b"", 4,
+                                   err=b'tput: bad string "cbt"\n', env=env)
+                if fault is not None:
+                    return fault
+    return None
+
+
+@case("300,000 lines of tput: of capabilities, of nothing, of words that are too many, of nothing known")
+def many_lines(take):
+    with Room() as room:
+        room.put("dumb", dumb())
+        env, count = {"TERMINFO": room.path}, 300_000
+        fault = take.fault(["tput", "-T", "dumb", "-S"], b"cols\n" * count, 0, b"80\n" * count, env=env)
+        fault = fault or take.fault(["tput", "-T", "dumb", "-S"], b" \t\n" * count, 0, env=env)
+        fault = fault or take.fault(["tput", "-T", "dumb", "-S"], b"zz\n" * count, 255, env=env)
+        return fault or take.fault(["tput", "-T", "dumb", "-S"], b"bel 1 2 3 4 5 6 7 8 9 0\n" * count, 255, env=env)
