@@ -1,10 +1,10 @@
 // The values of a block: laying items into a table, the leftmost mention of a capability first.
 ghost use Rattle.std.specs.Prelude.{ℕ, ◌≡◌, ◌+◌, ◌<◌, ◌^◌, if◌then◌else◌, length, false, List, Some, None, slice_get, option_map, IfOk, OnOk};
 ghost use Rattle.std.specs.Option.{option_or};
-ghost use Rattle.ti_caps.specs.Tables.{Capability};
+ghost use Rattle.ti_caps.specs.Tables.{Capability, same_capability};
 ghost use Rattle.ti_source.specs.Reading.{item_of, reading_of, said_of};
 ghost use Rattle.ti_layout.specs.Values.{contents, content_of, Agrees};
-ghost use Rattle.ti_meaning.specs.Expansion.{Mention, is_broken, same_capability};
+ghost use Rattle.ti_meaning.specs.Expansion.{Mention, is_broken};
 ghost use Rattle.ti_meaning.specs.Compiled.{state_of, state_with};
 ghost use Rattle.ti_meaning.specs.Dependents.{work_of};
 ghost use Rattle.ti_meaning.specs.Usable.{IsUsable, SetsWell};
