@@ -5,13 +5,14 @@ use Rattle.std.proofs.lemmas.List.{append-nil}
 use Rattle.std.proofs.lemmas.Grind.{flat_map-append}
 use Rattle.std.proofs.lemmas.List.FromFn.{map-range_with_len_more, get_or-map-range_with_len, length-map-range_with_len}
 use Rattle.std.proofs.lemmas.List.Sums.{sum_by-append}
-use Rattle.ti_meaning.specs.Report.{lines_in, lines_before, fault_line, reported}
+use Rattle.ti_text.specs.Texts.{line_count}
+use Rattle.ti_meaning.specs.Report.{lines_before, fault_line, reported}
 use Rattle.ti_meaning.specs.Faults.{SourceFault}
 use Rattle.ti_base.proofs.Lists.{take_get}
 
 -- a text more
-pub lines_more : (texts : List (List ℕ)) (i : ℕ) (t : List ℕ) → slice_get texts i ≡ Some t → lines_before texts (i + 1) ≡ lines_before texts i + lines_in t
-lines_more texts i t e = rw (take_get texts i t e, sum_by-append lines_in (take i texts) (t ∷ [])) (omega arith)
+pub lines_more : (texts : List (List ℕ)) (i : ℕ) (t : List ℕ) → slice_get texts i ≡ Some t → lines_before texts (i + 1) ≡ lines_before texts i + line_count t
+lines_more texts i t e = rw (take_get texts i t e, sum_by-append line_count (take i texts) (t ∷ [])) (omega arith)
 
 pub starts_more : (texts : List (List ℕ)) (i lines : ℕ) (starts : List ℕ) → starts ≡ map (lines_before texts) (range_with_len 0 i) → lines ≡ lines_before texts i → starts ++ lines ∷ [] ≡ map (lines_before texts) (range_with_len 0 (i + 1))
 starts_more texts i lines starts e f = rw (map-range_with_len_more (lines_before texts) 0 i i (omega arith), e, f) refl

@@ -2,8 +2,9 @@
 ghost use Rattle.std.specs.Prelude.{◌≡◌, ◌≤◌, ◌++◌, length, map, option_map, All, IfOk, OnOk};
 ghost use Rattle.std.specs.List.{flat_map, range_with_len};
 ghost use Rattle.std.specs.Rc.{rc_slice_items};
+ghost use Rattle.ti_text.specs.Texts.{line_count};
 ghost use Rattle.ti_source.specs.Codes.{code_text};
-ghost use Rattle.ti_meaning.specs.Report.{shown_byte, shown_detail, detail_text, fault_line, lines_before, lines_in, reported};
+ghost use Rattle.ti_meaning.specs.Report.{shown_byte, shown_detail, detail_text, fault_line, lines_before, reported};
 ghost use Rattle.ti_meaning.specs.Faults.{fault_seen};
 ghost use Rattle.ti_meaning.specs.Bounds.{IsPlaced};
 ghost use Rattle.ti_slots.specs.Slots.{texts_of};
@@ -76,7 +77,7 @@ pub fn write_fault(
 
 /// How many lines a text has, each of which ends with a newline.
 fn count_lines(text: &[u8]) -> usize
-    ensures lines { result ≡ lines_in text.now }
+    ensures lines { result ≡ line_count text.now }
     ensures within { result ≤ length text.now }
 {
     text.iter().filter(|byte| **byte == b'\n').count()

@@ -13,9 +13,10 @@ use Rattle.ti_caps.specs.declared.capability.Kind.{Kind}
 use Rattle.ti_caps.specs.declared.capability.Kind.TheVariants.{Flag, Number, Text}
 use Rattle.ti_caps.specs.declared.name_order.TheConstants.{FLAGS_BY_NAME, NUMBERS_BY_NAME, TEXTS_BY_NAME}
 use Rattle.ti_caps.specs.Names.{flag_names, number_names, text_names}
-use Rattle.ti_caps.specs.Tables.{Capability, IsCapability, capability, count_of, name_of, names}
+use Rattle.ti_caps.specs.Tables.{same_kind, Capability, IsCapability, capability, count_of, name_of, names}
 use Rattle.ti_caps.specs.ByName.{Row, by_name}
-use Rattle.ti_caps.specs.NameOrder.{same_kind, of_kind, in_name_order, EachKindIsInOrder}
+use Rattle.ti_caps.specs.NameOrder.{of_kind, in_name_order, EachKindIsInOrder}
+use Rattle.ti_caps.proofs.Same.{same_kind-true, same_kind-itself}
 use Rattle.ti_caps.proofs.Order.{rising_from, adjacent_from_rising}
 use Rattle.ti_caps.proofs.Table.{row_of_capability, Contains-cons}
 
@@ -58,24 +59,8 @@ all_of Flag = refl
 all_of Number = refl
 all_of Text = refl
 
-one_kind : (k l : Kind) → same_kind k l ≡ true → k ≡ l
-one_kind Flag Flag h = refl
-one_kind Number Number h = refl
-one_kind Text Text h = refl
-one_kind Flag Number h = cc
-one_kind Flag Text h = cc
-one_kind Number Flag h = cc
-one_kind Number Text h = cc
-one_kind Text Flag h = cc
-one_kind Text Number h = cc
-
-same_itself : (k : Kind) → same_kind k k ≡ true
-same_itself Flag = refl
-same_itself Number = refl
-same_itself Text = refl
-
 is_of-true : (k : Kind) (c : Capability) → is_of k c ≡ true → (c.kind ≡ k) × IsCapability c
-is_of-true k c h = let parts = and_parts _ _ h in (one_kind c.kind k parts.0, ltb-true _ _ parts.1)
+is_of-true k c h = let parts = and_parts _ _ h in (same_kind-true c.kind k parts.0, ltb-true _ _ parts.1)
 
 -- each capability of the kind stands in it
 kept_by : (k : Kind) (q : Row) (rest : List Row) (r : Row) (b : Bool) → same_kind q.1 k ≡ b → same_kind r.1 k ≡ true → Contains (q ∷ rest) r → (Contains rest r → Contains (of_kind k rest) (capability r.1 r.2)) → Contains (of_kind k (q ∷ rest)) (capability r.1 r.2)
@@ -92,7 +77,7 @@ pub each_in_order : EachKindIsInOrder
 each_in_order k = record {
   rises = sorted_from_rises _ (names_rise k);
   valid = let every = AllPass-from_list_all (is_of k) (in_name_order k) (all_of k) in λ i d l. is_of-true k _ (every i d l);
-  all = λ i l. contains_kept k by_name (name_of (capability k i), k, i) (same_itself k) (row_of_capability (capability k i) l);
+  all = λ i l. contains_kept k by_name (name_of (capability k i), k, i) (same_kind-itself k) (row_of_capability (capability k i) l);
 }
 
 -- what stands at a place of the code's table stands at that place of the order

@@ -1,4 +1,5 @@
 pub mod Order
+pub mod Same
 pub mod Table
 pub mod Named
 pub mod KeyTable

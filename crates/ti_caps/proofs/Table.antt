@@ -10,6 +10,7 @@ use Rattle.ti_caps.specs.declared.capability.Kind.TheVariants.{Flag, Number, Tex
 use Rattle.ti_caps.specs.Tables.{same_kind, Capability, IsCapability, capability, count_of, name_of, names, NamesAreDistinct}
 use Rattle.ti_caps.specs.Names.{flag_names, number_names, text_names}
 use Rattle.ti_caps.specs.ByName.{Row, by_name, IsInNameOrder, IsRowOf, HasNoRow}
+use Rattle.ti_caps.proofs.Same.{same_kind-true}
 use Rattle.ti_caps.proofs.Order.{order_from_rising, names_apart}
 
 -- each list is as long as its count
@@ -48,17 +49,6 @@ all_covered Number = refl
 all_covered Text = refl
 
 -- the row of a capability, where the table holds one
-same_kind-is : (k l : Kind) → same_kind k l ≡ true → k ≡ l
-same_kind-is Flag Flag h = refl
-same_kind-is Number Number h = refl
-same_kind-is Text Text h = refl
-same_kind-is Flag Number h = cc
-same_kind-is Flag Text h = cc
-same_kind-is Number Flag h = cc
-same_kind-is Number Text h = cc
-same_kind-is Text Flag h = cc
-same_kind-is Text Number h = cc
-
 -- what each row says
 pub row_names : (r : Row) → Contains by_name r → (r.2 < count_of r.1) × (name_of (capability r.1 r.2) ≡ r.0)
 row_names r among =
@@ -73,7 +63,7 @@ row_cases k i r rs true e rest h =
     let parts = and_parts _ _ e in
     let with_kind : Kind → Row = λ m. (r.0, m, r.2) in
     let with_index : ℕ → Row = λ m. (r.0, k, m) in
-    (r.0, (0, omega arith, ap with_kind (same_kind-is r.1 k parts.0) ∙ ap with_index (eqb-true r.2 i parts.1)))
+    (r.0, (0, omega arith, ap with_kind (same_kind-true r.1 k parts.0) ∙ ap with_index (eqb-true r.2 i parts.1)))
 row_cases k i r rs false e rest h = let there = rest h in (there.0, Contains-cons r rs _ there.1)
 
 row_from_test : (k : Kind) (i : ℕ) (rs : List Row) → has_row k i rs ≡ true → (n : List ℕ) × Contains rs (n, k, i)

@@ -4,8 +4,7 @@ use Rattle.std.specs.Ordering.{nat_cmp}
 use Rattle.std.specs.Cmp.Lexicographic.{slice_cmp}
 use Rattle.std.specs.List.Sorted.{IsStrictlySortedBy}
 use Rattle.ti_caps.specs.declared.capability.Kind.{Kind}
-pub use Rattle.ti_caps.specs.Tables.{same_kind}
-use Rattle.ti_caps.specs.Tables.{Capability, IsCapability, capability, count_of, name_of}
+use Rattle.ti_caps.specs.Tables.{same_kind, Capability, IsCapability, capability, count_of, name_of}
 use Rattle.ti_caps.specs.ByName.{Row, by_name}
 
 -- the capabilities of a kind that have a row, in the order of the rows

@@ -5,15 +5,15 @@ use Rattle.std.proofs.Common.{Result, Ok, Err}
 use Rattle.ti_layout.specs.declared.writing.WriteError.{WriteError}
 use Rattle.std.proofs.lemmas.List.{get_or_past}
 use Rattle.std.proofs.lemmas.Option.{slice_get_past}
-use Rattle.ti_caps.specs.Tables.{Capability, IsCapability, capability, count_of}
+use Rattle.ti_caps.specs.Tables.{Capability, IsCapability, capability, count_of, same_capability}
+use Rattle.ti_caps.proofs.Same.{same_capability-true}
 use Rattle.ti_caps.specs.declared.capability.Kind.{Kind}
 use Rattle.ti_caps.specs.declared.capability.Kind.TheVariants.{Flag, Number, Text}
 use Rattle.ti_layout.specs.declared.layout.Format.{Format}
 use Rattle.ti_layout.specs.Image.{image, limit_of}
 use Rattle.ti_layout.specs.Laws.{uncancelled}
 use Rattle.ti_layout.specs.Reading.{Reads, says, flag_of, number_of, text_of}
-use Rattle.ti_layout.specs.Values.{Content, content_true, content_number, content_text, content_cancelled, Contents, AgreesIfSome, HasNoNul, is_same}
-use Rattle.ti_layout.proofs.Held.{one_from_same}
+use Rattle.ti_layout.specs.Values.{Content, content_true, content_number, content_text, content_cancelled, Contents, AgreesIfSome, HasNoNul}
 use Rattle.ti_layout.proofs.OneReading.{read_names, read_contents}
 use Rattle.ti_layout.proofs.ImageReading.{images_are_read}
 use Rattle.ti_layout.proofs.OfValues.{images_are_of_values, limits_are_of_values}
@@ -85,8 +85,8 @@ some_bytes [] none = absurd (none refl)
 some_bytes (x ∷ xs) none = omega arith
 
 pub given_agrees : (d : Contents) (k : Capability) (v : Option Content) → AgreesIfSome k v → (x : Capability) → AgreesIfSome x (d x) → AgreesIfSome x (given d k v x)
-given_agrees d k v agrees x old = elim (is_same k x) as (λ b. is_same k x ≡ b → AgreesIfSome x (cond b v (d x))) [
-  | true ↦ λ e. subst (λ y. AgreesIfSome y v) (one_from_same k x e) agrees
+given_agrees d k v agrees x old = elim (same_capability k x) as (λ b. same_capability k x ≡ b → AgreesIfSome x (cond b v (d x))) [
+  | true ↦ λ e. subst (λ y. AgreesIfSome y v) (same_capability-true k x e) agrees
   | false ↦ λ e. old
 ] refl
 
@@ -105,7 +105,7 @@ kept_after (Ok x) b new is k v agrees made within same = (given_again b new is k
 kept_after (Err x) b new is k v agrees made within same = subst IsImage (sym same) is
 
 given_present : (d : Contents) (k : Capability) (v : Option Content) → uncancelled v ≡ v → (x : Capability) → uncancelled (d x) ≡ d x → uncancelled (given d k v x) ≡ given d k v x
-given_present d k v present x old = elim (is_same k x) as (λ b. uncancelled (cond b v (d x)) ≡ cond b v (d x)) [ true ↦ present | false ↦ old ]
+given_present d k v present x old = elim (same_capability k x) as (λ b. uncancelled (cond b v (d x)) ≡ cond b v (d x)) [ true ↦ present | false ↦ old ]
 
 given_names : (r : Result (Unit {0}) WriteError) (b new : List ℕ) → IsImage b → (k : Capability) (v : Option Content) → AgreesIfSome k v → OnOk r (new ≡ image (names_in b) (given (contents_in b) k v))
     → OnOk r (length (image (names_in b) (given (contents_in b) k v)) ≤ limit_of (given (contents_in b) k v)) → OnOk r (names_in new ≡ names_in b)

@@ -2,12 +2,13 @@
 use Rattle.std.proofs.Common.{◌≡◌, ◌≢◌, ℕ, zero, suc, ◌+◌, ◌<◌, ◌≤◌, true, false, cond, List, length, get_or, Option, Some, None, refl, sym, ap, ◌∙◌, subst, arith, inl, inr}
 use Rattle.std.proofs.lemmas.Bool.{cases_lt}
 use Rattle.std.proofs.lemmas.List.{length-map}
-use Rattle.ti_caps.specs.Tables.{Capability, IsCapability}
+use Rattle.ti_caps.specs.Tables.{Capability, IsCapability, same_capability}
+use Rattle.ti_caps.proofs.Same.{same_capability-true}
 use Rattle.ti_layout.specs.Laws.{uncancelled}
 use Rattle.ti_layout.specs.Merging.{IsPastBoth}
 use Rattle.ti_layout.specs.declared.values.Value.{Value}
-use Rattle.ti_layout.specs.Values.{Content, Contents, Entry, Agrees, IsKept, contents, content_of, entries_of, is_same, rank_at, rank_of}
-use Rattle.ti_layout.proofs.Held.{contents_nowhere, one_from_rank, one_from_same}
+use Rattle.ti_layout.specs.Values.{Content, Contents, Entry, Agrees, IsKept, contents, content_of, entries_of, rank_at, rank_of}
+use Rattle.ti_layout.proofs.Held.{contents_nowhere, one_from_rank}
 use Rattle.ti_layout.proofs.Places.{nowhere, rank_read}
 use Rattle.ti_layout.proofs.Walked.{contents_read, item_read}
 use Rattle.ti_compiled.specs.Held.{given}
@@ -85,8 +86,8 @@ patches_all old new held i j kept_o kept_n m past c valid =
 
 -- what a capability has, given once more
 pub given_same : (d : Contents) (k : Capability) (v : Option Content) → d k ≡ v → (c : Capability) → d c ≡ given d k v c
-given_same d k v e c = elim (is_same k c) as (λ b. is_same k c ≡ b → d c ≡ cond b v (d c)) [
-  | true ↦ λ same. ap d (sym (one_from_same k c same)) ∙ e
+given_same d k v e c = elim (same_capability k c) as (λ b. same_capability k c ≡ b → d c ≡ cond b v (d c)) [
+  | true ↦ λ same. ap d (sym (same_capability-true k c same)) ∙ e
   | false ↦ λ other. refl
 ] refl
 

@@ -1,12 +1,12 @@
 -- What an image holds (own): the names and the contents that its bytes are read as.
 use Rattle.std.specs.Prelude.{◌≡◌, ℕ, ◌-◌, ◌<◌, ◌≤◌, if◌then◌else◌, List, length, take, Option, None}
-use Rattle.ti_caps.specs.Tables.{Capability, IsCapability, capability, count_of}
+use Rattle.ti_caps.specs.Tables.{Capability, IsCapability, capability, count_of, same_capability}
 use Rattle.ti_caps.specs.declared.capability.Kind.{Kind}
 use Rattle.ti_layout.specs.declared.layout.Format.TheVariants.{Legacy}
 use Rattle.ti_layout.specs.Image.{image, limit_of}
 use Rattle.ti_layout.specs.Laws.{uncancelled}
 use Rattle.ti_layout.specs.Reading.{contents_of, format_in, numbers_in, names_section, flags_section, numbers_section, offsets_section, strings_section}
-use Rattle.ti_layout.specs.Values.{Content, Contents, AgreesIfSome, HasNoNul, is_same}
+use Rattle.ti_layout.specs.Values.{Content, Contents, AgreesIfSome, HasNoNul}
 
 -- the names field of an entry: its section without the NUL
 abbrev pub names_in : List ℕ → List ℕ
@@ -35,4 +35,4 @@ pub record IsImage (bytes : List ℕ) : Type 0 where
 
 -- the contents with another content of one capability
 abbrev pub given : Contents → Capability → Option Content → Contents
-given contents c content d = if is_same c d then content else contents d
+given contents c content d = if same_capability c d then content else contents d

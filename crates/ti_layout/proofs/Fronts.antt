@@ -5,11 +5,12 @@ use Rattle.std.specs.Option.{option_or}
 use Rattle.std.proofs.lemmas.Bool.{cases_lt, cases_Bool}
 use Rattle.std.proofs.lemmas.List.{length-append, length-map, get_or_append_left, get_or_at, get_or_default, take_all, take_more, drop_all}
 use Rattle.std.proofs.lemmas.Option.{none-some}
-use Rattle.ti_caps.specs.Tables.{Capability, IsCapability}
+use Rattle.ti_caps.specs.Tables.{Capability, IsCapability, same_capability}
+use Rattle.ti_caps.proofs.Same.{same_capability-true}
 use Rattle.ti_layout.specs.declared.values.Value.{Value}
-use Rattle.ti_layout.specs.Values.{Content, Entry, Agrees, IsGapFor, IsKept, contents, content_of, entries_of, is_same, rank_at, rank_of}
+use Rattle.ti_layout.specs.Values.{Content, Entry, Agrees, IsGapFor, IsKept, contents, content_of, entries_of, rank_at, rank_of}
 use Rattle.ti_layout.specs.Merging.{IsPastBoth}
-use Rattle.ti_layout.proofs.Held.{contents_nowhere, one_from_rank, one_from_same}
+use Rattle.ti_layout.proofs.Held.{contents_nowhere, one_from_rank}
 use Rattle.ti_layout.proofs.Places.{nowhere, kept-insert, rank_read}
 use Rattle.ti_layout.proofs.Walked.{item_read}
 
@@ -30,13 +31,13 @@ or_if false x o p = refl
 contents-append : (xs ys : List Entry) (c : Capability) → contents (xs ++ ys) c ≡ option_or (contents xs c) (contents ys c)
 unfolding contents
 contents-append [] ys c = refl
-contents-append (x ∷ xs) ys c = rw (contents-append xs ys c) (sym (or_if (is_same x.0 c) x.1 (contents xs c) (contents ys c)))
+contents-append (x ∷ xs) ys c = rw (contents-append xs ys c) (sym (or_if (same_capability x.0 c) x.1 (contents xs c) (contents ys c)))
 
 contents-none : (c : Capability) → contents [] c ≡ None
 unfolding contents
 contents-none c = refl
 
-contents-one : (x : Entry) (c : Capability) → contents (x ∷ []) c ≡ cond (is_same x.0 c) (Some x.1) None
+contents-one : (x : Entry) (c : Capability) → contents (x ∷ []) c ≡ cond (same_capability x.0 c) (Some x.1) None
 unfolding contents
 contents-one x c = refl
 
@@ -46,16 +47,16 @@ contents-front xs i x c within here =
 
 -- one entry says something of its own capability alone
 one-said : (x : Entry) (c : Capability) (v : Content) → contents (x ∷ []) c ≡ Some v → x.0 ≡ c
-one-said x c v e = elim (cases_Bool (is_same x.0 c)) [
-  | inl same ↦ one_from_same x.0 c same
+one-said x c v e = elim (cases_Bool (same_capability x.0 c)) [
+  | inl same ↦ same_capability-true x.0 c same
   | inr other ↦ absurd (none-some v (sym (contents-one x c ∙ ap (λ b. cond b (Some x.1) None) other) ∙ e))
 ]
 
 -- entries of one capability say something of the same capabilities
 both-none : (x y : Entry) (c : Capability) → x.0 ≡ y.0 → contents (x ∷ []) c ≡ None → contents (y ∷ []) c ≡ None
-both-none x y c same none = elim (cases_Bool (is_same x.0 c)) [
+both-none x y c same none = elim (cases_Bool (same_capability x.0 c)) [
   | inl t ↦ absurd (none-some x.1 (sym none ∙ contents-one x c ∙ ap (λ b. cond b (Some x.1) None) t))
-  | inr f ↦ contents-one y c ∙ ap (λ b. cond b (Some y.1) None) (ap (λ d. is_same d c) (sym same) ∙ f)
+  | inr f ↦ contents-one y c ∙ ap (λ b. cond b (Some y.1) None) (ap (λ d. same_capability d c) (sym same) ∙ f)
 ]
 
 -- ---- one more entry behind the others

@@ -2,37 +2,22 @@
 use Rattle.std.proofs.Common.{◌≡◌, ◌≢◌, ℕ, zero, suc, ◌+◌, ◌<◌, Bool, true, false, cond, if◌then◌else◌, All, subst, List, [], ◌∷◌, length, get_or, set, Option, Some, None, refl, sym, ◌∙◌, ap, arith, eqb-true, eq-eqb}
 use Rattle.std.specs.List.{insert, remove}
 use Rattle.std.proofs.lemmas.Bool.{and_parts, and_from}
-use Rattle.ti_caps.specs.Tables.{Capability, IsCapability, capability, count_of}
+use Rattle.ti_caps.specs.Tables.{Capability, IsCapability, capability, count_of, same_capability}
+use Rattle.ti_caps.proofs.Same.{same_capability-true, same_capability-itself}
 use Rattle.ti_caps.specs.declared.capability.Kind.{Kind}
 use Rattle.ti_caps.specs.declared.capability.Kind.TheVariants.{Flag, Number, Text}
-use Rattle.ti_layout.specs.Values.{Content, Entry, Agrees, AgreesIfSome, contents, is_same, kind_place, rank_in, rank_of}
+use Rattle.ti_layout.specs.Values.{Content, Entry, Agrees, AgreesIfSome, contents, rank_in, rank_of}
 
 -- ---- whether two capabilities are one
 
-one_kind : (k l : Kind) → kind_place k ≡ kind_place l → k ≡ l
-one_kind Flag Flag e = refl
-one_kind Number Number e = refl
-one_kind Text Text e = refl
-one_kind Flag Number e = absurd (omega arith)
-one_kind Flag Text e = absurd (omega arith)
-one_kind Number Flag e = absurd (omega arith)
-one_kind Number Text e = absurd (omega arith)
-one_kind Text Flag e = absurd (omega arith)
-one_kind Text Number e = absurd (omega arith)
+pub same_from_one : (c d : Capability) → c ≡ d → same_capability c d ≡ true
+same_from_one c d e = ap (same_capability c) (sym e) ∙ same_capability-itself c
 
-pub one_from_same : (c d : Capability) → is_same c d ≡ true → c ≡ d
-one_from_same c d e =
-    let parts = and_parts _ _ e in
-    ap (λ k. capability k c.index) (one_kind c.kind d.kind (eqb-true _ _ parts.0)) ∙ ap (capability d.kind) (eqb-true _ _ parts.1)
-
-pub same_from_one : (c d : Capability) → c ≡ d → is_same c d ≡ true
-same_from_one c d e = and_from _ _ (eq-eqb _ _ (ap (λ x. kind_place x.kind) e)) (eq-eqb _ _ (ap (λ x. x.index) e))
-
-pub other_from_test : (c d : Capability) → is_same c d ≡ false → c ≢ d
+pub other_from_test : (c d : Capability) → same_capability c d ≡ false → c ≢ d
 other_from_test c d e same = let t = same_from_one c d same in cc
 
-pub test_from_other : (c d : Capability) → c ≢ d → is_same c d ≡ false
-test_from_other c d other = elim (is_same c d) as (λ b. is_same c d ≡ b → b ≡ false) [ true ↦ λ e. absurd (other (one_from_same c d e)) | false ↦ λ e. refl ] refl
+pub test_from_other : (c d : Capability) → c ≢ d → same_capability c d ≡ false
+test_from_other c d other = elim (same_capability c d) as (λ b. same_capability c d ≡ b → b ≡ false) [ true ↦ λ e. absurd (other (same_capability-true c d e)) | false ↦ λ e. refl ] refl
 
 -- capabilities of one place among all are one
 one_in_rank : (k l : Kind) (i j : ℕ) → i < count_of k → j < count_of l → rank_in k + i ≡ rank_in l + j → capability k i ≡ capability l j
@@ -81,7 +66,7 @@ contents_here (x ∷ es) c (suc i) d within here other = rw (test_from_other x.0
 
 -- the new entries say this of the capability, and of every other what the old ones say
 abbrev pub Says : List Entry → List Entry → Capability → Option Content → Type 0
-Says old new c o = (d : Capability) → contents new d ≡ (if is_same c d then o else contents old d)
+Says old new c o = (d : Capability) → contents new d ≡ (if same_capability c d then o else contents old d)
 
 -- of two tests that do not both pass, either may come first
 exchanged : {X : Type 0} (a b : Bool) (p q r : X) → (a ≡ true → b ≡ true → ⊥) → (if b then q else (if a then p else r)) ≡ (if a then p else (if b then q else r))
@@ -90,8 +75,8 @@ exchanged true false p q r apart = refl
 exchanged false true p q r apart = refl
 exchanged false false p q r apart = refl
 
-apart_from : (x c d : Capability) → x ≢ c → is_same c d ≡ true → is_same x d ≡ true → ⊥
-apart_from x c d other e f = other (one_from_same x d f ∙ sym (one_from_same c d e))
+apart_from : (x c d : Capability) → x ≢ c → same_capability c d ≡ true → same_capability x d ≡ true → ⊥
+apart_from x c d other e f = other (same_capability-true x d f ∙ sym (same_capability-true c d e))
 
 twice : {X : Type 0} (a : Bool) (p q r : X) → (if a then p else (if a then q else r)) ≡ (if a then p else r)
 twice true p q r = refl
@@ -100,10 +85,10 @@ twice false p q r = refl
 pub says-set : (es : List Entry) (c : Capability) (v : Content) (i : ℕ) (e : Entry) → i < length es → (get_or es i e).0 ≡ c → Elsewhere es c i → Says es (set es i (c, v)) c (Some v)
 unfolding contents
 says-set [] c v i e within here other d = absurd (omega arith)
-says-set (x ∷ es) c v zero e within here other d = rw here (sym (twice (is_same c d) (Some v) (Some x.1) (contents es d)))
+says-set (x ∷ es) c v zero e within here other d = rw here (sym (twice (same_capability c d) (Some v) (Some x.1) (contents es d)))
 says-set (x ∷ es) c v (suc i) e within here other d =
     rw (says-set es c v i e (omega arith) here (later x es c i other) d)
-    (exchanged (is_same c d) (is_same x.0 d) (Some v) (Some x.1) (contents es d) (apart_from x.0 c d (other 0 x (λ s. omega arith) (omega arith))))
+    (exchanged (same_capability c d) (same_capability x.0 d) (Some v) (Some x.1) (contents es d) (apart_from x.0 c d (other 0 x (λ s. omega arith) (omega arith))))
 
 pub says-insert : (es : List Entry) (c : Capability) (v : Content) (i : ℕ) → Nowhere es c → Says es (insert es i (c, v)) c (Some v)
 unfolding contents
@@ -111,28 +96,28 @@ says-insert es c v zero other d = refl
 says-insert [] c v (suc i) other d = refl
 says-insert (x ∷ es) c v (suc i) other d =
     rw (says-insert es c v i (nowhere_later x es c other) d)
-    (exchanged (is_same c d) (is_same x.0 d) (Some v) (Some x.1) (contents es d) (apart_from x.0 c d (other 0 x (omega arith))))
+    (exchanged (same_capability c d) (same_capability x.0 d) (Some v) (Some x.1) (contents es d) (apart_from x.0 c d (other 0 x (omega arith))))
 
-first_gone : (es : List Entry) (c d : Capability) (b : Bool) → is_same c d ≡ b → Nowhere es c → contents es d ≡ (if b then None else contents es d)
-first_gone es c d true e other = ap (contents es) (sym (one_from_same c d e)) ∙ contents_nowhere es c other
+first_gone : (es : List Entry) (c d : Capability) (b : Bool) → same_capability c d ≡ b → Nowhere es c → contents es d ≡ (if b then None else contents es d)
+first_gone es c d true e other = ap (contents es) (sym (same_capability-true c d e)) ∙ contents_nowhere es c other
 first_gone es c d false e other = refl
 
 pub says-remove : (es : List Entry) (c : Capability) (i : ℕ) (e : Entry) → i < length es → (get_or es i e).0 ≡ c → Elsewhere es c i → Says es (remove es i) c None
 unfolding contents
 says-remove [] c i e within here other d = absurd (omega arith)
 says-remove (x ∷ es) c zero e within here other d =
-    rw here (first_gone es c d (is_same c d) refl (none_later x es c other) ∙ sym (twice (is_same c d) None (Some x.1) (contents es d)))
+    rw here (first_gone es c d (same_capability c d) refl (none_later x es c other) ∙ sym (twice (same_capability c d) None (Some x.1) (contents es d)))
 says-remove (x ∷ es) c (suc i) e within here other d =
     rw (says-remove es c i e (omega arith) here (later x es c i other) d)
-    (exchanged (is_same c d) (is_same x.0 d) None (Some x.1) (contents es d) (apart_from x.0 c d (other 0 x (λ s. omega arith) (omega arith))))
+    (exchanged (same_capability c d) (same_capability x.0 d) None (Some x.1) (contents es d) (apart_from x.0 c d (other 0 x (λ s. omega arith) (omega arith))))
 
 -- ---- what is held may be had
 
 module _ (c : Capability) where
-  agree_one : (x : Entry) (o : Option Content) → Agrees x.0 x.1 → AgreesIfSome c o → AgreesIfSome c (if is_same x.0 c then Some x.1 else o)
+  agree_one : (x : Entry) (o : Option Content) → Agrees x.0 x.1 → AgreesIfSome c o → AgreesIfSome c (if same_capability x.0 c then Some x.1 else o)
   agree_one x o agrees rest =
-      elim (is_same x.0 c) as (λ b. is_same x.0 c ≡ b → AgreesIfSome c (cond b (Some x.1) o)) [
-        | true ↦ λ e. subst (λ d. Agrees d x.1) (one_from_same x.0 c e) agrees
+      elim (same_capability x.0 c) as (λ b. same_capability x.0 c ≡ b → AgreesIfSome c (cond b (Some x.1) o)) [
+        | true ↦ λ e. subst (λ d. Agrees d x.1) (same_capability-true x.0 c e) agrees
         | false ↦ λ e. rest
       ] refl
 

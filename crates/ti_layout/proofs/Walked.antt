@@ -3,16 +3,17 @@ use Rattle.std.proofs.Common.{◌≡◌, ℕ, zero, suc, ◌+◌, ◌-◌, ◌*�
 use Rattle.std.proofs.lemmas.Bool.{cases_lt, cases_Bool}
 use Rattle.std.proofs.lemmas.List.{get_or_default, get_or-map, length-append}
 use Rattle.std.proofs.lemmas.Option.{same_Some, none-some}
-use Rattle.ti_caps.specs.Tables.{Capability, IsCapability, capability, count_of}
+use Rattle.ti_caps.specs.Tables.{Capability, IsCapability, capability, count_of, same_capability}
+use Rattle.ti_caps.proofs.Same.{same_capability-true}
 use Rattle.ti_caps.specs.declared.capability.Kind.{Kind}
 use Rattle.ti_caps.specs.declared.capability.Kind.TheVariants.{Flag, Number, Text}
 use Rattle.ti_layout.specs.declared.layout.Format.{Format}
 use Rattle.ti_layout.specs.declared.layout.Format.TheVariants.{Legacy}
 use Rattle.ti_layout.specs.declared.values.Value.{Value}
-use Rattle.ti_layout.specs.Values.{Content, content_true, content_number, content_text, content_cancelled, Entry, Agrees, IsAt, IsKept, contents, content_of, entries_of, is_same, rank_in}
+use Rattle.ti_layout.specs.Values.{Content, content_true, content_number, content_text, content_cancelled, Entry, Agrees, IsAt, IsKept, contents, content_of, entries_of, rank_in}
 use Rattle.ti_layout.specs.Layout.{absent, number_bytes, spelled, width}
 use Rattle.ti_layout.specs.Image.{is_there, of_kind, written_count, flag_value, number_value, offset_value, text_piece, flags_below, numbers_below, offsets_below, texts_below, below}
-use Rattle.ti_layout.proofs.Held.{contents_here, one_from_same}
+use Rattle.ti_layout.proofs.Held.{contents_here}
 use Rattle.ti_layout.proofs.Places.{elsewhere, rank_read}
 use Rattle.ti_layout.proofs.Below.{below-more, below-filled, last_passing-is, last_passing-over}
 use Rattle.ti_layout.proofs.Spelled.{spelled-append, spelled-one, spelled-absent}
@@ -79,8 +80,8 @@ pub stands : (es : List Entry) (c : Capability) (v : Content) → contents es c 
 unfolding contents
 stands [] c v e = absurd (none-some v e)
 stands (x ∷ es) c v e =
-    elim (is_same x.0 c) as (λ b. is_same x.0 c ≡ b → cond b (Some x.1) (contents es c) ≡ Some v → Stands (x ∷ es) c v) [
-      | true ↦ λ same here. record { at = 0; within = omega arith; is_cap = λ d. one_from_same x.0 c same; is_content = λ d. same_Some x.1 v here }
+    elim (same_capability x.0 c) as (λ b. same_capability x.0 c ≡ b → cond b (Some x.1) (contents es c) ≡ Some v → Stands (x ∷ es) c v) [
+      | true ↦ λ same here. record { at = 0; within = omega arith; is_cap = λ d. same_capability-true x.0 c same; is_content = λ d. same_Some x.1 v here }
       | false ↦ λ other there.
           let s = stands es c v there in
           record { at = suc s.at; within = omega (arith, s.within); is_cap = s.is_cap; is_content = s.is_content }

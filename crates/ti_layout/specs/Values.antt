@@ -1,7 +1,8 @@
 -- What an entry has of a capability (term(5)), apart from where it lies in memory.
-use Rattle.std.specs.Prelude.{◌≡◌, ◌≢◌, ℕ, ◌+◌, ◌<◌, ◌≤◌, ◌==◌, ◌&&◌, Bool, if◌then◌else◌, List, [], ◌∷◌, map, length, slice_index, slice_index_or, All, Option, Some, None}
+use Rattle.std.specs.Prelude.{◌≡◌, ◌≢◌, ℕ, ◌+◌, ◌<◌, ◌≤◌, if◌then◌else◌, List, [], ◌∷◌, map, length, slice_index, slice_index_or, All, Option, Some, None}
 use Rattle.std.specs.Rc.{rc_slice_items}
-use Rattle.ti_caps.specs.Tables.{Capability, IsCapability}
+pub use Rattle.ti_text.specs.Texts.{HasNoNul}
+use Rattle.ti_caps.specs.Tables.{Capability, IsCapability, same_capability}
 use Rattle.ti_caps.specs.declared.capability.Kind.{Kind}
 use Rattle.ti_caps.specs.declared.capability.Kind.TheVariants.{Flag, Number, Text}
 use Rattle.ti_layout.specs.declared.values.Value.{Value}
@@ -26,10 +27,6 @@ content_of (v.Number n) = content_number n
 content_of (v.Text t) = content_text (rc_slice_items t)
 content_of Cancelled = content_cancelled
 
--- no byte is NUL, which ends a text in an entry
-abbrev pub HasNoNul : List ℕ → Type 0
-HasNoNul text = All (λ byte. byte ≢ 0) text
-
 -- the capability may have the content: the kinds agree, a number is at most 2,147,483,647, a text has no NUL
 abbrev pub Agrees : Capability → Content → Type 0
 Agrees c content_true = c.kind ≡ Flag
@@ -52,20 +49,10 @@ Entry = Capability × Content
 abbrev pub entries_of : List (Capability × Value) → List Entry
 entries_of held = map (λ e. (e.0, content_of e.1)) held
 
--- the kinds in the order of the compiled entry
-abbrev pub kind_place : Kind → ℕ
-kind_place Flag = 0
-kind_place Number = 1
-kind_place Text = 2
-
--- whether two capabilities are one
-abbrev pub is_same : Capability → Capability → Bool
-is_same c d = (kind_place c.kind == kind_place d.kind) && (c.index == d.index)
-
 -- what the entries say of a capability
 unfoldable pub contents : List Entry → Contents
 contents [] c = None
-contents (e ∷ es) c = if is_same e.0 c then Some e.1 else contents es c
+contents (e ∷ es) c = if same_capability e.0 c then Some e.1 else contents es c
 
 -- where a kind begins among all 497 capabilities, in the order of the compiled entry
 abbrev pub rank_in : Kind → ℕ

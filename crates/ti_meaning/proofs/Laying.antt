@@ -2,17 +2,20 @@
 use Rattle.std.proofs.Common.{◌≡◌, ℕ, zero, suc, append_assoc, ◌+◌, inl, inr, Bool, true, false, cond, List, [], ◌∷◌, ◌++◌, Option, Some, None, slice_get, refl, sym, ◌∙◌, ap, arith}
 use Rattle.std.specs.Option.{option_or}
 use Rattle.std.proofs.lemmas.Option.{same_Some, none-some}
-use Rattle.ti_caps.specs.Tables.{Capability}
+use Rattle.ti_caps.specs.Tables.{Capability, same_capability}
 use Rattle.ti_source.specs.Reading.{Reading, ReadItem, Said, said_flag, said_number, said_text, said_cancel, said_import}
 use Rattle.ti_layout.specs.Values.{Contents, Content}
 use Rattle.ti_meaning.specs.Owner.{owned}
-use Rattle.ti_meaning.specs.Expansion.{Mention, said, same_capability, is_broken, joined, mentions_of, expand_items}
+use Rattle.ti_meaning.specs.Expansion.{Mention, said, is_broken, joined, mentions_of, expand_items}
 use Rattle.ti_meaning.specs.Reaching.{used_name, Uses}
 use Rattle.ti_meaning.specs.ValueTables.{names_at, IsTableOf, IsTableOfItems, IsLaid}
-use Rattle.ti_meaning.proofs.Same.{option_or-none}
 use Rattle.ti_meaning.proofs.Depth.{expand_items-more, names_at-le, mentions_of-more}
 
 -- ---- laying
+
+option_or-none : (o : Option Content) → option_or o None ≡ o
+option_or-none None = refl
+option_or-none (Some x) = refl
 
 option_or-assoc : (o p q : Option Content) → option_or (option_or o p) q ≡ option_or o (option_or p q)
 option_or-assoc None p q = refl

@@ -1,4 +1,3 @@
-pub mod Same
 pub mod Settling
 pub mod Owning
 pub mod Depth

@@ -2,9 +2,7 @@
 -- the name says, in order, expanded in the same way, and the leftmost mention of a capability decides.
 use Rattle.std.specs.Prelude.{ℕ, zero, suc, List, [], ◌∷◌, ◌++◌, length, Option, Some, None, IsSome, is_some, option_and_then, Bool, true, false, ◌&&◌, nat_eq, if◌then◌else◌}
 use Rattle.std.specs.List.{list_any}
-use Rattle.ti_caps.specs.Tables.{Capability}
-use Rattle.ti_caps.specs.declared.capability.Kind.{Kind}
-use Rattle.ti_caps.specs.declared.capability.Kind.TheVariants.{Flag, Number, Text}
+use Rattle.ti_caps.specs.Tables.{Capability, same_capability}
 use Rattle.ti_source.specs.Codes.{is_error}
 use Rattle.ti_source.specs.Reading.{Reading, ReadItem, ReadFault, Said, said_flag, said_number, said_text, said_cancel, said_import}
 use Rattle.ti_layout.specs.Values.{Content, content_true, content_number, content_text, content_cancelled, Contents}
@@ -15,17 +13,6 @@ use Rattle.ti_meaning.specs.Owner.{owned}
 pub record Mention : Type 0 where
   pub capability : Capability
   pub says : Content
-
--- whether two kinds of capabilities are one
-abbrev pub same_kind : Kind → Kind → Bool
-same_kind Flag Flag = true
-same_kind Number Number = true
-same_kind Text Text = true
-same_kind _ _ = false
-
--- whether two capabilities are one: of one kind, and at one place in its list
-abbrev pub same_capability : Capability → Capability → Bool
-same_capability a b = same_kind a.kind b.kind && nat_eq a.index b.index
 
 -- what the leftmost mention of the capability says, a cancel too, if there is one
 abbrev pub said : List Mention → Contents

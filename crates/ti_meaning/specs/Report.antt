@@ -1,8 +1,10 @@
 -- The report of a source's faults (own), a line each: the line's number in the whole source, the code and its name, and
 -- the detail where there is one.
-use Rattle.std.specs.Prelude.{ℕ, ◌+◌, ◌-◌, List, [], ◌∷◌, ◌++◌, codes, take, map, count_by, sum_by, Option, Some, None, ◌&&◌, ◌==◌, nat_le, if◌then◌else◌}
+use Rattle.std.specs.Prelude.{ℕ, ◌+◌, ◌-◌, List, [], ◌∷◌, ◌++◌, codes, take, map, sum_by, Option, Some, None, ◌&&◌, nat_le, if◌then◌else◌}
 use Rattle.std.specs.Fmt.{decimal}
 use Rattle.std.specs.List.{flat_map}
+use Rattle.ti_text.specs.Ascii as ascii
+use Rattle.ti_text.specs.Texts.{line_count}
 use Rattle.ti_source.specs.declared.code.Code.{Code}
 use Rattle.ti_source.specs.Codes.{code_text}
 use Rattle.ti_meaning.specs.Owner.{readings}
@@ -10,29 +12,25 @@ use Rattle.ti_meaning.specs.Faults.{SourceFault, faults}
 
 -- a byte of a detail as it is shown: itself where it prints, else a question mark
 abbrev pub shown_byte : ℕ → ℕ
-shown_byte byte = if nat_le 33 byte && nat_le byte 126 then byte else 63
+shown_byte byte = if nat_le ascii.exclamation_mark byte && nat_le byte ascii.tilde then byte else ascii.question_mark
 
 -- a detail as it is shown after its space; an empty one is a hyphen
 abbrev pub shown_detail : List ℕ → List ℕ
-shown_detail [] = 45 ∷ []
+shown_detail [] = ascii.minus ∷ []
 shown_detail (byte ∷ bytes) = map shown_byte (byte ∷ bytes)
 
 -- a detail with a space before it, nothing where there is none
 abbrev pub detail_text : Option (List ℕ) → List ℕ
 detail_text None = []
-detail_text (Some detail) = 32 ∷ shown_detail detail
+detail_text (Some detail) = ascii.space ∷ shown_detail detail
 
 -- the line of a fault that stands on the line of that number
 abbrev pub fault_line : ℕ → Code → Option (List ℕ) → List ℕ
-fault_line number code detail = decimal number ++ codes ": " ++ code_text code ++ detail_text detail ++ 10 ∷ []
-
--- the lines of a text, each of which ends with a newline
-abbrev pub lines_in : List ℕ → ℕ
-lines_in text = count_by (λ byte. byte == 10) text
+fault_line number code detail = decimal number ++ codes ": " ++ code_text code ++ detail_text detail ++ ascii.newline ∷ []
 
 -- the lines of the texts before that position
 abbrev pub lines_before : List (List ℕ) → ℕ → ℕ
-lines_before texts at = sum_by lines_in (take at texts)
+lines_before texts at = sum_by line_count (take at texts)
 
 -- the number of a fault's line where the first line of the source has the number `first`
 abbrev pub line_number : List (List ℕ) → ℕ → SourceFault → ℕ

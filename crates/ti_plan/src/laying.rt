@@ -2,13 +2,13 @@
 // entry that the block had before is patched to have these values.
 ghost use Rattle.std.specs.Prelude.{ℕ, ◌≡◌, ◌+◌, ◌<◌, ◌^◌, ◌↔◌, if◌then◌else◌, length, false, List, Some, None, slice_get, option_map, IfOk, IsErrOf, OnOk};
 ghost use Rattle.std.specs.Option.{option_or};
-ghost use Rattle.ti_caps.specs.Tables.{Capability, IsCapability};
+ghost use Rattle.ti_caps.specs.Tables.{Capability, IsCapability, same_capability};
 ghost use Rattle.ti_source.specs.Reading.{item_of, reading_of, said_of};
 ghost use Rattle.ti_layout.specs.Image.{image, limit_of};
 ghost use Rattle.ti_layout.specs.Laws.{uncancelled};
 ghost use Rattle.ti_layout.specs.Values.{contents, content_of, Agrees};
 ghost use Rattle.ti_compiled.specs.Held.{contents_in};
-ghost use Rattle.ti_meaning.specs.Expansion.{Mention, is_broken, same_capability};
+ghost use Rattle.ti_meaning.specs.Expansion.{Mention, is_broken};
 ghost use Rattle.ti_meaning.specs.Compiled.{state_of, state_with};
 ghost use Rattle.ti_meaning.specs.Dependents.{work_of};
 ghost use Rattle.ti_meaning.specs.Usable.{IsUsable, SetsWell};

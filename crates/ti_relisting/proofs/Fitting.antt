@@ -4,16 +4,16 @@ use Rattle.std.specs.List.{All}
 use Rattle.std.proofs.lemmas.Bool.{cases_Bool}
 use Rattle.std.proofs.lemmas.Option.{same_Some, none-some}
 use Rattle.std.proofs.lemmas.List.Elements.{All-nil, All-cons, All-head, All-tail, All-append}
-use Rattle.ti_caps.specs.Tables.{Capability, IsCapability}
+use Rattle.ti_caps.specs.Tables.{Capability, IsCapability, same_capability}
 use Rattle.ti_source.specs.Reading.{Said, said_flag, said_number, said_text, said_cancel, said_import, ReadItem, Reading}
 use Rattle.ti_source.specs.Sound.{SetsItsKind}
 use Rattle.ti_layout.specs.Values.{Content, content_true, content_number, content_text, content_cancelled, AgreesIfSome}
 use Rattle.ti_layout.specs.Laws.{uncancelled}
 use Rattle.ti_meaning.specs.Owner.{is_among, owned}
-use Rattle.ti_meaning.specs.Expansion.{Mention, same_capability, said, is_broken, joined, mentions_of, expand_items, expand}
+use Rattle.ti_meaning.specs.Expansion.{Mention, said, is_broken, joined, mentions_of, expand_items, expand}
 use Rattle.ti_relisting.specs.Shown.{CanHave}
 use Rattle.ti_relisting.proofs.TextBytes.{SaysBytes, ItemSaysBytes}
-use Rattle.ti_relisting.proofs.Laying.{same_capability-true}
+use Rattle.ti_caps.proofs.Same.{same_capability-true}
 
 -- a mention is of a capability, which can have what it says
 abbrev pub MentionFits : Mention → Type 0

@@ -6,12 +6,13 @@ use Rattle.std.proofs.lemmas.Bool.{cases_Bool, eqb-true, and_parts}
 use Rattle.std.proofs.lemmas.List.Elements.{All-nil, All-cons, All-head, All-tail, All-append}
 use Rattle.std.proofs.lemmas.List.{append-nil}
 use Rattle.ti_caps.specs.NameOrder.{EachKindIsInOrder}
-use Rattle.ti_caps.specs.Tables.{Capability, capability, IsCapability}
+use Rattle.ti_caps.specs.Tables.{Capability, IsCapability, same_capability}
+use Rattle.ti_caps.proofs.Same.{same_capability-true}
 use Rattle.ti_caps.specs.declared.capability.Kind.{Kind}
 use Rattle.ti_caps.specs.declared.capability.Kind.TheVariants.{Flag, Number, Text}
 use Rattle.ti_source.specs.Reading.{Said, said_flag, said_number, said_text, said_cancel, said_import, ReadItem}
 use Rattle.ti_layout.specs.Values.{Content, content_true, content_number, content_text, content_cancelled, Contents}
-use Rattle.ti_meaning.specs.Expansion.{Mention, same_kind, same_capability, said, joined, mentions_of, expand_items}
+use Rattle.ti_meaning.specs.Expansion.{Mention, said, joined, mentions_of, expand_items}
 use Rattle.ti_list.specs.declared.layout.Layout.{Layout}
 use Rattle.ti_list.specs.Items.{item_text, IsTail, no_more, on_line, new_line, IsListing, CanBeListed}
 use Rattle.ti_list.specs.Listing.{item_for, items_for, kind_items, in_order, size_of, further_items, lines_of, source_lines, listing}
@@ -149,24 +150,6 @@ own-expands of_name table [] more = sym (before-nil (expand_says of_name more))
 own-expands of_name table (c ∷ cs) more =
     ap (expand_says of_name) (append_assoc (item_for c (table c)) (items_for table cs) more)
     ∙ item-expands of_name c (table c) (mentions_for table cs) (items_for table cs ++ more) (expand_says of_name more) (own-expands of_name table cs more)
-
-same_kind-true : (a b : Kind) → same_kind a b ≡ true → a ≡ b
-same_kind-true Flag Flag e = refl
-same_kind-true Flag Number e = cc
-same_kind-true Flag Text e = cc
-same_kind-true Number Flag e = cc
-same_kind-true Number Number e = refl
-same_kind-true Number Text e = cc
-same_kind-true Text Flag e = cc
-same_kind-true Text Number e = cc
-same_kind-true Text Text e = refl
-
-pub same_capability-true : (a b : Capability) → same_capability a b ≡ true → a ≡ b
-same_capability-true a b e =
-    let parts = and_parts (same_kind a.kind b.kind) (nat_eq a.index b.index) e in
-    let kinds = same_kind-true a.kind b.kind parts.0 in
-    let places = eqb-true a.index b.index parts.1 in
-    ap (λ k. capability k a.index) kinds ∙ ap (λ i. capability b.kind i) places
 
 -- the table, of the capabilities that are among these
 abbrev told : Contents → List Capability → Contents

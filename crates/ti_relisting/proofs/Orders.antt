@@ -4,11 +4,11 @@ use Rattle.std.specs.List.{list_all, list_any, All, Contains}
 use Rattle.std.proofs.lemmas.Bool.{cases_Bool, agree_below, agree_below_at, ltb-true, or_left, or_right, and_from, eq-eqb}
 use Rattle.std.proofs.lemmas.List.Elements.{All-nil, All-cons, All-append, All-weaker, All-contains}
 use Rattle.std.proofs.lemmas.List.Sums.{AllPass-from_list_all}
-use Rattle.ti_caps.specs.Tables.{Capability, capability, IsCapability, count_of}
+use Rattle.ti_caps.specs.Tables.{Capability, capability, IsCapability, count_of, same_capability}
+use Rattle.ti_caps.proofs.Same.{same_capability-itself}
 use Rattle.ti_caps.specs.NameOrder.{in_name_order, EachKindIsInOrder}
 use Rattle.ti_caps.specs.declared.capability.Kind.{Kind}
 use Rattle.ti_caps.specs.declared.capability.Kind.TheVariants.{Flag, Number, Text}
-use Rattle.ti_meaning.specs.Expansion.{same_kind, same_capability}
 use Rattle.ti_list.specs.declared.layout.Order.{Order}
 use Rattle.ti_list.specs.declared.layout.Order.TheVariants as order
 use Rattle.ti_list.specs.Listing.{by_index, in_order}
@@ -29,18 +29,10 @@ all_in o = in_order o Flag ++ (in_order o Number ++ in_order o Text)
 abbrev is_capability : Capability → Bool
 is_capability c = nat_lt c.index (count_of c.kind)
 
-same_kind-itself : (k : Kind) → same_kind k k ≡ true
-same_kind-itself Flag = refl
-same_kind-itself Number = refl
-same_kind-itself Text = refl
-
-same-itself : (c : Capability) → same_capability c c ≡ true
-same-itself c = and_from (same_kind c.kind c.kind) (c.index == c.index) (same_kind-itself c.kind) (eq-eqb c.index c.index refl)
-
 among-itself : (cs : List Capability) → All (λ c. is_among cs c ≡ true) cs
 among-itself [] = All-nil (λ c. is_among [] c ≡ true)
 among-itself (d ∷ cs) =
-    All-cons (λ c. is_among (d ∷ cs) c ≡ true) d cs (or_left (same_capability d d) (is_among cs d) (same-itself d))
+    All-cons (λ c. is_among (d ∷ cs) c ≡ true) d cs (or_left (same_capability d d) (is_among cs d) (same_capability-itself d))
     (All-weaker (λ c. is_among cs c ≡ true) (λ c. is_among (d ∷ cs) c ≡ true) (λ c h. or_right (same_capability d c) (is_among cs c) h) cs (among-itself cs))
 
 contains-among : (cs : List Capability) (c : Capability) → Contains cs c → is_among cs c ≡ true

@@ -1,7 +1,8 @@
 use Rattle.std.proofs.Common.{◌≡◌, ◌<◌, ◌≤◌, length, map, ap, ◌∙◌, arith}
 use Rattle.std.specs.List.{range_with_len}
 use Rattle.std.proofs.lemmas.List.Elements.{All-push}
-use Rattle.ti_meaning.specs.Report.{lines_before, lines_in}
+use Rattle.ti_text.specs.Texts.{line_count}
+use Rattle.ti_meaning.specs.Report.{lines_before}
 use Rattle.ti_slots.specs.Slots.{texts_of}
 use Rattle.ti_base.proofs.Counting.{lines_more, starts_more}
 use Rattle.ti_base.proofs.SlotLists.{length_texts}
@@ -18,7 +19,7 @@ loop-at-preserved c =
     let short : length slot.text.items ≤ 1048576 = (c.requires.sound at slot c.slot_of.ensures).text.short in
     let count : length c.ids-count.result.now ≡ length slots.order.listed = ap (λ xs. length xs) c.ids-count.ensures.ids in
     let more = lines_more texts at slot.text.items here in
-    let lines : c.count_lines.result ≡ lines_in slot.text.items = rw c.deref.ensures.value at c.count_lines.ensures.lines in
+    let lines : c.count_lines.result ≡ line_count slot.text.items = rw c.deref.ensures.value at c.count_lines.ensures.lines in
     let few : c.count_lines.result ≤ length slot.text.items = rw c.deref.ensures.value at c.count_lines.ensures.within in
     let so_far = c.loop-at.invariant.2 in
     let before = c.loop-at.invariant.1 in (
