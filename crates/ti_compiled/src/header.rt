@@ -18,9 +18,10 @@ fn read_header(bytes: &[u8]) -> Header
     requires { 12 ≤ length bytes.now }
     ensures { IsHeaderAt bytes.now result }
 {
-    let format = match word(bytes, 0) {
-        0o1036 => Format::Extended,
-        _ => Format::Legacy,
+    let format = if word(bytes, 0) == Format::Extended.magic() as usize {
+        Format::Extended
+    } else {
+        Format::Legacy
     };
     Header {
         format,

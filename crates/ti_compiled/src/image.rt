@@ -73,9 +73,9 @@ impl Image {
         names_of(&self.bytes)
     }
 
-    /// The same entry with the values of another table: a copy in which each capability that changes
-    /// is set. Where the copy has no room or an image between would be over its limit, the entry is
-    /// laid anew.
+    /// The same entry with the values of another table: where few values change, a copy in which each
+    /// of them is set. Where more do, an image between would be over its limit, or the copy gets no
+    /// memory, the entry is laid anew.
     ///
     /// # Errors
     /// [`WriteError::TooLarge`] exactly where [`write`] answers it, and [`WriteError::Memory`].
@@ -89,11 +89,11 @@ impl Image {
         ensures names_fit { IsErrOf result WriteError.NamesTooLong → ⊥ }
     {
         match changed_copy(self, alloc, old.entries(), new.entries()) {
-            Ok(image) => {
+            Some(image) => {
                 image.is_laid();
                 Ok(image)
             }
-            Err(_) => Image::new(alloc, names_of(&self.bytes), new),
+            None => Image::new(alloc, names_of(&self.bytes), new),
         }
     }
 

@@ -56,12 +56,12 @@ loop-turn-preserved-in-First c =
     let x = c.index-old-at_old.result in
     let turn = subst (TurnIs fs i ss j) c.in-First.is c.in-Some.ensures in
     let within : i < length c.args.old.now = rw length-map at turn.0 in
-    let done = c.in_ok-set_value-in-First.ensures in
+    let done = c.in_ok-change-in-First.ensures in
     record {
       names = done.names ∙ c.loop-turn.invariant.names;
       patches = takes_away fs ss c.requires.old c.requires.new (contents_in c.loop-turn.copy) i j c.loop-turn.invariant.patches (x.0, content_of x.1) turn.0 (item_read _ _ x within c.index-old-at_old.is) turn.1
-          (contents_in c.set_value.new.self)
-          (subst (λ (e : Capability × Value). (d : Capability) → IsCapability d → contents_in c.set_value.new.self d ≡ given (contents_in c.loop-turn.copy) e.0 None d) (sym c.index-old-at_old.is) done.contents.says);
+          (contents_in c.change.new.image)
+          (subst (λ (e : Capability × Value). (d : Capability) → IsCapability d → contents_in c.change.new.image d ≡ given (contents_in c.loop-turn.copy) e.0 None d) (sym c.index-old-at_old.is) done.contents.says);
     }
 
 pub loop-turn-preserved-in-Second : goal.loop-turn-preserved-in-Second
