@@ -53,7 +53,8 @@ fn find_state(
     ghost at: { ℕ }
     requires ready { CanBeSettled known.now.slots.now known.now.dependents.now known.now.component_of.now known.now.settled.now node at }
     requires block { slice_get (blocks_of known.now.slots.now) at ≡ Some (reading_of slot.now.block) }
-    requires uses { MatchBool is_wrong (HasUseAtFault (blocks_of known.now.slots.now) at (reading_of slot.now.block)) (AreUsesSound (blocks_of known.now.slots.now) at) }
+    requires uses { MatchBool is_wrong (HasUseAtFault (blocks_of known.now.slots.now) at (reading_of slot.now.block))
+        (AreUsesSound (blocks_of known.now.slots.now) at) }
     requires room { work.old + length slot.now.block.items.items < 2 ^ 64 }
     ensures state { IfOk result (λ state. state_seen state ≡ state_of (blocks_of known.now.slots.now) (reading_of slot.now.block)) }
     ensures table { IfOk result (λ state. HasTable contents (blocks_of known.now.slots.now) (reading_of slot.now.block) (table_of state)) }
