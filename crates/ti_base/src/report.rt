@@ -112,8 +112,12 @@ pub(crate) fn write_report(
     requires first { first_line ≤ 9223372036854775808 }
     ensures { IfOk result (λ out. out.items ≡ flat_map (reported (texts_of slots.now) first_line) (map fault_seen faults.now)) }
 {
-    let starts = line_starts(alloc, slots)?;
     let mut out = Vec::new(alloc);
+    // Where there is nothing to report, no lines are counted.
+    if faults.is_empty() {
+        return Ok(out);
+    }
+    let starts = line_starts(alloc, slots)?;
     for fault in faults {
         let number = first_line + starts[fault.block] + fault.line as u64 - 1;
         write_fault(alloc, &mut out, number, fault)?;

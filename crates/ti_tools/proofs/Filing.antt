@@ -147,20 +147,7 @@ filed_to_next dir texts old new at within added filed =
     ∙ ap (λ k. old ++ (files_at dir texts at text ++ files_from dir texts k (drop (at + 1) texts))) (sym next)
     ∙ ap (λ texts_left. old ++ files_from dir texts at texts_left) (sym rest) ∙ filed
 
-pub filed_to_end : (dir : List ℕ) (texts : List (List ℕ)) (files : List Entry) (at : ℕ) → length texts ≤ at → IsFiledTo dir texts files at → files ≡ files_of dir texts
-filed_to_end dir texts files at past filed = sym (append-nil files) ∙ ap (λ left. files ++ files_from dir texts at left) (sym (drop_past texts at past)) ∙ filed
-  where
-    drop_past : (xs : List (List ℕ)) (k : ℕ) → length xs ≤ k → drop k xs ≡ []
-    drop_past [] zero p = refl
-    drop_past [] (suc k) p = refl
-    drop_past (x ∷ xs) zero p = absurd (omega arith)
-    drop_past (x ∷ xs) (suc k) p = drop_past xs k (omega arith)
-
--- a block without an entry has no files
-pub files_at-none : (dir : List ℕ) (texts : List (List ℕ)) (at : ℕ) (text : List ℕ) (old : List Entry) → compiled texts at ≡ None
-    → old ≡ old ++ files_at dir texts at text
-files_at-none dir texts at text old none = rw none (sym (append-nil old))
-
+-- the files of a block with an entry
 pub files_at-some : (dir : List ℕ) (texts : List (List ℕ)) (at : ℕ) (text image : List ℕ) (names : List (List ℕ)) (old new : List Entry)
     → compiled texts at ≡ Some image → names ≡ (parsed text).names → new ≡ old ++ files_for dir image (own_names (readings texts) at names)
     → new ≡ old ++ files_at dir texts at text

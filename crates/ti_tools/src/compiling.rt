@@ -7,7 +7,6 @@ ghost use Rattle.ti_source.specs.Blocks.{blocks_of, front_of, last_byte};
 ghost use Rattle.ti_source.specs.Codes.{is_error};
 ghost use Rattle.ti_source.specs.Lines.{line_count};
 ghost use Rattle.ti_meaning.specs.Faults.{fault_seen};
-ghost use Rattle.ti_tools.specs.Sources.{first_line, source_refusal, texts_of};
 ghost use Rattle.ti_tools.specs.Tic.{IsTicAnswer, compilation, compilation_of, status_of, tic_result};
 
 use crate::entry_files::entry_files;

@@ -290,7 +290,7 @@ fn names_and_a_report_of_faults_that_are_there(rt: HostRuntime) -> Result<(), Fa
         b"n|c|n|the last,\n\tuse=zz,\n",
     ];
     let database = source(rt.alloc(), &blocks)?;
-    let wanted: [&[&[u8]]; 3] = [&[b"a", b"n", b"a"], &[], &[b"n", b"c"]];
+    let wanted: [&[&[u8]]; 3] = [&[b"a", b"n", b"a"], &[], &[b"n", b"c", b"n"]];
     for (at, wanted) in wanted.iter().enumerate() {
         assert!(rt; at < database.len());
         let names = database.names(at);
