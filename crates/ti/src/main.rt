@@ -19,7 +19,7 @@ use crate::tput_tool::TputWords;
 use std::process::ExitCode;
 use std::rt::{Env, Files};
 use std::{env, io};
-use ti_tools::{InfocmpOptions, Job, ToolError, UsageError, command, job};
+use ti_tools::{InfocmpOptions, Job, ToolError, UsageError, job, usage_text};
 
 fn main(rt: HostRuntime) -> ExitCode {
     ExitCode::from(run(&rt))
@@ -109,20 +109,21 @@ fn print_failure<R: Eprint>(rt: &R, tool: &str, failure: Failure) -> u8 {
     status
 }
 
-// Prints the help that the words ask for, or what is wrong with them. The words are read again, since a
-// `UsageError` has no text: it says alone which refusal it is. An error of usage has status 2, also where
+// Prints the help that the words ask for, or what is wrong with them. An error of usage has status 2, also where
 // standard error takes nothing.
 fn print_usage<R: Print + Eprint + AllocGlobal>(rt: &R, words: &[String]) -> u8 {
-    let Ok(command) = command(rt.alloc()) else {
-        return print_failure(rt, "ti", Failure::Tool(ToolError::Memory));
+    let usage = match usage_text(rt.alloc(), words) {
+        Ok(Some(usage)) => usage,
+        Ok(None) => return print_failure(rt, "ti", Failure::Tool(ToolError::Usage)),
+        Err(_) => return print_failure(rt, "ti", Failure::Tool(ToolError::Memory)),
     };
-    let Err(error) = command.try_get_matches_from(words) else {
-        return print_failure(rt, "ti", Failure::Tool(ToolError::Usage));
-    };
-    let is_help = !error.use_stderr();
-    match error.print(rt) {
-        Ok(()) if is_help => 0,
-        Err(_) if is_help => print_failure(rt, "ti", Failure::Tool(ToolError::WriteFault)),
-        _ => 2,
+    let text = usage.text.as_str();
+    if !usage.is_help {
+        let _ = rt.eprint(text);
+        return 2;
+    }
+    match rt.print(text) {
+        Ok(()) => 0,
+        Err(_) => print_failure(rt, "ti", Failure::Tool(ToolError::WriteFault)),
     }
 }

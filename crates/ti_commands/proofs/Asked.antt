@@ -1,15 +1,16 @@
 -- What the program's command line asks for, from what clap ensures of a parse.
-use Rattle.std.proofs.Common.{◌≡◌, ◌⊎◌, [], List, true, Err, None, Ok, refl, sym, ◌∙◌, ap, subst, inl, inr}
+use Rattle.std.proofs.Common.{◌≡◌, ◌≢◌, ◌⊎◌, Bool, [], List, true, Err, None, Ok, refl, sym, ◌∙◌, ap, subst, inl, inr}
 use Rattle.clap.specs.Faults.{fault_of, is_simple_and_free}
 use Rattle.clap.specs.Kinds.{FailsBy, IsAmong}
 use Rattle.clap.specs.Simple.{App, HasMatchesOf, is_simple, subcommand_of, subcommand_rows_of}
 use Rattle.clap.specs.Values.{kind_of}
 use Rattle.clap.specs.Walk.{Text}
 use Rattle.clap.specs.declared.error.Error.{Error}
+use Rattle.clap.specs.declared.error.kind.ErrorKind.TheVariants.{OutOfMemory}
 use Rattle.clap.specs.declared.parser.matches.ArgMatches.{ArgMatches}
 use Rattle.ti_commands.specs.Arguments.{faults_of, job_of, task_in}
 use Rattle.ti_commands.specs.Commands.{ti_app}
-use Rattle.ti_commands.specs.Jobs.{IsRefusal, refusal_of}
+use Rattle.ti_commands.specs.Jobs.{IsRefusal, TellsHelp, is_help, refusal_of}
 use Rattle.ti_commands.specs.declared.arguments.UsageError.{UsageError}
 use Rattle.ti_commands.specs.declared.arguments.UsageError.TheVariants as usage
 
@@ -44,3 +45,12 @@ pub IsRefusal-no_job : (words : List Text) (job : _) (e : UsageError) → faults
     → (e ≡ usage.Memory) ⊎ ((e ≡ usage.Usage) × (job ≡ None)) → IsRefusal (faults_of words) (job_of words) e
 IsRefusal-no_job words job e no_fault same (inl memory) = inl memory
 IsRefusal-no_job words job e no_fault same (inr refused) = inr (inr (no_fault, sym same ∙ refused.1, refused.0))
+
+pub tells_help : (app : App) (words : List Text) (error : Error) (help : Bool) → app ≡ ti_app
+    → (is_simple_and_free app ≡ true → FailsBy {T = ArgMatches} (fault_of app words) (Err error))
+    → (kind_of error ≢ OutOfMemory) × (help ≡ is_help (kind_of error)) → TellsHelp (faults_of words) help
+tells_help app words error help same fails is =
+    elim (fails (ap is_simple_and_free same ∙ is_program_free)) [
+      | inl memory ↦ absurd (is.0 memory)
+      | inr among ↦ (kind_of error, subst (λ (a : App). IsAmong (kind_of error) (fault_of a words)) same among, is.1)
+    ]

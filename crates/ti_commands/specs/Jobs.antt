@@ -1,5 +1,5 @@
 -- The jobs of the program, as plain data, and why words ask for none (own).
-use Rattle.std.specs.Prelude.{◌≡◌, ◌⊎◌, [], None, Option, map, option_map}
+use Rattle.std.specs.Prelude.{◌≡◌, ◌⊎◌, Bool, true, false, [], None, Option, map, option_map}
 use Rattle.std.specs.String.{string_bytes}
 use Rattle.clap.specs.Kinds.{IsAmong, Kinds}
 use Rattle.clap.specs.declared.error.kind.ErrorKind.{ErrorKind}
@@ -36,3 +36,12 @@ abbrev pub IsRefusal : Kinds → Option Task → UsageError → Type 0
 IsRefusal faults job e =
     (e ≡ usage.Memory) ⊎ ((k : ErrorKind) × IsAmong k faults × (e ≡ refusal_of k))
     ⊎ ((faults ≡ []) × (job ≡ None) × (e ≡ usage.Usage))
+
+-- whether a fault that clap finds is that help is asked for
+abbrev pub is_help : ErrorKind → Bool
+is_help kind.DisplayHelp = true
+is_help _ = false
+
+-- what is said is help or an error, by one of these faults
+abbrev pub TellsHelp : Kinds → Bool → Type 0
+TellsHelp faults help = (k : ErrorKind) × IsAmong k faults × (help ≡ is_help k)

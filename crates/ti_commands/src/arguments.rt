@@ -1,12 +1,12 @@
 //! What the words of a command line ask for.
-ghost use Rattle.std.specs.Prelude.{◌≡◌, ◌⊎◌, [], IfErr, IfOk, None, OnOk, Some, codes, map, option_map, true};
+ghost use Rattle.std.specs.Prelude.{◌≡◌, ◌⊎◌, [], IfErr, IfOk, IfSome, None, OnOk, Some, codes, map, option_map, true};
 ghost use Rattle.std.specs.String.{string_bytes};
 ghost use Rattle.clap.specs.Words.{first_of, found_of, rows_of, subcommand_rows_of};
-ghost use Rattle.ti_commands.specs.Arguments.{Task, faults_of, is_word_count, job_of, rate_in, takes_words, task_in, tic_task, tput_task, tput_with};
+ghost use Rattle.ti_commands.specs.Arguments.{Task, faults_of, is_word_count, job_of, rate_in, takes_words, task_at, task_in, tic_task, tput_task, tput_with};
 ghost use Rattle.ti_commands.specs.Jobs.{IsRefusal, refusal_of, task_of};
 ghost use Rattle.ti_commands.specs.declared.arguments.UsageError.TheVariants.{Memory};
 
-use crate::commands::command;
+use crate::commands::{command, tool_command};
 use crate::infocmp_words::infocmp_job;
 use crate::jobs::Job;
 use crate::matches::{on, text, texts, value, values};
@@ -113,6 +113,21 @@ fn tput_job(alloc: Global, matches: &ArgMatches<'_>) -> Result<Job, UsageError>
     }
 }
 
+// The job of the tool of that name, with its matches.
+fn tool_job(alloc: Global, name: &str, matches: &ArgMatches<'_>) -> Result<Job, UsageError>
+    ensures right { IfOk result (λ job. task_at name.now (rows_of (found_of matches.now)) ≡ Some (task_of job)) }
+    ensures refused { IfErr result (λ error. (error ≡ UsageError.Memory)
+        ⊎ ((error ≡ UsageError.Usage) × (task_at name.now (rows_of (found_of matches.now)) ≡ None))) }
+{
+    match name {
+        "tic" => Ok(tic_job(alloc, matches)?),
+        "tput" => tput_job(alloc, matches),
+        "session" => Ok(Job::Session),
+        "infocmp" => infocmp_job(alloc, matches),
+        _ => Err(UsageError::Usage),
+    }
+}
+
 // The job of the subcommand that was used.
 fn used_job(alloc: Global, matches: &ArgMatches<'_>) -> Result<Job, UsageError>
     ensures right { IfOk result (λ job. task_in (subcommand_rows_of matches.now)
@@ -121,11 +136,44 @@ fn used_job(alloc: Global, matches: &ArgMatches<'_>) -> Result<Job, UsageError>
         ⊎ ((error ≡ UsageError.Usage) × (task_in (subcommand_rows_of matches.now) ≡ None))) }
 {
     match matches.subcommand() {
-        Some(("tic", inner)) => Ok(tic_job(alloc, inner)?),
-        Some(("tput", inner)) => tput_job(alloc, inner),
-        Some(("session", _)) => Ok(Job::Session),
-        Some(("infocmp", inner)) => infocmp_job(alloc, inner),
-        _ => Err(UsageError::Usage),
+        Some((name, inner)) => tool_job(alloc, name, inner),
+        None => Err(UsageError::Usage),
+    }
+}
+
+// The job that the words ask for, read by the command of their tool alone, which takes less than half as long as by all. `None`
+// where that finds no job: only the whole command says why.
+fn job_of_tool(alloc: Global, words: &[String]) -> Result<Option<Job>, AllocError>
+    ensures { IfOk result (λ found. IfSome found (λ job. (job_of (map string_bytes words.now) ≡ Some (task_of job))
+        × (faults_of (map string_bytes words.now) ≡ []))) }
+{
+    let Some(name) = words.get(1) else {
+        return Ok(None);
+    };
+    let Some(command) = tool_command(alloc, name.as_str())? else {
+        return Ok(None);
+    };
+    let own_words = &words[1..];
+    match command.try_get_matches_from(own_words) {
+        Ok(matches) => Ok(tool_job(alloc, name.as_str(), &matches).ok()),
+        Err(_) => Ok(None),
+    }
+}
+
+// The job that the words ask for, read by the command of all tools.
+fn job_of_program(alloc: Global, words: &[String]) -> Result<Job, UsageError>
+    ensures right { IfOk result (λ job. job_of (map string_bytes words.now) ≡ Some (task_of job)) }
+    ensures answered { (task : Task) → job_of (map string_bytes words.now) ≡ Some task
+        → takes_words (map string_bytes words.now) ≡ true
+        → IfErr result (λ error. error ≡ UsageError.Memory) }
+    ensures accepted { OnOk result (faults_of (map string_bytes words.now) ≡ []) }
+    ensures refused { IfErr result (IsRefusal (faults_of (map string_bytes words.now))
+        (job_of (map string_bytes words.now))) }
+{
+    let command = command(alloc)?;
+    match command.try_get_matches_from(words) {
+        Ok(matches) => used_job(alloc, &matches),
+        Err(error) => Err(refusal(error.kind())),
     }
 }
 
@@ -143,9 +191,8 @@ pub fn job(alloc: Global, words: &[String]) -> Result<Job, UsageError>
     ensures refused { IfErr result (IsRefusal (faults_of (map string_bytes words.now))
         (job_of (map string_bytes words.now))) }
 {
-    let command = command(alloc)?;
-    match command.try_get_matches_from(words) {
-        Ok(matches) => used_job(alloc, &matches),
-        Err(error) => Err(refusal(error.kind())),
+    match job_of_tool(alloc, words)? {
+        Some(job) => Ok(job),
+        None => job_of_program(alloc, words),
     }
 }

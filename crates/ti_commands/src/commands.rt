@@ -1,9 +1,9 @@
 //! The command lines of the program, for clap: each tool with its options, their help and one
 //! example.
-ghost use Rattle.std.specs.Prelude.{◌≡◌, IfOk, false};
+ghost use Rattle.std.specs.Prelude.{◌≡◌, IfOk, false, option_map};
 ghost use Rattle.clap.specs.Words.{app_of};
 ghost use Rattle.clap.specs.declared.builder.Command.TheViews.{out-Command as fields_of};
-ghost use Rattle.ti_commands.specs.Commands.{first_tools_app, session_app, ti_app, tic_app, tput_app, tput_options_app};
+ghost use Rattle.ti_commands.specs.Commands.{first_tools_app, session_app, ti_app, tic_app, tool_app, tput_app, tput_options_app};
 
 use crate::infocmp_words::infocmp;
 use crate::rules::{flag, long_option, operand, operands, option};
@@ -166,4 +166,20 @@ pub fn command<'a>(alloc: Global) -> Result<Command<'a>, AllocError>
     first_tools(alloc)?
         .subcommand(session(alloc)?)?
         .subcommand(infocmp(alloc)?)
+}
+
+/// The command line of the tool of that name alone.
+///
+/// # Errors
+/// Want of memory.
+pub(crate) fn tool_command<'a>(alloc: Global, name: &str) -> Result<Option<Command<'a>>, AllocError>
+    ensures { IfOk result (λ found. option_map (λ command. app_of command) found ≡ tool_app name.now) }
+{
+    Ok(match name {
+        "tic" => Some(tic(alloc)?),
+        "tput" => Some(tput(alloc)?),
+        "session" => Some(session(alloc)?),
+        "infocmp" => Some(infocmp(alloc)?),
+        _ => None,
+    })
 }

@@ -5,6 +5,7 @@
 //! - `commands`: each tool's options, their help and an example, for clap; `rules` has the kinds of options,
 //!   and `infocmp_words` what stands behind `infocmp`
 //! - `matches`: what clap's matches say of an argument
+//! - `usage`: what is said of words that ask for no job
 #![tactic(auto)]
 
 pub mod arguments;
@@ -13,11 +14,13 @@ mod infocmp_words;
 pub mod jobs;
 mod matches;
 mod rules;
+pub mod usage;
 
 pub use arguments::{UsageError, job};
 pub use commands::command;
 pub use jobs::{InfocmpMode, Job};
 pub use ti_list::{Layout, Order};
+pub use usage::{UsageText, usage_text};
 
 #[cfg(test)]
 mod tests;

@@ -2,7 +2,7 @@
 mod infocmp_words;
 mod tput_words;
 
-use crate::{Job, UsageError, job};
+use crate::{Job, UsageError, job, usage_text};
 use std::alloc::{AllocError, Global};
 use std::test::Fail;
 
@@ -68,16 +68,35 @@ fn words_that_ask_for_no_job(rt: HostRuntime) -> Result<(), Fail> {
     Ok(())
 }
 
+// The help of a tool.
+fn help_of(alloc: Global, tool: &str) -> Result<String, Fail> {
+    let words = words(alloc, &["ti", tool, "--help"])?;
+    match usage_text(alloc, words.as_slice())? {
+        Some(usage) if usage.is_help => Ok(usage.text),
+        _ => Err(Fail::from("no help")),
+    }
+}
+
+#[test]
+fn what_is_said_of_a_wrong_option(rt: HostRuntime) -> Result<(), Fail> {
+    let alloc = rt.alloc();
+    let wrong = words(alloc, &["ti", "tic", "-x"])?;
+    let Some(usage) = usage_text(alloc, wrong.as_slice())? else {
+        return Err(Fail::from("nothing is said"));
+    };
+    assert!(rt; !usage.is_help);
+    let begin = "error: unexpected argument '-x' found\n";
+    assert!(rt; usage.text.as_str().starts_with(begin), "{}", usage.text);
+    let right = words(alloc, &["ti", "tic", "-c"])?;
+    assert!(rt; usage_text(alloc, right.as_slice())?.is_none());
+    Ok(())
+}
+
 #[test]
 fn help_reads_well_at_80_columns(rt: HostRuntime) -> Result<(), Fail> {
     let alloc = rt.alloc();
     for tool in ["tic", "session"] {
-        let words = words(alloc, &["ti", tool, "--help"])?;
-        let Err(error) = crate::commands::command(alloc)?.try_get_matches_from(words.as_slice())
-        else {
-            return Err(Fail::from("no help"));
-        };
-        let text = format!(in alloc; "{error}")?;
+        let text = help_of(alloc, tool)?;
         for line in text.as_str().lines() {
             assert!(rt; line.len() <= 80, "{line}");
         }
@@ -89,11 +108,7 @@ fn help_reads_well_at_80_columns(rt: HostRuntime) -> Result<(), Fail> {
 #[test]
 fn the_help_of_tic(rt: HostRuntime) -> Result<(), Fail> {
     let alloc = rt.alloc();
-    let words = words(alloc, &["ti", "tic", "--help"])?;
-    let Err(error) = crate::commands::command(alloc)?.try_get_matches_from(words.as_slice()) else {
-        return Err(Fail::from("no help"));
-    };
-    let text = format!(in alloc; "{error}")?;
+    let text = help_of(alloc, "tic")?;
     let expected = "Compile terminfo source into entries, one file for each name.
 
 Usage: ti tic [OPTIONS] [FILE]

@@ -3,4 +3,5 @@ pub mod Orders
 pub mod Steps
 pub mod Alone
 pub mod Rows
+pub mod Spaces
 pub mod Rooms

@@ -49,27 +49,38 @@ fn write_below(out: &mut Vec<u8>, cap: Cap, content: Content<'_>) -> usize
     TAB + (out.len() - start - 2)
 }
 
-// Appends an item with its comma behind a space, where so many columns are left for both; else it appends nothing. Gives the
-// columns that it took.
-fn write_beside(out: &mut Vec<u8>, room: usize, cap: Cap, content: Content<'_>) -> Option<usize>
+// Appends an item with its comma where so many columns of the line are taken: behind a space where that brings the line no
+// further than the width, else on a new line. Gives the columns that are then taken. An item is as long as its text shows, so it
+// is written before its place is known: behind a tab, which a space replaces or a break precedes.
+fn write_further(
+    out: &mut Vec<u8>,
+    width: usize,
+    taken: usize,
+    cap: Cap,
+    content: Content<'_>,
+) -> usize
     requires short { IsShort (content_of content) }
     requires room { vec_len out.old + item_room (said_for cap (content_of content)) ≤ vec_capacity out.old }
-    ensures some { IfSome result (λ took. (took ≡ 1 + size_of (said_for cap (content_of content.entry))) × (took ≤ room)
-        × (out.new.items ≡ out.old.items ++ 32 ∷ item_text (said_for cap (content_of content.entry)) ++ 44 ∷ [])) }
-    ensures none { IfNone result ((out.new.items ≡ out.old.items) × (room < 1 + size_of (said_for cap (content_of content.entry)))) }
-    ensures len { IfSome result (λ took. vec_len out.new ≤ vec_len out.old + item_room (said_for cap (content_of content.entry))) }
+    ensures fits { taken + 1 + size_of (said_for cap (content_of content.entry)) ≤ width
+        → (result ≡ taken + 1 + size_of (said_for cap (content_of content.entry)))
+        × (out.new.items ≡ out.old.items ++ 32 ∷ item_text (said_for cap (content_of content.entry)) ++ 44 ∷ []) }
+    ensures breaks { width < taken + 1 + size_of (said_for cap (content_of content.entry))
+        → (result ≡ 8 + size_of (said_for cap (content_of content.entry)))
+        × (out.new.items ≡ out.old.items ++ 10 ∷ 9 ∷ item_text (said_for cap (content_of content.entry)) ++ 44 ∷ []) }
+    ensures len { vec_len out.new ≤ vec_len out.old + item_room (said_for cap (content_of content.entry)) }
     ensures capacity { vec_capacity out.old ≤ vec_capacity out.new }
 {
     let start = out.len();
-    out.push_reserved(b' ');
+    out.push_reserved(b'\t');
     write_item(out, cap, content);
-    let took = out.len() - start + 1;
-    if took <= room {
-        out.push_reserved(b',');
-        return Some(took);
+    out.push_reserved(b',');
+    let size = out.len() - start - 1;
+    if size < width.saturating_sub(taken) {
+        out[start] = b' ';
+        return taken + 1 + size;
     }
-    out.truncate(start);
-    None
+    out.insert(start, b'\n').unwrap();
+    TAB + size
 }
 
 // Appends an item with its comma: behind a space where so many columns of the line are taken and it has room, else on
@@ -89,15 +100,12 @@ fn write_placed(
     ensures len { vec_len out.new ≤ vec_len out.old + item_room (said_for cap (content_of content.entry)) }
     ensures capacity { vec_capacity out.old ≤ vec_capacity out.new }
 {
-    if let Some(taken) = line {
-        if !layout.one_per_line {
-            let room = layout.width.saturating_sub(taken);
-            if let Some(took) = write_beside(out, room, cap, content) {
-                return taken + took;
-            }
+    match line {
+        Some(taken) if !layout.one_per_line => {
+            write_further(out, layout.width, taken, cap, content)
         }
+        _ => write_below(out, cap, content),
     }
-    write_below(out, cap, content)
 }
 
 // Appends the items of a kind, of which the first begins a line.

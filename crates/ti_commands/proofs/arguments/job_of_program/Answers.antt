@@ -3,7 +3,7 @@ use Rattle.std.proofs.lemmas.Result.{IfErr-weaker, IfOk-weaker}
 use Rattle.clap.proofs.BuiltLemmas.{on_ok_always}
 use Rattle.ti_commands.specs.Jobs.{refusal_of}
 use Rattle.ti_commands.proofs.Asked.{IsRefusal-no_job, IsRefusal-of_fault, no_faults, task_in-matches}
-use Rattle.ti_commands.proofs.arguments.job.Goals as goal
+use Rattle.ti_commands.proofs.arguments.job_of_program.Goals as goal
 
 pub returns-in-Ok-clause-right : goal.returns-in-Ok-clause-right
 returns-in-Ok-clause-right c =

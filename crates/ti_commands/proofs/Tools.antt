@@ -1,0 +1,208 @@
+-- The command of one tool alone reads the words behind its name as the command of the program does.
+use Rattle.std.proofs.Common.{◌≡◌, ◌∙◌, Bool, Result, Ok, Err, IfOk, IfSome, true, false, codes, refl, sym, ap, ap₂, subst, List, [], ◌∷◌, length, map, get_or, nat_lt, Option, Some, None, fold, find, drop, take, ◌-◌, arith, is_some, if◌then◌else◌}
+use Rattle.std.specs.Prelude.{slice_get, option_map, unwrap_or}
+use Rattle.std.specs.Option.{option_map_or}
+use Rattle.std.specs.Result.{result_ok}
+use Rattle.std.specs.Str.{bytes_eq}
+use Rattle.std.proofs.Math.Seq.{take-length}
+use Rattle.std.proofs.lemmas.Bool.{true≢false}
+use Rattle.std.proofs.lemmas.Slice.Eq.{bytes_eq-Decides}
+use Rattle.clap.specs.Faults.{built_fault, check_fault, defaults_fault, entered_fault, fault_of, is_simple_and_free, level_fault, settle_fault, turn_fault, walk_fault}
+use Rattle.clap.specs.Kinds.{FailsBy, Kinds, or_else}
+use Rattle.clap.specs.Simple.{App, HasMatchesOf, Shape, argument_words, built, entered, is_simple, label_of, matches_of, names_of, rows_at, subcommand_of}
+use Rattle.clap.specs.Walk.{Names, Row, Text, Walk, answers_to, finished, nothing_held, rows_after, settled, stop_after, walk, walk_from, walked}
+use Rattle.clap.specs.Words.{found_of, rows_of}
+use Rattle.clap.specs.declared.parser.matches.ArgMatches.{ArgMatches}
+use Rattle.clap.proofs.FaultLemmas.{leaf_fault, stopped_fault}
+use Rattle.clap.proofs.WalkLemmas.{walk_stopped}
+use Rattle.ti_commands.specs.Arguments.{faults_of, job_of, task_at, task_in}
+use Rattle.ti_commands.specs.Commands.{session_app, ti_app, tic_app, tool_app, tput_app}
+use Rattle.ti_commands.specs.InfocmpWords.{infocmp_app}
+
+-- the walk that met a name as its first word, with the words behind it
+abbrev at_name : Text → List Text → Walk
+at_name name rest = record (walk_from nothing_held) { stopped = Some (name, rest) }
+
+-- the faults of a built command whose walk ended so, where these came before
+abbrev faults_at : App → Walk → Kinds → Kinds
+faults_at b w before =
+    or_else before (or_else (entered_fault b w.stopped)
+    (or_else (settle_fault b.top.rules b.top.args_override_self w.held)
+    (or_else (defaults_fault (settled b.top.rules w.held).rows b.top.rules) (check_fault b.top (finished b.top.rules w.held) (is_some (entered b w.stopped))))))
+
+-- those of a built command of which only a subcommand was used
+abbrev own_faults : App → Bool → Kinds
+own_faults b entered_one =
+    or_else (settle_fault b.top.rules b.top.args_override_self nothing_held)
+    (or_else (defaults_fault (settled b.top.rules nothing_held).rows b.top.rules) (check_fault b.top (finished b.top.rules nothing_held) entered_one))
+
+-- those of a built command that found this subcommand
+abbrev faults_found : App → List Text → Option Shape → Kinds
+faults_found b rest found =
+    or_else (option_map_or (λ (s : Shape). level_fault s [] nothing_held rest false []) found []) (own_faults b (is_some (option_map (λ (s : Shape). rows_at s rest) found)))
+
+-- the tool is what the program enters at this name, and nothing else of the program has a fault there
+record IsTool (program : App) (name : Text) (tool : App) : Type 0 where
+  pub simple : is_simple tool ≡ true
+  pub free : is_simple_and_free tool ≡ true
+  pub program_words : (words : List Text) → argument_words program words ≡ drop 1 words
+  pub tool_words : (words : List Text) → argument_words tool words ≡ drop 1 words
+  pub enters : walked (built program).top.rules (names_of (built program)) (walk_from nothing_held) name ≡ at_name name []
+  pub passes : turn_fault (built program).top (names_of (built program)) (walk_from nothing_held) name ≡ []
+  pub finds : find (λ (s : Shape). answers_to name (label_of s)) (built program).subs ≡ Some (built tool).top
+  pub named : (built tool).top.name ≡ name
+  pub leaf : (built tool).subs ≡ []
+  pub no_own_fault : own_faults (built program) true ≡ []
+
+is_tic : IsTool ti_app (codes "tic") tic_app
+unfolding ti_app walked defaults_fault
+is_tic = record {
+  simple = refl;
+  free = refl;
+  program_words = λ words. refl;
+  tool_words = λ words. refl;
+  enters = refl;
+  passes = refl;
+  finds = refl;
+  named = refl;
+  leaf = refl;
+  no_own_fault = refl;
+}
+
+is_tput : IsTool ti_app (codes "tput") tput_app
+unfolding ti_app walked defaults_fault
+is_tput = record {
+  simple = refl;
+  free = refl;
+  program_words = λ words. refl;
+  tool_words = λ words. refl;
+  enters = refl;
+  passes = refl;
+  finds = refl;
+  named = refl;
+  leaf = refl;
+  no_own_fault = refl;
+}
+
+is_session : IsTool ti_app (codes "session") session_app
+unfolding ti_app walked defaults_fault
+is_session = record {
+  simple = refl;
+  free = refl;
+  program_words = λ words. refl;
+  tool_words = λ words. refl;
+  enters = refl;
+  passes = refl;
+  finds = refl;
+  named = refl;
+  leaf = refl;
+  no_own_fault = refl;
+}
+
+is_infocmp : IsTool ti_app (codes "infocmp") infocmp_app
+unfolding ti_app walked defaults_fault
+is_infocmp = record {
+  simple = refl;
+  free = refl;
+  program_words = λ words. refl;
+  tool_words = λ words. refl;
+  enters = refl;
+  passes = refl;
+  finds = refl;
+  named = refl;
+  leaf = refl;
+  no_own_fault = refl;
+}
+
+same_tool : (name known : Text) (tool app : App) → bytes_eq name known ≡ true → Some tool ≡ Some app → IsTool ti_app known tool → IsTool ti_app name app
+same_tool name known tool app eq is t =
+    subst (λ (n : Text). IsTool ti_app n app) (sym ((bytes_eq-Decides name known).0 eq))
+    (subst (λ (a : App). IsTool ti_app known a) (ap (λ (o : Option App). unwrap_or o tool) is) t)
+
+tool_of : (name : Text) (app : App) (tic tput session infocmp : Bool) → bytes_eq name (codes "tic") ≡ tic → bytes_eq name (codes "tput") ≡ tput
+    → bytes_eq name (codes "session") ≡ session → bytes_eq name (codes "infocmp") ≡ infocmp
+    → (if tic then Some tic_app else if tput then Some tput_app else if session then Some session_app else if infocmp then Some infocmp_app else None) ≡ Some app
+    → IsTool ti_app name app
+tool_of name app true b2 b3 b4 e1 e2 e3 e4 is = same_tool name _ tic_app app e1 is is_tic
+tool_of name app false true b3 b4 e1 e2 e3 e4 is = same_tool name _ tput_app app e2 is is_tput
+tool_of name app false false true b4 e1 e2 e3 e4 is = same_tool name _ session_app app e3 is is_session
+tool_of name app false false false true e1 e2 e3 e4 is = same_tool name _ infocmp_app app e4 is is_infocmp
+tool_of name app false false false false e1 e2 e3 e4 is = absurd (cc)
+
+is_tool : (name : Text) (app : App) → tool_app name ≡ Some app → IsTool ti_app name app
+is_tool name app is = tool_of name app _ _ _ _ refl refl refl refl is
+
+walk_is : (program : App) (name : Text) (tool : App) (rest : List Text) → IsTool program name tool
+    → walk (built program).top.rules (names_of (built program)) nothing_held (name ∷ rest) ≡ at_name name rest
+walk_is program name tool rest is =
+    ap (λ (w : Walk). fold (walked (built program).top.rules (names_of (built program))) w rest) is.enters
+    ∙ sym (walk_stopped (built program).top.rules (names_of (built program)) (walk_from nothing_held) name [] rest)
+
+walk_passes : (program : App) (name : Text) (tool : App) (rest : List Text) → IsTool program name tool
+    → walk_fault (built program).top (names_of (built program)) (walk_from nothing_held) (name ∷ rest) ≡ []
+unfolding walk_fault
+walk_passes program name tool rest is =
+    let b = built program in
+    ap₂ or_else is.passes (ap (λ (w : Walk). walk_fault b.top (names_of b) w rest) is.enters ∙ stopped_fault b.top (names_of b) (walk_from nothing_held) (name, []) rest)
+
+subcommand_is : (program : App) (name : Text) (tool : App) (first : Text) (rest : List Text) → IsTool program name tool
+    → subcommand_of program (first ∷ name ∷ rest) ≡ Some (name, matches_of tool (name ∷ rest))
+subcommand_is program name tool first rest is =
+    let b = built program in
+    ap (λ (words : List Text). entered b (stop_after b.top.rules (names_of b) words)) (is.program_words (first ∷ name ∷ rest))
+    ∙ ap (λ (w : Walk). entered b w.stopped) (walk_is program name tool rest is)
+    ∙ ap (λ (found : Option Shape). option_map (λ (s : Shape). rows_at s rest) found) is.finds
+    ∙ ap₂ (λ (n : Text) (rows : List Row). Some (n, rows)) is.named
+    (ap₂ (λ (names : Names) (words : List Text). rows_after (built tool).top.rules names words) (ap (λ (subs : List Shape). map label_of subs) (sym is.leaf)) (sym (is.tool_words (name ∷ rest))))
+
+no_fault : (program : App) (name : Text) (tool : App) (first : Text) (rest : List Text) → IsTool program name tool
+    → fault_of tool (name ∷ rest) ≡ [] → fault_of program (first ∷ name ∷ rest) ≡ []
+no_fault program name tool first rest is none =
+    let b = built program in
+    let below : level_fault (built tool).top [] nothing_held rest false [] ≡ [] =
+    sym (leaf_fault (built tool) nothing_held rest is.leaf) ∙ ap (λ (words : List Text). built_fault (built tool) nothing_held words) (sym (is.tool_words (name ∷ rest))) ∙ none in
+    ap (λ (words : List Text). built_fault b nothing_held words) (is.program_words (first ∷ name ∷ rest))
+    ∙ ap₂ (faults_at b) (walk_is program name tool rest is) (walk_passes program name tool rest is)
+    ∙ ap (faults_found b rest) is.finds
+    ∙ ap₂ or_else below is.no_own_fault
+
+-- the job that the words ask for is that of the matches of their tool's command
+pub job_of-tool : (words : List Text) (name : Text) (app : App) (matches : ArgMatches) → Some name ≡ slice_get words 1 → Some app ≡ tool_app name
+    → HasMatchesOf app (drop 1 words) matches → task_at name (rows_of (found_of matches)) ≡ job_of words
+job_of-tool [] name app matches at is has = absurd (cc)
+job_of-tool (first ∷ []) name app matches at is has = absurd (cc)
+job_of-tool (first ∷ second ∷ rest) name app matches at is has =
+    let same : name ≡ second = ap (λ (o : Option Text). unwrap_or o name) at in
+    let tool = is_tool name app (sym is) in
+    let rows : rows_of (found_of matches) ≡ matches_of app (second ∷ rest) = (has tool.simple).0 in
+    ap (task_at name) (rows ∙ ap (λ (n : Text). matches_of app (n ∷ rest)) (sym same))
+    ∙ ap task_in (sym (subcommand_is ti_app name app first rest tool))
+    ∙ ap (λ (n : Text). job_of (first ∷ n ∷ rest)) same
+
+-- and clap finds no fault in words in which it finds none by that command
+pub no_faults-tool : (words : List Text) (name : Text) (app : App) (matches : ArgMatches) → Some name ≡ slice_get words 1 → Some app ≡ tool_app name
+    → (is_simple_and_free app ≡ true → FailsBy {T = ArgMatches} (fault_of app (drop 1 words)) (Ok matches)) → faults_of words ≡ []
+no_faults-tool [] name app matches at is fails = absurd (cc)
+no_faults-tool (first ∷ []) name app matches at is fails = absurd (cc)
+no_faults-tool (first ∷ second ∷ rest) name app matches at is fails =
+    let same : name ≡ second = ap (λ (o : Option Text). unwrap_or o name) at in
+    let tool = is_tool name app (sym is) in
+    ap (λ (n : Text). faults_of (first ∷ n ∷ rest)) (sym same)
+    ∙ no_fault ti_app name app first rest tool (ap (λ (n : Text). fault_of app (n ∷ rest)) same ∙ fails tool.free)
+
+-- the second of some things, and what a function gives of it
+pub second_of : {X : Type 0} (f : X → Text) (xs : List X) (x : X) → true ≡ nat_lt 1 (length xs) → x ≡ get_or xs 1 x → Some (f x) ≡ slice_get (map f xs) 1
+second_of f [] x within is = absurd (true≢false within)
+second_of f (first ∷ []) x within is = absurd (true≢false within)
+second_of f (first ∷ second ∷ rest) x within is = ap (λ y. Some (f y)) is
+
+pub some_of_ok : {T E : Type 0} (r : Result T E) (o : Option T) (P Q : T → Type 0) → o ≡ result_ok r → IfOk r P → ((x : T) → P x → Q x) → IfSome o Q
+some_of_ok (Ok x) o P Q is has gives = subst (λ (some : Option _). IfSome some Q) (sym is) (gives x has)
+some_of_ok (Err e) o P Q is has gives = subst (λ (some : Option _). IfSome some Q) (sym is) tt
+
+-- what a function gives of all behind the first
+pub others_of : {X : Type 0} (f : X → Text) (xs : List X) → map f (take (length xs - 1) (drop 1 xs)) ≡ drop 1 (map f xs)
+others_of f [] = refl
+others_of f (first ∷ rest) =
+    let count : length (first ∷ rest) - 1 ≡ length rest = omega arith in
+    ap (λ n. map f (take n rest)) count ∙ ap (map f) (take-length rest)
