@@ -12,6 +12,7 @@ TOP = os.path.dirname(os.path.dirname(HERE))
 PROGRAM = os.environ.get("TI_PROGRAM") or os.path.join(TOP, "crates", "ti", "out", "ti")
 PROBE = os.environ.get("TI_PROBE") or os.path.join(TOP, "crates", "ti_probe", "out", "ti_probe")
 MEMORY_MAX = 2_000_000_000
+# of the processor
 SECONDS_MAX = 120
 # where files are kept that are many and short-lived
 ROOM = "/dev/shm" if os.access("/dev/shm", os.W_OK) else None
@@ -44,15 +45,15 @@ class Helper:
         return json.loads(cls.process.stdout.readline())
 
 
-def run(words, given=b"", program=PROGRAM, env=None, seconds=SECONDS_MAX):
+def run(words, given=b"", program=PROGRAM, env=None):
     """Runs a program, whose standard input holds the bytes given."""
     with tempfile.TemporaryDirectory(prefix="ti-hostile-", dir=ROOM) as room:
         paths = {it: os.path.join(room, it) for it in ("given", "out", "err")}
         for name, path in paths.items():
             with open(path, "wb") as file:
                 file.write(given if name == "given" else b"")
-        found = Helper.ask(
-            {**paths, "words": [program, *words], "env": env or {}, "timeout": seconds, "most": MEMORY_MAX})
+        found = Helper.ask({
+            **paths, "words": [program, *words], "env": env or {}, "memory": MEMORY_MAX, "seconds": SECONDS_MAX})
         texts = {}
         for name in ("out", "err"):
             with open(paths[name], "rb") as file:

@@ -11,6 +11,9 @@ import signal
 import sys
 import threading
 
+# a program that waits, or a machine that does much else, may take longer than the processor's time
+WAIT_FACTOR = 8
+
 
 def answer(asked):
     """Runs a program; its status, the seconds of the processor that it took, and its memory."""
@@ -20,7 +23,7 @@ def answer(asked):
             start(asked)
         finally:
             os._exit(127)
-    watch = threading.Timer(asked["timeout"], os.kill, (child, signal.SIGKILL))
+    watch = threading.Timer(WAIT_FACTOR * asked["seconds"], os.kill, (child, signal.SIGKILL))
     watch.start()
     _, status, usage = os.wait4(child, 0)
     watch.cancel()
@@ -31,7 +34,8 @@ def answer(asked):
 def start(asked):
     for descriptor, name in enumerate(("given", "out", "err")):
         os.dup2(os.open(asked[name], os.O_RDWR), descriptor)
-    for what, most in ((resource.RLIMIT_AS, asked["most"]), (resource.RLIMIT_CORE, 0)):
+    limits = (resource.RLIMIT_AS, asked["memory"]), (resource.RLIMIT_CPU, asked["seconds"]), (resource.RLIMIT_CORE, 0)
+    for what, most in limits:
         resource.setrlimit(what, (most, most))
     os.execve(asked["words"][0], asked["words"], asked["env"])
 
