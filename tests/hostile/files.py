@@ -224,6 +224,24 @@ def one_text(take):
             ["infocmp", "-u", "same"] + ["last"] * 20, b"", 0, relative(entries["same"], [entries["last"]] * 20), env=env)
 
 
+@case("65,535 blocks of four names each, written as files", long=True)
+def many_files(take):
+    blocks = [b"a%d|b%d|c%d|d%d|a terminal,cols#1,\n" % (at, at, at, at) for at in range(65_535)]
+    with Room() as room:
+        fault = take.fault(["tic", "-o", room.path], b"".join(blocks), 0)
+        found = sum(len(names) for _, _, names in os.walk(room.path))
+        return fault or (None if found == 4 * 65_535 else f"{found} files")
+
+
+@case("a header of a megabyte with 180,000 names, and one with a name 300,000 times, of which no file comes")
+def wide_headers(take):
+    distinct = b"|".join(b"%x" % at for at in range(180_000)) + b"|d,\n"
+    repeated = b"nn|" * 300_000 + b"d,\n"
+    with Room() as room:
+        return take.fault(
+            ["tic", "-o", room.path], distinct + repeated, 1, err=b"1: E2 NamesTooLong\n2: E2 NamesTooLong\n")
+
+
 # a text of a capability, the words that follow its name, the status, what is written
 TEXTS = (
     (b"%?" * 16_000, ["1"], 4, b""),

@@ -348,6 +348,28 @@ def too_much_memory(take):
     return take.fault(["tic", "-c"], b"".join(blocks), 1, b"", b"tic: out of memory\n")
 
 
+@case("65,535 blocks: 30,000 moves from one end of the list to the other, and 30,000 back")
+def moves(take):
+    blocks = [b"b%d,cols#1,\n" % at for at in range(BLOCKS_MAX)]
+    end, many = BLOCKS_MAX - 1, 30_000
+    there, back = b"m 0 %d\n" % end, b"m %d 0\n" % end
+    return take.session(
+        blocks, there * many + b"w\np 0\np %d\n" % end + back * many + b"w\np 0\n",
+        b"ok\n" * many + b"%d\n" % end + entry_of(b"b%d" % many) + entry_of(b"b%d" % (many - 1))
+        + b"ok\n" * many + b"0\n" + entry_of(b"b0"))
+
+
+@case("65,535 blocks: 30,000 are taken out of the middle, each put in again at the front")
+def taken_out(take):
+    blocks = [b"b%d,cols#1,\n" % at for at in range(BLOCKS_MAX)]
+    middle, many = BLOCKS_MAX // 2, 30_000
+    commands = [b"d %d\ni 0\nb%d,cols#2,\n.\n" % (middle, middle - at) for at in range(many)]
+    return take.session(
+        blocks, b"".join(commands) + b"w\np 0\np %d\nf\n" % middle,
+        b"ok\n" * (2 * many) + b"0\n" + entry_of(b"b%d" % (middle - many + 1), 2)
+        + entry_of(b"b%d" % (middle - many)) + b".\n")
+
+
 @case("65,536 blocks are too many, and a session refuses the last")
 def too_many(take):
     blocks = [b"b%d,cols#1,\n" % at for at in range(BLOCKS_MAX)]
