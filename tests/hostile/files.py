@@ -11,20 +11,13 @@ from model.base import compile_source
 from model.caps import FLAG, FIND, NAMES_OF, NUMBER, TEXT, name
 from model.entry import read, read_file
 from model.listing import compared, listed, relative
+from registry import case
 
-CASES = []
 DUMB = b"dumb|80-column dumb tty,\n\tam, cols#80, bel=^G, cr=\\r, cud1=\\n, ind=\\n,\n"
 HEADER_LEN = 12
 CHANGES = (0x00, 0x01, 0x7F, 0x80, 0xFF)
 # how many files one run of a program is given
 AT_ONCE = 400
-
-
-def case(name, long=False):
-    def keep(body):
-        CASES.append((name, body, long))
-        return body
-    return keep
 
 
 class Room:

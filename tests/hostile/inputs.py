@@ -2,9 +2,9 @@
 
 from typing import Callable, NamedTuple
 
-import files
 from limits import run
 from model.caps import FLAG, NAMES_OF, NUMBER, TEXT
+from registry import CASES, case
 
 BLOCKS_MAX = 65_535
 BLOCK_MAX = 1_048_576
@@ -66,20 +66,9 @@ class Case(NamedTuple):
         return self.body(self.take)
 
 
-CASES = []
-
-
-def case(name, long=False):
-    """Makes a function of a `Take` a case; it answers what is wrong, or None."""
-    def keep(body):
-        CASES.append((name, body, long))
-        return body
-    return keep
-
-
 def cases(all_of_them):
     """The inputs, without the long ones unless all are wanted."""
-    return [Case(*it, Take()) for it in CASES + files.CASES if all_of_them or not it[2]]
+    return [Case(*it, Take()) for it in CASES if all_of_them or not it[2]]
 
 
 def numbers(count):
@@ -263,21 +252,6 @@ def used_by_all(take):
 @case("65,535 blocks that wait for the last one, compiled")
 def wait_for_last(take):
     return take.tic([b"b%d,use=n,\n" % at for at in range(BLOCKS_MAX - 1)] + [b"n,cols#1,\n"], b"")
-
-
-def owners_last(count):
-    return [b"b%d,use=b%d,\n" % (at, at + 1) for at in range(count - 1)] + [b"b%d,cols#1,\n" % (count - 1)]
-
-
-# Each block that is put in rebuilds all before it: the time grows with the square of the length.
-@case("chain of 1,000 whose owners come last, compiled")
-def owners_last_short(take):
-    return take.tic(owners_last(1_000), b"")
-
-
-@case("chain of 8,000 whose owners come last, compiled", long=True)
-def owners_last_long(take):
-    return take.tic(owners_last(8_000), b"")
 
 
 @case("65,535 blocks that each use ten earlier ones: the root is replaced, and made part of a knot")

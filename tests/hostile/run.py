@@ -17,9 +17,11 @@ import random
 import sys
 import time
 
+import files  # noqa: F401, adds its inputs
 import inputs
 import limits
 import randoms
+import squares  # noqa: F401, adds its inputs
 
 # how many of each kind are made at random: short, and with --all. A session of `edits` has 20 edits.
 COUNTS = {"edits": (25, 100), "scripts": (1_000, 12_000), "sources": (600, 8_000)}
