@@ -11,20 +11,13 @@ from model.base import compile_source
 from model.caps import FLAG, FIND, NAMES_OF, NUMBER, TEXT, name
 from model.entry import read, read_file
 from model.listing import compared, listed, relative
+from registry import case
 
-CASES = []
 DUMB = b"dumb|80-column dumb tty,\n\tam, cols#80, bel=^G, cr=\\r, cud1=\\n, ind=\\n,\n"
 HEADER_LEN = 12
 CHANGES = (0x00, 0x01, 0x7F, 0x80, 0xFF)
 # how many files one run of a program is given
 AT_ONCE = 400
-
-
-def case(name, long=False):
-    def keep(body):
-        CASES.append((name, body, long))
-        return body
-    return keep
 
 
 class Room:
@@ -222,6 +215,24 @@ def one_text(take):
             ["infocmp", "-d", "same", "last"], b"", 0, compared(entries["same"], entries["last"], "d"), env=env)
         return fault or take.fault(
             ["infocmp", "-u", "same"] + ["last"] * 20, b"", 0, relative(entries["same"], [entries["last"]] * 20), env=env)
+
+
+@case("65,535 blocks of four names each, written as files", long=True)
+def many_files(take):
+    blocks = [b"a%d|b%d|c%d|d%d|a terminal,cols#1,\n" % (at, at, at, at) for at in range(65_535)]
+    with Room() as room:
+        fault = take.fault(["tic", "-o", room.path], b"".join(blocks), 0)
+        found = sum(len(names) for _, _, names in os.walk(room.path))
+        return fault or (None if found == 4 * 65_535 else f"{found} files")
+
+
+@case("a header of a megabyte with 180,000 names, and one with a name 300,000 times, of which no file comes")
+def wide_headers(take):
+    distinct = b"|".join(b"%x" % at for at in range(180_000)) + b"|d,\n"
+    repeated = b"nn|" * 300_000 + b"d,\n"
+    with Room() as room:
+        return take.fault(
+            ["tic", "-o", room.path], distinct + repeated, 1, err=b"1: E2 NamesTooLong\n2: E2 NamesTooLong\n")
 
 
 # a text of a capability, the words that follow its name, the status, what is written

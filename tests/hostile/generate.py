@@ -53,8 +53,9 @@ class Source:
         pieces = [self.one(PIECES) for _ in range(self.one([0, 1, 1, 2, 3, 6]))]
         if self.maybe(0.06):
             pieces.insert(self.random.randint(0, len(pieces)), self.one(ODD_PIECES))
-        if self.maybe(0.02):
-            pieces.append(b"A" * self.one([1000, 4000, 4060, 4075, 4080, 4090, 32700, 32760]))
+        if self.maybe(0.04):
+            # about as long as an entry of either format may be
+            pieces.append(b"A" * self.random.choice([1000, self.random.randint(4_060, 4_082), self.random.randint(32_720, 32_750)]))
         return b"".join(pieces)
 
     def item(self):

@@ -2,8 +2,9 @@
 
 from typing import Callable, NamedTuple
 
-import files
 from limits import run
+from model.caps import FLAG, NAMES_OF, NUMBER, TEXT
+from registry import CASES, case
 
 BLOCKS_MAX = 65_535
 BLOCK_MAX = 1_048_576
@@ -65,20 +66,9 @@ class Case(NamedTuple):
         return self.body(self.take)
 
 
-CASES = []
-
-
-def case(name, long=False):
-    """Makes a function of a `Take` a case; it answers what is wrong, or None."""
-    def keep(body):
-        CASES.append((name, body, long))
-        return body
-    return keep
-
-
 def cases(all_of_them):
     """The inputs, without the long ones unless all are wanted."""
-    return [Case(*it, Take()) for it in CASES + files.CASES if all_of_them or not it[2]]
+    return [Case(*it, Take()) for it in CASES if all_of_them or not it[2]]
 
 
 def numbers(count):
@@ -206,25 +196,18 @@ def short_names(count):
 @case("a block with 100,000 uses of names that nobody owns")
 def missing_uses(take):
     names = short_names(100_000)
-    return take.tic([b"x," + b",".join(b"use=" + it for it in names) + b",\n"],
+    return take.tic([b"long," + b",".join(b"use=" + it for it in names) + b",\n"],
                     b"".join(b"1: E6 MissingUse %s\n" % it for it in names))
 
 
 @case("a block with 170,000 uses of one name, which comes, goes and is broken")
 def uses_of_one_name(take):
-    block = b"x," + b"use=n," * 170_000 + b"\n"
+    # with line breaks, since a session takes no line of a megabyte
+    block = b"x," + (b"use=n," * 5_000 + b"\n\t") * 34 + b"\n"
     commands = b"p 0\ni 0\nn,cols#1,\n.\np 1\nr 0\nn,cols#x,\n.\nf\nd 0\np 0\n"
-    report = b"1: E3 BadNumber cols\n" + b"2: E8 Unresolved n\n" * 170_000 + b".\n"
-    return take.session(in_lines(block), commands, b"none\nok\n" + entry_of(b"x") + b"ok\n" + report + b"ok\nnone\n")
-
-
-def in_lines(block):
-    """The block with its commas at the ends of lines, so that no line is too long for a session."""
-    return [b",\n\t".join(b",".join(it) for it in chunks(block[:-1].split(b","), 5_000)) + b"\n"]
-
-
-def chunks(found, size):
-    return [found[at : at + size] for at in range(0, len(found), size)]
+    report = b"1: E3 BadNumber cols\n"
+    report += b"".join(b"%d: E8 Unresolved n\n" % (2 + at) * 5_000 for at in range(34)) + b".\n"
+    return take.session([block], commands, b"none\nok\n" + entry_of(b"x") + b"ok\n" + report + b"ok\nnone\n")
 
 
 def wide_header(names):
@@ -269,20 +252,6 @@ def used_by_all(take):
 @case("65,535 blocks that wait for the last one, compiled")
 def wait_for_last(take):
     return take.tic([b"b%d,use=n,\n" % at for at in range(BLOCKS_MAX - 1)] + [b"n,cols#1,\n"], b"")
-
-
-def owners_last(count):
-    return [b"b%d,use=b%d,\n" % (at, at + 1) for at in range(count - 1)] + [b"b%d,cols#1,\n" % (count - 1)]
-
-
-@case("chain of 4,000 whose owners come last, compiled")
-def owners_last_short(take):
-    return take.tic(owners_last(4_000), b"")
-
-
-@case("chain of 65,535 whose owners come last, compiled", long=True)
-def owners_last_long(take):
-    return take.tic(owners_last(BLOCKS_MAX), b"")
 
 
 @case("65,535 blocks that each use ten earlier ones: the root is replaced, and made part of a knot")
@@ -330,18 +299,49 @@ def long_preface(take):
         b"tic: block too long at line %d\n" % (lines + 1))
 
 
-@case("a chain of 65,535 blocks, each with all 497 capabilities of the first", long=True)
-def full_chain(take):
-    from model.caps import FLAG, NAMES_OF, NUMBER, TEXT
-    items = b",".join(NAMES_OF[FLAG] + [it + b"#1" for it in NAMES_OF[NUMBER]] + [it + b"=A" for it in NAMES_OF[TEXT]])
-    return take.tic([b"b0," + items + b",\n"] + chain(BLOCKS_MAX, b"")[1:], b"")
+def full_chain(count):
+    """A chain whose first block has all capabilities, which all others inherit."""
+    flags, numbers, texts = (NAMES_OF[kind] for kind in (FLAG, NUMBER, TEXT))
+    items = flags + [it + b"#1" for it in numbers] + [it + b"=A" for it in texts]
+    return chain(count, b",".join(items))
 
 
 @case("a chain of 10,000 blocks, each with all 497 capabilities of the first")
 def full_chain_short(take):
-    from model.caps import FLAG, NAMES_OF, NUMBER, TEXT
-    items = b",".join(NAMES_OF[FLAG] + [it + b"#1" for it in NAMES_OF[NUMBER]] + [it + b"=A" for it in NAMES_OF[TEXT]])
-    return take.tic([b"b0," + items + b",\n"] + chain(10_000, b"")[1:], b"")
+    return take.tic(full_chain(10_000), b"")
+
+
+@case("a chain of 65,535 blocks, each with all 497 capabilities of the first", long=True)
+def full_chain_long(take):
+    return take.tic(full_chain(BLOCKS_MAX), b"")
+
+
+@case("a chain of 65,535 entries of 32,768 bytes each, which 2 GB do not hold: out of memory", long=True)
+def too_much_memory(take):
+    blocks = chain(BLOCKS_MAX, b"cols#65536,cbt=" + b"A" * 32_700)
+    return take.fault(["tic", "-c"], b"".join(blocks), 1, b"", b"tic: out of memory\n")
+
+
+@case("65,535 blocks: 30,000 moves from one end of the list to the other, and 30,000 back")
+def moves(take):
+    blocks = [b"b%d,cols#1,\n" % at for at in range(BLOCKS_MAX)]
+    end, many = BLOCKS_MAX - 1, 30_000
+    there, back = b"m 0 %d\n" % end, b"m %d 0\n" % end
+    return take.session(
+        blocks, there * many + b"w\np 0\np %d\n" % end + back * many + b"w\np 0\n",
+        b"ok\n" * many + b"%d\n" % end + entry_of(b"b%d" % many) + entry_of(b"b%d" % (many - 1))
+        + b"ok\n" * many + b"0\n" + entry_of(b"b0"))
+
+
+@case("65,535 blocks: 30,000 are taken out of the middle, each put in again at the front")
+def taken_out(take):
+    blocks = [b"b%d,cols#1,\n" % at for at in range(BLOCKS_MAX)]
+    middle, many = BLOCKS_MAX // 2, 30_000
+    commands = [b"d %d\ni 0\nb%d,cols#2,\n.\n" % (middle, middle - at) for at in range(many)]
+    return take.session(
+        blocks, b"".join(commands) + b"w\np 0\np %d\nf\n" % middle,
+        b"ok\n" * (2 * many) + b"0\n" + entry_of(b"b%d" % (middle - many + 1), 2)
+        + entry_of(b"b%d" % (middle - many)) + b".\n")
 
 
 @case("65,536 blocks are too many, and a session refuses the last")

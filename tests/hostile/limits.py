@@ -1,12 +1,10 @@
 """Runs a program within limits of memory and time, and measures both."""
 
+import json
 import os
-import resource
-import signal
 import subprocess
 import sys
 import tempfile
-import threading
 from typing import NamedTuple
 
 HERE = os.path.dirname(os.path.abspath(__file__))
@@ -14,6 +12,7 @@ TOP = os.path.dirname(os.path.dirname(HERE))
 PROGRAM = os.environ.get("TI_PROGRAM") or os.path.join(TOP, "crates", "ti", "out", "ti")
 PROBE = os.environ.get("TI_PROBE") or os.path.join(TOP, "crates", "ti_probe", "out", "ti_probe")
 MEMORY_MAX = 2_000_000_000
+# of the processor
 SECONDS_MAX = 120
 # where files are kept that are many and short-lived
 ROOM = "/dev/shm" if os.access("/dev/shm", os.W_OK) else None
@@ -26,32 +25,40 @@ class Done(NamedTuple):
     out: bytes
     err: bytes
     seconds: float  # of the processor
-    memory: int  # the most bytes that were held at once
+    memory: int  # the most bytes that were held at once, or 10 MB where that is more
 
 
-def limit():
-    resource.setrlimit(resource.RLIMIT_AS, (MEMORY_MAX, MEMORY_MAX))
-    resource.setrlimit(resource.RLIMIT_CORE, (0, 0))
+class Helper:
+    """The process that runs and measures programs, started where it is first wanted."""
+
+    process = None
+
+    @classmethod
+    def ask(cls, question):
+        if cls.process is None:
+            cls.process = subprocess.Popen(
+                [sys.executable, "-S", "-E", os.path.join(HERE, "measure.py")],
+                stdin=subprocess.PIPE, stdout=subprocess.PIPE, text=True,
+            )
+        cls.process.stdin.write(json.dumps(question) + "\n")
+        cls.process.stdin.flush()
+        return json.loads(cls.process.stdout.readline())
 
 
-def run(words, given=b"", program=PROGRAM, env=None, cwd=None, seconds=SECONDS_MAX):
+def run(words, given=b"", program=PROGRAM, env=None):
     """Runs a program, whose standard input holds the bytes given."""
-    with tempfile.TemporaryFile(dir=ROOM) as source, tempfile.TemporaryFile(dir=ROOM) as out, \
-            tempfile.TemporaryFile(dir=ROOM) as err:
-        source.write(given)
-        source.seek(0)
-        child = subprocess.Popen(
-            [program, *words], stdin=source, stdout=out, stderr=err, env=env or {}, cwd=cwd, preexec_fn=limit,
-        )
-        watch = threading.Timer(seconds, os.kill, (child.pid, signal.SIGKILL))
-        watch.start()
-        _, status, usage = os.wait4(child.pid, 0)
-        watch.cancel()
-        child.returncode = os.waitstatus_to_exitcode(status)
-        for file in (out, err):
-            file.seek(0)
-        used = usage.ru_utime + usage.ru_stime
-        return Done(child.returncode, out.read(), err.read(), used, usage.ru_maxrss * 1024)
+    with tempfile.TemporaryDirectory(prefix="ti-hostile-", dir=ROOM) as room:
+        paths = {it: os.path.join(room, it) for it in ("given", "out", "err")}
+        for name, path in paths.items():
+            with open(path, "wb") as file:
+                file.write(given if name == "given" else b"")
+        found = Helper.ask({
+            **paths, "words": [program, *words], "env": env or {}, "memory": MEMORY_MAX, "seconds": SECONDS_MAX})
+        texts = {}
+        for name in ("out", "err"):
+            with open(paths[name], "rb") as file:
+                texts[name] = file.read()
+        return Done(**found, **texts)
 
 
 def quick(words, given=b"", env=None):
@@ -61,7 +68,3 @@ def quick(words, given=b"", env=None):
         timeout=SECONDS_MAX, check=False,
     )
     return done.returncode, done.stdout, done.stderr
-
-
-def stop(why):
-    sys.exit(f"hostile: {why}")

@@ -88,7 +88,7 @@ def script(seed):
         edit = source.edit(len(database.texts))
         if fits_a_session(edit):
             database.apply(edit)
-            lines += lines_of(edit)
+            lines += lines_of(edit) + (b"w\n" if source.maybe(0.6) else b"")
     if source.maybe(0.15):
         lines = source.damage(lines)
         return checked(lines)[2]

@@ -4,7 +4,7 @@
     run.py [--all] [--seed N] [--only WORD]
 
 Without --all the short part alone: what takes long is run on a smaller scale. Each input is run
-within 2 GB of memory and 120 seconds; what it took is printed. The inputs made at random are compared
+within 2 GB of memory and 120 seconds of the processor; what it took is printed. The inputs made at random are compared
 with a model that is written from the definitions alone (the folder model/); their seed is printed, and
 --seed repeats them. With --only, only the parts and inputs whose name begins with the word are run.
 The last line is `hostile: N passed, M failed`.
@@ -17,9 +17,11 @@ import random
 import sys
 import time
 
+import files  # noqa: F401, adds its inputs
 import inputs
 import limits
 import randoms
+import squares  # noqa: F401, adds its inputs
 
 # how many of each kind are made at random: short, and with --all. A session of `edits` has 20 edits.
 COUNTS = {"edits": (25, 100), "scripts": (1_000, 12_000), "sources": (600, 8_000)}

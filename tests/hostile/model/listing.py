@@ -1,33 +1,34 @@
 """Listings, comparisons and relative source."""
 
+import re
+from functools import lru_cache
+
 from .caps import FLAG, KINDS, NAMES_OF, NUMBER, TEXT, name
 
 LETTERS = {0x1B: b"\\E", 0x0A: b"\\n", 0x0D: b"\\r", 0x09: b"\\t", 0x08: b"\\b", 0x0C: b"\\f", 0x00: b"\\0"}
+# what may not be written as itself: a space only where it is the first or the last byte
+SPECIAL = re.compile(rb"[\x00-\x1f\x7f-\xff,\\^]|\A | \Z")
 WIDTH = 60
 
 
+@lru_cache(maxsize=2048)
 def written(value):
     """The text of a string."""
-    found = b""
-    for at, byte in enumerate(value):
-        one = bytes([byte])
-        behind_percent = value[at - 1 : at] == b"%"
-        octal = b"\\%03o" % byte
-        if byte in LETTERS:
-            found += LETTERS[byte]
-        elif one in (b",", b"\\") or (one == b"^" and not behind_percent):
-            found += b"\\" + one
-        elif one == b" " and at in (0, len(value) - 1):
-            found += b"\\s"
-        elif byte == 0x1C or byte >= 0x80:
-            found += octal
-        elif byte == 0x7F:
-            found += octal if behind_percent else b"^?"
-        elif byte < 0x20:
-            found += octal if behind_percent else b"^" + bytes([byte + 0x40])
-        else:
-            found += one
-    return found
+    return SPECIAL.sub(lambda found: written_byte(found[0][0], value[found.start() - 1 : found.start()] == b"%"), value)
+
+
+def written_byte(byte, behind_percent):
+    if byte in LETTERS:
+        return LETTERS[byte]
+    if byte == 0x20:
+        return b"\\s"
+    if byte in b",\\" or (byte == 0x5E and not behind_percent):
+        return b"\\" + bytes([byte])
+    if byte == 0x5E:
+        return b"^"
+    if byte == 0x1C or byte >= 0x80 or behind_percent:
+        return b"\\%03o" % byte
+    return b"^?" if byte == 0x7F else b"^" + bytes([byte + 0x40])
 
 
 def caps_of(kind, by_name):
