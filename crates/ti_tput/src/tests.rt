@@ -1,4 +1,5 @@
 //! Worked commands, with answers from tput(1) and by hand.
+mod devices;
 mod lines;
 mod places;
 
