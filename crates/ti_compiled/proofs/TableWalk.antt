@@ -1,13 +1,12 @@
 -- A walk over two tables by which an image that holds what the one says comes to hold what the other says.
-use Rattle.std.proofs.Common.{◌≡◌, ◌≢◌, ℕ, zero, suc, ◌+◌, ◌<◌, ◌≤◌, true, false, cond, List, length, get_or, Option, Some, None, refl, sym, ap, ◌∙◌, subst, arith, inl, inr}
+use Rattle.std.proofs.Common.{◌≡◌, ◌≢◌, ℕ, suc, ◌+◌, ◌<◌, ◌≤◌, List, length, get_or, Some, None, sym, ap, ◌∙◌, subst, arith, inl, inr}
 use Rattle.std.proofs.lemmas.Bool.{cases_lt}
 use Rattle.std.proofs.lemmas.List.{length-map}
-use Rattle.ti_caps.specs.Tables.{Capability, IsCapability, same_capability}
-use Rattle.ti_caps.proofs.Same.{same_capability-true}
+use Rattle.ti_caps.specs.Tables.{Capability, IsCapability}
 use Rattle.ti_layout.specs.Laws.{uncancelled}
 use Rattle.ti_layout.specs.Merging.{IsPastBoth}
 use Rattle.ti_layout.specs.declared.values.Value.{Value}
-use Rattle.ti_layout.specs.Values.{Content, Contents, Entry, Agrees, IsKept, contents, content_of, entries_of, rank_at, rank_of}
+use Rattle.ti_layout.specs.Values.{Contents, Entry, Agrees, IsKept, contents, content_of, entries_of, rank_at, rank_of}
 use Rattle.ti_layout.proofs.Held.{contents_nowhere, one_from_rank}
 use Rattle.ti_layout.proofs.Places.{nowhere, rank_read}
 use Rattle.ti_layout.proofs.Walked.{contents_read, item_read}
@@ -83,13 +82,6 @@ patches_all old new held i j kept_o kept_n m past c valid =
           ∙ ap uncancelled (silent old kept_o m.rank i (suc (rank_of c)) m.in_old (λ lt. absurd (omega arith)) c over (omega arith)
           ∙ sym (silent new kept_n m.rank j (suc (rank_of c)) m.in_new (λ lt. absurd (omega arith)) c over (omega arith)))
     ]
-
--- what a capability has, given once more
-pub given_same : (d : Contents) (k : Capability) (v : Option Content) → d k ≡ v → (c : Capability) → d c ≡ given d k v c
-given_same d k v e c = elim (same_capability k c) as (λ b. same_capability k c ≡ b → d c ≡ cond b v (d c)) [
-  | true ↦ λ same. ap d (sym (same_capability-true k c same)) ∙ e
-  | false ↦ λ other. refl
-] refl
 
 module _ (old new : List Entry) (kept_o : IsKept old) (kept_n : IsKept new) (held : Contents) (i j : ℕ) (m : Patches old new held i j) where
   -- the walk has come to a capability, and it is made to hold what the new entries say

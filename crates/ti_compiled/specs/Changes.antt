@@ -2,10 +2,9 @@
 use Rattle.std.specs.Prelude.{◌≡◌, ℕ, ◌<◌, ◌≤◌, Bool, true, false, List, length, Option, Some, None, option_map}
 use Rattle.std.specs.Borrow.{Bor}
 use Rattle.ti_caps.specs.Tables.{Capability, IsCapability, capability}
-use Rattle.ti_caps.specs.declared.capability.Kind.TheVariants.{Flag, Number, Text}
+use Rattle.ti_caps.specs.declared.capability.Kind.TheVariants.{Number}
 use Rattle.ti_layout.specs.Image.{image, limit_of, number_value, of_kind}
 use Rattle.ti_compiled.specs.Held.{names_in, contents_in, given}
-use Rattle.ti_layout.specs.Laws.{uncancelled}
 use Rattle.ti_layout.specs.Values.{Content, content_true, content_number, content_text, content_of, Contents, AgreesIfSome}
 use Rattle.ti_layout.specs.declared.values.Value.{Value}
 

@@ -1,9 +1,9 @@
-use Rattle.std.proofs.Common.{◌<◌, length, get_or, sym, ap, subst, ◌∙◌}
+use Rattle.std.proofs.Common.{◌<◌, length, sym, ap, subst, ◌∙◌}
 use Rattle.std.proofs.lemmas.List.{length-map}
 use Rattle.ti_caps.specs.Tables.{Capability, IsCapability}
 use Rattle.std.specs.Prelude.{◌≡◌, Some, None}
 use Rattle.ti_layout.specs.Laws.{uncancelled}
-use Rattle.ti_layout.specs.Merging.{TurnIs, IsPastBoth}
+use Rattle.ti_layout.specs.Merging.{TurnIs}
 use Rattle.ti_layout.specs.declared.values.Value.{Value}
 use Rattle.ti_layout.specs.Values.{content_of, entries_of}
 use Rattle.ti_layout.proofs.Walked.{item_read}
