@@ -141,7 +141,7 @@ fn used_job(alloc: Global, matches: &ArgMatches<'_>) -> Result<Job, UsageError>
     }
 }
 
-// The job that the words ask for, read by the command of their tool alone, which takes less than half as long as by all. `None`
+// The job that the words ask for, read by the command of their tool alone, which takes about half as long as by all. `None`
 // where that finds no job: only the whole command says why.
 fn job_of_tool(alloc: Global, words: &[String]) -> Result<Option<Job>, AllocError>
     ensures { IfOk result (λ found. IfSome found (λ job. (job_of (map string_bytes words.now) ≡ Some (task_of job))
