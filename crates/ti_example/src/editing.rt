@@ -4,8 +4,8 @@ ghost use Rattle.std.specs.Prelude.{◌<◌, length};
 use std::alloc::{AllocError, Global};
 use std::str;
 use ti_base::{Database, EditError};
-use ti_layout::View;
 use ti_devices::{File, Tree, TreeFault};
+use ti_layout::View;
 use ti_source::{blocks, lookup_names};
 
 /// A database of the blocks of a source.

@@ -1,8 +1,8 @@
 //! Driving a terminal: its entry found, a string of it expanded and padded.
 use std::alloc::Global;
 use ti_caps::{Kind, find};
-use ti_layout::View;
 use ti_devices::{ToolError, Tree};
+use ti_layout::View;
 use ti_param::{Line, ParamError, Statics, Value, expand, pad};
 use ti_tput::locate;
 

@@ -8,8 +8,8 @@ ghost use Rattle.ti_tput.specs.Runs.{BadCommandsChangeNothing};
 use crate::entries::terminal_line;
 use crate::replies::{TputOutcome, answer_name};
 use std::alloc::Global;
-use ti_layout::View;
 use ti_devices::ToolError;
+use ti_layout::View;
 use ti_param::{Line, Statics};
 
 /// The most parameters that a command may have.

@@ -6,8 +6,8 @@ ghost use Rattle.ti_devices.specs.declared.tool_error.ToolError.TheVariants.{Mem
 ghost use Rattle.ti_tput.specs.Searching.{Finds, Locates, Opens, listed_places, own_place, place_of_part, places_of};
 
 use std::alloc::{AllocError, Global};
-use ti_layout::{ReadError, View};
 use ti_devices::{ToolError, Tree, TreeFault, entry_path};
+use ti_layout::{ReadError, View};
 use ti_source::is_lookup_name;
 
 /// The place of the system's entries.

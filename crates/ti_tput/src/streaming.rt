@@ -8,8 +8,8 @@ ghost use Rattle.ti_tput.specs.Streaming.{Ends};
 use crate::terminal::Terminal;
 use std::alloc::Global;
 use std::io::{Read, Write};
-use ti_layout::View;
 use ti_devices::{Counted, LineReader, Next, ToolError};
+use ti_layout::View;
 
 /// The greatest length of a line, without its newline.
 const LINE_MAX: usize = 4096;

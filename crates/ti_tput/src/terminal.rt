@@ -10,8 +10,8 @@ use crate::replies::BAD_COMMAND;
 use crate::words::split_words;
 use std::alloc::{AllocError, Global};
 use std::io::Write;
-use ti_layout::View;
 use ti_devices::{Counted, ToolError, write_out};
+use ti_layout::View;
 use ti_param::{Line, Statics};
 
 /// A terminal that takes commands: its entry and line, the static variables, and how many commands were bad, up to 255.
