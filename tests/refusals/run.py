@@ -34,7 +34,7 @@ TOP = os.path.dirname(os.path.dirname(HERE))
 PROGRAM = os.path.join(TOP, "crates", "ti_refusals", "out", "ti_refusals")
 EXPECTED = os.path.join(TOP, "crates", "ti_refusals", "stdout")
 SECONDS = 60
-# no scenario asks for so many growths: it is only there so that a run which never ends is seen
+# nothing is swept that asks for so many growths: it is only there so that a sweep which never ends is seen
 MOST_GROWTHS = 20_000
 MANY = "many-blocks"
 AFTER = 500
@@ -101,7 +101,7 @@ def expected_lines():
 def sweep(runs, pool, name, wanted, first):
     """Refuses each growth from the first on, until a run meets no refusal. How many runs there were, and answers."""
     number, count, answers = first, 0, 0
-    while number < MOST_GROWTHS:
+    while count < MOST_GROWTHS:
         batch = list(pool.map(lambda it: runs.check(name, it, wanted), range(number, number + 64)))
         for said, refusals in batch:
             if refusals == 0:
@@ -109,7 +109,7 @@ def sweep(runs, pool, name, wanted, first):
             count += 1
             answers += said
         number += len(batch)
-    raise ValueError(f"still refused at growth {MOST_GROWTHS}")
+    raise ValueError(f"still refused after {MOST_GROWTHS} growths")
 
 
 def scenario(runs, pool, name, wanted, growths):
