@@ -1,0 +1,132 @@
+//! Tables of values, entries laid from them, and entries that are patched.
+ghost use Rattle.std.specs.Prelude.{◌↔◌, IsTrue};
+ghost use Rattle.ti_layout.specs.Values.{HasNoNul};
+
+use crate::tried::{Tried, Trouble, again};
+use std::alloc::{AllocError, Global};
+use std::rc::RcSlice;
+use ti_caps::{Cap, Kind};
+use ti_compiled::{Image, Table, Value, WriteError, write};
+
+/// The places of the texts that are set.
+const PLACES: [usize; 6] = [1, 2, 11, 14, 19, 129];
+
+const TEXT: &[u8] = b"\x1b[1;2A";
+
+const NAMES: &[u8] = b"bench|a made-up terminal";
+
+fn has_no_nul(bytes: &[u8]) -> bool
+    ensures { IsTrue result ↔ HasNoNul bytes.now }
+{
+    bytes.iter().all(|byte| *byte != 0)
+}
+
+// The entry that a table is laid as.
+fn laid(alloc: Global, table: &Table) -> Result<Vec<u8>, Trouble> {
+    if NAMES.is_empty() || !has_no_nul(NAMES) {
+        return Err(Trouble::Wrong("the names hold a NUL"));
+    }
+    match write(alloc, NAMES, table) {
+        Ok(bytes) => Ok(bytes),
+        Err(WriteError::Memory) => Err(Trouble::Memory),
+        Err(_) => Err(Trouble::Wrong("write")),
+    }
+}
+
+// Gives a capability of a table the same text as each other one.
+fn set_text(alloc: Global, table: &mut Table, cap: Cap) -> Result<Result<(), AllocError>, Trouble> {
+    if cap.kind() != Kind::Text || !has_no_nul(TEXT) {
+        return Err(Trouble::Wrong("no text"));
+    }
+    let text = RcSlice::from_slice(alloc, TEXT)?;
+    Ok(table.set(cap, Some(Value::Text(text))))
+}
+
+/// Texts set in a table one by one, and the entry that is laid from it.
+///
+/// # Errors
+/// As of a scenario.
+pub fn table(alloc: Global) -> Result<Tried, Trouble> {
+    let mut tried = Tried::new();
+    let mut table = Table::new(alloc);
+    for place in PLACES {
+        let Some(cap) = Cap::at(Kind::Text, place) else {
+            return Err(Trouble::Wrong("no capability"));
+        };
+        let before = laid(alloc, &table)?;
+        if set_text(alloc, &mut table, cap)?.is_err() {
+            tried.count_refusal();
+            if table.get(cap).is_some() || laid(alloc, &table)? != before {
+                return Err(Trouble::Wrong("a refused value has changed a table"));
+            }
+            if set_text(alloc, &mut table, cap)?.is_err() {
+                return Err(Trouble::Wrong("a value was refused with memory there"));
+            }
+        }
+        tried.add(laid(alloc, &table)?.as_slice());
+    }
+    if NAMES.is_empty() || !has_no_nul(NAMES) {
+        return Err(Trouble::Wrong("the names hold a NUL"));
+    }
+    let Ok(bytes) = again!(tried, WriteError::Memory => write(alloc, NAMES, &table)) else {
+        return Err(Trouble::Wrong("write"));
+    };
+    tried.add(bytes.as_slice());
+    Ok(tried)
+}
+
+// Gives a capability of an image a text, or takes it away.
+fn patch(
+    alloc: Global,
+    image: &mut Image,
+    cap: Cap,
+    is_set: bool,
+) -> Result<Result<(), WriteError>, Trouble> {
+    if cap.kind() != Kind::Text || !has_no_nul(TEXT) {
+        return Err(Trouble::Wrong("no text"));
+    }
+    if !is_set {
+        return Ok(image.set(cap, None));
+    }
+    let text = RcSlice::from_slice(alloc, TEXT)?;
+    Ok(image.set(cap, Some(Value::Text(text))))
+}
+
+/// An entry that is laid, patched and copied.
+///
+/// # Errors
+/// As of a scenario.
+pub fn image(alloc: Global) -> Result<Tried, Trouble> {
+    let mut tried = Tried::new();
+    let table = Table::new(alloc);
+    if NAMES.is_empty() || !has_no_nul(NAMES) {
+        return Err(Trouble::Wrong("the names hold a NUL"));
+    }
+    let made = again!(tried, WriteError::Memory => Image::new(alloc, NAMES, &table));
+    let Ok(mut image) = made else {
+        return Err(Trouble::Wrong("Image::new"));
+    };
+    for (place, is_set) in [(19, true), (129, true), (1, true), (19, false), (1, true)] {
+        let Some(cap) = Cap::at(Kind::Text, place) else {
+            return Err(Trouble::Wrong("no capability"));
+        };
+        let before = Vec::from_slice(alloc, image.bytes())?;
+        let mut answer = patch(alloc, &mut image, cap, is_set)?;
+        if let Err(WriteError::Memory) = answer {
+            tried.count_refusal();
+            if image.bytes() != before.as_slice() {
+                return Err(Trouble::Wrong("a refused value has changed an image"));
+            }
+            answer = patch(alloc, &mut image, cap, is_set)?;
+        }
+        if answer.is_err() {
+            return Err(Trouble::Wrong("Image::set"));
+        }
+        tried.add(image.bytes());
+    }
+    let Ok(copy) = again!(tried, AllocError => image.copy(alloc)) else {
+        return Err(Trouble::Wrong("Image::copy"));
+    };
+    tried.add(copy.bytes());
+    Ok(tried)
+}

@@ -1,0 +1,113 @@
+//! The scenarios, and their names.
+use crate::blocks::{moves, owners, ring, three};
+use crate::many::Many;
+use crate::tried::{Tried, Trouble};
+use crate::{calls, edits, entries, listings, many, scripts, strings, tools, wholes};
+use std::alloc::Global;
+
+/// Calls that are made one after the other.
+#[derive(Clone, Copy, Debug, PartialEq, Eq)]
+pub enum Scenario {
+    Three,
+    Ring,
+    Owners,
+    Moves,
+    Limit,
+    RunThree,
+    RunRing,
+    RunOwners,
+    RunMoves,
+    RunLimit,
+    Reports,
+    Source,
+    Table,
+    Image,
+    Expansion,
+    Padding,
+    Listings,
+    Jobs,
+    Places,
+    Files,
+    Infocmp,
+    Tput,
+    Lines,
+    Session,
+    ManyAlone,
+    ManyReplace,
+    ManyInsert,
+    ManyRemove,
+    ManyRelocate,
+}
+
+impl Scenario {
+    /// All of them, each with the word that names it.
+    pub const ALL: [(Scenario, &'static str); 29] = [
+        (Scenario::Three, "edits-of-three-blocks"),
+        (Scenario::Ring, "edits-of-a-ring"),
+        (Scenario::Owners, "edits-of-owners"),
+        (Scenario::Moves, "edits-that-move"),
+        (Scenario::Limit, "edits-at-the-limit"),
+        (Scenario::RunThree, "run-of-three-blocks"),
+        (Scenario::RunRing, "run-of-a-ring"),
+        (Scenario::RunOwners, "run-of-owners"),
+        (Scenario::RunMoves, "run-that-moves"),
+        (Scenario::RunLimit, "run-at-the-limit"),
+        (Scenario::Reports, "reports"),
+        (Scenario::Source, "source"),
+        (Scenario::Table, "table"),
+        (Scenario::Image, "image"),
+        (Scenario::Expansion, "expansion"),
+        (Scenario::Padding, "padding"),
+        (Scenario::Listings, "listings"),
+        (Scenario::Jobs, "jobs"),
+        (Scenario::Places, "places"),
+        (Scenario::Files, "files"),
+        (Scenario::Infocmp, "infocmp"),
+        (Scenario::Tput, "tput"),
+        (Scenario::Lines, "tput-lines"),
+        (Scenario::Session, "session"),
+        (Scenario::ManyAlone, "many-blocks"),
+        (Scenario::ManyReplace, "many-blocks-one-replaced"),
+        (Scenario::ManyInsert, "many-blocks-one-inserted"),
+        (Scenario::ManyRemove, "many-blocks-one-removed"),
+        (Scenario::ManyRelocate, "many-blocks-one-moved"),
+    ];
+
+    /// Makes its calls.
+    ///
+    /// # Errors
+    /// `Memory` where a growth was refused to the scenario itself, and not to a call that it tries.
+    pub fn run(self, alloc: Global) -> Result<Tried, Trouble> {
+        match self {
+            Scenario::Three => edits::apply_all(alloc, &three()),
+            Scenario::Ring => edits::apply_all(alloc, &ring()),
+            Scenario::Owners => edits::apply_all(alloc, &owners()),
+            Scenario::Moves => edits::apply_all(alloc, &moves()),
+            Scenario::Limit => edits::apply_at_limit(alloc),
+            Scenario::RunThree => wholes::run_all(alloc, &three()),
+            Scenario::RunRing => wholes::run_all(alloc, &ring()),
+            Scenario::RunOwners => wholes::run_all(alloc, &owners()),
+            Scenario::RunMoves => wholes::run_all(alloc, &moves()),
+            Scenario::RunLimit => wholes::run_at_limit(alloc),
+            Scenario::Reports => calls::reports(alloc),
+            Scenario::Source => calls::source(alloc),
+            Scenario::Table => entries::table(alloc),
+            Scenario::Image => entries::image(alloc),
+            Scenario::Expansion => strings::expansion(alloc),
+            Scenario::Padding => strings::padding(alloc),
+            Scenario::Listings => listings::listings(alloc),
+            Scenario::Jobs => tools::jobs(alloc),
+            Scenario::Places => tools::places_and_entries(alloc),
+            Scenario::Files => tools::files(alloc),
+            Scenario::Infocmp => listings::infocmp_modes(alloc),
+            Scenario::Tput => tools::commands(alloc),
+            Scenario::Lines => scripts::lines(alloc),
+            Scenario::Session => scripts::session_script(alloc),
+            Scenario::ManyAlone => many::edit(alloc, Many::None),
+            Scenario::ManyReplace => many::edit(alloc, Many::Replace),
+            Scenario::ManyInsert => many::edit(alloc, Many::Insert),
+            Scenario::ManyRemove => many::edit(alloc, Many::Remove),
+            Scenario::ManyRelocate => many::edit(alloc, Many::Relocate),
+        }
+    }
+}

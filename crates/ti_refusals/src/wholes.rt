@@ -1,0 +1,79 @@
+//! Lists of edits that are made in one call.
+use crate::edits::{LongBlocks, seen};
+use crate::tried::{Tried, Trouble};
+use std::alloc::Global;
+use ti_base::{Database, Edit, EditError, Outcome, run};
+
+/// What a list of edits may answer, as far as memory goes.
+#[derive(Clone, Copy, Debug, PartialEq, Eq)]
+enum Memory {
+    /// No edit was refused for memory.
+    Sufficed,
+    /// One edit was refused for memory, and all else follows from the others.
+    RefusedOne,
+}
+
+// Whether the outcomes and the database follow from the edits but those that were refused for memory, of which
+// there may be one. It is asked after the only refusal, or where there was none.
+fn follows(
+    alloc: Global,
+    edits: &[Edit<'_>],
+    database: &Database,
+    outcomes: &[Outcome],
+) -> Result<Memory, Trouble> {
+    let mut reference = Database::new(alloc);
+    let mut memory = Memory::Sufficed;
+    if outcomes.len() != edits.len() {
+        return Err(Trouble::Wrong("there are not as many outcomes as edits"));
+    }
+    for (edit, outcome) in edits.iter().zip(outcomes.iter()) {
+        if *outcome == Outcome::Refused(EditError::Memory) {
+            if memory == Memory::RefusedOne {
+                return Err(Trouble::Wrong("two edits were refused for memory"));
+            }
+            memory = Memory::RefusedOne;
+            continue;
+        }
+        match (reference.apply(edit), outcome) {
+            (Ok(_), Outcome::Accepted) => {}
+            (Err(EditError::Memory), _) => return Err(Trouble::Memory),
+            (Err(error), Outcome::Refused(other)) if error == *other => {}
+            _ => return Err(Trouble::Wrong("an outcome does not follow from the edits")),
+        }
+    }
+    if seen(alloc, &reference)? != seen(alloc, database)? {
+        return Err(Trouble::Wrong("the database does not follow from the edits"));
+    }
+    Ok(memory)
+}
+
+/// Makes edits in one call, and once more where memory was refused to it.
+///
+/// # Errors
+/// As of a scenario.
+pub fn run_all(alloc: Global, edits: &[Edit<'_>]) -> Result<Tried, Trouble> {
+    let mut tried = Tried::new();
+    for _turn in 0..2 {
+        let Ok((database, outcomes)) = run(alloc, edits) else {
+            tried.count_refusal();
+            continue;
+        };
+        match follows(alloc, edits, &database, outcomes.as_slice())? {
+            Memory::Sufficed => {
+                tried.add(seen(alloc, &database)?.as_slice());
+                return Ok(tried);
+            }
+            Memory::RefusedOne => tried.count_refusal(),
+        }
+    }
+    Err(Trouble::Wrong("edits were refused with memory there"))
+}
+
+/// Makes the edits of the longest entries in one call.
+///
+/// # Errors
+/// As of a scenario.
+pub fn run_at_limit(alloc: Global) -> Result<Tried, Trouble> {
+    let blocks = LongBlocks::new(alloc)?;
+    run_all(alloc, &blocks.edits())
+}
