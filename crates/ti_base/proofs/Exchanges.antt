@@ -7,7 +7,7 @@ use Rattle.std.proofs.lemmas.Option.{same_Some, none-some, slice_get-map}
 use Rattle.ti_source.specs.Reading.{Reading, reading_of}
 use Rattle.ti_source.specs.Parsing.{parsed}
 use Rattle.ti_meaning.specs.Owner.{is_among, readings}
-use Rattle.ti_meaning.specs.Edits.{Change, IsInPlace, after, insertion, replacement, removal, relocation, relocated}
+use Rattle.ti_meaning.specs.Edits.{Change, IsInPlace, after, insertion, replacement, removal, relocation, with_item_moved}
 use Rattle.ti_meaning.specs.Exchange.{position_behind, PlacedBlock, Exchange, IsExchange, HasPlace, new_list, exchange_of, block_from}
 use Rattle.ti_meaning.specs.Dependents.{AreDependents, IsDependent, IsPutAt, Rebuilds, names_of, work}
 use Rattle.ti_meaning.proofs.EditedLists.{map-insert, map-remove, insert-remove, remove-insert}
@@ -260,7 +260,7 @@ removed old new at before h l s e = record {
 pub moved : (old new : Slots) (from to : ℕ) (before : Slot) → AreKept old → from < length old.order.listed → to < length old.order.listed → slice_get (slots_of old) from ≡ Some (Some before) → slots_of new ≡ insert (remove (slots_of old) from) to (Some before) → IsEdit old new (relocation from to) (remove (slots_of old) from) (Some (record { at = from; slot = before })) (Some (record { at = to; slot = before }))
 moved old new from to before h l m s e =
     let text : slice_get (texts_of old) from ≡ Some before.text.items = ap (λ ts. slice_get ts from) (texts_seen old) ∙ (rw (slice_get-map text_seen (slots_of old) from, s) refl) in
-    let placed : relocated (texts_of old) from to ≡ insert (remove (texts_of old) from) to before.text.items = rw text refl in
+    let placed : with_item_moved (texts_of old) from to ≡ insert (remove (texts_of old) from) to before.text.items = rw text refl in
     record {
       in_place = ((let w : from < length (texts_of old) = omega (arith, length_texts old) in w), (let w : to < length (texts_of old) = omega (arith, length_texts old) in w));
       exchange = exchange_same (exchange_of (texts_of old) (relocation from to)) (remove (slots_of old) from) (Some (record { at = from; slot = before })) (Some (record { at = to; slot = before }))

@@ -7,7 +7,7 @@ use Rattle.ti_source.specs.declared.code.Code.{Code}
 use Rattle.ti_source.specs.declared.code.Code.TheVariants as code
 use Rattle.ti_source.specs.Codes.{is_of_header}
 use Rattle.ti_source.specs.Reading.{Reading, ReadItem, ReadFault}
-use Rattle.ti_meaning.specs.Owner.{owned}
+use Rattle.ti_meaning.specs.Owner.{owner_block}
 use Rattle.ti_meaning.specs.Expansion.{resolves}
 use Rattle.ti_meaning.specs.Reaching.{used_name, leads_to}
 use Rattle.ti_meaning.specs.Compiled.{EntryState, unresolved, oversized, written, state_of}
@@ -61,7 +61,7 @@ stays-use at line name (Some b) false test = by_test (test b) where
 
 stays-item : (bs : List Reading) (at line : ℕ) (name : Option (List ℕ)) → stays (fault_of_item bs at line name)
 stays-item bs at line None = refl
-stays-item bs at line (Some name) = stays-use at line name (owned bs name) (leads_to bs name at) (resolves bs)
+stays-item bs at line (Some name) = stays-use at line name (owner_block bs name) (leads_to bs name at) (resolves bs)
 
 stays-items : (bs : List Reading) (at : ℕ) (fs : List ReadFault) (items : List ReadItem) → AreOthers fs → stays (item_faults bs at fs items)
 stays-items bs at fs [] h = stays-locals at fs h

@@ -8,10 +8,10 @@ use Rattle.ti_source.specs.declared.code.Code.{Code}
 use Rattle.ti_source.specs.declared.code.Code.TheVariants as code
 use Rattle.ti_source.specs.declared.numbers.NumberError.{NumberError}
 use Rattle.ti_source.specs.declared.numbers.NumberError.TheVariants.{Bad, TooLarge}
-use Rattle.ti_source.specs.inside.Verdicts.{unescaped}
+use Rattle.ti_source.specs.inside.Verdicts.{unescape_result}
 use Rattle.ti_source.specs.inside.Numbers.{number_read}
 use Rattle.ti_source.specs.Folding.{Placed}
-use Rattle.ti_source.specs.Items.{Claim, claims_flag, claims_number, claims_text, claims_cancel, Statement, piece_of, stripped}
+use Rattle.ti_source.specs.Items.{Claim, claims_flag, claims_number, claims_text, claims_cancel, Statement, piece_of, without_outer_space}
 use Rattle.ti_source.specs.inside.Items.{statement_of}
 use Rattle.ti_source.specs.inside.Header.{header_names}
 use Rattle.ti_source.specs.Reading.{said_import, ReadFault}
@@ -38,9 +38,9 @@ odd_other : (c : Capability) (text : List ℕ) (odd : Bool) → is_other (code_b
 odd_other c text true = refl
 odd_other c text false = refl
 
-text_other : (c : Capability) (value : List ℕ) → is_other (code_by (text_verdict c (unescaped value))) ≡ false
+text_other : (c : Capability) (value : List ℕ) → is_other (code_by (text_verdict c (unescape_result value))) ≡ false
 text_other c value =
-    elim (unescaped value) as (λ r. is_other (code_by (text_verdict c r)) ≡ false) [ Ok found ↦ odd_other c found.0 found.1 | Err cause ↦ refl ]
+    elim (unescape_result value) as (λ r. is_other (code_by (text_verdict c r)) ≡ false) [ Ok found ↦ odd_other c found.0 found.1 | Err cause ↦ refl ]
 
 fitting_other : (c : Capability) (claim : Claim) (k : Kind) → is_other (code_by (fitting_verdict c claim k)) ≡ false
 fitting_other c claims_flag Flag = refl
@@ -58,7 +58,7 @@ named_other : (claim : Claim) (o : Option Capability) → is_other (code_by (nam
 named_other claim None = refl
 named_other claim (Some c) = fitting_other c claim c.kind
 
-verdict_other : (v : Bool) (claim : Claim) (o : Option Capability) → is_other (code_by (cond v (accepted (said_import (stripped (claimed_text claim)))) (named_verdict claim o))) ≡ false
+verdict_other : (v : Bool) (claim : Claim) (o : Option Capability) → is_other (code_by (cond v (accepted (said_import (without_outer_space (claimed_text claim)))) (named_verdict claim o))) ≡ false
 verdict_other true claim o = refl
 verdict_other false claim o = named_other claim o
 

@@ -8,7 +8,7 @@ use Rattle.std.proofs.lemmas.Option.{same_Some, none-some, slice_get-map}
 use Rattle.ti_source.specs.Reading.{Reading, reading_of}
 use Rattle.ti_source.specs.Parsing.{parsed}
 use Rattle.ti_meaning.specs.Owner.{readings}
-use Rattle.ti_meaning.specs.Exchange.{with_block, HasPlace, shifted}
+use Rattle.ti_meaning.specs.Exchange.{with_block, HasPlace, shifted_position}
 use Rattle.ti_meaning.proofs.EditedLists.{map-insert}
 use Rattle.ti_meaning.proofs.Placing.{get-insert}
 use Rattle.ti_index.proofs.Lists.{item_at}
@@ -82,6 +82,6 @@ pub readings_with : (rest : List (Option Slot)) (o : Option PlacedSlot) → map 
 readings_with rest None = refl
 readings_with rest (Some p) = map-insert reading_seen rest p.at (Some p.slot)
 
-pub get-with_slot : (rest : List (Option Slot)) (o : Option PlacedSlot) (k : ℕ) → HasPlace (map reading_seen rest) (option_map block_seen o) → slice_get (with_slot rest o) (shifted (option_map block_seen o) k) ≡ slice_get rest k
+pub get-with_slot : (rest : List (Option Slot)) (o : Option PlacedSlot) (k : ℕ) → HasPlace (map reading_seen rest) (option_map block_seen o) → slice_get (with_slot rest o) (shifted_position (option_map block_seen o) k) ≡ slice_get rest k
 get-with_slot rest None k l = refl
 get-with_slot rest (Some p) k l = get-insert rest p.at (Some p.slot) k (let m : p.at ≤ length rest = omega (arith, length-map rest reading_seen) in m)

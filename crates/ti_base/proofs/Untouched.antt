@@ -10,7 +10,7 @@ use Rattle.ti_meaning.specs.Compiled.{state_of}
 use Rattle.ti_meaning.specs.Faults.{SourceFault}
 use Rattle.ti_meaning.specs.ValueTables.{HasTable}
 use Rattle.ti_meaning.specs.KeptBlocks.{lasting_faults, moved_to}
-use Rattle.ti_meaning.specs.Exchange.{IsExchange, new_list, old_list, shifted}
+use Rattle.ti_meaning.specs.Exchange.{IsExchange, new_list, old_list, shifted_position}
 use Rattle.ti_meaning.specs.Dependents.{IsDependent, IsPutAt, touched_names}
 use Rattle.ti_meaning.proofs.Placing.{split-with}
 use Rattle.ti_meaning.proofs.KeptFaults.{kept_block, touched_in_both}
@@ -53,11 +53,11 @@ others_settled rest out put fits settled at slot s other =
       | inr stays ↦
           let k = stays.0 in
           let stands : slice_get rest k ≡ Some (Some slot) = sym (get-with_slot rest put k fits.put) ∙ (ap (λ n. slice_get (with_slot rest put) n) stays.1 ∙ s) in
-          let before = settled (shifted e.out k) slot (get-with_slot rest out k fits.out ∙ stands) in
+          let before = settled (shifted_position e.out k) slot (get-with_slot rest out k fits.out ∙ stands) in
           let in_rest : slice_get (map reading_seen rest) k ≡ Some (reading_of slot.block) = rw (slice_get-map reading_seen rest k, stands) refl in
           let kept = kept_block e k (reading_of slot.block) fits in_rest (λ r. other (reading_of slot.block, here, inr ((touched_in_both e (reading_of slot.block) fits).0 r))) in
-          let moved = settled_moved (old_list e) (new_list e) (shifted e.put k) (shifted e.out k) (reading_of slot.block) slot.settled kept.mentions kept.state kept.faults
-          (settled_in (map reading_seen (with_slot rest out)) (old_list e) (shifted e.out k) (reading_of slot.block) slot.settled old before) in
+          let moved = settled_moved (old_list e) (new_list e) (shifted_position e.put k) (shifted_position e.out k) (reading_of slot.block) slot.settled kept.mentions kept.state kept.faults
+          (settled_in (map reading_seen (with_slot rest out)) (old_list e) (shifted_position e.out k) (reading_of slot.block) slot.settled old before) in
           settled_in (new_list e) (map reading_seen (with_slot rest put)) at (reading_of slot.block) slot.settled new
           (subst (λ n. IsSettled (new_list e) n (reading_of slot.block) slot.settled) stays.1 moved)
     ]

@@ -4,7 +4,7 @@ ghost use Rattle.std.specs.List.{flat_map, range_with_len};
 ghost use Rattle.std.specs.Rc.{rc_slice_items};
 ghost use Rattle.ti_text.specs.Texts.{line_count};
 ghost use Rattle.ti_source.specs.Codes.{code_text};
-ghost use Rattle.ti_meaning.specs.Report.{shown_byte, shown_detail, detail_text, fault_line, lines_before, reported};
+ghost use Rattle.ti_meaning.specs.Report.{shown_byte, shown_detail, detail_text, fault_line, lines_before, report_line};
 ghost use Rattle.ti_meaning.specs.Faults.{fault_seen};
 ghost use Rattle.ti_meaning.specs.Bounds.{IsPlaced};
 ghost use Rattle.ti_slots.specs.Slots.{texts_of};
@@ -110,7 +110,7 @@ pub(crate) fn write_report(
     requires kept { AreKept slots.now }
     requires placed { All (IsPlaced (length (texts_of slots.now))) (map fault_seen faults.now) }
     requires first { first_line ≤ 9223372036854775808 }
-    ensures { IfOk result (λ out. out.items ≡ flat_map (reported (texts_of slots.now) first_line) (map fault_seen faults.now)) }
+    ensures { IfOk result (λ out. out.items ≡ flat_map (report_line (texts_of slots.now) first_line) (map fault_seen faults.now)) }
 {
     let mut out = Vec::new(alloc);
     // Where there is nothing to report, no lines are counted.

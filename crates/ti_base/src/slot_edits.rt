@@ -3,7 +3,7 @@
 ghost use Rattle.std.specs.Prelude.{◌≡◌, ◌<◌, ◌≤◌, ◌+◌, Some, None, length, insert, remove, slice_set, slice_get, IfOk, OnOk, OnErr};
 ghost use Rattle.ti_text.specs.Limits.{blocks_max};
 ghost use Rattle.ti_source.specs.Reading.{reading_of};
-ghost use Rattle.ti_meaning.specs.Edits.{insertion, removal, relocation, relocated, replacement};
+ghost use Rattle.ti_meaning.specs.Edits.{insertion, removal, relocation, with_item_moved, replacement};
 ghost use Rattle.ti_meaning.specs.Dependents.{Rebuilds};
 ghost use Rattle.ti_slots.specs.Slots.{IsIndexed, StandsAt, texts_of};
 ghost use Rattle.ti_slots.specs.Changes.{HasRoomFor, PutsIn, TakesOut};
@@ -174,7 +174,7 @@ pub(crate) fn move_slot(
     requires from { from < length slots.old.order.listed }
     requires to { to < length slots.old.order.listed }
     ensures kept { AreKept slots.new }
-    ensures texts { OnOk result (texts_of slots.new ≡ relocated (texts_of slots.old) from to) }
+    ensures texts { OnOk result (texts_of slots.new ≡ with_item_moved (texts_of slots.old) from to) }
     ensures rebuilds { IfOk result (λ e. Rebuilds (texts_of slots.old) (relocation from to) e.rebuilt.items e.work) }
     ensures err { OnErr result (texts_of slots.new ≡ texts_of slots.old) }
 {

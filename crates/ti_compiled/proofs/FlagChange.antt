@@ -6,8 +6,8 @@ use Rattle.ti_caps.specs.declared.capability.Kind.TheVariants.{Flag, Number, Tex
 use Rattle.ti_layout.specs.declared.layout.Format.TheVariants.{Legacy}
 use Rattle.ti_layout.specs.declared.layout.Header.{Header}
 use Rattle.ti_layout.specs.Image.{image, below, even_gap, flag_value, flags_below, format_of, limit_of, numbers_below, of_kind, offsets_below, texts_below, written_count}
-use Rattle.ti_layout.specs.Layout.{header, spelled, entry_size, width}
-use Rattle.ti_layout.specs.Laws.{uncancelled}
+use Rattle.ti_layout.specs.Layout.{header, number_section, entry_size, width}
+use Rattle.ti_layout.specs.Laws.{without_cancel}
 use Rattle.ti_layout.specs.Sizes.{HasSizes}
 use Rattle.ti_layout.specs.Values.{Content, content_true, content_number, content_text, content_cancelled, Contents}
 use Rattle.ti_layout.proofs.Assembling.{header_laid}
@@ -15,8 +15,8 @@ use Rattle.ti_layout.proofs.Below.{length-below, below-filled, below-same}
 use Rattle.ti_layout.proofs.Parts.{length-header}
 use Rattle.ti_layout.proofs.Sizes.{length-image}
 use Rattle.ti_compiled.specs.Changes.{flag_content}
-use Rattle.ti_compiled.specs.Held.{given}
-use Rattle.ti_compiled.specs.Parts.{Replaces, resized}
+use Rattle.ti_compiled.specs.Held.{with_content}
+use Rattle.ti_compiled.specs.Parts.{Replaces, with_length}
 use Rattle.ti_compiled.proofs.Given.{HoldsNoOther, given_here, given_place, given_past, nothing_past}
 use Rattle.ti_compiled.proofs.Resizing.{resized-below, set-below}
 use Rattle.ti_compiled.proofs.Same.{same_offsets, same_strings, same_text_count}
@@ -29,7 +29,7 @@ set_inside p m r at i v e lt =
     let k : at + i - at ≡ i = omega arith in
     set-append_right p (m ++ r) at (at + i) v e (omega arith) ∙ ap (λ n. p ++ set (m ++ r) n v) k ∙ ap (λ t. p ++ t) (set-append_left m r i v lt)
 
-void_flag : (o : Option Content) → uncancelled o ≡ None → flag_value o ≡ 0
+void_flag : (o : Option Content) → without_cancel o ≡ None → flag_value o ≡ 0
 void_flag None e = refl
 void_flag (Some content_true) e = absurd cc
 void_flag (Some (content_number n)) e = refl
@@ -49,7 +49,7 @@ size names c = written_count c Flag + (suc (length names) + written_count c Flag
 
 -- what comes behind them
 abbrev behind : Contents → List ℕ
-behind c = spelled (format_of c) (numbers_below (format_of c) c (written_count c Number)) ++ spelled Legacy (offsets_below c (written_count c Text)) ++ texts_below c (written_count c Text) ++ []
+behind c = number_section (format_of c) (numbers_below (format_of c) c (written_count c Number)) ++ number_section Legacy (offsets_below c (written_count c Text)) ++ texts_below c (written_count c Text) ++ []
 
 abbrev head : List ℕ → Contents → List ℕ
 head names c =
@@ -64,12 +64,12 @@ frame names c past =
     let F = written_count c Flag in
     let region : below (bytes_of c) (size names c) ≡ flags_below c F ++ even_gap names F =
     below-filled (bytes_of c) 0 F ((suc (length names) + F) % 2) (λ j low high. nothing_flagged c past j low) in
-    regroup (head names c) names (0 ∷ []) (flags_below c F) (even_gap names F) (spelled (format_of c) (numbers_below (format_of c) c (written_count c Number))) (spelled Legacy (offsets_below c (written_count c Text))) (texts_below c (written_count c Text)) []
+    regroup (head names c) names (0 ∷ []) (flags_below c F) (even_gap names F) (number_section (format_of c) (numbers_below (format_of c) c (written_count c Number))) (number_section Legacy (offsets_below c (written_count c Text))) (texts_below c (written_count c Text)) []
     ∙ ap (λ t. head names c ++ ((names ++ 0 ∷ []) ++ (t ++ behind c))) (sym region)
 
 module _ (names : List ℕ) (c : Contents) (past : HoldsNoOther c) (index : ℕ) (within : index < 44) (on : Bool) where
   abbrev g : Contents
-  g = given c (capability Flag index) (flag_content on)
+  g = with_content c (capability Flag index) (flag_content on)
 
   -- the two images differ by what the flags with the zero byte take
   pub flag_lengths : (h k : Header) → HasSizes names c h → HasSizes names g k
@@ -86,9 +86,9 @@ module _ (names : List ℕ) (c : Contents) (past : HoldsNoOther c) (index : ℕ)
   same_behind : behind g ≡ behind c
   same_behind =
       let w = format_of c in
-      let front = spelled w (numbers_below w c (written_count c Number)) in
-      ap (λ t. front ++ spelled Legacy t ++ texts_below g (written_count g Text) ++ []) (same_offsets g c (λ i. refl) (written_count g Text) ∙ ap (offsets_below c) (same_text_count g c (λ i. refl)))
-      ∙ ap (λ t. front ++ spelled Legacy (offsets_below c (written_count c Text)) ++ t ++ []) (same_strings g c (λ i. refl))
+      let front = number_section w (numbers_below w c (written_count c Number)) in
+      ap (λ t. front ++ number_section Legacy t ++ texts_below g (written_count g Text) ++ []) (same_offsets g c (λ i. refl) (written_count g Text) ∙ ap (offsets_below c) (same_text_count g c (λ i. refl)))
+      ∙ ap (λ t. front ++ number_section Legacy (offsets_below c (written_count c Text)) ++ t ++ []) (same_strings g c (λ i. refl))
 
   start : List ℕ
   start = head names c ++ (names ++ 0 ∷ [])
@@ -101,7 +101,7 @@ module _ (names : List ℕ) (c : Contents) (past : HoldsNoOther c) (index : ℕ)
       omega arith
 
   -- cut or filled up
-  module _ (b b1 : List ℕ) (n : ℕ) (whole : b ≡ image names c) (resizes : Replaces b b1 (12 + suc (length names)) (size names c) (λ m. resized m n 0)) where
+  module _ (b b1 : List ℕ) (n : ℕ) (whole : b ≡ image names c) (resizes : Replaces b b1 (12 + suc (length names)) (size names c) (λ m. with_length m n 0)) where
     pub flags_resized : b1 ≡ (head names c ++ (names ++ 0 ∷ [])) ++ (below (bytes_of c) n ++ behind c)
     flags_resized =
         resizes (head names c ++ (names ++ 0 ∷ [])) (below (bytes_of c) (size names c)) (behind c) (whole ∙ frame names c past ∙ sym (append_assoc (head names c) (names ++ 0 ∷ []) (below (bytes_of c) (size names c) ++ behind c)))

@@ -13,7 +13,7 @@ use Rattle.ti_layout.proofs.Below.{get_or-below, length-below}
 use Rattle.ti_layout.proofs.Whole.{length-part}
 use Rattle.ti_layout.proofs.Sizes.{length-image}
 use Rattle.ti_compiled.specs.Changes.{flag_content}
-use Rattle.ti_compiled.specs.Held.{names_in, contents_in, given, IsImage}
+use Rattle.ti_compiled.specs.Held.{names_in, contents_in, with_content, IsImage}
 use Rattle.ti_compiled.proofs.Counted.{count-put, count-kept, count-down}
 use Rattle.ti_compiled.proofs.Given.{given_here, given_place}
 use Rattle.ti_compiled.proofs.Heading.{found_in}
@@ -68,7 +68,7 @@ module _ (b : List ℕ) (is : IsImage b) (h : Header) (has : HasSizes (names_in 
 
   module _ (index : ℕ) (within : index < 44) where
     abbrev g : Bool → Contents
-    g on = given c (capability Flag index) (flag_content on)
+    g on = with_content c (capability Flag index) (flag_content on)
 
     others : (on : Bool) (j : ℕ) → j ≢ index → g on (capability Flag j) ≡ c (capability Flag j)
     others on j other = given_place c Flag index (flag_content on) j other

@@ -11,7 +11,7 @@ use Rattle.ti_caps.specs.declared.capability.Kind.{Kind}
 use Rattle.ti_caps.specs.declared.capability.Kind.TheVariants.{Flag, Number, Text}
 use Rattle.ti_layout.specs.declared.layout.Format.{Format}
 use Rattle.ti_layout.specs.Image.{image, limit_of}
-use Rattle.ti_layout.specs.Laws.{uncancelled}
+use Rattle.ti_layout.specs.Laws.{without_cancel}
 use Rattle.ti_layout.specs.Reading.{Reads, says, flag_of, number_of, text_of}
 use Rattle.ti_layout.specs.Values.{Content, content_true, content_number, content_text, content_cancelled, Contents, AgreesIfSome, HasNoNul}
 use Rattle.ti_layout.proofs.OneReading.{read_names, read_contents}
@@ -19,17 +19,17 @@ use Rattle.ti_layout.proofs.ImageReading.{images_are_read}
 use Rattle.ti_layout.proofs.OfValues.{images_are_of_values, limits_are_of_values}
 use Rattle.ti_layout.specs.declared.writing.WriteError.TheVariants.{TooLarge}
 use Rattle.ti_compiled.specs.Changes.{HoldsGiven, IsWithin, IsOver}
-use Rattle.ti_compiled.specs.Held.{names_in, contents_in, given, IsImage}
+use Rattle.ti_compiled.specs.Held.{names_in, contents_in, with_content, IsImage}
 use Rattle.ti_compiled.proofs.Carried.{carried}
 
-uncancelled-twice : (o : Option Content) → uncancelled (uncancelled o) ≡ uncancelled o
+uncancelled-twice : (o : Option Content) → without_cancel (without_cancel o) ≡ without_cancel o
 uncancelled-twice None = refl
 uncancelled-twice (Some content_true) = refl
 uncancelled-twice (Some (content_number n)) = refl
 uncancelled-twice (Some (content_text t)) = refl
 uncancelled-twice (Some content_cancelled) = refl
 
-uncancelled-agrees : (c : Capability) (o : Option Content) → AgreesIfSome c o → AgreesIfSome c (uncancelled o)
+uncancelled-agrees : (c : Capability) (o : Option Content) → AgreesIfSome c o → AgreesIfSome c (without_cancel o)
 uncancelled-agrees c None a = a
 uncancelled-agrees c (Some content_true) a = a
 uncancelled-agrees c (Some (content_number n)) a = a
@@ -46,7 +46,7 @@ says_past w flags numbers offsets strings f n o Text index past = ap (option_and
 -- what the bytes of an image hold
 pub record Again (bytes names : List ℕ) (contents : Contents) : Type 0 where
   pub names_read : names_in bytes ≡ names
-  pub contents_read : (c : Capability) → IsCapability c → contents_in bytes c ≡ uncancelled (contents c)
+  pub contents_read : (c : Capability) → IsCapability c → contents_in bytes c ≡ without_cancel (contents c)
   pub kept : IsImage bytes
 
 pub read_again : (bytes names : List ℕ) (contents : Contents) → 0 < length names → length names ≤ 127 → HasNoNul names
@@ -56,8 +56,8 @@ read_again bytes names contents some short no_nul agree within whole =
     let reads = subst (λ b. Reads b names r.0) (sym whole) r.1 in
     let n = read_names bytes names r.0 reads in
     let d = read_contents bytes names r.0 reads in
-    let said : (c : Capability) → IsCapability c → contents_in bytes c ≡ uncancelled (contents c) = λ c valid. ap (λ (f : Contents). f c) (sym d) ∙ r.2 c valid in
-    let same : (c : Capability) → IsCapability c → uncancelled (contents c) ≡ uncancelled (contents_in bytes c) = λ c valid. sym (ap uncancelled (said c valid) ∙ uncancelled-twice (contents c)) in
+    let said : (c : Capability) → IsCapability c → contents_in bytes c ≡ without_cancel (contents c) = λ c valid. ap (λ (f : Contents). f c) (sym d) ∙ r.2 c valid in
+    let same : (c : Capability) → IsCapability c → without_cancel (contents c) ≡ without_cancel (contents_in bytes c) = λ c valid. sym (ap without_cancel (said c valid) ∙ uncancelled-twice (contents c)) in
     let again : image names contents ≡ image (names_in bytes) (contents_in bytes) =
     ap (λ m. image m contents) n ∙ images_are_of_values (names_in bytes) contents (contents_in bytes) same in
     let limits = limits_are_of_values contents (contents_in bytes) same in
@@ -70,7 +70,7 @@ read_again bytes names contents some short no_nul agree within whole =
           short = subst (λ (m : List ℕ). length m ≤ 127) n short;
           no_nul = subst HasNoNul n no_nul;
           agree = λ c valid. subst (AgreesIfSome c) (sym (said c valid)) (uncancelled-agrees c (contents c) (agree c valid));
-          present = λ c valid. ap uncancelled (said c valid) ∙ uncancelled-twice (contents c) ∙ sym (said c valid);
+          present = λ c valid. ap without_cancel (said c valid) ∙ uncancelled-twice (contents c) ∙ sym (said c valid);
           past = λ kind index past.
               ap (λ (f : Contents). f (capability kind index)) (sym d ∙ reads.held)
               ∙ says_past reads.format reads.sections.flags reads.sections.numbers reads.sections.offsets reads.sections.strings reads.sound.flag_count reads.sound.number_count reads.sound.text_count kind index past;
@@ -84,7 +84,7 @@ pub some_bytes : (xs : List ℕ) → xs ≢ [] → 0 < length xs
 some_bytes [] none = absurd (none refl)
 some_bytes (x ∷ xs) none = omega arith
 
-pub given_agrees : (d : Contents) (k : Capability) (v : Option Content) → AgreesIfSome k v → (x : Capability) → AgreesIfSome x (d x) → AgreesIfSome x (given d k v x)
+pub given_agrees : (d : Contents) (k : Capability) (v : Option Content) → AgreesIfSome k v → (x : Capability) → AgreesIfSome x (d x) → AgreesIfSome x (with_content d k v x)
 given_agrees d k v agrees x old = elim (same_capability k x) as (λ b. same_capability k x ≡ b → AgreesIfSome x (cond b v (d x))) [
   | true ↦ λ e. subst (λ y. AgreesIfSome y v) (same_capability-true k x e) agrees
   | false ↦ λ e. old
@@ -92,28 +92,28 @@ given_agrees d k v agrees x old = elim (same_capability k x) as (λ b. same_capa
 
 -- what is given leaves an image
 pub given_again : (b bytes : List ℕ) → IsImage b → (k : Capability) (v : Option Content) → AgreesIfSome k v
-    → length (image (names_in b) (given (contents_in b) k v)) ≤ limit_of (given (contents_in b) k v) → bytes ≡ image (names_in b) (given (contents_in b) k v) → Again bytes (names_in b) (given (contents_in b) k v)
+    → length (image (names_in b) (with_content (contents_in b) k v)) ≤ limit_of (with_content (contents_in b) k v) → bytes ≡ image (names_in b) (with_content (contents_in b) k v) → Again bytes (names_in b) (with_content (contents_in b) k v)
 given_again b bytes is k v agrees within whole =
     let d = contents_in b in
-    read_again bytes (names_in b) (given d k v) is.imaged.some is.imaged.short is.imaged.no_nul
+    read_again bytes (names_in b) (with_content d k v) is.imaged.some is.imaged.short is.imaged.no_nul
     (λ x valid. given_agrees d k v agrees x (is.imaged.agree x valid))
-    (subst (λ (y : List ℕ). length y ≤ limit_of (given d k v)) (sym whole) within) whole
+    (subst (λ (y : List ℕ). length y ≤ limit_of (with_content d k v)) (sym whole) within) whole
 
-kept_after : (r : Result (Unit {0}) WriteError) (b new : List ℕ) → IsImage b → (k : Capability) (v : Option Content) → AgreesIfSome k v → OnOk r (new ≡ image (names_in b) (given (contents_in b) k v))
-    → OnOk r (length (image (names_in b) (given (contents_in b) k v)) ≤ limit_of (given (contents_in b) k v)) → OnErr r (new ≡ b) → IsImage new
+kept_after : (r : Result (Unit {0}) WriteError) (b new : List ℕ) → IsImage b → (k : Capability) (v : Option Content) → AgreesIfSome k v → OnOk r (new ≡ image (names_in b) (with_content (contents_in b) k v))
+    → OnOk r (length (image (names_in b) (with_content (contents_in b) k v)) ≤ limit_of (with_content (contents_in b) k v)) → OnErr r (new ≡ b) → IsImage new
 kept_after (Ok x) b new is k v agrees made within same = (given_again b new is k v agrees within made).kept
 kept_after (Err x) b new is k v agrees made within same = subst IsImage (sym same) is
 
-given_present : (d : Contents) (k : Capability) (v : Option Content) → uncancelled v ≡ v → (x : Capability) → uncancelled (d x) ≡ d x → uncancelled (given d k v x) ≡ given d k v x
-given_present d k v present x old = elim (same_capability k x) as (λ b. uncancelled (cond b v (d x)) ≡ cond b v (d x)) [ true ↦ present | false ↦ old ]
+given_present : (d : Contents) (k : Capability) (v : Option Content) → without_cancel v ≡ v → (x : Capability) → without_cancel (d x) ≡ d x → without_cancel (with_content d k v x) ≡ with_content d k v x
+given_present d k v present x old = elim (same_capability k x) as (λ b. without_cancel (cond b v (d x)) ≡ cond b v (d x)) [ true ↦ present | false ↦ old ]
 
-given_names : (r : Result (Unit {0}) WriteError) (b new : List ℕ) → IsImage b → (k : Capability) (v : Option Content) → AgreesIfSome k v → OnOk r (new ≡ image (names_in b) (given (contents_in b) k v))
-    → OnOk r (length (image (names_in b) (given (contents_in b) k v)) ≤ limit_of (given (contents_in b) k v)) → OnOk r (names_in new ≡ names_in b)
+given_names : (r : Result (Unit {0}) WriteError) (b new : List ℕ) → IsImage b → (k : Capability) (v : Option Content) → AgreesIfSome k v → OnOk r (new ≡ image (names_in b) (with_content (contents_in b) k v))
+    → OnOk r (length (image (names_in b) (with_content (contents_in b) k v)) ≤ limit_of (with_content (contents_in b) k v)) → OnOk r (names_in new ≡ names_in b)
 given_names (Ok x) b new is k v agrees made within = (given_again b new is k v agrees within made).names_read
 given_names (Err x) b new is k v agrees made within = tt
 
-given_contents : (r : Result (Unit {0}) WriteError) (b new : List ℕ) → IsImage b → (k : Capability) (v : Option Content) → AgreesIfSome k v → uncancelled v ≡ v → OnOk r (new ≡ image (names_in b) (given (contents_in b) k v))
-    → OnOk r (length (image (names_in b) (given (contents_in b) k v)) ≤ limit_of (given (contents_in b) k v)) → OnOk r (HoldsGiven b new k v)
+given_contents : (r : Result (Unit {0}) WriteError) (b new : List ℕ) → IsImage b → (k : Capability) (v : Option Content) → AgreesIfSome k v → without_cancel v ≡ v → OnOk r (new ≡ image (names_in b) (with_content (contents_in b) k v))
+    → OnOk r (length (image (names_in b) (with_content (contents_in b) k v)) ≤ limit_of (with_content (contents_in b) k v)) → OnOk r (HoldsGiven b new k v)
 given_contents (Ok x) b new is k v agrees present made within = record {
   says = λ c valid. (given_again b new is k v agrees within made).contents_read c valid ∙ given_present (contents_in b) k v present c (is.imaged.present c valid);
 }
@@ -122,14 +122,14 @@ given_contents (Err x) b new is k v agrees present made within = tt
 -- what is so where a value was given by its kind and place, or was refused
 pub record AfterGiving (r : Result (Unit {0}) WriteError) (b new : List ℕ) (k : Capability) (v : Option Content) : Type 0 where
   pub kept : IsImage new
-  pub within : OnOk r (IsWithin (names_in b) (given (contents_in b) k v))
-  pub too_large : IsErrOf r TooLarge ↔ IsOver (names_in b) (given (contents_in b) k v)
+  pub within : OnOk r (IsWithin (names_in b) (with_content (contents_in b) k v))
+  pub too_large : IsErrOf r TooLarge ↔ IsOver (names_in b) (with_content (contents_in b) k v)
   pub names : OnOk r (names_in new ≡ names_in b)
   pub contents : OnOk r (HoldsGiven b new k v)
 
 pub after_giving : (r : Result (Unit {0}) WriteError) (x b new : List ℕ) (k : Capability) (kind : Kind) (i : ℕ) (v : Option Content) → x ≡ b → k.kind ≡ kind → i ≡ k.index
-    → IsImage x → AgreesIfSome (capability kind i) v → uncancelled v ≡ v → OnOk r (new ≡ image (names_in x) (given (contents_in x) (capability kind i) v))
-    → OnOk r (IsWithin (names_in x) (given (contents_in x) (capability kind i) v)) → (IsErrOf r TooLarge ↔ IsOver (names_in x) (given (contents_in x) (capability kind i) v)) → OnErr r (new ≡ x)
+    → IsImage x → AgreesIfSome (capability kind i) v → without_cancel v ≡ v → OnOk r (new ≡ image (names_in x) (with_content (contents_in x) (capability kind i) v))
+    → OnOk r (IsWithin (names_in x) (with_content (contents_in x) (capability kind i) v)) → (IsErrOf r TooLarge ↔ IsOver (names_in x) (with_content (contents_in x) (capability kind i) v)) → OnErr r (new ≡ x)
     → AfterGiving r b new k v
 after_giving r x b new k kind i v same e f is agrees present made within over left =
     carried (λ y d. AfterGiving r y new d v) x b k kind i same e f (record {
@@ -146,9 +146,9 @@ pub record LaidAs (i names : List ℕ) (t : Contents) : Type 0 where
   pub within : IsWithin names t
 
 pub laid_as : (i names : List ℕ) (t : Contents) → i ≡ image (names_in i) (contents_in i) → IsWithin (names_in i) (contents_in i) → names_in i ≡ names
-    → ((c : Capability) → IsCapability c → contents_in i c ≡ uncancelled (t c)) → LaidAs i names t
+    → ((c : Capability) → IsCapability c → contents_in i c ≡ without_cancel (t c)) → LaidAs i names t
 laid_as i names t whole within named said =
-    let same : (c : Capability) → IsCapability c → uncancelled (contents_in i c) ≡ uncancelled (t c) = λ c valid. ap uncancelled (said c valid) ∙ uncancelled-twice (t c) in
+    let same : (c : Capability) → IsCapability c → without_cancel (contents_in i c) ≡ without_cancel (t c) = λ c valid. ap without_cancel (said c valid) ∙ uncancelled-twice (t c) in
     let again : image (names_in i) (contents_in i) ≡ image names t = images_are_of_values (names_in i) (contents_in i) t same ∙ ap (λ n. image n t) named in
     let limits = limits_are_of_values (contents_in i) t same in
     record {

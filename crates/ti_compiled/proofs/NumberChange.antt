@@ -6,7 +6,7 @@ use Rattle.ti_layout.specs.declared.layout.Format.{Format}
 use Rattle.ti_layout.specs.declared.layout.Format.TheVariants.{Legacy, Extended}
 use Rattle.ti_layout.specs.declared.layout.Header.{Header}
 use Rattle.ti_layout.specs.Image.{image, below, format_of, is_there, limit_of, number_value, of_kind, offsets_below, texts_below, written_count}
-use Rattle.ti_layout.specs.Layout.{absent, header, number_bytes, spelled, width}
+use Rattle.ti_layout.specs.Layout.{absent, header, number_bytes, number_section, width}
 use Rattle.ti_layout.specs.Sizes.{HasSizes, at_most_max}
 use Rattle.ti_layout.specs.Values.{Content, content_true, content_number, content_text, content_cancelled, Contents, AgreesIfSome}
 use Rattle.ti_layout.proofs.Assembling.{header_laid}
@@ -14,7 +14,7 @@ use Rattle.ti_layout.proofs.Below.{length-below, get_or-below, last_passing-is}
 use Rattle.ti_layout.proofs.Spelled.{length-spelled, spelled-append, spelled-one}
 use Rattle.ti_compiled.specs.Changes.{number_content, wide_value, with_number, HasNumbers}
 use Rattle.ti_compiled.specs.Held.{names_in, contents_in, IsImage}
-use Rattle.ti_compiled.specs.Parts.{Replaces, resized}
+use Rattle.ti_compiled.specs.Parts.{Replaces, with_length}
 use Rattle.ti_compiled.proofs.FlagPlaces.{length_sized}
 use Rattle.ti_compiled.proofs.Given.{given_here, given_place}
 use Rattle.ti_compiled.proofs.Kept.{given_agrees}
@@ -33,12 +33,12 @@ narrow_bytes Legacy (Some (content_text t)) = refl
 narrow_bytes Legacy (Some content_cancelled) = refl
 narrow_bytes Extended o = refl
 
-narrow_spelled : (w : Format) (c : Contents) (n : ℕ) → spelled w (below (wide_value c) n) ≡ spelled w (below (number_in w c) n)
+narrow_spelled : (w : Format) (c : Contents) (n : ℕ) → number_section w (below (wide_value c) n) ≡ number_section w (below (number_in w c) n)
 unfolding below
 narrow_spelled w c zero = refl
 narrow_spelled w c (suc n) =
-    spelled-append w (below (wide_value c) n) (wide_value c n ∷ []) ∙ ap (λ t. t ++ spelled w (wide_value c n ∷ [])) (narrow_spelled w c n)
-    ∙ ap (λ t. spelled w (below (number_in w c) n) ++ t) (spelled-one w (wide_value c n) ∙ narrow_bytes w (of_kind c Number n) ∙ sym (spelled-one w (number_in w c n)))
+    spelled-append w (below (wide_value c) n) (wide_value c n ∷ []) ∙ ap (λ t. t ++ number_section w (wide_value c n ∷ [])) (narrow_spelled w c n)
+    ∙ ap (λ t. number_section w (below (number_in w c) n) ++ t) (spelled-one w (wide_value c n) ∙ narrow_bytes w (of_kind c Number n) ∙ sym (spelled-one w (number_in w c n)))
     ∙ sym (spelled-append w (below (number_in w c) n) (number_in w c n ∷ []))
 
 there : (o : Option Content) → number_value 4294967295 o ≢ 4294967295 → is_there o ≡ true
@@ -113,32 +113,32 @@ module _ (b : List ℕ) (is : IsImage b) (h : Header) (has : HasSizes (names_in 
 
     same_after : after_numbers (with_number b index n) ≡ after_numbers (contents_in b)
     same_after =
-        ap (λ t. spelled Legacy t ++ texts_below g (written_count g Text) ++ []) (same_offsets g c (λ i. refl) (written_count g Text) ∙ ap (offsets_below c) (same_text_count g c (λ i. refl)))
-        ∙ ap (λ t. spelled Legacy (offsets_below c (written_count c Text)) ++ t ++ []) (same_strings g c (λ i. refl))
+        ap (λ t. number_section Legacy t ++ texts_below g (written_count g Text) ++ []) (same_offsets g c (λ i. refl) (written_count g Text) ∙ ap (offsets_below c) (same_text_count g c (λ i. refl)))
+        ∙ ap (λ t. number_section Legacy (offsets_below c (written_count c Text)) ++ t ++ []) (same_strings g c (λ i. refl))
 
-    all_spelled : (values : List ℕ) → values ≡ below (wide_value (with_number b index n)) 39 → spelled k.format (take k.numbers values) ≡ spelled (format_of (with_number b index n)) (below (number_in (format_of (with_number b index n)) (with_number b index n)) (written_count (with_number b index n) Number))
+    all_spelled : (values : List ℕ) → values ≡ below (wide_value (with_number b index n)) 39 → number_section k.format (take k.numbers values) ≡ number_section (format_of (with_number b index n)) (below (number_in (format_of (with_number b index n)) (with_number b index n)) (written_count (with_number b index n) Number))
     all_spelled values all =
-        ap (λ t. spelled k.format (take k.numbers t)) all ∙ ap (spelled k.format) (take-below (wide_value g) 39 k.numbers has_g.numbers_fit)
-        ∙ ap (λ w. spelled w (below (wide_value g) k.numbers)) has_g.format ∙ ap (λ m. spelled (format_of g) (below (wide_value g) m)) has_g.numbers ∙ narrow_spelled (format_of g) g (written_count g Number)
+        ap (λ t. number_section k.format (take k.numbers t)) all ∙ ap (number_section k.format) (take-below (wide_value g) 39 k.numbers has_g.numbers_fit)
+        ∙ ap (λ w. number_section w (below (wide_value g) k.numbers)) has_g.format ∙ ap (λ m. number_section (format_of g) (below (wide_value g) m)) has_g.numbers ∙ narrow_spelled (format_of g) g (written_count g Number)
 
     pub numbers_changed : (b1 b2 b3 values : List ℕ) (place size wanted fill : ℕ) → place ≡ numbers_from h → size ≡ width h.format * h.numbers → wanted ≡ width k.format * k.numbers
         → values ≡ below (wide_value (with_number b index n)) 39 → length (image (names_in b) (with_number b index n)) ≤ limit_of (with_number b index n)
-        → Replaces b b1 place size (λ m. resized m wanted fill) → Replaces b1 b2 place (width k.format * k.numbers) (λ _. spelled k.format (take k.numbers values))
+        → Replaces b b1 place size (λ m. with_length m wanted fill) → Replaces b1 b2 place (width k.format * k.numbers) (λ _. number_section k.format (take k.numbers values))
         → Replaces b2 b3 0 12 (λ _. header k.format k.names k.flags k.numbers k.texts k.strings) → b3 ≡ image (names_in b) (with_number b index n)
     numbers_changed b1 b2 b3 values place size wanted fill ep es ew all small resizes puts heads =
         let names = names_in b in
         let w = format_of c in
         let p = head_of names c ++ before_numbers names c in
-        let m = spelled w (below (number_in w c) (written_count c Number)) in
+        let m = number_section w (below (number_in w c) (written_count c Number)) in
         let r = after_numbers c in
         let lp : length p ≡ place = length_before names c h has ∙ sym ep in
         let lm : length m ≡ size = length-spelled w (below (number_in w c) (written_count c Number)) ∙ ap (λ x. width w * x) (length-below (number_in w c) (written_count c Number) ∙ sym has.numbers) ∙ ap (λ f. width f * h.numbers) (sym has.format) ∙ sym es in
-        let one : b1 ≡ p ++ (resized m wanted fill ++ r) = resizes p m r (is.whole ∙ number_frame names c ∙ sym (append_assoc (head_of names c) (before_numbers names c) (m ++ r))) lp lm in
-        let new = spelled k.format (take k.numbers values) in
-        let two : b2 ≡ p ++ (new ++ r) = puts p (resized m wanted fill) r one lp (length-resized m wanted fill ∙ ew) in
+        let one : b1 ≡ p ++ (with_length m wanted fill ++ r) = resizes p m r (is.whole ∙ number_frame names c ∙ sym (append_assoc (head_of names c) (before_numbers names c) (m ++ r))) lp lm in
+        let new = number_section k.format (take k.numbers values) in
+        let two : b2 ≡ p ++ (new ++ r) = puts p (with_length m wanted fill) r one lp (length-resized m wanted fill ∙ ew) in
         let three : b3 ≡ header k.format k.names k.flags k.numbers k.texts k.strings ++ (before_numbers names c ++ (new ++ r)) =
         heads [] (head_of names c) (before_numbers names c ++ (new ++ r)) (two ∙ append_assoc (head_of names c) (before_numbers names c) (new ++ r)) refl (length_head names c) in
         three ∙ ap (λ t. t ++ (before_numbers names c ++ (new ++ r))) (header_laid names g k has_g small)
         ∙ ap (λ t. head_of names g ++ (before_numbers names c ++ (t ++ r))) (all_spelled values all)
-        ∙ ap (λ t. head_of names g ++ (before_numbers names c ++ (spelled (format_of g) (below (number_in (format_of g) g) (written_count g Number)) ++ t))) (sym same_after)
+        ∙ ap (λ t. head_of names g ++ (before_numbers names c ++ (number_section (format_of g) (below (number_in (format_of g) g) (written_count g Number)) ++ t))) (sym same_after)
         ∙ sym (number_frame names g)

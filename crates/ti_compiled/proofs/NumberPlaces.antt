@@ -8,8 +8,8 @@ use Rattle.ti_layout.specs.declared.layout.Format.{Format}
 use Rattle.ti_layout.specs.declared.layout.Format.TheVariants.{Legacy, Extended}
 use Rattle.ti_layout.specs.declared.layout.Header.{Header}
 use Rattle.ti_layout.specs.Image.{image, below, even_gap, flags_below, format_of, numbers_below, number_value, of_kind, offsets_below, texts_below, written_count}
-use Rattle.ti_layout.specs.Layout.{absent, negative, spelled, width}
-use Rattle.ti_layout.specs.Laws.{uncancelled}
+use Rattle.ti_layout.specs.Layout.{absent, negative, number_section, width}
+use Rattle.ti_layout.specs.Laws.{without_cancel}
 use Rattle.ti_layout.specs.Reading.{number_at}
 use Rattle.ti_layout.specs.Sizes.{HasSizes}
 use Rattle.ti_layout.specs.Values.{Content, content_true, content_number, content_text, content_cancelled, Contents, AgreesIfSome}
@@ -24,7 +24,7 @@ use Rattle.ti_compiled.proofs.Numbering.{place-get, place_under}
 use Rattle.ti_compiled.proofs.Resizing.{set-below}
 use Rattle.ti_compiled.proofs.TextPlaces.{head_of, length_head}
 
-void_number : (void : ℕ) (o : Option Content) → uncancelled o ≡ None → number_value void o ≡ void
+void_number : (void : ℕ) (o : Option Content) → without_cancel o ≡ None → number_value void o ≡ void
 void_number void None e = refl
 void_number void (Some content_true) e = refl
 void_number void (Some (content_number n)) e = absurd cc
@@ -58,16 +58,16 @@ abbrev pub before_numbers : List ℕ → Contents → List ℕ
 before_numbers names c = names ++ 0 ∷ [] ++ flags_below c (written_count c Flag) ++ even_gap names (written_count c Flag)
 
 abbrev pub after_numbers : Contents → List ℕ
-after_numbers c = spelled Legacy (offsets_below c (written_count c Text)) ++ texts_below c (written_count c Text) ++ []
+after_numbers c = number_section Legacy (offsets_below c (written_count c Text)) ++ texts_below c (written_count c Text) ++ []
 
 -- the number of a place, in a format
 abbrev pub number_in : Format → Contents → ℕ → ℕ
 number_in w c j = number_value (absent w) (of_kind c Number j)
 
-pub number_frame : (names : List ℕ) (c : Contents) → image names c ≡ head_of names c ++ (before_numbers names c ++ (spelled (format_of c) (below (number_in (format_of c) c) (written_count c Number)) ++ after_numbers c))
+pub number_frame : (names : List ℕ) (c : Contents) → image names c ≡ head_of names c ++ (before_numbers names c ++ (number_section (format_of c) (below (number_in (format_of c) c) (written_count c Number)) ++ after_numbers c))
 unfolding image
 number_frame names c =
-    nine (head_of names c) names (0 ∷ []) (flags_below c (written_count c Flag)) (even_gap names (written_count c Flag)) (spelled (format_of c) (numbers_below (format_of c) c (written_count c Number))) (spelled Legacy (offsets_below c (written_count c Text))) (texts_below c (written_count c Text)) []
+    nine (head_of names c) names (0 ∷ []) (flags_below c (written_count c Flag)) (even_gap names (written_count c Flag)) (number_section (format_of c) (numbers_below (format_of c) c (written_count c Number))) (number_section Legacy (offsets_below c (written_count c Text))) (texts_below c (written_count c Text)) []
 
 abbrev pub numbers_from : Header → ℕ
 numbers_from h = 12 + h.names + h.flags + (h.names + h.flags) % 2
@@ -107,7 +107,7 @@ module _ (b : List ℕ) (is : IsImage b) (h : Header) (has : HasSizes (names_in 
       value ∙ ap (λ p. number_at h.format (p + size * j) b) ep ∙ ap (λ x. number_at h.format (numbers_from h + x * j) b) es ∙ ap (λ f. number_at f (numbers_from h + width f * j) b) has.format
       ∙ place-get w (head_of (names_in b) c ++ before_numbers (names_in b) c) (after_numbers c) (numbers_from h) (length_before (names_in b) c h has) b (number_in w c) (written_count c Number) j
       (number_tells j lt).fits (omega arith)
-      (is.whole ∙ number_frame (names_in b) c ∙ sym (append_assoc (head_of (names_in b) c) (before_numbers (names_in b) c) (spelled w (below (number_in w c) (written_count c Number)) ++ after_numbers c)))
+      (is.whole ∙ number_frame (names_in b) c ∙ sym (append_assoc (head_of (names_in b) c) (before_numbers (names_in b) c) (number_section w (below (number_in w c) (written_count c Number)) ++ after_numbers c)))
 
   abbrev pub ReadUpTo : List ℕ → ℕ → Type 0
   ReadUpTo values at = values ≡ below (mixed (λ _. 4294967295) (wide_value (contents_in b)) at) 39

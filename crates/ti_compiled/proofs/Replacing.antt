@@ -1,7 +1,7 @@
 -- Bytes put in, taken out and written over, told of three lists one after the other.
 use Rattle.std.proofs.Common.{◌≡◌, ℕ, ◌+◌, ◌-◌, List, [], ◌∷◌, ◌++◌, length, take, drop, replicate, sym, ap, ◌∙◌, append_assoc, append-nil, arith}
 use Rattle.std.proofs.lemmas.List.{length-append, length-take, take_at, drop_at, take_all, take-append-drop, length-drop, length-replicate}
-use Rattle.ti_compiled.specs.Parts.{Replaces, opened, closed, resized}
+use Rattle.ti_compiled.specs.Parts.{Replaces, with_bytes_in, with_bytes_out, with_length}
 
 module _ (p m r : List ℕ) (b : List ℕ) (whole : b ≡ p ++ (m ++ r)) where
   front : (n : ℕ) → length p + length m ≡ n → take n b ≡ p ++ m
@@ -11,7 +11,7 @@ module _ (p m r : List ℕ) (b : List ℕ) (whole : b ≡ p ++ (m ++ r)) where
   back n e = ap (drop n) (whole ∙ sym (append_assoc p m r)) ∙ drop_at (p ++ m) r n (length-append p m ∙ e)
 
   -- filled up
-  pub grown : (at size count fill n : ℕ) → length p ≡ at → length m ≡ size → n ≡ size + count → opened b (at + size) count fill ≡ p ++ (resized m n fill ++ r)
+  pub grown : (at size count fill n : ℕ) → length p ≡ at → length m ≡ size → n ≡ size + count → with_bytes_in b (at + size) count fill ≡ p ++ (with_length m n fill ++ r)
   grown at size count fill n a s e =
       let here : length p + length m ≡ at + size = omega arith in
       let same : replicate {A = ℕ} (n - length m) fill ≡ replicate count fill = ap (λ k. replicate {A = ℕ} k fill) (omega arith) in
@@ -22,7 +22,7 @@ module _ (p m r : List ℕ) (b : List ℕ) (whole : b ≡ p ++ (m ++ r)) where
       ∙ ap (λ t. p ++ t) (sym (append_assoc m (replicate count fill) r) ∙ sym (ap (λ t. (t ++ replicate (n - length m) fill) ++ r) kept ∙ ap (λ t. (m ++ t) ++ r) same))
 
   -- cut
-  pub cut_short : (at size count n fill : ℕ) → length p ≡ at → length m ≡ size → n + count ≡ size → closed b (at + n) count ≡ p ++ (resized m n fill ++ r)
+  pub cut_short : (at size count n fill : ℕ) → length p ≡ at → length m ≡ size → n + count ≡ size → with_bytes_out b (at + n) count ≡ p ++ (with_length m n fill ++ r)
   cut_short at size count n fill a s e =
       let none : replicate {A = ℕ} (n - length m) fill ≡ [] = ap (λ k. replicate {A = ℕ} k fill) {x = n - length m} {y = 0} (omega arith) in
       let end : at + n + count ≡ at + size = omega arith in
@@ -34,14 +34,14 @@ module _ (p m r : List ℕ) (b : List ℕ) (whole : b ≡ p ++ (m ++ r)) where
       ap (λ t. t ++ drop (at + n + count) b) head ∙ ap (λ t. (p ++ take n m) ++ t) tail ∙ append_assoc p (take n m) r
       ∙ ap (λ t. p ++ (t ++ r)) (sym (append-nil (take n m)) ∙ ap (λ t. take n m ++ t) (sym none))
 
-pub length-resized : (m : List ℕ) (n x : ℕ) → length (resized m n x) ≡ n
+pub length-resized : (m : List ℕ) (n x : ℕ) → length (with_length m n x) ≡ n
 length-resized m n x = omega (arith, length-append (take n m) (replicate (n - length m) x), length-take n m, length-replicate (n - length m) x)
 
 -- a text and its NUL written over a part that has their size
-pub text_put : (b b1 b2 b3 text : List ℕ) (at size : ℕ) → Replaces b b1 at size (λ m. resized m (length text + 1) 0) → Replaces b1 b2 at (length text) (λ _. text)
+pub text_put : (b b1 b2 b3 text : List ℕ) (at size : ℕ) → Replaces b b1 at size (λ m. with_length m (length text + 1) 0) → Replaces b1 b2 at (length text) (λ _. text)
     → Replaces b2 b3 (at + length text) 1 (λ _. 0 ∷ []) → Replaces b b3 at size (λ _. text ++ 0 ∷ [])
 text_put b b1 b2 b3 text at size sized put ended = λ p m r whole a s.
-    let x = resized m (length text + 1) 0 in
+    let x = with_length m (length text + 1) 0 in
     let long : length x ≡ length text + 1 = length-resized m (length text + 1) 0 in
     let n = length text in
     let t = length-take n x in

@@ -4,7 +4,7 @@ use Rattle.std.proofs.lemmas.Bool.{cases_lt, cases_eq}
 use Rattle.std.proofs.lemmas.List.{take_all, same_lists, length-take, get_or-take, length-set, get_or-set_same, get_or-set_other}
 use Rattle.ti_layout.specs.Image.{below}
 use Rattle.ti_layout.proofs.Below.{length-below, get_or-below, below-filled}
-use Rattle.ti_compiled.specs.Parts.{resized}
+use Rattle.ti_compiled.specs.Parts.{with_length}
 
 module _ (f : ℕ → ℕ) where
   pub take-below : (m n : ℕ) → n ≤ m → take n (below f m) ≡ below f n
@@ -18,7 +18,7 @@ module _ (f : ℕ → ℕ) where
       get_or-take n (below f m) i d under ∙ get_or-below f m i d within ∙ sym (get_or-below f n i d under))
 
   -- resized by the value that the places past the end have
-  pub resized-below : (void m n : ℕ) → ((j : ℕ) → m ≤ j → f j ≡ void) → resized (below f m) n void ≡ below f n
+  pub resized-below : (void m n : ℕ) → ((j : ℕ) → m ≤ j → f j ≡ void) → with_length (below f m) n void ≡ below f n
   resized-below void m n past =
       let l = length-below f m in
       elim (cases_lt n m) [

@@ -3,14 +3,14 @@ use Rattle.std.proofs.Common.{◌≡◌, ◌≢◌, ℕ, suc, ◌+◌, ◌<◌, 
 use Rattle.std.proofs.lemmas.Bool.{cases_lt}
 use Rattle.std.proofs.lemmas.List.{length-map}
 use Rattle.ti_caps.specs.Tables.{Capability, IsCapability}
-use Rattle.ti_layout.specs.Laws.{uncancelled}
+use Rattle.ti_layout.specs.Laws.{without_cancel}
 use Rattle.ti_layout.specs.Merging.{IsPastBoth}
 use Rattle.ti_layout.specs.declared.values.Value.{Value}
 use Rattle.ti_layout.specs.Values.{Contents, Entry, Agrees, IsKept, contents, content_of, entries_of, rank_at, rank_of}
 use Rattle.ti_layout.proofs.Held.{contents_nowhere, one_from_rank}
 use Rattle.ti_layout.proofs.Places.{nowhere, rank_read}
 use Rattle.ti_layout.proofs.Walked.{contents_read, item_read}
-use Rattle.ti_compiled.specs.Held.{given}
+use Rattle.ti_compiled.specs.Held.{with_content}
 use Rattle.ti_compiled.proofs.Given.{given_here, given_other}
 
 -- the entries before a place have lower ranks, and those from it on this rank or greater ones
@@ -59,10 +59,10 @@ pub record Patches (old new : List Entry) (held : Contents) (i j : ℕ) : Type 0
   pub rank : ℕ
   pub in_old : Front old rank i
   pub in_new : Front new rank j
-  pub new_held : (c : Capability) → IsCapability c → rank_of c < rank → held c ≡ uncancelled (contents new c)
-  pub old_held : (c : Capability) → IsCapability c → rank ≤ rank_of c → held c ≡ uncancelled (contents old c)
+  pub new_held : (c : Capability) → IsCapability c → rank_of c < rank → held c ≡ without_cancel (contents new c)
+  pub old_held : (c : Capability) → IsCapability c → rank ≤ rank_of c → held c ≡ without_cancel (contents old c)
 
-pub patches_none : (old new : List Entry) (held : Contents) → IsKept old → IsKept new → ((c : Capability) → IsCapability c → held c ≡ uncancelled (contents old c)) → Patches old new held 0 0
+pub patches_none : (old new : List Entry) (held : Contents) → IsKept old → IsKept new → ((c : Capability) → IsCapability c → held c ≡ without_cancel (contents old c)) → Patches old new held 0 0
 patches_none old new held kept_o kept_n same = record {
   rank = 0;
   in_old = front_start old kept_o;
@@ -71,7 +71,7 @@ patches_none old new held kept_o kept_n same = record {
   old_held = λ c valid le. same c valid;
 }
 
-pub patches_all : (old new : List Entry) (held : Contents) (i j : ℕ) → IsKept old → IsKept new → Patches old new held i j → IsPastBoth old i new j → (c : Capability) → IsCapability c → held c ≡ uncancelled (contents new c)
+pub patches_all : (old new : List Entry) (held : Contents) (i j : ℕ) → IsKept old → IsKept new → Patches old new held i j → IsPastBoth old i new j → (c : Capability) → IsCapability c → held c ≡ without_cancel (contents new c)
 patches_all old new held i j kept_o kept_n m past c valid =
     let past_o = past.0 in
     let past_n = past.1 in
@@ -79,14 +79,14 @@ patches_all old new held i j kept_o kept_n m past c valid =
       | inl under ↦ m.new_held c valid under
       | inr over ↦
           m.old_held c valid over
-          ∙ ap uncancelled (silent old kept_o m.rank i (suc (rank_of c)) m.in_old (λ lt. absurd (omega arith)) c over (omega arith)
+          ∙ ap without_cancel (silent old kept_o m.rank i (suc (rank_of c)) m.in_old (λ lt. absurd (omega arith)) c over (omega arith)
           ∙ sym (silent new kept_n m.rank j (suc (rank_of c)) m.in_new (λ lt. absurd (omega arith)) c over (omega arith)))
     ]
 
 module _ (old new : List Entry) (kept_o : IsKept old) (kept_n : IsKept new) (held : Contents) (i j : ℕ) (m : Patches old new held i j) where
   -- the walk has come to a capability, and it is made to hold what the new entries say
   step : (x : Capability) → IsCapability x → (i' j' : ℕ) (after : Contents) → m.rank ≤ rank_of x → (i < length old → rank_of x ≤ rank_at old i) → (j < length new → rank_of x ≤ rank_at new j)
-      → Front old (suc (rank_of x)) i' → Front new (suc (rank_of x)) j' → after x ≡ uncancelled (contents new x) → ((c : Capability) → IsCapability c → c ≢ x → after c ≡ held c) → Patches old new after i' j'
+      → Front old (suc (rank_of x)) i' → Front new (suc (rank_of x)) j' → after x ≡ without_cancel (contents new x) → ((c : Capability) → IsCapability c → c ≢ x → after c ≡ held c) → Patches old new after i' j'
   step x valid i' j' after low least_o least_n front_o front_n here others = record {
     rank = suc (rank_of x);
     in_old = front_o;
@@ -98,9 +98,9 @@ module _ (old new : List Entry) (kept_o : IsKept old) (kept_n : IsKept new) (hel
             | inl before ↦ m.new_held c ok before
             | inr from ↦
                 m.old_held c ok from
-                ∙ ap uncancelled (silent old kept_o m.rank i (rank_of x) m.in_old least_o c from under ∙ sym (silent new kept_n m.rank j (rank_of x) m.in_new least_n c from under))
+                ∙ ap without_cancel (silent old kept_o m.rank i (rank_of x) m.in_old least_o c from under ∙ sym (silent new kept_n m.rank j (rank_of x) m.in_new least_n c from under))
           ]
-      | inr not_under ↦ let e : c ≡ x = one_from_rank c x ok valid (omega arith) in subst (λ d. after d ≡ uncancelled (contents new d)) (sym e) here
+      | inr not_under ↦ let e : c ≡ x = one_from_rank c x ok valid (omega arith) in subst (λ d. after d ≡ without_cancel (contents new d)) (sym e) here
     ];
     old_held = λ c ok le. others c ok (λ e. let s = ap rank_of e in absurd (omega arith)) ∙ m.old_held c ok (omega arith);
   }
@@ -115,7 +115,7 @@ module _ (old new : List Entry) (kept_o : IsKept old) (kept_n : IsKept new) (hel
   said_here es kept k x within here = subst (λ (e : Entry). contents es e.0 ≡ Some e.1) here (contents_read es kept k x within)
 
   pub takes_away : (x : Entry) → i < length old → get_or old i x ≡ x → (j < length new → rank_at old i < rank_at new j)
-      → (after : Contents) → ((c : Capability) → IsCapability c → after c ≡ given held x.0 None c) → Patches old new after (i + 1) j
+      → (after : Contents) → ((c : Capability) → IsCapability c → after c ≡ with_content held x.0 None c) → Patches old new after (i + 1) j
   takes_away x within here turn after told =
       let r = rank_here old i x within here in
       let valid = valid_here old kept_o i x within here in
@@ -124,11 +124,11 @@ module _ (old new : List Entry) (kept_o : IsKept old) (kept_n : IsKept new) (hel
       step x.0 valid (i + 1) j after (omega arith) (λ lt. omega arith) (λ lt. let t = later lt in omega arith)
       (front_moves old kept_o m.rank i (rank_of x.0) m.in_old within r (omega arith)) (front_stays new kept_n m.rank j (rank_of x.0) m.in_new (omega arith) later)
       (told x.0 valid ∙ given_here held x.0 None
-      ∙ sym (ap uncancelled (silent new kept_n m.rank j (suc (rank_of x.0)) m.in_new (λ lt. let t = later lt in omega arith) x.0 (omega arith) (omega arith))))
+      ∙ sym (ap without_cancel (silent new kept_n m.rank j (suc (rank_of x.0)) m.in_new (λ lt. let t = later lt in omega arith) x.0 (omega arith) (omega arith))))
       (λ c ok other. told c ok ∙ given_other held x.0 None c other)
 
   pub gives : (x : Entry) → j < length new → get_or new j x ≡ x → (i < length old → rank_at new j < rank_at old i)
-      → (after : Contents) → ((c : Capability) → IsCapability c → after c ≡ given held x.0 (uncancelled (Some x.1)) c) → Patches old new after i (j + 1)
+      → (after : Contents) → ((c : Capability) → IsCapability c → after c ≡ with_content held x.0 (without_cancel (Some x.1)) c) → Patches old new after i (j + 1)
   gives x within here turn after told =
       let r = rank_here new j x within here in
       let valid = valid_here new kept_n j x within here in
@@ -136,12 +136,12 @@ module _ (old new : List Entry) (kept_o : IsKept old) (kept_n : IsKept new) (hel
       let later : i < length old → rank_of x.0 < rank_at old i = λ lt. let t = turn lt in omega arith in
       step x.0 valid i (j + 1) after (omega arith) (λ lt. let t = later lt in omega arith) (λ lt. omega arith)
       (front_stays old kept_o m.rank i (rank_of x.0) m.in_old (omega arith) later) (front_moves new kept_n m.rank j (rank_of x.0) m.in_new within r (omega arith))
-      (told x.0 valid ∙ given_here held x.0 (uncancelled (Some x.1)) ∙ sym (ap uncancelled (said_here new kept_n j x within here)))
-      (λ c ok other. told c ok ∙ given_other held x.0 (uncancelled (Some x.1)) c other)
+      (told x.0 valid ∙ given_here held x.0 (without_cancel (Some x.1)) ∙ sym (ap without_cancel (said_here new kept_n j x within here)))
+      (λ c ok other. told c ok ∙ given_other held x.0 (without_cancel (Some x.1)) c other)
 
   module _ (x y : Entry) (within_o : i < length old) (here_o : get_or old i x ≡ x) (within_n : j < length new) (here_n : get_or new j y ≡ y) (same : rank_at old i ≡ rank_at new j) where
     -- what is held is the old value
-    pub still_held : held y.0 ≡ uncancelled (Some x.1)
+    pub still_held : held y.0 ≡ without_cancel (Some x.1)
     still_held =
         let r = rank_here old i x within_o here_o in
         let s = rank_here new j y within_n here_n in
@@ -149,17 +149,17 @@ module _ (old new : List Entry) (kept_o : IsKept old) (kept_n : IsKept new) (hel
         let valid_n = valid_here new kept_n j y within_n here_n in
         let low = m.in_new.left j (omega arith) within_n in
         let one : x.0 ≡ y.0 = one_from_rank x.0 y.0 valid_o valid_n (omega arith) in
-        m.old_held y.0 valid_n (omega arith) ∙ ap uncancelled (ap (contents old) (sym one) ∙ said_here old kept_o i x within_o here_o)
+        m.old_held y.0 valid_n (omega arith) ∙ ap without_cancel (ap (contents old) (sym one) ∙ said_here old kept_o i x within_o here_o)
 
-    pub renews : (after : Contents) → ((c : Capability) → IsCapability c → after c ≡ given held y.0 (uncancelled (Some y.1)) c) → Patches old new after (i + 1) (j + 1)
+    pub renews : (after : Contents) → ((c : Capability) → IsCapability c → after c ≡ with_content held y.0 (without_cancel (Some y.1)) c) → Patches old new after (i + 1) (j + 1)
     renews after told =
         let s = rank_here new j y within_n here_n in
         let valid = valid_here new kept_n j y within_n here_n in
         let low = m.in_new.left j (omega arith) within_n in
         step y.0 valid (i + 1) (j + 1) after (omega arith) (λ lt. omega arith) (λ lt. omega arith)
         (front_moves old kept_o m.rank i (rank_of y.0) m.in_old within_o (same ∙ s) (omega arith)) (front_moves new kept_n m.rank j (rank_of y.0) m.in_new within_n s (omega arith))
-        (told y.0 valid ∙ given_here held y.0 (uncancelled (Some y.1)) ∙ sym (ap uncancelled (said_here new kept_n j y within_n here_n)))
-        (λ c ok other. told c ok ∙ given_other held y.0 (uncancelled (Some y.1)) c other)
+        (told y.0 valid ∙ given_here held y.0 (without_cancel (Some y.1)) ∙ sym (ap without_cancel (said_here new kept_n j y within_n here_n)))
+        (λ c ok other. told c ok ∙ given_other held y.0 (without_cancel (Some y.1)) c other)
 
 -- the entries of slices are such as a table may have
 pub entry_agrees : (xs : List (Capability × Value)) → IsKept (entries_of xs) → (k : ℕ) (x : Capability × Value) → k < length xs → x ≡ get_or xs k x → Agrees x.0 (content_of x.1)

@@ -9,7 +9,7 @@ use Rattle.ti_layout.specs.Layout.{width}
 use Rattle.ti_layout.specs.Sizes.{HasSizes}
 use Rattle.ti_layout.proofs.Sizes.{limit-le}
 use Rattle.ti_compiled.specs.Changes.{text_content}
-use Rattle.ti_compiled.specs.Held.{names_in, contents_in, given, IsImage}
+use Rattle.ti_compiled.specs.Held.{names_in, contents_in, with_content, IsImage}
 use Rattle.ti_compiled.specs.Parts.{piece}
 use Rattle.ti_compiled.proofs.Counted.{count-put}
 use Rattle.ti_compiled.proofs.FlagPlaces.{length_sized}
@@ -47,13 +47,13 @@ plain start end place removed room added len from T U s u x m e r i l p w t q le
 }
 
 module _ (b : List ℕ) (is : IsImage b) (h : Header) (has : HasSizes (names_in b) (contents_in b) h) (index : ℕ) (within : index < 414) (t : Option (List ℕ)) (k : Header)
-    (sizes : HasSizes (names_in b) (given (contents_in b) (capability Text index) (text_content t)) k)
-    (small : length (image (names_in b) (given (contents_in b) (capability Text index) (text_content t))) ≤ limit_of (given (contents_in b) (capability Text index) (text_content t))) where
+    (sizes : HasSizes (names_in b) (with_content (contents_in b) (capability Text index) (text_content t)) k)
+    (small : length (image (names_in b) (with_content (contents_in b) (capability Text index) (text_content t))) ≤ limit_of (with_content (contents_in b) (capability Text index) (text_content t))) where
   pub lengths : (start end place removed room added : ℕ) → start ≡ length (texts_below (contents_in b) index) → end ≡ length (texts_below (contents_in b) (index + 1)) → place ≡ offsets_from h → removed ≡ end - start
-      → added ≡ length (piece t) → length (image (names_in b) (given (contents_in b) (capability Text index) (text_content t))) ≤ room → Lengths (length b) start end place removed added h.texts k.texts room
+      → added ≡ length (piece t) → length (image (names_in b) (with_content (contents_in b) (capability Text index) (text_content t))) ≤ room → Lengths (length b) start end place removed added h.texts k.texts room
   lengths start end place removed room added es ee ep er ea le =
       let c = contents_in b in
-      let g = given (contents_in b) (capability Text index) (text_content t) in
+      let g = with_content (contents_in b) (capability Text index) (text_content t) in
       let ends = text_ends b is h has index within t in
       let inside = text_within b is h has index within t in
       let sum = table_length b is h has index within t in
@@ -74,7 +74,7 @@ module _ (b : List ℕ) (is : IsImage b) (h : Header) (has : HasSizes (names_in 
 
   -- the same of what calls that are given the bytes answer
   pub lengths_of : (x y : List ℕ) (start end place room added : ℕ) → x ≡ b → y ≡ b → start ≡ length (texts_below (contents_in x) index) → end ≡ length (texts_below (contents_in y) (index + 1)) → place ≡ offsets_from h
-      → added ≡ length (piece t) → length (image (names_in b) (given (contents_in b) (capability Text index) (text_content t))) ≤ room → Lengths (length b) start end place (end - start) added h.texts k.texts room
+      → added ≡ length (piece t) → length (image (names_in b) (with_content (contents_in b) (capability Text index) (text_content t))) ≤ room → Lengths (length b) start end place (end - start) added h.texts k.texts room
   lengths_of x y start end place room added ex ey es ee ep ea le =
       lengths start end place (end - start) room added (es ∙ ap (λ z. length (texts_below (contents_in z) index)) ex) (ee ∙ ap (λ z. length (texts_below (contents_in z) (index + 1))) ey) ep refl ea le
 
@@ -91,7 +91,7 @@ module _ (b : List ℕ) (is : IsImage b) (h : Header) (has : HasSizes (names_in 
     | None ↦ λ e. inl (ap (λ u. length (piece u)) e)
     | Some x ↦ λ e.
         let c = contents_in b in
-        let g = given c (capability Text index) (text_content t) in
+        let g = with_content c (capability Text index) (text_content t) in
         let T = has.texts in
         let U = sizes.texts in
         let there : is_there (of_kind g Text index) ≡ true = ap is_there (here b is h has index within t ∙ ap text_content e) in

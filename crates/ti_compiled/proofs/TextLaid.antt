@@ -7,7 +7,7 @@ use Rattle.ti_caps.specs.declared.capability.Kind.TheVariants.{Text}
 use Rattle.ti_layout.specs.declared.layout.Format.TheVariants.{Legacy}
 use Rattle.ti_layout.specs.declared.layout.Header.{Header}
 use Rattle.ti_layout.specs.Image.{image, below, limit_of, of_kind, offset_value, text_piece, texts_below, written_count}
-use Rattle.ti_layout.specs.Layout.{header, spelled}
+use Rattle.ti_layout.specs.Layout.{header, number_section}
 use Rattle.ti_layout.specs.Sizes.{HasSizes}
 use Rattle.ti_layout.specs.Values.{Content, content_true, content_number, content_text, content_cancelled, Contents, AgreesIfSome}
 use Rattle.ti_layout.proofs.Assembling.{header_laid}
@@ -15,8 +15,8 @@ use Rattle.ti_layout.proofs.Below.{below-same}
 use Rattle.ti_layout.proofs.Spelled.{length-spelled}
 use Rattle.ti_layout.proofs.Below.{length-below}
 use Rattle.ti_compiled.specs.Changes.{text_content}
-use Rattle.ti_compiled.specs.Held.{names_in, contents_in, given, IsImage}
-use Rattle.ti_compiled.specs.Parts.{Replaces, resized, moved, moved_later, piece}
+use Rattle.ti_compiled.specs.Held.{names_in, contents_in, with_content, IsImage}
+use Rattle.ti_compiled.specs.Parts.{Replaces, with_length, offset_after, moved_later, piece}
 use Rattle.ti_compiled.proofs.Moving.{moved_absent, moved_there, later_before, later_from}
 use Rattle.ti_compiled.proofs.Numbering.{resized-spelled}
 use Rattle.ti_compiled.proofs.TextChange.{piece_of, lengths_about, texts_about, texts_before}
@@ -24,7 +24,7 @@ use Rattle.ti_compiled.proofs.TextPlaces.{offset_of, offset_tells, offset_past, 
 use Rattle.ti_compiled.proofs.TextSizes.{others, here, past_g, count_le}
 
 -- the offset of a text behind the one that changes
-moved_one : (j n m removed added : ℕ) (o : Option Content) → AgreesIfSome (capability Text j) o → n < 65535 → m + removed ≡ n + added → moved removed added (offset_value n o) ≡ offset_value m o
+moved_one : (j n m removed added : ℕ) (o : Option Content) → AgreesIfSome (capability Text j) o → n < 65535 → m + removed ≡ n + added → offset_after removed added (offset_value n o) ≡ offset_value m o
 moved_one j n m removed added None a lt e = moved_absent removed added 65535 refl
 moved_one j n m removed added (Some content_true) a lt e = absurd cc
 moved_one j n m removed added (Some (content_number k)) a lt e = let never = a.0 in absurd cc
@@ -39,7 +39,7 @@ module _ (b : List ℕ) (is : IsImage b) (h : Header) (has : HasSizes (names_in 
   c = contents_in b
 
   abbrev g : Contents
-  g = given (contents_in b) (capability Text index) (text_content t)
+  g = with_content (contents_in b) (capability Text index) (text_content t)
 
   abbrev T : ℕ
   T = written_count (contents_in b) Text
@@ -48,7 +48,7 @@ module _ (b : List ℕ) (is : IsImage b) (h : Header) (has : HasSizes (names_in 
   front = head_of (names_in b) (contents_in b) ++ middle (names_in b) (contents_in b)
 
   abbrev tail : List ℕ
-  tail = (texts_about (contents_in b) (given (contents_in b) (capability Text index) (text_content t)) index (others b is h has index within t) (414 - (index + 1))).0
+  tail = (texts_about (contents_in b) (with_content (contents_in b) (capability Text index) (text_content t)) index (others b is h has index within t) (414 - (index + 1))).0
 
   all : index + 1 + (414 - (index + 1)) ≡ 414
   all = omega arith
@@ -67,9 +67,9 @@ module _ (b : List ℕ) (is : IsImage b) (h : Header) (has : HasSizes (names_in 
   -- the text replaced in the table
   pub table_changed : (b1 : List ℕ) (place at start removed : ℕ) → place ≡ offsets_from h → at ≡ place + 2 * h.texts + start → start ≡ length (texts_below (contents_in b) index) → removed ≡ length (text_piece (of_kind (contents_in b) Text index))
       → Replaces b b1 at removed (λ _. piece t)
-      → b1 ≡ (head_of (names_in b) (contents_in b) ++ middle (names_in b) (contents_in b)) ++ (spelled Legacy (below (offset_of (contents_in b)) (written_count (contents_in b) Text)) ++ (texts_below (given (contents_in b) (capability Text index) (text_content t)) (written_count (given (contents_in b) (capability Text index) (text_content t)) Text) ++ []))
+      → b1 ≡ (head_of (names_in b) (contents_in b) ++ middle (names_in b) (contents_in b)) ++ (number_section Legacy (below (offset_of (contents_in b)) (written_count (contents_in b) Text)) ++ (texts_below (with_content (contents_in b) (capability Text index) (text_content t)) (written_count (with_content (contents_in b) (capability Text index) (text_content t)) Text) ++ []))
   table_changed b1 place at start removed ep ea es er replaces =
-      let o = spelled Legacy (below (offset_of c) T) in
+      let o = number_section Legacy (below (offset_of c) T) in
       let a = texts_below c index in
       let x = text_piece (of_kind c Text index) in
       let lo : length o ≡ 2 * T = length-spelled Legacy (below (offset_of c) T) ∙ ap (λ k. 2 * k) (length-below (offset_of c) T) in
@@ -81,10 +81,10 @@ module _ (b : List ℕ) (is : IsImage b) (h : Header) (has : HasSizes (names_in 
       replaces (front ++ (o ++ a)) x tail first (omega arith) (sym er) ∙ sym (regroup front o a (piece t) tail) ∙ ap (λ s. front ++ (o ++ (s ++ []))) (sym new_table)
 
   -- the offsets cut or filled up
-  pub offsets_resized : (b1 b2 rest : List ℕ) (place n : ℕ) → place ≡ offsets_from h → b1 ≡ (head_of (names_in b) (contents_in b) ++ middle (names_in b) (contents_in b)) ++ (spelled Legacy (below (offset_of (contents_in b)) (written_count (contents_in b) Text)) ++ rest)
-      → Replaces b1 b2 place (2 * h.texts) (λ m. resized m (2 * n) 255) → b2 ≡ (head_of (names_in b) (contents_in b) ++ middle (names_in b) (contents_in b)) ++ (spelled Legacy (below (offset_of (contents_in b)) n) ++ rest)
+  pub offsets_resized : (b1 b2 rest : List ℕ) (place n : ℕ) → place ≡ offsets_from h → b1 ≡ (head_of (names_in b) (contents_in b) ++ middle (names_in b) (contents_in b)) ++ (number_section Legacy (below (offset_of (contents_in b)) (written_count (contents_in b) Text)) ++ rest)
+      → Replaces b1 b2 place (2 * h.texts) (λ m. with_length m (2 * n) 255) → b2 ≡ (head_of (names_in b) (contents_in b) ++ middle (names_in b) (contents_in b)) ++ (number_section Legacy (below (offset_of (contents_in b)) n) ++ rest)
   offsets_resized b1 b2 rest place n ep whole replaces =
-      let o = spelled Legacy (below (offset_of c) T) in
+      let o = number_section Legacy (below (offset_of c) T) in
       let lo : length o ≡ 2 * T = length-spelled Legacy (below (offset_of c) T) ∙ ap (λ k. 2 * k) (length-below (offset_of c) T) in
       let e = has.texts in
       replaces front o rest whole (length_front names c h has ∙ sym ep) (omega arith)
@@ -92,21 +92,21 @@ module _ (b : List ℕ) (is : IsImage b) (h : Header) (has : HasSizes (names_in 
 
   -- with the offset of the text itself
   abbrev pub put : ℕ → ℕ
-  put j = if j == index then offset_of (given (contents_in b) (capability Text index) (text_content t)) index else offset_of (contents_in b) j
+  put j = if j == index then offset_of (with_content (contents_in b) (capability Text index) (text_content t)) index else offset_of (contents_in b) j
 
-  pub put_here : (if index == index then offset_of (given (contents_in b) (capability Text index) (text_content t)) index else offset_of (contents_in b) index) ≡ offset_of (given (contents_in b) (capability Text index) (text_content t)) index
+  pub put_here : (if index == index then offset_of (with_content (contents_in b) (capability Text index) (text_content t)) index else offset_of (contents_in b) index) ≡ offset_of (with_content (contents_in b) (capability Text index) (text_content t)) index
   put_here = ap (λ x. cond x (offset_of g index) (offset_of c index)) (eq-eqb index index refl)
 
-  pub put_other : (j : ℕ) → j ≢ index → (if j == index then offset_of (given (contents_in b) (capability Text index) (text_content t)) index else offset_of (contents_in b) j) ≡ offset_of (contents_in b) j
+  pub put_other : (j : ℕ) → j ≢ index → (if j == index then offset_of (with_content (contents_in b) (capability Text index) (text_content t)) index else offset_of (contents_in b) j) ≡ offset_of (contents_in b) j
   put_other j other = ap (λ x. cond x (offset_of g index) (offset_of c j)) (ne_eqb j index other)
 
   same_start : length (texts_below g index) ≡ length (texts_below c index)
   same_start = ap (λ (x : List ℕ). length x) (texts_before c g index (others b is h has index within t) index (omega arith))
 
-  pub offset_there : (x : List ℕ) → t ≡ Some x → offset_of (given (contents_in b) (capability Text index) (text_content t)) index ≡ length (texts_below (contents_in b) index)
+  pub offset_there : (x : List ℕ) → t ≡ Some x → offset_of (with_content (contents_in b) (capability Text index) (text_content t)) index ≡ length (texts_below (contents_in b) index)
   offset_there x e = ap (offset_value (length (texts_below g index))) (here b is h has index within t ∙ ap text_content e) ∙ same_start
 
-  pub offset_none : t ≡ None → offset_of (given (contents_in b) (capability Text index) (text_content t)) index ≡ 65535
+  pub offset_none : t ≡ None → offset_of (with_content (contents_in b) (capability Text index) (text_content t)) index ≡ 65535
   offset_none e = ap (offset_value (length (texts_below g index))) (here b is h has index within t ∙ ap text_content e)
 
   new_fits : offset_of g index ≤ 65535
@@ -115,7 +115,7 @@ module _ (b : List ℕ) (is : IsImage b) (h : Header) (has : HasSizes (names_in 
     | Some x ↦ λ e. let o = offset_there x e in omega arith
   ] refl
 
-  pub put_fits : (j : ℕ) → (if j == index then offset_of (given (contents_in b) (capability Text index) (text_content t)) index else offset_of (contents_in b) j) ≤ 65535
+  pub put_fits : (j : ℕ) → (if j == index then offset_of (with_content (contents_in b) (capability Text index) (text_content t)) index else offset_of (contents_in b) j) ≤ 65535
   put_fits j = elim (cases_eq j index) [
     | inl same ↦ let e : put j ≡ offset_of g index = ap put same ∙ put_here in let f = new_fits in omega arith
     | inr other ↦ let e = put_other j other in let f = (offset_tells names c is.imaged j).fits in omega arith
@@ -135,24 +135,24 @@ module _ (b : List ℕ) (is : IsImage b) (h : Header) (has : HasSizes (names_in 
         let l = lengths_about c g index (others b is h has index within t) j (omega arith) in
         let p : length (text_piece (of_kind g Text index)) ≡ length (piece t) = ap (λ o. length (text_piece o)) (here b is h has index within t) ∙ ap (λ (x : List ℕ). length x) (piece_of t) in
         let other : j ≢ index = λ same. omega arith in
-        later_from put (index + 1) removed added j (omega arith) ∙ ap (moved removed added) (put_other j other)
+        later_from put (index + 1) removed added j (omega arith) ∙ ap (offset_after removed added) (put_other j other)
         ∙ moved_one j (length (texts_below c j)) (length (texts_below g j)) removed added (of_kind c Text j) (agrees_text names c is.imaged j) (omega arith) (omega arith)
         ∙ sym (ap (offset_value (length (texts_below g j))) (others b is h has index within t j other))
   ]
 
   pub text_changed : (b4 b5 : List ℕ) (k : Header) (removed added : ℕ) → removed ≡ length (text_piece (of_kind (contents_in b) Text index)) → added ≡ length (piece t)
-      → b4 ≡ (head_of (names_in b) (contents_in b) ++ middle (names_in b) (contents_in b)) ++ (spelled Legacy (below (moved_later (λ j. if j == index then offset_of (given (contents_in b) (capability Text index) (text_content t)) index else offset_of (contents_in b) j) (index + 1) removed added) k.texts)
-      ++ (texts_below (given (contents_in b) (capability Text index) (text_content t)) (written_count (given (contents_in b) (capability Text index) (text_content t)) Text) ++ []))
-      → HasSizes (names_in b) (given (contents_in b) (capability Text index) (text_content t)) k
-      → length (image (names_in b) (given (contents_in b) (capability Text index) (text_content t))) ≤ limit_of (given (contents_in b) (capability Text index) (text_content t))
-      → Replaces b4 b5 0 12 (λ _. header k.format k.names k.flags k.numbers k.texts k.strings) → b5 ≡ image (names_in b) (given (contents_in b) (capability Text index) (text_content t))
+      → b4 ≡ (head_of (names_in b) (contents_in b) ++ middle (names_in b) (contents_in b)) ++ (number_section Legacy (below (moved_later (λ j. if j == index then offset_of (with_content (contents_in b) (capability Text index) (text_content t)) index else offset_of (contents_in b) j) (index + 1) removed added) k.texts)
+      ++ (texts_below (with_content (contents_in b) (capability Text index) (text_content t)) (written_count (with_content (contents_in b) (capability Text index) (text_content t)) Text) ++ []))
+      → HasSizes (names_in b) (with_content (contents_in b) (capability Text index) (text_content t)) k
+      → length (image (names_in b) (with_content (contents_in b) (capability Text index) (text_content t))) ≤ limit_of (with_content (contents_in b) (capability Text index) (text_content t))
+      → Replaces b4 b5 0 12 (λ _. header k.format k.names k.flags k.numbers k.texts k.strings) → b5 ≡ image (names_in b) (with_content (contents_in b) (capability Text index) (text_content t))
   text_changed b4 b5 k removed added er ea whole sizes small replaces =
       let S = texts_below g (written_count g Text) in
-      let o = spelled Legacy (below (moved_later put (index + 1) removed added) k.texts) in
+      let o = number_section Legacy (below (moved_later put (index + 1) removed added) k.texts) in
       let rest = middle names c ++ (o ++ (S ++ [])) in
       let offsets : below (moved_later put (index + 1) removed added) k.texts ≡ below (offset_of g) (written_count g Text) =
       below-same (moved_later put (index + 1) removed added) (offset_of g) k.texts (λ j lt. each removed added er ea j) ∙ ap (below (offset_of g)) sizes.texts in
       replaces [] (head_of names c) rest (whole ∙ append_assoc (head_of names c) (middle names c) (o ++ (S ++ []))) refl (length_head names c)
       ∙ ap (λ x. x ++ rest) (header_laid names g k sizes small)
-      ∙ ap (λ x. head_of names g ++ (middle names c ++ (spelled Legacy x ++ (S ++ [])))) offsets
+      ∙ ap (λ x. head_of names g ++ (middle names c ++ (number_section Legacy x ++ (S ++ [])))) offsets
       ∙ sym (text_frame names g)

@@ -7,8 +7,8 @@ use Rattle.ti_caps.specs.declared.capability.Kind.TheVariants.{Flag, Number, Tex
 use Rattle.ti_layout.specs.declared.layout.Format.TheVariants.{Legacy}
 use Rattle.ti_layout.specs.declared.layout.Header.{Header}
 use Rattle.ti_layout.specs.Image.{image, below, even_gap, flags_below, format_of, is_there, numbers_below, of_kind, offset_value, offsets_below, text_piece, texts_below, written_count}
-use Rattle.ti_layout.specs.Layout.{header, spelled, width}
-use Rattle.ti_layout.specs.Laws.{uncancelled}
+use Rattle.ti_layout.specs.Layout.{header, number_section, width}
+use Rattle.ti_layout.specs.Laws.{without_cancel}
 use Rattle.ti_layout.specs.Reading.{word_at}
 use Rattle.ti_layout.specs.Sizes.{HasSizes}
 use Rattle.ti_layout.specs.Values.{Content, content_true, content_number, content_text, content_cancelled, Contents, AgreesIfSome}
@@ -26,14 +26,14 @@ use Rattle.ti_compiled.proofs.Numbering.{place-get}
 abbrev pub offset_of : Contents → ℕ → ℕ
 offset_of c j = offset_value (length (texts_below c j)) (of_kind c Text j)
 
-void_piece : (o : Option Content) → uncancelled o ≡ None → text_piece o ≡ []
+void_piece : (o : Option Content) → without_cancel o ≡ None → text_piece o ≡ []
 void_piece None e = refl
 void_piece (Some content_true) e = absurd cc
 void_piece (Some (content_number n)) e = absurd cc
 void_piece (Some (content_text t)) e = absurd cc
 void_piece (Some content_cancelled) e = refl
 
-void_offset : (n : ℕ) (o : Option Content) → uncancelled o ≡ None → offset_value n o ≡ 65535
+void_offset : (n : ℕ) (o : Option Content) → without_cancel o ≡ None → offset_value n o ≡ 65535
 void_offset n None e = refl
 void_offset n (Some content_true) e = absurd cc
 void_offset n (Some (content_number m)) e = absurd cc
@@ -96,16 +96,16 @@ module _ (names : List ℕ) (c : Contents) (is : IsImaged names c) where
 -- what stands before the offsets, behind the header
 abbrev pub middle : List ℕ → Contents → List ℕ
 middle names c =
-    names ++ 0 ∷ [] ++ flags_below c (written_count c Flag) ++ even_gap names (written_count c Flag) ++ spelled (format_of c) (numbers_below (format_of c) c (written_count c Number))
+    names ++ 0 ∷ [] ++ flags_below c (written_count c Flag) ++ even_gap names (written_count c Flag) ++ number_section (format_of c) (numbers_below (format_of c) c (written_count c Number))
 
 abbrev pub head_of : List ℕ → Contents → List ℕ
 head_of names c =
     header (format_of c) (suc (length names)) (length (flags_below c (written_count c Flag))) (length (numbers_below (format_of c) c (written_count c Number))) (length (offsets_below c (written_count c Text))) (length (texts_below c (written_count c Text)))
 
-pub text_frame : (names : List ℕ) (c : Contents) → image names c ≡ head_of names c ++ (middle names c ++ (spelled Legacy (offsets_below c (written_count c Text)) ++ (texts_below c (written_count c Text) ++ [])))
+pub text_frame : (names : List ℕ) (c : Contents) → image names c ≡ head_of names c ++ (middle names c ++ (number_section Legacy (offsets_below c (written_count c Text)) ++ (texts_below c (written_count c Text) ++ [])))
 unfolding image
 text_frame names c =
-    nine (head_of names c) names (0 ∷ []) (flags_below c (written_count c Flag)) (even_gap names (written_count c Flag)) (spelled (format_of c) (numbers_below (format_of c) c (written_count c Number))) (spelled Legacy (offsets_below c (written_count c Text))) (texts_below c (written_count c Text)) []
+    nine (head_of names c) names (0 ∷ []) (flags_below c (written_count c Flag)) (even_gap names (written_count c Flag)) (number_section (format_of c) (numbers_below (format_of c) c (written_count c Number))) (number_section Legacy (offsets_below c (written_count c Text))) (texts_below c (written_count c Text)) []
 
 pub length_head : (names : List ℕ) (c : Contents) → length (head_of names c) ≡ 12
 length_head names c = length-header (format_of c) (suc (length names)) (length (flags_below c (written_count c Flag))) (length (numbers_below (format_of c) c (written_count c Number))) (length (offsets_below c (written_count c Text))) (length (texts_below c (written_count c Text)))
@@ -115,10 +115,10 @@ pub length_middle : (names : List ℕ) (c : Contents)
 length_middle names c =
     let F = written_count c Flag in
     let N = written_count c Number in
-    let l = length-five names (0 ∷ []) (flags_below c F) (even_gap names F) (spelled (format_of c) (numbers_below (format_of c) c N)) in
+    let l = length-five names (0 ∷ []) (flags_below c F) (even_gap names F) (number_section (format_of c) (numbers_below (format_of c) c N)) in
     let f : length (flags_below c F) ≡ F = length-below _ F in
     let g : length (even_gap names F) ≡ (suc (length names) + F) % 2 = length-replicate ((suc (length names) + F) % 2) 0 in
-    let m : length (spelled (format_of c) (numbers_below (format_of c) c N)) ≡ width (format_of c) * N = length-spelled (format_of c) (numbers_below (format_of c) c N) ∙ ap (λ k. width (format_of c) * k) (length-below _ N) in
+    let m : length (number_section (format_of c) (numbers_below (format_of c) c N)) ≡ width (format_of c) * N = length-spelled (format_of c) (numbers_below (format_of c) c N) ∙ ap (λ k. width (format_of c) * k) (length-below _ N) in
     omega arith
 
 -- where the offsets begin, by a header
@@ -133,8 +133,8 @@ length_front names c h has =
     rw (has.format, has.names, has.flags, has.numbers) (omega arith)
 
 pub text_parts : (b names : List ℕ) (c : Contents) → b ≡ image names c
-    → b ≡ (head_of names c ++ middle names c) ++ (spelled Legacy (below (offset_of c) (written_count c Text)) ++ (texts_below c (written_count c Text) ++ []))
-text_parts b names c whole = whole ∙ text_frame names c ∙ sym (append_assoc (head_of names c) (middle names c) (spelled Legacy (offsets_below c (written_count c Text)) ++ (texts_below c (written_count c Text) ++ [])))
+    → b ≡ (head_of names c ++ middle names c) ++ (number_section Legacy (below (offset_of c) (written_count c Text)) ++ (texts_below c (written_count c Text) ++ []))
+text_parts b names c whole = whole ∙ text_frame names c ∙ sym (append_assoc (head_of names c) (middle names c) (number_section Legacy (offsets_below c (written_count c Text)) ++ (texts_below c (written_count c Text) ++ [])))
 
 -- the offset that stands in the bytes
 pub offset_read : (b : List ℕ) (is : IsImage b) (h : Header) → HasSizes (names_in b) (contents_in b) h → (j : ℕ) → j < h.texts → word_at (offsets_from h + 2 * j) b ≡ offset_of (contents_in b) j

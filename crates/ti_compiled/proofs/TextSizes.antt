@@ -11,7 +11,7 @@ use Rattle.ti_layout.specs.Values.{Contents}
 use Rattle.ti_layout.proofs.Below.{last_passing-le}
 use Rattle.ti_layout.proofs.Texts.{texts-more, length-texts-le}
 use Rattle.ti_compiled.specs.Changes.{text_content}
-use Rattle.ti_compiled.specs.Held.{names_in, contents_in, given, IsImage}
+use Rattle.ti_compiled.specs.Held.{names_in, contents_in, with_content, IsImage}
 use Rattle.ti_compiled.specs.Parts.{piece}
 use Rattle.ti_compiled.proofs.Counted.{count-put, count-kept, count-down}
 use Rattle.ti_compiled.proofs.Given.{HoldsNoOther, given_here, given_place, given_past}
@@ -23,7 +23,7 @@ module _ (b : List ℕ) (is : IsImage b) (h : Header) (has : HasSizes (names_in 
   c = contents_in b
 
   abbrev g : Contents
-  g = given (contents_in b) (capability Text index) (text_content t)
+  g = with_content (contents_in b) (capability Text index) (text_content t)
 
   pub others : (j : ℕ) → j ≢ index → g (capability Text j) ≡ c (capability Text j)
   others j other = given_place c Text index (text_content t) j other
@@ -31,7 +31,7 @@ module _ (b : List ℕ) (is : IsImage b) (h : Header) (has : HasSizes (names_in 
   pub here : g (capability Text index) ≡ text_content t
   here = given_here c (capability Text index) (text_content t)
 
-  pub past_g : HoldsNoOther (given (contents_in b) (capability Text index) (text_content t))
+  pub past_g : HoldsNoOther (with_content (contents_in b) (capability Text index) (text_content t))
   past_g = given_past c is.imaged.past (capability Text index) (text_content t) within
 
   pub count_le : (d : Contents) → written_count d Text ≤ 414
@@ -47,7 +47,7 @@ module _ (b : List ℕ) (is : IsImage b) (h : Header) (has : HasSizes (names_in 
       let e = ap (λ (x : List ℕ). length x) (texts_past (names_in b) c is.imaged 414 (count_le c)) in
       omega arith
 
-  pub table_length : length (texts_below (given (contents_in b) (capability Text index) (text_content t)) (written_count (given (contents_in b) (capability Text index) (text_content t)) Text)) + length (text_piece (of_kind (contents_in b) Text index))
+  pub table_length : length (texts_below (with_content (contents_in b) (capability Text index) (text_content t)) (written_count (with_content (contents_in b) (capability Text index) (text_content t)) Text)) + length (text_piece (of_kind (contents_in b) Text index))
       ≡ length (texts_below (contents_in b) (written_count (contents_in b) Text)) + length (piece t)
   table_length =
       let l = lengths_about c g index others 414 within in
@@ -78,7 +78,7 @@ module _ (b : List ℕ) (is : IsImage b) (h : Header) (has : HasSizes (names_in 
     removed_le = let l = text_within in let x = strings_exact b is h has in omega arith
 
     -- the table with the others alone
-    pub others_sum : length (texts_below (given (contents_in b) (capability Text index) (text_content t)) (written_count (given (contents_in b) (capability Text index) (text_content t)) Text)) ≡ h.strings - (end - start) + length (piece t)
+    pub others_sum : length (texts_below (with_content (contents_in b) (capability Text index) (text_content t)) (written_count (with_content (contents_in b) (capability Text index) (text_content t)) Text)) ≡ h.strings - (end - start) + length (piece t)
     others_sum =
         let l = text_ends in
         let w = text_within in
@@ -87,7 +87,7 @@ module _ (b : List ℕ) (is : IsImage b) (h : Header) (has : HasSizes (names_in 
         omega arith
 
     pub sizes_given : (m n k : ℕ) → is_there (text_content t) ≡ true → m ≡ max h.texts (index + 1) → n ≡ min (h.strings - (end - start) + k) (2 ^ 64 - 1) → length (piece t) ≡ k + 1 → (z : ℕ) → z ≡ min (n + 1) (2 ^ 64 - 1)
-        → HasSizes (names_in b) (given (contents_in b) (capability Text index) (text_content t)) (record { format = h.format; names = h.names; flags = h.flags; numbers = h.numbers; texts = m; strings = z })
+        → HasSizes (names_in b) (with_content (contents_in b) (capability Text index) (text_content t)) (record { format = h.format; names = h.names; flags = h.flags; numbers = h.numbers; texts = m; strings = z })
     sizes_given m n k there em en lk z ez =
         let T = has.texts in
         let fit = has.texts_fit in
@@ -106,13 +106,13 @@ module _ (b : List ℕ) (is : IsImage b) (h : Header) (has : HasSizes (names_in 
           let small = table_small (names_in b) c is.imaged in
           omega arith
 
-      pub sizes_other : index + 1 ≢ h.texts → HasSizes (names_in b) (given (contents_in b) (capability Text index) (text_content t)) (record { format = h.format; names = h.names; flags = h.flags; numbers = h.numbers; texts = h.texts; strings = h.strings - (end - start) })
+      pub sizes_other : index + 1 ≢ h.texts → HasSizes (names_in b) (with_content (contents_in b) (capability Text index) (text_content t)) (record { format = h.format; names = h.names; flags = h.flags; numbers = h.numbers; texts = h.texts; strings = h.strings - (end - start) })
       sizes_other other =
           let T = has.texts in
           with_texts h.texts _ (count-kept (of_kind c Text) (of_kind g Text) 414 index within others gone (λ e. other (omega arith)) ∙ sym T) has.texts_fit sum
 
       pub sizes_last : (place m : ℕ) → place ≡ offsets_from h → index + 1 ≡ h.texts → m ≤ index → ((j : ℕ) → suc j ≡ m → word_at (place + 2 * j) b ≢ 65535) → ((j : ℕ) → m ≤ j → j < index → word_at (place + 2 * j) b ≡ 65535)
-          → HasSizes (names_in b) (given (contents_in b) (capability Text index) (text_content t)) (record { format = h.format; names = h.names; flags = h.flags; numbers = h.numbers; texts = m; strings = h.strings - (end - start) })
+          → HasSizes (names_in b) (with_content (contents_in b) (capability Text index) (text_content t)) (record { format = h.format; names = h.names; flags = h.flags; numbers = h.numbers; texts = m; strings = h.strings - (end - start) })
       sizes_last place m at last le there past =
           let T = has.texts in
           let fit = has.texts_fit in

@@ -4,7 +4,7 @@ use Rattle.std.specs.Borrow.{Bor}
 use Rattle.ti_caps.specs.Tables.{Capability, IsCapability, capability}
 use Rattle.ti_caps.specs.declared.capability.Kind.TheVariants.{Number}
 use Rattle.ti_layout.specs.Image.{image, limit_of, number_value, of_kind}
-use Rattle.ti_compiled.specs.Held.{names_in, contents_in, given}
+use Rattle.ti_compiled.specs.Held.{names_in, contents_in, with_content}
 use Rattle.ti_layout.specs.Values.{Content, content_true, content_number, content_text, content_of, Contents, AgreesIfSome}
 use Rattle.ti_layout.specs.declared.values.Value.{Value}
 
@@ -38,18 +38,18 @@ IsOver names contents = limit_of contents < length (image names contents)
 
 -- new bytes hold what the old ones do, with another content of a capability
 pub record HoldsGiven (old new : List ℕ) (cap : Capability) (content : Option Content) : Type 0 where
-  pub says : (c : Capability) → IsCapability c → contents_in new c ≡ given (contents_in old) cap content c
+  pub says : (c : Capability) → IsCapability c → contents_in new c ≡ with_content (contents_in old) cap content c
 
 -- the image of what the bytes hold, with another content of a capability, and the most bytes that it may have
 abbrev pub image_with : List ℕ → Capability → Option Content → List ℕ
-image_with bytes cap content = image (names_in bytes) (given (contents_in bytes) cap content)
+image_with bytes cap content = image (names_in bytes) (with_content (contents_in bytes) cap content)
 
 abbrev pub limit_with : List ℕ → Capability → Option Content → ℕ
-limit_with bytes cap content = limit_of (given (contents_in bytes) cap content)
+limit_with bytes cap content = limit_of (with_content (contents_in bytes) cap content)
 
 -- what the bytes hold, with a number given or taken away
 abbrev pub with_number : List ℕ → ℕ → Option ℕ → Contents
-with_number bytes index number = given (contents_in bytes) (capability Number index) (number_content number)
+with_number bytes index number = with_content (contents_in bytes) (capability Number index) (number_content number)
 
 -- the number of a place, and what stands for one that is absent
 abbrev pub wide_value : Contents → ℕ → ℕ

@@ -4,7 +4,7 @@ use Rattle.ti_caps.specs.Tables.{Capability, IsCapability, capability, count_of,
 use Rattle.ti_caps.specs.declared.capability.Kind.{Kind}
 use Rattle.ti_layout.specs.declared.layout.Format.TheVariants.{Legacy}
 use Rattle.ti_layout.specs.Image.{image, limit_of}
-use Rattle.ti_layout.specs.Laws.{uncancelled}
+use Rattle.ti_layout.specs.Laws.{without_cancel}
 use Rattle.ti_layout.specs.Reading.{contents_of, format_in, numbers_in, names_section, flags_section, numbers_section, offsets_section, strings_section}
 use Rattle.ti_layout.specs.Values.{Content, Contents, AgreesIfSome, HasNoNul}
 
@@ -24,7 +24,7 @@ pub record IsImaged (names : List ℕ) (contents : Contents) : Type 0 where
   pub short : length names ≤ 127
   pub no_nul : HasNoNul names
   pub agree : (c : Capability) → IsCapability c → AgreesIfSome c (contents c)
-  pub present : (c : Capability) → IsCapability c → uncancelled (contents c) ≡ contents c
+  pub present : (c : Capability) → IsCapability c → without_cancel (contents c) ≡ contents c
   pub past : (kind : Kind) (index : ℕ) → count_of kind ≤ index → contents (capability kind index) ≡ None
   pub within : length (image names contents) ≤ limit_of contents
 
@@ -34,5 +34,5 @@ pub record IsImage (bytes : List ℕ) : Type 0 where
   pub whole : bytes ≡ image (names_in bytes) (contents_in bytes)
 
 -- the contents with another content of one capability
-abbrev pub given : Contents → Capability → Option Content → Contents
-given contents c content d = if same_capability c d then content else contents d
+abbrev pub with_content : Contents → Capability → Option Content → Contents
+with_content contents c content d = if same_capability c d then content else contents d

@@ -1,13 +1,13 @@
 // Parts of an entry's bytes that grow, shrink or are written over where they lie. The room for
 // them is there, so none of these takes memory.
 ghost use Rattle.std.specs.Prelude.{◌≡◌, ℕ, ◌+◌, ◌≤◌, List, length, vec_len, vec_capacity};
-ghost use Rattle.ti_compiled.specs.Parts.{opened, closed, resized, Replaces};
+ghost use Rattle.ti_compiled.specs.Parts.{with_bytes_in, with_bytes_out, with_length, Replaces};
 
 // Puts as many bytes in at a place.
 fn open(bytes: &mut Vec<u8>, at: usize, count: usize, fill: u8)
     requires within { at ≤ vec_len bytes.old }
     requires room { vec_len bytes.old + count ≤ vec_capacity bytes.old }
-    ensures items { bytes.new.items ≡ opened bytes.old.items at count fill }
+    ensures items { bytes.new.items ≡ with_bytes_in bytes.old.items at count fill }
     ensures len { vec_len bytes.new ≡ vec_len bytes.old + count }
     ensures capacity { vec_capacity bytes.old ≤ vec_capacity bytes.new }
 {
@@ -18,7 +18,7 @@ fn open(bytes: &mut Vec<u8>, at: usize, count: usize, fill: u8)
 // Takes as many bytes out at a place.
 fn close(bytes: &mut Vec<u8>, at: usize, count: usize)
     requires within { at + count ≤ vec_len bytes.old }
-    ensures items { bytes.new.items ≡ closed bytes.old.items at count }
+    ensures items { bytes.new.items ≡ with_bytes_out bytes.old.items at count }
     ensures len { vec_len bytes.new + count ≡ vec_len bytes.old }
     ensures capacity { vec_capacity bytes.old ≤ vec_capacity bytes.new }
 {
@@ -30,7 +30,7 @@ fn close(bytes: &mut Vec<u8>, at: usize, count: usize)
 pub fn resize_part(bytes: &mut Vec<u8>, at: usize, size: usize, wanted: usize, fill: u8)
     requires within { at + size ≤ vec_len bytes.old }
     requires room { vec_len bytes.old + wanted ≤ vec_capacity bytes.old + size }
-    ensures part { Replaces bytes.old.items bytes.new.items at size (λ m. resized m wanted fill) }
+    ensures part { Replaces bytes.old.items bytes.new.items at size (λ m. with_length m wanted fill) }
     ensures len { vec_len bytes.new + size ≡ vec_len bytes.old + wanted }
     ensures capacity { vec_capacity bytes.old ≤ vec_capacity bytes.new }
 {

@@ -6,7 +6,7 @@ ghost use Rattle.ti_caps.specs.declared.capability.Kind.TheVariants.{Flag};
 ghost use Rattle.ti_layout.specs.Image.{image, limit_of, flag_value};
 ghost use Rattle.ti_layout.specs.Sizes.{HasSizes};
 ghost use Rattle.ti_compiled.specs.Changes.{flag_content};
-ghost use Rattle.ti_compiled.specs.Held.{names_in, contents_in, given, IsImage};
+ghost use Rattle.ti_compiled.specs.Held.{names_in, contents_in, with_content, IsImage};
 
 use crate::bytes::resize_part;
 use crate::header::{header_of, make_room, write_header};
@@ -30,7 +30,7 @@ fn sizes_with_flag(bytes: &[u8], old: &Header, index: usize, on: bool) -> Header
     requires image { IsImage bytes.now }
     requires old { HasSizes (names_in bytes.now) (contents_in bytes.now) old.now }
     requires index { index < 44 }
-    ensures { HasSizes (names_in bytes.now) (given (contents_in bytes.now) (capability Flag index) (flag_content on)) result }
+    ensures { HasSizes (names_in bytes.now) (with_content (contents_in bytes.now) (capability Flag index) (flag_content on)) result }
 {
     let start = HEADER_SIZE + old.names;
     let flags = if on {
@@ -54,10 +54,10 @@ fn change_flag(bytes: &mut Vec<u8>, old: &Header, new: &Header, index: usize, on
     requires image { IsImage bytes.old.items }
     requires index { index < 44 }
     requires old { HasSizes (names_in bytes.old.items) (contents_in bytes.old.items) old.now }
-    requires new { HasSizes (names_in bytes.old.items) (given (contents_in bytes.old.items) (capability Flag index) (flag_content on)) new.now }
-    requires small { length (image (names_in bytes.old.items) (given (contents_in bytes.old.items) (capability Flag index) (flag_content on))) ≤ limit_of (given (contents_in bytes.old.items) (capability Flag index) (flag_content on)) }
-    requires room { length (image (names_in bytes.old.items) (given (contents_in bytes.old.items) (capability Flag index) (flag_content on))) ≤ vec_capacity bytes.old }
-    ensures { bytes.new.items ≡ image (names_in bytes.old.items) (given (contents_in bytes.old.items) (capability Flag index) (flag_content on)) }
+    requires new { HasSizes (names_in bytes.old.items) (with_content (contents_in bytes.old.items) (capability Flag index) (flag_content on)) new.now }
+    requires small { length (image (names_in bytes.old.items) (with_content (contents_in bytes.old.items) (capability Flag index) (flag_content on))) ≤ limit_of (with_content (contents_in bytes.old.items) (capability Flag index) (flag_content on)) }
+    requires room { length (image (names_in bytes.old.items) (with_content (contents_in bytes.old.items) (capability Flag index) (flag_content on))) ≤ vec_capacity bytes.old }
+    ensures { bytes.new.items ≡ image (names_in bytes.old.items) (with_content (contents_in bytes.old.items) (capability Flag index) (flag_content on)) }
 {
     let start = HEADER_SIZE + old.names;
     let size = old.flags + (old.names + old.flags) % 2;
@@ -73,10 +73,10 @@ fn change_flag(bytes: &mut Vec<u8>, old: &Header, new: &Header, index: usize, on
 pub fn set_flag(bytes: &mut Vec<u8>, index: usize, on: bool) -> Result<(), WriteError>
     requires image { IsImage bytes.old.items }
     requires index { index < 44 }
-    ensures ok { OnOk result (bytes.new.items ≡ image (names_in bytes.old.items) (given (contents_in bytes.old.items) (capability Flag index) (flag_content on))) }
-    ensures within { OnOk result (length (image (names_in bytes.old.items) (given (contents_in bytes.old.items) (capability Flag index) (flag_content on))) ≤ limit_of (given (contents_in bytes.old.items) (capability Flag index) (flag_content on))) }
-    ensures too_large { IsErrOf result WriteError.TooLarge ↔ (limit_of (given (contents_in bytes.old.items) (capability Flag index) (flag_content on)) < length (image (names_in bytes.old.items) (given (contents_in bytes.old.items) (capability Flag index) (flag_content on)))) }
-    ensures memory { IsErrOf result WriteError.Memory → length (image (names_in bytes.old.items) (given (contents_in bytes.old.items) (capability Flag index) (flag_content on))) ≤ limit_of (given (contents_in bytes.old.items) (capability Flag index) (flag_content on)) }
+    ensures ok { OnOk result (bytes.new.items ≡ image (names_in bytes.old.items) (with_content (contents_in bytes.old.items) (capability Flag index) (flag_content on))) }
+    ensures within { OnOk result (length (image (names_in bytes.old.items) (with_content (contents_in bytes.old.items) (capability Flag index) (flag_content on))) ≤ limit_of (with_content (contents_in bytes.old.items) (capability Flag index) (flag_content on))) }
+    ensures too_large { IsErrOf result WriteError.TooLarge ↔ (limit_of (with_content (contents_in bytes.old.items) (capability Flag index) (flag_content on)) < length (image (names_in bytes.old.items) (with_content (contents_in bytes.old.items) (capability Flag index) (flag_content on)))) }
+    ensures memory { IsErrOf result WriteError.Memory → length (image (names_in bytes.old.items) (with_content (contents_in bytes.old.items) (capability Flag index) (flag_content on))) ≤ limit_of (with_content (contents_in bytes.old.items) (capability Flag index) (flag_content on)) }
     ensures names_fit { IsErrOf result WriteError.NamesTooLong → ⊥ }
     ensures err { OnErr result (bytes.new.items ≡ bytes.old.items) }
 {

@@ -3,7 +3,7 @@ ghost use Rattle.std.specs.Prelude.{None, ◌≡◌, ◌≢◌, ◌<◌, ◌≤�
 ghost use Rattle.ti_caps.specs.Tables.{Capability, IsCapability};
 ghost use Rattle.ti_caps.specs.declared.capability.Kind.TheVariants.{Flag, Number, Text};
 ghost use Rattle.ti_layout.specs.Image.{image, limit_of, HasNoNul};
-ghost use Rattle.ti_layout.specs.Laws.{uncancelled};
+ghost use Rattle.ti_layout.specs.Laws.{without_cancel};
 ghost use Rattle.ti_layout.specs.Values.{content_of, contents, AgreesIfSome};
 ghost use Rattle.ti_compiled.specs.Changes.{flag_content, number_content, text_content, image_with, limit_with, HoldsGiven, IsWithin};
 ghost use Rattle.ti_compiled.specs.Held.{names_in, contents_in};
@@ -47,7 +47,7 @@ impl Image {
         requires no_nul { HasNoNul names.now }
         ensures image { IfOk result (λ i. i ≡ image names.now (contents table.now)) }
         ensures names { IfOk result (λ i. names_in i ≡ names.now) }
-        ensures contents { IfOk result (λ i. (c : Capability) → IsCapability c → contents_in i c ≡ uncancelled (contents table.now c)) }
+        ensures contents { IfOk result (λ i. (c : Capability) → IsCapability c → contents_in i c ≡ without_cancel (contents table.now c)) }
         ensures names_too_long { IsErrOf result WriteError.NamesTooLong ↔ (127 < length names.now) }
         ensures too_large { IsErrOf result WriteError.TooLarge ↔ ((length names.now ≤ 127) × (limit_of (contents table.now) < length (image names.now (contents table.now)))) }
         ensures memory { IsErrOf result WriteError.Memory → (length names.now ≤ 127) × (length (image names.now (contents table.now)) ≤ limit_of (contents table.now)) }
@@ -80,10 +80,10 @@ impl Image {
     /// # Errors
     /// [`WriteError::TooLarge`] exactly where [`write`] answers it, and [`WriteError::Memory`].
     pub fn patch(&self, alloc: Global, old: &Table, new: &Table) -> Result<Image, WriteError>
-        requires held { (c : Capability) → IsCapability c → contents_in self.now c ≡ uncancelled (contents old.now c) }
+        requires held { (c : Capability) → IsCapability c → contents_in self.now c ≡ without_cancel (contents old.now c) }
         ensures image { IfOk result (λ i. i ≡ image (names_in self.now) (contents new.now)) }
         ensures names { IfOk result (λ i. names_in i ≡ names_in self.now) }
-        ensures contents { IfOk result (λ i. (c : Capability) → IsCapability c → contents_in i c ≡ uncancelled (contents new.now c)) }
+        ensures contents { IfOk result (λ i. (c : Capability) → IsCapability c → contents_in i c ≡ without_cancel (contents new.now c)) }
         ensures too_large { IsErrOf result WriteError.TooLarge ↔ (limit_of (contents new.now) < length (image (names_in self.now) (contents new.now))) }
         ensures memory { IsErrOf result WriteError.Memory → length (image (names_in self.now) (contents new.now)) ≤ limit_of (contents new.now) }
         ensures names_fit { IsErrOf result WriteError.NamesTooLong → ⊥ }
@@ -182,12 +182,12 @@ impl Image {
     /// change leaves the image.
     pub(crate) fn set_value(&mut self, cap: Cap, value: Option<&Value>) -> Result<(), WriteError>
         requires agrees { AgreesIfSome cap (option_map (λ v. content_of v.now) value) }
-        ensures ok { OnOk result (self.new ≡ image_with self.old cap (uncancelled (option_map (λ v. content_of v.now) value.entry))) }
+        ensures ok { OnOk result (self.new ≡ image_with self.old cap (without_cancel (option_map (λ v. content_of v.now) value.entry))) }
         ensures names { OnOk result (names_in self.new ≡ names_in self.old) }
-        ensures contents { OnOk result (HoldsGiven self.old self.new cap (uncancelled (option_map (λ v. content_of v.now) value.entry))) }
-        ensures within { OnOk result (length (image_with self.old cap (uncancelled (option_map (λ v. content_of v.now) value.entry))) ≤ limit_with self.old cap (uncancelled (option_map (λ v. content_of v.now) value.entry))) }
-        ensures too_large { IsErrOf result WriteError.TooLarge ↔ (limit_with self.old cap (uncancelled (option_map (λ v. content_of v.now) value.entry)) < length (image_with self.old cap (uncancelled (option_map (λ v. content_of v.now) value.entry)))) }
-        ensures memory { IsErrOf result WriteError.Memory → length (image_with self.old cap (uncancelled (option_map (λ v. content_of v.now) value.entry))) ≤ limit_with self.old cap (uncancelled (option_map (λ v. content_of v.now) value.entry)) }
+        ensures contents { OnOk result (HoldsGiven self.old self.new cap (without_cancel (option_map (λ v. content_of v.now) value.entry))) }
+        ensures within { OnOk result (length (image_with self.old cap (without_cancel (option_map (λ v. content_of v.now) value.entry))) ≤ limit_with self.old cap (without_cancel (option_map (λ v. content_of v.now) value.entry))) }
+        ensures too_large { IsErrOf result WriteError.TooLarge ↔ (limit_with self.old cap (without_cancel (option_map (λ v. content_of v.now) value.entry)) < length (image_with self.old cap (without_cancel (option_map (λ v. content_of v.now) value.entry)))) }
+        ensures memory { IsErrOf result WriteError.Memory → length (image_with self.old cap (without_cancel (option_map (λ v. content_of v.now) value.entry))) ≤ limit_with self.old cap (without_cancel (option_map (λ v. content_of v.now) value.entry)) }
         ensures names_fit { IsErrOf result WriteError.NamesTooLong → ⊥ }
         ensures err { OnErr result (self.new ≡ self.old) }
     {
@@ -207,12 +207,12 @@ impl Image {
     /// and [`WriteError::Memory`]; never [`WriteError::NamesTooLong`].
     pub fn set(&mut self, cap: Cap, value: Option<Value>) -> Result<(), WriteError>
         requires agrees { AgreesIfSome cap (option_map content_of value) }
-        ensures ok { OnOk result (self.new ≡ image_with self.old cap (uncancelled (option_map content_of value))) }
+        ensures ok { OnOk result (self.new ≡ image_with self.old cap (without_cancel (option_map content_of value))) }
         ensures names { OnOk result (names_in self.new ≡ names_in self.old) }
-        ensures contents { OnOk result (HoldsGiven self.old self.new cap (uncancelled (option_map content_of value))) }
-        ensures within { OnOk result (length (image_with self.old cap (uncancelled (option_map content_of value))) ≤ limit_with self.old cap (uncancelled (option_map content_of value))) }
-        ensures too_large { IsErrOf result WriteError.TooLarge ↔ (limit_with self.old cap (uncancelled (option_map content_of value)) < length (image_with self.old cap (uncancelled (option_map content_of value)))) }
-        ensures memory { IsErrOf result WriteError.Memory → length (image_with self.old cap (uncancelled (option_map content_of value))) ≤ limit_with self.old cap (uncancelled (option_map content_of value)) }
+        ensures contents { OnOk result (HoldsGiven self.old self.new cap (without_cancel (option_map content_of value))) }
+        ensures within { OnOk result (length (image_with self.old cap (without_cancel (option_map content_of value))) ≤ limit_with self.old cap (without_cancel (option_map content_of value))) }
+        ensures too_large { IsErrOf result WriteError.TooLarge ↔ (limit_with self.old cap (without_cancel (option_map content_of value)) < length (image_with self.old cap (without_cancel (option_map content_of value)))) }
+        ensures memory { IsErrOf result WriteError.Memory → length (image_with self.old cap (without_cancel (option_map content_of value))) ≤ limit_with self.old cap (without_cancel (option_map content_of value)) }
         ensures names_fit { IsErrOf result WriteError.NamesTooLong → ⊥ }
         ensures err { OnErr result (self.new ≡ self.old) }
     {

@@ -3,7 +3,7 @@
 ghost use Rattle.std.specs.Prelude.{◌≡◌, ◌≢◌, ℕ, suc, ◌+◌, ◌*◌, ◌%◌, ◌<◌, ◌≤◌, List, length, take, slice_index, vec_len, vec_capacity, Option, IfSome, ◌↔◌, IsErrOf, OnOk, OnErr};
 ghost use Rattle.ti_layout.specs.Image.{image, limit_of, below, format_of};
 ghost use Rattle.ti_layout.specs.Layout as layout;
-ghost use Rattle.ti_layout.specs.Layout.{spelled, number_bytes};
+ghost use Rattle.ti_layout.specs.Layout.{number_section, number_bytes};
 ghost use Rattle.ti_layout.specs.Sizes.{HasSizes};
 ghost use Rattle.ti_layout.specs.Values.{Contents};
 ghost use Rattle.ti_compiled.specs.Changes.{wide_value, with_number, HasNumbers};
@@ -96,7 +96,7 @@ fn put_numbers(bytes: &mut Vec<u8>, place: usize, format: Format, values: &[u32]
     requires count { count ≤ length values.now }
     requires few { count ≤ 39 }
     requires within { place + layout.width format * count ≤ vec_len bytes.old }
-    ensures part { Replaces bytes.old.items bytes.new.items place (layout.width format * count) (λ _. spelled format (take count values.now)) }
+    ensures part { Replaces bytes.old.items bytes.new.items place (layout.width format * count) (λ _. number_section format (take count values.now)) }
     ensures len { vec_len bytes.new ≡ vec_len bytes.old }
 {
     let width = format.width();

@@ -2,7 +2,7 @@
 // capability that does is set in a copy.
 ghost use Rattle.std.specs.Prelude.{◌≡◌, Some, option_map, IfSome, IsTrue};
 ghost use Rattle.ti_caps.specs.Tables.{Capability, IsCapability};
-ghost use Rattle.ti_layout.specs.Laws.{uncancelled};
+ghost use Rattle.ti_layout.specs.Laws.{without_cancel};
 ghost use Rattle.ti_layout.specs.Values.{contents, content_of, entries_of, Agrees, AgreesIfSome, IsKept};
 ghost use Rattle.ti_compiled.specs.Changes.{HoldsGiven};
 ghost use Rattle.ti_compiled.specs.Held.{names_in, contents_in};
@@ -32,7 +32,7 @@ fn is_same(first: &Value, second: &Value) -> bool
 fn change(image: &mut Image, left: &mut usize, cap: Cap, value: Option<&Value>) -> Option<()>
     requires agrees { AgreesIfSome cap (option_map (λ v. content_of v.now) value) }
     ensures names { IfSome result (λ _. names_in image.new ≡ names_in image.old) }
-    ensures contents { IfSome result (λ _. HoldsGiven image.old image.new cap (uncancelled (option_map (λ v. content_of v.now) value.entry))) }
+    ensures contents { IfSome result (λ _. HoldsGiven image.old image.new cap (without_cancel (option_map (λ v. content_of v.now) value.entry))) }
 {
     *left = left.checked_sub(1)?;
     image.set_value(cap, value).ok()
@@ -42,7 +42,7 @@ fn change(image: &mut Image, left: &mut usize, cap: Cap, value: Option<&Value>) 
 fn give(image: &mut Image, left: &mut usize, entry: &(Cap, Value)) -> Option<()>
     requires agrees { Agrees entry.now.0 (content_of entry.now.1) }
     ensures names { IfSome result (λ _. names_in image.new ≡ names_in image.old) }
-    ensures contents { IfSome result (λ _. HoldsGiven image.old image.new entry.now.0 (uncancelled (Some (content_of entry.now.1)))) }
+    ensures contents { IfSome result (λ _. HoldsGiven image.old image.new entry.now.0 (without_cancel (Some (content_of entry.now.1)))) }
 {
     change(image, left, entry.0, Some(&entry.1))
 }
@@ -50,9 +50,9 @@ fn give(image: &mut Image, left: &mut usize, entry: &(Cap, Value)) -> Option<()>
 // Gives a capability that has a value already the one that it has in a table, if that is another.
 fn renew(image: &mut Image, left: &mut usize, held: &Value, entry: &(Cap, Value)) -> Option<()>
     requires agrees { Agrees entry.now.0 (content_of entry.now.1) }
-    requires held { contents_in image.old entry.now.0 ≡ uncancelled (Some (content_of held.now)) }
+    requires held { contents_in image.old entry.now.0 ≡ without_cancel (Some (content_of held.now)) }
     ensures names { IfSome result (λ _. names_in image.new ≡ names_in image.old) }
-    ensures contents { IfSome result (λ _. HoldsGiven image.old image.new entry.now.0 (uncancelled (Some (content_of entry.now.1)))) }
+    ensures contents { IfSome result (λ _. HoldsGiven image.old image.new entry.now.0 (without_cancel (Some (content_of entry.now.1)))) }
 {
     if is_same(held, &entry.1) {
         return Some(());
@@ -78,9 +78,9 @@ pub fn changed_copy(
 ) -> Option<Image>
     requires old { IsKept (entries_of old.now) }
     requires new { IsKept (entries_of new.now) }
-    requires held { (c : Capability) → IsCapability c → contents_in image.now c ≡ uncancelled (contents (entries_of old.now) c) }
+    requires held { (c : Capability) → IsCapability c → contents_in image.now c ≡ without_cancel (contents (entries_of old.now) c) }
     ensures names { IfSome result (λ i. names_in i ≡ names_in image.now) }
-    ensures contents { IfSome result (λ i. (c : Capability) → IsCapability c → contents_in i c ≡ uncancelled (contents (entries_of new.now) c)) }
+    ensures contents { IfSome result (λ i. (c : Capability) → IsCapability c → contents_in i c ≡ without_cancel (contents (entries_of new.now) c)) }
 {
     let mut copy = copy_of(image, alloc)?;
     let mut left = CHANGES_MAX;

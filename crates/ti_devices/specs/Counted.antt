@@ -37,6 +37,6 @@ pub record Observed : Type 0 where
   pub failures : ℕ
   pub reads : ℕ
 
--- the same of a counted device, given how its bytes are seen: `observed R.remaining reader` or `observed W.contents writer`
-abbrev pub observed : {D : Type 0} → (D → Option (List ℕ)) → Counted D → Observed
-observed bytes c = record { bytes = bytes (device_of c); failures = failures_of c; reads = reads_of c }
+-- the same of a counted device, given how its bytes are seen: `observation R.remaining reader` or `observation W.contents writer`
+abbrev pub observation : {D : Type 0} → (D → Option (List ℕ)) → Counted D → Observed
+observation bytes c = record { bytes = bytes (device_of c); failures = failures_of c; reads = reads_of c }

@@ -13,8 +13,8 @@ abbrev pub Entry : Type 0
 Entry = List ℕ × List ℕ
 
 -- the files with these bytes at this path
-abbrev pub put : Files → List ℕ → List ℕ → Files
-put files path bytes = update bytes_eq files path (Some bytes)
+abbrev pub with_file : Files → List ℕ → List ℕ → Files
+with_file files path bytes = update bytes_eq files path (Some bytes)
 
 -- no file
 abbrev pub IsBare : Files → Type 0
@@ -24,7 +24,7 @@ IsBare files = (path : List ℕ) → files path ≡ None
 abbrev pub Sets : Entry → Option Files → Option Files → Type 0
 Sets entry None new = Unit {0}
 Sets entry (Some old) None = ⊥
-Sets entry (Some old) (Some new) = (path : List ℕ) → new path ≡ put old entry.0 entry.1 path
+Sets entry (Some old) (Some new) = (path : List ℕ) → new path ≡ with_file old entry.0 entry.1 path
 
 -- every path but this one holds what it held
 abbrev pub ChangesOnly : List ℕ → Option Files → Option Files → Type 0

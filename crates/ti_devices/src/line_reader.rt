@@ -1,6 +1,6 @@
 //! Lines read from a counted device, one at a time, with a limit on their length and on the reads.
 ghost use Rattle.std.specs.Prelude.{◌≡◌, ◌+◌, ◌++◌, ◌<◌, [], IfErr, IfOk, MatchOption, OnOk, drop, length, take};
-ghost use Rattle.ti_devices.specs.Counted.{observed, reads_of};
+ghost use Rattle.ti_devices.specs.Counted.{observation, reads_of};
 ghost use Rattle.ti_devices.specs.Lines.{IsOneLine, IsWithin, with_newline};
 ghost use Rattle.ti_devices.specs.declared.tool_error.ToolError.TheVariants.{LineTooLong};
 
@@ -112,11 +112,11 @@ impl LineReader {
     // Reads once more, where nothing is ahead. The answer is whether a byte came.
     fn refill<R: Read>(&mut self, reader: &mut Counted<R>) -> Result<bool, ToolError>
         requires { ahead_of self.old ≡ [] }
-        ensures came { Refills self.old self.new (observed R.remaining reader.old)
-            (observed R.remaining reader.new) result }
+        ensures came { Refills self.old self.new (observation R.remaining reader.old)
+            (observation R.remaining reader.new) result }
         ensures line { line_of self.new ≡ line_of self.old }
-        ensures spends { SpendsReads self.old self.new (observed R.remaining reader.old)
-            (observed R.remaining reader.new) }
+        ensures spends { SpendsReads self.old self.new (observation R.remaining reader.old)
+            (observation R.remaining reader.new) }
     {
         if self.reads_left == 0 {
             return Err(ToolError::ReadFault);
@@ -132,10 +132,10 @@ impl LineReader {
     /// `ReadFault` where the reader fails, and where 4,294,967,296 reads were made; `LineTooLong` at a
     /// line over the limit.
     pub fn read_line<R: Read>(&mut self, reader: &mut Counted<R>) -> Result<Next, ToolError>
-        ensures next { ReadsLine self.old self.new (observed R.remaining reader.old)
-            (observed R.remaining reader.new) result }
-        ensures spends { SpendsReads self.old self.new (observed R.remaining reader.old)
-            (observed R.remaining reader.new) }
+        ensures next { ReadsLine self.old self.new (observation R.remaining reader.old)
+            (observation R.remaining reader.new) result }
+        ensures spends { SpendsReads self.old self.new (observation R.remaining reader.old)
+            (observation R.remaining reader.new) }
         ensures advances { Advances self.old self.new result }
     {
         self.line.clear();

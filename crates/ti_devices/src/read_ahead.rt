@@ -1,6 +1,6 @@
 //! Bytes that were read at once and are used one after another.
 ghost use Rattle.std.specs.Prelude.{◌≡◌, ◌+◌, ◌-◌, ◌≤◌, [], IfOk, OnErr, OnOk, ℕ, List, drop, length, take};
-ghost use Rattle.ti_devices.specs.Counted.{observed, reads_of};
+ghost use Rattle.ti_devices.specs.Counted.{observation, reads_of};
 ghost use Rattle.ti_devices.specs.Reading.{Refill};
 
 use crate::counted::Counted;
@@ -61,7 +61,7 @@ impl ReadAhead {
     /// # Errors
     /// `ReadFault` where the device fails.
     pub fn fill<R: Read>(&mut self, reader: &mut Counted<R>) -> Result<(), ToolError>
-        ensures bytes { Refill (observed R.remaining reader.old) (observed R.remaining reader.new)
+        ensures bytes { Refill (observation R.remaining reader.old) (observation R.remaining reader.new)
             self.new result }
         ensures reads { reads_of reader.new ≡ reads_of reader.old + 1 }
         ensures bound { length self.new ≤ 4096 }

@@ -1,6 +1,6 @@
 //! Bytes read from a counted device, as many as come at once.
 ghost use Rattle.std.specs.Prelude.{◌≡◌, ◌+◌, ◌<◌, length};
-ghost use Rattle.ti_devices.specs.Counted.{observed, reads_of};
+ghost use Rattle.ti_devices.specs.Counted.{observation, reads_of};
 ghost use Rattle.ti_devices.specs.Reading.{ReadsOnce};
 
 use crate::counted::Counted;
@@ -14,7 +14,7 @@ use std::io::Read;
 /// `ReadFault` where the device fails; it then gave no byte.
 pub fn read_piece<R: Read>(reader: &mut Counted<R>, piece: &mut [u8]) -> Result<usize, ToolError>
     requires { 0 < length piece.old }
-    ensures bytes { ReadsOnce (observed R.remaining reader.old) (observed R.remaining reader.new)
+    ensures bytes { ReadsOnce (observation R.remaining reader.old) (observation R.remaining reader.new)
         piece.new result }
     ensures reads { reads_of reader.new ≡ reads_of reader.old + 1 }
 {

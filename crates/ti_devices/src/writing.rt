@@ -1,5 +1,5 @@
 //! Bytes written to a counted device, to their end.
-ghost use Rattle.ti_devices.specs.Counted.{observed};
+ghost use Rattle.ti_devices.specs.Counted.{observation};
 ghost use Rattle.ti_devices.specs.Writing.{Wrote};
 
 use crate::counted::Counted;
@@ -11,7 +11,7 @@ use std::io::Write;
 /// # Errors
 /// `WriteFault` where the device fails; it then took a front part of the bytes.
 pub fn write_out<W: Write>(writer: &mut Counted<W>, bytes: &[u8]) -> Result<(), ToolError>
-    ensures { Wrote (observed W.contents writer.old) (observed W.contents writer.new) bytes.now result }
+    ensures { Wrote (observation W.contents writer.old) (observation W.contents writer.new) bytes.now result }
 {
     let mut rest = bytes;
     while !rest.is_empty() {

@@ -4,7 +4,7 @@ use Rattle.ti_caps.specs.declared.capability.Kind.TheVariants.{Flag, Number, Tex
 use Rattle.ti_layout.specs.declared.layout.Format.{Format}
 use Rattle.ti_layout.specs.declared.layout.Format.TheVariants.{Legacy}
 use Rattle.ti_layout.specs.declared.layout.Header.{Header}
-use Rattle.ti_layout.specs.Layout.{entry_size, header, limit, magic, number_bytes, spelled}
+use Rattle.ti_layout.specs.Layout.{entry_size, header, limit, magic, number_bytes, number_section}
 use Rattle.ti_layout.specs.Image.{image, even_gap, flags_below, format_of, limit_of, numbers_below, offsets_below, texts_below, written_count}
 use Rattle.ti_layout.specs.Sizes.{HasSizes, at_most_max}
 use Rattle.ti_layout.specs.Values.{Contents}
@@ -75,16 +75,16 @@ module _ (field : List ℕ) (c : Contents) (h : Header) (has : HasSizes field c 
 
     -- what is added in turn is the entry
     pub laid : (v0 v1 v2 v3 v4 v5 v6 v7 v8 : List ℕ) → v0 ≡ [] → v1 ≡ v0 ++ header h.format h.names h.flags h.numbers h.texts h.strings → v2 ≡ v1 ++ field → v3 ≡ v2 ++ 0 ∷ []
-        → v4 ≡ v3 ++ flags_below c (written_count c Flag) → v5 ≡ v4 ++ replicate ((h.names + h.flags) % 2) 0 → v6 ≡ v5 ++ spelled h.format (numbers_below h.format c (written_count c Number))
-        → v7 ≡ v6 ++ spelled Legacy (offsets_below c (written_count c Text)) → v8 ≡ v7 ++ texts_below c (written_count c Text) → v8 ≡ image field c
+        → v4 ≡ v3 ++ flags_below c (written_count c Flag) → v5 ≡ v4 ++ replicate ((h.names + h.flags) % 2) 0 → v6 ≡ v5 ++ number_section h.format (numbers_below h.format c (written_count c Number))
+        → v7 ≡ v6 ++ number_section Legacy (offsets_below c (written_count c Text)) → v8 ≡ v7 ++ texts_below c (written_count c Text) → v8 ≡ image field c
     unfolding image
     laid v0 v1 v2 v3 v4 v5 v6 v7 v8 e0 e1 e2 e3 e4 e5 e6 e7 e8 =
         let w = format_of c in
-        let numbers : spelled h.format (numbers_below h.format c (written_count c Number)) ≡ spelled w (numbers_below w c (written_count c Number)) = ap (λ f. spelled f (numbers_below f c (written_count c Number))) has.format in
+        let numbers : number_section h.format (numbers_below h.format c (written_count c Number)) ≡ number_section w (numbers_below w c (written_count c Number)) = ap (λ f. number_section f (numbers_below f c (written_count c Number))) has.format in
         let gap : replicate {A = ℕ} ((h.names + h.flags) % 2) 0 ≡ even_gap field (written_count c Flag) = ap (λ n. replicate {A = ℕ} (n % 2) 0) (ap (λ n. n + h.flags) has.names ∙ ap (λ n. suc (length field) + n) has.flags) in
         let first : v1 ≡ header w (suc (length field)) (length (flags_below c (written_count c Flag))) (length (numbers_below w c (written_count c Number))) (length (offsets_below c (written_count c Text))) (length (texts_below c (written_count c Text))) =
         e1 ∙ ap (λ x. x ++ header h.format h.names h.flags h.numbers h.texts h.strings) e0 ∙ header_laid in
         e8 ∙ ap (λ x. x ++ texts_below c (written_count c Text))
-        (e7 ∙ ap (λ x. x ++ spelled Legacy (offsets_below c (written_count c Text)))
+        (e7 ∙ ap (λ x. x ++ number_section Legacy (offsets_below c (written_count c Text)))
         (e6 ∙ joined _ _ _ _ (e5 ∙ joined _ _ _ _ (e4 ∙ ap (λ x. x ++ flags_below c (written_count c Flag)) (e3 ∙ ap (λ x. x ++ 0 ∷ []) (e2 ∙ ap (λ x. x ++ field) first))) gap) numbers))
         ∙ sym (append-nil _)

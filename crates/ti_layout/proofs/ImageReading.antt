@@ -14,7 +14,7 @@ use Rattle.ti_layout.specs.Values.{Content, content_true, content_number, conten
 use Rattle.ti_layout.specs.Layout.{absent, negative}
 use Rattle.ti_layout.specs.Reading.{AreSound, IsFlagByte, IsNumber, IsOffset, HasEnd, flag_of, number_of, text_of, text_from, says, contents_of}
 use Rattle.ti_layout.specs.Image.{image, is_there, is_wide, format_of, of_kind, written_count, flag_value, number_value, offset_value, texts_below, sections_of, some_below, below}
-use Rattle.ti_layout.specs.Laws.{uncancelled, ImagesAreRead}
+use Rattle.ti_layout.specs.Laws.{without_cancel, ImagesAreRead}
 use Rattle.ti_layout.proofs.Below.{length-below, get_or-below, slice_get-below, slice_get-past_below, last_passing-le, last_passing-past, some_below-true}
 use Rattle.ti_layout.proofs.Sizes.{strings_small}
 use Rattle.ti_layout.proofs.Texts.{text_there}
@@ -161,7 +161,7 @@ sections-sound names c h =
 
 -- ---- what the sections say is what the contents are
 
-pub not_there : (o : Option Content) → is_there o ≡ false → uncancelled o ≡ None
+pub not_there : (o : Option Content) → is_there o ≡ false → without_cancel o ≡ None
 not_there None e = refl
 not_there (Some content_true) e = absurd cc
 not_there (Some (content_number n)) e = absurd cc
@@ -169,10 +169,10 @@ not_there (Some (content_text t)) e = absurd cc
 not_there (Some content_cancelled) e = refl
 
 -- a place that is not written holds nothing
-pub past-written : (c : Contents) (kind : Kind) (i : ℕ) → written_count c kind ≤ i → i < count_of kind → uncancelled (c (capability kind i)) ≡ None
+pub past-written : (c : Contents) (kind : Kind) (i : ℕ) → written_count c kind ≤ i → i < count_of kind → without_cancel (c (capability kind i)) ≡ None
 past-written c kind i le lt = not_there (c (capability kind i)) (last_passing-past (λ k. is_there (of_kind c kind k)) (count_of kind) i le lt)
 
-flag-again : (i : ℕ) (o : Option Content) → AgreesIfSome (capability Flag i) o → flag_of (flag_value o) ≡ uncancelled o
+flag-again : (i : ℕ) (o : Option Content) → AgreesIfSome (capability Flag i) o → flag_of (flag_value o) ≡ without_cancel o
 flag-again i None a = refl
 flag-again i (Some content_true) a = refl
 flag-again i (Some (content_number n)) a = absurd (let e = a.0 in cc)
@@ -183,7 +183,7 @@ absent-says : (w : Format) → number_of w (absent w) ≡ None
 absent-says Legacy = refl
 absent-says Extended = refl
 
-number-again : (c : Contents) (k : ℕ) → k < 39 → (o : Option Content) → c (capability Number k) ≡ o → AgreesIfSome (capability Number k) o → number_of (format_of c) (number_value (absent (format_of c)) o) ≡ uncancelled o
+number-again : (c : Contents) (k : ℕ) → k < 39 → (o : Option Content) → c (capability Number k) ≡ o → AgreesIfSome (capability Number k) o → number_of (format_of c) (number_value (absent (format_of c)) o) ≡ without_cancel o
 number-again c k lt None e a = absent-says (format_of c)
 number-again c k lt (Some content_true) e a = absurd (let p : Number ≡ Flag = a in cc)
 number-again c k lt (Some (content_number n)) e a =
@@ -193,7 +193,7 @@ number-again c k lt (Some (content_text t)) e a = absurd (let p = a.0 in cc)
 number-again c k lt (Some content_cancelled) e a = absent-says (format_of c)
 
 text-again : (c : Contents) (n i : ℕ) → i < n → length (texts_below c n) < 32768 → (o : Option Content) → c (capability Text i) ≡ o
-    → AgreesIfSome (capability Text i) o → text_of (texts_below c n) (offset_value (length (texts_below c i)) o) ≡ uncancelled o
+    → AgreesIfSome (capability Text i) o → text_of (texts_below c n) (offset_value (length (texts_below c i)) o) ≡ without_cancel o
 text-again c n i lt small None e a = refl
 text-again c n i lt small (Some content_true) e a = absurd (let p : Text ≡ Flag = a in cc)
 text-again c n i lt small (Some (content_number m)) e a = absurd (let p = a.0 in cc)
@@ -206,7 +206,7 @@ text-again c n i lt small (Some (content_text t)) e a =
 text-again c n i lt small (Some content_cancelled) e a = refl
 
 section_says : (names : List ℕ) (c : Contents) → Sound names c → (kind : Kind) (i : ℕ) → i < count_of kind → let s = sections_of (format_of c) names c in
-    says (format_of c) s.flags s.numbers s.offsets s.strings kind i ≡ uncancelled (c (capability kind i))
+    says (format_of c) s.flags s.numbers s.offsets s.strings kind i ≡ without_cancel (c (capability kind i))
 section_says names c h Flag i lt =
     let f : ℕ → ℕ = λ k. flag_value (of_kind c Flag k) in
     let n = written_count c Flag in

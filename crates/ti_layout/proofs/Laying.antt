@@ -12,7 +12,7 @@ use Rattle.ti_layout.specs.declared.values.Value.{Value}
 use Rattle.ti_layout.specs.declared.values.Value.TheVariants.{True, Cancelled}
 use Rattle.ti_layout.specs.declared.values.Value.TheVariants as v
 use Rattle.ti_layout.specs.Values.{content_text, Entry, IsKept, contents, content_of, entries_of}
-use Rattle.ti_layout.specs.Layout.{number_bytes, spelled, width}
+use Rattle.ti_layout.specs.Layout.{number_bytes, number_section, width}
 use Rattle.ti_layout.specs.Image.{written_count, flags_below, numbers_below, offsets_below, texts_below}
 use Rattle.ti_layout.proofs.Below.{below-none}
 use Rattle.ti_layout.proofs.Spelled.{spelled-none}
@@ -27,12 +27,12 @@ pub record HasFlags (es : List Entry) (start image : List ℕ) (k places : ℕ) 
 
 pub record HasNumbers (w : Format) (es : List Entry) (start image : List ℕ) (k places : ℕ) : Type 0 where
   pub walked : Walked es Number k places
-  pub so_far : image ≡ start ++ spelled w (numbers_below w (contents es) places)
+  pub so_far : image ≡ start ++ number_section w (numbers_below w (contents es) places)
 
 pub record HasOffsets (es : List Entry) (start image : List ℕ) (k places offset : ℕ) : Type 0 where
   pub walked : Walked es Text k places
   pub length_before : offset ≡ length (texts_below (contents es) places)
-  pub so_far : image ≡ start ++ spelled Legacy (offsets_below (contents es) places)
+  pub so_far : image ≡ start ++ number_section Legacy (offsets_below (contents es) places)
 
 pub record HasTexts (es : List Entry) (start image : List ℕ) (k : ℕ) : Type 0 where
   pub places : ℕ
@@ -48,13 +48,13 @@ pub flags_begun : (es : List Entry) (start : List ℕ) → HasFlags es start sta
 flags_begun es start = record { walked = walked-start es Flag; so_far = begun start _ (below-none _) }
 
 pub numbers_begun : (w : Format) (es : List Entry) (start : List ℕ) → HasNumbers w es start start 0 0
-numbers_begun w es start = record { walked = walked-start es Number; so_far = begun start _ (ap (spelled w) (below-none _) ∙ spelled-none w) }
+numbers_begun w es start = record { walked = walked-start es Number; so_far = begun start _ (ap (number_section w) (below-none _) ∙ spelled-none w) }
 
 pub offsets_begun : (es : List Entry) (start : List ℕ) → HasOffsets es start start 0 0 0
 offsets_begun es start = record {
   walked = walked-start es Text;
   length_before = sym (ap (λ (t : List ℕ). length t) (texts-none (contents es)));
-  so_far = begun start _ (ap (spelled Legacy) (below-none _) ∙ spelled-none Legacy);
+  so_far = begun start _ (ap (number_section Legacy) (below-none _) ∙ spelled-none Legacy);
 }
 
 pub texts_begun : (es : List Entry) (start : List ℕ) → HasTexts es start start 0
@@ -66,11 +66,11 @@ module _ (es : List Entry) (kept : IsKept es) (start image : List ℕ) (k : ℕ)
   pub flags_done : (places : ℕ) → HasFlags es start image k places → image ≡ start ++ flags_below (contents es) (written_count (contents es) Flag)
   flags_done places has = has.so_far ∙ ap (λ n. start ++ flags_below (contents es) n) (sym (walked-end es kept Flag k places all has.walked))
 
-  pub numbers_done : (w : Format) (places : ℕ) → HasNumbers w es start image k places → image ≡ start ++ spelled w (numbers_below w (contents es) (written_count (contents es) Number))
-  numbers_done w places has = has.so_far ∙ ap (λ n. start ++ spelled w (numbers_below w (contents es) n)) (sym (walked-end es kept Number k places all has.walked))
+  pub numbers_done : (w : Format) (places : ℕ) → HasNumbers w es start image k places → image ≡ start ++ number_section w (numbers_below w (contents es) (written_count (contents es) Number))
+  numbers_done w places has = has.so_far ∙ ap (λ n. start ++ number_section w (numbers_below w (contents es) n)) (sym (walked-end es kept Number k places all has.walked))
 
-  pub offsets_done : (places offset : ℕ) → HasOffsets es start image k places offset → image ≡ start ++ spelled Legacy (offsets_below (contents es) (written_count (contents es) Text))
-  offsets_done places offset has = has.so_far ∙ ap (λ n. start ++ spelled Legacy (offsets_below (contents es) n)) (sym (walked-end es kept Text k places all has.walked))
+  pub offsets_done : (places offset : ℕ) → HasOffsets es start image k places offset → image ≡ start ++ number_section Legacy (offsets_below (contents es) (written_count (contents es) Text))
+  offsets_done places offset has = has.so_far ∙ ap (λ n. start ++ number_section Legacy (offsets_below (contents es) n)) (sym (walked-end es kept Text k places all has.walked))
 
   pub texts_done : HasTexts es start image k → image ≡ start ++ texts_below (contents es) (written_count (contents es) Text)
   texts_done has = has.so_far ∙ ap (λ n. start ++ texts_below (contents es) n) (sym (walked-end es kept Text k has.places all has.walked))
@@ -147,7 +147,7 @@ module _ (xs : List (Capability × Value)) (kept : IsKept (entries_of xs)) (k pl
         record {
           walked = stepped Number next index has.walked (ap (is_of Number) c) n i2;
           so_far = grown start _ v0 v1 v2 _ _ _ has.so_far (fill ∙ ap (λ j. v0 ++ replicate (size * (j - places)) 255) i1 ∙ ap (λ j. v0 ++ replicate (j * (x.0.index - places)) 255) wide) push
-              (ap (λ j. spelled w (numbers_below w (contents (entries_of xs)) j)) e ∙ next_number (entries_of xs) kept k places in_range (x.0, content_of x.1) read w m has.walked c);
+              (ap (λ j. number_section w (numbers_below w (contents (entries_of xs)) j)) e ∙ next_number (entries_of xs) kept k places in_range (x.0, content_of x.1) read w m has.walked c);
         }
 
     pub offset_laid : (t : List ℕ) (offset more : ℕ) → content_of x.1 ≡ content_text t → HasOffsets (entries_of xs) start v0 k places offset → v1 ≡ v0 ++ replicate (2 * (first - places)) 255 → v2 ≡ v1 ++ number_bytes Legacy offset
@@ -162,7 +162,7 @@ module _ (xs : List (Capability × Value)) (kept : IsKept (entries_of xs)) (k pl
           walked = stepped Text next index has.walked (ap (is_of Text) c) n i2;
           length_before = omega arith;
           so_far = grown start _ v0 v1 v2 _ _ _ has.so_far (fill ∙ ap (λ j. v0 ++ replicate (2 * (j - places)) 255) i1) (push ∙ ap (λ j. v1 ++ number_bytes Legacy j) before)
-              (ap (λ j. spelled Legacy (offsets_below (contents (entries_of xs)) j)) e ∙ next_offset (entries_of xs) kept k places in_range (x.0, content_of x.1) read t has.walked c);
+              (ap (λ j. number_section Legacy (offsets_below (contents (entries_of xs)) j)) e ∙ next_offset (entries_of xs) kept k places in_range (x.0, content_of x.1) read t has.walked c);
         }
 
   pub text_within : (t : List ℕ) (offset : ℕ) → content_of x.1 ≡ content_text t → Walked (entries_of xs) Text k places → offset ≡ length (texts_below (contents (entries_of xs)) places)

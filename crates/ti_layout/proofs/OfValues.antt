@@ -8,15 +8,15 @@ use Rattle.ti_layout.specs.declared.layout.Format.TheVariants.{Legacy, Extended}
 use Rattle.ti_layout.specs.Values.{Content, content_true, content_number, content_text, content_cancelled, Contents}
 use Rattle.ti_layout.specs.Layout.{absent, laid_out, limit}
 use Rattle.ti_layout.specs.Image.{image, is_there, is_wide, format_of, of_kind, written_count, flag_value, number_value, offset_value, text_piece, flags_below, numbers_below, offsets_below, texts_below, even_gap}
-use Rattle.ti_layout.specs.Laws.{uncancelled, ShowSame, ImagesAreOfValues, LimitsAreOfValues}
+use Rattle.ti_layout.specs.Laws.{without_cancel, ShowSame, ImagesAreOfValues, LimitsAreOfValues}
 use Rattle.ti_layout.proofs.Below.{below-same, last_passing-le, last_passing-same, some_below-same}
 use Rattle.ti_layout.proofs.Texts.{texts-same}
 
 -- what goes by a content goes by it with a cancel as absent
 abbrev GoesByPresence : {X : Type 0} → (Option Content → X) → Type 0
-GoesByPresence f = (o : Option Content) → f (uncancelled o) ≡ f o
+GoesByPresence f = (o : Option Content) → f (without_cancel o) ≡ f o
 
-same_by_presence : {X : Type 0} (f : Option Content → X) (o q : Option Content) → GoesByPresence f → uncancelled o ≡ uncancelled q → f o ≡ f q
+same_by_presence : {X : Type 0} (f : Option Content → X) (o q : Option Content) → GoesByPresence f → without_cancel o ≡ without_cancel q → f o ≡ f q
 same_by_presence f o q h e = sym (h o) ∙ (ap f e ∙ h q)
 
 is_there-presence : GoesByPresence is_there

@@ -7,7 +7,7 @@ use Rattle.ti_layout.specs.declared.fault.ReadError.TheVariants.{Short, Magic, C
 use Rattle.ti_layout.specs.Values.{Contents, HasNoNul}
 use Rattle.ti_layout.specs.declared.layout.Format.{Format}
 use Rattle.ti_layout.specs.declared.layout.Format.TheVariants.{Legacy, Extended}
-use Rattle.ti_layout.specs.Layout.{Sections, absent, cancelled, negative, spelled, width}
+use Rattle.ti_layout.specs.Layout.{Sections, absent, cancelled, negative, number_section, width}
 use Rattle.ti_layout.specs.Reading.{AreSound, IsNumber, IsOffset, Reads, contents_of, number_at, numbers_in, count_in, format_in, Refused, Holds, HasBadCount, HasBadNames, HasBadFlag, HasBadNumber, HasBadOffset, HasEnd, rank, names_section, flags_section, numbers_section, offsets_section, strings_section}
 use Rattle.ti_layout.proofs.Spelled.{numbers-again, number_read, length-spelled, counted}
 use Rattle.ti_layout.proofs.Parts.{Found, found}
@@ -132,9 +132,9 @@ good_offset strings n (inl plain) high ends = ends plain.1
 good_offset strings n (inr void) high ends = omega (arith, void.0)
 
 -- the number of a place of a section that is spelled
-spelled_number : (w : Format) (ns : List ℕ) (k : ℕ) (P : ℕ → Type 0) → ((n : ℕ) → P n → n ≤ absent w) → All P ns → k < count_in w (spelled w ns) → P (number_at w (width w * k) (spelled w ns))
+spelled_number : (w : Format) (ns : List ℕ) (k : ℕ) (P : ℕ → Type 0) → ((n : ℕ) → P n → n ≤ absent w) → All P ns → k < count_in w (number_section w ns) → P (number_at w (width w * k) (number_section w ns))
 spelled_number w ns k P fits all lt =
-    let c : count_in w (spelled w ns) ≡ length ns = ap (λ k. k / width w) (length-spelled w ns) ∙ counted w (length ns) in
+    let c : count_in w (number_section w ns) ≡ length ns = ap (λ k. k / width w) (length-spelled w ns) ∙ counted w (length ns) in
     let within : k < length ns = omega arith in
     subst P (sym (number_read w ns k (λ i d l. fits _ (all i d l)) within)) (all k 0 within)
 

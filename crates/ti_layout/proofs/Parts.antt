@@ -3,7 +3,7 @@ use Rattle.std.proofs.Common.{◌≡◌, ℕ, suc, ◌+◌, ◌-◌, ◌*◌, �
 use Rattle.std.proofs.lemmas.List.{take_at, drop_at, length-append}
 use Rattle.ti_layout.specs.declared.layout.Format.{Format}
 use Rattle.ti_layout.specs.declared.layout.Format.TheVariants.{Legacy, Extended}
-use Rattle.ti_layout.specs.Layout.{Sections, header, laid_out, magic, spelled, width}
+use Rattle.ti_layout.specs.Layout.{Sections, header, laid_out, magic, number_section, width}
 use Rattle.ti_layout.specs.Reading.{word_at, AreSound, format_in, names_size, flag_count, number_count, text_count, strings_size, end_place, names_section, flags_section, numbers_section, offsets_section, strings_section}
 use Rattle.ti_layout.proofs.Spelled.{length-spelled}
 
@@ -26,7 +26,7 @@ magic-fits Legacy = refl
 magic-fits Extended = refl
 
 numbers-of : (w : Format) (s : Sections) → AreSound w s → Numbers (laid_out w s) w s
-unfolding spelled
+unfolding number_section
 numbers-of w s sound = record {
   known = magic-fits w;
   names = omega arith;
@@ -42,7 +42,7 @@ format_told b Legacy e = rw e refl
 format_told b Extended e = rw e refl
 
 pub length-header : (w : Format) (n f m t s : ℕ) → length (header w n f m t s) ≡ 12
-unfolding spelled
+unfolding number_section
 length-header w n f m t s = refl
 
 -- the sections that the header cuts from a layout
@@ -58,8 +58,8 @@ pub record Found (b : List ℕ) (w : Format) (s : Sections) : Type 0 where
   pub whole : end_place b ≤ length b
   pub names : names_section b ≡ s.names ++ 0 ∷ []
   pub flags : flags_section b ≡ s.flags
-  pub numbers : numbers_section b ≡ spelled w s.numbers
-  pub offsets : offsets_section b ≡ spelled Legacy s.offsets
+  pub numbers : numbers_section b ≡ number_section w s.numbers
+  pub offsets : offsets_section b ≡ number_section Legacy s.offsets
   pub strings : strings_section b ≡ s.strings
 
 -- eight lists one after the other, each as the middle of three
@@ -116,10 +116,10 @@ found w s sound =
     let told = format_told b w n.known in
     let size : length (s.names ++ 0 ∷ []) ≡ names_size b = omega (arith, length-append s.names (0 ∷ []), n.names) in
     let gap : length s.gap ≡ (names_size b + flag_count b) % 2 = sound.gap_size ∙ ap (λ (x : ℕ). x % 2) (omega (arith, n.names, n.flags)) in
-    let numbers : length (spelled w s.numbers) ≡ width (format_in b) * number_count b =
+    let numbers : length (number_section w s.numbers) ≡ width (format_in b) * number_count b =
     length-spelled w s.numbers ∙ ap (λ (k : ℕ). width w * k) (sym n.numbers) ∙ ap (λ (f : Format). width f * number_count b) (sym told) in
-    let offsets : length (spelled Legacy s.offsets) ≡ 2 * text_count b = length-spelled Legacy s.offsets ∙ ap (λ (k : ℕ). 2 * k) (sym n.offsets) in
-    let parts = cut_again b h (s.names ++ 0 ∷ []) s.flags s.gap (spelled w s.numbers) (spelled Legacy s.offsets) s.strings s.rest (middles-of s h (spelled w s.numbers) (spelled Legacy s.offsets) b refl) (length-header w _ _ _ _ _)
+    let offsets : length (number_section Legacy s.offsets) ≡ 2 * text_count b = length-spelled Legacy s.offsets ∙ ap (λ (k : ℕ). 2 * k) (sym n.offsets) in
+    let parts = cut_again b h (s.names ++ 0 ∷ []) s.flags s.gap (number_section w s.numbers) (number_section Legacy s.offsets) s.strings s.rest (middles-of s h (number_section w s.numbers) (number_section Legacy s.offsets) b refl) (length-header w _ _ _ _ _)
     (names_size b) (flag_count b) (width (format_in b) * number_count b) (2 * text_count b) (strings_size b) size (sym n.flags) numbers offsets (sym n.strings) gap in
     record {
       long = omega (arith, parts.5);

@@ -4,7 +4,7 @@ use Rattle.std.proofs.lemmas.List.{length-append, length-replicate}
 use Rattle.ti_caps.specs.declared.capability.Kind.TheVariants.{Flag, Number, Text}
 use Rattle.ti_layout.specs.declared.layout.Format.{Format}
 use Rattle.ti_layout.specs.declared.layout.Format.TheVariants.{Legacy, Extended}
-use Rattle.ti_layout.specs.Layout.{Sections, header, laid_out, limit, entry_size, spelled, width}
+use Rattle.ti_layout.specs.Layout.{Sections, header, laid_out, limit, entry_size, number_section, width}
 use Rattle.ti_layout.specs.Image.{image, even_gap, flags_below, format_of, limit_of, numbers_below, offsets_below, sections_of, texts_below, written_count}
 use Rattle.ti_layout.specs.Values.{Contents}
 use Rattle.ti_layout.proofs.Below.{length-below}
@@ -21,10 +21,10 @@ pub length-laid_out : (w : Format) (s : Sections)
     → length (laid_out w s) ≡ 13 + length s.names + length s.flags + length s.gap + width w * length s.numbers + 2 * length s.offsets + length s.strings + length s.rest
 length-laid_out w s =
     let H = header w (suc (length s.names)) (length s.flags) (length s.numbers) (length s.offsets) (length s.strings) in
-    let l = length-nine H s.names (0 ∷ []) s.flags s.gap (spelled w s.numbers) (spelled Legacy s.offsets) s.strings s.rest in
+    let l = length-nine H s.names (0 ∷ []) s.flags s.gap (number_section w s.numbers) (number_section Legacy s.offsets) s.strings s.rest in
     let h : length H ≡ 12 = length-header w (suc (length s.names)) (length s.flags) (length s.numbers) (length s.offsets) (length s.strings) in
     let m = length-spelled w s.numbers in
-    let o : length (spelled Legacy s.offsets) ≡ 2 * length s.offsets = length-spelled Legacy s.offsets in
+    let o : length (number_section Legacy s.offsets) ≡ 2 * length s.offsets = length-spelled Legacy s.offsets in
     l ∙ sums _ _ 0 _ _ _ _ _ _ _ _ h m o
 
 whole : (n f g x o s : ℕ) → 13 + n + f + g + x + 2 * o + s + 0 ≡ 12 + suc n + f + g + x + 2 * o + s

@@ -3,7 +3,7 @@ use Rattle.std.proofs.Common.{◌≡◌, ℕ, zero, suc, ◌+◌, ◌*◌, ◌/�
 use Rattle.std.proofs.lemmas.List.{length-append, length-drop, get_or-drop, take_all, same_lists, get_or_default}
 use Rattle.ti_layout.specs.declared.layout.Format.{Format}
 use Rattle.ti_layout.specs.declared.layout.Format.TheVariants.{Legacy, Extended}
-use Rattle.ti_layout.specs.Layout.{width, absent, number_bytes, spelled}
+use Rattle.ti_layout.specs.Layout.{width, absent, number_bytes, number_section}
 use Rattle.ti_layout.specs.Image.{below}
 use Rattle.ti_layout.specs.Reading.{number_at, count_in, numbers_in}
 use Rattle.ti_layout.proofs.Below.{below-none, below-more, length-below, get_or-below}
@@ -33,33 +33,33 @@ pub counted : (w : Format) (k : ℕ) → (width w * k) / width w ≡ k
 counted Legacy k = omega arith
 counted Extended k = omega arith
 
-pub spelled-none : (w : Format) → spelled w [] ≡ []
-unfolding spelled
+pub spelled-none : (w : Format) → number_section w [] ≡ []
+unfolding number_section
 spelled-none w = refl
 
-pub spelled-append : (w : Format) (xs ys : List ℕ) → spelled w (xs ++ ys) ≡ spelled w xs ++ spelled w ys
-unfolding spelled
+pub spelled-append : (w : Format) (xs ys : List ℕ) → number_section w (xs ++ ys) ≡ number_section w xs ++ number_section w ys
+unfolding number_section
 spelled-append w [] ys = refl
-spelled-append w (x ∷ xs) ys = ap (λ t. number_bytes w x ++ t) (spelled-append w xs ys) ∙ sym (append_assoc (number_bytes w x) (spelled w xs) (spelled w ys))
+spelled-append w (x ∷ xs) ys = ap (λ t. number_bytes w x ++ t) (spelled-append w xs ys) ∙ sym (append_assoc (number_bytes w x) (number_section w xs) (number_section w ys))
 
-pub spelled-one : (w : Format) (n : ℕ) → spelled w (n ∷ []) ≡ number_bytes w n
-unfolding spelled
+pub spelled-one : (w : Format) (n : ℕ) → number_section w (n ∷ []) ≡ number_bytes w n
+unfolding number_section
 spelled-one Legacy n = refl
 spelled-one Extended n = refl
 
-pub length-spelled : (w : Format) (ns : List ℕ) → length (spelled w ns) ≡ width w * length ns
-unfolding spelled
+pub length-spelled : (w : Format) (ns : List ℕ) → length (number_section w ns) ≡ width w * length ns
+unfolding number_section
 length-spelled w [] = sym (place_none w)
 length-spelled w (n ∷ ns) =
-    let l = length-append (number_bytes w n) (spelled w ns) in
+    let l = length-append (number_bytes w n) (number_section w ns) in
     let a = length-number_bytes w n in
     let b = length-spelled w ns in
     let c = place_more w (length ns) in
     omega arith
 
 -- an absent number is spelled by the byte 255 alone
-pub spelled-absent : (w : Format) (k : ℕ) → spelled w (replicate k (absent w)) ≡ replicate (width w * k) 255
-unfolding spelled
+pub spelled-absent : (w : Format) (k : ℕ) → number_section w (replicate k (absent w)) ≡ replicate (width w * k) 255
+unfolding number_section
 spelled-absent w zero = ap (λ n. replicate {A = ℕ} n 255) (sym (place_none w))
 spelled-absent Legacy (suc k) = let e : 2 * suc k ≡ suc (suc (2 * k)) = omega arith in ap (λ t. 255 ∷ 255 ∷ t) (spelled-absent Legacy k) ∙ ap (λ n. replicate {A = ℕ} n 255) (sym e)
 spelled-absent Extended (suc k) = let e : 4 * suc k ≡ suc (suc (suc (suc (4 * k)))) = omega arith in ap (λ t. 255 ∷ 255 ∷ 255 ∷ 255 ∷ t) (spelled-absent Extended k) ∙ ap (λ n. replicate {A = ℕ} n 255) (sym e)
@@ -115,23 +115,23 @@ take-more zero m b = ap (λ k. take k b) (omega arith)
 take-more (suc n) m [] = let e : suc n + m ≡ suc (n + m) = omega arith in rw e (sym (take_all m [] (omega arith)))
 take-more (suc n) m (x ∷ b) = let e : suc n + m ≡ suc (n + m) = omega arith in rw e (ap (λ t. x ∷ t) (take-more n m b))
 
-pub spelled-numbers : (w : Format) (b : List ℕ) (n : ℕ) → IsBytes b → width w * n ≤ length b → spelled w (below (λ i. number_at w (width w * i) b) n) ≡ take (width w * n) b
+pub spelled-numbers : (w : Format) (b : List ℕ) (n : ℕ) → IsBytes b → width w * n ≤ length b → number_section w (below (λ i. number_at w (width w * i) b) n) ≡ take (width w * n) b
 spelled-numbers w b zero fits within =
-    ap (spelled w) (below-none (λ i. number_at w (width w * i) b)) ∙ spelled-none w ∙ ap (λ k. take k b) (sym (place_none w))
+    ap (number_section w) (below-none (λ i. number_at w (width w * i) b)) ∙ spelled-none w ∙ ap (λ k. take k b) (sym (place_none w))
 spelled-numbers w b (suc n) fits within =
     let f : ℕ → ℕ = λ i. number_at w (width w * i) b in
     let more = place_more w n in
     let one : below f (suc n) ≡ below f n ++ f n ∷ [] = ap (below f) {x = suc n} {y = n + 1} (omega arith) ∙ below-more f n in
-    ap (spelled w) one ∙ spelled-append w (below f n) (f n ∷ [])
-    ∙ ap (λ t. t ++ spelled w (f n ∷ [])) (spelled-numbers w b n fits (omega arith))
+    ap (number_section w) one ∙ spelled-append w (below f n) (f n ∷ [])
+    ∙ ap (λ t. t ++ number_section w (f n ∷ [])) (spelled-numbers w b n fits (omega arith))
     ∙ ap (λ t. take (width w * n) b ++ t) (spelled-one w (f n) ∙ sym (part-number w b (width w * n) fits (omega arith)))
     ∙ sym (take-more (width w * n) (width w) b) ∙ ap (λ k. take k b) (sym more)
 
 -- the numbers of a section, spelled again
-pub spelled-again : (w : Format) (b : List ℕ) (n : ℕ) → IsBytes b → length b ≡ width w * n → spelled w (numbers_in w b) ≡ b
+pub spelled-again : (w : Format) (b : List ℕ) (n : ℕ) → IsBytes b → length b ≡ width w * n → number_section w (numbers_in w b) ≡ b
 spelled-again w b n fits long =
     let c : count_in w b ≡ n = ap (λ k. k / width w) long ∙ counted w n in
-    ap (λ k. spelled w (below (λ i. number_at w (width w * i) b) k)) c ∙ spelled-numbers w b n fits (omega arith) ∙ take_all (width w * n) b (omega arith)
+    ap (λ k. number_section w (below (λ i. number_at w (width w * i) b) k)) c ∙ spelled-numbers w b n fits (omega arith) ∙ take_all (width w * n) b (omega arith)
 
 pub length-numbers_in : (w : Format) (b : List ℕ) (n : ℕ) → length b ≡ width w * n → length (numbers_in w b) ≡ n
 length-numbers_in w b n long = length-below _ (count_in w b) ∙ ap (λ k. k / width w) long ∙ counted w n
@@ -151,19 +151,19 @@ number_at-behind Extended n at r =
     let e3 : at + 4 + 3 ≡ suc (suc (suc (suc (at + 3)))) = omega arith in
     rw (e1, e2, e3, e0) refl
 
-pub number_read : (w : Format) (ns : List ℕ) (i : ℕ) → All (λ n. n ≤ absent w) ns → i < length ns → number_at w (width w * i) (spelled w ns) ≡ get_or ns i 0
-unfolding spelled
+pub number_read : (w : Format) (ns : List ℕ) (i : ℕ) → All (λ n. n ≤ absent w) ns → i < length ns → number_at w (width w * i) (number_section w ns) ≡ get_or ns i 0
+unfolding number_section
 number_read w [] i fit within = absurd (omega arith)
-number_read w (n ∷ ns) zero fit within = ap (λ k. number_at w k (number_bytes w n ++ spelled w ns)) (place_none w) ∙ number_at-here w n (spelled w ns) (fit 0 0 (omega arith))
+number_read w (n ∷ ns) zero fit within = ap (λ k. number_at w k (number_bytes w n ++ number_section w ns)) (place_none w) ∙ number_at-here w n (number_section w ns) (fit 0 0 (omega arith))
 number_read w (n ∷ ns) (suc i) fit within =
-    ap (λ k. number_at w k (number_bytes w n ++ spelled w ns)) (place_more w i) ∙ number_at-behind w n (width w * i) (spelled w ns)
+    ap (λ k. number_at w k (number_bytes w n ++ number_section w ns)) (place_more w i) ∙ number_at-behind w n (width w * i) (number_section w ns)
     ∙ number_read w ns i (λ k d lt. fit (suc k) d (omega arith)) (omega arith)
 
-pub numbers-again : (w : Format) (ns : List ℕ) → All (λ n. n ≤ absent w) ns → numbers_in w (spelled w ns) ≡ ns
+pub numbers-again : (w : Format) (ns : List ℕ) → All (λ n. n ≤ absent w) ns → numbers_in w (number_section w ns) ≡ ns
 numbers-again w ns fit =
-    let f : ℕ → ℕ = λ i. number_at w (width w * i) (spelled w ns) in
-    let c : count_in w (spelled w ns) ≡ length ns = ap (λ k. k / width w) (length-spelled w ns) ∙ counted w (length ns) in
-    let l = length-below f (count_in w (spelled w ns)) in
-    same_lists (numbers_in w (spelled w ns)) ns (l ∙ c) (λ k d lt.
+    let f : ℕ → ℕ = λ i. number_at w (width w * i) (number_section w ns) in
+    let c : count_in w (number_section w ns) ≡ length ns = ap (λ k. k / width w) (length-spelled w ns) ∙ counted w (length ns) in
+    let l = length-below f (count_in w (number_section w ns)) in
+    same_lists (numbers_in w (number_section w ns)) ns (l ∙ c) (λ k d lt.
     let k_lt : k < length ns = omega arith in
-    get_or-below f (count_in w (spelled w ns)) k d (omega arith) ∙ number_read w ns k fit k_lt ∙ get_or_default ns k 0 d k_lt)
+    get_or-below f (count_in w (number_section w ns)) k d (omega arith) ∙ number_read w ns k fit k_lt ∙ get_or_default ns k 0 d k_lt)

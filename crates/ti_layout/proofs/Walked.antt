@@ -11,7 +11,7 @@ use Rattle.ti_layout.specs.declared.layout.Format.{Format}
 use Rattle.ti_layout.specs.declared.layout.Format.TheVariants.{Legacy}
 use Rattle.ti_layout.specs.declared.values.Value.{Value}
 use Rattle.ti_layout.specs.Values.{Content, content_true, content_number, content_text, content_cancelled, Entry, Agrees, IsAt, IsKept, contents, content_of, entries_of, rank_in}
-use Rattle.ti_layout.specs.Layout.{absent, number_bytes, spelled, width}
+use Rattle.ti_layout.specs.Layout.{absent, number_bytes, number_section, width}
 use Rattle.ti_layout.specs.Image.{is_there, of_kind, written_count, flag_value, number_value, offset_value, text_piece, flags_below, numbers_below, offsets_below, texts_below, below}
 use Rattle.ti_layout.proofs.Held.{contents_here}
 use Rattle.ti_layout.proofs.Places.{elsewhere, rank_read}
@@ -272,11 +272,11 @@ next_value f void places index n le between here =
 
 -- the same of numbers as they are spelled
 next_spelled : (w : Format) (f : ℕ → ℕ) (places index n : ℕ) → below f (index + 1) ≡ (below f places ++ replicate (index - places) (absent w)) ++ n ∷ []
-    → spelled w (below f (index + 1)) ≡ (spelled w (below f places) ++ replicate (width w * (index - places)) 255) ++ number_bytes w n
+    → number_section w (below f (index + 1)) ≡ (number_section w (below f places) ++ replicate (width w * (index - places)) 255) ++ number_bytes w n
 next_spelled w f places index n e =
-    ap (spelled w) e ∙ spelled-append w (below f places ++ replicate (index - places) (absent w)) (n ∷ [])
-    ∙ ap (λ xs. xs ++ spelled w (n ∷ [])) (spelled-append w (below f places) (replicate (index - places) (absent w)) ∙ ap (λ xs. spelled w (below f places) ++ xs) (spelled-absent w (index - places)))
-    ∙ ap (λ xs. (spelled w (below f places) ++ replicate (width w * (index - places)) 255) ++ xs) (spelled-one w n)
+    ap (number_section w) e ∙ spelled-append w (below f places ++ replicate (index - places) (absent w)) (n ∷ [])
+    ∙ ap (λ xs. xs ++ number_section w (n ∷ [])) (spelled-append w (below f places) (replicate (index - places) (absent w)) ∙ ap (λ xs. number_section w (below f places) ++ xs) (spelled-absent w (index - places)))
+    ∙ ap (λ xs. (number_section w (below f places) ++ replicate (width w * (index - places)) 255) ++ xs) (spelled-one w n)
 
 module _ (es : List Entry) (kept : IsKept es) (k places : ℕ) (in_range : k < length es) (e : Entry) (here : get_or es k e ≡ e) where
   pub next_flag : Walked es Flag k places → e.1 ≡ content_true → flags_below (contents es) (e.0.index + 1) ≡ (flags_below (contents es) places ++ replicate (e.0.index - places) 0) ++ 1 ∷ []
@@ -287,7 +287,7 @@ module _ (es : List Entry) (kept : IsKept es) (k places : ℕ) (in_range : k < l
       (ap flag_value (said_here es kept Flag k places walked in_range e here is ∙ ap (λ x. Some x) v))
 
   pub next_number : (w : Format) (n : ℕ) → Walked es Number k places → e.1 ≡ content_number n
-      → spelled w (numbers_below w (contents es) (e.0.index + 1)) ≡ (spelled w (numbers_below w (contents es) places) ++ replicate (width w * (e.0.index - places)) 255) ++ number_bytes w n
+      → number_section w (numbers_below w (contents es) (e.0.index + 1)) ≡ (number_section w (numbers_below w (contents es) places) ++ replicate (width w * (e.0.index - places)) 255) ++ number_bytes w n
   next_number w n walked v =
       let is : is_of Number e.1 ≡ true = ap (is_of Number) v in
       let f : ℕ → ℕ = λ i. number_value (absent w) (of_kind (contents es) Number i) in
@@ -314,8 +314,8 @@ module _ (es : List Entry) (kept : IsKept es) (k places : ℕ) (in_range : k < l
     pub next_text : texts_below (contents es) (e.0.index + 1) ≡ texts_below (contents es) places ++ (t ++ 0 ∷ [])
     next_text = texts-more (contents es) e.0.index ∙ ap (λ x. texts_below (contents es) e.0.index ++ text_piece x) said_text ∙ ap (λ x. x ++ (t ++ 0 ∷ [])) texts_before
 
-    pub next_offset : spelled Legacy (offsets_below (contents es) (e.0.index + 1))
-        ≡ (spelled Legacy (offsets_below (contents es) places) ++ replicate (2 * (e.0.index - places)) 255) ++ number_bytes Legacy (length (texts_below (contents es) places))
+    pub next_offset : number_section Legacy (offsets_below (contents es) (e.0.index + 1))
+        ≡ (number_section Legacy (offsets_below (contents es) places) ++ replicate (2 * (e.0.index - places)) 255) ++ number_bytes Legacy (length (texts_below (contents es) places))
     next_offset =
         let f : ℕ → ℕ = λ i. offset_value (length (texts_below (contents es) i)) (of_kind (contents es) Text i) in
         next_spelled Legacy f places e.0.index (length (texts_below (contents es) places))

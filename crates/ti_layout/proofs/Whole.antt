@@ -4,7 +4,7 @@ use Rattle.std.proofs.lemmas.List.{take_all, take_more, take-append-drop, length
 use Rattle.std.proofs.lemmas.Bool.{cases_lt}
 use Rattle.ti_layout.specs.declared.layout.Format.{Format}
 use Rattle.ti_layout.specs.declared.layout.Format.TheVariants.{Legacy}
-use Rattle.ti_layout.specs.Layout.{Sections, header, laid_out, magic, number_bytes, spelled, width}
+use Rattle.ti_layout.specs.Layout.{Sections, header, laid_out, magic, number_bytes, number_section, width}
 use Rattle.ti_layout.specs.Reading.{word_at, number_at, count_in, numbers_in, AreSound, IsNumber, IsOffset, Reads, contents_of, format_in, names_size, flag_count, number_count, text_count, strings_size, flags_place, numbers_place, offsets_place, strings_place, end_place, names_section, flags_section, numbers_section, offsets_section, strings_section}
 use Rattle.ti_layout.specs.Cutting.{AreNames, AreFlags, AreNumbers, AreOffsets, EachNumber}
 use Rattle.ti_layout.proofs.Below.{length-below, get_or-below}
@@ -34,7 +34,7 @@ further_word b front at fits within so_far =
 -- the six numbers of a header
 pub header-bytes : (w : Format) (n f m t s : ℕ) → header w n f m t s
     ≡ number_bytes Legacy (magic w) ++ number_bytes Legacy n ++ number_bytes Legacy f ++ number_bytes Legacy m ++ number_bytes Legacy t ++ number_bytes Legacy s
-unfolding spelled
+unfolding number_section
 header-bytes w n f m t s = refl
 
 -- the header is spelled again by its numbers
@@ -128,9 +128,9 @@ cut_whole b fits long known whole named =
     let m = further b ((((H ++ N) ++ 0 ∷ []) ++ flags_section b) ++ gap) (numbers_place b) (offsets_place b) (omega arith) g in
     let o = further b (((((H ++ N) ++ 0 ∷ []) ++ flags_section b) ++ gap) ++ numbers_section b) (offsets_place b) (strings_place b) (omega arith) m in
     let whole = further b ((((((H ++ N) ++ 0 ∷ []) ++ flags_section b) ++ gap) ++ numbers_section b) ++ offsets_section b) (strings_place b) (end_place b) (omega arith) o in
-    let numbers : spelled w (numbers_in w (numbers_section b)) ≡ numbers_section b = spelled-again w (numbers_section b) (number_count b) (bytes_of_part b (numbers_place b) (offsets_place b) fits) l.numbers in
-    let offsets : spelled Legacy (numbers_in Legacy (offsets_section b)) ≡ offsets_section b = spelled-again Legacy (offsets_section b) (text_count b) (bytes_of_part b (offsets_place b) (strings_place b) fits) l.offsets in
-    sym (ap (λ (x : List ℕ). (((((H ++ N) ++ 0 ∷ []) ++ flags_section b) ++ gap) ++ x) ++ spelled Legacy (numbers_in Legacy (offsets_section b)) ++ strings_section b ++ drop (end_place b) b) numbers
+    let numbers : number_section w (numbers_in w (numbers_section b)) ≡ numbers_section b = spelled-again w (numbers_section b) (number_count b) (bytes_of_part b (numbers_place b) (offsets_place b) fits) l.numbers in
+    let offsets : number_section Legacy (numbers_in Legacy (offsets_section b)) ≡ offsets_section b = spelled-again Legacy (offsets_section b) (text_count b) (bytes_of_part b (offsets_place b) (strings_place b) fits) l.offsets in
+    sym (ap (λ (x : List ℕ). (((((H ++ N) ++ 0 ∷ []) ++ flags_section b) ++ gap) ++ x) ++ number_section Legacy (numbers_in Legacy (offsets_section b)) ++ strings_section b ++ drop (end_place b) b) numbers
     ∙ ap (λ (x : List ℕ). ((((((H ++ N) ++ 0 ∷ []) ++ flags_section b) ++ gap) ++ numbers_section b) ++ x) ++ strings_section b ++ drop (end_place b) b) offsets
     ∙ whole)
 

@@ -6,10 +6,10 @@ use Rattle.ti_layout.specs.Reading.{Reads}
 use Rattle.ti_layout.specs.Image.{image, limit_of}
 
 -- a cancelled value is absent
-abbrev pub uncancelled : Option Content → Option Content
-uncancelled None = None
-uncancelled (Some content_cancelled) = None
-uncancelled (Some content) = Some content
+abbrev pub without_cancel : Option Content → Option Content
+without_cancel None = None
+without_cancel (Some content_cancelled) = None
+without_cancel (Some content) = Some content
 
 -- An image within the limit, of names of 1 to 127 bytes without NUL and of contents that agree with their capabilities,
 -- is read as those names and those contents, with cancelled as absent.
@@ -17,11 +17,11 @@ abbrev pub ImagesAreRead : Type 0
 ImagesAreRead =
     (names : List ℕ) (contents : Contents) → 0 < length names → length names ≤ 127 → HasNoNul names
     → ((c : Capability) → IsCapability c → AgreesIfSome c (contents c)) → length (image names contents) ≤ limit_of contents
-    → (read : Contents) × Reads (image names contents) names read × ((c : Capability) → IsCapability c → read c ≡ uncancelled (contents c))
+    → (read : Contents) × Reads (image names contents) names read × ((c : Capability) → IsCapability c → read c ≡ without_cancel (contents c))
 
 -- the capabilities have the same values, a cancelled one being absent
 abbrev pub ShowSame : Contents → Contents → Type 0
-ShowSame t u = (c : Capability) → IsCapability c → uncancelled (t c) ≡ uncancelled (u c)
+ShowSame t u = (c : Capability) → IsCapability c → without_cancel (t c) ≡ without_cancel (u c)
 
 -- An image depends on the values of the capabilities alone, with cancelled as absent.
 abbrev pub ImagesAreOfValues : Type 0

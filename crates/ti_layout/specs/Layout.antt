@@ -44,9 +44,9 @@ number_bytes Legacy n = (n % 256) ∷ (n / 256 % 256) ∷ []
 number_bytes Extended n = (n % 256) ∷ (n / 256 % 256) ∷ (n / 65536 % 256) ∷ (n / 16777216 % 256) ∷ []
 
 -- the bytes of numbers, one after the other
-unfoldable pub spelled : Format → List ℕ → List ℕ
-spelled format [] = []
-spelled format (n ∷ ns) = number_bytes format n ++ spelled format ns
+unfoldable pub number_section : Format → List ℕ → List ℕ
+number_section format [] = []
+number_section format (n ∷ ns) = number_bytes format n ++ number_section format ns
 
 -- ---- an entry in its sections
 
@@ -64,13 +64,13 @@ pub record Sections : Type 0 where
 -- The magic number, the size of the names with their NUL, how many flags, numbers and offsets there are, and the size of the
 -- string table: two bytes each, in either format.
 abbrev pub header : Format → ℕ → ℕ → ℕ → ℕ → ℕ → List ℕ
-header format names flags numbers offsets strings = spelled Legacy (magic format ∷ names ∷ flags ∷ numbers ∷ offsets ∷ strings ∷ [])
+header format names flags numbers offsets strings = number_section Legacy (magic format ∷ names ∷ flags ∷ numbers ∷ offsets ∷ strings ∷ [])
 
 -- the bytes of an entry with these sections: the header with their sizes, and then they in this order
 abbrev pub laid_out : Format → Sections → List ℕ
 laid_out format s =
     header format (suc (length s.names)) (length s.flags) (length s.numbers) (length s.offsets) (length s.strings)
-    ++ s.names ++ 0 ∷ [] ++ s.flags ++ s.gap ++ spelled format s.numbers ++ spelled Legacy s.offsets ++ s.strings ++ s.rest
+    ++ s.names ++ 0 ∷ [] ++ s.flags ++ s.gap ++ number_section format s.numbers ++ number_section Legacy s.offsets ++ s.strings ++ s.rest
 
 -- how many bytes that is, without what follows: the names have this size with their NUL, and the numbers begin at an even place
 abbrev pub entry_size : Format → ℕ → ℕ → ℕ → ℕ → ℕ → ℕ

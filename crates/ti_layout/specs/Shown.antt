@@ -10,8 +10,8 @@ abbrev pub names_of : View → List ℕ
 names_of v = v.names.now
 
 -- what it holds
-abbrev pub held : View → Contents
-held v = contents_of v.format v.flags.now (numbers_in v.format v.numbers.now) (numbers_in Legacy v.offsets.now) v.strings.now
+abbrev pub view_contents : View → Contents
+view_contents v = contents_of v.format v.flags.now (numbers_in v.format v.numbers.now) (numbers_in Legacy v.offsets.now) v.strings.now
 
 -- whether a flag is set
 abbrev pub shown_flag : Option Content → Bool

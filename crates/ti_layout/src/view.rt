@@ -33,7 +33,7 @@ pub struct View<'a> {
 }
 
 impl<'a> View<'a> {
-    ghost use Rattle.ti_layout.specs.Shown.{names_of, held, shown_flag, shown_number, shown_text};
+    ghost use Rattle.ti_layout.specs.Shown.{names_of, view_contents, shown_flag, shown_number, shown_text};
 
     /// Reads an entry. One pass over the sections and one search of the string table: the time is
     /// linear in the bytes, however many offsets lead into one text.
@@ -41,7 +41,7 @@ impl<'a> View<'a> {
     /// # Errors
     /// The first of the refusals of [`ReadError`], in its order, that holds of the bytes.
     pub fn read(bytes: &'a [u8]) -> Result<View<'a>, ReadError>
-        ensures found { IfOk result (λ v. Reads bytes.now (names_of v) (held v)) }
+        ensures found { IfOk result (λ v. Reads bytes.now (names_of v) (view_contents v)) }
         ensures refused { IfErr result (λ e. Refused bytes.now e) }
     {
         let sections = cut(bytes)?;
@@ -87,7 +87,7 @@ impl<'a> View<'a> {
     /// Whether a flag is set. One that is absent or cancelled is not.
     pub fn flag(&self, cap: Cap) -> bool
         requires { cap.kind ≡ Flag }
-        ensures { result ≡ shown_flag (held self.now cap) }
+        ensures { result ≡ shown_flag (view_contents self.now cap) }
     {
         self.flags.get(cap.index()) == Some(&1)
     }
@@ -95,7 +95,7 @@ impl<'a> View<'a> {
     /// The value of a number; `None` where it is absent or cancelled.
     pub fn number(&self, cap: Cap) -> Option<u32>
         requires { cap.kind ≡ Number }
-        ensures { result ≡ shown_number (held self.now cap) }
+        ensures { result ≡ shown_number (view_contents self.now cap) }
     {
         let width = self.format.width();
         if cap.index() >= self.numbers.len() / width {
@@ -112,7 +112,7 @@ impl<'a> View<'a> {
     /// The value of a text, without its NUL; `None` where it is absent or cancelled.
     pub fn text(&self, cap: Cap) -> Option<&'a [u8]>
         requires { cap.kind ≡ Text }
-        ensures { option_copied result ≡ shown_text (held self.now cap) }
+        ensures { option_copied result ≡ shown_text (view_contents self.now cap) }
     {
         if cap.index() >= self.offsets.len() / 2 {
             return None;

@@ -6,7 +6,7 @@ ghost use Rattle.ti_caps.specs.declared.capability.Kind.TheVariants.{Flag, Numbe
 ghost use Rattle.ti_layout.specs.Image.{is_wide as is_wide_content};
 ghost use Rattle.ti_layout.specs.Image.{image, format_of, limit_of, written_count, flags_below, numbers_below, texts_below, offsets_below, even_gap, HasNoNul};
 ghost use Rattle.ti_layout.specs.Layout as layout;
-ghost use Rattle.ti_layout.specs.Layout.{spelled, number_bytes};
+ghost use Rattle.ti_layout.specs.Layout.{number_section, number_bytes};
 ghost use Rattle.ti_layout.specs.Sizes.{HasSizes};
 ghost use Rattle.ti_layout.specs.Values.{contents, content_of, entries_of, IsKept};
 ghost use Rattle.ti_layout.specs.declared.writing.WriteError.TheVariants.{Memory};
@@ -208,7 +208,7 @@ fn push_numbers(
     format: Format,
 ) -> Result<(), AllocError>
     requires { IsKept (entries_of entries.now) }
-    ensures { OnOk result (image.new.items ≡ image.old.items ++ spelled format (numbers_below format (contents (entries_of entries.now)) (written_count (contents (entries_of entries.now)) Number))) }
+    ensures { OnOk result (image.new.items ≡ image.old.items ++ number_section format (numbers_below format (contents (entries_of entries.now)) (written_count (contents (entries_of entries.now)) Number))) }
 {
     let mut places = 0;
     for entry in entries {
@@ -225,7 +225,7 @@ fn push_numbers(
 fn push_offsets(image: &mut Vec<u8>, entries: &[(Cap, Value)]) -> Result<(), AllocError>
     requires kept { IsKept (entries_of entries.now) }
     requires fits { length (texts_below (contents (entries_of entries.now)) (written_count (contents (entries_of entries.now)) Text)) < 65536 }
-    ensures { OnOk result (image.new.items ≡ image.old.items ++ spelled Format.Legacy (offsets_below (contents (entries_of entries.now)) (written_count (contents (entries_of entries.now)) Text))) }
+    ensures { OnOk result (image.new.items ≡ image.old.items ++ number_section Format.Legacy (offsets_below (contents (entries_of entries.now)) (written_count (contents (entries_of entries.now)) Text))) }
 {
     let mut places = 0;
     let mut offset = 0;

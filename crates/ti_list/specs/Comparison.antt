@@ -6,7 +6,7 @@ use Rattle.ti_text.specs.Ascii as ascii
 use Rattle.ti_caps.specs.Tables.{Capability, name_of}
 use Rattle.ti_caps.specs.declared.capability.Kind.{Kind}
 use Rattle.ti_caps.specs.declared.capability.Kind.TheVariants.{Flag, Number, Text}
-use Rattle.ti_spelling.specs.Spelling.{written}
+use Rattle.ti_spelling.specs.Spelling.{spelling_of}
 use Rattle.ti_layout.specs.Values.{Content, content_true, content_number, content_text, content_cancelled, Contents}
 use Rattle.ti_list.specs.declared.layout.Order.{Order}
 use Rattle.ti_list.specs.declared.layout.Mode.{Mode}
@@ -25,7 +25,7 @@ abbrev pub value_text : Kind → Option Content → List ℕ
 value_text kind None = absent_text kind
 value_text kind (Some content_true) = codes "T"
 value_text kind (Some (content_number n)) = decimal n
-value_text kind (Some (content_text t)) = ascii.apostrophe ∷ written t ++ ascii.apostrophe ∷ []
+value_text kind (Some (content_text t)) = ascii.apostrophe ∷ spelling_of t ++ ascii.apostrophe ∷ []
 value_text kind (Some content_cancelled) = absent_text kind
 
 -- what parts the two values of a row

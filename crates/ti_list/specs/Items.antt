@@ -6,7 +6,7 @@ use Rattle.std.specs.Fmt.{decimal}
 use Rattle.ti_text.specs.Ascii as ascii
 use Rattle.ti_caps.specs.Tables.{IsCapability, name_of}
 use Rattle.ti_caps.specs.declared.capability.Kind.TheVariants.{Flag, Number, Text}
-use Rattle.ti_spelling.specs.Spelling.{written, AreBytes, HasNoNul}
+use Rattle.ti_spelling.specs.Spelling.{spelling_of, AreBytes, HasNoNul}
 use Rattle.ti_source.specs.Header.{HeaderNames, IsLookupName}
 use Rattle.ti_source.specs.Numbers.{greatest_number}
 use Rattle.ti_source.specs.Parsing.{names_limit}
@@ -16,7 +16,7 @@ use Rattle.ti_source.specs.Reading.{Said, said_flag, said_number, said_text, sai
 abbrev pub item_text : Said → List ℕ
 item_text (said_flag c) = name_of c
 item_text (said_number c n) = name_of c ++ ascii.number_sign ∷ decimal n
-item_text (said_text c t) = name_of c ++ ascii.equals ∷ written t
+item_text (said_text c t) = name_of c ++ ascii.equals ∷ spelling_of t
 item_text (said_cancel c) = name_of c ++ ascii.at_sign ∷ []
 item_text (said_import name) = codes "use=" ++ name
 

@@ -1,11 +1,11 @@
 // Two entries compared capability by capability.
 ghost use Rattle.std.specs.Prelude.{◌≡◌, ◌++◌, option_map, IfOk, OnOk};
-ghost use Rattle.ti_layout.specs.Shown.{held};
+ghost use Rattle.ti_layout.specs.Shown.{view_contents};
 ghost use Rattle.ti_list.specs.Comparison.{value_separator, common_row, compared_kind, comparison, differing_row};
 ghost use Rattle.ti_list.specs.Comparison.{kind_heading, neither_row, row, rows, have_same, value_text};
 ghost use Rattle.ti_list.specs.Contents.{content_of};
 ghost use Rattle.ti_list.specs.Listing.{in_order};
-ghost use Rattle.ti_list.specs.Relative.{shown};
+ghost use Rattle.ti_list.specs.Relative.{entry_shown};
 
 use crate::contents::{Content, held, same_content};
 use crate::layout::{Mode, Order};
@@ -134,7 +134,7 @@ fn push_kind(
     order: Order,
     kind: Kind,
 ) -> Result<(), AllocError>
-    ensures { OnOk result (out.new.items ≡ out.old.items ++ compared_kind (shown one.now) (shown other.now) mode order kind) }
+    ensures { OnOk result (out.new.items ≡ out.old.items ++ compared_kind (entry_shown one.now) (entry_shown other.now) mode order kind) }
 {
     out.extend_from_slice(kind_heading(kind))?;
     for place in 0..count(kind) {
@@ -156,7 +156,7 @@ pub fn compare(
     mode: Mode,
     order: Order,
 ) -> Result<Vec<u8>, AllocError>
-    ensures { IfOk result (λ text. text.items ≡ comparison (shown one.now) (shown other.now) mode order) }
+    ensures { IfOk result (λ text. text.items ≡ comparison (entry_shown one.now) (entry_shown other.now) mode order) }
 {
     let mut out = Vec::from_slice(alloc, b"comparing ")?;
     out.extend_from_slice(one.first_name())?;

@@ -3,7 +3,7 @@ use Rattle.std.proofs.Common.{◌≡◌, ℕ, zero, suc, ◌+◌, ◌<◌, ◌�
 use Rattle.std.proofs.lemmas.Bool.{cases_Bool}
 use Rattle.std.proofs.lemmas.Option.{none-some}
 use Rattle.ti_source.specs.Reading.{Reading, ReadItem}
-use Rattle.ti_meaning.specs.Owner.{owned}
+use Rattle.ti_meaning.specs.Owner.{owner_block}
 use Rattle.ti_meaning.specs.Expansion.{Mention, is_broken, mentions_of, expand_items, expand, expansion}
 use Rattle.ti_meaning.specs.Reaching.{Uses, IsWay, leads_to}
 use Rattle.ti_meaning.specs.ValueTables.{names_at}
@@ -72,12 +72,12 @@ module _ (env : List ℕ → Option Reading) (name to : List ℕ) (way : List (L
       descend k (d.0, names_at-le env k (times k (suc (length way))) deep name d.0 d.1)
 
 -- a use whose owner resolves does not lead back
-pub resolved_not_circular : (bs : List Reading) (at : ℕ) (b c : Reading) (name : List ℕ) (ms : List Mention) → slice_get bs at ≡ Some b → Uses b.items name → owned bs name ≡ Some c → expansion bs c ≡ Some ms → leads_to bs name at ≡ false
+pub resolved_not_circular : (bs : List Reading) (at : ℕ) (b c : Reading) (name : List ℕ) (ms : List Mention) → slice_get bs at ≡ Some b → Uses b.items name → owner_block bs name ≡ Some c → expansion bs c ≡ Some ms → leads_to bs name at ≡ false
 resolved_not_circular bs at b c name ms s u o x =
     elim (cases_Bool (leads_to bs name at)) [
       | inr missing ↦ missing
       | inl reached ↦
           let w = leads_to-LeadsTo bs name at reached in
-          let deep : names_at (owned bs) (suc (length bs)) name ≡ Some ms = rw o x in
-          absurd (not_circular (owned bs) name w.1 w.0 b w.2 (owner_to_owned bs w.1 at b w.3 s) u (suc (length bs)) (ms, deep))
+          let deep : names_at (owner_block bs) (suc (length bs)) name ≡ Some ms = rw o x in
+          absurd (not_circular (owner_block bs) name w.1 w.0 b w.2 (owner_to_owned bs w.1 at b w.3 s) u (suc (length bs)) (ms, deep))
     ]

@@ -5,8 +5,8 @@ use Rattle.std.specs.Option.{option_map_or}
 use Rattle.std.proofs.lemmas.Bool.{false≢true}
 use Rattle.std.proofs.lemmas.Option.{same_Some, none-some, slice_get_within}
 use Rattle.ti_source.specs.Reading.{Reading, ReadItem, Said, said_flag, said_number, said_text, said_cancel, said_import}
-use Rattle.ti_meaning.specs.Owner.{owned}
-use Rattle.ti_meaning.specs.Expansion.{Mention, is_broken, joined, mentions_of, expand_items, expand, expansion}
+use Rattle.ti_meaning.specs.Owner.{owner_block}
+use Rattle.ti_meaning.specs.Expansion.{Mention, is_broken, both_lists, mentions_of, expand_items, expand, expansion}
 use Rattle.ti_meaning.proofs.Owning.{nobody, somebody, owning}
 use Rattle.ti_meaning.proofs.Settling.{IsGrowing, settles}
 
@@ -22,7 +22,7 @@ pub record AreJoined (a b : Mentions) (ms : List Mention) : Type 0 where
   pub back_is : b ≡ Some back
   pub whole : front ++ back ≡ ms
 
-pub joined_parts : (a b : Mentions) (ms : List Mention) → joined a b ≡ Some ms → AreJoined a b ms
+pub joined_parts : (a b : Mentions) (ms : List Mention) → both_lists a b ≡ Some ms → AreJoined a b ms
 joined_parts None b ms e = absurd (none-some ms e)
 joined_parts (Some xs) None ms e = absurd (none-some ms e)
 joined_parts (Some xs) (Some ys) ms e =
@@ -87,7 +87,7 @@ expand_same env j k b ms ns e f =
 
 -- ---- whether a block resolves at a depth goes by what its names do
 
-joined-some : (a b c d : Mentions) → is_some a ≡ is_some c → is_some b ≡ is_some d → is_some (joined a b) ≡ is_some (joined c d)
+joined-some : (a b c d : Mentions) → is_some a ≡ is_some c → is_some b ≡ is_some d → is_some (both_lists a b) ≡ is_some (both_lists c d)
 joined-some None b None d e f = refl
 joined-some None b (Some ys) d e f = absurd (false≢true e)
 joined-some (Some xs) b None d e f = absurd (false≢true (sym e))
@@ -114,13 +114,13 @@ cond-some false o q e = e
 
 -- whether the block at a place resolves at a depth
 resolves_at : List Reading → ℕ → ℕ → Bool
-resolves_at bs k p = option_map_or (λ b. is_some (expand (owned bs) k b)) (slice_get bs p) false
+resolves_at bs k p = option_map_or (λ b. is_some (expand (owner_block bs) k b)) (slice_get bs p) false
 
-resolves_at-is : (bs : List Reading) (k p : ℕ) (b : Reading) → slice_get bs p ≡ Some b → resolves_at bs k p ≡ is_some (expand (owned bs) k b)
+resolves_at-is : (bs : List Reading) (k p : ℕ) (b : Reading) → slice_get bs p ≡ Some b → resolves_at bs k p ≡ is_some (expand (owner_block bs) k b)
 unfolding resolves_at
 resolves_at-is bs k p b e = rw e refl
 
-same_names : (bs : List Reading) (j k : ℕ) → ((p : ℕ) → p < length bs → resolves_at bs j p ≡ resolves_at bs k p) → (name : List ℕ) → is_some (names_at (owned bs) j name) ≡ is_some (names_at (owned bs) k name)
+same_names : (bs : List Reading) (j k : ℕ) → ((p : ℕ) → p < length bs → resolves_at bs j p ≡ resolves_at bs k p) → (name : List ℕ) → is_some (names_at (owner_block bs) j name) ≡ is_some (names_at (owner_block bs) k name)
 same_names bs j k h name =
     elim (owning bs name) [
       | nobody _ d ↦ rw d refl
@@ -146,9 +146,9 @@ resolves_at-grows bs k p l h =
       | inr none ↦ absurd (false≢true (sym (rw none refl) ∙ h))
       | inl found ↦
           let b = found.0 in
-          let e : is_some (expand (owned bs) k b) ≡ true = sym (resolves_at-is bs k p b found.1) ∙ h in
-          let w = some_is (expand (owned bs) k b) e in
-          resolves_at-is bs (suc k) p b found.1 ∙ is_some-of (expand (owned bs) (suc k) b) w.0 (expand-suc (owned bs) k b w.0 w.1)
+          let e : is_some (expand (owner_block bs) k b) ≡ true = sym (resolves_at-is bs k p b found.1) ∙ h in
+          let w = some_is (expand (owner_block bs) k b) e in
+          resolves_at-is bs (suc k) p b found.1 ∙ is_some-of (expand (owner_block bs) (suc k) b) w.0 (expand-suc (owner_block bs) k b w.0 w.1)
     ]
 
 resolves_at-stays : (bs : List Reading) (k : ℕ) → ((p : ℕ) → p < length bs → resolves_at bs (suc k) p ≡ resolves_at bs k p) → (p : ℕ) → p < length bs → resolves_at bs (suc (suc k)) p ≡ resolves_at bs (suc k) p
@@ -158,8 +158,8 @@ resolves_at-stays bs k h p l =
       | inl found ↦
           let b = found.0 in
           resolves_at-is bs (suc (suc k)) p b found.1
-          ∙ (cond-some (is_broken b) (expand_items (names_at (owned bs) (suc k)) b.items) (expand_items (names_at (owned bs) k) b.items)
-          (expand_items-some (names_at (owned bs) (suc k)) (names_at (owned bs) k) (same_names bs (suc k) k h) b.items)
+          ∙ (cond-some (is_broken b) (expand_items (names_at (owner_block bs) (suc k)) b.items) (expand_items (names_at (owner_block bs) k) b.items)
+          (expand_items-some (names_at (owner_block bs) (suc k)) (names_at (owner_block bs) k) (same_names bs (suc k) k h) b.items)
           ∙ sym (resolves_at-is bs (suc k) p b found.1))
     ]
 
@@ -167,15 +167,15 @@ growing : (bs : List Reading) → IsGrowing (resolves_at bs) (length bs)
 growing bs = record { grows = resolves_at-grows bs; stays = resolves_at-stays bs }
 
 -- a block of the list that some depth expands has that expansion
-pub bounded : (bs : List Reading) (k p : ℕ) (b : Reading) (ms : List Mention) → slice_get bs p ≡ Some b → expand (owned bs) k b ≡ Some ms → expansion bs b ≡ Some ms
+pub bounded : (bs : List Reading) (k p : ℕ) (b : Reading) (ms : List Mention) → slice_get bs p ≡ Some b → expand (owner_block bs) k b ≡ Some ms → expansion bs b ≡ Some ms
 bounded bs k p b ms s e =
     let within = slice_get_within bs p b s in
-    let here : resolves_at bs k p ≡ true = resolves_at-is bs k p b s ∙ is_some-of (expand (owned bs) k b) ms e in
+    let here : resolves_at bs k p ≡ true = resolves_at-is bs k p b s ∙ is_some-of (expand (owner_block bs) k b) ms e in
     let there = settles (resolves_at bs) (length bs) (growing bs) k p within here in
-    let w = some_is (expand (owned bs) (length bs) b) (sym (resolves_at-is bs (length bs) p b s) ∙ there) in
-    let same = expand_same (owned bs) (length bs) k b w.0 ms w.1 e in
-    expand-suc (owned bs) (length bs) b ms (rw (← same) w.1)
+    let w = some_is (expand (owner_block bs) (length bs) b) (sym (resolves_at-is bs (length bs) p b s) ∙ there) in
+    let same = expand_same (owner_block bs) (length bs) k b w.0 ms w.1 e in
+    expand-suc (owner_block bs) (length bs) b ms (rw (← same) w.1)
 
 -- one that no depth expands has none
-pub unbounded : (bs : List Reading) (b : Reading) → ((k : ℕ) → expand (owned bs) k b ≡ None) → expansion bs b ≡ None
+pub unbounded : (bs : List Reading) (b : Reading) → ((k : ℕ) → expand (owner_block bs) k b ≡ None) → expansion bs b ≡ None
 unbounded bs b h = h (suc (length bs))

@@ -4,7 +4,7 @@ use Rattle.std.specs.List.{insert, remove, take-map, drop-map}
 use Rattle.std.specs.Option.{option_map_or}
 use Rattle.std.proofs.lemmas.Option.{same_Some, none-some, slice_get-map, slice_get_within, get_or_from_slice_get}
 use Rattle.std.proofs.lemmas.List.Edits.{length-insert, length-remove}
-use Rattle.ti_meaning.specs.Edits.{relocated}
+use Rattle.ti_meaning.specs.Edits.{with_item_moved}
 use Rattle.std.proofs.lemmas.List.{map-append, map-set, set-set, set-get_or}
 use Rattle.std.proofs.lemmas.List.Elements.{All-append, All-take, All-drop, All-cons}
 
@@ -51,23 +51,23 @@ images_removed f old new at e = ap (λ xs. map f xs) e ∙ map-remove f old at
 
 -- ---- a moved item
 
-relocated-some : {X : Type 0} (xs : List X) (from to : ℕ) (x : X) → slice_get xs from ≡ Some x → relocated xs from to ≡ insert (remove xs from) to x
+relocated-some : {X : Type 0} (xs : List X) (from to : ℕ) (x : X) → slice_get xs from ≡ Some x → with_item_moved xs from to ≡ insert (remove xs from) to x
 relocated-some xs from to x e = rw e refl
 
-pub map-relocated : {X Y : Type 0} (f : X → Y) (xs : List X) (from to : ℕ) → map f (relocated xs from to) ≡ relocated (map f xs) from to
+pub map-relocated : {X Y : Type 0} (f : X → Y) (xs : List X) (from to : ℕ) → map f (with_item_moved xs from to) ≡ with_item_moved (map f xs) from to
 map-relocated f xs from to = rw (slice_get-map f xs from) (by_case (slice_get xs from)) where
   by_case : (o : Option _) → map f (option_map_or (λ x. insert (remove xs from) to x) o xs) ≡ option_map_or (λ y. insert (remove (map f xs) from) to y) (option_map f o) (map f xs)
   by_case None = refl
   by_case (Some x) = map-insert f (remove xs from) to x ∙ ap (λ ys. insert ys to (f x)) (map-remove f xs from)
 
-pub All-relocated : {X : Type 0} (P : X → Type 0) (xs : List X) (from to : ℕ) → All P xs → All P (relocated xs from to)
+pub All-relocated : {X : Type 0} (P : X → Type 0) (xs : List X) (from to : ℕ) → All P xs → All P (with_item_moved xs from to)
 All-relocated P xs from to h =
     elim (slice_get xs from) as (λ o. slice_get xs from ≡ o → All P (option_map_or (λ x. insert (remove xs from) to x) o xs)) [
       | None ↦ λ e. h
       | Some x ↦ λ e. All-insert P (remove xs from) to x (All-remove P xs from h) (subst P (get_or_from_slice_get xs from x x e) (h from x (slice_get_within xs from x e)))
     ] refl
 
-pub length-relocated : {X : Type 0} (xs : List X) (from to : ℕ) → from < length xs → to < length xs → length (relocated xs from to) ≡ length xs
+pub length-relocated : {X : Type 0} (xs : List X) (from to : ℕ) → from < length xs → to < length xs → length (with_item_moved xs from to) ≡ length xs
 length-relocated xs from to l m =
     elim (slice_get xs from) as (λ o. length (option_map_or (λ x. insert (remove xs from) to x) o xs) ≡ length xs) [
       | None ↦ refl
@@ -78,13 +78,13 @@ length-relocated xs from to l m =
     ]
 
 -- what is moved and moved back leaves the list
-pub relocated-back : {X : Type 0} (xs : List X) (from to : ℕ) → from < length xs → to < length xs → relocated (relocated xs from to) to from ≡ xs
+pub relocated-back : {X : Type 0} (xs : List X) (from to : ℕ) → from < length xs → to < length xs → with_item_moved (with_item_moved xs from to) to from ≡ xs
 relocated-back xs from to l m =
     let x = slice_get_some xs from l in
     let n = length-remove xs from l in
     let w : to ≤ length (remove xs from) = omega arith in
     let once = relocated-some xs from to x.0 x.1 in
-    ap (λ ys. relocated ys to from) once
+    ap (λ ys. with_item_moved ys to from) once
     ∙ (relocated-some (insert (remove xs from) to x.0) to from x.0 (get_inserted (remove xs from) to x.0 w)
     ∙ (ap (λ ys. insert ys from x.0) (remove-insert (remove xs from) to x.0 w) ∙ insert-remove xs from x.0 x.1))
   where
@@ -98,5 +98,5 @@ relocated-back xs from to l m =
     get_inserted [] (suc i) x l = absurd (omega arith)
     get_inserted (y ∷ ys) (suc i) x l = get_inserted ys i x (omega arith)
 
-pub images_relocated : {X Y : Type 0} (f : X → Y) (old new : List X) (from to : ℕ) → new ≡ relocated old from to → map f new ≡ relocated (map f old) from to
+pub images_relocated : {X Y : Type 0} (f : X → Y) (old new : List X) (from to : ℕ) → new ≡ with_item_moved old from to → map f new ≡ with_item_moved (map f old) from to
 images_relocated f old new from to e = ap (λ xs. map f xs) e ∙ map-relocated f old from to

@@ -9,7 +9,7 @@ use Rattle.std.proofs.lemmas.Option.{same_Some, slice_get-map}
 use Rattle.ti_source.specs.Reading.{Reading}
 use Rattle.ti_source.specs.Parsing.{parsed}
 use Rattle.ti_source.specs.Sound.{IsRising}
-use Rattle.ti_meaning.specs.Owner.{is_among, owner, owned, readings}
+use Rattle.ti_meaning.specs.Owner.{is_among, owner, owner_block, readings}
 use Rattle.ti_meaning.specs.Edits.{Change, insertion, replacement, removal, relocation, IsInPlace, after}
 use Rattle.ti_meaning.specs.Exchange.{PlacedBlock, Exchange, IsExchange, with_block, HasPlace, new_list, block_from, exchange_of, LeadsOn, EditsAreExchanges}
 use Rattle.ti_meaning.specs.Dependents.{names_of, touched_names, IsPutAt, IsDependent, DependentsAreDetermined, UsersOfDependentsDepend, DependentsAreFound, RebuildsAreDetermined, work}
@@ -156,7 +156,7 @@ users_depend = λ e at user b name h d own s u.
       inr (elim d.2 [
         | inl put ↦ (name, put_touches e h at name put own, (name, [], u, refl))
         | inr reach ↦
-            let is : owned (new_list e) name ≡ Some c = owner_to_owned (new_list e) name at c own d.1 in
+            let is : owner_block (new_list e) name ≡ Some c = owner_to_owned (new_list e) name at c own d.1 in
             (reach.0, reach.1, (name, reach.2.0 ∷ reach.2.1, u, ((c, is, reach.2.2), reach.2.3)))
       ]),
     )
@@ -171,7 +171,7 @@ dependent_holds e P put touching using at d =
       | inr reach ↦ along reach.2.1 reach.2.0 reach.0 at d.0 d.1 reach.2.2 reach.2.3 reach.1
     ]
   where
-    along : (way : List (List ℕ)) (from to : List ℕ) (user : ℕ) (b : Reading) → slice_get (new_list e) user ≡ Some b → Uses b.items from → IsWay (owned (new_list e)) from way to → is_among to (touched_names e) ≡ true → P user
+    along : (way : List (List ℕ)) (from to : List ℕ) (user : ℕ) (b : Reading) → slice_get (new_list e) user ≡ Some b → Uses b.items from → IsWay (owner_block (new_list e)) from way to → is_among to (touched_names e) ≡ true → P user
     along [] from to user b s u w t = touching user b from s u (ap (λ n. is_among n (touched_names e)) w ∙ t)
     along (x ∷ way) from to user b s u w t =
         let own = has_owner (new_list e) from w.0.0 w.0.1 in

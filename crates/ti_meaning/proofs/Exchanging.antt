@@ -5,10 +5,10 @@ use Rattle.std.specs.Str.{bytes_eq}
 use Rattle.std.proofs.lemmas.Bool.{or_parts}
 use Rattle.std.proofs.lemmas.Option.{same_Some, none-some}
 use Rattle.ti_source.specs.Reading.{Reading, ReadItem}
-use Rattle.ti_meaning.specs.Owner.{is_among, owner, owned}
+use Rattle.ti_meaning.specs.Owner.{is_among, owner, owner_block}
 use Rattle.ti_meaning.specs.Expansion.{Mention, expand, expansion}
 use Rattle.ti_meaning.specs.Reaching.{Uses, IsWay, LeadsTo}
-use Rattle.ti_meaning.specs.Exchange.{PlacedBlock, Exchange, IsExchange, with_block, HasPlace, shifted}
+use Rattle.ti_meaning.specs.Exchange.{PlacedBlock, Exchange, IsExchange, with_block, HasPlace, shifted_position}
 use Rattle.ti_meaning.specs.Dependents.{names_of, touched_names}
 use Rattle.ti_meaning.proofs.Owning.{nobody, somebody, owning}
 use Rattle.ti_meaning.proofs.Depth.{bounded}
@@ -44,7 +44,7 @@ some_or_none : (o : Option (List Mention)) → (o ≡ None) ⊎ ((ms : List Ment
 some_or_none None = inl refl
 some_or_none (Some ms) = inr (ms, refl)
 
-pub expansion-same : (bs cs : List Reading) (p q : ℕ) (b : Reading) → slice_get bs p ≡ Some b → slice_get cs q ≡ Some b → ((k : ℕ) → expand (owned cs) k b ≡ expand (owned bs) k b) → expansion cs b ≡ expansion bs b
+pub expansion-same : (bs cs : List Reading) (p q : ℕ) (b : Reading) → slice_get bs p ≡ Some b → slice_get cs q ≡ Some b → ((k : ℕ) → expand (owner_block cs) k b ≡ expand (owner_block bs) k b) → expansion cs b ≡ expansion bs b
 expansion-same bs cs p q b s t h =
     elim (some_or_none (expansion bs b)) [
       | inr some ↦ bounded cs (suc (length bs)) q b some.0 t (h (suc (length bs)) ∙ some.1) ∙ sym some.1
@@ -57,49 +57,49 @@ expansion-same bs cs p q b s t h =
 -- ---- two lists that differ by a block whose names all pass the test
 
 module _ (test : List ℕ → Bool) (rest : List Reading) (o p : Option PlacedBlock) (at_o : IsOff test rest o) (at_p : IsOff test rest p) where
-  agree : AgreeOff test (owned (with_block rest o)) (owned (with_block rest p))
+  agree : AgreeOff test (owner_block (with_block rest o)) (owner_block (with_block rest p))
   agree n f = owned-with rest o n at_o.place (at_o.off n f) ∙ sym (owned-with rest p n at_p.place (at_p.off n f))
 
-  pub expand_in_both : (k : ℕ) (b : Reading) → ((n : List ℕ) → Uses b.items n → IsFree (owned (with_block rest o)) test n) → expand (owned (with_block rest p)) k b ≡ expand (owned (with_block rest o)) k b
-  expand_in_both k b free = expand-kept test (owned (with_block rest o)) (owned (with_block rest p)) agree k b free
+  pub expand_in_both : (k : ℕ) (b : Reading) → ((n : List ℕ) → Uses b.items n → IsFree (owner_block (with_block rest o)) test n) → expand (owner_block (with_block rest p)) k b ≡ expand (owner_block (with_block rest o)) k b
+  expand_in_both k b free = expand-kept test (owner_block (with_block rest o)) (owner_block (with_block rest p)) agree k b free
 
-  pub free_in_both : (n : List ℕ) → IsFree (owned (with_block rest o)) test n → IsFree (owned (with_block rest p)) test n
-  free_in_both n free = way-free test (owned (with_block rest o)) (owned (with_block rest p)) agree n free
+  pub free_in_both : (n : List ℕ) → IsFree (owner_block (with_block rest o)) test n → IsFree (owner_block (with_block rest p)) test n
+  free_in_both n free = way-free test (owner_block (with_block rest o)) (owner_block (with_block rest p)) agree n free
 
-  pub owned_in_both : (n : List ℕ) → IsFree (owned (with_block rest o)) test n → owned (with_block rest p) n ≡ owned (with_block rest o) n
+  pub owned_in_both : (n : List ℕ) → IsFree (owner_block (with_block rest o)) test n → owner_block (with_block rest p) n ≡ owner_block (with_block rest o) n
   owned_in_both n free = sym (agree n (free [] n refl))
 
-  pub reaches_in_both : (items : List ReadItem) (n : List ℕ) (way : List (List ℕ)) (to : List ℕ) → Uses items n → IsWay (owned (with_block rest o)) n way to → test to ≡ true → (m : List ℕ) × (test m ≡ true) × ((from : List ℕ) × (way : List (List ℕ)) × Uses items from × IsWay (owned (with_block rest p)) from way m)
+  pub reaches_in_both : (items : List ReadItem) (n : List ℕ) (way : List (List ℕ)) (to : List ℕ) → Uses items n → IsWay (owner_block (with_block rest o)) n way to → test to ≡ true → (m : List ℕ) × (test m ≡ true) × ((from : List ℕ) × (way : List (List ℕ)) × Uses items from × IsWay (owner_block (with_block rest p)) from way m)
   reaches_in_both items n way to u w t =
-      let v = way-both test (owned (with_block rest o)) (owned (with_block rest p)) agree way n to w t in
+      let v = way-both test (owner_block (with_block rest o)) (owner_block (with_block rest p)) agree way n to w t in
       (v.1, v.3, (n, v.0, u, v.2))
 
   -- a free name leads to the block at a position in the one list where it does in the other
-  pub circular_in_both : (n : List ℕ) (at : ℕ) → IsFree (owned (with_block rest o)) test n → LeadsTo (with_block rest o) n (shifted o at) → LeadsTo (with_block rest p) n (shifted p at)
+  pub circular_in_both : (n : List ℕ) (at : ℕ) → IsFree (owner_block (with_block rest o)) test n → LeadsTo (with_block rest o) n (shifted_position o at) → LeadsTo (with_block rest p) n (shifted_position p at)
   circular_in_both n at free l =
       let off : test l.1 ≡ false = free l.0 l.1 l.2 in
       let here = owner-with rest o l.1 at_o.place (at_o.off l.1 off) in
       let there = owner-with rest p l.1 at_p.place (at_p.off l.1 off) in (
         l.0,
         l.1,
-        way-kept test (owned (with_block rest o)) (owned (with_block rest p)) agree l.0 n l.1 free l.2,
-        there ∙ ap (λ x. option_map (shifted p) x) (unshifted o (owner rest l.1) at (sym here ∙ l.3)),
+        way-kept test (owner_block (with_block rest o)) (owner_block (with_block rest p)) agree l.0 n l.1 free l.2,
+        there ∙ ap (λ x. option_map (shifted_position p) x) (unshifted o (owner rest l.1) at (sym here ∙ l.3)),
       )
     where
-      unshifted : (o : Option PlacedBlock) (x : Option ℕ) (at : ℕ) → option_map (shifted o) x ≡ Some (shifted o at) → x ≡ Some at
-      unshifted o None at e = absurd (none-some (shifted o at) e)
-      unshifted o (Some k) at e = ap (λ j. Some j) (shifted-same o k at (same_Some (shifted o k) (shifted o at) e))
+      unshifted : (o : Option PlacedBlock) (x : Option ℕ) (at : ℕ) → option_map (shifted_position o) x ≡ Some (shifted_position o at) → x ≡ Some at
+      unshifted o None at e = absurd (none-some (shifted_position o at) e)
+      unshifted o (Some k) at e = ap (λ j. Some j) (shifted-same o k at (same_Some (shifted_position o k) (shifted_position o at) e))
 
   -- the block that a free name belongs to says the same in both lists
-  pub owner_says_same : (n : List ℕ) (b : Reading) → IsFree (owned (with_block rest o)) test n → owned (with_block rest o) n ≡ Some b → expansion (with_block rest p) b ≡ expansion (with_block rest o) b
+  pub owner_says_same : (n : List ℕ) (b : Reading) → IsFree (owner_block (with_block rest o)) test n → owner_block (with_block rest o) n ≡ Some b → expansion (with_block rest p) b ≡ expansion (with_block rest o) b
   owner_says_same n b free e =
-      let f : owned (with_block rest p) n ≡ Some b = owned_in_both n free ∙ e in
+      let f : owner_block (with_block rest p) n ≡ Some b = owned_in_both n free ∙ e in
       let s = stands (with_block rest o) n b e in
       let t = stands (with_block rest p) n b f in
       expansion-same (with_block rest o) (with_block rest p) s.0 t.0 b s.1 t.1
       (λ k. expand_in_both k b (λ m u way to w. free (m ∷ way) to ((b, e, u), w)))
     where
-      stands : (bs : List Reading) (n : List ℕ) (b : Reading) → owned bs n ≡ Some b → (q : ℕ) × (slice_get bs q ≡ Some b)
+      stands : (bs : List Reading) (n : List ℕ) (b : Reading) → owner_block bs n ≡ Some b → (q : ℕ) × (slice_get bs q ≡ Some b)
       stands bs n b e =
           elim (owning bs n) [
             | nobody _ d ↦ absurd (none-some b (sym d ∙ e))

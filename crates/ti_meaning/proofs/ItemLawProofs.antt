@@ -7,7 +7,7 @@ use Rattle.std.proofs.lemmas.List.Elements.{filter-append}
 use Rattle.ti_source.specs.Reading.{Reading, ReadItem, ReadFault}
 use Rattle.ti_meaning.specs.Reaching.{used_name}
 use Rattle.ti_meaning.specs.Faults.{SourceFault, local_fault, fault_of_item, faults_before, faults_from}
-use Rattle.ti_meaning.specs.Laws.{numbered, numbered_faults}
+use Rattle.ti_meaning.specs.Laws.{fault_with_ordinal, numbered_faults}
 use Rattle.ti_meaning.specs.ItemLaws.{has_fault, has_use, with_ordinal, own_faults, use_faults, ItemFaultsGoByOrdinal}
 
 -- ---- picking by ordinal
@@ -24,14 +24,14 @@ pick-append o xs ys =
     ap (λ zs. map (λ (f : ℕ × SourceFault). f.1) zs) (filter-append (λ (f : ℕ × SourceFault). nat_eq f.0 o) xs ys)
     ∙ map-append (λ (f : ℕ × SourceFault). f.1) (filter (λ (f : ℕ × SourceFault). nat_eq f.0 o) xs) (filter (λ (f : ℕ × SourceFault). nat_eq f.0 o) ys)
 
-pick_local : (v : Bool) (at : ℕ) (f : ReadFault) (xs : List (ℕ × SourceFault)) (fs : List ReadFault) → map (λ (g : ℕ × SourceFault). g.1) xs ≡ map (local_fault at) fs → map (λ (g : ℕ × SourceFault). g.1) (cond v (numbered at f ∷ xs) xs) ≡ map (local_fault at) (cond v (f ∷ fs) fs)
+pick_local : (v : Bool) (at : ℕ) (f : ReadFault) (xs : List (ℕ × SourceFault)) (fs : List ReadFault) → map (λ (g : ℕ × SourceFault). g.1) xs ≡ map (local_fault at) fs → map (λ (g : ℕ × SourceFault). g.1) (cond v (fault_with_ordinal at f ∷ xs) xs) ≡ map (local_fault at) (cond v (f ∷ fs) fs)
 pick_local true at f xs fs e = ap (λ zs. local_fault at f ∷ zs) e
 pick_local false at f xs fs e = e
 
-pick-locals : (o at : ℕ) (fs : List ReadFault) → with_ordinal o (map (numbered at) fs) ≡ own_faults at o fs
+pick-locals : (o at : ℕ) (fs : List ReadFault) → with_ordinal o (map (fault_with_ordinal at) fs) ≡ own_faults at o fs
 pick-locals o at [] = refl
 pick-locals o at (f ∷ fs) =
-    pick_local (nat_eq f.ordinal o) at f (filter (λ (g : ℕ × SourceFault). nat_eq g.0 o) (map (numbered at) fs)) (filter (λ (g : ReadFault). nat_eq g.ordinal o) fs) (pick-locals o at fs)
+    pick_local (nat_eq f.ordinal o) at f (filter (λ (g : ℕ × SourceFault). nat_eq g.0 o) (map (fault_with_ordinal at) fs)) (filter (λ (g : ReadFault). nat_eq g.ordinal o) fs) (pick-locals o at fs)
 
 pick_use : (v : Bool) (k : ℕ) (f : SourceFault) (xs : List (ℕ × SourceFault)) (us : List SourceFault) → map (λ (g : ℕ × SourceFault). g.1) xs ≡ cond v us [] → map (λ (g : ℕ × SourceFault). g.1) (cond v ((k, f) ∷ xs) xs) ≡ cond v (f ∷ us) []
 pick_use true k f xs us e = ap (λ zs. f ∷ zs) e
@@ -96,7 +96,7 @@ pick_step : (bs : List Reading) (at o : ℕ) (fs : List ReadFault) (i : ReadItem
 pick_step bs at o fs i is =
     let uses = fault_of_item bs at i.line (used_name i.said) in
     let rest = numbered_faults bs at (faults_from i.ordinal fs) is in
-    pick-append o (map (numbered at) (faults_before i.ordinal fs)) (map (λ f. (i.ordinal, f)) uses ++ rest)
+    pick-append o (map (fault_with_ordinal at) (faults_before i.ordinal fs)) (map (λ f. (i.ordinal, f)) uses ++ rest)
     ∙ (ap (λ xs. xs ++ with_ordinal o (map (λ f. (i.ordinal, f)) uses ++ rest)) (pick-locals o at (faults_before i.ordinal fs))
     ∙ ap (λ xs. own_faults at o (faults_before i.ordinal fs) ++ xs)
     (pick-append o (map (λ f. (i.ordinal, f)) uses) rest ∙ ap (λ xs. xs ++ with_ordinal o rest) (pick-uses o i.ordinal uses)))

@@ -6,12 +6,12 @@ use Rattle.std.proofs.lemmas.List.Elements.{filter-append}
 use Rattle.ti_source.specs.declared.code.Code.{Code}
 use Rattle.ti_source.specs.declared.code.Code.TheVariants as code
 use Rattle.ti_source.specs.Reading.{Reading, ReadItem, ReadFault}
-use Rattle.ti_meaning.specs.Owner.{is_among, owned}
+use Rattle.ti_meaning.specs.Owner.{is_among, owner_block}
 use Rattle.ti_meaning.specs.Expansion.{expansion, resolves}
 use Rattle.ti_meaning.specs.Reaching.{used_name, Uses, leads_to}
 use Rattle.ti_meaning.specs.Compiled.{EntryState, unresolved, oversized, written, state_of, entry_of, state_with}
 use Rattle.ti_meaning.specs.Faults.{SourceFault, fault_between, use_fault, local_fault, local_faults, is_kept, name_fault, name_faults, is_owned_before, distinct, fault_of_use, fault_of_item, faults_before, faults_from, item_faults, entry_faults}
-use Rattle.ti_meaning.specs.Exchange.{PlacedBlock, with_block, old_list, new_list, shifted}
+use Rattle.ti_meaning.specs.Exchange.{PlacedBlock, with_block, old_list, new_list, shifted_position}
 use Rattle.ti_meaning.specs.Dependents.{touched_names, ReachesOne}
 use Rattle.ti_meaning.specs.KeptBlocks.{is_no_duplicate, moved_to, lasting_faults, UntouchedBlocksAreKept, TouchedInBothLists}
 use Rattle.ti_meaning.proofs.Leading.{leads_to-LeadsTo, LeadsTo-leads_to}
@@ -107,22 +107,22 @@ both_true false true f g = g refl
 both_true false false f g = refl
 
 module _ (test : List ℕ → Bool) (rest : List Reading) (o p : Option PlacedBlock) (at_o : IsOff test rest o) (at_p : IsOff test rest p) where
-  pub use_fault-same : (n : List ℕ) (at : ℕ) → IsFree (owned (with_block rest o)) test n → use_fault (with_block rest p) (shifted p at) n ≡ use_fault (with_block rest o) (shifted o at) n
+  pub use_fault-same : (n : List ℕ) (at : ℕ) → IsFree (owner_block (with_block rest o)) test n → use_fault (with_block rest p) (shifted_position p at) n ≡ use_fault (with_block rest o) (shifted_position o at) n
   use_fault-same n at free =
       let bs = with_block rest o in
       let cs = with_block rest p in
-      let circle : leads_to cs n (shifted p at) ≡ leads_to bs n (shifted o at) = both_true (leads_to cs n (shifted p at)) (leads_to bs n (shifted o at))
-      (λ t. LeadsTo-leads_to bs n (shifted o at) (circular_in_both test rest p o at_p at_o n at (free_in_both test rest o p at_o at_p n free) (leads_to-LeadsTo cs n (shifted p at) t)))
-      (λ t. LeadsTo-leads_to cs n (shifted p at) (circular_in_both test rest o p at_o at_p n at free (leads_to-LeadsTo bs n (shifted o at) t))) in
-      ap (λ x. fault_between x (leads_to cs n (shifted p at)) (resolves cs)) (owned_in_both test rest o p at_o at_p n free)
-      ∙ (ap (λ l. fault_between (owned bs n) l (resolves cs)) circle
-      ∙ between-same (owned bs n) (leads_to bs n (shifted o at)) (resolves cs) (resolves bs)
+      let circle : leads_to cs n (shifted_position p at) ≡ leads_to bs n (shifted_position o at) = both_true (leads_to cs n (shifted_position p at)) (leads_to bs n (shifted_position o at))
+      (λ t. LeadsTo-leads_to bs n (shifted_position o at) (circular_in_both test rest p o at_p at_o n at (free_in_both test rest o p at_o at_p n free) (leads_to-LeadsTo cs n (shifted_position p at) t)))
+      (λ t. LeadsTo-leads_to cs n (shifted_position p at) (circular_in_both test rest o p at_o at_p n at free (leads_to-LeadsTo bs n (shifted_position o at) t))) in
+      ap (λ x. fault_between x (leads_to cs n (shifted_position p at)) (resolves cs)) (owned_in_both test rest o p at_o at_p n free)
+      ∙ (ap (λ l. fault_between (owner_block bs n) l (resolves cs)) circle
+      ∙ between-same (owner_block bs n) (leads_to bs n (shifted_position o at)) (resolves cs) (resolves bs)
       (λ b e. ap (λ x. is_some x) (owner_says_same test rest o p at_o at_p n b free e)))
 
 -- ---- the laws
 
 -- what a block uses that reaches no touched name is free
-free_uses : (bs : List Reading) (names : List (List ℕ)) (b : Reading) → (ReachesOne bs names b → ⊥) → (n : List ℕ) → Uses b.items n → IsFree (owned bs) (λ m. is_among m names) n
+free_uses : (bs : List Reading) (names : List (List ℕ)) (b : Reading) → (ReachesOne bs names b → ⊥) → (n : List ℕ) → Uses b.items n → IsFree (owner_block bs) (λ m. is_among m names) n
 free_uses bs names b none n u = λ way to w. false_from_ne_true (is_among to names) (λ t. none (to, t, (n, way, u, w)))
 
 pub kept_block : UntouchedBlocksAreKept
@@ -132,14 +132,14 @@ kept_block = λ e at b h s none.
     let old = off_old e h in
     let new = off_new e h in
     let deep = λ (k : ℕ). expand_in_both test e.rest e.out e.put old new k b free in
-    let same : expansion (new_list e) b ≡ expansion (old_list e) b = expansion-same (old_list e) (new_list e) (shifted e.out at) (shifted e.put at) b (get-with e.rest e.out at h.out ∙ s) (get-with e.rest e.put at h.put ∙ s) deep in
+    let same : expansion (new_list e) b ≡ expansion (old_list e) b = expansion-same (old_list e) (new_list e) (shifted_position e.out at) (shifted_position e.put at) b (get-with e.rest e.out at h.out ∙ s) (get-with e.rest e.put at h.put ∙ s) deep in
     let state : state_of (new_list e) b ≡ state_of (old_list e) b = ap (λ x. state_with b x) same in
     record {
       at_depth = deep;
       mentions = same;
       entry = ap (λ x. option_and_then (entry_of b) x) same;
       state = state;
-      faults = lasting-moved (old_list e) (new_list e) (shifted e.put at) (shifted e.out at) b (λ n u. use_fault-same test e.rest e.out e.put old new n at (free n u)) state;
+      faults = lasting-moved (old_list e) (new_list e) (shifted_position e.put at) (shifted_position e.out at) b (λ n u. use_fault-same test e.rest e.out e.put old new n at (free n u)) state;
       old_owners = λ n u. owner-with e.rest e.out n h.out (old.off n (free n u [] n refl));
       new_owners = λ n u. owner-with e.rest e.put n h.put (new.off n (free n u [] n refl));
     }

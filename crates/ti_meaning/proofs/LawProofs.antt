@@ -3,7 +3,7 @@ use Rattle.std.proofs.Common.{◌≡◌, ℕ, zero, suc, ◌<◌, ◌⊎◌, inl
 use Rattle.std.proofs.lemmas.Bool.{cases_Bool, false≢true}
 use Rattle.std.proofs.lemmas.Option.{same_Some, none-some}
 use Rattle.ti_source.specs.Reading.{Reading}
-use Rattle.ti_meaning.specs.Owner.{is_among, owner, owned}
+use Rattle.ti_meaning.specs.Owner.{is_among, owner, owner_block}
 use Rattle.ti_meaning.specs.Expansion.{Mention, expand, Resolves, expansion}
 use Rattle.ti_meaning.specs.Reaching.{LeadsTo, leads_to}
 use Rattle.ti_meaning.specs.Laws.{IsFirstWith, OwnersAreFirst, ExpansionsStay, ExpansionsAreFound, WaysAreFound, IsUseFault, nobody_owns, leads_back, owner_unresolved, owner_resolved, UseFaultsAreTold}
@@ -66,9 +66,9 @@ some_is : {X : Type 0} (o : Option X) → is_some o ≡ true → (x : X) × (o �
 some_is None e = absurd (false≢true e)
 some_is (Some x) e = (x, refl)
 
-is_resolved : (bs : List Reading) (at : ℕ) (b : Reading) → slice_get bs at ≡ Some b → Resolves (owned bs) b → is_some (expansion bs b) ≡ true
+is_resolved : (bs : List Reading) (at : ℕ) (b : Reading) → slice_get bs at ≡ Some b → Resolves (owner_block bs) b → is_some (expansion bs b) ≡ true
 is_resolved bs at b s r =
-    let w = some_is (expand (owned bs) r.0 b) r.1 in
+    let w = some_is (expand (owner_block bs) r.0 b) r.1 in
     ap (λ o. is_some o) (bounded bs r.0 at b w.0 s w.1)
 
 pub found_expansions : ExpansionsAreFound

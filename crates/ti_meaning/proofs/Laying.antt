@@ -5,8 +5,8 @@ use Rattle.std.proofs.lemmas.Option.{same_Some, none-some}
 use Rattle.ti_caps.specs.Tables.{Capability, same_capability}
 use Rattle.ti_source.specs.Reading.{Reading, ReadItem, Said, said_flag, said_number, said_text, said_cancel, said_import}
 use Rattle.ti_layout.specs.Values.{Contents, Content}
-use Rattle.ti_meaning.specs.Owner.{owned}
-use Rattle.ti_meaning.specs.Expansion.{Mention, said, is_broken, joined, mentions_of, expand_items}
+use Rattle.ti_meaning.specs.Owner.{owner_block}
+use Rattle.ti_meaning.specs.Expansion.{Mention, leftmost_content, is_broken, both_lists, mentions_of, expand_items}
 use Rattle.ti_meaning.specs.Reaching.{used_name, Uses}
 use Rattle.ti_meaning.specs.ValueTables.{names_at, IsTableOf, IsTableOfItems, IsLaid}
 use Rattle.ti_meaning.proofs.Depth.{expand_items-more, names_at-le, mentions_of-more}
@@ -26,28 +26,28 @@ if_or true x o p v = refl
 if_or false x o p v = refl
 
 -- mentions after one another say what the first say, and else what the others say
-pub said-append : (ms ns : List Mention) (c : Capability) → said (ms ++ ns) c ≡ option_or (said ms c) (said ns c)
+pub said-append : (ms ns : List Mention) (c : Capability) → leftmost_content (ms ++ ns) c ≡ option_or (leftmost_content ms c) (leftmost_content ns c)
 said-append [] ns c = refl
 said-append (m ∷ ms) ns c =
-    rw (said-append ms ns c) (sym (if_or (same_capability m.capability c) None (said ms c) (said ns c) m.says))
+    rw (said-append ms ns c) (sym (if_or (same_capability m.capability c) None (leftmost_content ms c) (leftmost_content ns c) m.says))
 
 -- one mention was laid
-pub laid_one : (bs : List Reading) (item : Said) (m : Mention) (old new : Contents) → mentions_of (names_at (owned bs) 0) item ≡ Some (m ∷ []) → ((c : Capability) → new c ≡ option_or (old c) (cond (same_capability m.capability c) (Some m.says) None)) → IsLaid bs item old new
+pub laid_one : (bs : List Reading) (item : Said) (m : Mention) (old new : Contents) → mentions_of (names_at (owner_block bs) 0) item ≡ Some (m ∷ []) → ((c : Capability) → new c ≡ option_or (old c) (cond (same_capability m.capability c) (Some m.says) None)) → IsLaid bs item old new
 laid_one bs item m old new e laid = record { depth = 0; mentions = m ∷ []; expands = e; lays = λ c _. laid c }
 
 -- ---- the items of a block, one after another
 
-joined-assoc : (a b c : Option (List Mention)) → joined a (joined b c) ≡ joined (joined a b) c
+joined-assoc : (a b c : Option (List Mention)) → both_lists a (both_lists b c) ≡ both_lists (both_lists a b) c
 joined-assoc None b c = refl
 joined-assoc (Some xs) None c = refl
 joined-assoc (Some xs) (Some ys) None = refl
 joined-assoc (Some xs) (Some ys) (Some zs) = rw append_assoc refl
 
-joined-nothing : (o : Option (List Mention)) → o ≡ joined (Some []) o
+joined-nothing : (o : Option (List Mention)) → o ≡ both_lists (Some []) o
 joined-nothing None = refl
 joined-nothing (Some xs) = refl
 
-pub expand_items-append : (f : List ℕ → Option (List Mention)) (is js : List ReadItem) → expand_items f (is ++ js) ≡ joined (expand_items f is) (expand_items f js)
+pub expand_items-append : (f : List ℕ → Option (List Mention)) (is js : List ReadItem) → expand_items f (is ++ js) ≡ both_lists (expand_items f is) (expand_items f js)
 expand_items-append f [] js = joined-nothing (expand_items f js)
 expand_items-append f (i ∷ is) js = rw (expand_items-append f is js) (joined-assoc (mentions_of f i.said) (expand_items f is) (expand_items f js))
 
@@ -59,7 +59,7 @@ table_of_nothing bs f none = record { depth = 0; mentions = []; expands = refl; 
 pub table_of_one_more : (bs : List Reading) (is : List ReadItem) (i : ReadItem) (f g : Contents) → IsTableOfItems bs is f → IsLaid bs i.said f g → IsTableOfItems bs (is ++ i ∷ []) g
 table_of_one_more bs is i f g t h =
     let deep = t.depth + h.depth in
-    let env = owned bs in
+    let env = owner_block bs in
     let front = expand_items-more (names_at env t.depth) (names_at env deep) (names_at-le env t.depth deep (omega arith)) is t.mentions t.expands in
     let back = mentions_of-more (names_at env h.depth) (names_at env deep) (names_at-le env h.depth deep (omega arith)) i.said h.mentions h.expands in
     record {
@@ -68,8 +68,8 @@ table_of_one_more bs is i f g t h =
       expands = expand_items-append (names_at env deep) is (i ∷ []) ∙ (rw (front, back) refl);
       tells = λ c valid.
           h.lays c valid
-          ∙ (ap (λ o. option_or o (said h.mentions c)) (t.tells c valid)
-          ∙ (ap (λ o. option_or (said t.mentions c) o) (sym (said-append h.mentions [] c ∙ option_or-none (said h.mentions c)))
+          ∙ (ap (λ o. option_or o (leftmost_content h.mentions c)) (t.tells c valid)
+          ∙ (ap (λ o. option_or (leftmost_content t.mentions c) o) (sym (said-append h.mentions [] c ∙ option_or-none (leftmost_content h.mentions c)))
           ∙ sym (said-append t.mentions (h.mentions ++ []) c)));
     }
 
@@ -84,14 +84,14 @@ uses_at [] i item name s u = absurd (none-some item s)
 uses_at (x ∷ xs) zero item name s u = inl (rw (same_Some x item s) u)
 uses_at (x ∷ xs) (suc i) item name s u = inr (uses_at xs i item name s u)
 
-pub mentions_of-used : (f : List ℕ → Option (List Mention)) (said : Said) (name : List ℕ) → used_name said ≡ Some name → mentions_of f said ≡ f name
+pub mentions_of-used : (f : List ℕ → Option (List Mention)) (leftmost_content : Said) (name : List ℕ) → used_name leftmost_content ≡ Some name → mentions_of f leftmost_content ≡ f name
 mentions_of-used f (said_flag c) name e = absurd (none-some name e)
 mentions_of-used f (said_number c n) name e = absurd (none-some name e)
 mentions_of-used f (said_text c t) name e = absurd (none-some name e)
 mentions_of-used f (said_cancel c) name e = absurd (none-some name e)
 mentions_of-used f (said_import n) name e = ap f (same_Some n name e)
 
-joined-none : (o : Option (List Mention)) → joined o None ≡ None
+joined-none : (o : Option (List Mention)) → both_lists o None ≡ None
 joined-none None = refl
 joined-none (Some xs) = refl
 

@@ -4,7 +4,7 @@ use Rattle.std.specs.Option.{option_map_or}
 use Rattle.std.proofs.lemmas.Bool.{false≢true, or_cases, eqb-true, eq-eqb}
 use Rattle.std.proofs.lemmas.Option.{slice_get_within}
 use Rattle.ti_source.specs.Reading.{Reading, ReadItem}
-use Rattle.ti_meaning.specs.Owner.{owner, owned}
+use Rattle.ti_meaning.specs.Owner.{owner, owner_block}
 use Rattle.ti_meaning.specs.Reaching.{used_name, Uses, IsWay, LeadsTo, use_passes, any_use, block_passes, is_owner, leads, leads_to}
 use Rattle.ti_meaning.proofs.Owning.{nobody, somebody, owning}
 use Rattle.ti_meaning.proofs.Settling.{IsGrowing, settles}
@@ -59,11 +59,11 @@ block_passes-grows f g h (Some b) e = h b e
 leads-suc : (bs : List Reading) (at k : ℕ) (n : List ℕ) → leads bs k n at ≡ true → leads bs (suc k) n at ≡ true
 leads-suc bs at zero n e = absurd (false≢true e)
 leads-suc bs at (suc k) n e =
-    elim (or_cases (is_owner bs n at) (block_passes (after_step bs at k) (owned bs n)) e) [
-      | inl here ↦ or_left (is_owner bs n at) (block_passes (after_step bs at (suc k)) (owned bs n)) here
-      | inr later ↦ or_right (is_owner bs n at) (block_passes (after_step bs at (suc k)) (owned bs n))
+    elim (or_cases (is_owner bs n at) (block_passes (after_step bs at k) (owner_block bs n)) e) [
+      | inl here ↦ or_left (is_owner bs n at) (block_passes (after_step bs at (suc k)) (owner_block bs n)) here
+      | inr later ↦ or_right (is_owner bs n at) (block_passes (after_step bs at (suc k)) (owner_block bs n))
           (block_passes-grows (after_step bs at k) (after_step bs at (suc k))
-          (λ b. any_use-grows (λ m. leads bs k m at) (λ m. leads bs (suc k) m at) (leads-suc bs at k) b.items) (owned bs n) later)
+          (λ b. any_use-grows (λ m. leads bs k m at) (λ m. leads bs (suc k) m at) (leads-suc bs at k) b.items) (owner_block bs n) later)
     ]
 
 -- whether the block at a place leads on within so many steps
@@ -117,9 +117,9 @@ growing bs at = record { grows = steps_at-grows bs at; stays = steps_at-stays bs
 -- so many steps as there are blocks suffice
 leads-settles : (bs : List Reading) (at k : ℕ) (n : List ℕ) → leads bs (suc k) n at ≡ true → leads_to bs n at ≡ true
 leads-settles bs at k n e =
-    elim (or_cases (is_owner bs n at) (block_passes (after_step bs at k) (owned bs n)) e) [
-      | inl here ↦ or_left (is_owner bs n at) (block_passes (after_step bs at (length bs)) (owned bs n)) here
-      | inr later ↦ or_right (is_owner bs n at) (block_passes (after_step bs at (length bs)) (owned bs n))
+    elim (or_cases (is_owner bs n at) (block_passes (after_step bs at k) (owner_block bs n)) e) [
+      | inl here ↦ or_left (is_owner bs n at) (block_passes (after_step bs at (length bs)) (owner_block bs n)) here
+      | inr later ↦ or_right (is_owner bs n at) (block_passes (after_step bs at (length bs)) (owner_block bs n))
           (elim (owning bs n) [
             | nobody _ d ↦ absurd (false≢true (rw d at later))
             | somebody p b o ↦
@@ -141,18 +141,18 @@ is_owner-is bs n at e =
       | Some p ↦ λ h. ap (λ x. Some x) (eqb-true p at h)
     ] e
 
-way_leads : (bs : List Reading) (at : ℕ) (way : List (List ℕ)) (from to : List ℕ) → IsWay (owned bs) from way to → owner bs to ≡ Some at → leads bs (suc (length way)) from at ≡ true
+way_leads : (bs : List Reading) (at : ℕ) (way : List (List ℕ)) (from to : List ℕ) → IsWay (owner_block bs) from way to → owner bs to ≡ Some at → leads bs (suc (length way)) from at ≡ true
 way_leads bs at [] from to w e =
-    or_left (is_owner bs from at) (block_passes (after_step bs at 0) (owned bs from)) (is_owner-from bs from at (rw w e))
+    or_left (is_owner bs from at) (block_passes (after_step bs at 0) (owner_block bs from)) (is_owner-from bs from at (rw w e))
 way_leads bs at (next ∷ way) from to w e =
     let step = w.0 in
-    or_right (is_owner bs from at) (block_passes (after_step bs at (suc (length way))) (owned bs from))
+    or_right (is_owner bs from at) (block_passes (after_step bs at (suc (length way))) (owner_block bs from))
     (rw step.1 (any_use-from (λ m. leads bs (suc (length way)) m at) step.0.items next step.2 (way_leads bs at way next to w.1 e)))
 
 leads_way : (bs : List Reading) (at k : ℕ) (from : List ℕ) → leads bs k from at ≡ true → LeadsTo bs from at
 leads_way bs at zero from e = absurd (false≢true e)
 leads_way bs at (suc k) from e =
-    elim (or_cases (is_owner bs from at) (block_passes (after_step bs at k) (owned bs from)) e) [
+    elim (or_cases (is_owner bs from at) (block_passes (after_step bs at k) (owner_block bs from)) e) [
       | inl here ↦ ([], from, refl, is_owner-is bs from at here)
       | inr later ↦ elim (owning bs from) [
         | nobody _ d ↦ absurd (false≢true (rw d at later))

@@ -5,7 +5,7 @@ use Rattle.std.proofs.lemmas.List.{map-append}
 use Rattle.ti_source.specs.Reading.{Reading, ReadItem, ReadFault}
 use Rattle.ti_meaning.specs.Reaching.{used_name}
 use Rattle.ti_meaning.specs.Faults.{SourceFault, local_fault, fault_of_item, faults_before, faults_from, item_faults}
-use Rattle.ti_meaning.specs.Laws.{numbered, numbered_faults, Climbs, ItemFaultsAreInOrder}
+use Rattle.ti_meaning.specs.Laws.{fault_with_ordinal, numbered_faults, Climbs, ItemFaultsAreInOrder}
 
 abbrev ordinals : List ReadFault → List ℕ
 ordinals fs = map (λ (f : ReadFault). f.ordinal) fs
@@ -18,7 +18,7 @@ plain fs = map (λ (f : ℕ × SourceFault). f.1) fs
 
 -- ---- without their numbers they are the faults
 
-plain-numbered : (at : ℕ) (fs : List ReadFault) → plain (map (numbered at) fs) ≡ map (local_fault at) fs
+plain-numbered : (at : ℕ) (fs : List ReadFault) → plain (map (fault_with_ordinal at) fs) ≡ map (local_fault at) fs
 plain-numbered at [] = refl
 plain-numbered at (f ∷ fs) = ap (λ xs. local_fault at f ∷ xs) (plain-numbered at fs)
 
@@ -31,7 +31,7 @@ same_faults bs at fs [] = plain-numbered at fs
 same_faults bs at fs (i ∷ is) =
     let uses = fault_of_item bs at i.line (used_name i.said) in
     let rest = numbered_faults bs at (faults_from i.ordinal fs) is in
-    map-append (λ (f : ℕ × SourceFault). f.1) (map (numbered at) (faults_before i.ordinal fs)) (map (λ f. (i.ordinal, f)) uses ++ rest)
+    map-append (λ (f : ℕ × SourceFault). f.1) (map (fault_with_ordinal at) (faults_before i.ordinal fs)) (map (λ f. (i.ordinal, f)) uses ++ rest)
     ∙ (ap (λ xs. xs ++ plain (map (λ f. (i.ordinal, f)) uses ++ rest)) (plain-numbered at (faults_before i.ordinal fs))
     ∙ ap (λ xs. map (local_fault at) (faults_before i.ordinal fs) ++ xs)
     (map-append (λ (f : ℕ × SourceFault). f.1) (map (λ f. (i.ordinal, f)) uses) rest
@@ -55,7 +55,7 @@ climbs-same : (k : ℕ) (fs : List SourceFault) (ys : List ℕ) → Climbs k ys 
 climbs-same k [] ys c = c
 climbs-same k (f ∷ fs) ys c = (omega arith, climbs-same k fs ys c)
 
-numbers-numbered : (at : ℕ) (fs : List ReadFault) → numbers (map (numbered at) fs) ≡ ordinals fs
+numbers-numbered : (at : ℕ) (fs : List ReadFault) → numbers (map (fault_with_ordinal at) fs) ≡ ordinals fs
 numbers-numbered at [] = refl
 numbers-numbered at (f ∷ fs) = ap (λ xs. f.ordinal ∷ xs) (numbers-numbered at fs)
 
@@ -90,7 +90,7 @@ climbing bs at l fs (i ∷ is) c d =
     let rest = numbered_faults bs at (faults_from i.ordinal fs) is in
     let later = climbing bs at i.ordinal (faults_from i.ordinal fs) is (climbs-from l i.ordinal fs c) d.1 in
     rw (
-      map-append (λ (f : ℕ × SourceFault). f.0) (map (numbered at) (faults_before i.ordinal fs)) (map (λ f. (i.ordinal, f)) uses ++ rest),
+      map-append (λ (f : ℕ × SourceFault). f.0) (map (fault_with_ordinal at) (faults_before i.ordinal fs)) (map (λ f. (i.ordinal, f)) uses ++ rest),
       numbers-numbered at (faults_before i.ordinal fs),
       map-append (λ (f : ℕ × SourceFault). f.0) (map (λ f. (i.ordinal, f)) uses) rest,
     )

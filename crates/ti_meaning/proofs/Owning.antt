@@ -2,17 +2,17 @@
 use Rattle.std.proofs.Common.{◌≡◌, ℕ, suc, true, false, List, [], ◌∷◌, Some, None, slice_get, refl, sym, ◌∙◌}
 use Rattle.std.proofs.lemmas.Option.{same_Some, none-some}
 use Rattle.ti_source.specs.Reading.{Reading}
-use Rattle.ti_meaning.specs.Owner.{is_among, owner, owned}
+use Rattle.ti_meaning.specs.Owner.{is_among, owner, owner_block}
 
 -- the name belongs to this block, which stands there
 pub record IsOwnedAt (blocks : List Reading) (name : List ℕ) (at : ℕ) (block : Reading) : Type 0 where
   pub owns : owner blocks name ≡ Some at
-  pub is : owned blocks name ≡ Some block
+  pub is : owner_block blocks name ≡ Some block
   pub stands : slice_get blocks at ≡ Some block
 
 -- what owns a name, if something does
 pub data Owning (blocks : List Reading) (name : List ℕ) : Type 0 where
-  nobody : owner blocks name ≡ None → owned blocks name ≡ None → Owning blocks name
+  nobody : owner blocks name ≡ None → owner_block blocks name ≡ None → Owning blocks name
   somebody : (at : ℕ) (block : Reading) → IsOwnedAt blocks name at block → Owning blocks name
 
 owning_more : (b : Reading) (bs : List Reading) (name : List ℕ) → is_among name b.names ≡ false → Owning bs name → Owning (b ∷ bs) name
@@ -28,7 +28,7 @@ owning (b ∷ bs) name =
       | false ↦ λ e. owning_more b bs name e (owning bs name)
     ] refl
 
-pub owner_to_owned : (bs : List Reading) (name : List ℕ) (at : ℕ) (b : Reading) → owner bs name ≡ Some at → slice_get bs at ≡ Some b → owned bs name ≡ Some b
+pub owner_to_owned : (bs : List Reading) (name : List ℕ) (at : ℕ) (b : Reading) → owner bs name ≡ Some at → slice_get bs at ≡ Some b → owner_block bs name ≡ Some b
 owner_to_owned bs name at b o s =
     elim (owning bs name) [
       | nobody none _ ↦ absurd (none-some at (sym none ∙ o))
@@ -38,7 +38,7 @@ owner_to_owned bs name at b o s =
           h.is ∙ (sym f ∙ s)
     ]
 
-pub nobody_to_none : (bs : List Reading) (name : List ℕ) → owner bs name ≡ None → owned bs name ≡ None
+pub nobody_to_none : (bs : List Reading) (name : List ℕ) → owner bs name ≡ None → owner_block bs name ≡ None
 nobody_to_none bs name o =
     elim (owning bs name) [
       | nobody _ d ↦ d

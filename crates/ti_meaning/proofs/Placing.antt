@@ -2,8 +2,8 @@
 use Rattle.std.proofs.Common.{◌≡◌, ℕ, zero, suc, min, ◌<◌, ◌≤◌, ◌⊎◌, inl, inr, Bool, true, false, cond, List, [], ◌∷◌, length, Option, Some, None, option_map, slice_get, refl, sym, ◌∙◌, ap, arith}
 use Rattle.std.specs.List.{insert}
 use Rattle.ti_source.specs.Reading.{Reading}
-use Rattle.ti_meaning.specs.Owner.{is_among, owner, owned}
-use Rattle.ti_meaning.specs.Exchange.{PlacedBlock, with_block, HasPlace, position_behind, shifted}
+use Rattle.ti_meaning.specs.Owner.{is_among, owner, owner_block}
+use Rattle.ti_meaning.specs.Exchange.{PlacedBlock, with_block, HasPlace, position_behind, shifted_position}
 use Rattle.ti_meaning.specs.Dependents.{names_of, IsPutAt}
 
 -- ---- positions
@@ -53,32 +53,32 @@ position_behind-less (suc at) (suc j) (suc k) l = let h = position_behind-less a
 
 -- ---- a list with a block put in, if there is one
 
-pub get-with : (rest : List Reading) (o : Option PlacedBlock) (k : ℕ) → HasPlace rest o → slice_get (with_block rest o) (shifted o k) ≡ slice_get rest k
+pub get-with : (rest : List Reading) (o : Option PlacedBlock) (k : ℕ) → HasPlace rest o → slice_get (with_block rest o) (shifted_position o k) ≡ slice_get rest k
 get-with rest None k l = refl
 get-with rest (Some p) k l = get-insert rest p.at p.block k l
 
 pub get-with_put : (rest : List Reading) (p : PlacedBlock) → HasPlace rest (Some p) → slice_get (with_block rest (Some p)) p.at ≡ Some p.block
 get-with_put rest p l = get-insert_at rest p.at p.block l
 
-pub split-with : (o : Option PlacedBlock) (p : ℕ) → IsPutAt o p ⊎ ((k : ℕ) × (shifted o k ≡ p))
+pub split-with : (o : Option PlacedBlock) (p : ℕ) → IsPutAt o p ⊎ ((k : ℕ) × (shifted_position o k ≡ p))
 split-with None p = inr (p, refl)
 split-with (Some one) p = split-insert one.at p
 
-pub shifted-other : (o : Option PlacedBlock) (k : ℕ) → IsPutAt o (shifted o k) → ⊥
+pub shifted-other : (o : Option PlacedBlock) (k : ℕ) → IsPutAt o (shifted_position o k) → ⊥
 shifted-other None k h = h
 shifted-other (Some one) k h = position_behind-other one.at k (sym h)
 
-pub shifted-same : (o : Option PlacedBlock) (j k : ℕ) → shifted o j ≡ shifted o k → j ≡ k
+pub shifted-same : (o : Option PlacedBlock) (j k : ℕ) → shifted_position o j ≡ shifted_position o k → j ≡ k
 shifted-same None j k e = e
 shifted-same (Some one) j k e = position_behind-same one.at j k e
 
-pub shifted-less : (o : Option PlacedBlock) (j k : ℕ) → j < k → shifted o j < shifted o k
+pub shifted-less : (o : Option PlacedBlock) (j k : ℕ) → j < k → shifted_position o j < shifted_position o k
 shifted-less None j k l = l
 shifted-less (Some one) j k l = position_behind-less one.at j k l
 
 -- ---- whose a name is
 
-owned-insert : (bs : List Reading) (at : ℕ) (b : Reading) (n : List ℕ) → at ≤ length bs → is_among n b.names ≡ false → owned (insert bs at b) n ≡ owned bs n
+owned-insert : (bs : List Reading) (at : ℕ) (b : Reading) (n : List ℕ) → at ≤ length bs → is_among n b.names ≡ false → owner_block (insert bs at b) n ≡ owner_block bs n
 owned-insert bs zero b n l e = rw e refl
 owned-insert [] (suc at) b n l e = absurd (omega arith)
 owned-insert (c ∷ bs) (suc at) b n l e = rw (owned-insert bs at b n (omega arith) e) refl
@@ -97,7 +97,7 @@ owner-insert [] (suc at) b n l e = absurd (omega arith)
 owner-insert (c ∷ bs) (suc at) b n l e = owner_split (is_among n c.names) at (owner (insert bs at b) n) (owner bs n) (owner-insert bs at b n (omega arith) e)
 
 -- a name that the block put in lacks belongs to the block that it belonged to
-pub owned-with : (rest : List Reading) (o : Option PlacedBlock) (n : List ℕ) → HasPlace rest o → is_among n (names_of o) ≡ false → owned (with_block rest o) n ≡ owned rest n
+pub owned-with : (rest : List Reading) (o : Option PlacedBlock) (n : List ℕ) → HasPlace rest o → is_among n (names_of o) ≡ false → owner_block (with_block rest o) n ≡ owner_block rest n
 owned-with rest None n l e = refl
 owned-with rest (Some p) n l e = owned-insert rest p.at p.block n l e
 
@@ -105,7 +105,7 @@ option_map-same : (o : Option ℕ) → o ≡ option_map (λ k. k) o
 option_map-same None = refl
 option_map-same (Some k) = refl
 
-pub owner-with : (rest : List Reading) (o : Option PlacedBlock) (n : List ℕ) → HasPlace rest o → is_among n (names_of o) ≡ false → owner (with_block rest o) n ≡ option_map (shifted o) (owner rest n)
+pub owner-with : (rest : List Reading) (o : Option PlacedBlock) (n : List ℕ) → HasPlace rest o → is_among n (names_of o) ≡ false → owner (with_block rest o) n ≡ option_map (shifted_position o) (owner rest n)
 owner-with rest None n l e = option_map-same (owner rest n)
 owner-with rest (Some p) n l e = owner-insert rest p.at p.block n l e
 

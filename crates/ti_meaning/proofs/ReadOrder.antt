@@ -11,10 +11,10 @@ use Rattle.ti_source.specs.declared.code.Code.{Code}
 use Rattle.ti_source.specs.declared.code.Code.TheVariants as code
 use Rattle.ti_source.specs.declared.numbers.NumberError.{NumberError}
 use Rattle.ti_source.specs.declared.numbers.NumberError.TheVariants.{Bad, TooLarge}
-use Rattle.ti_source.specs.inside.Verdicts.{unescaped}
+use Rattle.ti_source.specs.inside.Verdicts.{unescape_result}
 use Rattle.ti_source.specs.inside.Numbers.{number_read}
 use Rattle.ti_source.specs.Folding.{Placed}
-use Rattle.ti_source.specs.Items.{Claim, claims_flag, claims_number, claims_text, claims_cancel, Statement, piece_of, stripped}
+use Rattle.ti_source.specs.Items.{Claim, claims_flag, claims_number, claims_text, claims_cancel, Statement, piece_of, without_outer_space}
 use Rattle.ti_source.specs.inside.Items.{statement_of}
 use Rattle.ti_source.specs.inside.Header.{header_names}
 use Rattle.ti_source.specs.Reading.{Said, said_import, ReadItem, ReadFault}
@@ -42,9 +42,9 @@ odd_no_use : (c : Capability) (text : List ℕ) (odd : Bool) → uses_name (said
 odd_no_use c text true = refl
 odd_no_use c text false = refl
 
-text_no_use : (c : Capability) (value : List ℕ) → uses_name (said_by (text_verdict c (unescaped value))) ≡ false
+text_no_use : (c : Capability) (value : List ℕ) → uses_name (said_by (text_verdict c (unescape_result value))) ≡ false
 text_no_use c value =
-    elim (unescaped value) as (λ r. uses_name (said_by (text_verdict c r)) ≡ false) [ Ok found ↦ odd_no_use c found.0 found.1 | Err cause ↦ refl ]
+    elim (unescape_result value) as (λ r. uses_name (said_by (text_verdict c r)) ≡ false) [ Ok found ↦ odd_no_use c found.0 found.1 | Err cause ↦ refl ]
 
 fitting_no_use : (c : Capability) (claim : Claim) (k : Kind) → uses_name (said_by (fitting_verdict c claim k)) ≡ false
 fitting_no_use c claims_flag Flag = refl
@@ -63,7 +63,7 @@ named_no_use claim None = refl
 named_no_use claim (Some c) = fitting_no_use c claim c.kind
 
 -- a verdict has no fault or accepts no use
-apart_verdict : (v : Bool) (claim : Claim) (o : Option Capability) → (code_by (cond v (accepted (said_import (stripped (claimed_text claim)))) (named_verdict claim o)) ≡ None) ⊎ (uses_name (said_by (cond v (accepted (said_import (stripped (claimed_text claim)))) (named_verdict claim o))) ≡ false)
+apart_verdict : (v : Bool) (claim : Claim) (o : Option Capability) → (code_by (cond v (accepted (said_import (without_outer_space (claimed_text claim)))) (named_verdict claim o)) ≡ None) ⊎ (uses_name (said_by (cond v (accepted (said_import (without_outer_space (claimed_text claim)))) (named_verdict claim o))) ≡ false)
 apart_verdict true claim o = inl refl
 apart_verdict false claim o = inr (named_no_use claim o)
 

@@ -5,7 +5,7 @@ use Rattle.std.proofs.lemmas.Option.{same_Some, none-some}
 use Rattle.ti_source.specs.declared.code.Code.{Code}
 use Rattle.ti_source.specs.declared.code.Code.TheVariants.{MissingUse, Circular, Unresolved}
 use Rattle.ti_source.specs.Reading.{Reading}
-use Rattle.ti_meaning.specs.Owner.{owner, owned}
+use Rattle.ti_meaning.specs.Owner.{owner, owner_block}
 use Rattle.ti_meaning.specs.Expansion.{Mention, expansion, resolves}
 use Rattle.ti_meaning.specs.Reaching.{leads_to}
 use Rattle.ti_meaning.specs.Compiled.{EntryState, unresolved, oversized, written, image_of, is_too_large, state_with}
@@ -24,14 +24,14 @@ open_between o l does_resolve b e f g = rw (e, f, g) refl
 none_between : (o : Option Reading) (l : Bool) (does_resolve : Reading → Bool) (b : Reading) → o ≡ Some b → l ≡ false → does_resolve b ≡ true → ◌≡◌ {A = Option Code} None (fault_between o l does_resolve)
 none_between o l does_resolve b e f g = rw (e, f, g) refl
 
-pub use_fault_circular : (bs : List Reading) (at : ℕ) (name : List ℕ) (b : Reading) → owned bs name ≡ Some b → leads_to bs name at ≡ true → ◌≡◌ {A = Option Code} (Some Circular) (use_fault bs at name)
-use_fault_circular bs at name b o l = circular_between (owned bs name) (leads_to bs name at) (resolves bs) b o l
+pub use_fault_circular : (bs : List Reading) (at : ℕ) (name : List ℕ) (b : Reading) → owner_block bs name ≡ Some b → leads_to bs name at ≡ true → ◌≡◌ {A = Option Code} (Some Circular) (use_fault bs at name)
+use_fault_circular bs at name b o l = circular_between (owner_block bs name) (leads_to bs name at) (resolves bs) b o l
 
-pub use_fault_open : (bs : List Reading) (at : ℕ) (name : List ℕ) (b : Reading) → owned bs name ≡ Some b → leads_to bs name at ≡ false → expansion bs b ≡ None → ◌≡◌ {A = Option Code} (Some Unresolved) (use_fault bs at name)
-use_fault_open bs at name b o l x = open_between (owned bs name) (leads_to bs name at) (resolves bs) b o l (ap (λ e. is_some e) x)
+pub use_fault_open : (bs : List Reading) (at : ℕ) (name : List ℕ) (b : Reading) → owner_block bs name ≡ Some b → leads_to bs name at ≡ false → expansion bs b ≡ None → ◌≡◌ {A = Option Code} (Some Unresolved) (use_fault bs at name)
+use_fault_open bs at name b o l x = open_between (owner_block bs name) (leads_to bs name at) (resolves bs) b o l (ap (λ e. is_some e) x)
 
-pub use_fault_none : (bs : List Reading) (at : ℕ) (name : List ℕ) (b : Reading) (ms : List Mention) → owned bs name ≡ Some b → leads_to bs name at ≡ false → expansion bs b ≡ Some ms → ◌≡◌ {A = Option Code} None (use_fault bs at name)
-use_fault_none bs at name b ms o l x = none_between (owned bs name) (leads_to bs name at) (resolves bs) b o l (ap (λ e. is_some e) x)
+pub use_fault_none : (bs : List Reading) (at : ℕ) (name : List ℕ) (b : Reading) (ms : List Mention) → owner_block bs name ≡ Some b → leads_to bs name at ≡ false → expansion bs b ≡ Some ms → ◌≡◌ {A = Option Code} None (use_fault bs at name)
+use_fault_none bs at name b ms o l x = none_between (owner_block bs name) (leads_to bs name at) (resolves bs) b o l (ap (λ e. is_some e) x)
 
 -- ---- what a state tells of the expansion
 
@@ -49,7 +49,7 @@ some_expansion b (Some ms) s n e = (ms, refl)
 
 -- ---- the block that owns a name
 
-pub owner_is : (bs : List Reading) (name : List ℕ) (q : ℕ) → owner bs name ≡ Some q → (b : Reading) × (owned bs name ≡ Some b) × (slice_get bs q ≡ Some b)
+pub owner_is : (bs : List Reading) (name : List ℕ) (q : ℕ) → owner bs name ≡ Some q → (b : Reading) × (owner_block bs name ≡ Some b) × (slice_get bs q ≡ Some b)
 owner_is bs name q o =
     elim (owning bs name) [
       | nobody none _ ↦ absurd (none-some q (sym none ∙ o))

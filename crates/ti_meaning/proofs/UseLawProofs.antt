@@ -4,8 +4,8 @@ use Rattle.std.proofs.lemmas.Bool.{cases_Bool, false≢true}
 use Rattle.std.proofs.lemmas.Option.{same_Some, none-some, slice_get_within}
 use Rattle.ti_source.specs.declared.code.Code.TheVariants.{Unresolved}
 use Rattle.ti_source.specs.Reading.{Reading, ReadItem, Said, said_flag, said_number, said_text, said_cancel, said_import}
-use Rattle.ti_meaning.specs.Owner.{owner, owned}
-use Rattle.ti_meaning.specs.Expansion.{Mention, is_broken, joined, mentions_of, expand_items, expand, expansion, resolves}
+use Rattle.ti_meaning.specs.Owner.{owner, owner_block}
+use Rattle.ti_meaning.specs.Expansion.{Mention, is_broken, both_lists, mentions_of, expand_items, expand, expansion, resolves}
 use Rattle.ti_meaning.specs.Reaching.{used_name, Uses, IsWay, LeadsTo, leads_to}
 use Rattle.ti_meaning.specs.Faults.{fault_between, use_fault}
 use Rattle.ti_meaning.specs.ValueTables.{names_at}
@@ -25,20 +25,20 @@ leading_reaches = λ bs name at. (
     | inr w ↦ (w.2.1.0 ∷ w.2.1.1, w.2.0, ((w.0, w.1, w.2.1.2), w.2.1.3), w.2.2)
   ],
 ) where
-  there : (bs : List Reading) (name : List ℕ) (at : ℕ) (way : List (List ℕ)) (to : List ℕ) → IsWay (owned bs) name way to → owner bs to ≡ Some at → (owner bs name ≡ Some at) ⊎ OwnerReaches bs name at
+  there : (bs : List Reading) (name : List ℕ) (at : ℕ) (way : List (List ℕ)) (to : List ℕ) → IsWay (owner_block bs) name way to → owner bs to ≡ Some at → (owner bs name ≡ Some at) ⊎ OwnerReaches bs name at
   there bs name at [] to w o = inl (ap (owner bs) w ∙ o)
   there bs name at (x ∷ way) to w o = inr (w.0.0, w.0.1, (to, (x, way, w.0.2, w.1), o))
 
 -- ---- leading is walking
 
-pub has_owner : (bs : List Reading) (name : List ℕ) (b : Reading) → owned bs name ≡ Some b → (q : ℕ) × (owner bs name ≡ Some q) × (slice_get bs q ≡ Some b)
+pub has_owner : (bs : List Reading) (name : List ℕ) (b : Reading) → owner_block bs name ≡ Some b → (q : ℕ) × (owner bs name ≡ Some q) × (slice_get bs q ≡ Some b)
 has_owner bs name b e =
     elim (owning bs name) [
       | nobody _ d ↦ absurd (none-some b (sym d ∙ e))
       | somebody q c own ↦ (q, own.owns, own.stands ∙ (sym own.is ∙ e))
     ]
 
-walk_of : (bs : List Reading) (at : ℕ) (way : List (List ℕ)) (name to : List ℕ) → IsWay (owned bs) name way to → owner bs to ≡ Some at → (from : ℕ) × (owner bs name ≡ Some from) × Walks (UsesBlock bs) from at
+walk_of : (bs : List Reading) (at : ℕ) (way : List (List ℕ)) (name to : List ℕ) → IsWay (owner_block bs) name way to → owner bs to ≡ Some at → (from : ℕ) × (owner bs name ≡ Some from) × Walks (UsesBlock bs) from at
 walk_of bs at [] name to w o = (at, ap (owner bs) w ∙ o, ([], refl))
 walk_of bs at (x ∷ way) name to w o =
     let next = walk_of bs at way x to w.1 o in
@@ -102,17 +102,17 @@ some_or_none None = inl refl
 some_or_none (Some x) = inr (x, refl)
 
 -- a block of the list that some depth expands has its uses' owners expanded one less deep
-use_expands : (bs : List Reading) (k : ℕ) (b : Reading) (ms : List Mention) (name : List ℕ) → expand (owned bs) (suc k) b ≡ Some ms → Uses b.items name → (ns : List Mention) × (names_at (owned bs) k name ≡ Some ns)
-use_expands bs k b ms name e u = used_is_there (names_at (owned bs) k) b.items name ms u (if_there (is_broken b) (expand_items (names_at (owned bs) k) b.items) ms e)
+use_expands : (bs : List Reading) (k : ℕ) (b : Reading) (ms : List Mention) (name : List ℕ) → expand (owner_block bs) (suc k) b ≡ Some ms → Uses b.items name → (ns : List Mention) × (names_at (owner_block bs) k name ≡ Some ns)
+use_expands bs k b ms name e u = used_is_there (names_at (owner_block bs) k) b.items name ms u (if_there (is_broken b) (expand_items (names_at (owner_block bs) k) b.items) ms e)
 
 -- nobody owns the name: no depth expands the block
-pub never_missing : (bs : List Reading) (b : Reading) (name : List ℕ) → Uses b.items name → owned bs name ≡ None → expansion bs b ≡ None
+pub never_missing : (bs : List Reading) (b : Reading) (name : List ℕ) → Uses b.items name → owner_block bs name ≡ None → expansion bs b ≡ None
 never_missing bs b name u o =
     elim (some_or_none (expansion bs b)) [
       | inl none ↦ none
       | inr some ↦
           let w = use_expands bs (length bs) b some.0 name some.1 u in
-          absurd (none-some w.0 (sym (ap (λ x. option_and_then (expand (owned bs) (length bs)) x) o) ∙ w.1))
+          absurd (none-some w.0 (sym (ap (λ x. option_and_then (expand (owner_block bs) (length bs)) x) o) ∙ w.1))
     ]
 
 -- the use leads back: no depth expands the block
@@ -122,18 +122,18 @@ never_circular bs at b name s u l =
       | inl none ↦ none
       | inr some ↦
           let w = use_expands bs (length bs) b some.0 name some.1 u in
-          absurd (not_circular (owned bs) name l.1 l.0 b l.2 (owner_to_owned bs l.1 at b l.3 s) u (length bs) w)
+          absurd (not_circular (owner_block bs) name l.1 l.0 b l.2 (owner_to_owned bs l.1 at b l.3 s) u (length bs) w)
     ]
 
 -- the owner does not resolve: no depth expands the block
-pub never_unresolved : (bs : List Reading) (b c : Reading) (name : List ℕ) → Uses b.items name → owned bs name ≡ Some c → expansion bs c ≡ None → expansion bs b ≡ None
+pub never_unresolved : (bs : List Reading) (b c : Reading) (name : List ℕ) → Uses b.items name → owner_block bs name ≡ Some c → expansion bs c ≡ None → expansion bs b ≡ None
 never_unresolved bs b c name u o none_c =
     elim (some_or_none (expansion bs b)) [
       | inl none ↦ none
       | inr some ↦
           let w = use_expands bs (length bs) b some.0 name some.1 u in
           let own = has_owner bs name c o in
-          let deep : expand (owned bs) (length bs) c ≡ Some w.0 = sym (ap (λ x. option_and_then (expand (owned bs) (length bs)) x) o) ∙ w.1 in
+          let deep : expand (owner_block bs) (length bs) c ≡ Some w.0 = sym (ap (λ x. option_and_then (expand (owner_block bs) (length bs)) x) o) ∙ w.1 in
           absurd (none-some w.0 (sym none_c ∙ bounded bs (length bs) own.0 c w.0 own.2 deep))
     ]
 
@@ -192,12 +192,12 @@ fault_in bs at (i ∷ is) =
     ]
 
 -- a use without a fault has an owner that resolves
-sound_use : (bs : List Reading) (at : ℕ) (name : List ℕ) → is_some (use_fault bs at name) ≡ false → (ms : List Mention) × (names_at (owned bs) (suc (length bs)) name ≡ Some ms)
+sound_use : (bs : List Reading) (at : ℕ) (name : List ℕ) → is_some (use_fault bs at name) ≡ false → (ms : List Mention) × (names_at (owner_block bs) (suc (length bs)) name ≡ Some ms)
 sound_use bs at name e =
     elim (owning bs name) [
       | nobody _ d ↦ absurd (false≢true (sym e ∙ ap (λ x. is_some (fault_between x (leads_to bs name at) (resolves bs))) d))
       | somebody q c own ↦ elim (some_or_none (expansion bs c)) [
-        | inr some ↦ (some.0, ap (λ x. option_and_then (expand (owned bs) (suc (length bs))) x) own.is ∙ some.1)
+        | inr some ↦ (some.0, ap (λ x. option_and_then (expand (owner_block bs) (suc (length bs))) x) own.is ∙ some.1)
         | inl none ↦
             let f : is_some (fault_between (Some c) (leads_to bs name at) (resolves bs)) ≡ false = sym (ap (λ x. is_some (fault_between x (leads_to bs name at) (resolves bs))) own.is) ∙ e in
             absurd (has_one (leads_to bs name at) (resolves bs) c (none_resolves bs c none) f)
@@ -208,7 +208,7 @@ sound_use bs at name e =
     has_one true does c n e = false≢true (sym e)
     has_one false does c n e = false≢true (sym e ∙ ap (λ v. is_some (cond v None (Some Unresolved))) n)
 
-all_joined : (a b : Option (List Mention)) → (ms : List Mention) → a ≡ Some ms → (ns : List Mention) → b ≡ Some ns → (os : List Mention) × (joined a b ≡ Some os)
+all_joined : (a b : Option (List Mention)) → (ms : List Mention) → a ≡ Some ms → (ns : List Mention) → b ≡ Some ns → (os : List Mention) × (both_lists a b ≡ Some os)
 all_joined a b ms e ns f = (ms ++ ns, rw (e, f) refl)
 
 said_there : (f : List ℕ → Option (List Mention)) (s : Said) → ((n : List ℕ) → used_name s ≡ Some n → (ms : List Mention) × (f n ≡ Some ms)) → (ms : List Mention) × (mentions_of f s ≡ Some ms)
@@ -228,8 +228,8 @@ items_there f (i ∷ is) h =
 -- a sound block none of whose uses has a fault resolves
 sound_resolves : (bs : List Reading) (at : ℕ) (b : Reading) → slice_get bs at ≡ Some b → is_broken b ≡ false → HasNoFault bs at b.items → resolves bs b ≡ true
 sound_resolves bs at b s sound none =
-    let all = items_there (names_at (owned bs) (suc (length bs))) b.items (λ n u. sound_use bs at n (none n u)) in
-    let deep : expand (owned bs) (suc (suc (length bs))) b ≡ Some all.0 = rw (sound, all.1) refl in
+    let all = items_there (names_at (owner_block bs) (suc (length bs))) b.items (λ n u. sound_use bs at n (none n u)) in
+    let deep : expand (owner_block bs) (suc (suc (length bs))) b ≡ Some all.0 = rw (sound, all.1) refl in
     ap (λ x. is_some x) (bounded bs (suc (suc (length bs))) at b all.0 s deep)
 
 pub causes : UnresolvedBlocksHaveACause

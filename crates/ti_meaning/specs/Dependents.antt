@@ -3,7 +3,7 @@
 use Rattle.std.specs.Prelude.{ℕ, ◌≡◌, ◌⊎◌, ◌↔◌, List, [], ◌++◌, length, Option, Some, None, IsTrue, slice_get, Contains, sum_by, if◌then◌else◌}
 use Rattle.ti_source.specs.Reading.{Reading}
 use Rattle.ti_source.specs.Sound.{IsRising}
-use Rattle.ti_meaning.specs.Owner.{is_among, owner, owned, readings}
+use Rattle.ti_meaning.specs.Owner.{is_among, owner, owner_block, readings}
 use Rattle.ti_meaning.specs.Expansion.{resolves}
 use Rattle.ti_meaning.specs.Reaching.{Uses, Reaches}
 use Rattle.ti_meaning.specs.Edits.{Change, after}
@@ -21,7 +21,7 @@ touched_names exchange = names_of exchange.out ++ names_of exchange.put
 
 -- a block reaches one of these names in a list
 abbrev pub ReachesOne : List Reading → List (List ℕ) → Reading → Type 0
-ReachesOne blocks names block = (name : List ℕ) × IsTrue (is_among name names) × Reaches (owned blocks) block.items name
+ReachesOne blocks names block = (name : List ℕ) × IsTrue (is_among name names) × Reaches (owner_block blocks) block.items name
 
 -- the block was put in at that position
 abbrev pub IsPutAt : Option PlacedBlock → ℕ → Type 0

@@ -69,15 +69,15 @@ IsRefusal texts change TooMany = IsInPlace texts change × IsShort change × IsB
 IsRefusal texts change Memory = IsSoundEdit texts change
 
 -- the list with the item at the one position taken out and put in, so that it then stands at the other
-abbrev pub relocated : {X : Type 0} → List X → ℕ → ℕ → List X
-relocated xs from to = option_map_or (λ x. insert (remove xs from) to x) (slice_get xs from) xs
+abbrev pub with_item_moved : {X : Type 0} → List X → ℕ → ℕ → List X
+with_item_moved xs from to = option_map_or (λ x. insert (remove xs from) to x) (slice_get xs from) xs
 
 -- the list with the block put in, exchanged, taken out or moved
 abbrev pub after : List (List ℕ) → Change → List (List ℕ)
 after texts (insertion at text) = insert texts at text
 after texts (replacement at text) = slice_set texts at text
 after texts (removal at) = remove texts at
-after texts (relocation from to) = relocated texts from to
+after texts (relocation from to) = with_item_moved texts from to
 
 -- one edit leads from one list to the next: accepted where nothing is wrong with it, and else the list stays
 abbrev pub Step : List (List ℕ) → Change → Outcome → List (List ℕ) → Type 0

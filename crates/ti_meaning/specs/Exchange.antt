@@ -48,9 +48,9 @@ position_behind (suc place) zero = zero
 position_behind (suc place) (suc at) = suc (position_behind place at)
 
 -- where a block that stays stands once a block was put in, if one is
-abbrev pub shifted : Option PlacedBlock → ℕ → ℕ
-shifted None at = at
-shifted (Some placed) at = position_behind placed.at at
+abbrev pub shifted_position : Option PlacedBlock → ℕ → ℕ
+shifted_position None at = at
+shifted_position (Some placed) at = position_behind placed.at at
 
 -- the block at one position, said to stand at another, if there is one
 abbrev pub block_from : List Reading → ℕ → ℕ → Option PlacedBlock

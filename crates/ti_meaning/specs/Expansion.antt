@@ -6,8 +6,8 @@ use Rattle.ti_caps.specs.Tables.{Capability, same_capability}
 use Rattle.ti_source.specs.Codes.{is_error}
 use Rattle.ti_source.specs.Reading.{Reading, ReadItem, ReadFault, Said, said_flag, said_number, said_text, said_cancel, said_import}
 use Rattle.ti_layout.specs.Values.{Content, content_true, content_number, content_text, content_cancelled, Contents}
-use Rattle.ti_layout.specs.Laws.{uncancelled}
-use Rattle.ti_meaning.specs.Owner.{owned}
+use Rattle.ti_layout.specs.Laws.{without_cancel}
+use Rattle.ti_meaning.specs.Owner.{owner_block}
 
 -- a capability, and the value or the cancel that an item gives it
 pub record Mention : Type 0 where
@@ -15,24 +15,24 @@ pub record Mention : Type 0 where
   pub says : Content
 
 -- what the leftmost mention of the capability says, a cancel too, if there is one
-abbrev pub said : List Mention → Contents
-said [] capability = None
-said (mention ∷ mentions) capability =
-    if same_capability mention.capability capability then Some mention.says else said mentions capability
+abbrev pub leftmost_content : List Mention → Contents
+leftmost_content [] capability = None
+leftmost_content (mention ∷ mentions) capability =
+    if same_capability mention.capability capability then Some mention.says else leftmost_content mentions capability
 
 -- the value of each capability: what its leftmost mention gives it, absent where that is a cancel or there is none
 abbrev pub values : List Mention → Contents
-values mentions capability = uncancelled (said mentions capability)
+values mentions capability = without_cancel (leftmost_content mentions capability)
 
 -- whether reading gave the block a fault that leaves it without an entry: one of its header, its numbers or its strings
 abbrev pub is_broken : Reading → Bool
 is_broken block = list_any (λ (fault : ReadFault). is_error fault.code) block.faults
 
 -- two lists after one another, where both are there
-abbrev pub joined : {X : Type 0} → Option (List X) → Option (List X) → Option (List X)
-joined None _ = None
-joined (Some xs) None = None
-joined (Some xs) (Some ys) = Some (xs ++ ys)
+abbrev pub both_lists : {X : Type 0} → Option (List X) → Option (List X) → Option (List X)
+both_lists None _ = None
+both_lists (Some xs) None = None
+both_lists (Some xs) (Some ys) = Some (xs ++ ys)
 
 -- the mentions that one item stands for, where `of_name` gives those of a used name
 abbrev pub mentions_of : (List ℕ → Option (List Mention)) → Said → Option (List Mention)
@@ -45,7 +45,7 @@ mentions_of of_name (said_import name) = of_name name
 -- those of all items, in order; none where one has none
 abbrev pub expand_items : (List ℕ → Option (List Mention)) → List ReadItem → Option (List Mention)
 expand_items of_name [] = Some []
-expand_items of_name (item ∷ items) = joined (mentions_of of_name item.said) (expand_items of_name items)
+expand_items of_name (item ∷ items) = both_lists (mentions_of of_name item.said) (expand_items of_name items)
 
 -- a block's mentions with uses expanded at most so deep, where `env` gives the block that a name belongs to; none where
 -- the block is broken, a used name is nobody's, or the depth does not suffice
@@ -61,7 +61,7 @@ Resolves env block = (depth : ℕ) × IsSome (expand env depth block)
 -- what a block of the list says with all its uses expanded, if it resolves: no way through owners that comes to no block
 -- twice is longer than the list, so one depth serves
 abbrev pub expansion : List Reading → Reading → Option (List Mention)
-expansion blocks block = expand (owned blocks) (suc (length blocks)) block
+expansion blocks block = expand (owner_block blocks) (suc (length blocks)) block
 
 -- whether it resolves
 abbrev pub resolves : List Reading → Reading → Bool

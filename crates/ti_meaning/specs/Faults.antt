@@ -8,7 +8,7 @@ use Rattle.ti_source.specs.declared.code.Code.{Code}
 use Rattle.ti_source.specs.declared.code.Code.TheVariants.{MissingUse, Circular, Unresolved, TooLarge, DuplicateName}
 use Rattle.ti_source.specs.Codes.{is_of_header}
 use Rattle.ti_source.specs.Reading.{Reading, ReadItem, ReadFault}
-use Rattle.ti_meaning.specs.Owner.{owner, owned, is_among}
+use Rattle.ti_meaning.specs.Owner.{owner, owner_block, is_among}
 use Rattle.ti_meaning.specs.Expansion.{resolves}
 use Rattle.ti_meaning.specs.Reaching.{used_name, Uses, leads_to}
 use Rattle.ti_meaning.specs.Compiled.{EntryState, unresolved, oversized, written, state_of}
@@ -33,7 +33,7 @@ fault_between (Some block) false does_resolve = if does_resolve block then None 
 
 -- what is wrong with the use of a name by the block at that position, if something is
 abbrev pub use_fault : List Reading → ℕ → List ℕ → Option Code
-use_fault blocks at name = fault_between (owned blocks name) (leads_to blocks name at) (resolves blocks)
+use_fault blocks at name = fault_between (owner_block blocks name) (leads_to blocks name at) (resolves blocks)
 
 -- a fault that reading the block gave
 abbrev pub local_fault : ℕ → ReadFault → SourceFault

@@ -3,12 +3,12 @@ use Rattle.std.specs.Prelude.{ℕ, ◌≡◌, ◌↔◌, List, filter, map, Some
 use Rattle.ti_source.specs.declared.code.Code.{Code}
 use Rattle.ti_source.specs.declared.code.Code.TheVariants.{DuplicateName}
 use Rattle.ti_source.specs.Reading.{Reading}
-use Rattle.ti_meaning.specs.Owner.{owner, owned}
+use Rattle.ti_meaning.specs.Owner.{owner, owner_block}
 use Rattle.ti_meaning.specs.Expansion.{expand, expansion}
 use Rattle.ti_meaning.specs.Reaching.{Uses}
 use Rattle.ti_meaning.specs.Compiled.{entry, state_of}
 use Rattle.ti_meaning.specs.Faults.{SourceFault, block_faults}
-use Rattle.ti_meaning.specs.Exchange.{Exchange, IsExchange, old_list, new_list, shifted}
+use Rattle.ti_meaning.specs.Exchange.{Exchange, IsExchange, old_list, new_list, shifted_position}
 use Rattle.ti_meaning.specs.Dependents.{touched_names, ReachesOne}
 
 -- whether the code is that of a name which an earlier block owns
@@ -31,13 +31,13 @@ lasting_faults blocks at block = filter is_no_duplicate (block_faults blocks at 
 -- what stays of a block that stays, at this position of the list without the blocks taken out and put in: its expansion at
 -- every depth, its entry, its faults but the duplicate names, and the owner of each name that it uses, at its new position
 pub record IsKeptBlock (exchange : Exchange) (at : ℕ) (block : Reading) : Type 0 where
-  pub at_depth : (depth : ℕ) → expand (owned (new_list exchange)) depth block ≡ expand (owned (old_list exchange)) depth block
+  pub at_depth : (depth : ℕ) → expand (owner_block (new_list exchange)) depth block ≡ expand (owner_block (old_list exchange)) depth block
   pub mentions : expansion (new_list exchange) block ≡ expansion (old_list exchange) block
   pub entry : entry (new_list exchange) block ≡ entry (old_list exchange) block
   pub state : state_of (new_list exchange) block ≡ state_of (old_list exchange) block
-  pub faults : lasting_faults (new_list exchange) (shifted exchange.put at) block ≡ map (moved_to (shifted exchange.put at)) (lasting_faults (old_list exchange) (shifted exchange.out at) block)
-  pub old_owners : (name : List ℕ) → Uses block.items name → owner (old_list exchange) name ≡ option_map (shifted exchange.out) (owner exchange.rest name)
-  pub new_owners : (name : List ℕ) → Uses block.items name → owner (new_list exchange) name ≡ option_map (shifted exchange.put) (owner exchange.rest name)
+  pub faults : lasting_faults (new_list exchange) (shifted_position exchange.put at) block ≡ map (moved_to (shifted_position exchange.put at)) (lasting_faults (old_list exchange) (shifted_position exchange.out at) block)
+  pub old_owners : (name : List ℕ) → Uses block.items name → owner (old_list exchange) name ≡ option_map (shifted_position exchange.out) (owner exchange.rest name)
+  pub new_owners : (name : List ℕ) → Uses block.items name → owner (new_list exchange) name ≡ option_map (shifted_position exchange.put) (owner exchange.rest name)
 
 -- a block other than the one taken out or put in that reaches no touched name keeps all that
 abbrev pub UntouchedBlocksAreKept : Type 0

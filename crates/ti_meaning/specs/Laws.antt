@@ -3,7 +3,7 @@ use Rattle.std.specs.Prelude.{[], ◌∷◌, ◌++◌, map, ℕ, ◌≡◌, ◌�
 use Rattle.ti_source.specs.declared.code.Code.{Code}
 use Rattle.ti_source.specs.declared.code.Code.TheVariants.{MissingUse, Circular, Unresolved}
 use Rattle.ti_source.specs.Reading.{Reading, ReadItem, ReadFault}
-use Rattle.ti_meaning.specs.Owner.{is_among, owner, owned}
+use Rattle.ti_meaning.specs.Owner.{is_among, owner, owner_block}
 use Rattle.ti_meaning.specs.Expansion.{Mention, expand, Resolves, expansion, resolves}
 use Rattle.ti_meaning.specs.Reaching.{used_name, LeadsTo, leads_to}
 use Rattle.ti_meaning.specs.Faults.{SourceFault, local_fault, use_fault, fault_of_item, faults_before, faults_from, item_faults}
@@ -28,8 +28,8 @@ ExpansionsStay =
 
 -- a block of the list has the expansion that some depth gives it, and resolves exactly where some depth gives it one
 pub record ExpansionsAreFound : Type 0 where
-  pub found : (blocks : List Reading) (at depth : ℕ) (block : Reading) (mentions : List Mention) → slice_get blocks at ≡ Some block → expand (owned blocks) depth block ≡ Some mentions → expansion blocks block ≡ Some mentions
-  pub resolves : (blocks : List Reading) (at : ℕ) (block : Reading) → slice_get blocks at ≡ Some block → IsTrue (resolves blocks block) ↔ Resolves (owned blocks) block
+  pub found : (blocks : List Reading) (at depth : ℕ) (block : Reading) (mentions : List Mention) → slice_get blocks at ≡ Some block → expand (owner_block blocks) depth block ≡ Some mentions → expansion blocks block ≡ Some mentions
+  pub resolves : (blocks : List Reading) (at : ℕ) (block : Reading) → slice_get blocks at ≡ Some block → IsTrue (resolves blocks block) ↔ Resolves (owner_block blocks) block
 
 -- the search for a way finds one exactly where there is one
 abbrev pub WaysAreFound : Type 0
@@ -40,22 +40,22 @@ WaysAreFound = (blocks : List Reading) (from : List ℕ) (at : ℕ) → IsTrue (
 pub data IsUseFault (blocks : List Reading) (at : ℕ) (name : List ℕ) : Option Code → Type 0 where
   nobody_owns : owner blocks name ≡ None → IsUseFault blocks at name (Some MissingUse)
   leads_back : LeadsTo blocks name at → IsUseFault blocks at name (Some Circular)
-  owner_unresolved : (block : Reading) → owned blocks name ≡ Some block → (LeadsTo blocks name at → ⊥) → (Resolves (owned blocks) block → ⊥) → IsUseFault blocks at name (Some Unresolved)
-  owner_resolved : (block : Reading) → owned blocks name ≡ Some block → (LeadsTo blocks name at → ⊥) → Resolves (owned blocks) block → IsUseFault blocks at name None
+  owner_unresolved : (block : Reading) → owner_block blocks name ≡ Some block → (LeadsTo blocks name at → ⊥) → (Resolves (owner_block blocks) block → ⊥) → IsUseFault blocks at name (Some Unresolved)
+  owner_resolved : (block : Reading) → owner_block blocks name ≡ Some block → (LeadsTo blocks name at → ⊥) → Resolves (owner_block blocks) block → IsUseFault blocks at name None
 
 -- each use has the fault that is computed
 abbrev pub UseFaultsAreTold : Type 0
 UseFaultsAreTold = (blocks : List Reading) (at : ℕ) (name : List ℕ) → IsUseFault blocks at name (use_fault blocks at name)
 
 -- a fault of an item with the ordinal of the item
-abbrev pub numbered : ℕ → ReadFault → ℕ × SourceFault
-numbered at fault = (fault.ordinal, local_fault at fault)
+abbrev pub fault_with_ordinal : ℕ → ReadFault → ℕ × SourceFault
+fault_with_ordinal at fault = (fault.ordinal, local_fault at fault)
 
 -- the faults of the items, each with the ordinal of its item
 abbrev pub numbered_faults : List Reading → ℕ → List ReadFault → List ReadItem → List (ℕ × SourceFault)
-numbered_faults blocks at faults [] = map (numbered at) faults
+numbered_faults blocks at faults [] = map (fault_with_ordinal at) faults
 numbered_faults blocks at faults (item ∷ items) =
-    map (numbered at) (faults_before item.ordinal faults)
+    map (fault_with_ordinal at) (faults_before item.ordinal faults)
     ++ (map (λ fault. (item.ordinal, fault)) (fault_of_item blocks at item.line (used_name item.said)) ++ numbered_faults blocks at (faults_from item.ordinal faults) items)
 
 -- numbers from a least one on, none below the one before it

@@ -20,6 +20,6 @@ owner [] name = None
 owner (block ∷ blocks) name = if is_among name block.names then Some 0 else option_map (λ at. suc at) (owner blocks name)
 
 -- the block at that position
-abbrev pub owned : List Reading → List ℕ → Option Reading
-owned [] name = None
-owned (block ∷ blocks) name = if is_among name block.names then Some block else owned blocks name
+abbrev pub owner_block : List Reading → List ℕ → Option Reading
+owner_block [] name = None
+owner_block (block ∷ blocks) name = if is_among name block.names then Some block else owner_block blocks name

@@ -3,7 +3,7 @@
 use Rattle.std.specs.Prelude.{ℕ, zero, suc, ◌≡◌, ◌⊎◌, List, [], ◌∷◌, length, Option, Some, None, Bool, false, ◌||◌, nat_eq}
 use Rattle.std.specs.Option.{option_map_or}
 use Rattle.ti_source.specs.Reading.{Reading, ReadItem, Said, said_import}
-use Rattle.ti_meaning.specs.Owner.{owner, owned}
+use Rattle.ti_meaning.specs.Owner.{owner, owner_block}
 
 -- the name that an item uses
 abbrev pub used_name : Said → Option (List ℕ)
@@ -26,7 +26,7 @@ Reaches env items to = (from : List ℕ) × (way : List (List ℕ)) × Uses item
 
 -- the owner of the name `from` is the block at `at`, or reaches a name that it owns
 abbrev pub LeadsTo : List Reading → List ℕ → ℕ → Type 0
-LeadsTo blocks from at = (way : List (List ℕ)) × (to : List ℕ) × IsWay (owned blocks) from way to × (owner blocks to ≡ Some at)
+LeadsTo blocks from at = (way : List (List ℕ)) × (to : List ℕ) × IsWay (owner_block blocks) from way to × (owner blocks to ≡ Some at)
 
 -- whether the name that an item uses, if it uses one, passes the test
 abbrev pub use_passes : (List ℕ → Bool) → Option (List ℕ) → Bool
@@ -51,7 +51,7 @@ is_owner blocks name at = option_map_or (λ place. nat_eq place at) (owner block
 abbrev pub leads : List Reading → ℕ → List ℕ → ℕ → Bool
 leads blocks zero from at = false
 leads blocks (suc steps) from at =
-    is_owner blocks from at || block_passes (λ block. any_use (λ next. leads blocks steps next at) block.items) (owned blocks from)
+    is_owner blocks from at || block_passes (λ block. any_use (λ next. leads blocks steps next at) block.items) (owner_block blocks from)
 
 -- whether any way does: a way that comes to no block twice is no longer than the list
 abbrev pub leads_to : List Reading → List ℕ → ℕ → Bool

@@ -37,9 +37,9 @@ abbrev pub line_number : List (List ℕ) → ℕ → SourceFault → ℕ
 line_number texts first fault = first + lines_before texts fault.block + fault.line - 1
 
 -- the report's line of a fault
-abbrev pub reported : List (List ℕ) → ℕ → SourceFault → List ℕ
-reported texts first fault = fault_line (line_number texts first fault) fault.code fault.detail
+abbrev pub report_line : List (List ℕ) → ℕ → SourceFault → List ℕ
+report_line texts first fault = fault_line (line_number texts first fault) fault.code fault.detail
 
 -- the report of a source, given by the texts of its blocks
 abbrev pub report : List (List ℕ) → ℕ → List ℕ
-report texts first = flat_map (reported texts first) (faults (readings texts))
+report texts first = flat_map (report_line texts first) (faults (readings texts))

@@ -1,7 +1,7 @@
 -- Laws on what blocks reach, and on the faults of their uses.
 use Rattle.std.specs.Prelude.{ℕ, ◌≡◌, ◌<◌, ◌⊎◌, ◌↔◌, List, [], ◌∷◌, length, Option, Some, IsSome, IsFalse, IsTrue, slice_get}
 use Rattle.ti_source.specs.Reading.{Reading}
-use Rattle.ti_meaning.specs.Owner.{owner, owned}
+use Rattle.ti_meaning.specs.Owner.{owner, owner_block}
 use Rattle.ti_meaning.specs.Expansion.{is_broken, resolves}
 use Rattle.ti_meaning.specs.Reaching.{Uses, Reaches, LeadsTo}
 use Rattle.ti_meaning.specs.Faults.{use_fault}
@@ -11,8 +11,8 @@ use Rattle.ti_meaning.specs.Faults.{use_fault}
 -- the owner of the name reaches a name that the block at `at` owns
 abbrev pub OwnerReaches : List Reading → List ℕ → ℕ → Type 0
 OwnerReaches blocks name at =
-    (block : Reading) × (owned blocks name ≡ Some block)
-    × ((to : List ℕ) × Reaches (owned blocks) block.items to × (owner blocks to ≡ Some at))
+    (block : Reading) × (owner_block blocks name ≡ Some block)
+    × ((to : List ℕ) × Reaches (owner_block blocks) block.items to × (owner blocks to ≡ Some at))
 
 -- a name leads to a block exactly where its owner is that block, or reaches a name that it owns
 abbrev pub LeadingIsReaching : Type 0

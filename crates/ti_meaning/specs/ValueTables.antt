@@ -4,8 +4,8 @@ use Rattle.std.specs.Option.{option_or}
 use Rattle.ti_caps.specs.Tables.{Capability, IsCapability}
 use Rattle.ti_source.specs.Reading.{Reading, ReadItem, Said}
 use Rattle.ti_layout.specs.Values.{Contents}
-use Rattle.ti_meaning.specs.Owner.{owned}
-use Rattle.ti_meaning.specs.Expansion.{Mention, said, mentions_of, expand_items, expand, expansion}
+use Rattle.ti_meaning.specs.Owner.{owner_block}
+use Rattle.ti_meaning.specs.Expansion.{Mention, leftmost_content, mentions_of, expand_items, expand, expansion}
 
 -- the mentions of the block that a name belongs to, expanded so deep
 abbrev pub names_at : (List ℕ → Option Reading) → ℕ → List ℕ → Option (List Mention)
@@ -13,38 +13,38 @@ names_at env depth name = option_and_then (expand env depth) (env name)
 
 -- a table has what the mentions say of each capability
 abbrev pub Tells : Contents → List Mention → Type 0
-Tells table mentions = (c : Capability) → IsCapability c → table c ≡ said mentions c
+Tells table mentions = (c : Capability) → IsCapability c → table c ≡ leftmost_content mentions c
 
 -- a table behind which the mentions were laid
 abbrev pub LaysBehind : Contents → List Mention → Contents → Type 0
-LaysBehind old mentions new = (c : Capability) → IsCapability c → new c ≡ option_or (old c) (said mentions c)
+LaysBehind old mentions new = (c : Capability) → IsCapability c → new c ≡ option_or (old c) (leftmost_content mentions c)
 
 -- the table of a block of the list: some depth expands the block, and the table tells what the mentions say
 pub record IsTableOf (blocks : List Reading) (block : Reading) (table : Contents) : Type 0 where
   pub depth : ℕ
   pub mentions : List Mention
-  pub expands : expand (owned blocks) depth block ≡ Some mentions
+  pub expands : expand (owner_block blocks) depth block ≡ Some mentions
   pub tells : Tells table mentions
 
 -- the table that the first of these items make
 pub record IsTableOfItems (blocks : List Reading) (items : List ReadItem) (table : Contents) : Type 0 where
   pub depth : ℕ
   pub mentions : List Mention
-  pub expands : expand_items (names_at (owned blocks) depth) items ≡ Some mentions
+  pub expands : expand_items (names_at (owner_block blocks) depth) items ≡ Some mentions
   pub tells : Tells table mentions
 
 -- an item was laid behind a table
 pub record IsLaid (blocks : List Reading) (item : Said) (old new : Contents) : Type 0 where
   pub depth : ℕ
   pub mentions : List Mention
-  pub expands : mentions_of (names_at (owned blocks) depth) item ≡ Some mentions
+  pub expands : mentions_of (names_at (owner_block blocks) depth) item ≡ Some mentions
   pub lays : LaysBehind old mentions new
 
 -- what the owner of a name says was laid behind a table
 pub record LaysName (blocks : List Reading) (name : List ℕ) (old new : Contents) : Type 0 where
   pub depth : ℕ
   pub mentions : List Mention
-  pub expands : names_at (owned blocks) depth name ≡ Some mentions
+  pub expands : names_at (owner_block blocks) depth name ≡ Some mentions
   pub lays : LaysBehind old mentions new
 
 -- a block has a table exactly where it resolves

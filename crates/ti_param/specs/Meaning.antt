@@ -14,7 +14,7 @@ use Rattle.ti_printing.specs.declared.printf.Directive.{Directive}
 use Rattle.ti_param.specs.declared.values.Value.{Value}
 use Rattle.ti_param.specs.declared.values.Value.TheVariants.{Number, Text}
 use Rattle.ti_param.specs.Formats.{Tree, nothing, byte, code, group, choice}
-use Rattle.ti_printing.specs.Printf.{printed}
+use Rattle.ti_printing.specs.Printf.{form_bytes}
 use Rattle.ti_text.specs.Ascii as ascii
 
 -- ---- values
@@ -167,7 +167,7 @@ with_increment s = record s { parameters = first_two_plus_one s.parameters }
 
 -- the state with the top of the stack popped and printed by a printf form
 abbrev pub with_print : Directive → State → State
-with_print form s = with_output (printed form (top_number s) (text_of (top s))) (without_top s)
+with_print form s = with_output (form_bytes form (top_number s) (text_of (top s))) (without_top s)
 
 -- what the code at the place does
 abbrev pub code_outcome : ℕ → Code → State → Outcome

@@ -7,7 +7,7 @@ use Rattle.std.proofs.lemmas.Option.{same_Some, slice_get_within}
 use Rattle.ti_source.specs.declared.code.Code.TheVariants.{Unresolved}
 use Rattle.ti_source.specs.Reading.{Reading, ReadItem, ReadFault}
 use Rattle.ti_meaning.specs.Expansion.{resolves}
-use Rattle.ti_meaning.specs.Owner.{owned}
+use Rattle.ti_meaning.specs.Owner.{owner_block}
 use Rattle.ti_meaning.specs.Reaching.{used_name, Uses, leads_to}
 use Rattle.ti_meaning.specs.Faults.{SourceFault, local_fault, fault_between, use_fault, fault_of_use, fault_of_item, faults_before, faults_from, item_faults}
 use Rattle.ti_meaning.specs.KeptBlocks.{is_no_duplicate}
@@ -30,7 +30,7 @@ between_lasts at line name (Some b) false does =
 -- no fault of a use is of a name that an earlier block owns
 pub use_lasts : (bs : List Reading) (at line : ℕ) (o : Option (List ℕ)) → lasting (fault_of_item bs at line o) ≡ fault_of_item bs at line o
 use_lasts bs at line None = refl
-use_lasts bs at line (Some name) = between_lasts at line name (owned bs name) (leads_to bs name at) (resolves bs)
+use_lasts bs at line (Some name) = between_lasts at line name (owner_block bs name) (leads_to bs name at) (resolves bs)
 
 -- the faults before an item and that of the item were added
 pub one_more_item : (bs : List Reading) (at : ℕ) (item : ReadItem) (items : List ReadItem) (faults rest : List ReadFault) (old early new all : List SourceFault)

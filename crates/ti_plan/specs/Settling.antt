@@ -4,7 +4,7 @@ use Rattle.ti_source.specs.Reading.{Reading, ReadItem, Said}
 use Rattle.ti_layout.specs.Values.{contents, Contents}
 use Rattle.ti_source.specs.Sound.{IsRising}
 use Rattle.ti_meaning.specs.Dependents.{work}
-use Rattle.ti_meaning.specs.Owner.{owned}
+use Rattle.ti_meaning.specs.Owner.{owner_block}
 use Rattle.ti_meaning.specs.Expansion.{Mention, expansion}
 use Rattle.ti_meaning.specs.Reaching.{used_name, Uses, leads_to}
 use Rattle.ti_meaning.specs.Faults.{use_fault}
@@ -113,11 +113,11 @@ IsEdgeTo slots ids name edge =
 -- the name has an owner that does not lead to the block at that position, and the state is that of the owner
 pub record IsOwnerState (blocks : List Reading) (at : ℕ) (name : List ℕ) (state : State) : Type 0 where
   pub block : Reading
-  pub is : owned blocks name ≡ Some block
+  pub is : owner_block blocks name ≡ Some block
   pub off : leads_to blocks name at ≡ false
   pub table : HasTable contents blocks block (table_of state)
 
 -- the table is that of the owner of the name
 abbrev pub IsUsedTable : List Reading → List ℕ → Contents → Type 0
 IsUsedTable blocks name table =
-    (block : Reading) × (owned blocks name ≡ Some block) × ((mentions : List Mention) × (expansion blocks block ≡ Some mentions) × Tells table mentions)
+    (block : Reading) × (owner_block blocks name ≡ Some block) × ((mentions : List Mention) × (expansion blocks block ≡ Some mentions) × Tells table mentions)

@@ -5,7 +5,7 @@ ghost use Rattle.std.specs.Option.{option_or};
 ghost use Rattle.ti_caps.specs.Tables.{Capability, IsCapability, same_capability};
 ghost use Rattle.ti_source.specs.Reading.{item_of, reading_of, said_of};
 ghost use Rattle.ti_layout.specs.Image.{image, limit_of};
-ghost use Rattle.ti_layout.specs.Laws.{uncancelled};
+ghost use Rattle.ti_layout.specs.Laws.{without_cancel};
 ghost use Rattle.ti_layout.specs.Values.{contents, content_of, Agrees};
 ghost use Rattle.ti_compiled.specs.Held.{contents_in};
 ghost use Rattle.ti_meaning.specs.Expansion.{Mention, is_broken};
@@ -113,7 +113,7 @@ fn make_image(alloc: Global, slot: &Slot, table: &Table) -> Result<Image, WriteE
     requires whole { is_broken (reading_of slot.now.block) ≡ false }
     requires usable { IsUsable (reading_of slot.now.block) }
     ensures image { IfOk result (λ i. i ≡ image slot.now.block.field.items (contents table.now)) }
-    ensures contents { IfOk result (λ i. (c : Capability) → IsCapability c → contents_in i c ≡ uncancelled (contents table.now c)) }
+    ensures contents { IfOk result (λ i. (c : Capability) → IsCapability c → contents_in i c ≡ without_cancel (contents table.now c)) }
     ensures too_large { IsErrOf result WriteError.TooLarge ↔ (limit_of (contents table.now) < length (image slot.now.block.field.items (contents table.now))) }
     ensures names_fit { IsErrOf result WriteError.NamesTooLong → ⊥ }
 {

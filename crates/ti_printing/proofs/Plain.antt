@@ -3,7 +3,7 @@ use Rattle.std.proofs.Common.{◌≡◌, ◌≢◌, ℕ, suc, ◌<◌, ◌≤◌
 use Rattle.std.proofs.lemmas.Bool.{eq-eqb, ne_eqb}
 use Rattle.memchr.specs.Find.{IsFirstByte, Nowhere, Passes, is_byte}
 use Rattle.ti_printing.specs.declared.padding.Line.{Line}
-use Rattle.ti_printing.specs.Padding.{padded, padded_parts, padding_of, padding_of_parts}
+use Rattle.ti_printing.specs.Padding.{with_pad_bytes, padded_parts, padding_of, padding_of_parts}
 use Rattle.ti_printing.specs.inside.Padding.{padding_at, parts_after, parts_of}
 
 -- no byte is a `$`
@@ -30,8 +30,8 @@ none lines line (byte ∷ text) plain =
 plain_of : (text : List ℕ) → Nowhere (Passes (is_byte 36) text) 0 (length text) → IsPlain text
 plain_of text nowhere k low is = nowhere k (omega arith) low (eq-eqb _ _ is)
 
-pub padded-plain : (text : List ℕ) (lines : ℕ) (line : Line) → Nowhere (Passes (is_byte 36) text) 0 (length text) → padded text lines line ≡ text
-unfolding padded parts_of
+pub padded-plain : (text : List ℕ) (lines : ℕ) (line : Line) → Nowhere (Passes (is_byte 36) text) 0 (length text) → with_pad_bytes text lines line ≡ text
+unfolding with_pad_bytes parts_of
 padded-plain text lines line nowhere = written lines line text (plain_of text nowhere)
 
 pub padding_of-plain : (text : List ℕ) (lines : ℕ) (line : Line) → Nowhere (Passes (is_byte 36) text) 0 (length text) → padding_of text lines line ≡ 0

@@ -89,8 +89,8 @@ padding_of_parts lines line (Literal byte ∷ parts) = padding_of_parts lines li
 padding_of_parts lines line (Delay padding ∷ parts) = pad_count lines line padding + padding_of_parts lines line parts
 
 -- the text with each padding as its pad bytes
-unfoldable pub padded : List ℕ → ℕ → Line → List ℕ
-padded text lines line = padded_parts lines line (parts_of text)
+unfoldable pub with_pad_bytes : List ℕ → ℕ → Line → List ℕ
+with_pad_bytes text lines line = padded_parts lines line (parts_of text)
 
 -- how many pad bytes that are in all
 unfoldable pub padding_of : List ℕ → ℕ → Line → ℕ

@@ -95,15 +95,15 @@ abbrev pub parts_text : ℕ → List ℕ → ℕ → List ℕ → ℕ → List �
 parts_text before front zeros shown after = replicate before ascii.space ++ (front ++ (replicate zeros ascii.digit_0 ++ (shown ++ replicate after ascii.space)))
 
 -- at most as many bytes of the text as the precision says
-abbrev pub cut : Option ℕ → List ℕ → List ℕ
-cut None text = text
-cut (Some most) text = take most text
+abbrev pub cut_to_precision : Option ℕ → List ℕ → List ℕ
+cut_to_precision None text = text
+cut_to_precision (Some most) text = take most text
 
 -- what `s` prints
 abbrev pub printed_text : Directive → List ℕ → List ℕ
 printed_text directive text =
-    if directive.flags.left then blanks_after directive.width (cut directive.precision text)
-    else blanks_before directive.width (cut directive.precision text)
+    if directive.flags.left then blanks_after directive.width (cut_to_precision directive.precision text)
+    else blanks_before directive.width (cut_to_precision directive.precision text)
 
 -- what a form prints of what it popped, which is `number` as a number and `text` as a text
 abbrev pub printed_by : Conversion → Directive → ℤ → List ℕ → List ℕ
@@ -111,5 +111,5 @@ printed_by Text directive number text = printed_text directive text
 printed_by conversion directive number text = printed_number directive number
 
 -- what a form prints of what it popped, by its conversion
-unfoldable pub printed : Directive → ℤ → List ℕ → List ℕ
-printed directive number text = printed_by directive.conversion directive number text
+unfoldable pub form_bytes : Directive → ℤ → List ℕ → List ℕ
+form_bytes directive number text = printed_by directive.conversion directive number text

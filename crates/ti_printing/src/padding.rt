@@ -1,7 +1,7 @@
 //! Padding: a capability's text as bytes for the terminal, with pad bytes at the line's speed.
 ghost use Rattle.std.specs.Prelude.{◌≡◌, ◌+◌, ◌<◌, ◌≤◌, ◌++◌, ◌↔◌, length, IfOk, IfSome, SomeIff, MatchOption, vec_len, vec_capacity};
 ghost use Rattle.std.specs.Iterator.{YieldsFirst, item_count};
-ghost use Rattle.ti_printing.specs.Padding.{OneCut, padded, padding_of, pad_count};
+ghost use Rattle.ti_printing.specs.Padding.{OneCut, with_pad_bytes, padding_of, pad_count};
 ghost use Rattle.ti_printing.specs.inside.Padding.{parts_of, padding_at, after_byte, digits_len, milliseconds_at, tenths_at, mark_at, marks_at};
 
 #[cfg(test)]
@@ -57,7 +57,7 @@ impl From<AllocError> for PadError {
 /// `TooMuch` where the text asks for more than 65,536 pad bytes, which is found before any room is made;
 /// `Memory` where the room was refused.
 pub fn pad(alloc: Global, text: &[u8], lines: u32, line: &Line) -> Result<Vec<u8>, PadError>
-    ensures ok { IfOk result (λ out. out.items ≡ padded text.now lines line.now) }
+    ensures ok { IfOk result (λ out. out.items ≡ with_pad_bytes text.now lines line.now) }
     ensures too_much { (result ≡ Err PadError.TooMuch) ↔ (65536 < padding_of text.now lines line.now) }
 {
     match memchr(b'$', text) {
@@ -72,7 +72,7 @@ pub fn pad(alloc: Global, text: &[u8], lines: u32, line: &Line) -> Result<Vec<u8
 ///
 /// Those of [`pad`].
 pub fn pad_owned(alloc: Global, text: Vec<u8>, lines: u32, line: &Line) -> Result<Vec<u8>, PadError>
-    ensures ok { IfOk result (λ out. out.items ≡ padded text.items lines line.now) }
+    ensures ok { IfOk result (λ out. out.items ≡ with_pad_bytes text.items lines line.now) }
     ensures too_much { (result ≡ Err PadError.TooMuch) ↔ (65536 < padding_of text.items lines line.now) }
 {
     match memchr(b'$', text.as_slice()) {
@@ -83,7 +83,7 @@ pub fn pad_owned(alloc: Global, text: Vec<u8>, lines: u32, line: &Line) -> Resul
 
 // The same, part by part.
 fn pad_parts(alloc: Global, text: &[u8], lines: u32, line: &Line) -> Result<Vec<u8>, PadError>
-    ensures ok { IfOk result (λ out. out.items ≡ padded text.now lines line.now) }
+    ensures ok { IfOk result (λ out. out.items ≡ with_pad_bytes text.now lines line.now) }
     ensures too_much { (result ≡ Err PadError.TooMuch) ↔ (65536 < padding_of text.now lines line.now) }
 {
     let Some(pads) = pads_in(text, lines, line) else {
@@ -164,10 +164,10 @@ fn pads_in(text: &[u8], lines: u32, line: &Line) -> Option<usize>
 }
 
 /// Appends the padded text, for which the caller has made room.
-#[tactic(auto, using(crate::proofs::Cuts::parts_fit), unfolding(crate::specs::Padding::padding_of, crate::specs::Padding::padded))]
+#[tactic(auto, using(crate::proofs::Cuts::parts_fit), unfolding(crate::specs::Padding::padding_of, crate::specs::Padding::with_pad_bytes))]
 fn write(out: &mut Vec<u8>, text: &[u8], lines: u32, line: &Line)
     requires { vec_len out.old + length text.now + padding_of text.now lines line.now ≤ vec_capacity out.old }
-    ensures { out.new.items ≡ out.old.items ++ padded text.now lines line.now }
+    ensures { out.new.items ≡ out.old.items ++ with_pad_bytes text.now lines line.now }
 {
     let parts = Parts { rest: text };
     for part in parts {

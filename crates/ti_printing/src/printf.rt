@@ -2,7 +2,7 @@
 ghost use Rattle.std.specs.Prelude.{◌≡◌, ◌≢◌, ◌+◌, ◌^◌, ◌<◌, ◌≤◌, ◌++◌, length, map, drop, replicate, slice_index, OnOk, OnErr};
 ghost use Rattle.std.specs.Fmt.{digit_glyph};
 ghost use Rattle.std.specs.Int.Digits.{digits_of};
-ghost use Rattle.ti_printing.specs.Printf.{printed, printed_text, printed_number, parts_text, numeral, digits_in, in_width, sign_in, prefix_in, OneNumeral};
+ghost use Rattle.ti_printing.specs.Printf.{form_bytes, printed_text, printed_number, parts_text, numeral, digits_in, in_width, sign_in, prefix_in, OneNumeral};
 ghost use Rattle.ti_text.specs.Ascii as ascii;
 
 #[cfg(test)]
@@ -64,7 +64,7 @@ pub fn print(
     number: i32,
     text: &[u8],
 ) -> Result<(), AllocError>
-    ensures ok { OnOk result (out.new.items ≡ out.old.items ++ printed directive.now number text.now) }
+    ensures ok { OnOk result (out.new.items ≡ out.old.items ++ form_bytes directive.now number text.now) }
     ensures err { OnErr result (out.new.items ≡ out.old.items) }
 {
     match directive.conversion {

@@ -13,9 +13,9 @@ use Rattle.ti_source.specs.Reading.{Said, ReadItem, ReadFault, Reading}
 use Rattle.ti_source.specs.Parsing.{parsed}
 use Rattle.ti_layout.specs.Values.{Content, content_true, content_number, content_text, content_cancelled, Contents}
 use Rattle.ti_layout.specs.Image.{image, limit_of}
-use Rattle.ti_layout.specs.Laws.{uncancelled, ImagesAreOfValues, LimitsAreOfValues}
-use Rattle.ti_meaning.specs.Owner.{owned, readings}
-use Rattle.ti_meaning.specs.Expansion.{Mention, said, values, is_broken, expand, expansion}
+use Rattle.ti_layout.specs.Laws.{without_cancel, ImagesAreOfValues, LimitsAreOfValues}
+use Rattle.ti_meaning.specs.Owner.{owner_block, readings}
+use Rattle.ti_meaning.specs.Expansion.{Mention, leftmost_content, values, is_broken, expand, expansion}
 use Rattle.ti_meaning.specs.Compiled.{image_of, is_too_large, entry_of, entry}
 use Rattle.ti_list.specs.declared.layout.Layout.{Layout}
 use Rattle.ti_list.specs.Items.{no_more, CanBeListed, IsListable, IsReadAs}
@@ -25,7 +25,7 @@ use Rattle.ti_relisting.specs.Laws.{PartsAreRead, ListingsCompile}
 use Rattle.ti_relisting.proofs.Orders.{all_in, all_in-all}
 use Rattle.ti_relisting.proofs.Laying.{listed-all, all-can, mentions_for, expand_says, expand_items-says, before, own-expands, all-say}
 
-pub uncancelled-twice : (o : Option Content) → uncancelled (uncancelled o) ≡ uncancelled o
+pub uncancelled-twice : (o : Option Content) → without_cancel (without_cancel o) ≡ without_cancel o
 uncancelled-twice None = refl
 uncancelled-twice (Some content_true) = refl
 uncancelled-twice (Some (content_number n)) = refl
@@ -51,10 +51,10 @@ own-at env depth block table cs more none says =
 
 -- what the mentions of a block say has the values of the table, and the image is within the limit
 pub entry-is : ImagesAreOfValues → LimitsAreOfValues → (blocks : List Reading) (block : Reading) (field : List ℕ) (table : Contents) (ms : List Mention)
-    → expansion blocks block ≡ Some ms → block.field ≡ field → ((c : Capability) → IsCapability c → uncancelled (said ms c) ≡ uncancelled (table c)) → IsWithinLimit field table
+    → expansion blocks block ≡ Some ms → block.field ≡ field → ((c : Capability) → IsCapability c → without_cancel (leftmost_content ms c) ≡ without_cancel (table c)) → IsWithinLimit field table
     → entry blocks block ≡ Some (image field table)
 entry-is images limits blocks block field table ms expands is_field tells within =
-    let same : (c : Capability) → IsCapability c → uncancelled (values ms c) ≡ uncancelled (table c) = λ c is. uncancelled-twice (said ms c) ∙ tells c is in
+    let same : (c : Capability) → IsCapability c → without_cancel (values ms c) ≡ without_cancel (table c) = λ c is. uncancelled-twice (leftmost_content ms c) ∙ tells c is in
     let is_image : image_of block ms ≡ image field table = ap (λ f. image f (values ms)) is_field ∙ images field (values ms) table same in
     let sizes : length (image_of block ms) ≡ length (image field table) = ap length is_image in
     let limit : limit_of (values ms) ≡ limit_of table = limits (values ms) table same in
@@ -80,7 +80,7 @@ listing-expands ordered read env depth field names table layout good has =
     own-at env depth (parsed (listing field table layout)) table (all_in layout.order) [] is.none_wrong is.says
     ∙ ap (λ ms. Some ms) (append-nil (mentions_for table (all_in layout.order)))
 
-pub all-tell : EachKindIsInOrder → (table : Contents) (layout : Layout) (ms : List Mention) (c : Capability) → IsCapability c → said (mentions_for table (all_in layout.order) ++ ms) c ≡ option_or (table c) (said ms c)
+pub all-tell : EachKindIsInOrder → (table : Contents) (layout : Layout) (ms : List Mention) (c : Capability) → IsCapability c → leftmost_content (mentions_for table (all_in layout.order) ++ ms) c ≡ option_or (table c) (leftmost_content ms c)
 all-tell ordered table layout ms c is = all-say table (all_in layout.order) ms c ((all_in-all ordered layout.order).complete c is)
 
 pub listings_compile : EachKindIsInOrder → PartsAreRead → ImagesAreOfValues → LimitsAreOfValues → ListingsCompile
@@ -89,8 +89,8 @@ listings_compile ordered read images limits field names table layout good has wi
     let blocks = readings texts in
     let is = listing-read ordered read field names table layout good has in
     let ms = mentions_for table (all_in layout.order) in
-    let tells : (c : Capability) → IsCapability c → uncancelled (said ms c) ≡ uncancelled (table c) =
-    λ c cap. ap uncancelled (ap (λ l. said l c) (sym (append-nil ms)) ∙ all-tell ordered table layout [] c cap ∙ option_or-nothing (table c)) in
+    let tells : (c : Capability) → IsCapability c → without_cancel (leftmost_content ms c) ≡ without_cancel (table c) =
+    λ c cap. ap without_cancel (ap (λ l. leftmost_content l c) (sym (append-nil ms)) ∙ all-tell ordered table layout [] c cap ∙ option_or-nothing (table c)) in
     let read_there : slice_get blocks at ≡ Some (parsed text) = slice_get-map parsed texts at ∙ ap (option_map parsed) stands in
     ap (option_and_then (entry blocks)) read_there
-    ∙ entry-is images limits blocks (parsed text) field table ms (listing-expands ordered read (owned blocks) (length blocks) field names table layout good has) is.same_field tells within
+    ∙ entry-is images limits blocks (parsed text) field table ms (listing-expands ordered read (owner_block blocks) (length blocks) field names table layout good has) is.same_field tells within

@@ -15,9 +15,9 @@ use Rattle.ti_spelling.specs.inside.Spelling.{UnescapedAgrees, ValuesAreSound}
 use Rattle.ti_layout.specs.Values.{Contents}
 use Rattle.ti_layout.specs.Image.{image, limit_of}
 use Rattle.ti_layout.specs.Reading.{Reads, OneReading}
-use Rattle.ti_layout.specs.Laws.{uncancelled, ImagesAreRead, ImagesAreOfValues, LimitsAreOfValues}
-use Rattle.ti_meaning.specs.Owner.{owned, readings}
-use Rattle.ti_meaning.specs.Expansion.{Mention, said, values, is_broken, expansion}
+use Rattle.ti_layout.specs.Laws.{without_cancel, ImagesAreRead, ImagesAreOfValues, LimitsAreOfValues}
+use Rattle.ti_meaning.specs.Owner.{owner_block, readings}
+use Rattle.ti_meaning.specs.Expansion.{Mention, leftmost_content, values, is_broken, expansion}
 use Rattle.ti_meaning.specs.Compiled.{image_of, is_too_large, entry_of, entry, compiled}
 use Rattle.ti_list.specs.Items.{no_more, CanBeListed, IsListable}
 use Rattle.ti_list.specs.declared.layout.Layout.{Layout}
@@ -119,7 +119,7 @@ has-image known texts at bytes are is =
     let ms = expands.from in
     let of_text = parsed-from texts at block found.is in
     let text = All-at IsText texts at of_text.text are of_text.stands in
-    let sound : is_broken block ≡ false = unbroken-expand (owned blocks) (length blocks) block ms expands.is in
+    let sound : is_broken block ≡ false = unbroken-expand (owner_block blocks) (length blocks) block ms expands.is in
     let fits : All BlockFits blocks = blocks-fit known texts are in
     let named = (known.well_read of_text.text text.0).named (ap is_broken of_text.is ∙ sound) in
     let image = entry-image block ms bytes expands.gives in
@@ -130,7 +130,7 @@ has-image known texts at bytes are is =
       listable = subst (λ b. IsListable b.field b.names) of_text.is (block-listable of_text.text text.0 (known.computed of_text.text) (ap is_broken of_text.is ∙ sound));
       some = subst (λ (b : Reading). b.field ≢ []) of_text.is named.some;
       no_nul = subst (λ (b : Reading). All (λ byte. byte ≢ 0) b.field) of_text.is named.no_nul;
-      fit = expand-fits (owned blocks) (λ name b e. owned-has BlockFits blocks name b fits e) (suc (length blocks)) block ms (subst BlockFits of_text.is (text-fits known of_text.text text)) expands.is;
+      fit = expand-fits (owner_block blocks) (λ name b e. owned-has BlockFits blocks name b fits e) (suc (length blocks)) block ms (subst BlockFits of_text.is (text-fits known of_text.text text)) expands.is;
       is = image.is;
       within = image.within;
     }
@@ -149,12 +149,12 @@ pub is-shown : AreKnown → (bytes : List ℕ) (shown : Shown) → IsEntry bytes
 is-shown known bytes shown entry =
     let has = has-image known entry.texts entry.at bytes (texts-both entry.texts entry.blocks entry.of_bytes) entry.is in
     let ms = has.mentions in
-    let holds : (c : Capability) → CanHave c (values ms c) = λ c. uncancelled-has c (said ms c) (said-has ms c has.fit) in
+    let holds : (c : Capability) → CanHave c (values ms c) = λ c. uncancelled-has c (leftmost_content ms c) (said-has ms c has.fit) in
     let read = known.read has.field (values ms) (some-long has.field has.some) has.listable.short has.no_nul (λ c is. agrees-has c (values ms c) (holds c)) has.within in
     let reads : Reads bytes has.field read.0 = subst (λ b. Reads b has.field read.0) has.is read.1 in
     let same = known.one.0 bytes shown.field has.field shown.table read.0 entry.reads reads in
-    let tells : (c : Capability) → IsCapability c → shown.table c ≡ uncancelled (values ms c) = λ c is. ap (λ (table : Contents). table c) same.1 ∙ read.2 c is in
-    let alike : (c : Capability) → IsCapability c → uncancelled (shown.table c) ≡ uncancelled (values ms c) = λ c is. ap uncancelled (tells c is) ∙ uncancelled-twice (values ms c) in
+    let tells : (c : Capability) → IsCapability c → shown.table c ≡ without_cancel (values ms c) = λ c is. ap (λ (table : Contents). table c) same.1 ∙ read.2 c is in
+    let alike : (c : Capability) → IsCapability c → without_cancel (shown.table c) ≡ without_cancel (values ms c) = λ c is. ap without_cancel (tells c is) ∙ uncancelled-twice (values ms c) in
     let image_is : image shown.field shown.table ≡ bytes = ap (λ f. image f shown.table) same.0 ∙ known.images has.field shown.table (values ms) alike ∙ has.is in
     let sizes : length (image shown.field shown.table) ≡ length (image has.field (values ms)) = ap length (image_is ∙ sym has.is) in
     let limit : limit_of shown.table ≡ limit_of (values ms) = known.limits shown.table (values ms) alike in

@@ -7,7 +7,7 @@ use Rattle.ti_caps.specs.declared.capability.Kind.TheVariants.{Flag, Number}
 use Rattle.ti_caps.specs.Tables.{capability, names, capability_named}
 use Rattle.ti_source.specs.Parsing.{parsed}
 use Rattle.ti_layout.specs.Values.{content_true, content_number, Contents, contents}
-use Rattle.ti_layout.specs.Layout.{spelled}
+use Rattle.ti_layout.specs.Layout.{number_section}
 use Rattle.ti_layout.specs.Image.{image, last_passing, some_below, below, texts_below}
 use Rattle.ti_meaning.specs.Compiled.{compiled}
 use Rattle.ti_list.specs.declared.layout.Layout.{Layout}
@@ -27,7 +27,7 @@ abbrev hidden : List ℕ
 hidden = codes "\n #x,\n"
 
 hidden-compiles : compiled (hidden ∷ []) 0 ≡ Some (image (codes "#x") nothing)
-unfolding parsed capability_named names flag_names number_names text_names last_passing some_below below texts_below spelled image
+unfolding parsed capability_named names flag_names number_names text_names last_passing some_below below texts_below number_section image
 hidden-compiles = refl
 
 -- its listing is a comment, and has no entry
@@ -60,5 +60,5 @@ unfolding names flag_names number_names digits in_order contents
 wide-listed = refl
 
 wide-back : compiled (codes "x,am,cols#65536,lines#24,\n" ∷ []) 0 ≡ Some (image (codes "x") wide)
-unfolding parsed capability_named names flag_names number_names text_names last_passing some_below below texts_below spelled image contents
+unfolding parsed capability_named names flag_names number_names text_names last_passing some_below below texts_below number_section image contents
 wide-back = refl

@@ -8,9 +8,9 @@ use Rattle.ti_caps.specs.Tables.{Capability, IsCapability, same_capability}
 use Rattle.ti_source.specs.Reading.{Said, said_flag, said_number, said_text, said_cancel, said_import, ReadItem, Reading}
 use Rattle.ti_source.specs.Sound.{SetsItsKind}
 use Rattle.ti_layout.specs.Values.{Content, content_true, content_number, content_text, content_cancelled, AgreesIfSome}
-use Rattle.ti_layout.specs.Laws.{uncancelled}
-use Rattle.ti_meaning.specs.Owner.{is_among, owned}
-use Rattle.ti_meaning.specs.Expansion.{Mention, said, is_broken, joined, mentions_of, expand_items, expand}
+use Rattle.ti_layout.specs.Laws.{without_cancel}
+use Rattle.ti_meaning.specs.Owner.{is_among, owner_block}
+use Rattle.ti_meaning.specs.Expansion.{Mention, leftmost_content, is_broken, both_lists, mentions_of, expand_items, expand}
 use Rattle.ti_relisting.specs.Shown.{CanHave}
 use Rattle.ti_relisting.proofs.TextBytes.{SaysBytes, ItemSaysBytes}
 use Rattle.ti_caps.proofs.Same.{same_capability-true}
@@ -54,7 +54,7 @@ record AreJoined {X : Type 0} (o p : Option (List X)) (all : List X) : Type 0 wh
   pub is_second : p ≡ Some second
   pub whole : all ≡ first ++ second
 
-joined-some : {X : Type 0} (o p : Option (List X)) (all : List X) → joined o p ≡ Some all → AreJoined o p all
+joined-some : {X : Type 0} (o p : Option (List X)) (all : List X) → both_lists o p ≡ Some all → AreJoined o p all
 joined-some None p all e = absurd (none-some all e)
 joined-some (Some xs) None all e = absurd (none-some all e)
 joined-some (Some xs) (Some ys) all e = record { first = xs; second = ys; is_first = refl; is_second = refl; whole = sym (same_Some (xs ++ ys) all e) }
@@ -107,7 +107,7 @@ expand-fits env good (suc depth) block ms fits e =
     (λ name more is. let owner = follows (expand env depth) (env name) more is in expand-fits env good depth owner.from more (good name owner.from owner.is) owner.gives)
     block.items ms fits items
 
-pub owned-has : (P : Reading → Type 0) (blocks : List Reading) (name : List ℕ) (block : Reading) → All P blocks → owned blocks name ≡ Some block → P block
+pub owned-has : (P : Reading → Type 0) (blocks : List Reading) (name : List ℕ) (block : Reading) → All P blocks → owner_block blocks name ≡ Some block → P block
 owned-has P [] name block all e = absurd (none-some block e)
 owned-has P (b ∷ bs) name block all e =
     elim (cases_Bool (is_among name b.names)) [
@@ -117,7 +117,7 @@ owned-has P (b ∷ bs) name block all e =
 
 -- ---- what the mentions say
 
-pub said-has : (ms : List Mention) (c : Capability) → All MentionFits ms → CanHave c (said ms c)
+pub said-has : (ms : List Mention) (c : Capability) → All MentionFits ms → CanHave c (leftmost_content ms c)
 said-has [] c fits = tt
 said-has (m ∷ ms) c fits =
     elim (cases_Bool (same_capability m.capability c)) [
@@ -125,7 +125,7 @@ said-has (m ∷ ms) c fits =
       | inr f ↦ rw f (said-has ms c (All-tail MentionFits m ms fits))
     ]
 
-pub uncancelled-has : (c : Capability) (o : Option Content) → CanHave c o → CanHave c (uncancelled o)
+pub uncancelled-has : (c : Capability) (o : Option Content) → CanHave c o → CanHave c (without_cancel o)
 uncancelled-has c None has = tt
 uncancelled-has c (Some content_true) has = has
 uncancelled-has c (Some (content_number n)) has = has

@@ -8,7 +8,7 @@ use Rattle.ti_source.specs.WhiteSpace.{is_white_space}
 use Rattle.ti_source.specs.Blocks.{HasOneHead, OneBlock}
 use Rattle.ti_source.specs.Codes.{is_error}
 use Rattle.ti_source.specs.Header.{IsLookupName, lookup_parts, HeaderNames}
-use Rattle.ti_source.specs.Folding.{Placed, folded}
+use Rattle.ti_source.specs.Folding.{Placed, folding_of}
 use Rattle.ti_source.specs.Items.{bytes, HasNoComma, Begins, all_field, field_and_rest}
 use Rattle.ti_source.specs.Reading.{ReadFault}
 use Rattle.ti_source.specs.Parsing.{names_limit, ReadsHeader, bad_header, long_header, good_header, Parses, parsed}
@@ -84,7 +84,7 @@ field-first : (s field rest : List Placed) (first : ℕ) (others : List ℕ) →
 field-first _ _ _ first others (all_field field none) e = ap (first_or 0) e
 field-first _ _ _ first others (field_and_rest field rest line none) e = front-first field ((44, line) ∷ rest) first others e
 
-folded-first : (text : List ℕ) → HasOneHead text → (first_or 0 (bytes (folded text)) == 35) ≡ false
+folded-first : (text : List ℕ) → HasOneHead text → (first_or 0 (bytes (folding_of text)) == 35) ≡ false
 folded-first [] head = absurd head
 folded-first (x ∷ xs) head =
     let none = or_parts (is_white_space x || x == 35) (x == 10) (not-true (is_white_space x || x == 35 || x == 10) head.0) in
@@ -95,14 +95,14 @@ pub block-listable : (text : List ℕ) → OneBlock text → Parses text (parsed
 block-listable text one has sound =
     let faults : has_error (has.of_header ++ has.of_items) ≡ false = ap has_error (sym has.faults) ∙ sound in
     let good = good-header (parsed text).field (parsed text).names has.of_header has.reads_header (no_error-front has.of_header has.of_items faults) in
-    let line : is_inline (bytes (folded text)) ≡ true = ap is_inline (bytes-folded text) ∙ unbroken-line false (uncommented false 10 text) in
+    let line : is_inline (bytes (folding_of text)) ≡ true = ap is_inline (bytes-folded text) ∙ unbroken-line false (uncommented false 10 text) in
     record {
       header = good.header;
       short = good.short;
-      no_comma = ap (list_all (λ b. not (b == 44))) has.is_field ∙ no_comma-bytes has.field (field-no_comma (folded text) has.field has.rest has.begins);
-      inline = ap is_inline has.is_field ∙ field-line (folded text) has.field has.rest has.begins line;
+      no_comma = ap (list_all (λ b. not (b == 44))) has.is_field ∙ no_comma-bytes has.field (field-no_comma (folding_of text) has.field has.rest has.begins);
+      inline = ap is_inline has.is_field ∙ field-line (folding_of text) has.field has.rest has.begins line;
       plain = λ first others e.
-          let same = field-first (folded text) has.field has.rest first others has.begins (sym has.is_field ∙ e) in
+          let same = field-first (folding_of text) has.field has.rest first others has.begins (sym has.is_field ∙ e) in
           ap (λ b. b == 35) (sym same) ∙ folded-first text one.cut.each.1;
     }
 

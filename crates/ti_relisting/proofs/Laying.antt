@@ -12,7 +12,7 @@ use Rattle.ti_caps.specs.declared.capability.Kind.{Kind}
 use Rattle.ti_caps.specs.declared.capability.Kind.TheVariants.{Flag, Number, Text}
 use Rattle.ti_source.specs.Reading.{Said, said_flag, said_number, said_text, said_cancel, said_import, ReadItem}
 use Rattle.ti_layout.specs.Values.{Content, content_true, content_number, content_text, content_cancelled, Contents}
-use Rattle.ti_meaning.specs.Expansion.{Mention, said, joined, mentions_of, expand_items}
+use Rattle.ti_meaning.specs.Expansion.{Mention, leftmost_content, both_lists, mentions_of, expand_items}
 use Rattle.ti_list.specs.declared.layout.Layout.{Layout}
 use Rattle.ti_list.specs.Items.{item_text, IsTail, no_more, on_line, new_line, IsListing, CanBeListed}
 use Rattle.ti_list.specs.Listing.{item_for, items_for, kind_items, in_order, size_of, further_items, lines_of, source_lines, listing}
@@ -116,18 +116,18 @@ mentions_for table (c ∷ cs) = mention_for c (table c) ++ mentions_for table cs
 -- what items stand for, without their places
 abbrev pub expand_says : (List ℕ → Option (List Mention)) → List Said → Option (List Mention)
 expand_says of_name [] = Some []
-expand_says of_name (item ∷ items) = joined (mentions_of of_name item) (expand_says of_name items)
+expand_says of_name (item ∷ items) = both_lists (mentions_of of_name item) (expand_says of_name items)
 
 pub expand_items-says : (of_name : List ℕ → Option (List Mention)) (items : List ReadItem) → expand_items of_name items ≡ expand_says of_name (map (λ (item : ReadItem). item.said) items)
 expand_items-says of_name [] = refl
-expand_items-says of_name (item ∷ items) = ap (joined (mentions_of of_name item.said)) (expand_items-says of_name items)
+expand_items-says of_name (item ∷ items) = ap (both_lists (mentions_of of_name item.said)) (expand_items-says of_name items)
 
 -- mentions before those that follow, if these are there
 abbrev pub before : List Mention → Option (List Mention) → Option (List Mention)
 before ms None = None
 before ms (Some others) = Some (ms ++ others)
 
-joined-before : (m : Mention) (ms : List Mention) (o : Option (List Mention)) → joined (Some (m ∷ [])) (before ms o) ≡ before (m ∷ ms) o
+joined-before : (m : Mention) (ms : List Mention) (o : Option (List Mention)) → both_lists (Some (m ∷ [])) (before ms o) ≡ before (m ∷ ms) o
 joined-before m ms None = refl
 joined-before m ms (Some others) = refl
 
@@ -138,10 +138,10 @@ before-nil (Some others) = refl
 item-expands : (of_name : List ℕ → Option (List Mention)) (c : Capability) (o : Option Content) (ms : List Mention) (items : List Said) (later : Option (List Mention))
     → expand_says of_name items ≡ before ms later → expand_says of_name (item_for c o ++ items) ≡ before (mention_for c o ++ ms) later
 item-expands of_name c None ms items later e = e
-item-expands of_name c (Some content_true) ms items later e = ap (joined (Some (record { capability = c; says = content_true } ∷ []))) e ∙ joined-before (record { capability = c; says = content_true }) ms later
-item-expands of_name c (Some (content_number n)) ms items later e = ap (joined (Some (record { capability = c; says = content_number n } ∷ []))) e ∙ joined-before (record { capability = c; says = content_number n }) ms later
-item-expands of_name c (Some (content_text t)) ms items later e = ap (joined (Some (record { capability = c; says = content_text t } ∷ []))) e ∙ joined-before (record { capability = c; says = content_text t }) ms later
-item-expands of_name c (Some content_cancelled) ms items later e = ap (joined (Some (record { capability = c; says = content_cancelled } ∷ []))) e ∙ joined-before (record { capability = c; says = content_cancelled }) ms later
+item-expands of_name c (Some content_true) ms items later e = ap (both_lists (Some (record { capability = c; says = content_true } ∷ []))) e ∙ joined-before (record { capability = c; says = content_true }) ms later
+item-expands of_name c (Some (content_number n)) ms items later e = ap (both_lists (Some (record { capability = c; says = content_number n } ∷ []))) e ∙ joined-before (record { capability = c; says = content_number n }) ms later
+item-expands of_name c (Some (content_text t)) ms items later e = ap (both_lists (Some (record { capability = c; says = content_text t } ∷ []))) e ∙ joined-before (record { capability = c; says = content_text t }) ms later
+item-expands of_name c (Some content_cancelled) ms items later e = ap (both_lists (Some (record { capability = c; says = content_cancelled } ∷ []))) e ∙ joined-before (record { capability = c; says = content_cancelled }) ms later
 
 -- own items stand for own mentions, whatever follows them
 pub own-expands : (of_name : List ℕ → Option (List Mention)) (table : Contents) (cs : List Capability) (more : List Said)
@@ -156,27 +156,27 @@ abbrev told : Contents → List Capability → Contents
 told table cs c = cond (is_among cs c) (table c) None
 
 mention-same : (d c : Capability) (o : Option Content) (b : Bool) (ms : List Mention) (later : Option Content) → same_capability d c ≡ true
-    → said ms c ≡ option_or (cond b o None) later → said (mention_for d o ++ ms) c ≡ option_or o later
+    → leftmost_content ms c ≡ option_or (cond b o None) later → leftmost_content (mention_for d o ++ ms) c ≡ option_or o later
 mention-same d c None true ms later s e = e
 mention-same d c None false ms later s e = e
 mention-same d c (Some content) b ms later s e = rw s refl
 
-mention-other : (d c : Capability) (o : Option Content) (ms : List Mention) → same_capability d c ≡ false → said (mention_for d o ++ ms) c ≡ said ms c
+mention-other : (d c : Capability) (o : Option Content) (ms : List Mention) → same_capability d c ≡ false → leftmost_content (mention_for d o ++ ms) c ≡ leftmost_content ms c
 mention-other d c None ms f = refl
 mention-other d c (Some content) ms f = rw f refl
 
-items-say : (table : Contents) (cs : List Capability) (ms : List Mention) (c : Capability) → said (mentions_for table cs ++ ms) c ≡ option_or (told table cs c) (said ms c)
+items-say : (table : Contents) (cs : List Capability) (ms : List Mention) (c : Capability) → leftmost_content (mentions_for table cs ++ ms) c ≡ option_or (told table cs c) (leftmost_content ms c)
 items-say table [] ms c = refl
 items-say table (d ∷ cs) ms c =
     let later = items-say table cs ms c in
-    ap (λ l. said l c) (append_assoc (mention_for d (table d)) (mentions_for table cs) ms)
+    ap (λ l. leftmost_content l c) (append_assoc (mention_for d (table d)) (mentions_for table cs) ms)
     ∙ elim (cases_Bool (same_capability d c)) [
       | inl t ↦
-          let P : Capability → Type 0 = λ x. said (mention_for d (table x) ++ (mentions_for table cs ++ ms)) c ≡ option_or (table c) (said ms c) in
-          rw t (subst P (sym (same_capability-true d c t)) (mention-same d c (table c) (is_among cs c) (mentions_for table cs ++ ms) (said ms c) t later))
+          let P : Capability → Type 0 = λ x. leftmost_content (mention_for d (table x) ++ (mentions_for table cs ++ ms)) c ≡ option_or (table c) (leftmost_content ms c) in
+          rw t (subst P (sym (same_capability-true d c t)) (mention-same d c (table c) (is_among cs c) (mentions_for table cs ++ ms) (leftmost_content ms c) t later))
       | inr f ↦ rw f (mention-other d c (table d) (mentions_for table cs ++ ms) f ∙ later)
     ]
 
 -- where each capability is among them, what they say is what the table has, and then what follows
-pub all-say : (table : Contents) (cs : List Capability) (ms : List Mention) (c : Capability) → is_among cs c ≡ true → said (mentions_for table cs ++ ms) c ≡ option_or (table c) (said ms c)
-all-say table cs ms c t = items-say table cs ms c ∙ ap (λ b. option_or (cond b (table c) None) (said ms c)) t
+pub all-say : (table : Contents) (cs : List Capability) (ms : List Mention) (c : Capability) → is_among cs c ≡ true → leftmost_content (mentions_for table cs ++ ms) c ≡ option_or (table c) (leftmost_content ms c)
+all-say table cs ms c t = items-say table cs ms c ∙ ap (λ b. option_or (cond b (table c) None) (leftmost_content ms c)) t

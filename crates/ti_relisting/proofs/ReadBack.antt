@@ -5,7 +5,7 @@ use Rattle.std.proofs.lemmas.Bool.{and_parts, or_parts, not-true}
 use Rattle.std.proofs.lemmas.List.Elements.{All-head, All-tail}
 use Rattle.ti_caps.specs.Tables.{EveryNameIsFound}
 use Rattle.ti_source.specs.WhiteSpace.{is_white_space}
-use Rattle.ti_source.specs.Folding.{Placed, folded}
+use Rattle.ti_source.specs.Folding.{Placed, folding_of}
 use Rattle.ti_source.specs.Items.{bytes, HasNoComma, Begins, field_and_rest, AreItems, last_item, piece_of, without_white_front, States, empty_item}
 use Rattle.ti_source.specs.Reading.{Said, said_flag, said_number, said_text, said_cancel, said_import, ReadItem, Reading}
 use Rattle.ti_source.specs.Parsing.{accepted, ReadsItems, reads_nothing, reads_ignored, reads_judged, items_by, good_header, Parses, parsed, HasReading, OneReading}
@@ -113,9 +113,9 @@ listing-parses found spells field names items text good can is =
     let calm = text-calm field is.tail good.plain good.inline (tail-calm found spells items is.tail can is.laid) in
     let bare : unbroken false (uncommented false 10 text) ≡ field ++ 44 ∷ unbroken false is.tail =
     ap (λ t. unbroken false (uncommented false 10 t)) is.whole ∙ ap (unbroken false) (uncommented-calm 10 (field ++ 44 ∷ is.tail) calm) ∙ unbroken-inline field (44 ∷ is.tail) good.inline in
-    let parts = split-bytes (folded text) field (44 ∷ unbroken false is.tail) (bytes-folded text ∙ bare) in
+    let parts = split-bytes (folding_of text) field (44 ∷ unbroken false is.tail) (bytes-folded text ∙ bare) in
     let comma = split-byte parts.rest 44 (unbroken false is.tail) parts.is_rest in
-    let is_folded : folded text ≡ parts.front ++ (44, comma.line) ∷ comma.rest = parts.whole ∙ ap (λ t. parts.front ++ t) comma.whole in
+    let is_folded : folding_of text ≡ parts.front ++ (44, comma.line) ∷ comma.rest = parts.whole ∙ ap (λ t. parts.front ++ t) comma.whole in
     let read = tail-read found spells 0 items is.tail can is.laid comma.rest comma.is_rest in
     let none = no_comma-of parts.front (ap (list_all (λ b. not (b == 44))) parts.is_front ∙ good.no_comma) in
     record {
@@ -126,7 +126,7 @@ listing-parses found spells field names items text good can is =
         items = read.pieces;
         of_header = [];
         of_items = [];
-        begins = begins-at (folded text) parts.front comma.rest comma.line is_folded none;
+        begins = begins-at (folding_of text) parts.front comma.rest comma.line is_folded none;
         cut = read.cut;
         is_field = sym parts.is_front;
         reads_header = good_header field names good.header good.short;

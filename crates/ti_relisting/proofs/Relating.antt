@@ -12,9 +12,9 @@ use Rattle.ti_caps.specs.Tables.{Capability, IsCapability}
 use Rattle.ti_source.specs.Reading.{said_import, Reading}
 use Rattle.ti_source.specs.Parsing.{parsed}
 use Rattle.ti_layout.specs.Values.{Content, content_true, content_number, content_text, content_cancelled, Contents}
-use Rattle.ti_layout.specs.Laws.{uncancelled, ImagesAreOfValues, LimitsAreOfValues}
-use Rattle.ti_meaning.specs.Owner.{is_among, owner, owned, readings}
-use Rattle.ti_meaning.specs.Expansion.{Mention, said, expand, expansion}
+use Rattle.ti_layout.specs.Laws.{without_cancel, ImagesAreOfValues, LimitsAreOfValues}
+use Rattle.ti_meaning.specs.Owner.{is_among, owner, owner_block, readings}
+use Rattle.ti_meaning.specs.Expansion.{Mention, leftmost_content, expand, expansion}
 use Rattle.ti_list.specs.declared.layout.Layout.{Layout}
 use Rattle.ti_list.specs.Items.{CanBeListed, IsReadAs}
 use Rattle.ti_list.specs.Listing.{listing}
@@ -50,13 +50,13 @@ same_content-true content_cancelled (content_number n) e = cc
 same_content-true content_cancelled (content_text u) e = cc
 same_content-true content_cancelled content_cancelled e = refl
 
-restores : (own theirs : Option Content) → uncancelled (option_or (difference own theirs) theirs) ≡ uncancelled own
+restores : (own theirs : Option Content) → without_cancel (option_or (difference own theirs) theirs) ≡ without_cancel own
 restores None None = refl
 restores None (Some x) = refl
 restores (Some h) None = refl
 restores (Some h) (Some x) =
     elim (cases_Bool (same_content h x)) [
-      | inl t ↦ rw t (ap (λ y. uncancelled (Some y)) (sym (same_content-true h x t)))
+      | inl t ↦ rw t (ap (λ y. without_cancel (Some y)) (sym (same_content-true h x t)))
       | inr f ↦ rw f refl
     ]
 
@@ -91,20 +91,20 @@ uses-expand of_name layout (other ∷ others) h =
     let first = h 0 other refl in
     rw (first, later) refl
 
-used-tell : EachKindIsInOrder → (layout : Layout) (others : List Shown) (c : Capability) → IsCapability c → said (used_mentions layout others) c ≡ first_of others c
+used-tell : EachKindIsInOrder → (layout : Layout) (others : List Shown) (c : Capability) → IsCapability c → leftmost_content (used_mentions layout others) c ≡ first_of others c
 used-tell ordered layout [] c is = refl
 used-tell ordered layout (other ∷ others) c is = all-tell ordered other.table layout (used_mentions layout others) c is ∙ ap (option_or (other.table c)) (used-tell ordered layout others c is)
 
 -- ---- the owners
 
-owned-some : (b : Reading) (bs : List Reading) (name : List ℕ) (o : Option ℕ) (i : ℕ) → owner bs name ≡ o → ((j : ℕ) → owner bs name ≡ Some j → owned bs name ≡ slice_get bs j)
-    → option_map (λ at. suc at) o ≡ Some i → owned bs name ≡ slice_get (b ∷ bs) i
+owned-some : (b : Reading) (bs : List Reading) (name : List ℕ) (o : Option ℕ) (i : ℕ) → owner bs name ≡ o → ((j : ℕ) → owner bs name ≡ Some j → owner_block bs name ≡ slice_get bs j)
+    → option_map (λ at. suc at) o ≡ Some i → owner_block bs name ≡ slice_get (b ∷ bs) i
 owned-some b bs name None i is later e = absurd (none-some i e)
 owned-some b bs name (Some j) i is later e =
-    let P : ℕ → Type 0 = λ at. owned bs name ≡ slice_get (b ∷ bs) at in
+    let P : ℕ → Type 0 = λ at. owner_block bs name ≡ slice_get (b ∷ bs) at in
     subst P (same_Some (suc j) i e) (later j is)
 
-pub owned-at : (bs : List Reading) (name : List ℕ) (i : ℕ) → owner bs name ≡ Some i → owned bs name ≡ slice_get bs i
+pub owned-at : (bs : List Reading) (name : List ℕ) (i : ℕ) → owner bs name ≡ Some i → owner_block bs name ≡ slice_get bs i
 owned-at [] name i e = absurd (none-some i e)
 owned-at (b ∷ bs) name i e =
     elim (cases_Bool (is_among name b.names)) [
@@ -134,16 +134,16 @@ relatives_compile ordered read images limits e others layout shown used owns wit
     read e.field shown.names (own ++ uses_of others) text shown.listable
     (all-can ordered table layout (uses_of others) has (uses-can others used)) (listed-all e.field table layout (uses_of others) (use_lines others (10 ∷ [])) (uses-tail others)) in
     let list_other : Shown → List ℕ = λ other. listing other.field other.table layout in
-    let expands : (i : ℕ) (other : Shown) → slice_get others i ≡ Some other → used_at (owned blocks) (length blocks) (first_name other.field) ≡ Some (mentions_for other.table (all_in layout.order)) =
+    let expands : (i : ℕ) (other : Shown) → slice_get others i ≡ Some other → used_at (owner_block blocks) (length blocks) (first_name other.field) ≡ Some (mentions_for other.table (all_in layout.order)) =
     λ i other at.
     let other_shown = (All-at CanBeUsed others i other used at).shown in
     let stands : slice_get blocks (suc i) ≡ Some (parsed (list_other other)) = at-place parsed (map list_other others) i (list_other other) (at-place list_other others i other at) in
-    ap (option_and_then (expand (owned blocks) (length blocks))) (owned-at blocks (first_name other.field) (suc i) (owns i other at) ∙ stands)
-    ∙ listing-expands ordered read (owned blocks) (length (map parsed (map list_other others))) other.field other_shown.names other.table layout other_shown.listable other_shown.holds in
+    ap (option_and_then (expand (owner_block blocks) (length blocks))) (owned-at blocks (first_name other.field) (suc i) (owns i other at) ∙ stands)
+    ∙ listing-expands ordered read (owner_block blocks) (length (map parsed (map list_other others))) other.field other_shown.names other.table layout other_shown.listable other_shown.holds in
     let ms = mentions_for table (all_in layout.order) ++ used_mentions layout others in
     let expanded : expansion blocks block ≡ Some ms =
-    own-at (owned blocks) (length blocks) block table (all_in layout.order) (uses_of others) is.none_wrong is.says
-    ∙ ap (before (mentions_for table (all_in layout.order))) (uses-expand (used_at (owned blocks) (length blocks)) layout others expands) in
-    let tells : (c : Capability) → IsCapability c → uncancelled (said ms c) ≡ uncancelled (e.table c) =
-    λ c cap. ap uncancelled (all-tell ordered table layout (used_mentions layout others) c cap ∙ ap (option_or (table c)) (used-tell ordered layout others c cap)) ∙ restores (e.table c) (first_of others c) in
+    own-at (owner_block blocks) (length blocks) block table (all_in layout.order) (uses_of others) is.none_wrong is.says
+    ∙ ap (before (mentions_for table (all_in layout.order))) (uses-expand (used_at (owner_block blocks) (length blocks)) layout others expands) in
+    let tells : (c : Capability) → IsCapability c → without_cancel (leftmost_content ms c) ≡ without_cancel (e.table c) =
+    λ c cap. ap without_cancel (all-tell ordered table layout (used_mentions layout others) c cap ∙ ap (option_or (table c)) (used-tell ordered layout others c cap)) ∙ restores (e.table c) (first_of others c) in
     entry-is images limits blocks block e.field e.table ms expanded is.same_field tells within

@@ -9,14 +9,14 @@ use Rattle.std.proofs.lemmas.List.Elements.{All-head, All-tail}
 use Rattle.std.proofs.lemmas.List.Folds.{list_all-append}
 use Rattle.ti_caps.specs.Tables.{Capability, IsCapability, name_of, EveryNameIsFound}
 use Rattle.ti_caps.specs.declared.capability.Kind.TheVariants.{Flag, Number, Text}
-use Rattle.ti_source.specs.WhiteSpace.{is_white_space, trimmed}
+use Rattle.ti_source.specs.WhiteSpace.{is_white_space, without_trailing_space}
 use Rattle.ti_source.specs.Blocks.{last_byte}
 use Rattle.ti_source.specs.Header.{IsNameByte, IsLookupName}
 use Rattle.ti_source.specs.Numbers.{greatest_number}
-use Rattle.ti_source.specs.Items.{Statement, claims_flag, claims_number, claims_text, claims_cancel, is_mark, HasNoMark, IsEnabled, States, number_item, text_item, cancel_item, flag_item, stripped}
+use Rattle.ti_source.specs.Items.{Statement, claims_flag, claims_number, claims_text, claims_cancel, is_mark, HasNoMark, IsEnabled, States, number_item, text_item, cancel_item, flag_item, without_outer_space}
 use Rattle.ti_source.specs.Reading.{Said, said_flag, said_number, said_text, said_cancel, said_import}
 use Rattle.ti_source.specs.Parsing.{accepted, Judges, judged_import, judged_flag, judged_cancel, judged_number, judged_text}
-use Rattle.ti_spelling.specs.Spelling.{is_empty, written, AreBytes, HasNoNul, WrittenSpells}
+use Rattle.ti_spelling.specs.Spelling.{is_empty, spelling_of, AreBytes, HasNoNul, WrittenSpells}
 use Rattle.ti_relisting.proofs.Cutting.{is_clear, is_whole, is_inline, has_no_cut, no_cut-whole, clear-cons, clear-append, clear-whole, written_from-clear, written_from-inline, is_plain}
 use Rattle.ti_relisting.proofs.Unfolding.{is_dark}
 use Rattle.ti_relisting.proofs.Words.{is_word_byte, is_word, word_byte-has, word-has, capability-name, decimal-digits, numeral-of}
@@ -125,11 +125,11 @@ cancel-readable found c is =
     }
 
 pub text-readable : EveryNameIsFound → WrittenSpells → (c : Capability) (t : List ℕ) → IsCapability c → c.kind ≡ Text → AreBytes t → HasNoNul t
-    → IsReadable (name_of c ++ 61 ∷ written t) (said_text c t)
+    → IsReadable (name_of c ++ 61 ∷ spelling_of t) (said_text c t)
 text-readable found spells c t is kind are none =
     let name = name_of c in
     let good = capability-name c is in
-    let value = written t in
+    let value = spelling_of t in
     let clear : (before : ℕ) → is_clear before (name ++ 61 ∷ value) ≡ true =
     λ before. clear-append before name (61 ∷ value) (word-clear before name good.word) (clear-cons _ 61 value refl (written_from-clear true 0 61 t refl are)) in
     record {
@@ -149,14 +149,14 @@ is_visible x = not (x == 10 || is_white_space x)
 name_byte-visible : (x : ℕ) → IsNameByte x → is_visible x ≡ true
 name_byte-visible x h = rw (ne_eqb x 10 (λ e. omega (arith, e, h.0)), ne_eqb x 32 (λ e. omega (arith, e, h.0)), ne_eqb x 9 (λ e. omega (arith, e, h.0))) refl
 
-visible-trimmed : (w : List ℕ) → list_all is_visible w ≡ true → trimmed w ≡ w
+visible-trimmed : (w : List ℕ) → list_all is_visible w ≡ true → without_trailing_space w ≡ w
 visible-trimmed [] h = refl
 visible-trimmed (x ∷ xs) h =
     let parts = and_parts (is_visible x) (list_all is_visible xs) h in
     let none = or_parts (x == 10) (is_white_space x) (not-true (x == 10 || is_white_space x) parts.0) in
     rw none.1 (ap (λ t. x ∷ t) (visible-trimmed xs parts.1))
 
-visible-stripped : (w : List ℕ) → list_all is_visible w ≡ true → stripped w ≡ w
+visible-stripped : (w : List ℕ) → list_all is_visible w ≡ true → without_outer_space w ≡ w
 visible-stripped [] h = refl
 visible-stripped (x ∷ xs) h =
     let parts = and_parts (is_visible x) (list_all is_visible xs) h in

@@ -3,7 +3,7 @@ use Rattle.std.proofs.Common.{ℕ, ◌+◌, ◌<◌, Bool, true, false, ◌==◌
 use Rattle.std.specs.List.{All, AllByRecursion}
 use Rattle.std.proofs.lemmas.List.Elements.{All-from_recursion, recursion_from_All, All-nil, All-cons}
 use Rattle.ti_source.specs.WhiteSpace.{is_white_space}
-use Rattle.ti_source.specs.Folding.{Placed, in_comment, folded}
+use Rattle.ti_source.specs.Folding.{Placed, in_comment, folding_of}
 use Rattle.ti_source.specs.Items.{bytes, Begins, all_field, field_and_rest, AreItems, last_item, item_ends, pair_of_bytes, single_byte, without_front, piece_of, Claim, claims_flag, claims_number, claims_text, claims_cancel, Statement, States, empty_item, disabled_item, number_item, text_item, cancel_item, flag_item}
 use Rattle.ti_source.specs.Reading.{Said, said_flag, said_number, said_text, said_cancel, said_import, ReadItem, ReadFault}
 use Rattle.ti_source.specs.Parsing.{Verdict, accepted, accepted_odd, refused, Judges, judged_import, judged_unknown, judged_wrong_kind, judged_flag, judged_cancel, judged_number, judged_bad_number, judged_large_number, judged_text, judged_odd_text, judged_bad_text, items_by, ReadsItems, reads_nothing, reads_ignored, reads_judged, parsed, HasReading}
@@ -34,7 +34,7 @@ unbroken-bytes joining (x ∷ xs) h =
       | false ↦ (h.0, unbroken-bytes false xs h.1)
     ]
 
-folded-bytes : (block : List ℕ) → AreBytes block → ArePlacedBytes (folded block)
+folded-bytes : (block : List ℕ) → AreBytes block → ArePlacedBytes (folding_of block)
 folded-bytes block h =
     rw (bytes-folded block) (unbroken-bytes false (uncommented false 10 block) (uncommented-bytes false 10 block (recursion_from_All (λ b. b < 256) block h)))
 
@@ -132,4 +132,4 @@ pub parsed-bytes : UnescapedAgrees → ValuesAreSound → HasReading → (block 
 parsed-bytes agrees sound computed block h =
     let has = computed block in
     reads-bytes agrees sound 0 has.items (parsed block).items has.of_items has.reads_items
-    (items-bytes 44 has.rest has.items has.cut (rest-bytes (folded block) has.field has.rest has.begins (folded-bytes block h)))
+    (items-bytes 44 has.rest has.items has.cut (rest-bytes (folding_of block) has.field has.rest has.begins (folded-bytes block h)))

@@ -1,7 +1,7 @@
 //! A session's requests and replies: the source that is edited, and the block that is open.
 ghost use Rattle.std.specs.Prelude.{◌≡◌, IfOk, Some};
 ghost use Rattle.ti_meaning.specs.Edits.{change_of};
-ghost use Rattle.ti_devices.specs.Counted.{observed};
+ghost use Rattle.ti_devices.specs.Counted.{observation};
 ghost use Rattle.ti_devices.specs.Writing.{Wrote};
 ghost use Rattle.ti_session.specs.Replies.{CarriesOut, WroteReport};
 ghost use Rattle.ti_session.specs.Requests.{opened_change};
@@ -38,8 +38,8 @@ fn carry_out<W: Write>(
 ) -> Result<(), ToolError>
     ensures { CarriesOut (source database.old rebuilt.old.items) (change_of edit.now)
         (source database.new rebuilt.new.items)
-        (observed W.contents writer.old)
-        (observed W.contents writer.new) result }
+        (observation W.contents writer.old)
+        (observation W.contents writer.new) result }
 {
     match database.apply(edit) {
         Ok(edited) => {
@@ -52,8 +52,8 @@ fn carry_out<W: Write>(
 
 // Writes the entry of a block.
 fn print<W: Write>(database: &Database, at: usize, writer: &mut Counted<W>) -> Result<(), ToolError>
-    ensures { Wrote (observed W.contents writer.old)
-        (observed W.contents writer.new)
+    ensures { Wrote (observation W.contents writer.old)
+        (observation W.contents writer.new)
         (print_reply database.now at) result }
 {
     if at >= database.len() {
@@ -71,8 +71,8 @@ fn print<W: Write>(database: &Database, at: usize, writer: &mut Counted<W>) -> R
 // Writes the report.
 fn report<W: Write>(database: &Database, writer: &mut Counted<W>) -> Result<(), ToolError>
     ensures { WroteReport database.now
-        (observed W.contents writer.old)
-        (observed W.contents writer.new) result }
+        (observation W.contents writer.old)
+        (observation W.contents writer.new) result }
 {
     match database.report(1) {
         Ok(text) => {
@@ -111,8 +111,8 @@ impl Editor {
     ) -> Result<(), ToolError>
         ensures { (state : State) → state.mode ≡ outside → Holds self.old state
             → ActsOn (meaning_outside line.now) state self.new
-            (observed W.contents writer.old)
-            (observed W.contents writer.new) result }
+            (observation W.contents writer.old)
+            (observation W.contents writer.new) result }
     {
         match read_request(line) {
             Request::Nothing => Ok(()),
@@ -153,8 +153,8 @@ impl Editor {
         requires { self.old.opened ≡ Some opened }
         ensures { (state : State) → (holds : Holds self.old state)
             → ActsOn (asks (edits (opened_change opened holds.text))) state self.new
-            (observed W.contents writer.old)
-            (observed W.contents writer.new) result }
+            (observation W.contents writer.old)
+            (observation W.contents writer.new) result }
     {
         let text = self.block.as_slice();
         let edit = match opened {
@@ -176,8 +176,8 @@ impl Editor {
     ) -> Result<(), ToolError>
         ensures { (state : State) → Holds self.old state
             → ActsOn (meaning_in state.mode line.now) state self.new
-            (observed W.contents writer.old)
-            (observed W.contents writer.new) result }
+            (observation W.contents writer.old)
+            (observation W.contents writer.new) result }
     {
         let Some(opened) = self.opened else {
             return self.take_request(line, writer);
@@ -196,8 +196,8 @@ impl Editor {
     /// `WriteFault`.
     pub fn close<W: Write>(&self, writer: &mut Counted<W>) -> Result<(), ToolError>
         ensures { (state : State) → Holds self.now state
-            → Wrote (observed W.contents writer.old)
-            (observed W.contents writer.new)
+            → Wrote (observation W.contents writer.old)
+            (observation W.contents writer.new)
             (closing_reply state.mode) result }
     {
         if self.opened.is_none() {

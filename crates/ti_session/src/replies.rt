@@ -1,7 +1,7 @@
 //! The replies of a session, written to a counted device.
 ghost use Rattle.std.specs.Prelude.{◌≡◌, ◌<◌, ◌≤◌, length};
 ghost use Rattle.std.specs.List.{flat_map};
-ghost use Rattle.ti_devices.specs.Counted.{observed};
+ghost use Rattle.ti_devices.specs.Counted.{observation};
 ghost use Rattle.ti_devices.specs.Writing.{Wrote};
 ghost use Rattle.ti_session.specs.Places.{next_place, places_text};
 ghost use Rattle.ti_session.specs.Script.{hex_digit, hex_of, refused_text};
@@ -33,8 +33,8 @@ fn refusal(error: EditError) -> &'static [u8]
 /// # Errors
 /// `WriteFault`.
 pub fn write_refusal<W: Write>(writer: &mut Counted<W>, error: EditError) -> Result<(), ToolError>
-    ensures { Wrote (observed W.contents writer.old)
-        (observed W.contents writer.new) (refused_text error) result }
+    ensures { Wrote (observation W.contents writer.old)
+        (observation W.contents writer.new) (refused_text error) result }
 {
     write_out(writer, refusal(error))
 }
@@ -45,8 +45,8 @@ pub fn write_refusal<W: Write>(writer: &mut Counted<W>, error: EditError) -> Res
 /// # Errors
 /// `WriteFault`.
 pub fn write_places<W: Write>(writer: &mut Counted<W>, places: &[usize]) -> Result<(), ToolError>
-    ensures { Wrote (observed W.contents writer.old)
-        (observed W.contents writer.new)
+    ensures { Wrote (observation W.contents writer.old)
+        (observation W.contents writer.new)
         (places_text places.now) result }
 {
     let Some((first, others)) = places.split_first() else {
@@ -60,8 +60,8 @@ pub fn write_places<W: Write>(writer: &mut Counted<W>, places: &[usize]) -> Resu
 
 // Writes a position behind a space.
 fn write_next_place<W: Write>(writer: &mut Counted<W>, place: usize) -> Result<(), ToolError>
-    ensures { Wrote (observed W.contents writer.old)
-        (observed W.contents writer.new)
+    ensures { Wrote (observation W.contents writer.old)
+        (observation W.contents writer.new)
         (next_place place) result }
 {
     let mut digits = Buffer::new();
@@ -71,8 +71,8 @@ fn write_next_place<W: Write>(writer: &mut Counted<W>, place: usize) -> Result<(
 
 // Writes each of the positions behind a space.
 fn write_next_places<W: Write>(writer: &mut Counted<W>, places: &[usize]) -> Result<(), ToolError>
-    ensures { Wrote (observed W.contents writer.old)
-        (observed W.contents writer.new)
+    ensures { Wrote (observation W.contents writer.old)
+        (observation W.contents writer.new)
         (flat_map next_place places.now) result }
 {
     for place in places {
@@ -111,8 +111,8 @@ fn hex_piece(piece: &[u8]) -> ArrayVec<u8, 128>
 /// # Errors
 /// `WriteFault`.
 pub fn write_hex<W: Write>(writer: &mut Counted<W>, bytes: &[u8]) -> Result<(), ToolError>
-    ensures { Wrote (observed W.contents writer.old)
-        (observed W.contents writer.new)
+    ensures { Wrote (observation W.contents writer.old)
+        (observation W.contents writer.new)
         (flat_map hex_of bytes.now) result }
 {
     let mut rest = bytes;

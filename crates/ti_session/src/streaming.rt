@@ -1,6 +1,6 @@
 //! The session: a script read line by line, and its replies written as they come.
 ghost use Rattle.std.specs.Prelude.{◌+◌, ◌≤◌};
-ghost use Rattle.ti_devices.specs.Counted.{observed, reads_of};
+ghost use Rattle.ti_devices.specs.Counted.{observation, reads_of};
 ghost use Rattle.ti_devices.specs.LineReader.{reads_max};
 ghost use Rattle.ti_session.specs.Streaming.{Ends};
 
@@ -25,8 +25,8 @@ pub fn session<R: Read, W: Write>(
     reader: &mut Counted<R>,
     writer: &mut Counted<W>,
 ) -> Result<(), ToolError>
-    ensures ends { Ends (observed R.remaining reader.old) (observed R.remaining reader.new)
-        (observed W.contents writer.old) (observed W.contents writer.new) result }
+    ensures ends { Ends (observation R.remaining reader.old) (observation R.remaining reader.new)
+        (observation W.contents writer.old) (observation W.contents writer.new) result }
     ensures reads { reads_of reader.new ≤ reads_of reader.old + reads_max }
 {
     let mut lines = LineReader::new(alloc, LINE_MAX)?;

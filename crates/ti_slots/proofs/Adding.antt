@@ -17,7 +17,7 @@ use Rattle.ti_index.specs.declared.names.NameIndex.{NameIndex}
 use Rattle.ti_index.specs.Listing.{AreAmong, Lists, ListsToo, ListsNoMore}
 use Rattle.ti_index.specs.Names.{holders_at, users_at, mentions_at, holder_capacity, user_capacity, HasHolderRoom, HasUserRoom, KeepsCapacity, KeepsOthers}
 use Rattle.ti_index.proofs.LawProofs.{agreeing_lists, among_all}
-use Rattle.ti_slots.specs.Indexing.{named, used, Adds, Removes, HasRoomAt, IsGrown, IsPart}
+use Rattle.ti_slots.specs.Indexing.{is_name_of, is_used_by, Adds, Removes, HasRoomAt, IsGrown, IsPart}
 
 -- ---- what depends on the entry of a name alone
 
@@ -200,25 +200,25 @@ room_more told more mid new name room h holder user step n e = elim (name_cases 
 take_push : {X : Type 0} (xs : List X) (k : ℕ) (x : X) → k < length xs → x ≡ get_or xs k x → take (k + 1) xs ≡ take k xs ++ x ∷ []
 take_push xs k x within e = take_more xs k x within ∙ ap (λ y. take k xs ++ y ∷ []) (sym e)
 
-named_push : (xs : List (RcSlice ℕ Global)) (x : RcSlice ℕ Global) (n : List ℕ) → named (xs ++ x ∷ []) n ≡ (named xs n || bytes_eq n (rc_slice_items x))
+named_push : (xs : List (RcSlice ℕ Global)) (x : RcSlice ℕ Global) (n : List ℕ) → is_name_of (xs ++ x ∷ []) n ≡ (is_name_of xs n || bytes_eq n (rc_slice_items x))
 named_push [] x n = or_none (bytes_eq n (rc_slice_items x))
 named_push (y ∷ ys) x n =
-    ap (λ b. bytes_eq n (rc_slice_items y) || b) (named_push ys x n) ∙ or_assoc (bytes_eq n (rc_slice_items y)) (named ys n) (bytes_eq n (rc_slice_items x))
+    ap (λ b. bytes_eq n (rc_slice_items y) || b) (named_push ys x n) ∙ or_assoc (bytes_eq n (rc_slice_items y)) (is_name_of ys n) (bytes_eq n (rc_slice_items x))
 
-pub named_more : (xs : List (RcSlice ℕ Global)) (k : ℕ) (x : RcSlice ℕ Global) (name : List ℕ) → k < length xs → x ≡ get_or xs k x → rc_slice_items x ≡ name → (n : List ℕ) → named (take (k + 1) xs) n ≡ (named (take k xs) n || bytes_eq n name)
+pub named_more : (xs : List (RcSlice ℕ Global)) (k : ℕ) (x : RcSlice ℕ Global) (name : List ℕ) → k < length xs → x ≡ get_or xs k x → rc_slice_items x ≡ name → (n : List ℕ) → is_name_of (take (k + 1) xs) n ≡ (is_name_of (take k xs) n || bytes_eq n name)
 named_more xs k x name within e is n =
-    ap (λ ys. named ys n) (take_push xs k x within e) ∙ (named_push (take k xs) x n ∙ ap (λ m. named (take k xs) n || bytes_eq n m) is)
+    ap (λ ys. is_name_of ys n) (take_push xs k x within e) ∙ (named_push (take k xs) x n ∙ ap (λ m. is_name_of (take k xs) n || bytes_eq n m) is)
 
-used_push : (xs : List Item) (x : Item) (n : List ℕ) → used (xs ++ x ∷ []) n ≡ (used xs n || use_passes (bytes_eq n) (used_name (said_of x.what)))
+used_push : (xs : List Item) (x : Item) (n : List ℕ) → is_used_by (xs ++ x ∷ []) n ≡ (is_used_by xs n || use_passes (bytes_eq n) (used_name (said_of x.what)))
 used_push [] x n = or_none (use_passes (bytes_eq n) (used_name (said_of x.what)))
 used_push (y ∷ ys) x n =
     ap (λ b. use_passes (bytes_eq n) (used_name (said_of y.what)) || b) (used_push ys x n)
-    ∙ or_assoc (use_passes (bytes_eq n) (used_name (said_of y.what))) (used ys n) (use_passes (bytes_eq n) (used_name (said_of x.what)))
+    ∙ or_assoc (use_passes (bytes_eq n) (used_name (said_of y.what))) (is_used_by ys n) (use_passes (bytes_eq n) (used_name (said_of x.what)))
 
-pub used_more : (xs : List Item) (k : ℕ) (x : Item) (import : RcSlice ℕ Global) (name : List ℕ) → k < length xs → x ≡ get_or xs k x → x.what ≡ Import import → rc_slice_items import ≡ name → (n : List ℕ) → used (take (k + 1) xs) n ≡ (used (take k xs) n || bytes_eq n name)
+pub used_more : (xs : List Item) (k : ℕ) (x : Item) (import : RcSlice ℕ Global) (name : List ℕ) → k < length xs → x ≡ get_or xs k x → x.what ≡ Import import → rc_slice_items import ≡ name → (n : List ℕ) → is_used_by (take (k + 1) xs) n ≡ (is_used_by (take k xs) n || bytes_eq n name)
 used_more xs k x import name within e what is n =
-    ap (λ ys. used ys n) (take_push xs k x within e)
-    ∙ (used_push (take k xs) x n ∙ ap (λ w. used (take k xs) n || use_passes (bytes_eq n) (used_name (said_of w))) what ∙ ap (λ m. used (take k xs) n || bytes_eq n m) is)
+    ap (λ ys. is_used_by ys n) (take_push xs k x within e)
+    ∙ (used_push (take k xs) x n ∙ ap (λ w. is_used_by (take k xs) n || use_passes (bytes_eq n) (used_name (said_of w))) what ∙ ap (λ m. is_used_by (take k xs) n || bytes_eq n m) is)
 
 no_use : (what : What) (n : List ℕ) → ((x : RcSlice ℕ Global) → what ≡ Import x → ⊥) → use_passes (bytes_eq n) (used_name (said_of what)) ≡ false
 no_use (Flag c) n h = refl
@@ -227,21 +227,21 @@ no_use (Text c t) n h = refl
 no_use (Cancel c) n h = refl
 no_use (Import x) n h = absurd (h x refl)
 
-pub used_same : (xs : List Item) (k : ℕ) (x : Item) → k < length xs → x ≡ get_or xs k x → ((y : RcSlice ℕ Global) → x.what ≡ Import y → ⊥) → (n : List ℕ) → used (take (k + 1) xs) n ≡ used (take k xs) n
+pub used_same : (xs : List Item) (k : ℕ) (x : Item) → k < length xs → x ≡ get_or xs k x → ((y : RcSlice ℕ Global) → x.what ≡ Import y → ⊥) → (n : List ℕ) → is_used_by (take (k + 1) xs) n ≡ is_used_by (take k xs) n
 used_same xs k x within e other n =
-    ap (λ ys. used ys n) (take_push xs k x within e) ∙ (used_push (take k xs) x n ∙ (ap (λ b. used (take k xs) n || b) (no_use x.what n other) ∙ or_none (used (take k xs) n)))
+    ap (λ ys. is_used_by ys n) (take_push xs k x within e) ∙ (used_push (take k xs) x n ∙ (ap (λ b. is_used_by (take k xs) n || b) (no_use x.what n other) ∙ or_none (is_used_by (take k xs) n)))
 
 -- what stands in a list is told of
-pub named_here : (xs : List (RcSlice ℕ Global)) (k : ℕ) (x : RcSlice ℕ Global) (name : List ℕ) → k < length xs → x ≡ get_or xs k x → rc_slice_items x ≡ name → named xs name ≡ true
+pub named_here : (xs : List (RcSlice ℕ Global)) (k : ℕ) (x : RcSlice ℕ Global) (name : List ℕ) → k < length xs → x ≡ get_or xs k x → rc_slice_items x ≡ name → is_name_of xs name ≡ true
 named_here [] k x name within e is = absurd (omega arith)
 named_here (y ∷ xs) zero x name within e is =
     let same : bytes_eq name (rc_slice_items y) ≡ true = (bytes_decides name (rc_slice_items y)).1 (sym is ∙ ap rc_slice_items e) in rw same refl
-named_here (y ∷ xs) (suc k) x name within e is = or_true (bytes_eq name (rc_slice_items y)) (named xs name) (named_here xs k x name (omega arith) e is)
+named_here (y ∷ xs) (suc k) x name within e is = or_true (bytes_eq name (rc_slice_items y)) (is_name_of xs name) (named_here xs k x name (omega arith) e is)
 
-pub used_here : (xs : List Item) (k : ℕ) (x : Item) (import : RcSlice ℕ Global) (name : List ℕ) → k < length xs → x ≡ get_or xs k x → x.what ≡ Import import → rc_slice_items import ≡ name → used xs name ≡ true
+pub used_here : (xs : List Item) (k : ℕ) (x : Item) (import : RcSlice ℕ Global) (name : List ℕ) → k < length xs → x ≡ get_or xs k x → x.what ≡ Import import → rc_slice_items import ≡ name → is_used_by xs name ≡ true
 used_here [] k x import name within e what is = absurd (omega arith)
 used_here (y ∷ xs) zero x import name within e what is =
     let same : bytes_eq name (rc_slice_items import) ≡ true = (bytes_decides name (rc_slice_items import)).1 (sym is) in
     let said : y.what ≡ Import import = ap (λ (z : Item). z.what) (sym e) ∙ what in rw (said, same) refl
 used_here (y ∷ xs) (suc k) x import name within e what is =
-    or_true (use_passes (bytes_eq name) (used_name (said_of y.what))) (used xs name) (used_here xs k x import name (omega arith) e what is)
+    or_true (use_passes (bytes_eq name) (used_name (said_of y.what))) (is_used_by xs name) (used_here xs k x import name (omega arith) e what is)

@@ -13,7 +13,7 @@ use Rattle.ti_index.specs.Names.{holders_at, users_at, holder_capacity, user_cap
 use Rattle.ti_slots.specs.declared.slots.Slot.{Slot}
 use Rattle.ti_slots.specs.declared.slots.Slots.{Slots}
 use Rattle.ti_slots.specs.Slots.{slot_at, reading_at, text_at, has_name, uses_name, empty_reading, StandsAt, IsIndexed}
-use Rattle.ti_slots.specs.Indexing.{named, used, Adds, Removes}
+use Rattle.ti_slots.specs.Indexing.{is_name_of, is_used_by, Adds, Removes}
 use Rattle.ti_slots.specs.Changes.{HasRoomFor, KeepsRooms, PutsIn, TakesOut}
 use Rattle.ti_slots.proofs.Adding.{capacity_more}
 use Rattle.ti_slots.proofs.Listings.{list_before, list_with, list_left, list_without, fewer_pass, one_less, and_right, map_put, map_taken, get_set, get_set_other, stood_before, left_before, length-put, length-taken}
@@ -56,8 +56,8 @@ pub record HasPut (a b : Slots) (mid : NameIndex) (at id : ℕ) (slot : Slot) : 
   pub fresh : ¬ Has a.order.listed id
   pub known : id < length a.slots.items
   pub slots : b.slots.items ≡ set a.slots.items id (Some slot)
-  pub holders : Adds holders_at users_at b.order.listed (named slot.block.names.items) id a.names mid
-  pub users : Adds users_at holders_at b.order.listed (used slot.block.items.items) id mid b.names
+  pub holders : Adds holders_at users_at b.order.listed (is_name_of slot.block.names.items) id a.names mid
+  pub users : Adds users_at holders_at b.order.listed (is_used_by slot.block.items.items) id mid b.names
 
 -- the lists of a name before, among the new ids
 pub holders_before : (a : Slots) (listed : List ℕ) (at id : ℕ) → IsIndexed a → listed ≡ insert a.order.listed at id → (Has a.order.listed id → ⊥) → (name : List ℕ) → holders_at a.names name ≡ filter (λ x. not (nat_eq x id) && has_name a.slots.items name x) listed
@@ -92,12 +92,12 @@ put_indexed a b mid at id slot i h =
       holders = λ name.
           h.users.kept name
           ∙ (h.holders.added name (λ x. not (nat_eq x id) && has_name a.slots.items name x) (holders_before a b.order.listed at id i h.listed h.fresh name)
-          ∙ list_with b.order.listed id (has_name a.slots.items name) (has_name b.slots.items name) (named slot.block.names.items name)
+          ∙ list_with b.order.listed id (has_name a.slots.items name) (has_name b.slots.items name) (is_name_of slot.block.names.items name)
           (λ x n. name_by_slot b.slots.items name x (slot_at a.slots.items x) (others x n))
           (name_by_slot b.slots.items name id (Some slot) here));
       users = λ name.
           h.users.added name (λ x. not (nat_eq x id) && uses_name a.slots.items name x) (h.holders.kept name ∙ users_before a b.order.listed at id i h.listed h.fresh name)
-          ∙ list_with b.order.listed id (uses_name a.slots.items name) (uses_name b.slots.items name) (used slot.block.items.items name)
+          ∙ list_with b.order.listed id (uses_name a.slots.items name) (uses_name b.slots.items name) (is_used_by slot.block.items.items name)
           (λ x n. use_by_slot b.slots.items name x (slot_at a.slots.items x) (others x n))
           (use_by_slot b.slots.items name id (Some slot) here);
     }
@@ -135,8 +135,8 @@ pub record HasTaken (a b : Slots) (mid : NameIndex) (at id : ℕ) (slot : Slot) 
   pub was : slot_at a.slots.items id ≡ Some slot
   pub known : id < length a.slots.items
   pub slots : b.slots.items ≡ set a.slots.items id None
-  pub holders : Removes holders_at users_at a.order.listed (named slot.block.names.items) id a.names mid
-  pub users : Removes users_at holders_at a.order.listed (used slot.block.items.items) id mid b.names
+  pub holders : Removes holders_at users_at a.order.listed (is_name_of slot.block.names.items) id a.names mid
+  pub users : Removes users_at holders_at a.order.listed (is_used_by slot.block.items.items) id mid b.names
 
 taken_gone : (a b : Slots) (mid : NameIndex) (at id : ℕ) (slot : Slot) → HasTaken a b mid at id slot → slot_at b.slots.items id ≡ None
 taken_gone a b mid at id slot h = rw h.slots (slot_set a.slots.items id None h.known)
@@ -149,12 +149,12 @@ holders_after : (a b : Slots) (mid : NameIndex) (at id : ℕ) (slot : Slot) → 
 holders_after a b mid at id slot i h name =
     h.users.kept name
     ∙ (h.holders.removed name (has_name a.slots.items name) (i.holders name)
-    ∙ list_left a.order.listed id (has_name a.slots.items name) (named slot.block.names.items name) (name_by_slot a.slots.items name id (Some slot) h.was))
+    ∙ list_left a.order.listed id (has_name a.slots.items name) (is_name_of slot.block.names.items name) (name_by_slot a.slots.items name id (Some slot) h.was))
 
 users_after : (a b : Slots) (mid : NameIndex) (at id : ℕ) (slot : Slot) → IsIndexed a → HasTaken a b mid at id slot → (name : List ℕ) → users_at b.names name ≡ filter (λ x. not (nat_eq x id) && uses_name a.slots.items name x) a.order.listed
 users_after a b mid at id slot i h name =
     h.users.removed name (uses_name a.slots.items name) (h.holders.kept name ∙ i.users name)
-    ∙ list_left a.order.listed id (uses_name a.slots.items name) (used slot.block.items.items name) (use_by_slot a.slots.items name id (Some slot) h.was)
+    ∙ list_left a.order.listed id (uses_name a.slots.items name) (is_used_by slot.block.items.items name) (use_by_slot a.slots.items name id (Some slot) h.was)
 
 taken_filled : (a b : Slots) (mid : NameIndex) (at id : ℕ) (slot : Slot) → IsIndexed a → HasTaken a b mid at id slot → (pos x : ℕ) → StandsAt b pos x → IsSome (slot_at b.slots.items x)
 taken_filled a b mid at id slot i h pos x e =

@@ -12,12 +12,12 @@ use Rattle.ti_index.specs.declared.names.NameIndex.{NameIndex}
 use Rattle.ti_index.specs.Names.{mentions_at, HasHolderRoom, HasUserRoom, IsSeenSame, KeepsCapacity}
 
 -- whether a name is one of these
-abbrev pub named : List (RcSlice ℕ Global) → List ℕ → Bool
-named names name = is_among name (map rc_slice_items names)
+abbrev pub is_name_of : List (RcSlice ℕ Global) → List ℕ → Bool
+is_name_of names name = is_among name (map rc_slice_items names)
 
 -- whether one of the items uses a name
-abbrev pub used : List Item → List ℕ → Bool
-used items name = any_use (bytes_eq name) (map item_of items)
+abbrev pub is_used_by : List Item → List ℕ → Bool
+is_used_by items name = any_use (bytes_eq name) (map item_of items)
 
 -- the list has those of the order that pass some test
 abbrev pub IsPart : List ℕ → List ℕ → Type 0

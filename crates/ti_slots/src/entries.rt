@@ -1,7 +1,7 @@
 // The entry of a block.
 ghost use Rattle.std.specs.Prelude.{◌≡◌};
 ghost use Rattle.ti_caps.specs.Tables.{Capability, IsCapability};
-ghost use Rattle.ti_layout.specs.Laws.{uncancelled};
+ghost use Rattle.ti_layout.specs.Laws.{without_cancel};
 ghost use Rattle.ti_layout.specs.Values.{contents};
 ghost use Rattle.ti_compiled.specs.Held.{contents_in};
 
@@ -14,5 +14,5 @@ pub struct Entry {
     pub table: Table,
     /// The entry.
     pub image: Image,
-    pub ghost held: { (c : Capability) → IsCapability c → contents_in image c ≡ uncancelled (contents table c) },
+    pub ghost held: { (c : Capability) → IsCapability c → contents_in image c ≡ without_cancel (contents table c) },
 }

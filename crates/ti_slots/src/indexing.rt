@@ -2,7 +2,7 @@
 ghost use Rattle.std.specs.Prelude.{◌≡◌, ◌⊎◌, ℕ, List, OnOk, true};
 ghost use Rattle.ti_index.specs.Labels.{Has};
 ghost use Rattle.ti_index.specs.Names.{holders_at, users_at, HasHolderRoom, HasUserRoom};
-ghost use Rattle.ti_slots.specs.Indexing.{named, used, Adds, HasRoomAt, IsGrown, IsPart, Removes, ShowsSameNames};
+ghost use Rattle.ti_slots.specs.Indexing.{is_name_of, is_used_by, Adds, HasRoomAt, IsGrown, IsPart, Removes, ShowsSameNames};
 
 use std::alloc::AllocError;
 use std::rc::RcSlice;
@@ -13,8 +13,8 @@ use ti_source::{Item, What};
 pub(crate) fn add_holders(index: &mut NameIndex, order: &Order, names: &[RcSlice<u8>], id: u32)
     requires stands { Has order.now.listed id }
     requires parts { (name : List ℕ) → IsPart order.now.listed (holders_at index.old name) }
-    requires room { (name : List ℕ) → named names.now name ≡ true → HasHolderRoom index.old name }
-    ensures { Adds holders_at users_at order.now.listed (named names.now) id index.old index.new }
+    requires room { (name : List ℕ) → is_name_of names.now name ≡ true → HasHolderRoom index.old name }
+    ensures { Adds holders_at users_at order.now.listed (is_name_of names.now) id index.old index.new }
 {
     for name in names {
         index.add_holder(order, name.as_slice(), id);
@@ -25,8 +25,8 @@ pub(crate) fn add_holders(index: &mut NameIndex, order: &Order, names: &[RcSlice
 pub(crate) fn add_users(index: &mut NameIndex, order: &Order, items: &[Item], id: u32)
     requires stands { Has order.now.listed id }
     requires parts { (name : List ℕ) → IsPart order.now.listed (users_at index.old name) }
-    requires room { (name : List ℕ) → used items.now name ≡ true → HasUserRoom index.old name }
-    ensures { Adds users_at holders_at order.now.listed (used items.now) id index.old index.new }
+    requires room { (name : List ℕ) → is_used_by items.now name ≡ true → HasUserRoom index.old name }
+    ensures { Adds users_at holders_at order.now.listed (is_used_by items.now) id index.old index.new }
 {
     for item in items {
         if let What::Import(name) = &item.what {
@@ -39,7 +39,7 @@ pub(crate) fn add_users(index: &mut NameIndex, order: &Order, items: &[Item], id
 pub(crate) fn remove_holders(index: &mut NameIndex, order: &Order, names: &[RcSlice<u8>], id: u32)
     requires stands { Has order.now.listed id }
     requires parts { (name : List ℕ) → IsPart order.now.listed (holders_at index.old name) }
-    ensures { Removes holders_at users_at order.now.listed (named names.now) id index.old index.new }
+    ensures { Removes holders_at users_at order.now.listed (is_name_of names.now) id index.old index.new }
 {
     for name in names {
         index.remove_holder(order, name.as_slice(), id);
@@ -50,7 +50,7 @@ pub(crate) fn remove_holders(index: &mut NameIndex, order: &Order, names: &[RcSl
 pub(crate) fn remove_users(index: &mut NameIndex, order: &Order, items: &[Item], id: u32)
     requires stands { Has order.now.listed id }
     requires parts { (name : List ℕ) → IsPart order.now.listed (users_at index.old name) }
-    ensures { Removes users_at holders_at order.now.listed (used items.now) id index.old index.new }
+    ensures { Removes users_at holders_at order.now.listed (is_used_by items.now) id index.old index.new }
 {
     for item in items {
         if let What::Import(name) = &item.what {
@@ -62,7 +62,7 @@ pub(crate) fn remove_users(index: &mut NameIndex, order: &Order, items: &[Item],
 /// Makes room at the names.
 pub(crate) fn reserve_names(index: &mut NameIndex, names: &[RcSlice<u8>]) -> Result<(), AllocError>
     ensures grown { IsGrown index.old index.new }
-    ensures room { OnOk result (HasRoomAt (named names.now) index.new) }
+    ensures room { OnOk result (HasRoomAt (is_name_of names.now) index.new) }
 {
     for name in names {
         index.reserve(name.as_slice())?;
@@ -73,7 +73,7 @@ pub(crate) fn reserve_names(index: &mut NameIndex, names: &[RcSlice<u8>]) -> Res
 /// Makes room at the names that the items use.
 pub(crate) fn reserve_uses(index: &mut NameIndex, items: &[Item]) -> Result<(), AllocError>
     ensures grown { IsGrown index.old index.new }
-    ensures room { OnOk result (HasRoomAt (used items.now) index.new) }
+    ensures room { OnOk result (HasRoomAt (is_used_by items.now) index.new) }
 {
     for item in items {
         if let What::Import(name) = &item.what {

@@ -5,7 +5,7 @@ use Rattle.std.proofs.lemmas.List.{append-nil}
 use Rattle.ti_source.proofs.CutLemmas.{lines_add}
 use Rattle.ti_source.specs.WhiteSpace.{is_white_space}
 use Rattle.ti_source.specs.Lines.{line_count}
-use Rattle.ti_source.specs.Folding.{Placed, placed, without_comments, joined, folded, ArePlaced, HasNoNewline, AreLines, no_lines, last_line, line_and_rest, is_comment, is_blank, IsBlankRun, BeginsNoBlank, Joins, last_piece, piece_and_break, Folds, OneFolding, EachIsFolded}
+use Rattle.ti_source.specs.Folding.{Placed, bytes_on_lines, without_comments, without_breaks, folding_of, ArePlaced, HasNoNewline, AreLines, no_lines, last_line, line_and_rest, is_comment, is_blank, IsBlankRun, BeginsNoBlank, Joins, last_piece, piece_and_break, Folds, OneFolding, EachIsFolded}
 
 -- ---- bytes with their lines
 
@@ -30,7 +30,7 @@ counted_later first x xs counted front back y e =
     let here : y.1 ≡ line_count (x.0 ∷ bytes) + first = counted (x ∷ front) back y (ap (λ t. x ∷ t) e) in
     moved (x.0 == 10) y.1 (line_count bytes) first (here ∙ ap (λ n. n + first) (count-cons x.0 bytes))
 
-pub placed_so : (first : ℕ) (text : List Placed) → AreCounted first text → text ≡ placed first (map (λ x. x.0) text)
+pub placed_so : (first : ℕ) (text : List Placed) → AreCounted first text → text ≡ bytes_on_lines first (map (λ x. x.0) text)
 placed_so first [] counted = refl
 placed_so first (x ∷ xs) counted =
     let here : x.1 ≡ 0 + first = counted [] xs x refl in
@@ -38,14 +38,14 @@ placed_so first (x ∷ xs) counted =
     let later = placed_so (cond (x.0 == 10) (first + 1) first) xs (counted_later first x xs counted) in
     ap (λ n. (x.0, n) ∷ xs) line ∙ ap (λ t. (x.0, first) ∷ t) later
 
-bytes-placed : (first : ℕ) (s : List ℕ) → map (λ x. x.0) (placed first s) ≡ s
+bytes-placed : (first : ℕ) (s : List ℕ) → map (λ x. x.0) (bytes_on_lines first s) ≡ s
 bytes-placed first [] = refl
 bytes-placed first (b ∷ bs) = ap (λ t. b ∷ t) (bytes-placed (cond (b == 10) (first + 1) first) bs)
 
 head_same : (x y : Placed) (s t : List Placed) → x ∷ s ≡ y ∷ t → (x ≡ y) × (s ≡ t)
 head_same x y s t e = (cc, cc)
 
-counted_so : (first : ℕ) (s : List ℕ) → AreCounted first (placed first s)
+counted_so : (first : ℕ) (s : List ℕ) → AreCounted first (bytes_on_lines first s)
 counted_so first [] [] back x e = cc
 counted_so first [] (y ∷ ys) back x e = cc
 counted_so first (b ∷ bs) [] back x e = sym (ap (λ (p : Placed). p.1) (head_same _ _ _ _ e).0) ∙ sym (zero-add first)
@@ -56,11 +56,11 @@ counted_so first (b ∷ bs) (y ∷ ys) back x e =
     let later = counted_so (cond (b == 10) (first + 1) first) bs ys back x rest in
     moved_back (b == 10) x.1 (line_count bytes) first later ∙ ap (λ n. n + first) (sym (count-cons b bytes)) ∙ ap (λ c. line_count (c ∷ bytes) + first) byte
 
-are_placed_so : (block : List ℕ) → ArePlaced block (placed 1 block)
+are_placed_so : (block : List ℕ) → ArePlaced block (bytes_on_lines 1 block)
 are_placed_so block = record { bytes = bytes-placed 1 block; lines = counted_so 1 block }
 
-one_placing : (block : List ℕ) (text : List Placed) → ArePlaced block text → text ≡ placed 1 block
-one_placing block text are = placed_so 1 text are.lines ∙ ap (placed 1) are.bytes
+one_placing : (block : List ℕ) (text : List Placed) → ArePlaced block text → text ≡ bytes_on_lines 1 block
+one_placing block text are = placed_so 1 text are.lines ∙ ap (bytes_on_lines 1) are.bytes
 
 -- ---- lines, and those that are no comments
 
@@ -121,11 +121,11 @@ some_lines (x ∷ xs) =
 
 -- ---- pieces and breaks
 
-joined_piece : (piece t : List Placed) → HasNoNewline piece → joined false (piece ++ t) ≡ piece ++ joined false t
+joined_piece : (piece t : List Placed) → HasNoNewline piece → without_breaks false (piece ++ t) ≡ piece ++ without_breaks false t
 joined_piece [] t none = refl
 joined_piece (x ∷ xs) t none = rw none.0 (ap (λ r. x ∷ r) (joined_piece xs t none.1))
 
-joined_run : (run t : List Placed) → IsBlankRun run → joined true (run ++ t) ≡ joined true t
+joined_run : (run t : List Placed) → IsBlankRun run → without_breaks true (run ++ t) ≡ without_breaks true t
 joined_run [] t blank = refl
 joined_run (x ∷ xs) t blank = rw blank.0 (joined_run xs t blank.1)
 
@@ -138,12 +138,12 @@ first_false : (a w : Bool) → (a || w) ≡ false → a ≡ false
 first_false true w h = h
 first_false false w h = refl
 
-joined_end : (rest : List Placed) → BeginsNoBlank rest → joined true rest ≡ joined false rest
+joined_end : (rest : List Placed) → BeginsNoBlank rest → without_breaks true rest ≡ without_breaks false rest
 joined_end [] none = refl
-joined_end (x ∷ xs) none = both_false (x.0 == 10) (is_white_space x.0) (joined true xs) (x ∷ joined false xs) none
+joined_end (x ∷ xs) none = both_false (x.0 == 10) (is_white_space x.0) (without_breaks true xs) (x ∷ without_breaks false xs) none
 
-pub joins_so : (text kept : List Placed) → Joins text kept → kept ≡ joined false text
-joins_so _ _ (last_piece piece none) = sym (ap (joined false) (sym (append-nil piece)) ∙ joined_piece piece [] none ∙ append-nil piece)
+pub joins_so : (text kept : List Placed) → Joins text kept → kept ≡ without_breaks false text
+joins_so _ _ (last_piece piece none) = sym (ap (without_breaks false) (sym (append-nil piece)) ∙ joined_piece piece [] none ∙ append-nil piece)
 joins_so _ _ (piece_and_break piece run rest kept at none blank ends more) =
     sym (joined_piece piece ((10, at) ∷ (run ++ rest)) none
     ∙ ap (λ r. piece ++ r) (joined_run run rest blank ∙ joined_end rest ends ∙ sym (joins_so rest kept more)))
@@ -154,22 +154,22 @@ byte_before x _ _ n (piece_and_break piece run rest kept at none blank ends more
 
 -- a text joins to what is computed, by itself and after a newline
 record Joining (text : List Placed) : Type 0 where
-  kept : Joins text (joined false text)
+  kept : Joins text (without_breaks false text)
   run : List Placed
   rest : List Placed
   whole : text ≡ run ++ rest
   blank : IsBlankRun run
   ends : BeginsNoBlank rest
-  after : Joins rest (joined true text)
+  after : Joins rest (without_breaks true text)
 
-joins_by_itself : (x : Placed) (xs : List Placed) → Joining xs → Joins (x ∷ xs) (joined false (x ∷ xs))
+joins_by_itself : (x : Placed) (xs : List Placed) → Joining xs → Joins (x ∷ xs) (without_breaks false (x ∷ xs))
 joins_by_itself x xs later =
     elim (cases_Bool (x.0 == 10)) [
       | inl t ↦
-          let from_rest = piece_and_break [] later.run later.rest (joined true xs) x.1 tt later.blank later.ends later.after in
-          let from_newline = subst (λ r. Joins ((10, x.1) ∷ r) (joined true xs)) (sym later.whole) from_rest in
-          rw t (subst (λ b. Joins ((b, x.1) ∷ xs) (joined true xs)) (sym (eqb-true x.0 10 t)) from_newline)
-      | inr f ↦ rw f (byte_before x xs (joined false xs) f later.kept)
+          let from_rest = piece_and_break [] later.run later.rest (without_breaks true xs) x.1 tt later.blank later.ends later.after in
+          let from_newline = subst (λ r. Joins ((10, x.1) ∷ r) (without_breaks true xs)) (sym later.whole) from_rest in
+          rw t (subst (λ b. Joins ((b, x.1) ∷ xs) (without_breaks true xs)) (sym (eqb-true x.0 10 t)) from_newline)
+      | inr f ↦ rw f (byte_before x xs (without_breaks false xs) f later.kept)
     ]
 
 joining_before : (x : Placed) (xs : List Placed) → Joining xs → Joining (x ∷ xs)
@@ -184,7 +184,7 @@ joining_before x xs later =
         whole = refl;
         blank = tt;
         ends = f;
-        after = rw f (byte_before x xs (joined false xs) (first_false (x.0 == 10) (is_white_space x.0) f) later.kept);
+        after = rw f (byte_before x xs (without_breaks false xs) (first_false (x.0 == 10) (is_white_space x.0) f) later.kept);
       }
     ]
 
@@ -194,7 +194,7 @@ joining (x ∷ xs) = joining_before x xs (joining xs)
 
 pub each_is_folded : EachIsFolded
 each_is_folded block =
-    let whole = placed 1 block in
+    let whole = bytes_on_lines 1 block in
     let (ls, are) = some_lines whole in
     let text = without_comments false 10 whole in
     record {
@@ -202,13 +202,13 @@ each_is_folded block =
       lines = ls;
       are_placed = are_placed_so block;
       are_lines = are;
-      joins = subst (λ t. Joins t (joined false text)) (lines_left false whole ls are) (joining text).kept;
+      joins = subst (λ t. Joins t (without_breaks false text)) (lines_left false whole ls are) (joining text).kept;
     }
 
-only_folded : (block : List ℕ) (text : List Placed) → Folds block text → text ≡ folded block
+only_folded : (block : List ℕ) (text : List Placed) → Folds block text → text ≡ folding_of block
 only_folded block text f =
     let left = lines_left false f.whole f.lines f.are_lines in
-    joins_so _ text f.joins ∙ ap (joined false) (sym left ∙ ap (without_comments false 10) (one_placing block f.whole f.are_placed))
+    joins_so _ text f.joins ∙ ap (without_breaks false) (sym left ∙ ap (without_comments false 10) (one_placing block f.whole f.are_placed))
 
 pub one_folding : OneFolding
 one_folding block one other f g = only_folded block one f ∙ sym (only_folded block other g)

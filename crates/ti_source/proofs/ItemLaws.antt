@@ -4,7 +4,7 @@ use Rattle.std.proofs.lemmas.List.{append-nil}
 use Rattle.std.proofs.lemmas.Bool.{cases_Bool, eqb-true, eq-eqb, ne_eqb, and_parts, false≢true}
 use Rattle.std.proofs.lemmas.Bool.Decides.{eqb_tells}
 use Rattle.ti_source.specs.declared.items.Taken.TheVariants as taken
-use Rattle.ti_source.specs.WhiteSpace.{is_white_space, trimmed}
+use Rattle.ti_source.specs.WhiteSpace.{is_white_space, without_trailing_space}
 use Rattle.ti_source.specs.Blocks.{last_byte}
 use Rattle.ti_source.specs.Folding.{Placed}
 use Rattle.ti_source.specs.Items.{HasNoComma, Begins, all_field, field_and_rest, takes, stands_alone, AreItems, last_item, item_ends, pair_of_bytes, single_byte, is_mark, HasNoMark, IsWhite, IsEnabled, States, empty_item, disabled_item, number_item, text_item, cancel_item, flag_item, Statement, claims_flag, claims_number, claims_text, claims_cancel}
@@ -227,7 +227,7 @@ states-flag (x ∷ xs) end none white on visible other =
     let last = last_byte 0 (x ∷ xs) in
     let split : x ∷ xs ≡ front ++ last ∷ [] = last_split x xs in
     let joined : text ≡ front ++ last ∷ end = ap (λ s. s ++ end) split ∙ append_assoc front (last ∷ []) end in
-    let trims : trimmed text ≡ x ∷ xs = trimmed-is text ∙ ap without_end joined ∙ without_end-before front last end visible white ∙ sym split in
+    let trims : without_trailing_space text ≡ x ∷ xs = trimmed-is text ∙ ap without_end joined ∙ without_end-before front last end visible white ∙ sym split in
     let plain : from_mark text ≡ [] = from_mark-none text (HasNoMark-append (x ∷ xs) end none (IsWhite-no_mark end white)) in
     let states_it : statement_of text ≡ Some (statement_by_mark text (from_mark text)) = statement-of text on (λ e. cc) in
     ap Some (plain_statement-flag x xs other ∙ ap plain_statement (sym trims) ∙ ap (statement_by_mark text) (sym plain)) ∙ sym states_it

@@ -8,7 +8,7 @@ use Rattle.std.proofs.lemmas.List.Elements.{All-nil, All-head, All-tail}
 use Rattle.std.proofs.lemmas.List.Sums.{AllPass-from_list_all, list_all-from_AllPass}
 use Rattle.ti_source.specs.declared.numbers.NumberError.{NumberError}
 use Rattle.ti_source.specs.declared.numbers.NumberError.TheVariants.{Bad, TooLarge}
-use Rattle.ti_source.specs.WhiteSpace.{is_white_space, trimmed}
+use Rattle.ti_source.specs.WhiteSpace.{is_white_space, without_trailing_space}
 use Rattle.ti_source.specs.Numbers.{digit_value, IsDigit, value_in, IsNumber, octal, hexadecimal, decimal, IsNumeral, greatest_number, ReadsAs, NumeralsHaveOneValue}
 use Rattle.ti_source.specs.inside.Numbers.{digits_read, after_zero_read, value_read, within_limit, number_read, EachTextIsRead, NumbersHaveOneReading}
 
@@ -59,7 +59,7 @@ number_is_dark (hexadecimal x d ds (inr e) a) = (refl, (ap is_white_space e, dar
 number_is_dark (decimal d ds m a) = dark_digits 10 (d ∷ ds) (omega arith) a
 
 -- ---- white space at the end
-trimmed-dark : (n space : List ℕ) → IsDark n → AllPass is_white_space space → trimmed (n ++ space) ≡ n
+trimmed-dark : (n space : List ℕ) → IsDark n → AllPass is_white_space space → without_trailing_space (n ++ space) ≡ n
 trimmed-dark [] [] d b = refl
 trimmed-dark [] (x ∷ xs) d b = let t = list_all-from_AllPass is_white_space (x ∷ xs) b in rw t refl
 trimmed-dark (x ∷ n) space d b =
@@ -67,7 +67,7 @@ trimmed-dark (x ∷ n) space d b =
     rw f (ap (λ r. x ∷ r) (trimmed-dark n space d.1 b))
 
 record Trims (s space : List ℕ) : Type 0 where
-  whole : s ≡ trimmed s ++ space
+  whole : s ≡ without_trailing_space s ++ space
   blank : AllPass is_white_space space
 
 trims : (s : List ℕ) → (space : List ℕ) × Trims s space
@@ -128,19 +128,19 @@ read_is_number (d ∷ ds) v e =
     ]
 
 -- ---- what a text reads as
-numeral_is_read : (text : List ℕ) (v : ℕ) → IsNumeral text v → value_read (trimmed text) ≡ Some v
+numeral_is_read : (text : List ℕ) (v : ℕ) → IsNumeral text v → value_read (without_trailing_space text) ≡ Some v
 numeral_is_read text v n =
-    ap value_read (ap trimmed n.whole ∙ trimmed-dark n.number n.space (number_is_dark n.written) n.blank) ∙ number_is_read n.written
+    ap value_read (ap without_trailing_space n.whole ∙ trimmed-dark n.number n.space (number_is_dark n.written) n.blank) ∙ number_is_read n.written
 
-read_is_numeral : (text : List ℕ) (v : ℕ) → value_read (trimmed text) ≡ Some v → IsNumeral text v
+read_is_numeral : (text : List ℕ) (v : ℕ) → value_read (without_trailing_space text) ≡ Some v → IsNumeral text v
 read_is_numeral text v e =
     let space = trims text in
-    record { number = trimmed text; space = space.0; whole = space.1.whole; blank = space.1.blank; written = read_is_number (trimmed text) v e }
+    record { number = without_trailing_space text; space = space.0; whole = space.1.whole; blank = space.1.blank; written = read_is_number (without_trailing_space text) v e }
 
 pub one_value : NumeralsHaveOneValue
 one_value text v w n m = let same = sym (numeral_is_read text v n) ∙ numeral_is_read text w m in cc
 
-reads_within : (text : List ℕ) (o : Option ℕ) → value_read (trimmed text) ≡ o → ReadsAs text (within_limit o)
+reads_within : (text : List ℕ) (o : Option ℕ) → value_read (without_trailing_space text) ≡ o → ReadsAs text (within_limit o)
 reads_within text None e = λ v n. (let clash = sym e ∙ numeral_is_read text v n in cc)
 reads_within text (Some v) e =
     elim (cases_Bool (nat_le v greatest_number)) [
@@ -149,13 +149,13 @@ reads_within text (Some v) e =
     ]
 
 pub each_text : EachTextIsRead
-each_text text = reads_within text (value_read (trimmed text)) refl
+each_text text = reads_within text (value_read (without_trailing_space text)) refl
 
 -- a computed reading is one
 pub reads_as : (text : List ℕ) (r : Result ℕ NumberError) → r ≡ number_read text → ReadsAs text r
 reads_as text r e = subst (ReadsAs text) (sym e) (each_text text)
 
-no_numeral : (text : List ℕ) (o : Option ℕ) → value_read (trimmed text) ≡ o → ((v : ℕ) → IsNumeral text v → ⊥) → within_limit o ≡ Err Bad
+no_numeral : (text : List ℕ) (o : Option ℕ) → value_read (without_trailing_space text) ≡ o → ((v : ℕ) → IsNumeral text v → ⊥) → within_limit o ≡ Err Bad
 no_numeral text None e n = refl
 no_numeral text (Some v) e n = absurd (n v (read_is_numeral text v e))
 
@@ -166,4 +166,4 @@ one_reading text (Ok v) h =
 one_reading text (Err TooLarge) h =
     let f = lt-leb h.0 greatest_number h.2 in
     ap within_limit (numeral_is_read text h.0 h.1) ∙ rw f refl
-one_reading text (Err Bad) h = no_numeral text (value_read (trimmed text)) refl h
+one_reading text (Err Bad) h = no_numeral text (value_read (without_trailing_space text)) refl h

@@ -10,16 +10,16 @@ use Rattle.ti_source.specs.declared.numbers.NumberError.{NumberError}
 use Rattle.ti_source.specs.declared.numbers.NumberError.TheVariants.{Bad, TooLarge}
 use Rattle.ti_spelling.specs.declared.spelling.UnescapeError.{UnescapeError}
 use Rattle.ti_source.specs.WhiteSpace.{is_white_space}
-use Rattle.ti_spelling.specs.inside.Spelling.{unescaped, UnescapedAgrees}
+use Rattle.ti_spelling.specs.inside.Spelling.{unescape_result, UnescapedAgrees}
 use Rattle.ti_source.specs.inside.Header.{header_names}
 use Rattle.ti_source.specs.Numbers.{ReadsAs}
 use Rattle.ti_source.specs.inside.Numbers.{number_read}
-use Rattle.ti_source.specs.Folding.{Placed, folded}
+use Rattle.ti_source.specs.Folding.{Placed, folding_of}
 use Rattle.ti_source.specs.Items.{Claim, claims_flag, claims_number, claims_text, claims_cancel, Statement, States, bytes, piece_of}
 use Rattle.ti_source.specs.inside.Items.{field_of, after_field, items_of, statement_of}
 use Rattle.ti_source.specs.Reading.{ReadItem, ReadFault, Reading}
 use Rattle.ti_source.specs.Parsing.{ReadsItems, reads_nothing, reads_ignored, reads_judged, ReadsHeader, bad_header, long_header, good_header, Parses, HasReading, OneReading}
-use Rattle.ti_source.specs.inside.Parsing.{items_at, faults_at, items_from, faults_from, names_found, header_faults, ReadsField, AddsItems, block_field, block_items, parsed}
+use Rattle.ti_source.specs.inside.Parsing.{items_at, faults_at, items_from, faults_from, names_found, header_faults, ReadsField, AddsItems, block_field, block_items, reading_of_text}
 use Rattle.ti_source.specs.inside.Verdicts.{number_verdict, text_verdict, fitting_verdict, named_verdict, verdict_of}
 use Rattle.ti_source.specs.Header.{names_limit}
 use Rattle.ti_source.specs.Verdicts.{Verdict, refused, fits, is_import, Judges, judged_import, judged_unknown, judged_wrong_kind, judged_flag, judged_cancel, judged_number, judged_bad_number, judged_large_number, judged_text, judged_odd_text, judged_bad_text, items_by, faults_by, header_fault}
@@ -72,7 +72,7 @@ judged_by_number name text c (Err Bad) e is read = judged_bad_number name text c
 judged_by_number name text c (Err TooLarge) e is read = judged_large_number name text c read.0 e is read.1 read.2
 
 judged_by_text : UnescapedAgrees → (name value : List ℕ) (c : Capability) (found : Result (List ℕ × Bool) UnescapeError) → is_import name (claims_text value) ≡ false
-    → capability_named name ≡ Some c → c.kind ≡ kind.Text → unescaped value ≡ found → Judges name (claims_text value) (text_verdict c found)
+    → capability_named name ≡ Some c → c.kind ≡ kind.Text → unescape_result value ≡ found → Judges name (claims_text value) (text_verdict c found)
 judged_by_text agrees name value c (Ok (text, true)) f e is found = judged_odd_text name value text c f e is (((agrees value).spelled text true).1 found)
 judged_by_text agrees name value c (Ok (text, false)) f e is found = judged_text name value text c f e is (((agrees value).spelled text false).1 found)
 judged_by_text agrees name value c (Err cause) f e is found = judged_bad_text name value c cause f e is (((agrees value).refused cause).1 found)
@@ -87,7 +87,7 @@ judged_by_kind agrees name (claims_number text) c kind.Number f e is = judged_by
 judged_by_kind agrees name (claims_number text) c kind.Text f e is = judged_wrong_kind name (claims_number text) c f e (ap (fits (claims_number text)) is)
 judged_by_kind agrees name (claims_text value) c kind.Flag f e is = judged_wrong_kind name (claims_text value) c f e (ap (fits (claims_text value)) is)
 judged_by_kind agrees name (claims_text value) c kind.Number f e is = judged_wrong_kind name (claims_text value) c f e (ap (fits (claims_text value)) is)
-judged_by_kind agrees name (claims_text value) c kind.Text f e is = judged_by_text agrees name value c (unescaped value) f e is refl
+judged_by_kind agrees name (claims_text value) c kind.Text f e is = judged_by_text agrees name value c (unescape_result value) f e is refl
 judged_by_kind agrees name claims_cancel c k f e is = judged_cancel name c e
 
 judged_by_name : UnescapedAgrees → (name : List ℕ) (claim : Claim) (o : Option Capability) → is_import name claim ≡ false → capability_named name ≡ o → Judges name claim (named_verdict claim o)
@@ -160,9 +160,9 @@ one_header _ _ _ (good_header field names found short) =
 -- ---- a block
 
 pub has_reading : UnescapedAgrees → HasReading
-unfolding parsed
+unfolding reading_of_text
 has_reading agrees block =
-    let text = folded block in
+    let text = folding_of block in
     record {
       field = field_of text;
       rest = after_field text;
@@ -182,15 +182,15 @@ same_reading one other field names items faults =
     ap (λ (x : List ℕ). record one { field = x }) field ∙ ap (λ (x : List (List ℕ)). record one { field = other.field; names = x }) names
     ∙ ap (λ (x : List ReadItem). record other { items = x; faults = one.faults }) items ∙ ap (λ (x : List ReadFault). record other { faults = x }) faults
 
-is_parsed : UnescapedAgrees → (block : List ℕ) (reading : Reading) → Parses block reading → reading ≡ parsed block
-unfolding parsed
+is_parsed : UnescapedAgrees → (block : List ℕ) (reading : Reading) → Parses block reading → reading ≡ reading_of_text block
+unfolding reading_of_text
 is_parsed agrees block reading p =
-    let field = one_field (folded block) p.field p.rest p.begins in
+    let field = one_field (folding_of block) p.field p.rest p.begins in
     let items : p.items ≡ block_items block = one_items 44 p.rest p.items p.cut ∙ ap (items_of taken.Nothing 44) field.1 in
     let same_field : reading.field ≡ block_field block = p.is_field ∙ ap bytes field.0 in
     let header = one_header reading.field reading.names p.of_header p.reads_header in
     let read = one_read agrees 0 p.items reading.items p.of_items p.reads_items in
-    same_reading reading (parsed block) same_field
+    same_reading reading (reading_of_text block) same_field
     (header.0 ∙ ap (λ f. names_found (header_names f)) same_field)
     (read.0 ∙ ap (items_from 0) items)
     (p.faults ∙ ap (λ f. f ++ p.of_items) (header.1 ∙ ap (λ f. header_faults f (header_names f)) same_field)
@@ -200,13 +200,13 @@ pub one_reading : UnescapedAgrees → OneReading
 one_reading agrees block one other p q = is_parsed agrees block one p ∙ sym (is_parsed agrees block other q)
 
 -- a block that is read part by part
-pub parsed_by_parts : (block field : List ℕ) (source rest : List Placed) (header reading : Reading) → source ≡ folded block → field ≡ bytes (field_of source) → rest ≡ after_field source
-    → ReadsField field header → AddsItems rest header reading → reading ≡ parsed block
-unfolding parsed
+pub parsed_by_parts : (block field : List ℕ) (source rest : List Placed) (header reading : Reading) → source ≡ folding_of block → field ≡ bytes (field_of source) → rest ≡ after_field source
+    → ReadsField field header → AddsItems rest header reading → reading ≡ reading_of_text block
+unfolding reading_of_text
 parsed_by_parts block field source rest header reading at_start is_field at_rest reads adds =
     let same_field : field ≡ block_field block = is_field ∙ ap (λ s. bytes (field_of s)) at_start in
     let same_items : items_of taken.Nothing 44 rest ≡ block_items block = ap (items_of taken.Nothing 44) (at_rest ∙ ap after_field at_start) in
-    same_reading reading (parsed block) (adds.same_field ∙ reads.is_field ∙ same_field)
+    same_reading reading (reading_of_text block) (adds.same_field ∙ reads.is_field ∙ same_field)
     (adds.same_names ∙ reads.names ∙ ap (λ f. names_found (header_names f)) same_field)
     (adds.more_items ∙ ap (λ l. l ++ items_from 0 (items_of taken.Nothing 44 rest)) reads.items ∙ ap (items_from 0) same_items)
     (adds.more_faults ∙ ap (λ l. l ++ faults_from 0 (items_of taken.Nothing 44 rest)) (reads.faults ∙ ap (λ f. header_faults f (header_names f)) same_field)

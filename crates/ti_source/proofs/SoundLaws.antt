@@ -23,12 +23,12 @@ use Rattle.ti_source.specs.Header.{IsBadHeader, HeaderNames, IsLookupName}
 use Rattle.ti_source.specs.inside.Header.{header_names}
 use Rattle.ti_source.specs.Numbers.{ReadsAs}
 use Rattle.ti_source.specs.inside.Numbers.{number_read}
-use Rattle.ti_spelling.specs.inside.Spelling.{unescaped, ValuesAreSound}
-use Rattle.ti_source.specs.Folding.{Placed, placed, in_comment, without_comments, joined, folded}
+use Rattle.ti_spelling.specs.inside.Spelling.{unescape_result, ValuesAreSound}
+use Rattle.ti_source.specs.Folding.{Placed, bytes_on_lines, in_comment, without_comments, without_breaks, folding_of}
 use Rattle.ti_source.specs.Items.{Claim, claims_flag, claims_number, claims_text, claims_cancel, Statement, bytes, without_front, line_of, piece_of}
 use Rattle.ti_source.specs.inside.Items.{after_field, taken_after, cuts, with_first, items_of, statement_of}
 use Rattle.ti_source.specs.Reading.{ReadItem, ReadFault}
-use Rattle.ti_source.specs.inside.Parsing.{items_at, faults_at, items_from, faults_from, names_found, header_faults, block_field, block_items, parsed}
+use Rattle.ti_source.specs.inside.Parsing.{items_at, faults_at, items_from, faults_from, names_found, header_faults, block_field, block_items, reading_of_text}
 use Rattle.ti_source.specs.inside.Verdicts.{number_verdict, text_verdict, fitting_verdict, named_verdict, verdict_of}
 use Rattle.ti_source.specs.Header.{names_limit}
 use Rattle.ti_source.specs.Verdicts.{Verdict, accepted, accepted_odd, refused, is_import, items_by, faults_by, header_fault}
@@ -59,7 +59,7 @@ number_sets c text (Ok n) valid is read = (valid, is, read.1)
 number_sets c text (Err Bad) valid is read = refl
 number_sets c text (Err TooLarge) valid is read = refl
 
-text_sets : ValuesAreSound → (c : Capability) (raw : List ℕ) (found : Result (List ℕ × Bool) UnescapeError) → IsCapability c → c.kind ≡ kind.Text → unescaped raw ≡ found → SetsBy (text_verdict c found)
+text_sets : ValuesAreSound → (c : Capability) (raw : List ℕ) (found : Result (List ℕ × Bool) UnescapeError) → IsCapability c → c.kind ≡ kind.Text → unescape_result raw ≡ found → SetsBy (text_verdict c found)
 text_sets sound c raw (Ok (text, true)) valid is e = (valid, is, (sound raw text true e).no_nul)
 text_sets sound c raw (Ok (text, false)) valid is e = (valid, is, (sound raw text false e).no_nul)
 text_sets sound c raw (Err cause) valid is e = refl
@@ -73,7 +73,7 @@ fitting_sets sound c (claims_number text) kind.Number valid is = number_sets c t
 fitting_sets sound c (claims_number text) kind.Text valid is = refl
 fitting_sets sound c (claims_text value) kind.Flag valid is = refl
 fitting_sets sound c (claims_text value) kind.Number valid is = refl
-fitting_sets sound c (claims_text value) kind.Text valid is = text_sets sound c value (unescaped value) valid is refl
+fitting_sets sound c (claims_text value) kind.Text valid is = text_sets sound c value (unescape_result value) valid is refl
 fitting_sets sound c claims_cancel k valid is = valid
 
 named_sets : NamedIsCapability → ValuesAreSound → (name : List ℕ) (claim : Claim) (o : Option Capability) → capability_named name ≡ o → SetsBy (named_verdict claim o)
@@ -118,12 +118,12 @@ module _ (P : Placed → Type 0) where
       let left_out = without_comments-all true x.0 xs all.1 in
       elim (in_comment comment before x.0) as (λ b. AllByRecursion P (cond b (without_comments true x.0 xs) (x ∷ without_comments false x.0 xs))) [ true ↦ left_out | false ↦ (all.0, kept) ]
 
-  joined-all : (joining : Bool) (s : List Placed) → AllByRecursion P s → AllByRecursion P (joined joining s)
+  joined-all : (joining : Bool) (s : List Placed) → AllByRecursion P s → AllByRecursion P (without_breaks joining s)
   joined-all joining [] all = tt
   joined-all joining (x ∷ xs) all =
       let kept = joined-all false xs all.1 in
       let left_out = joined-all true xs all.1 in
-      elim (x.0 == 10 || (joining && is_white_space x.0)) as (λ b. AllByRecursion P (cond b (joined true xs) (x ∷ joined false xs))) [ true ↦ left_out | false ↦ (all.0, kept) ]
+      elim (x.0 == 10 || (joining && is_white_space x.0)) as (λ b. AllByRecursion P (cond b (without_breaks true xs) (x ∷ without_breaks false xs))) [ true ↦ left_out | false ↦ (all.0, kept) ]
 
   after_field-all : (s : List Placed) → AllByRecursion P s → AllByRecursion P (after_field s)
   after_field-all [] all = tt
@@ -161,14 +161,14 @@ abbrev IsBetween : ℕ → ℕ → ℕ → Type 0
 IsBetween low high line = (low ≤ line) × (line < high)
 
 -- the lines of a text that begins on a line
-placed-between : (low high line : ℕ) (s : List ℕ) → low ≤ line → last_byte 10 s ≡ 10 → line + line_count s ≤ high → AllByRecursion (λ x. IsBetween low high x.1) (placed line s)
+placed-between : (low high line : ℕ) (s : List ℕ) → low ≤ line → last_byte 10 s ≡ 10 → line + line_count s ≤ high → AllByRecursion (λ x. IsBetween low high x.1) (bytes_on_lines line s)
 placed-between low high line [] h ends fits = tt
 placed-between low high line (x ∷ xs) h ends fits =
     let one = some_line 10 x xs ends in
     let more = lines_add (x ∷ []) xs in
     let tail = last_byte-tail x xs ends in (
       (h, omega arith),
-      elim (x == 10) as (λ b. line_count (x ∷ xs) ≡ cond b 1 0 + line_count xs → AllByRecursion (λ x. IsBetween low high x.1) (placed (cond b (line + 1) line) xs)) [
+      elim (x == 10) as (λ b. line_count (x ∷ xs) ≡ cond b 1 0 + line_count xs → AllByRecursion (λ x. IsBetween low high x.1) (bytes_on_lines (cond b (line + 1) line) xs)) [
         | true ↦ λ e. placed-between low high (line + 1) xs (omega arith) tail (omega arith)
         | false ↦ λ e. placed-between low high line xs h tail (omega arith)
       ] (omega arith),
@@ -208,10 +208,10 @@ from-lines Q n (item ∷ items) all =
 block_items-lines : (block : List ℕ) → last_byte 10 block ≡ 10 → AllByRecursion (AllByRecursion (λ (x : Placed). IsBetween 1 (1 + line_count block) x.1)) (block_items block)
 block_items-lines block ends =
     let P : Placed → Type 0 = λ x. IsBetween 1 (1 + line_count block) x.1 in
-    items_of-all P taken.Nothing 44 (after_field (folded block))
-    (after_field-all P (folded block)
-    (joined-all P false (without_comments false 10 (placed 1 block))
-    (without_comments-all P false 10 (placed 1 block) (placed-between 1 (1 + line_count block) 1 block (omega arith) ends (omega arith)))))
+    items_of-all P taken.Nothing 44 (after_field (folding_of block))
+    (after_field-all P (folding_of block)
+    (joined-all P false (without_comments false 10 (bytes_on_lines 1 block))
+    (without_comments-all P false 10 (bytes_on_lines 1 block) (placed-between 1 (1 + line_count block) 1 block (omega arith) ends (omega arith)))))
 
 AllByRecursion-weaker : {A : Type 0} (P Q : A → Type 0) → ((x : A) → P x → Q x) → (xs : List A) → AllByRecursion P xs → AllByRecursion Q xs
 AllByRecursion-weaker P Q w [] all = tt
@@ -332,7 +332,7 @@ header_faults-one field (Some names) =
     ]
 
 pub well_read : NamedIsCapability → ValuesAreSound → EachIsWellRead
-unfolding parsed
+unfolding reading_of_text
 well_read valid sound block one =
     let field = block_field block in
     let found = header_names field in

@@ -3,7 +3,7 @@ use Rattle.std.proofs.Common.{◌≡◌, ◌≢◌, ℕ, zero, suc, ◌+◌, ◌
 use Rattle.std.specs.List.{list_all}
 use Rattle.std.proofs.lemmas.Bool.{ne_eqb, cases_Bool, and_parts}
 use Rattle.memchr.specs.Find.{NoneBefore}
-use Rattle.ti_source.specs.WhiteSpace.{is_white_space, trimmed}
+use Rattle.ti_source.specs.WhiteSpace.{is_white_space, without_trailing_space}
 use Rattle.ti_source.specs.Blocks.{last_byte}
 use Rattle.ti_source.specs.Items.{is_mark}
 use Rattle.ti_source.specs.inside.Items.{before_mark, from_mark, without_last, plain_statement, statement_with_value, statement_by_mark, statement_of}
@@ -36,7 +36,7 @@ kept_before-some x (y ∷ ys) some =
       | inr v ↦ rw (kept_before-visible y (without_end ys) v) refl
     ]
 
-pub trimmed-is : (s : List ℕ) → trimmed s ≡ without_end s
+pub trimmed-is : (s : List ℕ) → without_trailing_space s ≡ without_end s
 trimmed-is [] = refl
 trimmed-is (x ∷ xs) =
     elim (cases_Bool (is_white_space x)) [
@@ -91,5 +91,5 @@ statement-statement_by_mark s n x xs e enabled none t =
     rw (statement-enabled s x xs e enabled, first.1, first.0, add-one) refl
 
 pub statement-plain : (s : List ℕ) (x : ℕ) (xs : List ℕ) → s ≡ x ∷ xs → x ≢ 46 → ((k : ℕ) → 0 ≤ k → k < length s → is_mark (get_or s k 0) ≡ true → ⊥)
-    → statement_of s ≡ Some (plain_statement (trimmed s))
+    → statement_of s ≡ Some (plain_statement (without_trailing_space s))
 statement-plain s x xs e enabled none = rw (statement-enabled s x xs e enabled, (no_mark s (λ k h. none k (omega arith) h)).1) refl

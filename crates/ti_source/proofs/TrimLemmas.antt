@@ -5,16 +5,16 @@ use Rattle.std.proofs.lemmas.Bool.{and_right}
 use Rattle.std.proofs.Math.Bool.{and-true}
 use Rattle.std.proofs.lemmas.List.{take_all, take_more}
 use Rattle.std.proofs.lemmas.List.Folds.{list_all-append}
-use Rattle.ti_source.specs.WhiteSpace.{is_white_space, trimmed}
+use Rattle.ti_source.specs.WhiteSpace.{is_white_space, without_trailing_space}
 
-trimmed-white : (s : List ℕ) (x : ℕ) → is_white_space x ≡ true → trimmed (s ++ x ∷ []) ≡ trimmed s
+trimmed-white : (s : List ℕ) (x : ℕ) → is_white_space x ≡ true → without_trailing_space (s ++ x ∷ []) ≡ without_trailing_space s
 trimmed-white [] x t = let one = and-true (is_white_space x) ∙ t in rw one refl
 trimmed-white (y ∷ ys) x t =
     let all : list_all is_white_space (ys ++ x ∷ []) ≡ list_all is_white_space ys =
     list_all-append is_white_space ys (x ∷ []) ∙ ap (λ b. list_all is_white_space ys && b) (and-true (is_white_space x) ∙ t) ∙ and-true _ in
     rw (all, trimmed-white ys x t) refl
 
-trimmed-other : (s : List ℕ) (x : ℕ) → is_white_space x ≡ false → trimmed (s ++ x ∷ []) ≡ s ++ x ∷ []
+trimmed-other : (s : List ℕ) (x : ℕ) → is_white_space x ≡ false → without_trailing_space (s ++ x ∷ []) ≡ s ++ x ∷ []
 trimmed-other [] x f = rw f refl
 trimmed-other (y ∷ ys) x f =
     let all : list_all is_white_space (ys ++ x ∷ []) ≡ false =
@@ -28,8 +28,8 @@ but_last s h =
     let i = length s - 1 in
     sym (take_all (i + 1) s (omega arith)) ∙ take_more s i 0 (omega arith)
 
-pub trim_step : (s : List ℕ) → 0 < length s → is_white_space (get_or s (length s - 1) 0) ≡ true → trimmed (take (length s - 1) s) ≡ trimmed s
-trim_step s h t = sym (ap trimmed (but_last s h) ∙ trimmed-white (take (length s - 1) s) _ t)
+pub trim_step : (s : List ℕ) → 0 < length s → is_white_space (get_or s (length s - 1) 0) ≡ true → without_trailing_space (take (length s - 1) s) ≡ without_trailing_space s
+trim_step s h t = sym (ap without_trailing_space (but_last s h) ∙ trimmed-white (take (length s - 1) s) _ t)
 
-pub trim_stop : (s : List ℕ) → 0 < length s → is_white_space (get_or s (length s - 1) 0) ≡ false → s ≡ trimmed s
-trim_stop s h f = but_last s h ∙ sym (ap trimmed (but_last s h) ∙ trimmed-other (take (length s - 1) s) _ f)
+pub trim_stop : (s : List ℕ) → 0 < length s → is_white_space (get_or s (length s - 1) 0) ≡ false → s ≡ without_trailing_space s
+trim_stop s h f = but_last s h ∙ sym (ap without_trailing_space (but_last s h) ∙ trimmed-other (take (length s - 1) s) _ f)

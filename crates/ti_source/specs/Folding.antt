@@ -4,7 +4,7 @@ use Rattle.ti_text.specs.Ascii as ascii
 use Rattle.std.specs.Prelude.{◌≡◌, ◌≢◌, ℕ, ◌+◌, Bool, true, false, not, ◌||◌, ◌==◌, List, [], ◌∷◌, ◌++◌, map, filter, flat_map}
 use Rattle.ti_source.specs.WhiteSpace.{is_white_space}
 use Rattle.ti_source.specs.Lines.{line_count}
-pub use Rattle.ti_source.specs.inside.Folding.{Placed, placed, in_comment, without_comments, joined, folded}
+pub use Rattle.ti_source.specs.inside.Folding.{Placed, bytes_on_lines, in_comment, without_comments, without_breaks, folding_of}
 
 -- each byte of a block, with the line that it stands on: one more than the newlines before it
 pub record ArePlaced (block : List ℕ) (text : List Placed) : Type 0 where
@@ -63,4 +63,4 @@ OneFolding = (block : List ℕ) (one other : List Placed) → Folds block one �
 
 -- a block has the folded text that is computed
 abbrev pub EachIsFolded : Type 0
-EachIsFolded = (block : List ℕ) → Folds block (folded block)
+EachIsFolded = (block : List ℕ) → Folds block (folding_of block)

@@ -1,7 +1,7 @@
 -- The names field and the items of a folded text, and what an item's text states (terminfo(5); X/Open Curses Issue 7, "Terminfo Source Format").
 use Rattle.ti_text.specs.Ascii as ascii
 use Rattle.std.specs.Prelude.{◌≡◌, ◌≢◌, ℕ, Bool, true, false, not, ◌||◌, ◌&&◌, ◌==◌, if◌then◌else◌, List, [], ◌∷◌, ◌++◌, map, Option, Some, None}
-use Rattle.ti_source.specs.WhiteSpace.{is_white_space, trimmed}
+use Rattle.ti_source.specs.WhiteSpace.{is_white_space, without_trailing_space}
 use Rattle.ti_source.specs.Blocks.{last_byte}
 use Rattle.ti_source.specs.Folding.{Placed}
 
@@ -123,5 +123,5 @@ without_white_front [] = []
 without_white_front (x ∷ xs) = if is_white_space x then without_white_front xs else x ∷ xs
 
 -- a text without the white space at both ends
-abbrev pub stripped : List ℕ → List ℕ
-stripped text = trimmed (without_white_front text)
+abbrev pub without_outer_space : List ℕ → List ℕ
+without_outer_space text = without_trailing_space (without_white_front text)

@@ -1,12 +1,12 @@
--- What a block says (terminfo(5); X/Open Curses Issue 7, "Terminfo Source Format"), as a relation by cases. `inside/Parsing` computes the same, `parsed`.
+-- What a block says (terminfo(5); X/Open Curses Issue 7, "Terminfo Source Format"), as a relation by cases. `inside/Parsing` computes the same, `reading_of_text`.
 pub use Rattle.ti_source.specs.Verdicts.{Verdict, accepted, accepted_odd, refused, fits, is_import, Judges, judged_import, judged_unknown, judged_wrong_kind, judged_flag, judged_cancel, judged_number, judged_bad_number, judged_large_number, judged_text, judged_odd_text, judged_bad_text, said_by, code_by, item_fault, items_by, faults_by, header_fault}
 pub use Rattle.ti_source.specs.Header.{names_limit}
-unfoldable pub use Rattle.ti_source.specs.inside.Parsing.{parsed}
+unfoldable pub use Rattle.ti_source.specs.inside.Parsing.{reading_of_text}
 use Rattle.ti_text.specs.Ascii as ascii
 use Rattle.std.specs.Prelude.{◌≡◌, ℕ, ◌+◌, ◌<◌, ◌≤◌, List, [], ◌∷◌, ◌++◌, length, Some, None}
 use Rattle.ti_source.specs.declared.code.Code.TheVariants as code
 use Rattle.ti_source.specs.Header.{HeaderNames, IsBadHeader}
-use Rattle.ti_source.specs.Folding.{Placed, folded}
+use Rattle.ti_source.specs.Folding.{Placed, folding_of}
 use Rattle.ti_source.specs.Items.{Statement, States, Begins, AreItems, bytes, piece_of}
 use Rattle.ti_source.specs.Reading.{ReadItem, ReadFault, Reading}
 
@@ -41,7 +41,7 @@ pub record Parses (block : List ℕ) (reading : Reading) : Type 0 where
   pub items : List (List Placed)
   pub of_header : List ReadFault
   pub of_items : List ReadFault
-  pub begins : Begins (folded block) field rest
+  pub begins : Begins (folding_of block) field rest
   pub cut : AreItems ascii.comma rest items
   pub is_field : reading.field ≡ bytes field
   pub reads_header : ReadsHeader reading.field reading.names of_header
@@ -50,7 +50,7 @@ pub record Parses (block : List ℕ) (reading : Reading) : Type 0 where
 
 -- a block has the reading that is computed
 abbrev pub HasReading : Type 0
-HasReading = (block : List ℕ) → Parses block (parsed block)
+HasReading = (block : List ℕ) → Parses block (reading_of_text block)
 
 -- a block has no two readings
 abbrev pub OneReading : Type 0

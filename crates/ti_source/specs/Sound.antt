@@ -10,7 +10,7 @@ use Rattle.ti_source.specs.Header.{IsLookupName}
 use Rattle.ti_source.specs.Numbers.{greatest_number}
 use Rattle.ti_spelling.specs.Spelling.{HasNoNul}
 use Rattle.ti_source.specs.Reading.{Reading, ReadItem, ReadFault, Said, said_flag, said_number, said_text, said_cancel, said_import}
-use Rattle.ti_source.specs.inside.Parsing.{parsed}
+use Rattle.ti_source.specs.inside.Parsing.{reading_of_text}
 use Rattle.ti_source.specs.Header.{names_limit}
 
 -- what an item says of a capability fits it: its kind, a number within the limit, a text without NUL
@@ -59,4 +59,4 @@ pub record IsWellRead (block : List ℕ) (reading : Reading) : Type 0 where
 
 -- what is read of every block is sound
 abbrev pub EachIsWellRead : Type 0
-EachIsWellRead = (block : List ℕ) → OneBlock block → IsWellRead block (parsed block)
+EachIsWellRead = (block : List ℕ) → OneBlock block → IsWellRead block (reading_of_text block)

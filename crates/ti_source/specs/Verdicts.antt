@@ -9,7 +9,7 @@ use Rattle.ti_source.specs.declared.code.Code.TheVariants as code
 use Rattle.ti_spelling.specs.declared.spelling.UnescapeError.{UnescapeError}
 use Rattle.ti_spelling.specs.Spelling.{Spells, Fails}
 use Rattle.ti_source.specs.Numbers.{IsNumeral, greatest_number}
-use Rattle.ti_source.specs.Items.{Claim, claims_flag, claims_number, claims_text, claims_cancel, stripped}
+use Rattle.ti_source.specs.Items.{Claim, claims_flag, claims_number, claims_text, claims_cancel, without_outer_space}
 use Rattle.ti_source.specs.Reading.{Said, said_flag, said_number, said_text, said_cancel, said_import, ReadItem, ReadFault}
 
 -- what comes of a statement: it is accepted, accepted though an escape in it is odd, or refused by a fault
@@ -34,7 +34,7 @@ is_import name _ = false
 -- the verdict on a statement: first a name that is not in the tables, then one of another kind, then a value that cannot be read
 pub data Judges : (name : List ℕ) (claim : Claim) → Verdict → Type 0 where
   judged_import : (name value : List ℕ) → is_import name (claims_text value) ≡ true
-      → Judges name (claims_text value) (accepted (said_import (stripped value)))
+      → Judges name (claims_text value) (accepted (said_import (without_outer_space value)))
   judged_unknown : (name : List ℕ) (claim : Claim) → is_import name claim ≡ false → capability_named name ≡ None
       → Judges name claim (refused code.UnknownCapability)
   judged_wrong_kind : (name : List ℕ) (claim : Claim) (c : Capability) → is_import name claim ≡ false → capability_named name ≡ Some c

@@ -8,6 +8,6 @@ abbrev pub is_white_space : ℕ → Bool
 is_white_space b = b == ascii.space || b == ascii.tab
 
 -- a text without the white space at its end
-abbrev pub trimmed : List ℕ → List ℕ
-trimmed [] = []
-trimmed (x ∷ xs) = if list_all is_white_space (x ∷ xs) then [] else x ∷ trimmed xs
+abbrev pub without_trailing_space : List ℕ → List ℕ
+without_trailing_space [] = []
+without_trailing_space (x ∷ xs) = if list_all is_white_space (x ∷ xs) then [] else x ∷ without_trailing_space xs

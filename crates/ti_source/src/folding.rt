@@ -1,7 +1,7 @@
 // The text of a block, folded: without its comments and its line breaks.
 ghost use Rattle.std.specs.Prelude.{◌≡◌, ◌≤◌, length};
 ghost use Rattle.std.specs.Iterator.{YieldsFirst, item_count};
-ghost use Rattle.ti_source.specs.Folding.{folded, EachIsFolded, OneFolding};
+ghost use Rattle.ti_source.specs.Folding.{folding_of, EachIsFolded, OneFolding};
 
 use crate::white_space::is_white_space;
 use std::marker::Model;
@@ -22,11 +22,11 @@ pub(crate) struct Folded<'a> {
 
 impl<'a> Model for Folded<'a> {
     ghost use Rattle.std.specs.Prelude.{◌+◌, ◌<◌, ◌^◌, ℕ, List, length};
-    ghost use Rattle.ti_source.specs.Folding.{Placed, placed, without_comments, joined};
+    ghost use Rattle.ti_source.specs.Folding.{Placed, bytes_on_lines, without_comments, without_breaks};
 
     ghost Value = { List (ℕ × ℕ) };
 
-    ghost view = { λ f. joined f.joining (without_comments f.comment f.before (placed (f.newlines + 1) f.rest.now)) };
+    ghost view = { λ f. without_breaks f.joining (without_comments f.comment f.before (bytes_on_lines (f.newlines + 1) f.rest.now)) };
 
     ghost invariant = { λ f. f.newlines + length f.rest.now < 2 ^ 64 };
 }
@@ -34,7 +34,7 @@ impl<'a> Model for Folded<'a> {
 impl<'a> Folded<'a> {
     /// The folded text of a block.
     pub(crate) fn new(block: &'a [u8]) -> Self
-        ensures value { result ≡ folded block.now }
+        ensures value { result ≡ folding_of block.now }
         ensures len { length result ≤ length block.now }
     {
         Folded {

@@ -1,6 +1,6 @@
 // The names field and the items of a block, and what an item states.
 ghost use Rattle.std.specs.Prelude.{◌≡◌, ◌+◌, ◌<◌, ◌≤◌, IfOk, IfSome, OnOk, length, take, drop, slice_index, option_map};
-ghost use Rattle.ti_source.specs.Items.{bytes, piece, stripped};
+ghost use Rattle.ti_source.specs.Items.{bytes, piece, without_outer_space};
 ghost use Rattle.ti_source.specs.inside.Items.{taken_after, cuts, field_of, after_field, TakesItem, with_byte, statement_in_memory, statement_of, statement_with_value, plain_statement};
 
 use crate::folding::Folded;
@@ -166,7 +166,7 @@ fn plain_statement(text: &[u8]) -> Statement<'_>
 
 /// A text without the white space at both ends.
 pub(crate) fn strip(text: &[u8]) -> &[u8]
-    ensures { result.now ≡ stripped text.now }
+    ensures { result.now ≡ without_outer_space text.now }
 {
     let mut kept = text;
     while let Some((first, rest)) = kept.split_first() {

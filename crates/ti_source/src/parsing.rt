@@ -3,7 +3,7 @@ ghost use Rattle.std.specs.Prelude.{◌≡◌, ◌<◌, ◌+◌, ◌^◌, IfOk, 
 ghost use Rattle.ti_source.specs.Blocks.{OneBlock};
 ghost use Rattle.ti_source.specs.Items.{piece};
 ghost use Rattle.ti_source.specs.Parsing.{Parses, HasReading, OneReading};
-ghost use Rattle.ti_source.specs.inside.Parsing.{parsed, AddsItem, AddsItems, ReadsField};
+ghost use Rattle.ti_source.specs.inside.Parsing.{reading_of_text, AddsItem, AddsItems, ReadsField};
 ghost use Rattle.ti_source.specs.Verdicts.{header_fault, item_fault};
 ghost use Rattle.ti_source.specs.Reading.{fault_of, reading_of};
 ghost use Rattle.ti_source.specs.Sound.{EachIsWellRead, IsWellRead};
@@ -79,7 +79,7 @@ pub struct Parsed {
 pub fn parse(alloc: Global, block: &[u8]) -> Result<Parsed, AllocError>
     requires { OneBlock block.now }
     ensures reading { IfOk result (λ p. Parses block.now (reading_of p)) }
-    ensures computed { IfOk result (λ p. reading_of p ≡ parsed block.now) }
+    ensures computed { IfOk result (λ p. reading_of p ≡ reading_of_text block.now) }
     ensures sound { IfOk result (λ p. IsWellRead block.now (reading_of p)) }
 {
     // Laws, with no code: they give the clauses `reading` and `sound` of what is computed.

@@ -3,7 +3,7 @@ ghost use Rattle.std.specs.Prelude.{◌≡◌, IfOk};
 ghost use Rattle.ti_source.specs.inside.Items.{statement_in_memory};
 ghost use Rattle.ti_source.specs.inside.Numbers.{number_read};
 ghost use Rattle.ti_source.specs.inside.Verdicts.{verdict_in_memory, verdict_of, number_verdict, text_verdict};
-ghost use Rattle.ti_spelling.specs.inside.Spelling.{unescaped};
+ghost use Rattle.ti_spelling.specs.inside.Spelling.{unescape_result};
 
 use crate::code::Code;
 use crate::items::{Claim, Statement, strip};
@@ -57,7 +57,7 @@ fn judge_number(cap: Cap, text: &[u8]) -> Verdict
 }
 
 fn judge_text(alloc: Global, cap: Cap, value: &[u8]) -> Result<Verdict, AllocError>
-    ensures { IfOk result (λ v. verdict_in_memory v ≡ text_verdict cap (unescaped value.now)) }
+    ensures { IfOk result (λ v. verdict_in_memory v ≡ text_verdict cap (unescape_result value.now)) }
 {
     match unescape(alloc, value) {
         Ok(found) => {

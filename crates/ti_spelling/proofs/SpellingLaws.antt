@@ -9,7 +9,7 @@ use Rattle.ti_spelling.specs.declared.spelling.Piece.{Piece}
 use Rattle.ti_spelling.specs.declared.spelling.UnescapeError.{UnescapeError}
 use Rattle.ti_spelling.specs.declared.spelling.UnescapeError.TheVariants.{BadOctal, BadControl, BadByte, Memory}
 use Rattle.ti_spelling.specs.Spelling.{named_escape, is_octal_digit, octal_digits, octal_digits_up_to, octal_value, is_percent, last_byte, not_nul, IsEscape, escape_named, escape_octal, escape_unknown, escape_missing, IsControl, control_delete, control_masked, IsPiece, piece_escape, piece_control, piece_caret, piece_plain, IsRefused, refused_octal, refused_control, refused_control_at_end, refused_nul, refused_escaped_nul, SpellsAfter, spells_nothing, spells_piece, FailsAfter, fails_here, fails_later, Spells, Fails, CanBeSpelled, IsCauseOf, OneOutcome}
-use Rattle.ti_spelling.specs.inside.Spelling.{octal_piece, unnamed_piece, named_piece, escape_piece, is_control_letter, control_piece, first_piece, with_piece, then_later, unescaped_from, unescaped, GivesUnescaped, UnescapedAgrees}
+use Rattle.ti_spelling.specs.inside.Spelling.{octal_piece, unnamed_piece, named_piece, escape_piece, is_control_letter, control_piece, first_piece, with_piece, then_later, unescaped_from, unescape_result, GivesUnescaped, UnescapedAgrees}
 use Rattle.ti_spelling.proofs.OctalDigits.{digit_bounds}
 use Rattle.ti_spelling.proofs.PieceLemmas.{is_letter, control_letter, Found, first_right, piece_some, refuses}
 
@@ -176,24 +176,24 @@ outcome_within (suc n) before (x ∷ xs) le = by_first (first_piece (is_percent 
         ap (unescaped_from 0 before) found.whole ∙ begins before found.text found.rest piece some found.size (ap (first_piece (is_percent before)) (sym found.whole) ∙ e) in
         subst (Outcome before (x ∷ xs)) (sym split) (goes_on before (x ∷ xs) piece found _ (again (last_byte before found.text) found.rest shorter))
 
-pub outcome : (raw : List ℕ) → Outcome 0 raw (unescaped raw)
-unfolding unescaped
+pub outcome : (raw : List ℕ) → Outcome 0 raw (unescape_result raw)
+unfolding unescape_result
 outcome raw = outcome_within (length raw) 0 raw (omega arith)
 
 -- ---- the laws
 
-pub spells_unescaped : {raw value : List ℕ} {odd : Bool} → Spells raw value odd → unescaped raw ≡ Ok (value, odd)
-unfolding unescaped
+pub spells_unescaped : {raw value : List ℕ} {odd : Bool} → Spells raw value odd → unescape_result raw ≡ Ok (value, odd)
+unfolding unescape_result
 spells_unescaped s = spells_computes s
 
-pub fails_unescaped : {raw : List ℕ} {cause : UnescapeError} → Fails raw cause → unescaped raw ≡ Err cause
-unfolding unescaped
+pub fails_unescaped : {raw : List ℕ} {cause : UnescapeError} → Fails raw cause → unescape_result raw ≡ Err cause
+unfolding unescape_result
 fails_unescaped f = fails_computes f
 
-pub unescaped_spells : {raw value : List ℕ} {odd : Bool} → unescaped raw ≡ Ok (value, odd) → Spells raw value odd
+pub unescaped_spells : {raw value : List ℕ} {odd : Bool} → unescape_result raw ≡ Ok (value, odd) → Spells raw value odd
 unescaped_spells {raw} {value} {odd} e = MatchResult-at_ok (λ found. Spells raw found.0 found.1) (Fails raw) (value, odd) e (outcome raw)
 
-pub unescaped_fails : {raw : List ℕ} {cause : UnescapeError} → unescaped raw ≡ Err cause → Fails raw cause
+pub unescaped_fails : {raw : List ℕ} {cause : UnescapeError} → unescape_result raw ≡ Err cause → Fails raw cause
 unescaped_fails {raw} {cause} e = MatchResult-at_err (λ found. Spells raw found.0 found.1) (Fails raw) cause e (outcome raw)
 
 pub unescaped_agrees : UnescapedAgrees
@@ -220,10 +220,10 @@ not_both_ways r value cause e f = cc
 
 pub one_outcome : OneOutcome
 one_outcome raw = record {
-  some = some_outcome raw (unescaped raw) (outcome raw);
-  one_value = λ value value' odd odd' s t. same_value (unescaped raw) value value' odd odd' (spells_unescaped s) (spells_unescaped t);
-  one_cause = λ cause cause' f g. same_cause (unescaped raw) cause cause' (fails_unescaped f) (fails_unescaped g);
-  not_both = λ value odd cause s f. not_both_ways (unescaped raw) (value, odd) cause (spells_unescaped s) (fails_unescaped f);
+  some = some_outcome raw (unescape_result raw) (outcome raw);
+  one_value = λ value value' odd odd' s t. same_value (unescape_result raw) value value' odd odd' (spells_unescaped s) (spells_unescaped t);
+  one_cause = λ cause cause' f g. same_cause (unescape_result raw) cause cause' (fails_unescaped f) (fails_unescaped g);
+  not_both = λ value odd cause s f. not_both_ways (unescape_result raw) (value, odd) cause (spells_unescaped s) (fails_unescaped f);
 }
 
 -- ---- an answer
@@ -247,13 +247,13 @@ can_be_spelled raw (Err cause) s ok = absurd cc
 
 pub answer_explains : (raw : List ℕ) (r : Result Unescaped UnescapeError) → GivesUnescaped raw r → IfErr r (λ cause. IsCauseOf cause raw)
 answer_explains raw (Ok found) e = tt
-answer_explains raw (Err Memory) e = can_be_spelled raw (unescaped raw) (outcome raw) e
+answer_explains raw (Err Memory) e = can_be_spelled raw (unescape_result raw) (outcome raw) e
 answer_explains raw (Err BadOctal) e = unescaped_fails e
 answer_explains raw (Err BadControl) e = unescaped_fails e
 answer_explains raw (Err BadByte) e = unescaped_fails e
 
 -- a fault that was computed is an answer
-pub fault_answers : (raw : List ℕ) (cause : UnescapeError) → unescaped raw ≡ Err cause → GivesUnescaped raw (Err cause)
+pub fault_answers : (raw : List ℕ) (cause : UnescapeError) → unescape_result raw ≡ Err cause → GivesUnescaped raw (Err cause)
 fault_answers raw Memory e = absurd (fails_not_memory (unescaped_fails e) refl)
 fault_answers raw BadOctal e = e
 fault_answers raw BadControl e = e

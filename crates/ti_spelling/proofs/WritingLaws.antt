@@ -9,8 +9,8 @@ use Rattle.std.specs.Str.{bytes_eq}
 use Rattle.ti_spelling.specs.inside.Writing.{is_plain}
 use Rattle.ti_spelling.specs.declared.spelling.Piece.{Piece}
 use Rattle.ti_spelling.specs.declared.spelling.UnescapeError.{UnescapeError}
-use Rattle.ti_spelling.specs.Spelling.{AreBytes, HasNoNul, is_percent, last_byte, is_empty, byte_text, written_from, written, WrittenSpells}
-use Rattle.ti_spelling.specs.inside.Spelling.{escape_piece, control_piece, first_piece, with_piece, unescaped_from, unescaped}
+use Rattle.ti_spelling.specs.Spelling.{AreBytes, HasNoNul, is_percent, last_byte, is_empty, byte_text, written_from, spelling_of, WrittenSpells}
+use Rattle.ti_spelling.specs.inside.Spelling.{escape_piece, control_piece, first_piece, with_piece, unescaped_from, unescape_result}
 use Rattle.ti_spelling.proofs.SpellingLaws.{begins, unescaped_spells}
 
 -- ---- the code's loop
@@ -111,8 +111,8 @@ reads_back (x ∷ xs) first before after same bytes some =
     begins after text rest piece (ltb-true 0 (length text) (text_some (is_percent before) edge x lt)) refl read
     ∙ ap (with_piece piece) (reads_back xs false x (last_byte after text) (sym (percent_after after (is_percent before) edge x lt)) (λ k d below. bytes (suc k) d (omega arith)) (λ k d below. some (suc k) d (omega arith)))
 
-pub written_reads : (value : List ℕ) → AreBytes value → HasNoNul value → unescaped (written value) ≡ Ok (value, false)
-unfolding unescaped
+pub written_reads : (value : List ℕ) → AreBytes value → HasNoNul value → unescape_result (spelling_of value) ≡ Ok (value, false)
+unfolding unescape_result
 written_reads value bytes some = reads_back value true 0 0 refl bytes some
 
 pub written_spells : WrittenSpells

@@ -167,8 +167,8 @@ written_from first before [] = []
 written_from first before (x ∷ xs) = byte_text (is_percent before) (first || is_empty xs) x ++ written_from false x xs
 
 -- the whole text
-abbrev pub written : List ℕ → List ℕ
-written value = written_from true 0 value
+abbrev pub spelling_of : List ℕ → List ℕ
+spelling_of value = written_from true 0 value
 
 -- ---- laws
 
@@ -185,4 +185,4 @@ OneOutcome = (raw : List ℕ) → HasOneOutcome raw
 
 -- what is written reads back
 abbrev pub WrittenSpells : Type 0
-WrittenSpells = (value : List ℕ) → AreBytes value → HasNoNul value → Spells (written value) value false
+WrittenSpells = (value : List ℕ) → AreBytes value → HasNoNul value → Spells (spelling_of value) value false

@@ -3,7 +3,7 @@
 ghost use Rattle.std.specs.Prelude.{◌≡◌, ◌≤◌, ◌<◌, length, true, false, IfOk, IfErr, IsOkAnd};
 ghost use Rattle.ti_spelling.specs.declared.spelling.UnescapeError.TheVariants.{Memory};
 ghost use Rattle.ti_spelling.specs.Spelling.{named_escape, is_octal_digit, octal_digits, octal_value, not_nul, Spells, IsCauseOf, HasNoNul, OneOutcome};
-ghost use Rattle.ti_spelling.specs.inside.Spelling.{octal_piece, escape_piece, control_piece, first_piece, unescaped, GivesUnescaped, UnescapedAgrees, ValuesAreSound};
+ghost use Rattle.ti_spelling.specs.inside.Spelling.{octal_piece, escape_piece, control_piece, first_piece, unescape_result, GivesUnescaped, UnescapedAgrees, ValuesAreSound};
 ghost use Rattle.ti_spelling.specs.inside.Pieces.{left_of, TakesPiece};
 
 use std::alloc::{AllocError, AllocFailed, Global};
@@ -199,9 +199,9 @@ struct Pieces<'a> {
 }
 
 impl<'a> Pieces<'a> {
-    #[tactic(auto, unfolding(crate::specs::inside::Spelling::unescaped))]
+    #[tactic(auto, unfolding(crate::specs::inside::Spelling::unescape_result))]
     fn new(raw: &'a [u8]) -> Pieces<'a>
-        ensures all { left_of result ≡ unescaped raw.now }
+        ensures all { left_of result ≡ unescape_result raw.now }
         ensures len { length result.rest.now ≡ length raw.now }
     {
         Pieces {
@@ -226,8 +226,8 @@ impl<'a> Pieces<'a> {
 
 /// How many bytes `raw` stands for.
 fn spelled_len(raw: &[u8]) -> Result<usize, UnescapeError>
-    ensures ok { IfOk result (λ count. IsOkAnd (unescaped raw.now) (λ found. length found.0 ≡ count)) }
-    ensures err { IfErr result (λ cause. unescaped raw.now ≡ Err cause) }
+    ensures ok { IfOk result (λ count. IsOkAnd (unescape_result raw.now) (λ found. length found.0 ≡ count)) }
+    ensures err { IfErr result (λ cause. unescape_result raw.now ≡ Err cause) }
 {
     let mut pieces = Pieces::new(raw);
     let mut count = 0;
@@ -239,7 +239,7 @@ fn spelled_len(raw: &[u8]) -> Result<usize, UnescapeError>
 
 /// What `raw` spells, which is known to be something, and `count` bytes long.
 fn decode(alloc: Global, raw: &[u8], count: usize) -> Result<Unescaped, UnescapeError>
-    requires { IsOkAnd (unescaped raw.now) (λ found. length found.0 ≡ count) }
+    requires { IsOkAnd (unescape_result raw.now) (λ found. length found.0 ≡ count) }
     ensures { GivesUnescaped raw.now result }
 {
     let mut pieces = Pieces::new(raw);

@@ -1,7 +1,7 @@
 //! String values as terminfo(5) spells them: writing.
 
 ghost use Rattle.std.specs.Prelude.{◌≡◌, ◌+◌, ◌*◌, ◌^◌, ◌<◌, ◌≤◌, ◌++◌, ◌∷◌, [], length, OnErr, OnOk, IfOk, vec_len, vec_capacity};
-ghost use Rattle.ti_spelling.specs.Spelling.{short_escape, octal_text, byte_text, is_percent, written, WrittenSpells};
+ghost use Rattle.ti_spelling.specs.Spelling.{short_escape, octal_text, byte_text, is_percent, spelling_of, WrittenSpells};
 ghost use Rattle.ti_spelling.specs.inside.Spelling.{WrittenReadsBack};
 ghost use Rattle.ti_spelling.specs.inside.Writing.{is_plain};
 
@@ -116,7 +116,7 @@ fn byte_len(percent: bool, edge: bool, byte: u8) -> usize
 /// How many bytes the text has that spells `value`: one to four for each of its bytes.
 pub fn escaped_len(value: &[u8]) -> usize
     requires { length value.now < 2 ^ 61 }
-    ensures len { result ≡ length (written value.now) }
+    ensures len { result ≡ length (spelling_of value.now) }
     ensures most { result ≤ 4 * length value.now }
 {
     let mut len = 0;
@@ -133,7 +133,7 @@ pub fn escaped_len(value: &[u8]) -> usize
 /// memory.
 pub fn write_escaped(text: &mut Vec<u8>, value: &[u8])
     requires { vec_len text.old + 4 * length value.now ≤ vec_capacity text.old }
-    ensures items { text.new.items ≡ text.old.items ++ written value.now }
+    ensures items { text.new.items ≡ text.old.items ++ spelling_of value.now }
     ensures len { vec_len text.new ≤ vec_len text.old + 4 * length value.now }
     ensures capacity { vec_capacity text.old ≤ vec_capacity text.new }
 {
@@ -151,7 +151,7 @@ pub fn write_escaped(text: &mut Vec<u8>, value: &[u8])
 ///
 /// `AllocError` where there is no room for the text; nothing has then been appended.
 pub fn push_escaped(text: &mut Vec<u8>, value: &[u8]) -> Result<(), AllocError>
-    ensures items { OnOk result (text.new.items ≡ text.old.items ++ written value.now) }
+    ensures items { OnOk result (text.new.items ≡ text.old.items ++ spelling_of value.now) }
     ensures err { OnErr result (text.new.items ≡ text.old.items) }
 {
     text.reserve(value.len().saturating_mul(MOST_ESCAPED))?;
@@ -167,7 +167,7 @@ pub fn push_escaped(text: &mut Vec<u8>, value: &[u8]) -> Result<(), AllocError>
 ///
 /// `AllocError` where there is no room for the text.
 pub fn escape(alloc: Global, value: &[u8]) -> Result<Vec<u8>, AllocError>
-    ensures { IfOk result (λ text. text.items ≡ written value.now) }
+    ensures { IfOk result (λ text. text.items ≡ spelling_of value.now) }
 {
     let mut text = Vec::new(alloc);
     push_escaped(&mut text, value)?;

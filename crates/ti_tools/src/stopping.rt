@@ -1,7 +1,7 @@
 //! How a tool that stops ends: its exit status, and the line on standard error.
 ghost use Rattle.std.specs.Prelude.{◌≡◌, [], None, Some, codes, decimal, map, option_map};
 ghost use Rattle.std.specs.List.{concat};
-ghost use Rattle.ti_devices.specs.Counted.{observed};
+ghost use Rattle.ti_devices.specs.Counted.{observation};
 ghost use Rattle.ti_devices.specs.Writing.{Wrote};
 ghost use Rattle.ti_tools.specs.Stopping.{plain_status, status_of, tput_status};
 ghost use Rattle.ti_tools.specs.Stopping.{is_known, line_parts, message_parts, message_text, plain_text, refusal_name, tool_name};
@@ -100,7 +100,7 @@ fn is_known(name: &[u8]) -> bool
 
 // Writes the parts of a text.
 fn write_parts<W: Write>(writer: &mut Counted<W>, parts: &[&[u8]]) -> Result<(), ToolError>
-    ensures { Wrote (observed W.contents writer.old) (observed W.contents writer.new) (concat (map (λ part. part.now) parts.now)) result }
+    ensures { Wrote (observation W.contents writer.old) (observation W.contents writer.new) (concat (map (λ part. part.now) parts.now)) result }
 {
     for part in parts {
         write_out(writer, part)?;
@@ -121,7 +121,7 @@ struct Line<'a> {
 
 // Writes a line.
 fn write_line<W: Write>(writer: &mut Counted<W>, line: Line<'_>) -> Result<(), ToolError>
-    ensures { Wrote (observed W.contents writer.old) (observed W.contents writer.new)
+    ensures { Wrote (observation W.contents writer.old) (observation W.contents writer.new)
         (concat (line_parts line.entry.tool.now line.entry.head.now line.entry.subject.now line.entry.link.now line.entry.detail.now line.entry.end.now)) result }
 {
     write_parts(
@@ -143,7 +143,7 @@ fn write_plain<W: Write>(
     tool: &[u8],
     error: &ToolError,
 ) -> Result<(), ToolError>
-    ensures { Wrote (observed W.contents writer.old) (observed W.contents writer.new)
+    ensures { Wrote (observation W.contents writer.old) (observation W.contents writer.new)
         (concat (line_parts tool.now (codes ": ") [] [] (plain_text error.now) (codes "\n"))) result }
 {
     write_line(
@@ -166,7 +166,7 @@ fn write_named<W: Write>(
     head: &[u8],
     name: &[u8],
 ) -> Result<(), ToolError>
-    ensures { Wrote (observed W.contents writer.old) (observed W.contents writer.new)
+    ensures { Wrote (observation W.contents writer.old) (observation W.contents writer.new)
         (concat (line_parts tool.now head.now name.now [] [] (codes "\"\n"))) result }
 {
     write_line(
@@ -189,7 +189,7 @@ fn write_refusal<W: Write>(
     name: &[u8],
     why: ReadError,
 ) -> Result<(), ToolError>
-    ensures { Wrote (observed W.contents writer.old) (observed W.contents writer.new)
+    ensures { Wrote (observation W.contents writer.old) (observation W.contents writer.new)
         (concat (line_parts tool.now (codes ": bad entry \"") name.now (codes "\" (") (refusal_name why) (codes ")\n"))) result }
 {
     write_line(
@@ -211,7 +211,7 @@ fn write_block<W: Write>(
     tool: &[u8],
     number: usize,
 ) -> Result<(), ToolError>
-    ensures { Wrote (observed W.contents writer.old) (observed W.contents writer.new)
+    ensures { Wrote (observation W.contents writer.old) (observation W.contents writer.new)
         (concat (line_parts tool.now (codes ": ") [] (codes "block too long at line ") (decimal number) (codes "\n"))) result }
 {
     let mut buffer = Buffer::new();
@@ -236,7 +236,7 @@ fn write_fault<W: Write>(
     name: &[u8],
     error: &ToolError,
 ) -> Result<(), ToolError>
-    ensures { Wrote (observed W.contents writer.old) (observed W.contents writer.new)
+    ensures { Wrote (observation W.contents writer.old) (observation W.contents writer.new)
         (concat (message_parts tool.now name.now (Some error.now))) result }
 {
     match error {
@@ -258,7 +258,7 @@ fn write_capability<W: Write>(
     tool: &[u8],
     name: &[u8],
 ) -> Result<(), ToolError>
-    ensures { Wrote (observed W.contents writer.old) (observed W.contents writer.new)
+    ensures { Wrote (observation W.contents writer.old) (observation W.contents writer.new)
         (concat (message_parts tool.now name.now None)) result }
 {
     if is_known(name) {
@@ -279,7 +279,7 @@ pub fn message<W: Write>(
     error: Option<&ToolError>,
     writer: &mut Counted<W>,
 ) -> Result<(), ToolError>
-    ensures { Wrote (observed W.contents writer.old) (observed W.contents writer.new)
+    ensures { Wrote (observation W.contents writer.old) (observation W.contents writer.new)
         (message_text job.now name.now (option_map (λ e. e.now) error.entry)) result }
 {
     let tool = tool_name(job);

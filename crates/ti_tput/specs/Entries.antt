@@ -4,7 +4,7 @@ use Rattle.ti_caps.specs.Tables.{capability_named}
 use Rattle.ti_caps.specs.declared.capability.Kind.{Kind}
 use Rattle.ti_caps.specs.declared.capability.Kind.TheVariants.{Flag, Number, Text}
 use Rattle.ti_layout.specs.Values.{Content, Contents}
-use Rattle.ti_layout.specs.Shown.{names_of, held, shown_flag, shown_number, shown_text}
+use Rattle.ti_layout.specs.Shown.{names_of, view_contents, shown_flag, shown_number, shown_text}
 use Rattle.ti_layout.specs.declared.view.View.{View}
 use Rattle.ti_printing.specs.declared.padding.Line.{Line}
 use Rattle.ti_tput.specs.declared.entries.CapabilityValue.{CapabilityValue}
@@ -75,7 +75,7 @@ line_of entry rate = record {
 
 -- the entry that a view shows
 abbrev pub entry_of : View → Entry
-entry_of view = record { names = names_of view; contents = held view }
+entry_of view = record { names = names_of view; contents = view_contents view }
 
 -- what a value says, apart from where it lies in memory
 abbrev pub meaning_of : CapabilityValue → Holding

@@ -6,7 +6,7 @@ use Rattle.std.specs.List.{after_last}
 use Rattle.ti_text.specs.Ascii as ascii
 use Rattle.ti_param.specs.Expansion.{Expansion, expanded, bad_format, stack_full, expansion}
 use Rattle.ti_printing.specs.declared.padding.Line.{Line}
-use Rattle.ti_printing.specs.Padding.{padded, padding_of}
+use Rattle.ti_printing.specs.Padding.{with_pad_bytes, padding_of}
 use Rattle.ti_tput.specs.Entries.{Entry, Holding, flag_held, number_held, text_held, holding_of, text_value, line_of}
 use Rattle.ti_tput.specs.Parameters.{parameters}
 
@@ -24,7 +24,7 @@ reply bytes status statics = record { bytes = bytes; status = status; statics = 
 
 -- a string padded for one line; None where that is too much padding
 abbrev pub padded_text : Line → List ℕ → Option (List ℕ)
-padded_text line text = if nat_lt 65536 (padding_of text 1 line) then None else Some (padded text 1 line)
+padded_text line text = if nat_lt 65536 (padding_of text 1 line) then None else Some (with_pad_bytes text 1 line)
 
 -- A string that was padded is written, and the variables are then those after it. One with too much padding is refused: nothing
 -- is written, status 4, and the variables are as before.

@@ -5,7 +5,7 @@ use Rattle.std.specs.List.{slice_split}
 use Rattle.std.specs.Global.{Vec}
 use Rattle.ti_text.specs.Ascii as ascii
 use Rattle.ti_layout.specs.Reading.{Reads, Refused}
-use Rattle.ti_layout.specs.Shown.{names_of, held}
+use Rattle.ti_layout.specs.Shown.{names_of, view_contents}
 use Rattle.ti_layout.specs.Values.{Contents}
 use Rattle.ti_layout.specs.declared.fault.ReadError.{ReadError}
 use Rattle.ti_layout.specs.declared.fault.ReadError.TheVariants.{Counts}
@@ -78,6 +78,6 @@ IsTooLong limit bytes error =
 
 -- the entry that bytes within the limit read as, or their refusal
 abbrev pub Opens : ℕ → List ℕ → Result View ToolError → Type 0
-Opens limit bytes (Ok view) = (length bytes ≤ limit) × Reads bytes (names_of view) (held view)
+Opens limit bytes (Ok view) = (length bytes ≤ limit) × Reads bytes (names_of view) (view_contents view)
 Opens limit bytes (Err (BadEntry error)) = ((length bytes ≤ limit) × Refused bytes error) ⊎ IsTooLong limit bytes error
 Opens limit bytes (Err _) = ⊥

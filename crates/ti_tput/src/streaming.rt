@@ -1,6 +1,6 @@
 //! `tput -S`: commands read line by line, and what they write as it comes.
 ghost use Rattle.std.specs.Prelude.{◌+◌, ◌≤◌};
-ghost use Rattle.ti_devices.specs.Counted.{observed, reads_of};
+ghost use Rattle.ti_devices.specs.Counted.{observation, reads_of};
 ghost use Rattle.ti_devices.specs.LineReader.{reads_max};
 ghost use Rattle.ti_tput.specs.Entries.{entry_of};
 ghost use Rattle.ti_tput.specs.Streaming.{Ends};
@@ -31,8 +31,8 @@ pub fn tput_lines<R: Read, W: Write>(
     reader: &mut Counted<R>,
     writer: &mut Counted<W>,
 ) -> Result<u8, ToolError>
-    ensures ends { Ends (entry_of view.now) rate (observed R.remaining reader.old) (observed R.remaining reader.new)
-        (observed W.contents writer.old) (observed W.contents writer.new) result }
+    ensures ends { Ends (entry_of view.now) rate (observation R.remaining reader.old) (observation R.remaining reader.new)
+        (observation W.contents writer.old) (observation W.contents writer.new) result }
     ensures reads { reads_of reader.new ≤ reads_of reader.old + reads_max }
 {
     let mut lines = LineReader::new(alloc, LINE_MAX)?;

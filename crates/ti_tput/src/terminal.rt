@@ -1,6 +1,6 @@
 //! A terminal that takes commands line by line, and writes what they write.
 ghost use Rattle.std.specs.Prelude.{◌≡◌, ◌==◌, ℕ, IfOk};
-ghost use Rattle.ti_devices.specs.Counted.{Observed, observed};
+ghost use Rattle.ti_devices.specs.Counted.{Observed, observation};
 ghost use Rattle.ti_tput.specs.Entries.{Entry, entry_of};
 ghost use Rattle.ti_tput.specs.Runs.{Course, line_step, run_status, start};
 
@@ -89,7 +89,7 @@ impl<'a> Terminal<'a> {
     ) -> Result<(), ToolError>
         ensures { (entry : Entry) (rate : ℕ) (course : Course) → Holds entry rate self.old course
             → Took entry rate (line_step entry rate course line.now) self.new
-            (observed W.contents writer.old) (observed W.contents writer.new) result }
+            (observation W.contents writer.old) (observation W.contents writer.new) result }
     {
         let bytes = self.bytes_of(line)?;
         write_out(writer, bytes.as_slice())

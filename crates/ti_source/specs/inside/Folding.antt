@@ -8,9 +8,9 @@ abbrev pub Placed : Type 0
 Placed = ℕ × ℕ
 
 -- the bytes of a text that begins on a line
-abbrev pub placed : ℕ → List ℕ → List Placed
-placed line [] = []
-placed line (b ∷ bs) = (b, line) ∷ placed (if b == ascii.newline then line + 1 else line) bs
+abbrev pub bytes_on_lines : ℕ → List ℕ → List Placed
+bytes_on_lines line [] = []
+bytes_on_lines line (b ∷ bs) = (b, line) ∷ bytes_on_lines (if b == ascii.newline then line + 1 else line) bs
 
 -- whether a byte stands in a comment, a line that begins with `#`, where `before` stands just before it and `comment` says it of that byte
 abbrev pub in_comment : Bool → ℕ → ℕ → Bool
@@ -25,13 +25,13 @@ without_comments comment before (x ∷ xs) =
     else x ∷ without_comments false x.0 xs
 
 -- the bytes without each newline and the run of white space and newlines after it, where `joining` says that such a run stands just before
-abbrev pub joined : Bool → List Placed → List Placed
-joined joining [] = []
-joined joining (x ∷ xs) =
+abbrev pub without_breaks : Bool → List Placed → List Placed
+without_breaks joining [] = []
+without_breaks joining (x ∷ xs) =
     if x.0 == ascii.newline || (joining && is_white_space x.0)
-    then joined true xs
-    else x ∷ joined false xs
+    then without_breaks true xs
+    else x ∷ without_breaks false xs
 
 -- the folded text of a block: comments are left out first, then line breaks; a newline stands before a block, and its lines are counted from 1
-abbrev pub folded : List ℕ → List Placed
-folded block = joined false (without_comments false ascii.newline (placed 1 block))
+abbrev pub folding_of : List ℕ → List Placed
+folding_of block = without_breaks false (without_comments false ascii.newline (bytes_on_lines 1 block))

@@ -1,7 +1,7 @@
 -- The names field, the items and what an item states, computed; what a reader of a folded text takes, and statements in memory (own).
 use Rattle.ti_text.specs.Ascii as ascii
 use Rattle.std.specs.Prelude.{◌≡◌, ℕ, Bool, false, not, ◌&&◌, ◌==◌, if◌then◌else◌, List, [], ◌∷◌, ◌++◌, length, ◌<◌, Option, Some, None}
-use Rattle.ti_source.specs.WhiteSpace.{is_white_space, trimmed}
+use Rattle.ti_source.specs.WhiteSpace.{is_white_space, without_trailing_space}
 use Rattle.ti_source.specs.Blocks.{last_byte}
 use Rattle.ti_source.specs.Folding.{Placed}
 use Rattle.ti_source.specs.declared.items.Taken.{Taken}
@@ -78,7 +78,7 @@ statement_with_value name mark value = record { name = name; claim = if mark == 
 
 -- what a text states, given what stands from its first mark on
 abbrev pub statement_by_mark : List ℕ → List ℕ → Statement
-statement_by_mark text [] = plain_statement (trimmed text)
+statement_by_mark text [] = plain_statement (without_trailing_space text)
 statement_by_mark text (mark ∷ value) = statement_with_value (before_mark text) mark value
 
 -- what an item states, by its text with no white space at its front, computed

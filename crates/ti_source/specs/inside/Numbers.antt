@@ -5,7 +5,7 @@ use Rattle.std.specs.Prelude.{◌≡◌, ℕ, ◌||◌, ◌==◌, nat_le, nat_lt
 use Rattle.std.specs.List.{list_all}
 use Rattle.ti_source.specs.declared.numbers.NumberError.{NumberError}
 use Rattle.ti_source.specs.declared.numbers.NumberError.TheVariants.{Bad, TooLarge}
-use Rattle.ti_source.specs.WhiteSpace.{trimmed}
+use Rattle.ti_source.specs.WhiteSpace.{without_trailing_space}
 use Rattle.ti_source.specs.Numbers.{ReadsAs, digit_value, greatest_number, value_in}
 
 -- the value of digits in a base, or none where a byte is no digit of it
@@ -30,7 +30,7 @@ within_limit (Some value) = if nat_le value greatest_number then Ok value else E
 
 -- what a text reads as: a number, or why it is none
 abbrev pub number_read : List ℕ → Result ℕ NumberError
-number_read text = within_limit (value_read (trimmed text))
+number_read text = within_limit (value_read (without_trailing_space text))
 
 -- each text reads as `number_read` says
 abbrev pub EachTextIsRead : Type 0

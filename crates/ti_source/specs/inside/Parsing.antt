@@ -7,7 +7,7 @@ use Rattle.std.specs.Prelude.{◌≡◌, ℕ, ◌+◌, nat_lt, if◌then◌else�
 use Rattle.ti_source.specs.declared.code.Code.TheVariants as code
 use Rattle.ti_source.specs.declared.items.Taken.TheVariants as taken
 use Rattle.ti_source.specs.inside.Header.{header_names}
-use Rattle.ti_source.specs.Folding.{Placed, folded}
+use Rattle.ti_source.specs.Folding.{Placed, folding_of}
 use Rattle.ti_source.specs.Items.{Statement, Piece, bytes, piece_of}
 use Rattle.ti_source.specs.inside.Items.{field_of, after_field, items_of, statement_of}
 use Rattle.ti_source.specs.Reading.{ReadItem, ReadFault, Reading}
@@ -44,15 +44,15 @@ header_faults field (Some names) = if nat_lt names_limit (length field) then hea
 
 -- the names field of a block
 abbrev pub block_field : List ℕ → List ℕ
-block_field block = bytes (field_of (folded block))
+block_field block = bytes (field_of (folding_of block))
 
 -- the items behind the names field of a block
 abbrev pub block_items : List ℕ → List (List Placed)
-block_items block = items_of taken.Nothing ascii.comma (after_field (folded block))
+block_items block = items_of taken.Nothing ascii.comma (after_field (folding_of block))
 
 -- how a block is read
-unfoldable pub parsed : List ℕ → Reading
-parsed block = record {
+unfoldable pub reading_of_text : List ℕ → Reading
+reading_of_text block = record {
   field = block_field block;
   names = names_found (header_names (block_field block));
   items = items_from 0 (block_items block);

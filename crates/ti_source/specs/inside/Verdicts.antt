@@ -10,9 +10,9 @@ use Rattle.ti_source.specs.declared.numbers.NumberError.TheVariants.{Bad, TooLar
 use Rattle.ti_spelling.specs.declared.spelling.UnescapeError.{UnescapeError}
 use Rattle.ti_source.specs.declared.verdicts.Verdict.{Verdict as VerdictInMemory}
 use Rattle.ti_source.specs.declared.verdicts.Verdict.TheVariants as verdict
-pub use Rattle.ti_spelling.specs.inside.Spelling.{unescaped}
+pub use Rattle.ti_spelling.specs.inside.Spelling.{unescape_result}
 use Rattle.ti_source.specs.inside.Numbers.{number_read}
-use Rattle.ti_source.specs.Items.{Claim, claims_flag, claims_number, claims_text, claims_cancel, stripped}
+use Rattle.ti_source.specs.Items.{Claim, claims_flag, claims_number, claims_text, claims_cancel, without_outer_space}
 use Rattle.ti_source.specs.Reading.{said_flag, said_number, said_text, said_cancel, said_import, said_of}
 
 -- the same, computed: the verdict on a number of a capability, given what its text reads as
@@ -30,7 +30,7 @@ text_verdict c (Err cause) = refused code.BadString
 abbrev pub fitting_verdict : Capability → Claim → Kind → Verdict
 fitting_verdict c claims_flag kind.Flag = accepted (said_flag c)
 fitting_verdict c (claims_number text) kind.Number = number_verdict c (number_read text)
-fitting_verdict c (claims_text value) kind.Text = text_verdict c (unescaped value)
+fitting_verdict c (claims_text value) kind.Text = text_verdict c (unescape_result value)
 fitting_verdict c claims_cancel k = accepted (said_cancel c)
 fitting_verdict c _ _ = refused code.WrongKind
 
@@ -48,7 +48,7 @@ claimed_text _ = []
 abbrev pub verdict_of : List ℕ → Claim → Verdict
 verdict_of name claim =
     if is_import name claim
-    then accepted (said_import (stripped (claimed_text claim)))
+    then accepted (said_import (without_outer_space (claimed_text claim)))
     else named_verdict claim (capability_named name)
 
 -- a verdict that holds what it accepts in memory, as plain data

@@ -11,7 +11,7 @@ use Rattle.ti_spelling.specs.declared.spelling.UnescapeError.{UnescapeError}
 use Rattle.ti_spelling.specs.declared.spelling.UnescapeError.TheVariants.{BadOctal, BadControl, BadByte, Memory}
 use Rattle.ti_spelling.specs.declared.spelling.Unescaped.{Unescaped}
 use Rattle.ti_spelling.specs.declared.spelling.Piece.{Piece}
-use Rattle.ti_spelling.specs.Spelling.{Fails, Spells, is_octal_digit, is_percent, named_escape, not_nul, octal_digits, octal_value, written}
+use Rattle.ti_spelling.specs.Spelling.{Fails, Spells, is_octal_digit, is_percent, named_escape, not_nul, octal_digits, octal_value, spelling_of}
 
 -- the piece of a backslash and these octal digits
 abbrev pub octal_piece : List ℕ → Result Piece UnescapeError
@@ -69,19 +69,19 @@ unescaped_from zero before (x ∷ xs) = then_later (first_piece (is_percent befo
 unescaped_from (suc left) before (x ∷ xs) = unescaped_from left x xs
 
 -- the bytes that the whole text spells, and whether an escape is odd; or its first fault
-unfoldable pub unescaped : List ℕ → Result (List ℕ × Bool) UnescapeError
-unescaped raw = unescaped_from 0 0 raw
+unfoldable pub unescape_result : List ℕ → Result (List ℕ × Bool) UnescapeError
+unescape_result raw = unescaped_from 0 0 raw
 
 -- an answer of `unescape`: want of memory comes only where the text spells something
 abbrev pub GivesUnescaped : List ℕ → Result Unescaped UnescapeError → Type 0
-GivesUnescaped raw (Ok found) = unescaped raw ≡ Ok (found.bytes.items, found.odd)
-GivesUnescaped raw (Err Memory) = IsOk (unescaped raw)
-GivesUnescaped raw (Err cause) = unescaped raw ≡ Err cause
+GivesUnescaped raw (Ok found) = unescape_result raw ≡ Ok (found.bytes.items, found.odd)
+GivesUnescaped raw (Err Memory) = IsOk (unescape_result raw)
+GivesUnescaped raw (Err cause) = unescape_result raw ≡ Err cause
 
 -- what is computed is what the relations say
 pub record IsComputed (raw : List ℕ) : Type 0 where
-  pub spelled : (value : List ℕ) (odd : Bool) → Spells raw value odd ↔ (unescaped raw ≡ Ok (value, odd))
-  pub refused : (cause : UnescapeError) → Fails raw cause ↔ (unescaped raw ≡ Err cause)
+  pub spelled : (value : List ℕ) (odd : Bool) → Spells raw value odd ↔ (unescape_result raw ≡ Ok (value, odd))
+  pub refused : (cause : UnescapeError) → Fails raw cause ↔ (unescape_result raw ≡ Err cause)
 
 -- of every text, the value that it spells and its first fault are exactly what `unescaped` gives
 abbrev pub UnescapedAgrees : Type 0
@@ -95,8 +95,8 @@ pub record IsValueOf (raw value : List ℕ) : Type 0 where
 
 -- a value has no NUL, is no longer than the text that spells it, and is of bytes where that is
 abbrev pub ValuesAreSound : Type 0
-ValuesAreSound = (raw value : List ℕ) (odd : Bool) → unescaped raw ≡ Ok (value, odd) → IsValueOf raw value
+ValuesAreSound = (raw value : List ℕ) (odd : Bool) → unescape_result raw ≡ Ok (value, odd) → IsValueOf raw value
 
 -- what is written is read back by `unescaped`
 abbrev pub WrittenReadsBack : Type 0
-WrittenReadsBack = (value : List ℕ) → AreBytes value → HasNoNul value → unescaped (written value) ≡ Ok (value, false)
+WrittenReadsBack = (value : List ℕ) → AreBytes value → HasNoNul value → unescape_result (spelling_of value) ≡ Ok (value, false)

@@ -1,7 +1,7 @@
 use Rattle.std.proofs.Common.{◌≡◌, ◌+◌, ◌≤◌, ◌%◌, ℕ, suc, List, length, subst, Vec, Global, ap, refl, ◌∙◌, arith, vec_len}
 use Rattle.ti_caps.specs.declared.capability.Kind.TheVariants.{Flag}
 use Rattle.ti_layout.specs.Image.{written_count}
-use Rattle.ti_compiled.specs.Parts.{Replaces, resized}
+use Rattle.ti_compiled.specs.Parts.{Replaces, with_length}
 use Rattle.ti_compiled.specs.Held.{names_in, contents_in}
 use Rattle.ti_compiled.proofs.FlagPlaces.{flags_within}
 use Rattle.ti_compiled.proofs.FlagChange.{flag_lengths, flag_written, flag_cut, flag_changed}
@@ -49,8 +49,8 @@ returns c =
     let i = c.requires.index in
     let at : 12 + h.names ≡ 12 + suc (length names) = ap (λ x. 12 + x) c.requires.old.names in
     let size : h.flags + (h.names + h.flags) % 2 ≡ written_count d Flag + (suc (length names) + written_count d Flag) % 2 = rw (c.requires.old.names, c.requires.old.flags) refl in
-    let resizes : Replaces b b1 (12 + suc (length names)) (written_count d Flag + (suc (length names) + written_count d Flag) % 2) (λ m. resized m n 0) =
-    subst (λ x. Replaces b b1 (12 + suc (length names)) x (λ m. resized m n 0)) size (subst (λ x. Replaces b b1 x (h.flags + (h.names + h.flags) % 2) (λ m. resized m n 0)) at c.resize_part.ensures.part) in
+    let resizes : Replaces b b1 (12 + suc (length names)) (written_count d Flag + (suc (length names) + written_count d Flag) % 2) (λ m. with_length m n 0) =
+    subst (λ x. Replaces b b1 (12 + suc (length names)) x (λ m. with_length m n 0)) size (subst (λ x. Replaces b b1 x (h.flags + (h.names + h.flags) % 2) (λ m. with_length m n 0)) at c.resize_part.ensures.part) in
     let whole = c.requires.image.whole in
     let done = flag_changed names d past c.args.index i c.args.on b b1 n whole resizes b2 c.write_header.new.bytes.items k in
     elim c.if-index-wanted.branch [

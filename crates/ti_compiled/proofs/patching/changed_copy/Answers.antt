@@ -2,12 +2,12 @@ use Rattle.std.proofs.Common.{◌<◌, length, sym, ap, subst, ◌∙◌}
 use Rattle.std.proofs.lemmas.List.{length-map}
 use Rattle.ti_caps.specs.Tables.{Capability, IsCapability}
 use Rattle.std.specs.Prelude.{◌≡◌, Some, None}
-use Rattle.ti_layout.specs.Laws.{uncancelled}
+use Rattle.ti_layout.specs.Laws.{without_cancel}
 use Rattle.ti_layout.specs.Merging.{TurnIs}
 use Rattle.ti_layout.specs.declared.values.Value.{Value}
 use Rattle.ti_layout.specs.Values.{content_of, entries_of}
 use Rattle.ti_layout.proofs.Walked.{item_read}
-use Rattle.ti_compiled.specs.Held.{names_in, contents_in, given}
+use Rattle.ti_compiled.specs.Held.{names_in, contents_in, with_content}
 use Rattle.ti_compiled.proofs.TableWalk.{Patches, entry_agrees, patches_none, patches_all, takes_away, gives, renews, still_held}
 use Rattle.ti_compiled.proofs.patching.changed_copy.Goals as goal
 
@@ -45,7 +45,7 @@ renew-requires-clause-held c =
     let within_n : j < length c.args.new.now = rw length-map at turn.1 in
     still_held fs ss c.requires.old c.requires.new (contents_in c.loop-turn.copy) i j c.loop-turn.invariant.patches (x.0, content_of x.1) (y.0, content_of y.1)
     turn.0 (item_read _ _ x within_o c.index-old-at_old-in-Both.is) turn.1 (item_read _ _ y within_n c.index-new-at_new-in-Both.is) turn.2
-    ∙ ap (λ (e : Capability × Value). uncancelled (Some (content_of e.1))) c.index-old-at_old-in-Both.is
+    ∙ ap (λ (e : Capability × Value). without_cancel (Some (content_of e.1))) c.index-old-at_old-in-Both.is
 
 pub loop-turn-preserved-in-First : goal.loop-turn-preserved-in-First
 loop-turn-preserved-in-First c =
@@ -61,7 +61,7 @@ loop-turn-preserved-in-First c =
       names = done.names ∙ c.loop-turn.invariant.names;
       patches = takes_away fs ss c.requires.old c.requires.new (contents_in c.loop-turn.copy) i j c.loop-turn.invariant.patches (x.0, content_of x.1) turn.0 (item_read _ _ x within c.index-old-at_old.is) turn.1
           (contents_in c.change.new.image)
-          (subst (λ (e : Capability × Value). (d : Capability) → IsCapability d → contents_in c.change.new.image d ≡ given (contents_in c.loop-turn.copy) e.0 None d) (sym c.index-old-at_old.is) done.contents.says);
+          (subst (λ (e : Capability × Value). (d : Capability) → IsCapability d → contents_in c.change.new.image d ≡ with_content (contents_in c.loop-turn.copy) e.0 None d) (sym c.index-old-at_old.is) done.contents.says);
     }
 
 pub loop-turn-preserved-in-Second : goal.loop-turn-preserved-in-Second

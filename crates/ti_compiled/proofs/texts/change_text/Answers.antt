@@ -3,7 +3,7 @@ use Rattle.ti_caps.specs.Tables.{capability}
 use Rattle.ti_caps.specs.declared.capability.Kind.TheVariants.{Text}
 use Rattle.ti_layout.specs.Image.{texts_below, written_count}
 use Rattle.ti_compiled.specs.Changes.{text_content}
-use Rattle.ti_compiled.specs.Held.{names_in, contents_in, given}
+use Rattle.ti_compiled.specs.Held.{names_in, contents_in, with_content}
 use Rattle.ti_compiled.specs.Parts.{piece}
 use Rattle.ti_compiled.proofs.TextFits.{gone_or_more, lengths_of, removed_found}
 use Rattle.ti_compiled.proofs.TextLaid.{table_changed, offsets_resized, put_here, put_other, put_fits, offset_there, offset_none, text_changed}
@@ -151,7 +151,7 @@ returns c =
     let k = c.args.new.now in
     let i = c.args.index in
     let d = contents_in b in
-    let g = given d (capability Text i) (text_content t) in
+    let g = with_content d (capability Text i) (text_content t) in
     let rest = texts_below g (written_count g Text) in
     let front = head_of (names_in b) d ++ middle (names_in b) d in
     let place = c.offsets_place-place.result in

@@ -1,6 +1,6 @@
 use Rattle.std.proofs.Common.{◌≡◌, ◌<◌, ◌≤◌, ℕ, List, ◌++◌, length, ap, sym, ◌∙◌, subst, arith}
 use Rattle.ti_layout.specs.declared.layout.Format.TheVariants.{Legacy}
-use Rattle.ti_layout.specs.Layout.{number_bytes, spelled}
+use Rattle.ti_layout.specs.Layout.{number_bytes, number_section}
 use Rattle.ti_layout.proofs.Below.{below-same}
 use Rattle.ti_compiled.specs.Parts.{Replaces}
 use Rattle.ti_compiled.proofs.Numbering.{place-set}
@@ -19,4 +19,4 @@ returns-then-index-count-clause-put c = λ p r f g whole long here others.
 
 pub returns-else-index-count-clause-put : goal.returns-else-index-count-clause-put
 returns-else-index-count-clause-put c = λ p r f g whole long here others.
-    whole ∙ ap (λ t. p ++ (spelled Legacy t ++ r)) (below-same f g c.args.count (λ j lt. sym (others j (λ same. absurd (beyond c.args.index c.args.count j same lt c.if-index-count.false)))))
+    whole ∙ ap (λ t. p ++ (number_section Legacy t ++ r)) (below-same f g c.args.count (λ j lt. sym (others j (λ same. absurd (beyond c.args.index c.args.count j same lt c.if-index-count.false)))))

@@ -1,5 +1,5 @@
 use Rattle.std.proofs.Common.{◌≡◌, ℕ, List, ◌++◌, length}
-use Rattle.ti_devices.specs.Counted.{observed}
+use Rattle.ti_devices.specs.Counted.{observation}
 use Rattle.ti_devices.specs.Writing.{TakesAll}
 use Rattle.ti_devices.proofs.writing.write_out.Given as goal
 
@@ -7,8 +7,8 @@ use Rattle.ti_devices.proofs.writing.write_out.Given as goal
 abbrev pub invariant-loop-rest : goal.invariant-loop-rest
 invariant-loop-rest g l =
     (front : List ℕ) × (l.bytes ≡ front ++ l.rest)
-    × TakesAll (observed g.W.Write.contents l.initial.writer)
-    (observed g.W.Write.contents l.writer) front
+    × TakesAll (observation g.W.Write.contents l.initial.writer)
+    (observation g.W.Write.contents l.writer) front
 
 abbrev pub decreases-loop-rest : goal.decreases-loop-rest
 decreases-loop-rest g l = length l.rest

@@ -1,11 +1,11 @@
 -- each step writes the item of one capability, or there is none
 use Rattle.std.proofs.Common.{◌≡◌, ◌≤◌, ◌++◌, map, option_map, Some, None, length, refl, sym, ◌∙◌, ap, arith}
 use Rattle.std.proofs.lemmas.List.{drop_all}
-use Rattle.ti_layout.specs.Shown.{held}
+use Rattle.ti_layout.specs.Shown.{view_contents}
 use Rattle.ti_list.specs.Contents.{content_of}
 use Rattle.ti_list.specs.Flow.{flow}
 use Rattle.ti_list.specs.Listing.{in_order, items_for}
-use Rattle.ti_list.specs.Relative.{differing_contents, shown}
+use Rattle.ti_list.specs.Relative.{differing_contents, entry_shown}
 use Rattle.ti_list.proofs.Orders.{length-in_order}
 use Rattle.ti_list.proofs.Rooms.{room-some, room-none}
 use Rattle.ti_list.proofs.Steps.{flow-some, flow-none, flow-end}
@@ -14,7 +14,7 @@ use Rattle.ti_list.proofs.listing.write_kind.Goals.{in-Some, in_default}
 
 pub write_placed-requires-clause-room : goal.write_placed-requires-clause-room
 write_placed-requires-clause-room c =
-    let table = differing_contents (held c.args.view.now) (map (λ o. shown o) c.args.others.now) in
+    let table = differing_contents (view_contents c.args.view.now) (map (λ o. entry_shown o) c.args.others.now) in
     let caps = in_order c.args.layout.now.order c.args.kind in
     let some : option_map content_of c.said_of.result ≡ Some (content_of c.in-Some.content) = rw c.in-Some.is refl in
     let step = room-some table caps c.loop-place.place _ _ c.cap_at-cap.ensures (sym c.said_of.ensures.is ∙ some) in
@@ -23,7 +23,7 @@ write_placed-requires-clause-room c =
 pub loop-place-preserved : goal.loop-place-preserved
 loop-place-preserved c = elim c.match-said_of.branch [
   | in-Some w ↦
-      let table = differing_contents (held c.args.view.now) (map (λ o. shown o) c.args.others.now) in
+      let table = differing_contents (view_contents c.args.view.now) (map (λ o. entry_shown o) c.args.others.now) in
       let caps = in_order c.args.layout.now.order c.args.kind in
       let some : option_map content_of c.said_of.result ≡ Some (content_of w.in-Some.content) = rw w.in-Some.is refl in
       let step = room-some table caps c.loop-place.place _ _ c.cap_at-cap.ensures (sym c.said_of.ensures.is ∙ some) in
@@ -35,7 +35,7 @@ loop-place-preserved c = elim c.match-said_of.branch [
         capacity = rw w.out-is (omega (arith, w.write_placed.ensures.capacity, c.loop-place.invariant.capacity));
       }
   | in_default w ↦
-      let table = differing_contents (held c.args.view.now) (map (λ o. shown o) c.args.others.now) in
+      let table = differing_contents (view_contents c.args.view.now) (map (λ o. entry_shown o) c.args.others.now) in
       let caps = in_order c.args.layout.now.order c.args.kind in
       let none : option_map content_of c.said_of.result ≡ None = rw w.in_default.is refl in
       let step = room-none table caps c.loop-place.place _ c.cap_at-cap.ensures (sym c.said_of.ensures.is ∙ none) in
@@ -49,7 +49,7 @@ loop-place-preserved c = elim c.match-said_of.branch [
 
 pub returns-clause-items : goal.returns-clause-items
 returns-clause-items c rest =
-    let table = differing_contents (held c.args.view.now) (map (λ o. shown o) c.args.others.now) in
+    let table = differing_contents (view_contents c.args.view.now) (map (λ o. entry_shown o) c.args.others.now) in
     let caps = in_order c.args.layout.now.order c.args.kind in
     let past : length caps ≤ c.loop-place.place = rw length-in_order (omega (arith, c.count-place-end.ensures.value, c.loop-place-test.false)) in
     let ended = ap (λ cs. flow c.args.layout.now c.loop-place.line (items_for table cs) rest) (drop_all c.loop-place.place caps past) ∙ flow-end c.args.layout.now c.loop-place.line rest in

@@ -1,5 +1,5 @@
 use Rattle.std.proofs.Common.{◌≡◌, ◌+◌, ◌≤◌, ◌++◌, length, vec_len, vec_capacity}
-use Rattle.ti_printing.specs.Padding.{padded, padded_parts, padding_of_parts}
+use Rattle.ti_printing.specs.Padding.{with_pad_bytes, padded_parts, padding_of_parts}
 use Rattle.ti_printing.specs.inside.Padding.{parts_of}
 use Rattle.ti_printing.proofs.padding.write.Given as goal
 
@@ -11,5 +11,5 @@ invariant-loop-part l =
       can_next : (goal.iterator-loop-part).can_next l.part-iterator;
       is_finite : (goal.iterator-loop-part).is_finite l.part-iterator;
       room : vec_len l.out + length parts + padding_of_parts l.lines l.line parts ≤ vec_capacity l.out;
-      written : l.out.items ++ padded_parts l.lines l.line parts ≡ l.fn.out.items ++ padded l.text l.lines l.line;
+      written : l.out.items ++ padded_parts l.lines l.line parts ≡ l.fn.out.items ++ with_pad_bytes l.text l.lines l.line;
     }

@@ -1,15 +1,15 @@
 use Rattle.std.proofs.Common.{◌≡◌, ◌++◌, OnOk, subst, sym, rules, FitsSigned, w32}
 use Rattle.std.proofs.lemmas.Int.{to_z-of_z}
-use Rattle.ti_printing.specs.Printf.{printed}
+use Rattle.ti_printing.specs.Printf.{form_bytes}
 use Rattle.ti_printing.proofs.Layouts.{printed_by-number}
 use Rattle.ti_printing.proofs.printf.print.Goals as goal
 
 pub returns-in-Text-clause-ok : goal.returns-in-Text-clause-ok
-unfolding printed
+unfolding form_bytes
 returns-in-Text-clause-ok c = search rules
 
 pub returns-in_default : goal.returns-in_default
-unfolding printed
+unfolding form_bytes
 returns-in_default c =
     let d = c.args.directive.now in
     let fits : FitsSigned w32 c.args.number = c.ranges.number in

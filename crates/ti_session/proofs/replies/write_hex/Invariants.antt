@@ -1,6 +1,6 @@
 use Rattle.std.proofs.Common.{◌≡◌, ℕ, List, ◌++◌, length}
 use Rattle.std.specs.List.{flat_map}
-use Rattle.ti_devices.specs.Counted.{observed}
+use Rattle.ti_devices.specs.Counted.{observation}
 use Rattle.ti_devices.specs.Writing.{TakesAll}
 use Rattle.ti_session.specs.Script.{hex_of}
 use Rattle.ti_session.proofs.replies.write_hex.Given as goal
@@ -9,8 +9,8 @@ use Rattle.ti_session.proofs.replies.write_hex.Given as goal
 abbrev pub invariant-loop-rest : goal.invariant-loop-rest
 invariant-loop-rest g l =
     (front : List ℕ) × (l.bytes ≡ front ++ l.rest)
-    × TakesAll (observed g.W.Write.contents l.initial.writer)
-    (observed g.W.Write.contents l.writer) (flat_map hex_of front)
+    × TakesAll (observation g.W.Write.contents l.initial.writer)
+    (observation g.W.Write.contents l.writer) (flat_map hex_of front)
 
 abbrev pub decreases-loop-rest : goal.decreases-loop-rest
 decreases-loop-rest g l = length l.rest

@@ -1,6 +1,6 @@
 use Rattle.std.proofs.Common.{take}
 use Rattle.std.specs.List.{flat_map}
-use Rattle.ti_devices.specs.Counted.{observed}
+use Rattle.ti_devices.specs.Counted.{observation}
 use Rattle.ti_devices.specs.Writing.{TakesAll}
 use Rattle.ti_session.specs.Places.{next_place}
 use Rattle.ti_session.proofs.replies.write_next_places.Given as goal
@@ -8,5 +8,5 @@ use Rattle.ti_session.proofs.replies.write_next_places.Given as goal
 -- the positions before this one were written
 abbrev pub invariant-loop-place : goal.invariant-loop-place
 invariant-loop-place g l =
-    TakesAll (observed g.W.Write.contents l.initial.writer)
-    (observed g.W.Write.contents l.writer) (flat_map next_place (take l.place-index l.places))
+    TakesAll (observation g.W.Write.contents l.initial.writer)
+    (observation g.W.Write.contents l.writer) (flat_map next_place (take l.place-index l.places))

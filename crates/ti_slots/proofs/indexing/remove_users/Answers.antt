@@ -1,6 +1,6 @@
 use Rattle.std.proofs.Common.{◌+◌, sym, take}
 use Rattle.ti_index.specs.Names.{holders_at, users_at}
-use Rattle.ti_slots.specs.Indexing.{used}
+use Rattle.ti_slots.specs.Indexing.{is_used_by}
 use Rattle.ti_slots.proofs.Adding.{holders_by, users_by, removes_more, removes_same, removed_among, used_more, used_same}
 use Rattle.ti_slots.proofs.indexing.remove_users.Goals as goal
 use Rattle.ti_slots.proofs.indexing.remove_users.Goals.{in-Import, in_default}
@@ -8,14 +8,14 @@ use Rattle.ti_slots.proofs.indexing.remove_users.Goals.{in-Import, in_default}
 pub remove_user-requires-clause-among : goal.remove_user-requires-clause-among
 remove_user-requires-clause-among c =
     let name = c.as_slice.result.now in
-    removed_among users_at holders_at c.args.order.now.listed (used (take c.loop-item.item-index c.args.items.now)) c.args.id c.args.index.now c.loop-item.index name c.loop-item.invariant (c.requires.parts name)
+    removed_among users_at holders_at c.args.order.now.listed (is_used_by (take c.loop-item.item-index c.args.items.now)) c.args.id c.args.index.now c.loop-item.index name c.loop-item.invariant (c.requires.parts name)
 
 pub loop-item-preserved : goal.loop-item-preserved
 loop-item-preserved c =
     let k = c.loop-item.item-index in
     let items = c.args.items.now in
-    let told = used (take k items) in
-    let more = used (take (k + 1) items) in
+    let told = is_used_by (take k items) in
+    let more = is_used_by (take (k + 1) items) in
     elim c.match-item.branch [
       | in-Import w ↦
           rw w.index-is

@@ -1,5 +1,5 @@
 use Rattle.std.proofs.Common.{◌+◌, sym, ◌∙◌, take}
-use Rattle.ti_slots.specs.Indexing.{used, IsGrown}
+use Rattle.ti_slots.specs.Indexing.{is_used_by, IsGrown}
 use Rattle.ti_slots.proofs.Adding.{grown_more, room_more, used_more, used_same}
 use Rattle.ti_slots.proofs.indexing.reserve_uses.Goals as goal
 use Rattle.ti_slots.proofs.indexing.reserve_uses.Goals.{in-Import+in_ok-reserve, in_default}
@@ -8,8 +8,8 @@ pub loop-item-preserved : goal.loop-item-preserved
 loop-item-preserved c =
     let k = c.loop-item.item-index in
     let items = c.args.items.now in
-    let told = used (take k items) in
-    let more = used (take (k + 1) items) in
+    let told = is_used_by (take k items) in
+    let more = is_used_by (take (k + 1) items) in
     elim c.match-item.branch [
       | in-Import+in_ok-reserve w ↦
           let now : IsGrown c.loop-item.index w.reserve.new.self = record { seen = w.reserve.ensures.seen; capacity = w.reserve.ensures.capacity } in

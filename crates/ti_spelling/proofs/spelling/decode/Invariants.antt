@@ -1,11 +1,11 @@
 use Rattle.std.proofs.Common.{◌≡◌, length}
-use Rattle.ti_spelling.specs.inside.Spelling.{unescaped}
+use Rattle.ti_spelling.specs.inside.Spelling.{unescape_result}
 use Rattle.ti_spelling.specs.inside.Pieces.{left_of}
 use Rattle.ti_spelling.proofs.PieceLemmas.{with_front}
 use Rattle.ti_spelling.proofs.spelling.decode.Given as goal
 
 abbrev pub invariant-loop-bytes : goal.invariant-loop-bytes
-invariant-loop-bytes l = unescaped l.raw ≡ with_front l.bytes.items l.odd (left_of l.pieces)
+invariant-loop-bytes l = unescape_result l.raw ≡ with_front l.bytes.items l.odd (left_of l.pieces)
 
 abbrev pub decreases-loop-bytes : goal.decreases-loop-bytes
 decreases-loop-bytes l = length l.pieces.rest.now

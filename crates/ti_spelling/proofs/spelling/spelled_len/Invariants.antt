@@ -1,5 +1,5 @@
 use Rattle.std.proofs.Common.{◌≡◌, ◌+◌, ◌≤◌, Bool, List, ℕ, length}
-use Rattle.ti_spelling.specs.inside.Spelling.{unescaped}
+use Rattle.ti_spelling.specs.inside.Spelling.{unescape_result}
 use Rattle.ti_spelling.specs.inside.Pieces.{left_of}
 use Rattle.ti_spelling.proofs.PieceLemmas.{with_front}
 use Rattle.ti_spelling.proofs.spelling.spelled_len.Given as goal
@@ -9,7 +9,7 @@ invariant-loop-count l = record {
   front : List ℕ;
   odd : Bool;
   counted : length front ≡ l.count;
-  found : unescaped l.raw ≡ with_front front odd (left_of l.pieces);
+  found : unescape_result l.raw ≡ with_front front odd (left_of l.pieces);
   room : l.count + length l.pieces.rest.now ≤ length l.raw;
 }
 

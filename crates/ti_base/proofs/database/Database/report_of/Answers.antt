@@ -3,7 +3,7 @@ use Rattle.std.specs.List.{flat_map}
 use Rattle.ti_meaning.specs.Owner.{readings}
 use Rattle.ti_meaning.specs.Bounds.{IsPlaced}
 use Rattle.ti_meaning.specs.Faults.{SourceFault, fault_seen, faults}
-use Rattle.ti_meaning.specs.Report.{report, reported}
+use Rattle.ti_meaning.specs.Report.{report, report_line}
 use Rattle.ti_meaning.proofs.Bounding.{faults_placed}
 use Rattle.ti_slots.specs.Slots.{blocks_of, texts_of}
 use Rattle.ti_base.proofs.SlotLists.{blocks_read, length_blocks, length_texts}
@@ -25,4 +25,4 @@ pub returns : goal.returns
 returns c =
     let slots = c.self.inside.slots in
     let found = c.requires.all ∙ ap (λ texts. faults (readings texts)) (sym c.self.view_is) in
-    c.in_ok-report.ensures ∙ (ap (flat_map (reported (texts_of slots) c.args.first_line)) found ∙ ap (λ texts. report texts c.args.first_line) c.self.view_is)
+    c.in_ok-report.ensures ∙ (ap (flat_map (report_line (texts_of slots) c.args.first_line)) found ∙ ap (λ texts. report texts c.args.first_line) c.self.view_is)

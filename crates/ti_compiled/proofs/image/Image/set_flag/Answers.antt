@@ -1,7 +1,7 @@
 use Rattle.std.proofs.Common.{◌≡◌, ℕ, Bool, true, false, refl}
 use Rattle.ti_caps.specs.Tables.{capability}
 use Rattle.ti_caps.specs.declared.capability.Kind.TheVariants.{Flag}
-use Rattle.ti_layout.specs.Laws.{uncancelled}
+use Rattle.ti_layout.specs.Laws.{without_cancel}
 use Rattle.ti_layout.specs.Values.{AgreesIfSome}
 use Rattle.ti_compiled.specs.Changes.{flag_content}
 use Rattle.ti_compiled.proofs.Kept.{after_giving}
@@ -11,7 +11,7 @@ flag_agrees : (i : ℕ) (on : Bool) → AgreesIfSome (capability Flag i) (flag_c
 flag_agrees i true = refl
 flag_agrees i false = tt
 
-flag_present : (on : Bool) → uncancelled (flag_content on) ≡ flag_content on
+flag_present : (on : Bool) → without_cancel (flag_content on) ≡ flag_content on
 flag_present true = refl
 flag_present false = refl
 

@@ -1,12 +1,12 @@
 use Rattle.std.proofs.Common.{◌≡◌, ℕ, Option, Some, None, refl}
 use Rattle.ti_caps.specs.declared.capability.Kind.TheVariants.{Number}
-use Rattle.ti_layout.specs.Laws.{uncancelled}
+use Rattle.ti_layout.specs.Laws.{without_cancel}
 use Rattle.ti_compiled.specs.Changes.{number_content}
 use Rattle.ti_compiled.proofs.Kept.{after_giving}
 use Rattle.ti_compiled.proofs.NumberChange.{number_agrees}
 use Rattle.ti_compiled.proofs.image.Image.set_number.Goals as goal
 
-number_present : (number : Option ℕ) → uncancelled (number_content number) ≡ number_content number
+number_present : (number : Option ℕ) → without_cancel (number_content number) ≡ number_content number
 number_present (Some n) = refl
 number_present None = refl
 

@@ -1,7 +1,7 @@
 use Rattle.std.proofs.Common.{◌≡◌, ℕ, List, Option, Some, None, Bor, IfSome, refl}
 use Rattle.ti_caps.specs.Tables.{capability}
 use Rattle.ti_caps.specs.declared.capability.Kind.TheVariants.{Text}
-use Rattle.ti_layout.specs.Laws.{uncancelled}
+use Rattle.ti_layout.specs.Laws.{without_cancel}
 use Rattle.ti_layout.specs.Values.{AgreesIfSome, HasNoNul}
 use Rattle.ti_compiled.specs.Changes.{text_lent}
 use Rattle.ti_compiled.proofs.Kept.{after_giving}
@@ -11,7 +11,7 @@ text_agrees : (i : ℕ) (t : Option (Bor (List ℕ))) → IfSome t (λ x. HasNoN
 text_agrees i (Some t) h = (refl, h)
 text_agrees i None h = tt
 
-text_present : (t : Option (Bor (List ℕ))) → uncancelled (text_lent t) ≡ text_lent t
+text_present : (t : Option (Bor (List ℕ))) → without_cancel (text_lent t) ≡ text_lent t
 text_present (Some t) = refl
 text_present None = refl
 

@@ -1,12 +1,12 @@
 use Rattle.std.proofs.Common.{◌≡◌, ◌+◌, ◌<◌, ◌^◌, length}
-use Rattle.ti_source.specs.Folding.{placed, without_comments, joined}
+use Rattle.ti_source.specs.Folding.{bytes_on_lines, without_comments, without_breaks}
 use Rattle.ti_source.proofs.folding.FoldedIterator.next.Given as goal
 
 -- what was passed so far leaves the folded text as it is
 abbrev pub invariant-loop-byte : goal.invariant-loop-byte
 invariant-loop-byte l =
     let f = l.self-inside in
-    (joined f.joining (without_comments f.comment f.before (placed (f.newlines + 1) f.rest.now)) ≡ l.fn.self)
+    (without_breaks f.joining (without_comments f.comment f.before (bytes_on_lines (f.newlines + 1) f.rest.now)) ≡ l.fn.self)
     × (f.newlines + length f.rest.now < 2 ^ 64)
 
 abbrev pub decreases-loop-byte : goal.decreases-loop-byte
