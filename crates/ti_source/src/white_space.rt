@@ -11,7 +11,7 @@ pub(crate) fn is_white_space(byte: u8) -> bool
 
 /// `text` without the white space at its end.
 pub(crate) fn trim_end(text: &[u8]) -> &[u8]
-    ensures { result.now ≡ spec.trimmed text.now }
+    ensures { result.now ≡ spec.without_trailing_space text.now }
 {
     let mut rest = text;
     while let [front @ .., last] = rest
