@@ -5,7 +5,7 @@ use Rattle.std.proofs.lemmas.List.{length-map, map-set}
 use Rattle.std.proofs.lemmas.List.Edits.{length-insert, length-remove}
 use Rattle.std.proofs.lemmas.Option.{same_Some, none-some, slice_get-map}
 use Rattle.ti_source.specs.Reading.{Reading, reading_of}
-use Rattle.ti_source.specs.Parsing.{parsed}
+use Rattle.ti_source.specs.Parsing.{reading_of_text}
 use Rattle.ti_meaning.specs.Owner.{is_among, readings}
 use Rattle.ti_meaning.specs.Edits.{Change, IsInPlace, after, insertion, replacement, removal, relocation, with_item_moved}
 use Rattle.ti_meaning.specs.Exchange.{position_behind, PlacedBlock, Exchange, IsExchange, HasPlace, new_list, exchange_of, block_from}
@@ -214,7 +214,7 @@ block_there bs slots from to slot e s =
     let here : slice_get bs from ≡ Some (reading_of slot.block) = ap (λ xs. slice_get xs from) e ∙ (rw (slice_get-map reading_seen slots from, s) refl) in
     rw here refl
 
-put_read : (at : ℕ) (slot : Slot) → IsSoundSlot slot → Some (record { at = at; block = parsed slot.text.items }) ≡ Some (block_seen (record { at = at; slot = slot }))
+put_read : (at : ℕ) (slot : Slot) → IsSoundSlot slot → Some (record { at = at; block = reading_of_text slot.text.items }) ≡ Some (block_seen (record { at = at; slot = slot }))
 put_read at slot h = ap (λ b. Some (record { at = at; block = b })) (sym h.read)
 
 pub inserted : (old new : Slots) (at : ℕ) (slot : Slot) → AreKept old → IsSoundSlot slot → at ≤ length old.order.listed → slots_of new ≡ insert (slots_of old) at (Some slot) → IsEdit old new (insertion at slot.text.items) (slots_of old) None (Some (record { at = at; slot = slot }))

@@ -7,7 +7,7 @@ use Rattle.std.proofs.lemmas.List.{length-map, length-set, drop-set-lt}
 use Rattle.std.proofs.lemmas.Option.{same_Some, none-some, slice_get-map, get_or_from_slice_get}
 use Rattle.ti_text.specs.Limits.{blocks_max}
 use Rattle.ti_source.specs.Reading.{Reading, reading_of}
-use Rattle.ti_source.specs.Parsing.{parsed}
+use Rattle.ti_source.specs.Parsing.{reading_of_text}
 use Rattle.ti_meaning.specs.Owner.{is_among}
 use Rattle.ti_meaning.specs.Reaching.{any_use}
 use Rattle.ti_meaning.specs.Usable.{IsUsable}
@@ -199,7 +199,7 @@ sound_stays old new ids settled l h k at slot e =
     let s = k at w.before (slot_there old at t.0 w.before (sym (ap (λ o. slice_get o.listed at) h.order) ∙ t.1) w.was) in
     record {
       text = subst (λ v. IsBlockText v.items) (sym w.text) s.text;
-      read = ap (λ b. reading_of b) w.block ∙ (s.read ∙ ap (λ v. parsed v.items) (sym w.text));
+      read = ap (λ b. reading_of b) w.block ∙ (s.read ∙ ap (λ v. reading_of_text v.items) (sym w.text));
       usable = subst (λ b. IsUsable (reading_of b)) (sym w.block) s.usable;
     }
 

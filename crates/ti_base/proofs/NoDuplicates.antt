@@ -15,7 +15,7 @@ use Rattle.ti_source.specs.Items.{Claim, claims_flag, claims_number, claims_text
 use Rattle.ti_source.specs.inside.Items.{statement_of}
 use Rattle.ti_source.specs.inside.Header.{header_names}
 use Rattle.ti_source.specs.Reading.{said_import, ReadFault}
-use Rattle.ti_source.specs.Parsing.{accepted, is_import, code_by, item_fault, names_limit, header_fault, parsed}
+use Rattle.ti_source.specs.Parsing.{accepted, is_import, code_by, item_fault, names_limit, header_fault, reading_of_text}
 use Rattle.ti_source.specs.inside.Verdicts.{number_verdict, text_verdict, fitting_verdict, named_verdict, claimed_text, verdict_of}
 use Rattle.ti_source.specs.inside.Parsing.{faults_at, faults_from, header_faults, block_field, block_items}
 use Rattle.ti_meaning.specs.KeptBlocks.{is_duplicate}
@@ -88,7 +88,7 @@ header_other field (Some names) = by_length (nat_lt names_limit (length field)) 
   by_length true = (refl, tt)
   by_length false = tt
 
-pub read_others : (text : List ℕ) → AreOthers (parsed text).faults
-unfolding parsed
+pub read_others : (text : List ℕ) → AreOthers (reading_of_text text).faults
+unfolding reading_of_text
 read_others text =
     others-append (header_faults (block_field text) (header_names (block_field text))) (faults_from 0 (block_items text)) (header_other (block_field text) (header_names (block_field text))) (from_other 0 (block_items text))

@@ -3,7 +3,7 @@ use Rattle.std.specs.Prelude.{ℕ, ◌≡◌, ◌≤◌, ◌↔◌, List, [], �
 use Rattle.std.specs.Option.{option_map_or}
 use Rattle.ti_text.specs.Limits.{blocks_max}
 use Rattle.ti_source.specs.Reading.{Reading, reading_of}
-use Rattle.ti_source.specs.Parsing.{parsed}
+use Rattle.ti_source.specs.Parsing.{reading_of_text}
 use Rattle.ti_meaning.specs.Usable.{IsUsable}
 use Rattle.ti_meaning.specs.Exchange.{PlacedBlock, Exchange}
 use Rattle.ti_meaning.specs.Dependents.{IsPutAt}
@@ -28,7 +28,7 @@ text_seen slot = option_map_or (λ s. s.text.items) slot []
 -- the text of one block, and the block as it is read from it
 pub record IsSoundSlot (slot : Slot) : Type 0 where
   pub text : IsBlockText slot.text.items
-  pub read : reading_of slot.block ≡ parsed slot.text.items
+  pub read : reading_of slot.block ≡ reading_of_text slot.text.items
   pub usable : IsUsable (reading_of slot.block)
 
 -- each slot of a list is sound

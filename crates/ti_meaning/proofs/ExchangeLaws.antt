@@ -7,7 +7,7 @@ use Rattle.std.proofs.lemmas.List.Edits.{length-remove}
 use Rattle.std.proofs.lemmas.List.Elements.{All-from_recursion, All-contains}
 use Rattle.std.proofs.lemmas.Option.{same_Some, slice_get-map}
 use Rattle.ti_source.specs.Reading.{Reading}
-use Rattle.ti_source.specs.Parsing.{parsed}
+use Rattle.ti_source.specs.Parsing.{reading_of_text}
 use Rattle.ti_source.specs.Sound.{IsRising}
 use Rattle.ti_meaning.specs.Owner.{is_among, owner, owner_block, readings}
 use Rattle.ti_meaning.specs.Edits.{Change, insertion, replacement, removal, relocation, IsInPlace, after}
@@ -35,7 +35,7 @@ item_at (x ∷ xs) zero l = (x, refl)
 item_at (x ∷ xs) (suc at) l = item_at xs at (omega arith)
 
 length-readings : (texts : List (List ℕ)) → length (readings texts) ≡ length texts
-length-readings texts = length-map texts parsed
+length-readings texts = length-map texts reading_of_text
 
 out_fits : (bs : List Reading) (at to : ℕ) → at < length bs → to < length bs → HasPlace (remove bs at) (block_from bs at to)
 out_fits bs at to l m =
@@ -48,8 +48,8 @@ taken_back bs at l = let b = item_at bs at l in rw b.1 (insert-remove bs at b.0 
 
 moved : (texts : List (List ℕ)) (from to : ℕ) (t : List ℕ) → slice_get texts from ≡ Some t → with_block (remove (readings texts) from) (block_from (readings texts) from to) ≡ readings (insert (remove texts from) to t)
 moved texts from to t e =
-    let r : slice_get (readings texts) from ≡ Some (parsed t) = rw (slice_get-map parsed texts from, e) refl in
-    rw (r, map-insert parsed (remove texts from) to t, map-remove parsed texts from) refl
+    let r : slice_get (readings texts) from ≡ Some (reading_of_text t) = rw (slice_get-map reading_of_text texts from, e) refl in
+    rw (r, map-insert reading_of_text (remove texts from) to t, map-remove reading_of_text texts from) refl
 
 pub exchanged : EditsAreExchanges
 exchanged = λ texts change h. by_case texts change h where
@@ -57,7 +57,7 @@ exchanged = λ texts change h. by_case texts change h where
   by_case texts (insertion at text) h = record {
     fits = record { out = tt; put = rw (length-readings texts) h };
     old = refl;
-    new = sym (map-insert parsed texts at text);
+    new = sym (map-insert reading_of_text texts at text);
   }
   by_case texts (replacement at text) h =
       let l : at < length (readings texts) = rw (length-readings texts) h in
@@ -65,14 +65,14 @@ exchanged = λ texts change h. by_case texts change h where
       record {
         fits = record { out = out_fits (readings texts) at at l l; put = (let k : at ≤ length (remove (readings texts) at) = omega arith in k) };
         old = taken_back (readings texts) at l;
-        new = insert-set (readings texts) at (parsed text) l ∙ sym (map-set parsed texts at text);
+        new = insert-set (readings texts) at (reading_of_text text) l ∙ sym (map-set reading_of_text texts at text);
       }
   by_case texts (removal at) h =
       let l : at < length (readings texts) = rw (length-readings texts) h in
       record {
         fits = record { out = out_fits (readings texts) at at l l; put = tt };
         old = taken_back (readings texts) at l;
-        new = sym (map-remove parsed texts at);
+        new = sym (map-remove reading_of_text texts at);
       }
   by_case texts (relocation from to) h =
       let l : from < length (readings texts) = rw (length-readings texts) h.0 in

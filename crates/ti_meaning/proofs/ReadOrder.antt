@@ -18,7 +18,7 @@ use Rattle.ti_source.specs.Items.{Claim, claims_flag, claims_number, claims_text
 use Rattle.ti_source.specs.inside.Items.{statement_of}
 use Rattle.ti_source.specs.inside.Header.{header_names}
 use Rattle.ti_source.specs.Reading.{Said, said_import, ReadItem, ReadFault}
-use Rattle.ti_source.specs.Parsing.{accepted, is_import, said_by, code_by, item_fault, names_limit, header_fault, parsed}
+use Rattle.ti_source.specs.Parsing.{accepted, is_import, said_by, code_by, item_fault, names_limit, header_fault, reading_of_text}
 use Rattle.ti_source.specs.inside.Verdicts.{number_verdict, text_verdict, fitting_verdict, named_verdict, claimed_text, verdict_of}
 use Rattle.ti_source.specs.inside.Parsing.{items_at, faults_at, items_from, faults_from, header_faults, block_field, block_items}
 use Rattle.ti_meaning.specs.Reaching.{used_name}
@@ -220,5 +220,5 @@ ordered_from header items none =
     }
 
 pub ordered_items : ReadItemsAreOrdered
-unfolding parsed
+unfolding reading_of_text
 ordered_items = λ text. ordered_from (header_faults (block_field text) (header_names (block_field text))) (block_items text) (no_header_fault (block_field text) (header_names (block_field text)))

@@ -2,7 +2,7 @@
 -- their order. An insertion, a replacement, a removal and a move are cases of it.
 use Rattle.std.specs.Prelude.{ℕ, zero, suc, ◌≡◌, ◌≤◌, List, length, insert, remove, slice_get, Option, Some, None, option_map}
 use Rattle.ti_source.specs.Reading.{Reading}
-use Rattle.ti_source.specs.Parsing.{parsed}
+use Rattle.ti_source.specs.Parsing.{reading_of_text}
 use Rattle.ti_meaning.specs.Owner.{readings}
 use Rattle.ti_meaning.specs.Edits.{Change, insertion, replacement, removal, relocation, IsInPlace, after}
 
@@ -59,8 +59,8 @@ block_from blocks from to = option_map (λ block. record { at = to; block = bloc
 -- the exchange that an edit makes of the blocks of a source, given by their texts: a replacement and a move take a block
 -- out and put one in
 abbrev pub exchange_of : List (List ℕ) → Change → Exchange
-exchange_of texts (insertion at text) = record { rest = readings texts; out = None; put = Some (record { at = at; block = parsed text }) }
-exchange_of texts (replacement at text) = record { rest = remove (readings texts) at; out = block_from (readings texts) at at; put = Some (record { at = at; block = parsed text }) }
+exchange_of texts (insertion at text) = record { rest = readings texts; out = None; put = Some (record { at = at; block = reading_of_text text }) }
+exchange_of texts (replacement at text) = record { rest = remove (readings texts) at; out = block_from (readings texts) at at; put = Some (record { at = at; block = reading_of_text text }) }
 exchange_of texts (removal at) = record { rest = remove (readings texts) at; out = block_from (readings texts) at at; put = None }
 exchange_of texts (relocation from to) = record { rest = remove (readings texts) from; out = block_from (readings texts) from from; put = block_from (readings texts) from to }
 

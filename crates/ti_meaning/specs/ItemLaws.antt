@@ -2,7 +2,7 @@
 use Rattle.std.specs.Prelude.{ℕ, ◌≡◌, ◌<◌, ◌↔◌, List, ◌++◌, map, filter, Some, is_some, slice_get, Bool, false, ◌&&◌, nat_eq, IsTrue, IsFalse}
 use Rattle.std.specs.List.{list_any, flat_map}
 use Rattle.ti_source.specs.Reading.{Reading, ReadItem, ReadFault}
-use Rattle.ti_source.specs.Parsing.{parsed}
+use Rattle.ti_source.specs.Parsing.{reading_of_text}
 use Rattle.ti_meaning.specs.Owner.{is_among}
 use Rattle.ti_meaning.specs.Reaching.{used_name}
 use Rattle.ti_meaning.specs.Faults.{SourceFault, local_fault, is_kept, distinct, fault_of_item}
@@ -49,7 +49,7 @@ pub record AreOrdered (faults : List ReadFault) (items : List ReadItem) : Type 0
 
 -- it holds of the items of each block and of the faults that reading gave for them
 abbrev pub ReadItemsAreOrdered : Type 0
-ReadItemsAreOrdered = (text : List ℕ) → AreOrdered (filter (is_kept false) (parsed text).faults) (parsed text).items
+ReadItemsAreOrdered = (text : List ℕ) → AreOrdered (filter (is_kept false) (reading_of_text text).faults) (reading_of_text text).items
 
 -- ---- each name once
 

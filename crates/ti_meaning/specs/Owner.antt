@@ -4,11 +4,11 @@ use Rattle.std.specs.Prelude.{ℕ, suc, List, [], ◌∷◌, map, Option, Some, 
 use Rattle.std.specs.List.{list_any}
 use Rattle.std.specs.Str.{bytes_eq}
 use Rattle.ti_source.specs.Reading.{Reading}
-use Rattle.ti_source.specs.Parsing.{parsed}
+use Rattle.ti_source.specs.Parsing.{reading_of_text}
 
 -- the blocks of a source as they are read, from their texts
 abbrev pub readings : List (List ℕ) → List Reading
-readings texts = map parsed texts
+readings texts = map reading_of_text texts
 
 -- whether a name is one of these
 abbrev pub is_among : List ℕ → List (List ℕ) → Bool

@@ -10,7 +10,7 @@ use Rattle.ti_caps.specs.NameOrder.{EachKindIsInOrder}
 use Rattle.ti_caps.specs.Tables.{Capability, IsCapability}
 use Rattle.ti_source.specs.Codes.{is_error}
 use Rattle.ti_source.specs.Reading.{Said, ReadItem, ReadFault, Reading}
-use Rattle.ti_source.specs.Parsing.{parsed}
+use Rattle.ti_source.specs.Parsing.{reading_of_text}
 use Rattle.ti_layout.specs.Values.{Content, content_true, content_number, content_text, content_cancelled, Contents}
 use Rattle.ti_layout.specs.Image.{image, limit_of}
 use Rattle.ti_layout.specs.Laws.{without_cancel, ImagesAreOfValues, LimitsAreOfValues}
@@ -67,17 +67,17 @@ option_or-nothing (Some x) = refl
 
 -- a listing, as it is read
 pub listing-read : EachKindIsInOrder → PartsAreRead → (field : List ℕ) (names : List (List ℕ)) (table : Contents) (layout : Layout) → IsListable field names → CanHaveAll table
-    → IsReadAs field names (items_for table (all_in layout.order) ++ []) (parsed (listing field table layout))
+    → IsReadAs field names (items_for table (all_in layout.order) ++ []) (reading_of_text (listing field table layout))
 listing-read ordered read field names table layout good has =
     read field names (items_for table (all_in layout.order) ++ []) (listing field table layout) good
     (all-can ordered table layout [] has (All-nil CanBeListed)) (listed-all field table layout [] (10 ∷ []) no_more)
 
 -- it expands to what its entry has, whatever stands beside it
 pub listing-expands : EachKindIsInOrder → PartsAreRead → (env : List ℕ → Option Reading) (depth : ℕ) (field : List ℕ) (names : List (List ℕ)) (table : Contents) (layout : Layout) → IsListable field names
-    → CanHaveAll table → expand env (suc depth) (parsed (listing field table layout)) ≡ Some (mentions_for table (all_in layout.order))
+    → CanHaveAll table → expand env (suc depth) (reading_of_text (listing field table layout)) ≡ Some (mentions_for table (all_in layout.order))
 listing-expands ordered read env depth field names table layout good has =
     let is = listing-read ordered read field names table layout good has in
-    own-at env depth (parsed (listing field table layout)) table (all_in layout.order) [] is.none_wrong is.says
+    own-at env depth (reading_of_text (listing field table layout)) table (all_in layout.order) [] is.none_wrong is.says
     ∙ ap (λ ms. Some ms) (append-nil (mentions_for table (all_in layout.order)))
 
 pub all-tell : EachKindIsInOrder → (table : Contents) (layout : Layout) (ms : List Mention) (c : Capability) → IsCapability c → leftmost_content (mentions_for table (all_in layout.order) ++ ms) c ≡ option_or (table c) (leftmost_content ms c)
@@ -91,6 +91,6 @@ listings_compile ordered read images limits field names table layout good has wi
     let ms = mentions_for table (all_in layout.order) in
     let tells : (c : Capability) → IsCapability c → without_cancel (leftmost_content ms c) ≡ without_cancel (table c) =
     λ c cap. ap without_cancel (ap (λ l. leftmost_content l c) (sym (append-nil ms)) ∙ all-tell ordered table layout [] c cap ∙ option_or-nothing (table c)) in
-    let read_there : slice_get blocks at ≡ Some (parsed text) = slice_get-map parsed texts at ∙ ap (option_map parsed) stands in
+    let read_there : slice_get blocks at ≡ Some (reading_of_text text) = slice_get-map reading_of_text texts at ∙ ap (option_map reading_of_text) stands in
     ap (option_and_then (entry blocks)) read_there
-    ∙ entry-is images limits blocks (parsed text) field table ms (listing-expands ordered read (owner_block blocks) (length blocks) field names table layout good has) is.same_field tells within
+    ∙ entry-is images limits blocks (reading_of_text text) field table ms (listing-expands ordered read (owner_block blocks) (length blocks) field names table layout good has) is.same_field tells within

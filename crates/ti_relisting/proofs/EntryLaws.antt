@@ -8,7 +8,7 @@ use Rattle.ti_caps.specs.NameOrder.{EachKindIsInOrder}
 use Rattle.ti_caps.specs.Tables.{Capability, IsCapability}
 use Rattle.ti_source.specs.Blocks.{OneBlock}
 use Rattle.ti_source.specs.Reading.{Reading}
-use Rattle.ti_source.specs.Parsing.{parsed, HasReading}
+use Rattle.ti_source.specs.Parsing.{reading_of_text, HasReading}
 use Rattle.ti_source.specs.Sound.{EachIsWellRead}
 use Rattle.ti_spelling.specs.Spelling.{AreBytes}
 use Rattle.ti_spelling.specs.inside.Spelling.{UnescapedAgrees, ValuesAreSound}
@@ -63,25 +63,25 @@ texts-both (t ∷ texts) blocks are =
 abbrev BlockFits : Reading → Type 0
 BlockFits block = All ItemFits block.items
 
-text-fits : AreKnown → (text : List ℕ) → IsText text → BlockFits (parsed text)
-text-fits known text is = items-fit (parsed text).items (known.well_read text is.0).sets (parsed-bytes known.agrees known.sound known.computed text is.1)
+text-fits : AreKnown → (text : List ℕ) → IsText text → BlockFits (reading_of_text text)
+text-fits known text is = items-fit (reading_of_text text).items (known.well_read text is.0).sets (parsed-bytes known.agrees known.sound known.computed text is.1)
 
 blocks-fit : AreKnown → (texts : List (List ℕ)) → All IsText texts → All BlockFits (readings texts)
-blocks-fit known texts are = All-map BlockFits parsed texts (All-weaker IsText (λ text. BlockFits (parsed text)) (text-fits known) texts are)
+blocks-fit known texts are = All-map BlockFits reading_of_text texts (All-weaker IsText (λ text. BlockFits (reading_of_text text)) (text-fits known) texts are)
 
 -- the text at a place
 record IsParsedFrom (texts : List (List ℕ)) (at : ℕ) (block : Reading) : Type 0 where
   pub text : List ℕ
   pub stands : slice_get texts at ≡ Some text
-  pub is : parsed text ≡ block
+  pub is : reading_of_text text ≡ block
 
-mapped : (o : Option (List ℕ)) (block : Reading) → option_map parsed o ≡ Some block → (text : List ℕ) × (o ≡ Some text) × (parsed text ≡ block)
+mapped : (o : Option (List ℕ)) (block : Reading) → option_map reading_of_text o ≡ Some block → (text : List ℕ) × (o ≡ Some text) × (reading_of_text text ≡ block)
 mapped None block e = absurd (none-some block e)
-mapped (Some text) block e = (text, refl, same_Some (parsed text) block e)
+mapped (Some text) block e = (text, refl, same_Some (reading_of_text text) block e)
 
 parsed-from : (texts : List (List ℕ)) (at : ℕ) (block : Reading) → slice_get (readings texts) at ≡ Some block → IsParsedFrom texts at block
 parsed-from texts at block e =
-    let found = mapped (slice_get texts at) block (sym (slice_get-map parsed texts at) ∙ e) in
+    let found = mapped (slice_get texts at) block (sym (slice_get-map reading_of_text texts at) ∙ e) in
     record { text = found.0; stands = found.1; is = found.2 }
 
 -- ---- the entry of a block

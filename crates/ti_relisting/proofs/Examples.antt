@@ -5,7 +5,7 @@ use Rattle.std.specs.Fmt.{digits}
 use Rattle.ti_caps.specs.Names.{flag_names, number_names, text_names}
 use Rattle.ti_caps.specs.declared.capability.Kind.TheVariants.{Flag, Number}
 use Rattle.ti_caps.specs.Tables.{capability, names, capability_named}
-use Rattle.ti_source.specs.Parsing.{parsed}
+use Rattle.ti_source.specs.Parsing.{reading_of_text}
 use Rattle.ti_layout.specs.Values.{content_true, content_number, Contents, contents}
 use Rattle.ti_layout.specs.Layout.{number_section}
 use Rattle.ti_layout.specs.Image.{image, last_passing, some_below, below, texts_below}
@@ -27,12 +27,12 @@ abbrev hidden : List ℕ
 hidden = codes "\n #x,\n"
 
 hidden-compiles : compiled (hidden ∷ []) 0 ≡ Some (image (codes "#x") nothing)
-unfolding parsed capability_named names flag_names number_names text_names last_passing some_below below texts_below number_section image
+unfolding reading_of_text capability_named names flag_names number_names text_names last_passing some_below below texts_below number_section image
 hidden-compiles = refl
 
 -- its listing is a comment, and has no entry
 hidden-lost : compiled (listing (codes "#x") nothing layout ∷ []) 0 ≡ None
-unfolding parsed in_order
+unfolding reading_of_text in_order
 hidden-lost = refl
 
 -- an entry whose first name ends in a backslash, which takes the comma behind a use of it
@@ -43,12 +43,12 @@ abbrev plain : Shown
 plain = record { field = codes "b"; table = nothing }
 
 slashed-owns : owner (readings (with_others plain (slashed ∷ []) layout)) (first_name slashed.field) ≡ Some 1
-unfolding parsed in_order
+unfolding reading_of_text in_order
 slashed-owns = refl
 
 -- a relative source that uses it does not resolve
 slashed-lost : compiled (with_others plain (slashed ∷ []) layout) 0 ≡ None
-unfolding parsed in_order
+unfolding reading_of_text in_order
 slashed-lost = refl
 
 -- a number over 32,767 is listed and comes back
@@ -60,5 +60,5 @@ unfolding names flag_names number_names digits in_order contents
 wide-listed = refl
 
 wide-back : compiled (codes "x,am,cols#65536,lines#24,\n" ∷ []) 0 ≡ Some (image (codes "x") wide)
-unfolding parsed capability_named names flag_names number_names text_names last_passing some_below below texts_below number_section image contents
+unfolding reading_of_text capability_named names flag_names number_names text_names last_passing some_below below texts_below number_section image contents
 wide-back = refl

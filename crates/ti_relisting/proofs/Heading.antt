@@ -11,7 +11,7 @@ use Rattle.ti_source.specs.Header.{IsLookupName, lookup_parts, HeaderNames}
 use Rattle.ti_source.specs.Folding.{Placed, folding_of}
 use Rattle.ti_source.specs.Items.{bytes, HasNoComma, Begins, all_field, field_and_rest}
 use Rattle.ti_source.specs.Reading.{ReadFault}
-use Rattle.ti_source.specs.Parsing.{names_limit, ReadsHeader, bad_header, long_header, good_header, Parses, parsed}
+use Rattle.ti_source.specs.Parsing.{names_limit, ReadsHeader, bad_header, long_header, good_header, Parses, reading_of_text}
 use Rattle.ti_meaning.specs.Expansion.{is_broken}
 use Rattle.ti_list.specs.Items.{IsListable}
 use Rattle.ti_list.specs.Relative.{first_name}
@@ -91,10 +91,10 @@ folded-first (x ∷ xs) head =
     let hash = (or_parts (is_white_space x) (x == 35) none.0).1 in
     rw (bytes-folded (x ∷ xs), hash, none.1) hash
 
-pub block-listable : (text : List ℕ) → OneBlock text → Parses text (parsed text) → is_broken (parsed text) ≡ false → IsListable (parsed text).field (parsed text).names
+pub block-listable : (text : List ℕ) → OneBlock text → Parses text (reading_of_text text) → is_broken (reading_of_text text) ≡ false → IsListable (reading_of_text text).field (reading_of_text text).names
 block-listable text one has sound =
     let faults : has_error (has.of_header ++ has.of_items) ≡ false = ap has_error (sym has.faults) ∙ sound in
-    let good = good-header (parsed text).field (parsed text).names has.of_header has.reads_header (no_error-front has.of_header has.of_items faults) in
+    let good = good-header (reading_of_text text).field (reading_of_text text).names has.of_header has.reads_header (no_error-front has.of_header has.of_items faults) in
     let line : is_inline (bytes (folding_of text)) ≡ true = ap is_inline (bytes-folded text) ∙ unbroken-line false (uncommented false 10 text) in
     record {
       header = good.header;

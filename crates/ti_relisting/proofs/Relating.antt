@@ -10,7 +10,7 @@ use Rattle.std.proofs.lemmas.List.Elements.{All-nil, All-cons, All-head, All-tai
 use Rattle.ti_caps.specs.NameOrder.{EachKindIsInOrder}
 use Rattle.ti_caps.specs.Tables.{Capability, IsCapability}
 use Rattle.ti_source.specs.Reading.{said_import, Reading}
-use Rattle.ti_source.specs.Parsing.{parsed}
+use Rattle.ti_source.specs.Parsing.{reading_of_text}
 use Rattle.ti_layout.specs.Values.{Content, content_true, content_number, content_text, content_cancelled, Contents}
 use Rattle.ti_layout.specs.Laws.{without_cancel, ImagesAreOfValues, LimitsAreOfValues}
 use Rattle.ti_meaning.specs.Owner.{is_among, owner, owner_block, readings}
@@ -126,7 +126,7 @@ pub relatives_compile : EachKindIsInOrder → PartsAreRead → ImagesAreOfValues
 relatives_compile ordered read images limits e others layout shown used owns within =
     let text = relative e others layout in
     let blocks = readings (with_others e others layout) in
-    let block = parsed text in
+    let block = reading_of_text text in
     let table = differing_contents e.table others in
     let has : CanHaveAll table = differing-can e.table others shown.holds in
     let own = items_for table (all_in layout.order) in
@@ -137,9 +137,9 @@ relatives_compile ordered read images limits e others layout shown used owns wit
     let expands : (i : ℕ) (other : Shown) → slice_get others i ≡ Some other → used_at (owner_block blocks) (length blocks) (first_name other.field) ≡ Some (mentions_for other.table (all_in layout.order)) =
     λ i other at.
     let other_shown = (All-at CanBeUsed others i other used at).shown in
-    let stands : slice_get blocks (suc i) ≡ Some (parsed (list_other other)) = at-place parsed (map list_other others) i (list_other other) (at-place list_other others i other at) in
+    let stands : slice_get blocks (suc i) ≡ Some (reading_of_text (list_other other)) = at-place reading_of_text (map list_other others) i (list_other other) (at-place list_other others i other at) in
     ap (option_and_then (expand (owner_block blocks) (length blocks))) (owned-at blocks (first_name other.field) (suc i) (owns i other at) ∙ stands)
-    ∙ listing-expands ordered read (owner_block blocks) (length (map parsed (map list_other others))) other.field other_shown.names other.table layout other_shown.listable other_shown.holds in
+    ∙ listing-expands ordered read (owner_block blocks) (length (map reading_of_text (map list_other others))) other.field other_shown.names other.table layout other_shown.listable other_shown.holds in
     let ms = mentions_for table (all_in layout.order) ++ used_mentions layout others in
     let expanded : expansion blocks block ≡ Some ms =
     own-at (owner_block blocks) (length blocks) block table (all_in layout.order) (uses_of others) is.none_wrong is.says

@@ -6,7 +6,7 @@ use Rattle.ti_source.specs.WhiteSpace.{is_white_space}
 use Rattle.ti_source.specs.Folding.{Placed, in_comment, folding_of}
 use Rattle.ti_source.specs.Items.{bytes, Begins, all_field, field_and_rest, AreItems, last_item, item_ends, pair_of_bytes, single_byte, without_front, piece_of, Claim, claims_flag, claims_number, claims_text, claims_cancel, Statement, States, empty_item, disabled_item, number_item, text_item, cancel_item, flag_item}
 use Rattle.ti_source.specs.Reading.{Said, said_flag, said_number, said_text, said_cancel, said_import, ReadItem, ReadFault}
-use Rattle.ti_source.specs.Parsing.{Verdict, accepted, accepted_odd, refused, Judges, judged_import, judged_unknown, judged_wrong_kind, judged_flag, judged_cancel, judged_number, judged_bad_number, judged_large_number, judged_text, judged_odd_text, judged_bad_text, items_by, ReadsItems, reads_nothing, reads_ignored, reads_judged, parsed, HasReading}
+use Rattle.ti_source.specs.Parsing.{Verdict, accepted, accepted_odd, refused, Judges, judged_import, judged_unknown, judged_wrong_kind, judged_flag, judged_cancel, judged_number, judged_bad_number, judged_large_number, judged_text, judged_odd_text, judged_bad_text, items_by, ReadsItems, reads_nothing, reads_ignored, reads_judged, reading_of_text, HasReading}
 use Rattle.ti_spelling.specs.Spelling.{AreBytes}
 use Rattle.ti_spelling.specs.inside.Spelling.{UnescapedAgrees, ValuesAreSound}
 use Rattle.ti_relisting.proofs.Bytes.{uncommented, unbroken, bytes-folded}
@@ -128,8 +128,8 @@ reads-bytes agrees sound _ _ _ _ (reads_judged ordinal item items found faults s
     let claim = states-bytes (piece_of item).text (Some s) states (front-bytes item h.0) in
     verdict-items ordinal (piece_of item).line v found (judges-bytes agrees sound s.name s.claim v judges claim) (reads-bytes agrees sound (ordinal + 1) items found faults later h.1)
 
-pub parsed-bytes : UnescapedAgrees → ValuesAreSound → HasReading → (block : List ℕ) → AreBytes block → All ItemSaysBytes (parsed block).items
+pub parsed-bytes : UnescapedAgrees → ValuesAreSound → HasReading → (block : List ℕ) → AreBytes block → All ItemSaysBytes (reading_of_text block).items
 parsed-bytes agrees sound computed block h =
     let has = computed block in
-    reads-bytes agrees sound 0 has.items (parsed block).items has.of_items has.reads_items
+    reads-bytes agrees sound 0 has.items (reading_of_text block).items has.of_items has.reads_items
     (items-bytes 44 has.rest has.items has.cut (rest-bytes (folding_of block) has.field has.rest has.begins (folded-bytes block h)))

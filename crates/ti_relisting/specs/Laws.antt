@@ -2,7 +2,7 @@
 use Rattle.std.specs.Prelude.{map, ◌≡◌, ℕ, suc, List, [], ◌∷◌, All, Some, slice_get}
 use Rattle.std.specs.List.{concat}
 use Rattle.ti_source.specs.Blocks.{Cut, OneBlock}
-use Rattle.ti_source.specs.Parsing.{parsed}
+use Rattle.ti_source.specs.Parsing.{reading_of_text}
 use Rattle.ti_source.specs.Reading.{Said}
 use Rattle.ti_layout.specs.Values.{Contents}
 use Rattle.ti_layout.specs.Image.{image}
@@ -19,7 +19,7 @@ use Rattle.ti_relisting.specs.Entries.{IsEntry, IsUsedEntry}
 abbrev pub PartsAreRead : Type 0
 PartsAreRead =
     (field : List ℕ) (names : List (List ℕ)) (items : List Said) (text : List ℕ)
-    → IsListable field names → All CanBeListed items → IsListing field items text → IsReadAs field names items (parsed text)
+    → IsListable field names → All CanBeListed items → IsListing field items text → IsReadAs field names items (reading_of_text text)
 
 -- Such a text is one block, which begins with the field and ends with a newline.
 abbrev pub PartsAreBlocks : Type 0

@@ -7,7 +7,7 @@ use Rattle.std.proofs.lemmas.List.Elements.{All-get_or, All-nil, All-tail, All-w
 use Rattle.std.proofs.Math.Seq.{drop-cons}
 use Rattle.ti_source.specs.Blocks.{OneBlock}
 use Rattle.ti_source.specs.Header.{IsLookupName, IsNameByte}
-use Rattle.ti_source.specs.Parsing.{HasReading, Parses, ReadsHeader, bad_header, good_header, long_header, parsed}
+use Rattle.ti_source.specs.Parsing.{HasReading, Parses, ReadsHeader, bad_header, good_header, long_header, reading_of_text}
 use Rattle.ti_source.specs.Reading.{ReadFault, Reading}
 use Rattle.ti_meaning.specs.Compiled.{compiled}
 use Rattle.ti_meaning.specs.Owner.{is_among, readings}
@@ -149,18 +149,18 @@ filed_to_next dir texts old new at within added filed =
 
 -- the files of a block with an entry
 pub files_at-some : (dir : List ℕ) (texts : List (List ℕ)) (at : ℕ) (text image : List ℕ) (names : List (List ℕ)) (old new : List Entry)
-    → compiled texts at ≡ Some image → names ≡ (parsed text).names → new ≡ old ++ files_for dir image (own_names (readings texts) at names)
+    → compiled texts at ≡ Some image → names ≡ (reading_of_text text).names → new ≡ old ++ files_for dir image (own_names (readings texts) at names)
     → new ≡ old ++ files_at dir texts at text
 files_at-some dir texts at text image names old new some is_names is_new =
     is_new ∙ rw some (ap (λ ns. old ++ files_for dir image (own_names (readings texts) at ns)) is_names)
 
 -- the names of a block, by its text
 pub names_of_text : (texts names : List (List ℕ)) (at : ℕ) (text : List ℕ) → slice_get texts at ≡ Some text
-    → option_map (λ (block : Reading). block.names) (slice_get (readings texts) at) ≡ Some names → names ≡ (parsed text).names
+    → option_map (λ (block : Reading). block.names) (slice_get (readings texts) at) ≡ Some names → names ≡ (reading_of_text text).names
 names_of_text texts names at text is named =
-    let there : slice_get (readings texts) at ≡ Some (parsed text) = rw (slice_get-map parsed texts at, is) refl in
-    let same : Some (parsed text).names ≡ Some names = sym (ap (λ o. option_map (λ (block : Reading). block.names) o) there) ∙ named in
-    sym (same_Some (parsed text).names names same)
+    let there : slice_get (readings texts) at ≡ Some (reading_of_text text) = rw (slice_get-map reading_of_text texts at, is) refl in
+    let same : Some (reading_of_text text).names ≡ Some names = sym (ap (λ o. option_map (λ (block : Reading). block.names) o) there) ∙ named in
+    sym (same_Some (reading_of_text text).names names same)
 
 -- ---- lookup names are ASCII
 
@@ -180,4 +180,4 @@ pub names_ascii : (texts names : List (List ℕ)) (at : ℕ) → HasReading → 
     → option_map (λ (block : Reading). block.names) (slice_get (readings texts) at) ≡ Some names → All IsAsciiName names
 names_ascii texts names at read within named =
     let text = get_or texts at [] in
-    subst (All IsAsciiName) (sym (names_of_text texts names at text (slice_get-get_or texts at [] within) named)) (names_parsed text (parsed text) (read text))
+    subst (All IsAsciiName) (sym (names_of_text texts names at text (slice_get-get_or texts at [] within) named)) (names_parsed text (reading_of_text text) (read text))

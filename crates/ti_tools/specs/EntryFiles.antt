@@ -6,7 +6,7 @@ use Rattle.std.specs.Cmp.Lexicographic.{slice_cmp}
 use Rattle.std.specs.BTreeSet.{BTreeSet, contains_by}
 use denote.Ref.{Bor}
 use Rattle.ti_source.specs.Reading.{Reading}
-use Rattle.ti_source.specs.Parsing.{parsed}
+use Rattle.ti_source.specs.Parsing.{reading_of_text}
 use Rattle.ti_meaning.specs.Owner.{readings}
 use Rattle.ti_meaning.specs.Reaching.{is_owner}
 use Rattle.ti_meaning.specs.Faults.{distinct}
@@ -29,7 +29,7 @@ files_of_entry dir names (Some image) = files_for dir image names
 
 -- the files of the block of this text at that position of a source, given by the texts of its blocks
 abbrev pub files_at : List ℕ → List (List ℕ) → ℕ → List ℕ → List Entry
-files_at dir texts at text = files_of_entry dir (own_names (readings texts) at (parsed text).names) (compiled texts at)
+files_at dir texts at text = files_of_entry dir (own_names (readings texts) at (reading_of_text text).names) (compiled texts at)
 
 -- those of these blocks, of which the first stands at that position
 abbrev pub files_from : List ℕ → List (List ℕ) → ℕ → List (List ℕ) → List Entry
