@@ -2,8 +2,8 @@ ghost use Rattle.std.specs.Prelude.{◌≡◌, ◌≤◌, ◌↔◌, IsTrue};
 ghost use Rattle.ti_layout.specs.Values.{HasNoNul};
 
 use super::*;
+use std::process::Abort;
 use std::rc::RcSlice;
-use std::test::Fail;
 
 fn has_no_nul(bytes: &[u8]) -> bool
     ensures { IsTrue result ↔ HasNoNul bytes.now }
@@ -11,32 +11,102 @@ fn has_no_nul(bytes: &[u8]) -> bool
     bytes.iter().all(|byte| *byte != 0)
 }
 
-// The image of these names with an empty table; `None` where there is none.
-fn empty(alloc: Global, names: &[u8]) -> Option<Image> {
+// The image of these names with an empty table.
+fn empty(alloc: Global, names: &[u8]) -> Result<Image, WriteError> {
     if names.is_empty() || !has_no_nul(names) {
-        return None;
+        return Err(WriteError::NamesTooLong);
     }
-    Image::new(alloc, names, &Table::new(alloc)).ok()
+    Image::new(alloc, names, &Table::new(alloc))
 }
 
-// What an image answers when it is given a text or loses it; `None` where it may not be called.
+/// What the capability at a place of its table is given.
+#[derive(Clone, Copy, Debug)]
+enum Given<'a> {
+    Flag(usize),
+    Number(usize, u32),
+    CancelledNumber(usize),
+    Text(usize, &'a [u8]),
+    NoText(usize),
+}
+
+// Gives an image a text, where it holds no NUL.
 fn give_text(
     image: &mut Image,
     alloc: Global,
     index: usize,
-    text: Option<&[u8]>,
+    text: &[u8],
 ) -> Option<Result<(), WriteError>> {
     let cap = Cap::at(Kind::Text, index)?;
-    match text {
-        Some(text) => {
-            let shared = RcSlice::from_slice(alloc, text).ok()?;
-            if has_no_nul(shared.as_slice()) {
-                Some(image.set(cap, Some(Value::Text(shared))))
-            } else {
-                None
-            }
-        }
-        None => Some(image.set(cap, None)),
+    let shared = RcSlice::from_slice(alloc, text).ok()?;
+    if has_no_nul(shared.as_slice()) {
+        Some(image.set(cap, Some(Value::Text(shared))))
+    } else {
+        None
+    }
+}
+
+// Gives an image a number, where it is none too great.
+fn give_number(image: &mut Image, index: usize, number: u32) -> Option<Result<(), WriteError>> {
+    let cap = Cap::at(Kind::Number, index)?;
+    if number <= 2_147_483_647 {
+        Some(image.set(cap, Some(Value::Number(number))))
+    } else {
+        None
+    }
+}
+
+fn give_flag(image: &mut Image, index: usize) -> Option<Result<(), WriteError>> {
+    let cap = Cap::at(Kind::Flag, index)?;
+    Some(image.set(cap, Some(Value::True)))
+}
+
+fn cancel_number(image: &mut Image, index: usize) -> Option<Result<(), WriteError>> {
+    let cap = Cap::at(Kind::Number, index)?;
+    Some(image.set(cap, Some(Value::Cancelled)))
+}
+
+fn take_text(image: &mut Image, index: usize) -> Option<Result<(), WriteError>> {
+    let cap = Cap::at(Kind::Text, index)?;
+    Some(image.set(cap, None))
+}
+
+// What an image answers to what it is given; `None` where it may not be called.
+fn give(image: &mut Image, alloc: Global, given: Given<'_>) -> Option<Result<(), WriteError>> {
+    match given {
+        Given::Flag(index) => give_flag(image, index),
+        Given::Number(index, number) => give_number(image, index, number),
+        Given::CancelledNumber(index) => cancel_number(image, index),
+        Given::Text(index, text) => give_text(image, alloc, index, text),
+        Given::NoText(index) => take_text(image, index),
+    }
+}
+
+/// What an image is given and takes, how many bytes it has then, and which of them stand at a place.
+struct Step<'a> {
+    given: Given<'a>,
+    len: usize,
+    place: usize,
+    bytes: &'a [u8],
+}
+
+fn expect_bytes(rt: &impl Abort, image: &Image, place: usize, want: &[u8]) {
+    let end = place.saturating_add(want.len());
+    assert!(rt;
+        image.bytes().get(place..end) == Some(want),
+        "{want:?} at {place}"
+    );
+}
+
+fn expect_step(rt: &impl Abort, alloc: Global, image: &mut Image, step: &Step<'_>) {
+    let answer = give(image, alloc, step.given);
+    assert!(rt; answer == Some(Ok(())), "{:?}", step.given);
+    assert_eq!(rt; image.bytes().len(), step.len);
+    expect_bytes(rt, image, step.place, step.bytes);
+}
+
+fn expect_steps(rt: &impl Abort, alloc: Global, image: &mut Image, steps: &[Step<'_>]) {
+    for step in steps {
+        expect_step(rt, alloc, image, step);
     }
 }
 
@@ -44,123 +114,111 @@ fn is(bytes: &[u8], want: &[u8]) -> bool {
     bytes == want
 }
 
-fn is_done(got: Option<Result<(), WriteError>>) -> bool {
-    match got {
-        Some(Ok(())) => true,
-        _ => false,
-    }
-}
+#[rattlefmt::skip]
+const TEXTS_COME: [Step<'static>; 3] = [
+    Step { given: Given::Text(1, b"A"), len: 20, place: 0, bytes: b"\x1a\x01\x02\0\0\0\0\0\x02\0\x02\0x\0\xff\xff\0\0A\0" },
+    Step { given: Given::Text(129, b"B"), len: 278, place: 0, bytes: b"\x1a\x01\x02\0\0\0\0\0\x82\0\x04\0" },
+    Step { given: Given::Text(0, b"CC"), len: 281, place: 0, bytes: b"\x1a\x01\x02\0\0\0\0\0\x82\0\x07\0" },
+];
 
-fn is_too_large(got: Option<Result<(), WriteError>>) -> bool {
-    match got {
-        Some(Err(e)) => e == WriteError::TooLarge,
-        _ => false,
-    }
-}
+#[rattlefmt::skip]
+const TEXT_GOES: [Step<'static>; 1] = [
+    Step { given: Given::NoText(129), len: 23, place: 0, bytes: b"\x1a\x01\x02\0\0\0\0\0\x02\0\x05\0x\0\0\0\x03\0CC\0A\0" },
+];
 
 #[test]
-fn texts_come_and_go(rt: HostRuntime) -> Result<(), Fail> {
-    let alloc = rt.alloc();
-    let made = empty(alloc, b"x");
-    assert!(rt; made.is_some());
-    let Some(mut image) = made else {
-        return Ok(());
-    };
-    assert!(rt; is_done(give_text(&mut image, alloc, 1, Some(b"A"))));
-    assert!(rt; is_done(give_text(&mut image, alloc, 129, Some(b"B"))));
-    assert!(rt; is_done(give_text(&mut image, alloc, 0, Some(b"CC"))));
-    assert_eq!(rt; image.bytes().len(), 281);
-    assert!(rt; is(&image.bytes()[..12], b"\x1a\x01\x02\0\0\0\0\0\x82\0\x07\0"));
-    assert!(rt; is(&image.bytes()[14..18], b"\0\0\x03\0"));
-    assert!(rt; is(&image.bytes()[272..274], b"\x05\0"));
-    let copy = image.copy(alloc)?;
-    assert!(rt; is_done(give_text(&mut image, alloc, 129, None)));
-    assert!(rt;
-        is(
-            image.bytes(),
-            b"\x1a\x01\x02\0\0\0\0\0\x02\0\x05\0x\0\0\0\x03\0CC\0A\0"
-        )
-    );
+fn texts_come_and_go(rt: HostRuntime) -> Result<(), WriteError> {
+    let mut image = empty(rt.alloc(), b"x")?;
+    expect_steps(&rt, rt.alloc(), &mut image, &TEXTS_COME);
+    expect_bytes(&rt, &image, 14, b"\0\0\x03\0");
+    expect_bytes(&rt, &image, 272, b"\x05\0");
+    let copy = image.copy(rt.alloc())?;
+    expect_steps(&rt, rt.alloc(), &mut image, &TEXT_GOES);
     assert_eq!(rt; copy.bytes().len(), 281);
     Ok(())
 }
 
-#[test]
-fn a_flag_changes_the_parity(rt: HostRuntime) -> Result<(), Fail> {
-    let alloc = rt.alloc();
-    let made = empty(alloc, b"xy");
-    assert!(rt; made.is_some());
-    let Some(mut image) = made else {
-        return Ok(());
-    };
-    assert_eq!(rt; image.bytes().len(), 16);
-    if let Some(bw) = Cap::at(Kind::Flag, 0) {
-        assert!(rt; image.set(bw, Some(Value::True)).is_ok());
-    }
-    assert_eq!(rt; image.bytes().len(), 16);
-    assert!(rt; is(&image.bytes()[12..], b"xy\0\x01"));
-    assert!(rt; is_done(give_text(&mut image, alloc, 0, Some(b"A"))));
-    assert_eq!(rt; image.bytes().len(), 20);
+#[rattlefmt::skip]
+const FLAG_AND_TEXT: [Step<'static>; 2] = [
+    Step { given: Given::Flag(0), len: 16, place: 12, bytes: b"xy\0\x01" },
+    Step { given: Given::Text(0, b"A"), len: 20, place: 12, bytes: b"xy\0\x01\0\0A\0" },
+];
+
+/// A text that makes the entry too large is refused, and leaves the image.
+fn expect_too_large(rt: &impl Abort, alloc: Global, image: &mut Image) -> Result<(), AllocError> {
     let long = vec![in alloc; b'A'; 4078]?;
     let before = image.copy(alloc)?;
-    assert!(rt; is_too_large(give_text(&mut image, alloc, 0, Some(&long))));
+    let answer = give_text(image, alloc, 0, &long);
+    assert!(rt; answer == Some(Err(WriteError::TooLarge)));
     assert!(rt; image.bytes() == before.bytes());
     Ok(())
 }
 
 #[test]
-fn numbers_change_the_format(rt: HostRuntime) -> Result<(), Fail> {
-    let made = empty(rt.alloc(), b"x");
-    let found = Cap::at(Kind::Number, 0);
-    assert!(rt; made.is_some());
-    assert!(rt; found.is_some());
-    let (Some(mut image), Some(cols)) = (made, found) else {
-        return Ok(());
-    };
-    let narrow = b"\x1a\x01\x02\0\0\0\x01\0\0\0\0\0x\0P\0";
-    assert!(rt; image.set(cols, Some(Value::Number(80))).is_ok());
-    assert!(rt; is(image.bytes(), narrow));
-    assert!(rt; image.set(cols, Some(Value::Number(32768))).is_ok());
-    assert!(rt;
-        is(
-            image.bytes(),
-            b"\x1e\x02\x02\0\0\0\x01\0\0\0\0\0x\0\0\x80\0\0"
-        )
-    );
-    assert!(rt; image.set(cols, Some(Value::Number(80))).is_ok());
-    assert!(rt; is(image.bytes(), narrow));
-    assert!(rt; image.set(cols, Some(Value::Cancelled)).is_ok());
-    assert!(rt; is(image.bytes(), b"\x1a\x01\x02\0\0\0\0\0\0\0\0\0x\0"));
+fn a_flag_changes_the_parity(rt: HostRuntime) -> Result<(), WriteError> {
+    let mut image = empty(rt.alloc(), b"xy")?;
+    assert_eq!(rt; image.bytes().len(), 16);
+    expect_steps(&rt, rt.alloc(), &mut image, &FLAG_AND_TEXT);
+    expect_too_large(&rt, rt.alloc(), &mut image)?;
     Ok(())
 }
 
-// Gives a table a flag of the first place.
-fn put_flag(table: &mut Table) -> Result<(), Fail> {
-    if let Some(cap) = Cap::at(Kind::Flag, 0) {
-        table.set(cap, Some(Value::True))?;
-    }
+#[rattlefmt::skip]
+const NUMBERS: [Step<'static>; 4] = [
+    Step { given: Given::Number(0, 80), len: 16, place: 0, bytes: b"\x1a\x01\x02\0\0\0\x01\0\0\0\0\0x\0P\0" },
+    Step { given: Given::Number(0, 32768), len: 18, place: 0, bytes: b"\x1e\x02\x02\0\0\0\x01\0\0\0\0\0x\0\0\x80\0\0" },
+    Step { given: Given::Number(0, 80), len: 16, place: 0, bytes: b"\x1a\x01\x02\0\0\0\x01\0\0\0\0\0x\0P\0" },
+    Step { given: Given::CancelledNumber(0), len: 14, place: 0, bytes: b"\x1a\x01\x02\0\0\0\0\0\0\0\0\0x\0" },
+];
+
+#[test]
+fn numbers_change_the_format(rt: HostRuntime) -> Result<(), WriteError> {
+    let mut image = empty(rt.alloc(), b"x")?;
+    expect_steps(&rt, rt.alloc(), &mut image, &NUMBERS);
     Ok(())
 }
 
-// Gives a table a number of the first place.
-fn put_number(table: &mut Table, number: u32) -> Result<(), Fail>
-    requires { number ≤ 2147483647 }
-{
-    if let Some(cap) = Cap::at(Kind::Number, 0) {
-        table.set(cap, Some(Value::Number(number)))?;
+// Gives a table a flag.
+fn put_flag(table: &mut Table, index: usize) -> Result<(), AllocError> {
+    match Cap::at(Kind::Flag, index) {
+        Some(cap) => table.set(cap, Some(Value::True)),
+        None => Ok(()),
     }
-    Ok(())
+}
+
+// Gives a table a number, where it is none too great.
+fn put_number(table: &mut Table, index: usize, number: u32) -> Result<(), AllocError> {
+    match Cap::at(Kind::Number, index) {
+        Some(cap) if number <= 2_147_483_647 => table.set(cap, Some(Value::Number(number))),
+        _ => Ok(()),
+    }
 }
 
 // Gives a table a text, where it holds no NUL.
-fn put_text(table: &mut Table, alloc: Global, index: usize, text: &[u8]) -> Result<(), Fail> {
+fn put_text(table: &mut Table, alloc: Global, index: usize, text: &[u8]) -> Result<(), AllocError> {
     let shared = RcSlice::from_slice(alloc, text)?;
-    if let Some(cap) = Cap::at(Kind::Text, index) {
-        if has_no_nul(shared.as_slice()) {
-            table.set(cap, Some(Value::Text(shared)))?;
-        }
+    match Cap::at(Kind::Text, index) {
+        Some(cap) if has_no_nul(shared.as_slice()) => table.set(cap, Some(Value::Text(shared))),
+        _ => Ok(()),
     }
-    Ok(())
+}
+
+// Gives a table what an image may be given; nothing is taken from it.
+fn put(table: &mut Table, alloc: Global, given: Given<'_>) -> Result<(), AllocError> {
+    match given {
+        Given::Flag(index) => put_flag(table, index),
+        Given::Number(index, number) => put_number(table, index, number),
+        Given::Text(index, text) => put_text(table, alloc, index, text),
+        Given::CancelledNumber(_) | Given::NoText(_) => Ok(()),
+    }
+}
+
+fn table_of(alloc: Global, all: &[Given<'_>]) -> Result<Table, AllocError> {
+    let mut table = Table::new(alloc);
+    for given in all {
+        put(&mut table, alloc, *given)?;
+    }
+    Ok(table)
 }
 
 // The image of `x` with the values of one table, patched to those of another.
@@ -180,57 +238,75 @@ fn is_patched(made: Result<Image, WriteError>, want: &[u8]) -> bool {
     }
 }
 
-#[test]
-fn few_values_change(rt: HostRuntime) -> Result<(), Fail> {
-    let alloc = rt.alloc();
-    let mut old = Table::new(alloc);
-    put_flag(&mut old)?;
-    put_text(&mut old, alloc, 0, b"CC")?;
-    let mut new = Table::new(alloc);
-    put_text(&mut new, alloc, 0, b"CC")?;
-    put_text(&mut new, alloc, 1, b"A")?;
-    let want = b"\x1a\x01\x02\0\0\0\0\0\x02\0\x05\0x\0\0\0\x03\0CC\0A\0";
+// The image of `x` with the first values, patched to the second ones, has these bytes.
+fn expect_patched(
+    rt: &impl Abort,
+    alloc: Global,
+    old: &[Given<'_>],
+    new: &[Given<'_>],
+    want: &[u8],
+) -> Result<(), AllocError> {
+    let old = table_of(alloc, old)?;
+    let new = table_of(alloc, new)?;
     assert!(rt; is_patched(patch_between(alloc, &old, &new), want));
-    put_number(&mut old, 80)?;
-    put_number(&mut new, 32768)?;
-    put_text(&mut old, alloc, 1, b"A")?;
-    let wide = b"\x1e\x02\x02\0\0\0\x01\0\x02\0\x05\0x\0\0\x80\0\0\0\0\x03\0CC\0A\0";
-    assert!(rt; is_patched(patch_between(alloc, &old, &new), wide));
     Ok(())
 }
 
+const FLAG_AND_CBT: [Given<'static>; 2] = [Given::Flag(0), Given::Text(0, b"CC")];
+
+const CBT_AND_BEL: [Given<'static>; 2] = [Given::Text(0, b"CC"), Given::Text(1, b"A")];
+
+#[rattlefmt::skip]
+const NARROW: [Given<'static>; 4] = [Given::Flag(0), Given::Text(0, b"CC"), Given::Number(0, 80), Given::Text(1, b"A")];
+
+#[rattlefmt::skip]
+const WIDE: [Given<'static>; 3] = [Given::Text(0, b"CC"), Given::Text(1, b"A"), Given::Number(0, 32768)];
+
+const CBT_AND_BEL_BYTES: &[u8] = b"\x1a\x01\x02\0\0\0\0\0\x02\0\x05\0x\0\0\0\x03\0CC\0A\0";
+
+const WIDE_BYTES: &[u8] = b"\x1e\x02\x02\0\0\0\x01\0\x02\0\x05\0x\0\0\x80\0\0\0\0\x03\0CC\0A\0";
+
 #[test]
-fn many_values_change(rt: HostRuntime) -> Result<(), Fail> {
-    let alloc = rt.alloc();
-    let old = Table::new(alloc);
-    let mut new = Table::new(alloc);
-    put_flag(&mut new)?;
-    put_number(&mut new, 80)?;
-    put_text(&mut new, alloc, 0, b"CC")?;
-    put_text(&mut new, alloc, 1, b"A")?;
-    let want = b"\x1a\x01\x02\0\x01\0\x01\0\x02\0\x05\0x\0\x01\0P\0\0\0\x03\0CC\0A\0";
-    assert!(rt; is_patched(patch_between(alloc, &old, &new), want));
-    assert!(rt;
-        is_patched(
-            patch_between(alloc, &new, &old),
-            b"\x1a\x01\x02\0\0\0\0\0\0\0\0\0x\0"
-        )
-    );
-    Ok(())
+fn few_values_change(rt: HostRuntime) -> Result<(), AllocError> {
+    expect_patched(
+        &rt,
+        rt.alloc(),
+        &FLAG_AND_CBT,
+        &CBT_AND_BEL,
+        CBT_AND_BEL_BYTES,
+    )?;
+    expect_patched(&rt, rt.alloc(), &NARROW, &WIDE, WIDE_BYTES)
+}
+
+#[rattlefmt::skip]
+const ALL_KINDS: [Given<'static>; 4] = [Given::Flag(0), Given::Number(0, 80), Given::Text(0, b"CC"), Given::Text(1, b"A")];
+
+const ALL_KINDS_BYTES: &[u8] =
+    b"\x1a\x01\x02\0\x01\0\x01\0\x02\0\x05\0x\0\x01\0P\0\0\0\x03\0CC\0A\0";
+
+const EMPTY_BYTES: &[u8] = b"\x1a\x01\x02\0\0\0\0\0\0\0\0\0x\0";
+
+#[test]
+fn many_values_change(rt: HostRuntime) -> Result<(), AllocError> {
+    expect_patched(&rt, rt.alloc(), &[], &ALL_KINDS, ALL_KINDS_BYTES)?;
+    expect_patched(&rt, rt.alloc(), &ALL_KINDS, &[], EMPTY_BYTES)
+}
+
+// How many bytes the image of `x` with the first values has, patched to the second ones.
+fn patched_len(alloc: Global, old: &[Given<'_>], new: &[Given<'_>]) -> Result<usize, WriteError> {
+    let old = table_of(alloc, old)?;
+    let new = table_of(alloc, new)?;
+    let image = patch_between(alloc, &old, &new)?;
+    Ok(image.bytes().len())
 }
 
 #[test]
-fn a_patch_is_refused_by_its_end_alone(rt: HostRuntime) -> Result<(), Fail> {
-    let alloc = rt.alloc();
-    let long = vec![in alloc; b'A'; 4000]?;
-    let mut old = Table::new(alloc);
-    put_text(&mut old, alloc, 1, &long)?;
-    let mut new = Table::new(alloc);
-    put_text(&mut new, alloc, 0, &long)?;
-    let made = patch_between(alloc, &old, &new);
-    assert!(rt; made.is_ok_and(|image| image.bytes().len() == 4017));
-    put_text(&mut new, alloc, 1, &long)?;
-    let refused = patch_between(alloc, &old, &new);
-    assert!(rt; refused.is_err_and(|error| error == WriteError::TooLarge));
+fn a_patch_is_refused_by_its_end_alone(rt: HostRuntime) -> Result<(), AllocError> {
+    let long = vec![in rt.alloc(); b'A'; 4000]?;
+    let old = [Given::Text(1, &long)];
+    let new = [Given::Text(0, &long)];
+    assert!(rt; patched_len(rt.alloc(), &old, &new) == Ok(4017));
+    let both = [Given::Text(0, &long), Given::Text(1, &long)];
+    assert!(rt; patched_len(rt.alloc(), &old, &both) == Err(WriteError::TooLarge));
     Ok(())
 }

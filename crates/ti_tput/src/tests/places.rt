@@ -2,7 +2,7 @@
 use super::dumb;
 use crate::{entry, locate, places};
 use std::alloc::{AllocError, Global};
-use std::test::Fail;
+use std::process::Abort;
 use ti_devices::{MemTree, ToolError, Tree};
 use ti_layout::ReadError;
 
@@ -14,57 +14,103 @@ fn strings(alloc: Global, texts: &[&str]) -> Result<Vec<String>, AllocError> {
     Ok(strings)
 }
 
-#[test]
-fn places_by_the_environment(rt: HostRuntime) -> Result<(), Fail> {
-    let alloc = rt.alloc();
-    let all = places(alloc, Some("/t"), Some("/x:"))?;
-    let expected = strings(
-        alloc,
-        &["/t", "/x", "/usr/share/terminfo", "/usr/share/terminfo"],
-    )?;
+// `TERMINFO` and `TERMINFO_DIRS` of these values give these places.
+fn expect_places(
+    rt: &impl Abort,
+    alloc: Global,
+    terminfo: Option<&str>,
+    dirs: Option<&str>,
+    want: &[&str],
+) -> Result<(), AllocError> {
+    let all = places(alloc, terminfo, dirs)?;
+    let expected = strings(alloc, want)?;
     assert!(rt; all == expected);
-    let few = places(alloc, Some(""), None)?;
-    assert!(rt; few == strings(alloc, &["/usr/share/terminfo"])?);
     Ok(())
 }
 
+const PLACES: [&str; 4] = ["/t", "/x", "/usr/share/terminfo", "/usr/share/terminfo"];
+
 #[test]
-fn the_first_place_that_has_the_file(rt: HostRuntime) -> Result<(), Fail> {
-    let alloc = rt.alloc();
-    let mut tree = MemTree::new(alloc);
-    let mut bytes = dumb(alloc)?;
-    tree.write("out/d/dumb", bytes.as_slice())?;
-    tree.write("last/d/dumb", b"")?;
-    let all = strings(alloc, &["nil", "out", "last"])?;
-    let found = locate(alloc, &mut tree, "dumb", all.as_slice())?;
-    assert!(rt; found == bytes);
-    for name in ["no/name", "nosuch", ""] {
-        let none = locate(alloc, &mut tree, name, all.as_slice());
-        assert!(rt; none.err() == Some(ToolError::NoTerminal));
+fn places_by_the_environment(rt: HostRuntime) -> Result<(), AllocError> {
+    expect_places(&rt, rt.alloc(), Some("/t"), Some("/x:"), &PLACES)?;
+    expect_places(&rt, rt.alloc(), Some(""), None, &["/usr/share/terminfo"])
+}
+
+// Adds a file of these bytes.
+fn add_file(tree: &mut MemTree, path: &str, bytes: &[u8]) -> Result<(), ToolError> {
+    match tree.write(path, bytes) {
+        Ok(()) => Ok(()),
+        Err(_) => Err(ToolError::WriteFault),
     }
-    bytes.truncate(1);
-    bytes.push(2)?;
-    bytes.extend_from_slice(&[0; 65_535])?;
-    assert!(rt; entry(bytes.as_slice()).err() == Some(ToolError::BadEntry(ReadError::Magic)));
+}
+
+// The place is searched for that name with this outcome.
+fn expect_located(
+    rt: &impl Abort,
+    alloc: Global,
+    tree: &mut MemTree,
+    name: &str,
+    places: &[&str],
+    want: Result<&[u8], ToolError>,
+) -> Result<(), AllocError> {
+    let places = strings(alloc, places)?;
+    let found = locate(alloc, tree, name, &places);
+    let found = match &found {
+        Ok(bytes) => Ok(bytes.as_slice()),
+        Err(error) => Err(*error),
+    };
+    assert!(rt; found == want, "{name}");
     Ok(())
 }
 
+const EACH_PLACE: [&str; 3] = ["nil", "out", "last"];
+
 #[test]
-fn places_that_cannot_be_read(rt: HostRuntime) -> Result<(), Fail> {
+fn the_first_place_that_has_the_file(rt: HostRuntime) -> Result<(), ToolError> {
     let alloc = rt.alloc();
-    let mut tree = MemTree::new(alloc);
     let bytes = dumb(alloc)?;
-    tree.write("out/d/dumb", bytes.as_slice())?;
-    let all = strings(alloc, &["nil", "out"])?;
-    for call in [1, 2] {
-        tree.fail_at(call);
-        let fault = locate(alloc, &mut tree, "dumb", all.as_slice());
-        assert!(rt; fault.err() == Some(ToolError::ReadFault), "at {call}");
-        let found = locate(alloc, &mut tree, "dumb", all.as_slice())?;
-        assert!(rt; found == bytes, "after {call}");
+    let mut tree = MemTree::new(alloc);
+    add_file(&mut tree, "out/d/dumb", &bytes)?;
+    add_file(&mut tree, "last/d/dumb", b"")?;
+    expect_located(&rt, alloc, &mut tree, "dumb", &EACH_PLACE, Ok(&bytes))?;
+    for name in ["no/name", "nosuch", ""] {
+        let none = Err(ToolError::NoTerminal);
+        expect_located(&rt, alloc, &mut tree, name, &EACH_PLACE, none)?;
     }
+    Ok(())
+}
+
+#[test]
+fn a_file_that_is_too_long_and_no_entry(rt: HostRuntime) -> Result<(), ToolError> {
+    let mut bytes = Vec::from_slice(rt.alloc(), b"\x1a\x02")?;
+    bytes.extend_from_slice(&[0; 65_535])?;
+    assert!(rt; entry(&bytes).err() == Some(ToolError::BadEntry(ReadError::Magic)));
+    Ok(())
+}
+
+// The tree fails once, and then gives these bytes.
+fn expect_one_fault(
+    rt: &impl Abort,
+    alloc: Global,
+    tree: &mut MemTree,
+    bytes: &[u8],
+) -> Result<(), AllocError> {
+    let fault = Err(ToolError::ReadFault);
+    expect_located(rt, alloc, tree, "dumb", &EACH_PLACE[..2], fault)?;
+    expect_located(rt, alloc, tree, "dumb", &EACH_PLACE[..2], Ok(bytes))
+}
+
+#[test]
+fn places_that_cannot_be_read(rt: HostRuntime) -> Result<(), ToolError> {
+    let alloc = rt.alloc();
+    let bytes = dumb(alloc)?;
+    let mut tree = MemTree::new(alloc);
+    add_file(&mut tree, "out/d/dumb", &bytes)?;
+    tree.fail_at(1);
+    expect_one_fault(&rt, alloc, &mut tree, &bytes)?;
+    tree.fail_at(2);
+    expect_one_fault(&rt, alloc, &mut tree, &bytes)?;
     tree.fail_at(3);
-    let found = locate(alloc, &mut tree, "dumb", all.as_slice())?;
-    assert!(rt; found == bytes);
+    expect_located(&rt, alloc, &mut tree, "dumb", &EACH_PLACE[..2], Ok(&bytes))?;
     Ok(())
 }
