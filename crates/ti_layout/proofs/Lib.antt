@@ -17,3 +17,4 @@ pub mod Assembling
 pub mod Fronts
 pub mod ImageReading
 pub mod OfValues
+pub mod Absent

@@ -1,7 +1,7 @@
 // The values of an entry, and the table that holds them by capability.
-ghost use Rattle.std.specs.Prelude.{◌≡◌, ◌≢◌, Option, Some, None, option_map, OnOk, OnErr, IfOk, IfErr, IfSome, IsNone, IsOk, IsSome, vec_len, length};
+ghost use Rattle.std.specs.Prelude.{◌≡◌, ◌≢◌, Option, Some, None, option_map, OnOk, OnErr, IfOk, IfErr, IfSome, IsNone, IsOk, IsSome, vec_len, length, if◌then◌else◌};
 ghost use Rattle.std.specs.Option.{option_or};
-ghost use Rattle.ti_caps.specs.Tables.{Capability, IsCapability};
+ghost use Rattle.ti_caps.specs.Tables.{Capability, IsCapability, same_capability};
 ghost use Rattle.ti_layout.specs.Values.{contents, content_of, entries_of, rank_of, Agrees, AgreesIfSome, IsAt, IsGapFor, IsKept, SetsOnly};
 
 use crate::merging::merge;
@@ -79,6 +79,19 @@ impl Table {
                 Ok(())
             }
         }
+    }
+
+    /// Gives a capability a value, unless it has one: a value or a cancel that is there stays, and the new value is dropped.
+    /// The kinds agree, a number is at most 2,147,483,647 and a text holds no NUL. Where memory is short the table stays as
+    /// it was, and only a capability that has no value needs memory.
+    pub fn set_if_absent(&mut self, cap: Cap, value: Value) -> Result<(), AllocError>
+        requires { Agrees cap (content_of value) }
+        ensures laid { OnOk result ((c : Capability) → contents self.new c
+            ≡ option_or (contents self.old c) (if same_capability cap c then Some (content_of value) else None)) }
+        ensures err { OnErr result (self.new ≡ self.old) }
+        ensures in_place { IsSome (contents self.old cap) → IsOk result }
+    {
+        put_if_absent(&mut self.entries, cap, value)
     }
 }
 
@@ -160,6 +173,25 @@ fn put(entries: &mut Vec<(Cap, Value)>, cap: Cap, value: Value) -> Result<(), Al
             entries[at] = (cap, value);
             Ok(())
         }
+        Err(at) => {
+            entries.insert(at, (cap, value))?;
+            Ok(())
+        }
+    }
+}
+
+// Gives a capability a value in its place, unless it has one.
+fn put_if_absent(entries: &mut Vec<(Cap, Value)>, cap: Cap, value: Value) -> Result<(), AllocError>
+    requires kept { IsKept (entries_of entries.old.items) }
+    requires agrees { Agrees cap (content_of value) }
+    ensures kept { IsKept (entries_of entries.new.items) }
+    ensures ok { OnOk result ((c : Capability) → contents (entries_of entries.new.items) c
+        ≡ option_or (contents (entries_of entries.old.items) c) (if same_capability cap c then Some (content_of value) else None)) }
+    ensures err { OnErr result (entries.new.items ≡ entries.old.items) }
+    ensures in_place { IsSome (contents (entries_of entries.old.items) cap) → IsOk result }
+{
+    match place(entries, cap) {
+        Ok(_) => Ok(()),
         Err(at) => {
             entries.insert(at, (cap, value))?;
             Ok(())

@@ -34,10 +34,7 @@ fn lay(table: &mut Table, cap: Cap, value: Value, work: &mut u64) -> Result<(), 
     ensures work { OnOk result (work.new ≡ work.old + 1) }
 {
     *work += 1;
-    if table.get(cap).is_none() {
-        table.set(cap, Some(value))?;
-    }
-    Ok(())
+    table.set_if_absent(cap, value)
 }
 
 /// Lays all values of another table, unless the table mentions their capabilities already.

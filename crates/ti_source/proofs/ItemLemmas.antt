@@ -1,24 +1,12 @@
 -- Items read byte by byte.
-use Rattle.std.proofs.Common.{◌≡◌, ℕ, ◌≤◌, true, false, List, [], ◌∷◌, ◌++◌, length, cond, refl, sym, ap, ◌∙◌, arith, append_assoc}
-use Rattle.std.proofs.lemmas.List.{append-nil}
+use Rattle.std.proofs.Common.{◌≡◌, ℕ, ◌<◌, true, false, List, [], ◌∷◌, ◌++◌, length, cond, refl, sym, ap, subst, ◌∙◌, arith, append_assoc}
+use Rattle.std.proofs.lemmas.List.{append-nil, length-append}
 use Rattle.ti_source.specs.declared.items.Taken.{Taken}
 use Rattle.ti_source.specs.declared.items.Taken.TheVariants as taken
 use Rattle.ti_source.specs.WhiteSpace.{is_white_space}
 use Rattle.ti_source.specs.Folding.{Placed}
 use Rattle.ti_source.specs.Items.{bytes, Piece, piece, without_front, line_of, piece_of}
-use Rattle.ti_source.specs.inside.Items.{taken_after, cuts, with_first, items_of, with_byte, TakesItem}
-
--- a text in front of the first of some items
-abbrev pub with_front : List Placed → List (List Placed) → List (List Placed)
-with_front front [] = front ∷ []
-with_front front (item ∷ items) = (front ++ item) ∷ items
-
--- An item is read up to here: `seen` of it, which shows as `shown`, and `source` is left.
-pub record ReadsSoFar (start : List Placed) (by : Taken) (before : ℕ) (source : List Placed) (shown : Piece) : Type 0 where
-  pub seen : List Placed
-  pub is_piece : piece_of seen ≡ shown
-  pub items : items_of taken.Nothing 44 start ≡ with_front seen (items_of by before source)
-  pub shorter : length source ≤ length start
+use Rattle.ti_source.specs.inside.Items.{taken_after, cuts, with_first, with_front, items_of, with_byte, on_line, GoesOn, goes_nowhere, goes_over, ReadsSoFar, TakesItem}
 
 pub items_of-plain : (by : Taken) (before : ℕ) (x : Placed) (xs : List Placed) → cuts by x.0 ≡ false → items_of by before (x ∷ xs) ≡ with_first x (items_of (taken_after by before x.0) x.0 xs)
 items_of-plain by before x xs f = rw f
@@ -80,6 +68,28 @@ so_far-more start by before x source shown r f = record {
   items = r.items ∙ ap (with_front r.seen) (items_of-plain by before x source f) ∙ with_front-push r.seen x (items_of (taken_after by before x.0) x.0 source);
   shorter = omega (arith, r.shorter);
 }
+
+-- a text that has a byte, with one more
+pushes : (text : List ℕ) (line : ℕ) (x : Placed) → 0 < length text → with_byte (piece text line) x ≡ piece (text ++ x.0 ∷ []) line
+pushes [] line x some = absurd (omega arith)
+pushes (y ∷ ys) line x some = refl
+
+pub on_line-append : (line : ℕ) (run more : List ℕ) → on_line line (run ++ more) ≡ on_line line run ++ on_line line more
+on_line-append line [] more = refl
+on_line-append line (b ∷ bs) more = ap (λ (s : List Placed). (b, line) ∷ s) (on_line-append line bs more)
+
+-- an item whose text has a byte, read over a run
+pub so_far-run : (start : List Placed) {by next : Taken} {before last : ℕ} {run : List ℕ} (line at : ℕ) (source : List Placed) (text : List ℕ)
+    → GoesOn by before run next last → 0 < length text → ReadsSoFar start by before (on_line at run ++ source) (piece text line)
+    → ReadsSoFar start next last source (piece (text ++ run) line)
+so_far-run start line at source text goes_nowhere some r = rw append-nil r
+so_far-run start {run = all} line at source text (goes_over {by = by} {next = next} {before = before} {last = last} {run = run} x goes plain inner) some r =
+    let regrouped : on_line at (run ++ x ∷ []) ++ source ≡ on_line at run ++ ((x, at) ∷ source) =
+    rw on_line-append (append_assoc (on_line at run) ((x, at) ∷ []) source) in
+    let earlier = so_far-run start line at ((x, at) ∷ source) text goes some (subst (λ (s : List Placed). ReadsSoFar start by before s (piece text line)) regrouped r) in
+    let longer : with_byte (piece (text ++ run) line) (x, at) ≡ piece (text ++ (run ++ x ∷ [])) line =
+    pushes (text ++ run) line (x, at) (omega (arith, length-append text run)) ∙ ap (λ (t : List ℕ). piece t line) (append_assoc text run (x ∷ [])) in
+    subst (λ (shown : Piece). ReadsSoFar start (taken_after next last x) x source shown) longer (so_far-more start next last (x, at) source (piece (text ++ run) line) earlier inner)
 
 pub takes-cut : (start : List Placed) (by : Taken) (before : ℕ) (x : Placed) (source : List Placed) (shown : Piece)
     → ReadsSoFar start by before (x ∷ source) shown → cuts by x.0 ≡ true → TakesItem start shown false source

@@ -2,7 +2,9 @@
 ghost use Rattle.std.specs.Prelude.{◌≡◌, ◌≤◌, length};
 ghost use Rattle.std.specs.Iterator.{YieldsFirst, item_count};
 ghost use Rattle.ti_source.specs.Folding.{folding_of, EachIsFolded, OneFolding};
+ghost use Rattle.ti_source.specs.inside.Items.{TakesRun};
 
+use crate::items::{Run, Taken, front_run};
 use crate::white_space::is_white_space;
 use std::marker::Model;
 
@@ -44,6 +46,25 @@ impl<'a> Folded<'a> {
             comment: false,
             joining: false,
         }
+    }
+
+    /// Takes the run at the front over which an item goes on, where `taken` takes the first byte, which stands just after
+    /// `before`; none where that byte may belong to a comment or a line break.
+    pub(crate) fn take_run(&mut self, taken: Taken, before: u8) -> Run<'a>
+        ensures { TakesRun self.old taken before result self.new }
+    {
+        if self.joining || self.comment || self.before == b'\n' {
+            return Run {
+                bytes: &self.rest[..0],
+                taken,
+                last: before,
+            };
+        }
+        let run = front_run(self.rest, taken, before);
+        let (_, rest) = self.rest.split_at(run.bytes.len());
+        // no byte of the run is a newline, nor is the one before it, so that `before` may stay
+        self.rest = rest;
+        run
     }
 }
 

@@ -1,7 +1,7 @@
 // The names field and the items of a block, and what an item states.
 ghost use Rattle.std.specs.Prelude.{◌≡◌, ◌+◌, ◌<◌, ◌≤◌, IfOk, IfSome, OnOk, length, take, drop, slice_index, option_map};
 ghost use Rattle.ti_source.specs.Items.{bytes, piece, without_outer_space};
-ghost use Rattle.ti_source.specs.inside.Items.{taken_after, cuts, field_of, after_field, TakesItem, with_byte, statement_in_memory, statement_of, statement_with_value, plain_statement};
+ghost use Rattle.ti_source.specs.inside.Items.{taken_after, cuts, field_of, after_field, GoesOn, ReadsOn, TakesItem, with_byte, statement_in_memory, statement_of, statement_with_value, plain_statement};
 
 use crate::folding::Folded;
 use crate::white_space::{is_white_space, trim_end};
@@ -33,6 +33,41 @@ impl Taken {
         ensures { result ≡ cuts self byte }
     {
         byte == b',' && self != Taken::Backslash
+    }
+}
+
+/// A run of bytes on one line, over which an item goes on.
+#[derive(Clone, Copy, Debug)]
+pub(crate) struct Run<'a> {
+    /// The bytes, none of which is a newline or ends the item.
+    pub(crate) bytes: &'a [u8],
+    /// What takes the byte after them.
+    pub(crate) taken: Taken,
+    /// The last of them, or the byte before the run where there is none.
+    pub(crate) last: u8,
+}
+
+/// The longest run at the front of `text` over which an item goes on, where `taken` takes the first byte, which stands
+/// just after `before`.
+pub(crate) fn front_run(text: &[u8], taken: Taken, before: u8) -> Run<'_>
+    ensures front { result.bytes.now ≡ take (length result.bytes.now) text.now }
+    ensures goes_on { GoesOn taken before result.bytes.now result.taken result.last }
+{
+    let mut size = 0;
+    let mut next = taken;
+    let mut last = before;
+    for &byte in text {
+        if byte == b'\n' || next.cuts(byte) {
+            break;
+        }
+        next = next.after(last, byte);
+        last = byte;
+        size += 1;
+    }
+    Run {
+        bytes: &text[..size],
+        taken: next,
+        last,
     }
 }
 
@@ -76,6 +111,25 @@ fn push_visible(text: &mut Vec<u8>, line: usize, byte: u8, at: usize) -> Result<
     Ok(at)
 }
 
+// Adds the run with which an item goes on, once its text has a byte, and gives what takes the byte after it and the byte
+// just before that one. `taken` takes the first byte of the run, which stands just after `before`.
+fn push_run(
+    source: &mut Folded<'_>,
+    text: &mut Vec<u8>,
+    taken: Taken,
+    before: u8,
+) -> Result<(Taken, u8), AllocError>
+    ensures reads { IfOk result (λ reached. ReadsOn source.old taken before text.old.items source.new reached.0 reached.1 text.new.items) }
+    ensures shorter { OnOk result (length source.new ≤ length source.old) }
+{
+    if text.is_empty() {
+        return Ok((taken, before));
+    }
+    let run = source.take_run(taken, before);
+    text.extend_from_slice(run.bytes)?;
+    Ok((run.taken, run.last))
+}
+
 /// Takes the next item, and the comma that ends it, and leaves its text in `text`, without white space at its front.
 pub(crate) fn read_item(source: &mut Folded<'_>, text: &mut Vec<u8>) -> Result<Reached, AllocError>
     ensures { IfOk result (λ item. TakesItem source.old (piece text.new.items item.line) item.last source.new) }
@@ -89,8 +143,8 @@ pub(crate) fn read_item(source: &mut Folded<'_>, text: &mut Vec<u8>) -> Result<R
             return Ok(Reached { line, last: false });
         }
         line = push_visible(text, line, byte, at)?;
-        taken = taken.after(before, byte);
-        before = byte;
+        // most bytes of an item stand in such runs, which are added at once
+        (taken, before) = push_run(source, text, taken.after(before, byte), byte)?;
     }
     Ok(Reached { line, last: true })
 }

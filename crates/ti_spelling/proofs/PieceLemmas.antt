@@ -1,14 +1,16 @@
 -- Walking over the pieces of a text: each function that computes a piece gives what the relations say.
-use Rattle.std.proofs.Common.{◌≡◌, ◌≢◌, ℕ, zero, suc, ◌+◌, ◌-◌, ◌<◌, ◌≤◌, Bool, true, false, cond, eqb, List, [], ◌∷◌, ◌++◌, length, get_or, drop, Option, Some, None, Result, Ok, Err, refl, ap, subst, sym, ◌∙◌, append_assoc, arith}
+use Rattle.std.proofs.Common.{◌≡◌, ◌≢◌, ℕ, zero, suc, ◌+◌, ◌-◌, ◌<◌, ◌≤◌, Bool, true, false, cond, eqb, List, [], ◌∷◌, ◌++◌, length, get_or, take, drop, Option, Some, None, Result, Ok, Err, refl, ap, subst, sym, ◌∙◌, append_assoc, arith}
 use Rattle.std.specs.Prelude.{◌&&◌, ◌||◌, not, bit_and, MatchResult, nat_le}
-use Rattle.std.proofs.lemmas.Bool.{cond_both, eqb-true, eqb-false, ne_eqb, leb-true, leb-false, le-leb, and_parts, and_from, both_ways, not-true, not_from_false}
+use Rattle.std.specs.List.{list_all}
+use Rattle.std.proofs.lemmas.Bool.{cond_both, eqb-true, eqb-false, ne_eqb, leb-true, leb-false, le-leb, and_parts, and_from, both_ways, not-true, not_from_false, or_parts}
 use Rattle.std.proofs.lemmas.Result.{MatchResult-at_ok}
 use Rattle.std.proofs.lemmas.List.{length-append, append-nil}
 use Rattle.ti_spelling.specs.declared.spelling.Piece.{Piece}
 use Rattle.ti_spelling.specs.declared.spelling.UnescapeError.{UnescapeError}
 use Rattle.ti_spelling.specs.declared.spelling.UnescapeError.TheVariants.{BadOctal, BadControl, BadByte}
 use Rattle.ti_spelling.specs.Spelling.{named_escape, is_octal_digit, octal_digits, octal_digits_up_to, octal_value, is_percent, not_nul, IsEscape, escape_named, escape_octal, escape_unknown, escape_missing, IsControl, control_delete, control_masked, IsPiece, piece_escape, piece_control, piece_caret, piece_plain, IsRefused, refused_octal, refused_control, refused_control_at_end, refused_nul, refused_escaped_nul}
-use Rattle.ti_spelling.specs.inside.Spelling.{octal_piece, unnamed_piece, named_piece, escape_piece, is_control_letter, control_piece, first_piece, with_piece, then_later, unescaped_from}
+use Rattle.ti_spelling.specs.inside.Spelling.{octal_piece, unnamed_piece, named_piece, escape_piece, is_control_letter, control_piece, first_piece, is_literal, with_piece, then_later, unescaped_from}
+use Rattle.ti_spelling.specs.inside.Pieces.{with_front}
 
 -- ---- octal digits
 
@@ -192,10 +194,6 @@ ends before (x ∷ xs) e = absurd (omega arith)
 
 -- ---- what was read so far, before the rest
 
-abbrev pub with_front : List ℕ → Bool → Result (List ℕ × Bool) UnescapeError → Result (List ℕ × Bool) UnescapeError
-with_front front odd (Ok later) = Ok (front ++ later.0, odd || later.1)
-with_front front odd (Err cause) = Err cause
-
 pub with_no_front : (r : Result (List ℕ × Bool) UnescapeError) → r ≡ with_front [] false r
 with_no_front (Ok later) = refl
 with_no_front (Err cause) = refl
@@ -211,3 +209,47 @@ moves_on front odd piece (Err cause) = refl
 pub is_whole : (front : List ℕ) (odd : Bool) → with_front front odd (Ok ([], false)) ≡ Ok (front, odd)
 is_whole front true = rw append-nil refl
 is_whole front false = rw append-nil refl
+
+-- ---- bytes that stand for themselves
+
+pub joins_front : (front more : List ℕ) (odd : Bool) (r : Result (List ℕ × Bool) UnescapeError) → with_front front odd (with_front more false r) ≡ with_front (front ++ more) odd r
+joins_front front more odd (Ok later) = rw (append_assoc front more later.0) refl
+joins_front front more odd (Err cause) = refl
+
+literal_piece : (before x : ℕ) (xs : List ℕ) → is_literal x ≡ true → first_piece (is_percent before) (x ∷ xs) ≡ Ok (record { size = 1; byte = x; odd = false })
+unfolding first_piece
+literal_piece before x xs e =
+    let parts = or_parts (eqb x 92 || eqb x 94) (eqb x 0) (not-true ((eqb x 92 || eqb x 94) || eqb x 0) e) in
+    let pairs = or_parts (eqb x 92) (eqb x 94) parts.0 in
+    rw (pairs.0, pairs.1, parts.1) refl
+
+literal_in_front : (x : ℕ) (front : List ℕ) (r : Result (List ℕ × Bool) UnescapeError) → with_piece (record { size = 1; byte = x; odd = false }) (with_front front false r) ≡ with_front (x ∷ front) false r
+literal_in_front x front (Ok later) = refl
+literal_in_front x front (Err cause) = refl
+
+-- so many bytes at the front that stand for themselves
+pub literals : (k before : ℕ) (text : List ℕ) → k ≤ length text → list_all is_literal (take k text) ≡ true
+    → unescaped_from 0 before text ≡ with_front (take k text) false (unescaped_from 0 (get_or (before ∷ text) k 0) (drop k text))
+unfolding unescaped_from
+literals zero before text le all = with_no_front (unescaped_from 0 before text)
+literals (suc k) before [] le all = absurd (omega arith)
+literals (suc k) before (x ∷ xs) le all =
+    let parts = and_parts (is_literal x) (list_all is_literal (take k xs)) all in
+    ap (λ (r : Result Piece UnescapeError). then_later r (λ p. unescaped_from (p.size - 1) x xs)) (literal_piece before x xs parts.0)
+    ∙ ap (with_piece (record { size = 1; byte = x; odd = false })) (literals k x xs (omega arith) parts.1)
+    ∙ literal_in_front x (take k xs) (unescaped_from 0 (get_or (x ∷ xs) k 0) (drop k xs))
+
+-- the code's step
+pub takes_literals : (k before : ℕ) (text : List ℕ) → 0 < k → k ≤ length text → list_all is_literal (take k text) ≡ true
+    → unescaped_from 0 before text ≡ with_front (take k text) false (unescaped_from 0 (get_or text (k - 1) 0) (drop k text))
+takes_literals k before text some le all =
+    let some_size : k ≡ suc (k - 1) = omega arith in
+    literals k before text le all
+    ∙ ap (λ (b : ℕ). with_front (take k text) false (unescaped_from 0 b (drop k text))) (ap (λ (n : ℕ). get_or (before ∷ text) n 0) some_size)
+
+-- one more literal byte
+pub literal_more : (front : List ℕ) (x : ℕ) → list_all is_literal front ≡ true → is_literal x ≡ true → list_all is_literal (front ++ x ∷ []) ≡ true
+literal_more [] x all e = rw e refl
+literal_more (y ∷ ys) x all e =
+    let parts = and_parts (is_literal y) (list_all is_literal ys) all in
+    and_from _ _ parts.0 (literal_more ys x parts.1 e)

@@ -1,10 +1,11 @@
 //! String values as terminfo(5) spells them: reading.
 
-ghost use Rattle.std.specs.Prelude.{◌≡◌, ◌≤◌, ◌<◌, length, true, false, IfOk, IfErr, IsOkAnd};
+ghost use Rattle.std.specs.Prelude.{◌≡◌, ◌≤◌, ◌<◌, length, take, true, false, Ok, Err, IsOk, OnOk, IfOk, IfErr};
+ghost use Rattle.std.specs.List.{list_all};
 ghost use Rattle.ti_spelling.specs.declared.spelling.UnescapeError.TheVariants.{Memory};
 ghost use Rattle.ti_spelling.specs.Spelling.{named_escape, is_octal_digit, octal_digits, octal_value, not_nul, Spells, IsCauseOf, HasNoNul, OneOutcome};
-ghost use Rattle.ti_spelling.specs.inside.Spelling.{octal_piece, escape_piece, control_piece, first_piece, unescape_result, GivesUnescaped, UnescapedAgrees, ValuesAreSound};
-ghost use Rattle.ti_spelling.specs.inside.Pieces.{left_of, TakesPiece};
+ghost use Rattle.ti_spelling.specs.inside.Spelling.{octal_piece, escape_piece, control_piece, first_piece, is_literal, unescape_result, GivesUnescaped, UnescapedAgrees, ValuesAreSound};
+ghost use Rattle.ti_spelling.specs.inside.Pieces.{left_of, with_front, TakesPiece};
 
 use std::alloc::{AllocError, AllocFailed, Global};
 use thiserror::Error;
@@ -191,6 +192,25 @@ fn first_piece(percent: bool, text: &[u8]) -> Result<Piece, UnescapeError>
     }
 }
 
+/// Whether a byte stands for itself, whatever stands around it.
+fn is_literal(byte: u8) -> bool
+    ensures { result ≡ is_literal byte }
+{
+    !matches!(byte, b'\\' | b'^' | 0)
+}
+
+/// How many bytes at the front of `text` stand for themselves, up to the first that may not.
+fn literal_len(text: &[u8]) -> usize
+    ensures len { result ≤ length text.now }
+    ensures literal { list_all is_literal (take result text.now) ≡ true }
+{
+    let mut len = 0;
+    while len < text.len() && is_literal(text[len]) {
+        len += 1;
+    }
+    len
+}
+
 /// What is left of a text, and the byte before it.
 #[derive(Drop)]
 struct Pieces<'a> {
@@ -210,6 +230,21 @@ impl<'a> Pieces<'a> {
         }
     }
 
+    /// Takes the bytes at the front that stand for themselves.
+    fn take_literal(&mut self) -> &'a [u8]
+        ensures taken { left_of self.old ≡ with_front result.now false (left_of self.new) }
+        ensures len { length self.new.rest.now ≤ length self.old.rest.now }
+    {
+        let len = literal_len(self.rest);
+        if len == 0 {
+            return &self.rest[..0];
+        }
+        let (literal, rest) = self.rest.split_at(len);
+        self.before = self.rest[len - 1];
+        self.rest = rest;
+        literal
+    }
+
     /// Takes the next piece, or tells that none is left.
     fn next_piece(&mut self) -> Result<Option<Piece>, UnescapeError>
         ensures { TakesPiece self.old result self.new }
@@ -224,32 +259,32 @@ impl<'a> Pieces<'a> {
     }
 }
 
-/// How many bytes `raw` stands for.
-fn spelled_len(raw: &[u8]) -> Result<usize, UnescapeError>
-    ensures ok { IfOk result (λ count. IsOkAnd (unescape_result raw.now) (λ found. length found.0 ≡ count)) }
+/// Whether `raw` spells something, or its first fault.
+fn check(raw: &[u8]) -> Result<(), UnescapeError>
+    ensures ok { OnOk result (IsOk (unescape_result raw.now)) }
     ensures err { IfErr result (λ cause. unescape_result raw.now ≡ Err cause) }
 {
     let mut pieces = Pieces::new(raw);
-    let mut count = 0;
-    while let Some(_) = pieces.next_piece()? {
-        count += 1;
-    }
-    Ok(count)
+    while let Some(_) = pieces.next_piece()? {}
+    Ok(())
 }
 
-/// What `raw` spells, which is known to be something, and `count` bytes long.
-fn decode(alloc: Global, raw: &[u8], count: usize) -> Result<Unescaped, UnescapeError>
-    requires { IsOkAnd (unescape_result raw.now) (λ found. length found.0 ≡ count) }
-    ensures { GivesUnescaped raw.now result }
+/// What `raw` spells, in one walk over it. An error may be want of memory though `raw` spells nothing.
+fn decode(alloc: Global, raw: &[u8]) -> Result<Unescaped, UnescapeError>
+    ensures { IfOk result (λ found. unescape_result raw.now ≡ Ok (found.bytes.items, found.odd)) }
 {
     let mut pieces = Pieces::new(raw);
-    let mut bytes = Vec::with_capacity(alloc, count)?;
+    // a value is no longer than its text
+    let mut bytes = Vec::with_capacity(alloc, raw.len())?;
     let mut odd = false;
-    while let Some(piece) = pieces.next_piece()? {
+    loop {
+        bytes.extend_from_slice(pieces.take_literal())?;
+        let Some(piece) = pieces.next_piece()? else {
+            return Ok(Unescaped { bytes, odd });
+        };
         bytes.push(piece.byte)?;
         odd |= piece.odd;
     }
-    Ok(Unescaped { bytes, odd })
 }
 
 /// The bytes that `raw` stands for, by the escapes of terminfo(5), "Types of capabilities", and X/Open
@@ -270,8 +305,11 @@ pub fn unescape(alloc: Global, raw: &[u8]) -> Result<Unescaped, UnescapeError>
     ensures no_nul { IfOk result (λ found. HasNoNul found.bytes.items) }
     ensures no_longer { IfOk result (λ found. length found.bytes.items ≤ length raw.now) }
 {
-    let count = spelled_len(raw)?;
-    decode(alloc, raw, count)
+    if let Ok(found) = decode(alloc, raw) {
+        return Ok(found);
+    }
+    check(raw)?;
+    Err(UnescapeError::Memory)
 }
 
 /// Each text spells one value or has one first fault.

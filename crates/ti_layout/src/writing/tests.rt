@@ -226,3 +226,24 @@ fn merges_what_is_absent(rt: HostRuntime) -> Result<(), Fail> {
     assert!(rt; is_written(written(alloc, b"x", &first), want));
     Ok(())
 }
+
+#[test]
+fn lays_what_is_absent(rt: HostRuntime) -> Result<(), Fail> {
+    let alloc = rt.alloc();
+    let mut table = Table::new(alloc);
+    set_text(&mut table, alloc, 1, b"B")?;
+    if let Some(cap) = Cap::at(Kind::Flag, 1) {
+        table.set(cap, Some(Value::Cancelled))?;
+        table.set_if_absent(cap, Value::True)?;
+    }
+    for (index, bytes) in [(0, b"A".as_slice()), (1, b"C".as_slice())] {
+        if let Some(cap) = Cap::at(Kind::Text, index)
+            && has_no_nul(bytes)
+        {
+            table.set_if_absent(cap, Value::Text(RcSlice::from_slice(alloc, bytes)?))?;
+        }
+    }
+    let want = b"\x1a\x01\x02\0\0\0\0\0\x02\0\x04\0x\0\0\0\x02\0A\0B\0";
+    assert!(rt; is_written(written(alloc, b"x", &table), want));
+    Ok(())
+}

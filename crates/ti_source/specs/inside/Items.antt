@@ -1,11 +1,12 @@
 -- The names field, the items and what an item states, computed; what a reader of a folded text takes, and statements in memory (own).
 use Rattle.ti_text.specs.Ascii as ascii
-use Rattle.std.specs.Prelude.{◌≡◌, ℕ, Bool, false, not, ◌&&◌, ◌==◌, if◌then◌else◌, List, [], ◌∷◌, ◌++◌, length, ◌<◌, Option, Some, None}
+use Rattle.std.specs.Prelude.{◌≡◌, ℕ, Bool, false, not, ◌&&◌, ◌==◌, if◌then◌else◌, List, [], ◌∷◌, ◌++◌, map, length, ◌<◌, ◌≤◌, Option, Some, None}
 use Rattle.ti_source.specs.WhiteSpace.{is_white_space, without_trailing_space}
 use Rattle.ti_source.specs.Blocks.{last_byte}
 use Rattle.ti_source.specs.Folding.{Placed}
 use Rattle.ti_source.specs.declared.items.Taken.{Taken}
 use Rattle.ti_source.specs.declared.items.Taken.TheVariants as taken
+use Rattle.ti_source.specs.declared.items.Run.{Run}
 use Rattle.ti_source.specs.declared.items.Claim.{Claim as ClaimInMemory}
 use Rattle.ti_source.specs.declared.items.Claim.TheVariants as claims
 use Rattle.ti_source.specs.declared.items.Statement.{Statement as StatementInMemory}
@@ -100,6 +101,40 @@ pub record TakesItem (text : List Placed) (piece : Piece) (last : Bool) (rest : 
   pub is_piece : piece_of item ≡ piece
   pub is_first : items_of taken.Nothing ascii.comma text ≡ item ∷ (if last then [] else items_of taken.Nothing ascii.comma rest)
   pub shorter : last ≡ false → length rest < length text
+
+-- a text in front of the first of some items
+abbrev pub with_front : List Placed → List (List Placed) → List (List Placed)
+with_front front [] = front ∷ []
+with_front front (item ∷ items) = (front ++ item) ∷ items
+
+-- An item is read up to here: `seen` of it, which shows as `shown`, and `source` is left.
+pub record ReadsSoFar (start : List Placed) (by : Taken) (before : ℕ) (source : List Placed) (shown : Piece) : Type 0 where
+  pub seen : List Placed
+  pub is_piece : piece_of seen ≡ shown
+  pub items : items_of taken.Nothing ascii.comma start ≡ with_front seen (items_of by before source)
+  pub shorter : length source ≤ length start
+
+-- An item goes on over a run of bytes: none of them is a newline or ends the item. `by` takes the first of them, which stands just after `before`, and
+-- `next` the byte after the run, which stands just after `last`.
+pub data GoesOn : (by : Taken) (before : ℕ) (run : List ℕ) (next : Taken) (last : ℕ) → Type 0 where
+  goes_nowhere : {by : Taken} {before : ℕ} → GoesOn by before [] by before
+  goes_over : {by next : Taken} {before last : ℕ} {run : List ℕ} (x : ℕ) → GoesOn by before run next last → (x == ascii.newline) ≡ false → cuts next x ≡ false
+      → GoesOn by before (run ++ x ∷ []) (taken_after next last x) x
+
+-- the bytes of a run, all on one line
+abbrev pub on_line : ℕ → List ℕ → List Placed
+on_line line run = map (λ b. (b, line)) run
+
+-- A run over which an item goes on was taken from the front of `old`, and `new` is left.
+pub record TakesRun (old : List Placed) (by : Taken) (before : ℕ) (run : Run) (new : List Placed) : Type 0 where
+  pub line : ℕ
+  pub whole : old ≡ on_line line run.bytes.now ++ new
+  pub goes_on : GoesOn by before run.bytes.now run.taken run.last
+
+-- However an item with this text was read up to `old`, it is read up to `new` with this longer text.
+abbrev pub ReadsOn : (old : List Placed) (by : Taken) (before : ℕ) (text : List ℕ) (new : List Placed) (next : Taken) (last : ℕ) (longer : List ℕ) → Type 0
+ReadsOn old by before text new next last longer =
+    (start : List Placed) (line : ℕ) → ReadsSoFar start by before old (piece text line) → ReadsSoFar start next last new (piece longer line)
 
 -- a claim that holds its text in memory, as plain data
 abbrev pub claim_of : ClaimInMemory → Claim

@@ -52,6 +52,10 @@ first_piece percent (x ∷ xs) = if x == ascii.backslash then escape_piece xs
     else (if x == ascii.caret then (if percent then Ok (record { size = 1; byte = ascii.caret; odd = false }) else control_piece xs)
     else (if x == ascii.nul then Err BadByte else Ok (record { size = 1; byte = x; odd = false })))
 
+-- whether a byte stands for itself, whatever stands around it
+abbrev pub is_literal : ℕ → Bool
+is_literal x = not (x == ascii.backslash || x == ascii.caret || x == ascii.nul)
+
 -- a piece, and then what the rest spells
 abbrev pub with_piece : Piece → Result (List ℕ × Bool) UnescapeError → Result (List ℕ × Bool) UnescapeError
 with_piece piece (Ok later) = Ok (piece.byte ∷ later.0, piece.odd || later.1)

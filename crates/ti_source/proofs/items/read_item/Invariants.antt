@@ -1,6 +1,6 @@
 use Rattle.std.proofs.Common.{length}
 use Rattle.ti_source.specs.Items.{piece}
-use Rattle.ti_source.proofs.ItemLemmas.{ReadsSoFar}
+use Rattle.ti_source.specs.inside.Items.{ReadsSoFar}
 use Rattle.ti_source.proofs.items.read_item.Given as goal
 
 abbrev pub invariant-loop-byte : goal.invariant-loop-byte

@@ -1,0 +1,20 @@
+use Rattle.std.proofs.Common.{◌≡◌, ◌==◌, false, get_or, refl, sym, ◌∙◌, arith}
+use Rattle.std.proofs.lemmas.Bool.{ne_eqb}
+use Rattle.std.proofs.lemmas.List.{take_more}
+use Rattle.ti_source.specs.inside.Items.{cuts, goes_nowhere, goes_over}
+use Rattle.ti_source.proofs.items.front_run.Goals as goal
+
+pub loop-byte-init : goal.loop-byte-init
+loop-byte-init c = record { counted = refl; goes_on = goes_nowhere }
+
+pub loop-byte-preserved : goal.loop-byte-preserved
+loop-byte-preserved c =
+    let text = c.args.text.now in
+    let at = c.loop-byte.byte-index in
+    let byte = get_or text at 0 in
+    let plain : (byte == 10) ≡ false = ne_eqb byte 10 c.if-byte-eq10.false in
+    let inner : cuts c.loop-byte.next byte ≡ false = sym c.cuts.ensures ∙ c.if-cuts.false in
+    record {
+      counted = omega (arith, c.loop-byte.invariant.counted);
+      goes_on = rw (take_more text at 0 c.loop-byte-test.true, c.after-next.ensures) (goes_over byte c.loop-byte.invariant.goes_on plain inner);
+    }
