@@ -6,3 +6,4 @@ pub mod Searching
 pub mod Edges
 pub mod Closing
 pub mod PlacedUses
+pub mod AllIds

@@ -1,5 +1,5 @@
 -- What a search finds of the blocks that depend on an edit (own).
-use Rattle.std.specs.Prelude.{ℕ, ◌≡◌, ◌↔◌, List, length, Option, Some, slice_get, Contains}
+use Rattle.std.specs.Prelude.{ℕ, ◌≡◌, ◌<◌, ◌↔◌, List, length, Option, Some, slice_get, Contains}
 use Rattle.ti_source.specs.Reading.{ReadItem}
 use Rattle.ti_meaning.specs.Reaching.{used_name}
 use Rattle.ti_meaning.specs.Exchange.{Exchange, IsExchange, new_list}
@@ -24,6 +24,12 @@ pub record AreDependentIds (slots : Slots) (put : Option ℕ) (out : List (List 
   pub once : (i j id : ℕ) → slice_get ids i ≡ Some id → slice_get ids j ≡ Some id → i ≡ j
   pub dependents : (exchange : Exchange) → IsExchangeOf slots put out exchange → (at : ℕ) → Contains places at ↔ IsDependent exchange at
   pub closed : AreFound (blocks_of slots) places
+
+-- these are all blocks of the list, by their ids and their positions, in its order
+pub record AreAllIds (slots : Slots) (ids places : List ℕ) : Type 0 where
+  pub listed : ids ≡ slots.order.listed
+  pub as_many : length places ≡ length ids
+  pub placed : (i : ℕ) → i < length ids → slice_get places i ≡ Some i
 
 -- the edge of an item leads to the place among the ids of the owner of the name that it uses, and nowhere if there is none
 abbrev pub IsEdgeOf : Slots → List ℕ → ReadItem → Option ℕ → Type 0

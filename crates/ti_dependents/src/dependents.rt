@@ -3,8 +3,9 @@ ghost use Rattle.std.specs.Prelude.{◌≡◌, ℕ, Some, map, IfOk};
 ghost use Rattle.std.specs.Rc.{rc_slice_items};
 ghost use Rattle.ti_components.specs.Graph.{IsGraph};
 ghost use Rattle.ti_slots.specs.Slots.{IsIndexed, StandsAt};
-ghost use Rattle.ti_dependents.specs.Dependents.{AreDependentIds, IsGraphOfUses};
+ghost use Rattle.ti_dependents.specs.Dependents.{AreAllIds, AreDependentIds, IsGraphOfUses};
 
+use crate::listing::{listed_ids, positions};
 use crate::search::search;
 use crate::uses::{graph_of_uses, places_of};
 use std::alloc::{AllocError, Global};
@@ -43,6 +44,22 @@ pub fn find_dependents(
     let found = search(alloc, slots, put, out)?;
     let ids = Vec::from_slice(alloc, found.as_slice())?;
     let places = places_of(alloc, &slots.order, &ids)?;
+    let uses = graph_of_uses(alloc, slots, &found)?;
+    Ok(Dependents { ids, places, uses })
+}
+
+/// All blocks of a list, in its order, and which of them use each other: what depends on a list that
+/// is made in one go. The time is linear, up to a logarithm, in what the blocks say. It fails where
+/// memory is short, and changes nothing.
+pub fn find_all(alloc: Global, slots: &Slots) -> Result<Dependents, AllocError>
+    requires indexed { IsIndexed slots.now }
+    ensures all { IfOk result (λ d. AreAllIds slots.now d.ids.items d.places.items) }
+    ensures uses { IfOk result (λ d. IsGraphOfUses slots.now d.ids.items d.uses) }
+    ensures graph { IfOk result (λ d. IsGraph d.uses) }
+{
+    let found = listed_ids(alloc, &slots.order)?;
+    let ids = Vec::from_slice(alloc, found.as_slice())?;
+    let places = positions(alloc, ids.len())?;
     let uses = graph_of_uses(alloc, slots, &found)?;
     Ok(Dependents { ids, places, uses })
 }

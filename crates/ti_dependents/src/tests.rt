@@ -2,7 +2,7 @@
 ghost use Rattle.std.specs.Prelude.{IfOk};
 ghost use Rattle.ti_slots.specs.Slots.{IsIndexed, StandsAt};
 
-use crate::{Dependents, find_dependents};
+use crate::{Dependents, find_all, find_dependents};
 use std::alloc::Global;
 use std::process::Abort;
 use std::rc::RcSlice;
@@ -129,5 +129,22 @@ fn a_name_that_two_blocks_have(rt: HostRuntime) -> Result<(), Fail> {
     let out = [RcSlice::from_slice(alloc, b"n")?];
     let found = find_dependents(alloc, &slots, None, &out)?;
     expect_places(&rt, &found, &[2]);
+    Ok(())
+}
+
+#[test]
+fn all_blocks(rt: HostRuntime) -> Result<(), Fail> {
+    let alloc = rt.alloc();
+    let mut slots = Slots::new(alloc);
+    let d = put(&mut slots, block(alloc, &[b"d"], &[])?)?;
+    let b = put(&mut slots, block(alloc, &[b"b"], &[b"a", b"d", b"z"])?)?;
+    let a = put(&mut slots, block(alloc, &[b"a"], &[b"b"])?)?;
+    // The list is a, b, d, and nothing depends on d but b and a.
+    let found = find_all(alloc, &slots)?;
+    assert_eq!(rt; found.ids.as_slice(), [a, b, d].as_slice());
+    assert_eq!(rt; found.places.as_slice(), [0, 1, 2].as_slice());
+    expect_edges(&rt, &found, a, &[Some(b)])?;
+    expect_edges(&rt, &found, b, &[Some(a), Some(d), None])?;
+    expect_edges(&rt, &found, d, &[])?;
     Ok(())
 }

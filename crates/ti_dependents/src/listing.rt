@@ -1,0 +1,32 @@
+// All blocks of a list, in its order.
+ghost use Rattle.std.specs.Prelude.{◌≡◌, ◌<◌, ℕ, Some, length, slice_get, IfOk};
+ghost use Rattle.ti_index.specs.Labels.{IsDistinct};
+
+use indexmap::IndexSet;
+use std::alloc::{AllocError, Global};
+use ti_index::Order;
+
+/// The ids of a list, in its order. None stands twice.
+pub(crate) fn listed_ids(alloc: Global, order: &Order) -> Result<IndexSet<u32>, AllocError>
+    ensures ids { IfOk result (λ found. found.keys ≡ order.now.listed) }
+    ensures distinct { IsDistinct order.now.listed }
+{
+    let ids = order.ids();
+    let mut found = IndexSet::with_capacity(alloc, ids.len())?;
+    for id in ids {
+        found.insert(*id)?;
+    }
+    Ok(found)
+}
+
+/// The positions of a list that is so long, in ascending order.
+pub(crate) fn positions(alloc: Global, count: usize) -> Result<Vec<usize>, AllocError>
+    ensures len { IfOk result (λ places. length places.items ≡ count) }
+    ensures each { IfOk result (λ places. (i : ℕ) → i < count → slice_get places.items i ≡ Some i) }
+{
+    let mut places = Vec::with_capacity(alloc, count)?;
+    for place in 0..count {
+        places.push(place)?;
+    }
+    Ok(places)
+}
