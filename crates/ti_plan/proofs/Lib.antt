@@ -9,3 +9,4 @@ pub mod Rising
 pub mod Steps
 pub mod MadePlans
 pub mod PutFirst
+pub mod AllPlans

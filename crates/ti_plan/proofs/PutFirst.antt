@@ -1,5 +1,5 @@
 -- A block put in at the front of a list, on which all others depend.
-use Rattle.std.proofs.Common.{◌≡◌, ℕ, ◌<◌, List, [], length, Option, Some, None, Contains, slice_get, refl, sym, ◌∙◌, ap, arith, All}
+use Rattle.std.proofs.Common.{ℕ, ◌<◌, List, [], length, Some, None, Contains, slice_get, refl, sym, ◌∙◌, ap, arith}
 use Rattle.std.proofs.lemmas.Option.{same_Some, slice_get_within}
 use Rattle.ti_source.specs.Reading.{reading_of}
 use Rattle.ti_meaning.specs.Exchange.{Exchange}

@@ -1,5 +1,6 @@
 -- When the plan of an edit is right (own).
-use Rattle.std.specs.Prelude.{ℕ, ◌≡◌, ◌↔◌, List, length, Option, Some, slice_get, Contains}
+use Rattle.std.specs.Prelude.{ℕ, ◌≡◌, ◌<◌, ◌↔◌, List, length, Option, Some, slice_get, Contains}
+use Rattle.ti_source.specs.Sound.{IsRising}
 use Rattle.ti_meaning.specs.Exchange.{Exchange}
 use Rattle.ti_meaning.specs.Dependents.{AreDependents, IsDependent, work}
 use Rattle.ti_slots.specs.declared.slots.Slot.{Slot}
@@ -32,4 +33,14 @@ pub record IsPlan (slots : Slots) (put : Option ℕ) (out : List (List ℕ)) (pl
   pub settled : (i at id : ℕ) (settled : Settled) → slice_get plan.ids.items i ≡ Some id → slice_get plan.settled.items i ≡ Some settled
       → StandsAt slots at id → IsSettled (blocks_of slots) at (reading_at slots.slots.items id) settled
   pub dependents : (exchange : Exchange) → IsExchangeOf slots put out exchange → AreDependents exchange plan.rebuilt.items
+  pub steps : plan.work ≡ work (blocks_of slots) plan.rebuilt.items
+
+-- the plan has all blocks of the list in its order, what is right for each, their positions in ascending order and the work
+pub record IsPlanOfAll (slots : Slots) (plan : Plan) : Type 0 where
+  pub listed : plan.ids.items ≡ slots.order.listed
+  pub as_many : length plan.settled.items ≡ length plan.ids.items
+  pub settled : (i at id : ℕ) (settled : Settled) → slice_get plan.ids.items i ≡ Some id → slice_get plan.settled.items i ≡ Some settled
+      → StandsAt slots at id → IsSettled (blocks_of slots) at (reading_at slots.slots.items id) settled
+  pub rising : IsRising plan.rebuilt.items
+  pub rebuilt : (at : ℕ) → Contains plan.rebuilt.items at ↔ (at < length slots.order.listed)
   pub steps : plan.work ≡ work (blocks_of slots) plan.rebuilt.items

@@ -7,7 +7,7 @@ ghost use Rattle.ti_meaning.specs.Dependents.{work};
 ghost use Rattle.std.specs.Rc.{rc_slice_items};
 ghost use Rattle.ti_meaning.specs.Usable.{IsUsable};
 ghost use Rattle.ti_slots.specs.Slots.{blocks_of, IsIndexed, StandsAt};
-ghost use Rattle.ti_plan.specs.Plan.{IsPlan, IsReady};
+ghost use Rattle.ti_plan.specs.Plan.{IsPlan, IsPlanOfAll, IsReady};
 ghost use Rattle.ti_plan.specs.Settling.{AreAllSettled, AreFoundIn, IsPlanOf, place_of};
 
 use crate::owners::Known;
@@ -16,7 +16,7 @@ use crate::settling::settle;
 use std::alloc::{AllocError, Global};
 use std::rc::RcSlice;
 use ti_components::Components;
-use ti_dependents::{Dependents, find_dependents};
+use ti_dependents::{Dependents, find_all, find_dependents};
 use ti_slots::{Settled, Slots};
 
 /// Nothing found out yet about so many blocks.
@@ -151,4 +151,19 @@ pub fn plan(
     // No id stands twice among these.
     let _listed = slots.order.ids();
     Ok(make_plan(alloc, slots, dependents)?)
+}
+
+/// The plan of a list that is made in one go: what is found out about each of its blocks. Nothing
+/// that the slots hold of a block is asked to be right; an entry that they hold is patched, as in the
+/// plan of an edit. The time is linear, up to a logarithm, in what the blocks say and in the values
+/// that they have. It fails where memory is short, and changes nothing.
+pub fn plan_all(alloc: Global, slots: &Slots) -> Result<Plan, AllocError>
+    requires indexed { IsIndexed slots.now }
+    requires usable { All IsUsable (blocks_of slots.now) }
+    ensures { IfOk result (λ plan. IsPlanOfAll slots.now plan) }
+{
+    let all = find_all(alloc, slots)?;
+    // No id stands twice among these.
+    let _listed = slots.order.ids();
+    Ok(make_plan(alloc, slots, all)?)
 }

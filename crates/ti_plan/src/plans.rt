@@ -1,10 +1,11 @@
-// The plan of an edit.
+// What is planned for blocks of a list.
 use ti_slots::Settled;
 
-/// What an edit makes of the blocks that depend on it.
+/// What an edit makes of the blocks that depend on it, or what a list that is made in one go makes
+/// of all of its blocks.
 #[derive(Drop)]
 pub struct Plan {
-    /// The ids of the blocks that depend on the edit, each once.
+    /// The ids of these blocks, each once.
     pub ids: Vec<u32>,
     /// What was found out about each, in the order of `ids`.
     pub settled: Vec<Settled>,

@@ -163,3 +163,22 @@ fn rings(rt: HostRuntime) -> Result<(), Fail> {
     )?;
     Ok(())
 }
+
+#[test]
+fn all_blocks(rt: HostRuntime) -> Result<(), Fail> {
+    let alloc = rt.alloc();
+    let mut slots = Slots::new(alloc);
+    let d = put(&mut slots, slot_of(alloc, b"d,use=d,\n")?)?;
+    let c = put(&mut slots, slot_of(alloc, b"c,cols#1,\n")?)?;
+    let b = put(&mut slots, slot_of(alloc, b"b,use=c,\n")?)?;
+    let a = put(&mut slots, slot_of(alloc, b"a,use=b,use=d,\n")?)?;
+    // The list is a, b, c, d, and nothing was found out about any of them.
+    let all = crate::plan_all(alloc, &slots)?;
+    assert_eq!(rt; all.ids.as_slice(), [a, b, c, d].as_slice());
+    expect_rebuilt(&rt, &all, &[0, 1, 2, 3], 2);
+    expect(&rt, &all, a, None, &[(Code::Unresolved, b"d")])?;
+    expect(&rt, &all, b, Some(b"b\0\x01\0"), &[])?;
+    expect(&rt, &all, c, Some(b"c\0\x01\0"), &[])?;
+    expect(&rt, &all, d, None, &[(Code::Circular, b"d")])?;
+    Ok(())
+}

@@ -1,0 +1,63 @@
+-- The plan of all blocks of a list.
+use Rattle.std.proofs.Common.{◌≡◌, ℕ, ◌<◌, length, All, Some, slice_get, sym, ◌∙◌, ap, arith}
+use Rattle.std.proofs.lemmas.List.{length-map}
+use Rattle.std.proofs.lemmas.Option.{same_Some, slice_get_within}
+use Rattle.ti_meaning.specs.Usable.{IsUsable}
+use Rattle.ti_components.specs.Graph.{IsGraph}
+use Rattle.ti_index.specs.Labels.{IsDistinct}
+use Rattle.ti_slots.specs.declared.slots.Slots.{Slots}
+use Rattle.ti_slots.specs.Slots.{blocks_of, reading_at, StandsAt, IsIndexed}
+use Rattle.ti_dependents.specs.declared.dependents.Dependents.{Dependents}
+use Rattle.ti_dependents.specs.Dependents.{AreAllIds, IsGraphOfUses}
+use Rattle.ti_plan.specs.declared.plans.Plan.{Plan}
+use Rattle.ti_plan.specs.Plan.{IsPlanOfAll}
+use Rattle.ti_plan.specs.Settling.{AreFoundIn, IsPlanOf}
+use Rattle.ti_plan.proofs.Places.{block_of, block_at}
+use Rattle.ti_plan.proofs.MadePlans.{contains_at, at_contains}
+
+module _ (slots : Slots) (d : Dependents) (all : AreAllIds slots d.ids.items d.places.items) where
+  -- each position of the list is that of its node
+  placed : (at : ℕ) → at < length slots.order.listed → slice_get d.places.items at ≡ Some at
+  placed at l = all.placed at (let n = ap length all.listed in omega arith)
+
+  own_place : (node at : ℕ) → slice_get d.places.items node ≡ Some at → (node ≡ at) × (at < length slots.order.listed)
+  own_place node at e =
+      let within : node < length slots.order.listed = (let l = slice_get_within d.places.items node at e in let n = ap length all.listed in let m = all.as_many in omega arith) in
+      let same : node ≡ at = same_Some node at (sym (placed node within) ∙ e) in
+      (same, omega arith)
+
+  listed_at : (i id : ℕ) → slice_get d.ids.items i ≡ Some id → StandsAt slots i id
+  listed_at i id e = ap (λ xs. slice_get xs i) (sym all.listed) ∙ e
+
+  stands_within : (at id : ℕ) → StandsAt slots at id → at < length slots.order.listed
+  stands_within at id s = slice_get_within slots.order.listed at id s
+
+  -- they are closed, and there are no others
+  pub all_found : IsIndexed slots → All IsUsable (blocks_of slots) → IsDistinct slots.order.listed → IsGraphOfUses slots d.ids.items d.uses → IsGraph d.uses → AreFoundIn slots d
+  all_found indexed usable distinct graph whole = record {
+    indexed = indexed;
+    usable = usable;
+    distinct = distinct;
+    as_many = all.as_many;
+    stands = λ i id at e f. ap (λ k. slice_get slots.order.listed k) (sym (own_place i at f).0) ∙ listed_at i id e;
+    once = λ i j id e f. distinct i j id (listed_at i id e) (listed_at j id f);
+    closed = λ i at user e u. (user, placed user (let l = slice_get_within (blocks_of slots) user u.0 u.1 in let n = length-map slots.order.listed (reading_at slots.slots.items) in omega arith));
+    graph = graph;
+    whole = whole;
+    others = λ at id s absent. absurd (absent (at_contains d.places.items at at (placed at (stands_within at id s))));
+  }
+
+  pub all_planned : (plan : Plan) → IsDistinct slots.order.listed → IsPlanOf slots d plan → IsPlanOfAll slots plan
+  all_planned plan distinct p = record {
+    listed = ap (λ ids. ids.items) p.ids ∙ all.listed;
+    as_many = p.as_many ∙ ap (λ ids. length ids.items) (sym p.ids);
+    settled = λ i at id one e f s.
+        (let same : i ≡ at = distinct i at id (listed_at i id (ap (λ ids. slice_get ids.items i) (sym p.ids) ∙ e)) s in
+        p.settled i at (block_of slots id) one f (ap (slice_get d.places.items) same ∙ placed at (stands_within at id s)) (block_at slots at id s));
+    rising = p.rising;
+    rebuilt = λ at. (
+      λ c. (let w = contains_at d.places.items at ((p.members at).0 c) in (own_place w.0 at w.1).1),
+      λ l. (p.members at).1 (at_contains d.places.items at at (placed at l)),
+    );
+    steps = p.steps;
+  }

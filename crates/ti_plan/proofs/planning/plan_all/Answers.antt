@@ -1,0 +1,10 @@
+use Rattle.ti_plan.proofs.AllPlans.{all_found, all_planned}
+use Rattle.ti_plan.proofs.planning.plan_all.Goals as goal
+
+pub make_plan-requires : goal.make_plan-requires
+make_plan-requires c =
+    let found = c.in_ok-all.ensures in
+    all_found c.args.slots.now c.in_ok-all.all found.all c.requires.indexed c.requires.usable c.ids-listed.ensures.distinct found.uses found.graph
+
+pub returns : goal.returns
+returns c = all_planned c.args.slots.now c.in_ok-all.all c.in_ok-all.ensures.all c.in_ok-make_plan.field-0 c.ids-listed.ensures.distinct c.in_ok-make_plan.ensures
