@@ -6,7 +6,7 @@ use Rattle.std.proofs.lemmas.Bool.{cases_eq}
 use Rattle.std.proofs.lemmas.List.{length-map, length-set, drop-set-lt}
 use Rattle.std.proofs.lemmas.Option.{same_Some, none-some, slice_get-map, get_or_from_slice_get}
 use Rattle.ti_text.specs.Limits.{blocks_max}
-use Rattle.ti_source.specs.Reading.{Reading, reading_of}
+use Rattle.ti_source.specs.Reading.{reading_of}
 use Rattle.ti_source.specs.Parsing.{reading_of_text}
 use Rattle.ti_meaning.specs.Owner.{is_among}
 use Rattle.ti_meaning.specs.Reaching.{any_use}
@@ -19,9 +19,9 @@ use Rattle.ti_slots.specs.declared.slots.Slots.{Slots}
 use Rattle.ti_slots.specs.Slots.{IsIndexed, StandsAt, slot_at, reading_at, text_at, has_name, uses_name, blocks_of, texts_of}
 use Rattle.ti_slots.specs.Settled.{IsSettled}
 use Rattle.ti_plan.specs.declared.plans.Plan.{Plan}
-use Rattle.ti_plan.specs.Plan.{IsReady, IsPlan}
+use Rattle.ti_plan.specs.Plan.{IsReady, IsPlan, IsPlanOfAll}
 use Rattle.ti_base.specs.Kept.{IsBlockText}
-use Rattle.ti_base.specs.KeptSlots.{AreKept, AreSettled, AreSound, slots_of, reading_seen, text_seen, with_settled, settled_at, settled_all}
+use Rattle.ti_base.specs.KeptSlots.{AreKept, AreRead, AreSettled, AreSound, slots_of, reading_seen, text_seen, with_settled, settled_at, settled_all}
 use Rattle.ti_index.proofs.Lists.{item_at}
 use Rattle.ti_plan.proofs.ItemLists.{drop_item}
 use Rattle.ti_base.proofs.SlotLists.{blocks_seen, length_slots, slot_there, id_there, are_filled}
@@ -229,6 +229,33 @@ kept_installed old new put out plan indexed few sound ready is h = record {
   settled = all_settled old new put out plan ready is h;
 }
 
+-- ---- all blocks are settled by the plan of all
+
+-- the plan has each block of the list
+listed_there : (slots : Slots) (plan : Plan) → IsPlanOfAll slots plan → (at id : ℕ) → StandsAt slots at id → slice_get plan.ids.items at ≡ Some id
+listed_there slots plan is at id s = ap (λ xs. slice_get xs at) is.listed ∙ s
+
+all_settled_once : (old new : Slots) (plan : Plan) → IsPlanOfAll old plan → AreInstalled old new plan.ids.items plan.settled.items → AreSettled (slots_of new)
+all_settled_once old new plan is h at slot e =
+    let t = id_there new at slot e in
+    let w = slot_was old new plan.ids.items plan.settled.items t.0 slot is.as_many h t.2 in
+    let stands : StandsAt old at t.0 = sym (ap (λ o. slice_get o.listed at) h.order) ∙ t.1 in
+    let blocks : blocks_of old ≡ map reading_seen (slots_of new) = sym (blocks_stay old new plan.ids.items plan.settled.items h) ∙ blocks_seen new in
+    let read : reading_at old.slots.items t.0 ≡ reading_of slot.block = ap reading_seen w.was ∙ ap (λ b. reading_of b) (sym w.block) in
+    let here : IsSettled (blocks_of old) at (reading_at old.slots.items t.0) slot.settled = elim w.found [
+      | inl there ↦ is.settled there.0 at t.0 slot.settled there.1 there.2 stands
+      | inr none ↦ absurd (none.1 at (listed_there old plan is at t.0 stands))
+    ] in
+    settled_in (blocks_of old) (map reading_seen (slots_of new)) at (reading_of slot.block) slot.settled blocks (subst (λ r. IsSettled (blocks_of old) at r slot.settled) read here)
+
+pub kept_once : (old new : Slots) (plan : Plan) → AreRead old → IsPlanOfAll old plan → AreInstalled old new plan.ids.items plan.settled.items → AreKept new
+kept_once old new plan read is h = record {
+  indexed = index_stays old new plan.ids.items plan.settled.items h read.indexed;
+  few = (let n : length new.order.listed ≡ length old.order.listed = ap (λ o. length o.listed) h.order in let k = read.few in omega arith);
+  sound = sound_stays old new plan.ids.items plan.settled.items is.as_many h read.sound;
+  settled = all_settled_once old new plan is h;
+}
+
 -- ---- what planning and installing ask
 
 pub all_usable : (slots : Slots) → IsIndexed slots → AreSound (slots_of slots) → All IsUsable (blocks_of slots)
@@ -243,3 +270,9 @@ all_stand slots put out plan h is = λ k d l.
     let id = item_at plan.ids.items k l in
     let at = is.stands k id.0 id.1 in
     subst (λ n. IsSome (slot_at slots.slots.items n)) (sym (get_or_from_slice_get plan.ids.items k id.0 d id.1)) (h.filled at.0 id.0 at.1)
+
+pub all_listed_stand : (slots : Slots) (plan : Plan) → IsIndexed slots → IsPlanOfAll slots plan → All (λ id. IsSome (slot_at slots.slots.items id)) plan.ids.items
+all_listed_stand slots plan h is = λ k d l.
+    let id = item_at plan.ids.items k l in
+    let stands : StandsAt slots k id.0 = ap (λ xs. slice_get xs k) (sym is.listed) ∙ id.1 in
+    subst (λ n. IsSome (slot_at slots.slots.items n)) (sym (get_or_from_slice_get plan.ids.items k id.0 d id.1)) (h.filled k id.0 stands)

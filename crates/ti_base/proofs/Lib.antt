@@ -10,3 +10,4 @@ pub mod KeptFaults
 pub mod NoDuplicates
 pub mod SlotFaults
 pub mod SlotEntries
+pub mod TakenTexts

@@ -39,7 +39,13 @@ AreSound listed = (at : ℕ) (slot : Slot) → slice_get listed at ≡ Some (Som
 abbrev pub AreSettled : List (Option Slot) → Type 0
 AreSettled listed = (at : ℕ) (slot : Slot) → slice_get listed at ≡ Some (Some slot) → IsSettled (map reading_seen listed) at (reading_of slot.block) slot.settled
 
--- at most 65,535 blocks, indexed, each read from its text and settled
+-- at most 65,535 blocks, indexed, each read from its text
+pub record AreRead (slots : Slots) : Type 0 where
+  pub indexed : IsIndexed slots
+  pub few : length slots.order.listed ≤ blocks_max
+  pub sound : AreSound (slots_of slots)
+
+-- the same, and settled
 pub record AreKept (slots : Slots) : Type 0 where
   pub indexed : IsIndexed slots
   pub few : length slots.order.listed ≤ blocks_max

@@ -6,4 +6,5 @@ pub use Rattle.ti_meaning.specs.Report
 pub use Rattle.ti_meaning.specs.Edits
 pub mod Kept
 pub mod KeptSlots
+pub mod Loading
 pub mod Told

@@ -1,21 +1,22 @@
 // The edited source: its blocks under stable ids, with what was found out about each.
-ghost use Rattle.std.specs.Prelude.{◌≡◌, ◌<◌, ◌≤◌, [], length, map, slice_get, Some, option_map, IfOk, IfErr, OnOk};
+ghost use Rattle.std.specs.Prelude.{◌≡◌, ◌<◌, ◌≤◌, ◌⊎◌, [], length, map, slice_get, Some, option_map, IfOk, IfErr, OnOk};
 ghost use Rattle.std.specs.Rc.{rc_slice_items};
-ghost use Rattle.ti_base.specs.Kept.{IsBlockText, IsTextRefusal};
-ghost use Rattle.ti_base.specs.KeptSlots.{IsSoundSlot};
+ghost use Rattle.ti_base.specs.Loading.{AreTaken, IsLoadRefusal};
 ghost use Rattle.ti_meaning.specs.Edits.{Run, change_of};
+ghost use Rattle.ti_meaning.specs.declared.edits.EditError.TheVariants.{Memory};
 
 use crate::faults::source_faults;
+use crate::loading::load_slots;
 use crate::owners::{find_owner, slot_of};
 use crate::report::write_report;
 use crate::slot_edits::{insert_slot, move_slot, remove_slot, replace_slot};
+use crate::texts::{check_text, read_slot};
 use std::alloc::{AllocError, Global};
 use std::marker::Model;
 use std::rc::RcSlice;
 use ti_meaning::{Edit, EditError, Edited, Fault, Outcome};
-use ti_slots::{Settled, Slot, Slots, State};
-use ti_source::{is_block, parse};
-use ti_text::limits::{BLOCK_BYTES_MAX, BLOCKS_MAX};
+use ti_slots::{Slots, State};
+use ti_text::limits::BLOCKS_MAX;
 
 /// A source of terminal descriptions as a list of blocks, which edits change one by one. It knows
 /// the compiled entry of each block and all faults, which are those of the whole current source
@@ -39,40 +40,6 @@ impl Model for Database {
     ghost invariant = { λ d. AreKept d.slots };
 }
 
-/// The text of a block within the limit, copied, with the block as it is read; nothing is found out
-/// about it yet.
-fn read_slot(alloc: Global, text: &[u8]) -> Result<Slot, AllocError>
-    requires { IsBlockText text.now }
-    ensures text { IfOk result (λ slot. slot.text.items ≡ text.now) }
-    ensures sound { IfOk result IsSoundSlot }
-{
-    let block = parse(alloc, text)?;
-    let text = Vec::from_slice(alloc, text)?;
-    let settled = Settled {
-        state: State::Unresolved,
-        faults: Vec::new(alloc),
-    };
-    Ok(Slot {
-        text,
-        block,
-        settled,
-    })
-}
-
-/// Refuses a text that is too long, or no single block.
-fn check_text(text: &[u8]) -> Result<(), EditError>
-    ensures ok { OnOk result (IsBlockText text.now) }
-    ensures err { IfErr result (IsTextRefusal text.now) }
-{
-    if text.len() > BLOCK_BYTES_MAX {
-        return Err(EditError::TooLong);
-    }
-    if !is_block(text) {
-        return Err(EditError::NotOneBlock);
-    }
-    Ok(())
-}
-
 impl Database {
     ghost use Rattle.ti_meaning.specs.Owner.{owner, readings};
     ghost use Rattle.ti_meaning.specs.Compiled.{compiled};
@@ -89,6 +56,20 @@ impl Database {
             alloc,
             slots: Slots::new(alloc),
         }
+    }
+
+    /// The source of these blocks, in their order, made in one go: what inserting each at the end
+    /// gives, in a time that is linear, up to a logarithm, in what the blocks say and in the values
+    /// that they have. The refusals are those of `insert`, of the first block that is refused:
+    /// `TooLong`, `NotOneBlock`, `TooMany`; and `Memory`, at any block and after the last, where a
+    /// growth was refused.
+    pub fn load(alloc: Global, texts: &[&[u8]]) -> Result<Database, EditError>
+        ensures loaded { IfOk result (λ d. d ≡ map (λ text. text.now) texts.now) }
+        ensures taken { OnOk result (AreTaken (map (λ text. text.now) texts.now)) }
+        ensures refused { IfErr result (λ error. (error ≡ Memory) ⊎ IsLoadRefusal (map (λ text. text.now) texts.now) error) }
+    {
+        let slots = load_slots(alloc, texts)?;
+        Ok(Database { alloc, slots })
     }
 
     /// How many blocks there are.

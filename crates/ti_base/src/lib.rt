@@ -3,6 +3,8 @@
 //! What that is stands in `ti_meaning`, whose edits and faults are public here again.
 //!
 //! - `database`: the edited source, and a run of edits
+//! - `loading`: the blocks of a source taken in one go
+//! - `texts`: which texts of blocks are refused, and what is read from one
 //! - `slot_edits`: the edits of its blocks, taken back where memory is short
 //! - `rebuilding`: what an edit rebuilds, put into the slots of the blocks
 //! - `owners`: whose a name is
@@ -12,10 +14,12 @@
 
 mod database;
 mod faults;
+mod loading;
 mod owners;
 mod rebuilding;
 mod report;
 mod slot_edits;
+mod texts;
 
 pub use database::{Database, run};
 pub use report::write_fault;

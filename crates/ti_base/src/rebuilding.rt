@@ -1,4 +1,5 @@
-// What an edit rebuilds: the plan of it, and what the plan found out put into the slots.
+// What an edit rebuilds, or a list that is made in one go: the plan of it, and what the plan found out
+// put into the slots.
 ghost use Rattle.std.specs.Prelude.{◌≡◌, ◌≤◌, ℕ, List, Option, Some, All, IsSome, map, length, IfOk, OnOk, OnErr};
 ghost use Rattle.std.specs.Rc.{rc_slice_items};
 ghost use Rattle.ti_text.specs.Limits.{blocks_max};
@@ -7,13 +8,13 @@ ghost use Rattle.ti_meaning.specs.Dependents.{AreDependents, work};
 ghost use Rattle.ti_slots.specs.Slots.{IsIndexed, StandsAt, slot_at, blocks_of, texts_of};
 ghost use Rattle.ti_dependents.specs.Dependents.{IsExchangeOf};
 ghost use Rattle.ti_plan.specs.Plan.{IsReady};
-ghost use Rattle.ti_base.specs.KeptSlots.{AreKept, AreSound, slots_of, settled_at, settled_all};
+ghost use Rattle.ti_base.specs.KeptSlots.{AreKept, AreRead, AreSound, slots_of, settled_at, settled_all};
 
 use std::alloc::{AllocError, Global};
 use std::mem;
 use std::rc::RcSlice;
 use ti_meaning::Edited;
-use ti_plan::{Plan, plan};
+use ti_plan::{Plan, plan, plan_all};
 use ti_slots::{Settled, Slot, Slots};
 
 /// Exchanges what was found out about a block.
@@ -67,4 +68,17 @@ pub(crate) fn rebuild(
 {
     let plan = plan(alloc, slots, put, out)?;
     Ok(install(slots, plan))
+}
+
+/// Finds out what there is to find out about each block of a list that is made in one go. At an error
+/// all is as before.
+pub(crate) fn rebuild_all(alloc: Global, slots: &mut Slots) -> Result<(), AllocError>
+    requires { AreRead slots.old }
+    ensures kept { OnOk result (AreKept slots.new) }
+    ensures texts { OnOk result (texts_of slots.new ≡ texts_of slots.old) }
+    ensures err { OnErr result (slots.new ≡ slots.old) }
+{
+    let plan = plan_all(alloc, slots)?;
+    install(slots, plan);
+    Ok(())
 }

@@ -38,7 +38,7 @@ fn forget(slots: &mut Slots, block: &Parsed)
 }
 
 /// Puts a slot into the list, and gives the id of its block. It takes no memory.
-fn put_slot(slots: &mut Slots, at: usize, slot: Slot) -> u32
+pub(crate) fn put_slot(slots: &mut Slots, at: usize, slot: Slot) -> u32
     requires indexed { IsIndexed slots.old }
     requires within { at ≤ length slots.old.order.listed }
     requires room { HasRoomFor slots.old (reading_of slot.block) }

@@ -1,0 +1,13 @@
+use Rattle.std.proofs.Common.{◌≡◌, map, take}
+use Rattle.ti_slots.specs.Slots.{texts_of}
+use Rattle.ti_base.specs.KeptSlots.{AreRead}
+use Rattle.ti_base.specs.Loading.{AreTaken}
+use Rattle.ti_base.proofs.loading.read_slots.Given as goal
+
+-- the texts before are in their slots
+abbrev pub invariant-loop-text : goal.invariant-loop-text
+invariant-loop-text l = record {
+  read : AreRead l.slots;
+  texts : texts_of l.slots ≡ take l.text-index (map (λ text. text.now) l.texts);
+  taken : AreTaken (take l.text-index (map (λ text. text.now) l.texts));
+}

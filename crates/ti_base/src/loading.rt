@@ -1,0 +1,64 @@
+// The blocks of a source taken in one go: all are read and indexed, and then what there is to find out
+// about them is found once.
+ghost use Rattle.std.specs.Prelude.{◌≡◌, ◌<◌, ◌⊎◌, ◌++◌, ◌∷◌, [], length, map, IfErr, IfOk, OnOk};
+ghost use Rattle.ti_text.specs.Limits.{blocks_max};
+ghost use Rattle.ti_meaning.specs.declared.edits.EditError.TheVariants.{Memory};
+ghost use Rattle.ti_slots.specs.Slots.{texts_of};
+ghost use Rattle.ti_base.specs.KeptSlots.{AreKept, AreRead, IsSoundSlot};
+ghost use Rattle.ti_base.specs.Loading.{AreTaken, IsLoadRefusal};
+
+use crate::rebuilding::rebuild_all;
+use crate::slot_edits::put_slot;
+use crate::texts::{check_text, read_slot};
+use std::alloc::{AllocError, Global};
+use ti_meaning::EditError;
+use ti_slots::{Slot, Slots};
+use ti_text::limits::BLOCKS_MAX;
+
+/// Puts a slot in at the end of the list.
+fn append_slot(slots: &mut Slots, slot: Slot) -> Result<(), AllocError>
+    requires read { AreRead slots.old }
+    requires few { length slots.old.order.listed < blocks_max }
+    requires sound { IsSoundSlot slot }
+    ensures read { OnOk result (AreRead slots.new) }
+    ensures texts { OnOk result (texts_of slots.new ≡ texts_of slots.old ++ slot.text.items ∷ []) }
+{
+    slots.make_room(&slot.block)?;
+    let end = slots.order.ids().len();
+    put_slot(slots, end, slot);
+    Ok(())
+}
+
+/// A slot for each of the texts, in their order; nothing is found out about a block yet.
+fn read_slots(alloc: Global, texts: &[&[u8]]) -> Result<Slots, EditError>
+    ensures read { IfOk result AreRead }
+    ensures texts { IfOk result (λ slots. texts_of slots ≡ map (λ text. text.now) texts.now) }
+    ensures taken { OnOk result (AreTaken (map (λ text. text.now) texts.now)) }
+    ensures refused { IfErr result (λ error. (error ≡ Memory) ⊎ IsLoadRefusal (map (λ text. text.now) texts.now) error) }
+{
+    let mut slots = Slots::new(alloc);
+    for text in texts {
+        check_text(text)?;
+        if slots.order.ids().len() >= BLOCKS_MAX {
+            return Err(EditError::TooMany);
+        }
+        let slot = read_slot(alloc, text)?;
+        append_slot(&mut slots, slot)?;
+    }
+    Ok(slots)
+}
+
+/// The slots of a source of these blocks.
+pub(crate) fn load_slots(alloc: Global, texts: &[&[u8]]) -> Result<Slots, EditError>
+    ensures kept { IfOk result AreKept }
+    ensures texts { IfOk result (λ slots. texts_of slots ≡ map (λ text. text.now) texts.now) }
+    ensures taken { OnOk result (AreTaken (map (λ text. text.now) texts.now)) }
+    ensures refused { IfErr result (λ error. (error ≡ Memory) ⊎ IsLoadRefusal (map (λ text. text.now) texts.now) error) }
+{
+    let mut slots = read_slots(alloc, texts)?;
+    rebuild_all(alloc, &mut slots)?;
+    Ok(slots)
+}
+
+#[cfg(test)]
+mod tests;

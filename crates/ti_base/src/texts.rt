@@ -1,0 +1,44 @@
+// Texts of blocks: which of them are refused, and a text read into a slot.
+ghost use Rattle.std.specs.Prelude.{◌≡◌, IfOk, IfErr, OnOk};
+ghost use Rattle.ti_base.specs.Kept.{IsBlockText, IsTextRefusal};
+ghost use Rattle.ti_base.specs.KeptSlots.{IsSoundSlot};
+
+use std::alloc::{AllocError, Global};
+use ti_meaning::EditError;
+use ti_slots::{Settled, Slot, State};
+use ti_source::{is_block, parse};
+use ti_text::limits::BLOCK_BYTES_MAX;
+
+/// The text of a block within the limit, copied, with the block as it is read; nothing is found out
+/// about it yet.
+pub(crate) fn read_slot(alloc: Global, text: &[u8]) -> Result<Slot, AllocError>
+    requires { IsBlockText text.now }
+    ensures text { IfOk result (λ slot. slot.text.items ≡ text.now) }
+    ensures sound { IfOk result IsSoundSlot }
+{
+    let block = parse(alloc, text)?;
+    let text = Vec::from_slice(alloc, text)?;
+    let settled = Settled {
+        state: State::Unresolved,
+        faults: Vec::new(alloc),
+    };
+    Ok(Slot {
+        text,
+        block,
+        settled,
+    })
+}
+
+/// Refuses a text that is too long, or no single block.
+pub(crate) fn check_text(text: &[u8]) -> Result<(), EditError>
+    ensures ok { OnOk result (IsBlockText text.now) }
+    ensures err { IfErr result (IsTextRefusal text.now) }
+{
+    if text.len() > BLOCK_BYTES_MAX {
+        return Err(EditError::TooLong);
+    }
+    if !is_block(text) {
+        return Err(EditError::NotOneBlock);
+    }
+    Ok(())
+}
