@@ -1,8 +1,9 @@
--- What a database holds after the blocks of a source were put in at its end, and what a newline at the end changes.
-use Rattle.std.proofs.Common.{◌≡◌, ◌⊎◌, ℕ, suc, ◌+◌, ◌<◌, ◌≤◌, ◌==◌, inl, inr, Bool, true, false, All, List, [], ◌∷◌, ◌++◌, Some, None, Ok, length, insert, refl, sym, ap, ◌∙◌, subst, arith}
+-- What a database holds that the blocks of a source were put in, each at its end, and what a newline at the end changes.
+use Rattle.std.proofs.Common.{◌≡◌, ◌⊎◌, ℕ, zero, suc, ◌+◌, ◌<◌, ◌≤◌, ◌==◌, inl, inr, Bool, true, false, All, List, [], ◌∷◌, ◌++◌, Some, None, Ok, length, insert, take, drop, slice_get, refl, sym, ap, ◌∙◌, subst, arith}
 use Rattle.std.specs.Option.{IsSome}
 use Rattle.std.proofs.lemmas.Bool.{le-leb, le-ltb, lt-leb, lt-ltb}
-use Rattle.std.proofs.lemmas.List.{append-nil, append_assoc, length-append}
+use Rattle.std.proofs.lemmas.List.{append-nil, append_assoc, length-append, length-take-le, take_at}
+use Rattle.std.proofs.lemmas.Option.{none-some, same_Some, slice_get_within}
 use Rattle.std.proofs.lemmas.List.Elements.{All-head, All-tail}
 use Rattle.std.proofs.Math.Seq.{drop-length, take-length}
 use Rattle.ti_source.specs.Blocks.{OneBlock, blocks_of, front_of, last_byte}
@@ -10,6 +11,7 @@ use Rattle.ti_source.specs.Lines.{line_count}
 use Rattle.ti_meaning.specs.Edits.{IsRefusal, IsSoundEdit, after, insertion}
 use Rattle.ti_meaning.specs.declared.edits.EditError.{EditError}
 use Rattle.ti_meaning.specs.declared.edits.EditError.TheVariants.{Position, TooLong, NotOneBlock, TooMany, Memory}
+use Rattle.ti_base.specs.Loading.{AreTaken, IsLoadRefusal}
 use Rattle.ti_tools.specs.Sources.{preface_of, refusal_after, refusal_within, source_refusal, with_last_newline}
 use Rattle.ti_tools.specs.Tic.{compilation, refusal_or, tic_result}
 use Rattle.ti_tools.proofs.Ending.{ended-of_newline, last_byte-newline}
@@ -48,6 +50,22 @@ put_to_next source texts next text rest put sound is_next =
       single = All-tail OneBlock text rest put.single;
     })
 
+-- so many more of them are put in, each of which is taken
+put_to_after : (source : List ℕ) (seen front back : List (List ℕ)) → IsPutTo source seen (front ++ back) → AreTaken (seen ++ front) → IsPutTo source (seen ++ front) back
+put_to_after source seen [] back put taken = rw (append-nil seen) put
+put_to_after source seen (text ∷ front) back put taken =
+    let here : slice_get (seen ++ text ∷ front) (length seen) ≡ Some text = get_middle seen text front in
+    let before : take (length seen) (seen ++ text ∷ front) ≡ seen = take_at seen (text ∷ front) (length seen) refl in
+    let sound : IsSoundEdit seen (insertion (length seen) text) = subst (λ (ts : List (List ℕ)). IsSoundEdit ts (insertion (length seen) text)) before (taken (length seen) text here) in
+    let next = put_to_next source seen (seen ++ text ∷ []) text (front ++ back) put sound (sym (insert-end seen text)) in
+    let more : (seen ++ text ∷ []) ++ front ≡ seen ++ text ∷ front = append_assoc seen (text ∷ []) front in
+    subst (λ (ts : List (List ℕ)). IsPutTo source ts back) more
+    (put_to_after source (seen ++ text ∷ []) front back next (subst AreTaken (sym more) taken))
+  where
+    get_middle : (xs : List (List ℕ)) (x : List ℕ) (ys : List (List ℕ)) → slice_get (xs ++ x ∷ ys) (length xs) ≡ Some x
+    get_middle [] x ys = refl
+    get_middle (y ∷ xs) x ys = get_middle xs x ys
+
 -- all are put in
 pub put_to_end : (source : List ℕ) (texts : List (List ℕ)) → IsPutTo source texts [] → (texts ≡ blocks_of 10 source) × (source_refusal source ≡ None)
 put_to_end source texts put = (sym (append-nil texts) ∙ put.whole, put.same)
@@ -65,6 +83,34 @@ put_to_refusal source texts text rest TooMany put refused =
     let full : 65535 ≤ length texts = let no : ¬ (length texts < 65535) = refused.3 in omega arith in
     inr (rw (put.same, le-ltb 1048576 (length text) short, le-leb 65535 (length texts) full))
 put_to_refusal source texts text rest Memory put refused = inl refl
+
+-- ---- a database of all blocks
+
+split_at : (xs : List (List ℕ)) (at : ℕ) (x : List ℕ) → slice_get xs at ≡ Some x → take at xs ++ x ∷ drop (suc at) xs ≡ xs
+split_at [] at x e = absurd (none-some x e)
+split_at (y ∷ ys) zero x e = ap (λ z. z ∷ ys) (sym (same_Some y x e))
+split_at (y ∷ ys) (suc at) x e = ap (λ zs. y ∷ zs) (split_at ys at x e)
+
+put_to_blocks : (source : List ℕ) (front back : List (List ℕ)) → last_byte 10 source ≡ 10 → All OneBlock (blocks_of 10 source) → front ++ back ≡ blocks_of 10 source → AreTaken front → IsPutTo source front back
+put_to_blocks source front back is_ended single whole taken =
+    put_to_after source [] front back (subst (λ (rest : List (List ℕ)). IsPutTo source [] rest) (sym whole) (put_to_start source is_ended single)) taken
+
+pub load_sound : (source : List ℕ) (texts : List (List ℕ)) → last_byte 10 source ≡ 10 → All OneBlock (blocks_of 10 source) → texts ≡ blocks_of 10 source → AreTaken texts → source_refusal source ≡ None
+load_sound source texts is_ended single whole taken =
+    (put_to_end source texts (put_to_blocks source texts [] is_ended single (append-nil texts ∙ whole) taken)).1
+
+pub load_refused : (source : List ℕ) (texts : List (List ℕ)) (error : EditError) → last_byte 10 source ≡ 10 → All OneBlock (blocks_of 10 source) → texts ≡ blocks_of 10 source
+    → (error ≡ Memory) ⊎ IsLoadRefusal texts error → (error ≡ Memory) ⊎ IsSome (source_refusal source)
+load_refused source texts error is_ended single whole (inl memory) = inl memory
+load_refused source texts error is_ended single whole (inr r) =
+    let at = r.at in
+    let within = slice_get_within texts at r.text r.stands in
+    let front : length (take at texts) ≡ at = length-take-le at texts (omega arith) in
+    let put = put_to_blocks source (take at texts) (r.text ∷ drop (suc at) texts) is_ended single (split_at texts at r.text r.stands ∙ whole) r.before in
+    put_to_refusal source (take at texts) r.text (drop (suc at) texts) error put
+    (subst (λ (k : ℕ). IsRefusal (take at texts) (insertion k r.text) error) (sym front) r.refused)
+
+-- ---- a newline at the end
 
 -- what comes of a source that ends with a newline and is not refused
 pub result-ended : (source : List ℕ) (check : Bool) (dir : List ℕ) → last_byte 10 source ≡ 10 → source_refusal source ≡ None

@@ -10,7 +10,7 @@ ghost use Rattle.ti_meaning.specs.Faults.{fault_seen};
 ghost use Rattle.ti_tools.specs.Tic.{IsTicAnswer, compilation, compilation_of, status_of, tic_result};
 
 use crate::entry_files::entry_files;
-use crate::insertions::database_of;
+use crate::loading::database_of;
 use crate::outcome::{TicOptions, TicOutcome};
 use crate::sources::{check, is_ended, lines};
 use std::alloc::{AllocError, Global};

@@ -1,7 +1,7 @@
 //! The tools over terminfo entries, over any files and streams: what a tool makes of its input.
 //!
-//! - `compiling`: what `tic` makes of a source: files, a report and a status. `insertions` puts the blocks
-//!   into a database, `entry_files` names the files of the entries, and `sources` says why a source is refused
+//! - `compiling`: what `tic` makes of a source: files, a report and a status. `loading` makes a
+//!   database of the blocks, `entry_files` names the files of the entries, and `sources` says why a source is refused
 //! - `listings`: what `infocmp` prints of entries
 //! - `stopping`: how a tool that stops ends: its status, and the line on standard error
 //! - `laws`: that the listing of an entry, and its relative source, compile back to the entry
@@ -13,9 +13,9 @@
 
 pub mod compiling;
 mod entry_files;
-mod insertions;
 pub mod laws;
 mod listings;
+mod loading;
 mod outcome;
 mod sources;
 pub mod stopping;

@@ -1,13 +1,25 @@
 //! A database of all blocks of a source.
-ghost use Rattle.std.specs.Prelude.{◌≡◌, ◌⊎◌, IfErr, IfOk, IsSome, None, OnOk};
+ghost use Rattle.std.specs.Prelude.{◌≡◌, ◌⊎◌, IfErr, IfOk, IsSome, None, OnOk, map};
 ghost use Rattle.ti_text.specs.Ascii as ascii;
 ghost use Rattle.ti_source.specs.Blocks.{blocks_of, last_byte};
 ghost use Rattle.ti_meaning.specs.declared.edits.EditError.TheVariants.{Memory};
 ghost use Rattle.ti_tools.specs.Sources.{source_refusal};
 
-use std::alloc::Global;
+use std::alloc::{AllocError, Global};
 use ti_base::{Database, EditError};
 use ti_source::{blocks, blocks_are_single, each_has_cut};
+
+// The texts of the blocks of a source.
+fn block_texts(alloc: Global, source: &[u8]) -> Result<Vec<&[u8]>, AllocError>
+    ensures { IfOk result (λ texts. map (λ text. text.now) texts.items ≡ blocks_of ascii.newline source.now) }
+{
+    let mut texts = Vec::new(alloc);
+    let mut cut = blocks(source);
+    while let Some(text) = cut.next() {
+        texts.push(text)?;
+    }
+    Ok(texts)
+}
 
 /// A database that holds the blocks of a source in their order. It takes the blocks of each source
 /// that is not refused, and of no other.
@@ -23,11 +35,6 @@ pub fn database_of(alloc: Global, source: &[u8]) -> Result<Database, EditError>
 {
     each_has_cut();
     blocks_are_single();
-    let mut database = Database::new(alloc);
-    let mut cut = blocks(source);
-    while let Some(text) = cut.next() {
-        let end = database.len();
-        database.insert(end, text)?;
-    }
-    Ok(database)
+    let texts = block_texts(alloc, source)?;
+    Database::load(alloc, &texts)
 }

@@ -1,16 +1,21 @@
-use Rattle.std.proofs.Common.{List, ℕ, subst}
-use Rattle.ti_source.specs.Blocks.{blocks_of}
-use Rattle.ti_tools.proofs.Inserting.{IsPutTo, put_to_next, put_to_start}
-use Rattle.ti_tools.proofs.insertions.database_of.Goals as goal
+use Rattle.std.proofs.Common.{◌≡◌, map, All, sym, ◌∙◌, ap}
+use Rattle.std.proofs.lemmas.Result.{IfErr-weaker, on_ok_weaker}
+use Rattle.ti_source.specs.Blocks.{OneBlock, blocks_of}
+use Rattle.ti_meaning.specs.declared.edits.EditError.TheVariants.{Memory}
+use Rattle.ti_base.specs.Loading.{AreTaken, IsLoadRefusal}
+use Rattle.ti_tools.proofs.Inserting.{load_refused, load_sound}
+use Rattle.ti_tools.proofs.loading.database_of.Goals as goal
 
-pub loop-text-init : goal.loop-text-init
-loop-text-init c =
+pub returns-clause-sound : goal.returns-clause-sound
+returns-clause-sound c =
     let source = c.args.source.now in
-    let single = c.blocks_are_single.ensures source _ (blocks_of 10 source) c.requires (c.each_has_cut.ensures source) in
-    rw (c.new-database.ensures, c.blocks-cut.ensures.blocks) (put_to_start source c.requires single)
+    let single : All OneBlock (blocks_of 10 source) = c.blocks_are_single.ensures source _ (blocks_of 10 source) c.requires (c.each_has_cut.ensures source) in
+    let whole = ap (map (λ text. text.now)) c.deref.ensures.value ∙ c.in_ok-texts.ensures in
+    on_ok_weaker c.load.result (load_sound source _ c.requires single whole) c.load.ensures.taken
 
-pub loop-text-preserved : goal.loop-text-preserved
-loop-text-preserved c =
-    let now = subst (λ (rest : List (List ℕ)). IsPutTo c.args.source.now c.loop-text.database rest) c.in-Some.ensures.steps.0 c.loop-text.invariant in
-    let step = rw c.len-end.ensures at c.in_ok-insert.ensures.step in
-    put_to_next c.args.source.now c.loop-text.database _ c.in-Some.text.now _ now step.0 step.1
+pub returns-clause-refused : goal.returns-clause-refused
+returns-clause-refused c =
+    let source = c.args.source.now in
+    let single : All OneBlock (blocks_of 10 source) = c.blocks_are_single.ensures source _ (blocks_of 10 source) c.requires (c.each_has_cut.ensures source) in
+    let whole = ap (map (λ text. text.now)) c.deref.ensures.value ∙ c.in_ok-texts.ensures in
+    IfErr-weaker c.load.result _ _ (λ error. load_refused source _ error c.requires single whole) c.load.ensures.refused
