@@ -1,14 +1,14 @@
-"""Sources whose compiling takes more than a time linear in their length, and why.
+"""Sources whose owners come late, which would take the square of their length were each block put in by itself.
 
-Blocks are put in one by one, and each rebuilds the blocks that depend on it. Where every block has
-many before it that wait for its name, the blocks that are rebuilt grow with the square of the source.
+`tic` takes the blocks of a source in one go, and finds out about each of them once. An edit of a session rebuilds
+the blocks that depend on it, so a session that puts these blocks in one by one takes that square.
 """
 
 from registry import case
 
 
 def owners_last(count):
-    """A chain in which each block uses the one after it: each that is put in rebuilds all before it."""
+    """A chain in which each block uses the one after it."""
     return [b"b%d,use=b%d,\n" % (at, at + 1) for at in range(count - 1)] + [b"b%d,cols#1,\n" % (count - 1)]
 
 
@@ -18,24 +18,14 @@ def late_owners(users, owners):
     return blocks, b"".join(b"%d: W4 DuplicateName n\n" % (users + at + 1) for at in range(1, owners))
 
 
-@case("chain of 1,000 whose owners come last, compiled")
-def owners_last_short(take):
-    return take.tic(owners_last(1_000), b"")
+@case("chain of 65,535 whose owners come last, compiled")
+def owners_last_full(take):
+    return take.tic(owners_last(65_535), b"")
 
 
-@case("chain of 8,000 whose owners come last, compiled", long=True)
-def owners_last_long(take):
-    return take.tic(owners_last(8_000), b"")
-
-
-@case("1,000 users of a name, and then 1,000 blocks that have it, compiled")
-def late_owners_short(take):
-    return take.tic(*late_owners(1_000, 1_000))
-
-
-@case("4,000 users of a name, and then 4,000 blocks that have it, compiled", long=True)
-def late_owners_long(take):
-    return take.tic(*late_owners(4_000, 4_000))
+@case("20,000 users of a name, and then 20,000 blocks that have it, compiled")
+def late_owners_full(take):
+    return take.tic(*late_owners(20_000, 20_000))
 
 
 @case("a block with 170,000 uses of a name, and then 20 blocks that have it, compiled")
