@@ -76,7 +76,7 @@ fn what_is_loaded_is_what_is_inserted(rt: HostRuntime) -> Result<(), Fail> {
 /// A block of a name and a comment, so many bytes in all.
 fn with_comment(alloc: Global, count: usize) -> Result<Vec<u8>, Fail> {
     let mut text = Vec::from_slice(alloc, b"x,\n#")?;
-    while text.len() < count.saturating_sub(1) {
+    for _ in 5..count {
         text.push(b'-')?;
     }
     text.push(b'\n')?;
@@ -92,20 +92,23 @@ fn blocks_of_one_name(alloc: Global, count: usize) -> Result<Vec<&'static [u8]>,
     Ok(texts)
 }
 
+/// A load of these blocks is refused so, or not at all.
+fn expect_refusal(rt: &impl Abort, alloc: Global, texts: &[&[u8]], want: Option<EditError>) {
+    assert_eq!(rt; Database::load(alloc, texts).err(), want);
+}
+
 #[test]
 fn the_first_refusal(rt: HostRuntime) -> Result<(), Fail> {
-    let longest = with_comment(rt.alloc(), 1_048_576)?;
-    let longer = with_comment(rt.alloc(), 1_048_577)?;
-    let cases: [(&[&[u8]], Option<EditError>); 5] = [
-        (&[b"a,\n", &longest], None),
-        (&[b"a,\n", &longer, b""], Some(EditError::TooLong)),
-        (&[b"a,\n", b"", &longer], Some(EditError::NotOneBlock)),
-        (&[b"a,\nb,\n"], Some(EditError::NotOneBlock)),
-        (&[b"a,"], Some(EditError::NotOneBlock)),
-    ];
-    for (texts, want) in cases {
-        assert_eq!(rt; Database::load(rt.alloc(), texts).err(), want);
-    }
+    let alloc = rt.alloc();
+    let longest = with_comment(alloc, 1_048_576)?;
+    let longer = with_comment(alloc, 1_048_577)?;
+    let long = Some(EditError::TooLong);
+    let none = Some(EditError::NotOneBlock);
+    expect_refusal(&rt, alloc, &[b"a,\n", longest.as_slice()], None);
+    expect_refusal(&rt, alloc, &[b"a,\n", longer.as_slice(), b""], long);
+    expect_refusal(&rt, alloc, &[b"a,\n", b"", longer.as_slice()], none);
+    expect_refusal(&rt, alloc, &[b"a,\nb,\n"], none);
+    expect_refusal(&rt, alloc, &[b"a,"], none);
     Ok(())
 }
 
