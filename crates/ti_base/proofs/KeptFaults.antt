@@ -16,7 +16,7 @@ use Rattle.ti_meaning.specs.KeptBlocks.{is_duplicate, is_no_duplicate, lasting_f
 use Rattle.ti_slots.specs.declared.slots.KeptFault.{KeptFault}
 use Rattle.ti_slots.specs.Settled.{fault_at}
 use Rattle.ti_base.proofs.Lists.{drop_get}
-use Rattle.ti_base.proofs.NoDuplicates.{AreOthers}
+use Rattle.ti_meaning.proofs.NoDuplicates.{AreOthers}
 
 -- ---- no other fault is of a name that an earlier block owns
 

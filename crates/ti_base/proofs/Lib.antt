@@ -7,7 +7,7 @@ pub mod Installing
 pub mod Exchanges
 pub mod Telling
 pub mod KeptFaults
-pub mod NoDuplicates
 pub mod SlotFaults
 pub mod SlotEntries
 pub mod TakenTexts
+pub mod LoadRefusals

@@ -9,7 +9,7 @@ use Rattle.ti_slots.specs.Slots.{blocks_of}
 use Rattle.ti_slots.specs.Settled.{fault_at}
 use Rattle.ti_base.specs.KeptSlots.{AreKept, slots_of, reading_seen}
 use Rattle.ti_base.proofs.SlotLists.{blocks_seen}
-use Rattle.ti_base.proofs.NoDuplicates.{AreOthers, read_others}
+use Rattle.ti_meaning.proofs.NoDuplicates.{AreOthers, read_others}
 
 pub block_of_slot : (slots : Slots) (at : ℕ) (slot : Slot) → slice_get (slots_of slots) at ≡ Some (Some slot) → slice_get (blocks_of slots) at ≡ Some (reading_of slot.block)
 block_of_slot slots at slot e = ap (λ bs. slice_get bs at) (blocks_seen slots) ∙ (rw (slice_get-map reading_seen (slots_of slots) at, e) refl)

@@ -1,6 +1,7 @@
 -- Which lists of texts a source is made of in one go, and why another is refused (own).
-use Rattle.std.specs.Prelude.{ℕ, ◌≡◌, List, take, Some, slice_get}
+use Rattle.std.specs.Prelude.{ℕ, ◌≡◌, ◌≢◌, List, take, Some, slice_get}
 use Rattle.ti_meaning.specs.declared.edits.EditError.{EditError}
+use Rattle.ti_meaning.specs.declared.edits.EditError.TheVariants.{Memory}
 use Rattle.ti_meaning.specs.Edits.{insertion, IsRefusal, IsSoundEdit}
 
 -- each of the texts can be put in at the end of those before it
@@ -14,3 +15,14 @@ pub record IsLoadRefusal (texts : List (List ℕ)) (error : EditError) : Type 0 
   pub stands : slice_get texts at ≡ Some text
   pub before : AreTaken (take at texts)
   pub refused : IsRefusal (take at texts) (insertion at text) error
+
+-- ---- the refusal is determined
+
+-- apart from want of memory, texts are refused for one cause alone
+abbrev pub LoadsHaveOneRefusal : Type 0
+LoadsHaveOneRefusal = (texts : List (List ℕ)) (cause other : EditError)
+    → IsLoadRefusal texts cause → IsLoadRefusal texts other → cause ≢ Memory → other ≢ Memory → cause ≡ other
+
+-- texts of which each can be put in are not refused for another cause than want of memory
+abbrev pub TakenLoadsAreNotRefused : Type 0
+TakenLoadsAreNotRefused = (texts : List (List ℕ)) (cause : EditError) → AreTaken texts → IsLoadRefusal texts cause → cause ≢ Memory → ⊥

@@ -8,12 +8,14 @@
 //! - `slot_edits`: the edits of its blocks, taken back where memory is short
 //! - `rebuilding`: what an edit rebuilds, put into the slots of the blocks
 //! - `owners`: whose a name is
+//! - `laws`: what is so of the definitions of this crate
 //! - `faults`: what is wrong with a source
 //! - `report`: a fault as text
 #![tactic(auto)]
 
 mod database;
 mod faults;
+mod laws;
 mod loading;
 mod owners;
 mod rebuilding;
@@ -22,5 +24,6 @@ mod slot_edits;
 mod texts;
 
 pub use database::{Database, run};
+pub use laws::loads_have_one_refusal;
 pub use report::write_fault;
 pub use ti_meaning::{Edit, EditError, Edited, Fault, Outcome};

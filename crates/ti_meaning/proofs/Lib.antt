@@ -19,3 +19,5 @@ pub mod UseLawProofs
 pub mod ItemLawProofs
 pub mod ReadOrder
 pub mod DistinctNames
+pub mod Causes
+pub mod NoDuplicates

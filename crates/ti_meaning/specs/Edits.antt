@@ -68,6 +68,11 @@ IsRefusal texts change NotOneBlock = IsInPlace texts change × IsShort change ×
 IsRefusal texts change TooMany = IsInPlace texts change × IsShort change × IsBlock change × (¬ (HasRoom texts change))
 IsRefusal texts change Memory = IsSoundEdit texts change
 
+-- an edit of a list is refused for one cause alone
+abbrev pub EditsHaveOneCause : Type 0
+EditsHaveOneCause = (texts : List (List ℕ)) (change : Change) (cause other : EditError)
+    → IsRefusal texts change cause → IsRefusal texts change other → cause ≡ other
+
 -- the list with the item at the one position taken out and put in, so that it then stands at the other
 abbrev pub with_item_moved : {X : Type 0} → List X → ℕ → ℕ → List X
 with_item_moved xs from to = option_map_or (λ x. insert (remove xs from) to x) (slice_get xs from) xs

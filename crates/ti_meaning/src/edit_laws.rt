@@ -1,12 +1,19 @@
 // Laws on edits, and on what they leave. They compute nothing.
 ghost use Rattle.ti_meaning.specs.Exchange.{EditsAreExchanges};
 ghost use Rattle.ti_meaning.specs.Dependents.{DependentsAreDetermined, DependentsAreFound, RebuildsAreDetermined, UsersOfDependentsDepend};
+ghost use Rattle.ti_meaning.specs.Edits.{EditsHaveOneCause};
 ghost use Rattle.ti_meaning.specs.KeptBlocks.{TouchedInBothLists, UntouchedBlocksAreKept};
 
 /// An insertion, a replacement, a removal and a move take out at most one block and put in at most
 /// one.
 pub fn edits_are_exchanges()
     ensures { EditsAreExchanges }
+{}
+
+/// An edit that is refused is refused for one cause alone, the first that holds; want of memory is one
+/// only where there is no other.
+pub fn edits_have_one_cause()
+    ensures { EditsHaveOneCause }
 {}
 
 /// A block that stays and reaches no name of the blocks taken out and put in keeps its expansion at

@@ -19,8 +19,9 @@ mod laws;
 mod use_laws;
 
 pub use edit_laws::{
-    dependents_are_determined, dependents_are_found, edits_are_exchanges, rebuilds_are_determined,
-    touched_names_are_reached_in_both_lists, untouched_blocks_are_kept, users_of_dependents_depend,
+    dependents_are_determined, dependents_are_found, edits_are_exchanges, edits_have_one_cause,
+    rebuilds_are_determined, touched_names_are_reached_in_both_lists, untouched_blocks_are_kept,
+    users_of_dependents_depend,
 };
 pub use edits::{Edit, EditError, Edited, Outcome};
 pub use faults::Fault;
