@@ -219,6 +219,3 @@ impl Image {
         self.set_value(cap, value.as_ref())
     }
 }
-
-#[cfg(test)]
-mod tests;

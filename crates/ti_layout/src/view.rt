@@ -128,6 +128,3 @@ impl<'a> View<'a> {
         }
     }
 }
-
-#[cfg(test)]
-mod tests;

@@ -253,6 +253,3 @@ fn push_texts(image: &mut Vec<u8>, entries: &[(Cap, Value)]) -> Result<(), Alloc
     }
     Ok(())
 }
-
-#[cfg(test)]
-mod tests;

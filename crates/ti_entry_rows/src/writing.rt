@@ -1,10 +1,11 @@
 ghost use Rattle.std.specs.Prelude.{◌≡◌, ◌≤◌, ◌↔◌, IsTrue};
 ghost use Rattle.ti_layout.specs.Values.{HasNoNul};
 
-use super::*;
+use std::alloc::{AllocError, Global};
 use std::rc::RcSlice;
 use std::test::Fail;
-use ti_caps::{Kind, find};
+use ti_caps::{Cap, Kind, find};
+use ti_layout::{Table, Value, WriteError, write};
 
 fn has_no_nul(bytes: &[u8]) -> bool
     ensures { IsTrue result ↔ HasNoNul bytes.now }

@@ -1,10 +1,10 @@
 // The worked entries of the reader: damaged files, shared texts, values of old writers.
 ghost use Rattle.std.specs.Prelude.{◌≡◌, IfSome};
 
-use super::*;
 use std::alloc::{AllocError, Global};
 use std::test::*;
-use ti_caps::{Kind, find};
+use ti_caps::{Cap, Kind, find};
+use ti_layout::{ReadError, View};
 
 /// `dumb|80-column dumb tty,` with am, cols 80, bel, cr, cud1 and ind: 308 bytes.
 fn dumb(alloc: Global) -> Result<Vec<u8>, AllocError> {

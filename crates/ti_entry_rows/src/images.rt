@@ -1,9 +1,12 @@
 ghost use Rattle.std.specs.Prelude.{◌≡◌, ◌≤◌, ◌↔◌, IsTrue};
 ghost use Rattle.ti_layout.specs.Values.{HasNoNul};
 
-use super::*;
+use std::alloc::{AllocError, Global};
 use std::process::Abort;
 use std::rc::RcSlice;
+use ti_caps::{Cap, Kind};
+use ti_compiled::Image;
+use ti_layout::{Table, Value, WriteError};
 
 fn has_no_nul(bytes: &[u8]) -> bool
     ensures { IsTrue result ↔ HasNoNul bytes.now }
