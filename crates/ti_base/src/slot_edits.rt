@@ -6,7 +6,7 @@ ghost use Rattle.ti_source.specs.Reading.{reading_of};
 ghost use Rattle.ti_meaning.specs.Edits.{insertion, removal, relocation, with_item_moved, replacement};
 ghost use Rattle.ti_meaning.specs.Dependents.{Rebuilds};
 ghost use Rattle.ti_slots.specs.Slots.{IsIndexed, StandsAt, texts_of};
-ghost use Rattle.ti_slots.specs.Changes.{HasRoomFor, PutsIn, TakesOut};
+ghost use Rattle.ti_slots.specs.Changes.{HasForgotten, HasRoomFor, PutsIn, TakesOut};
 ghost use Rattle.ti_base.specs.KeptSlots.{AreKept, IsSoundSlot, HasId, slots_of, with_settled};
 
 use crate::rebuilding::rebuild;
@@ -31,6 +31,7 @@ fn reserve(slots: &mut Slots, block: &Parsed) -> Result<(), AllocError>
 /// Lets go of what the index keeps of names of a block that nobody has or uses any more.
 fn forget(slots: &mut Slots, block: &Parsed)
     requires { AreKept slots.old }
+    ensures forgotten { HasForgotten slots.new (reading_of block.now) }
     ensures kept { AreKept slots.new }
     ensures texts { texts_of slots.new ≡ texts_of slots.old }
 {

@@ -1,5 +1,5 @@
 -- Names with the blocks that have and use them, as an index shows them.
-use Rattle.std.specs.Prelude.{ℕ, ◌≡◌, ◌≢◌, ◌<◌, ◌≤◌, List, [], length, Option}
+use Rattle.std.specs.Prelude.{ℕ, ◌≡◌, ◌≢◌, ◌<◌, ◌≤◌, List, [], length, Option, None}
 use Rattle.std.specs.Option.{option_map_or}
 use Rattle.std.specs.Vec.{vec_capacity}
 use Rattle.std.specs.BTreeMap.{BTreeMap, get_by}
@@ -51,3 +51,7 @@ pub record KeepsCapacity (old new : NameIndex) (name : List ℕ) : Type 0 where
 -- all other names are as before
 abbrev pub KeepsOthers : NameIndex → NameIndex → List ℕ → Type 0
 KeepsOthers old new name = (other : List ℕ) → other ≢ name → mentions_at new other ≡ mentions_at old other
+
+-- nothing is kept of a name that no block has or uses
+abbrev pub IsForgotten : NameIndex → List ℕ → Type 0
+IsForgotten index name = holders_at index name ≡ [] → users_at index name ≡ [] → mentions_at index name ≡ None

@@ -2,7 +2,7 @@
 ghost use Rattle.std.specs.Prelude.{◌≡◌, ◌⊎◌, ℕ, List, [], IsSome, OnOk};
 ghost use Rattle.ti_index.specs.Labels.{Has};
 ghost use Rattle.ti_index.specs.Listing.{AreAmong, Lists, ListsNoMore, ListsToo};
-ghost use Rattle.ti_index.specs.Names.{holders_at, users_at, mentions_at, HasHolderRoom, HasUserRoom, IsSeenSame, KeepsCapacity, KeepsOthers};
+ghost use Rattle.ti_index.specs.Names.{holders_at, users_at, mentions_at, HasHolderRoom, HasUserRoom, IsForgotten, IsSeenSame, KeepsCapacity, KeepsOthers};
 
 use crate::listing::{put_in, take_out};
 use crate::order::Order;
@@ -162,6 +162,7 @@ impl NameIndex {
 
     /// Lets go of the entry of a name that no block has or uses. No look-up shows a difference.
     pub fn forget_unused(&mut self, name: &[u8])
+        ensures gone { IsForgotten self.new name.now }
         ensures seen { (other : List ℕ) → IsSeenSame self.old self.new other }
         ensures others { KeepsOthers self.old self.new name.now }
     {

@@ -15,9 +15,9 @@ use Rattle.ti_source.specs.declared.parsing.What.TheVariants.{Flag, Number, Text
 use Rattle.ti_meaning.specs.Reaching.{used_name, use_passes}
 use Rattle.ti_index.specs.declared.names.NameIndex.{NameIndex}
 use Rattle.ti_index.specs.Listing.{AreAmong, Lists, ListsToo, ListsNoMore}
-use Rattle.ti_index.specs.Names.{holders_at, users_at, mentions_at, holder_capacity, user_capacity, HasHolderRoom, HasUserRoom, KeepsCapacity, KeepsOthers}
+use Rattle.ti_index.specs.Names.{holders_at, users_at, mentions_at, holder_capacity, user_capacity, HasHolderRoom, HasUserRoom, IsForgotten, IsSeenSame, KeepsCapacity, KeepsOthers}
 use Rattle.ti_index.proofs.LawProofs.{agreeing_lists, among_all}
-use Rattle.ti_slots.specs.Indexing.{is_name_of, is_used_by, Adds, Removes, HasRoomAt, IsGrown, IsPart}
+use Rattle.ti_slots.specs.Indexing.{is_name_of, is_used_by, Adds, Forgets, Removes, HasRoomAt, IsGrown, IsPart}
 
 -- ---- what depends on the entry of a name alone
 
@@ -194,6 +194,24 @@ room_more told more mid new name room h holder user step n e = elim (name_cases 
   | inl same ↦ rw same.0 (holder, user)
   | inr apart ↦ room_grown told mid new h room n (sym (or_none (told n)) ∙ (ap (λ b. told n || b) (sym apart.1) ∙ (sym (step n) ∙ e)))
 ]
+
+-- ---- names are let go of
+
+forgotten_stays : (mid new : NameIndex) (name : List ℕ) → ((n : List ℕ) → IsSeenSame mid new n) → KeepsOthers mid new name → IsForgotten new name → (n : List ℕ) → IsForgotten mid n → IsForgotten new n
+forgotten_stays mid new name seen others gone n before = elim (name_cases n name) [
+  | inl same ↦ rw same.0 gone
+  | inr apart ↦ λ holders users. others n apart.0 ∙ before (sym (seen n).holders ∙ holders) (sym (seen n).users ∙ users)
+]
+
+pub forgets_more : (told more : List ℕ → Bool) (old mid new : NameIndex) (name : List ℕ) → Forgets told old mid → ((n : List ℕ) → IsSeenSame mid new n) → KeepsOthers mid new name → IsForgotten new name → ((n : List ℕ) → more n ≡ (told n || bytes_eq n name)) → Forgets more old new
+forgets_more told more old mid new name h seen others gone step = record {
+  same = λ n. record { holders = (seen n).holders ∙ (h.same n).holders; users = (seen n).users ∙ (h.same n).users };
+  gone = λ n e. elim (name_cases n name) [
+    | inl same ↦ rw same.0 gone
+    | inr apart ↦ forgotten_stays mid new name seen others gone n (h.gone n (sym (or_none (told n)) ∙ (ap (λ b. told n || b) (sym apart.1) ∙ (sym (step n) ∙ e))))
+  ];
+  kept = λ n f. forgotten_stays mid new name seen others gone n (h.kept n f);
+}
 
 -- ---- one more name, or one more item
 

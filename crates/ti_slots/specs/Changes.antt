@@ -5,7 +5,7 @@ use Rattle.ti_source.specs.Reading.{Reading, reading_of}
 use Rattle.ti_meaning.specs.Owner.{is_among}
 use Rattle.ti_meaning.specs.Reaching.{any_use}
 use Rattle.ti_index.specs.Labels.{Has}
-use Rattle.ti_index.specs.Names.{holders_at, users_at, HasHolderRoom, HasUserRoom, KeepsCapacity}
+use Rattle.ti_index.specs.Names.{holders_at, users_at, HasHolderRoom, HasUserRoom, IsForgotten, KeepsCapacity}
 use Rattle.ti_slots.specs.declared.slots.Slot.{Slot}
 use Rattle.ti_slots.specs.declared.slots.Slots.{Slots}
 use Rattle.ti_slots.specs.Slots.{blocks_of, texts_of, slot_at, StandsAt, IsIndexed}
@@ -15,6 +15,11 @@ pub record HasRoomFor (slots : Slots) (block : Reading) : Type 0 where
   pub id : 0 < length slots.order.free
   pub holders : (name : List ℕ) → is_among name block.names ≡ true → HasHolderRoom slots.names name
   pub users : (name : List ℕ) → any_use (bytes_eq name) block.items ≡ true → HasUserRoom slots.names name
+
+-- nothing is kept of those names of a block, and of those that it uses, which no block of the list has or uses
+pub record HasForgotten (slots : Slots) (block : Reading) : Type 0 where
+  pub names : (name : List ℕ) → is_among name block.names ≡ true → IsForgotten slots.names name
+  pub uses : (name : List ℕ) → any_use (bytes_eq name) block.items ≡ true → IsForgotten slots.names name
 
 -- each block that had room has it
 abbrev pub KeepsRooms : Slots → Slots → Type 0

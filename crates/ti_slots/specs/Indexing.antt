@@ -9,7 +9,7 @@ use Rattle.ti_source.specs.declared.parsing.Item.{Item}
 use Rattle.ti_meaning.specs.Owner.{is_among}
 use Rattle.ti_meaning.specs.Reaching.{any_use}
 use Rattle.ti_index.specs.declared.names.NameIndex.{NameIndex}
-use Rattle.ti_index.specs.Names.{mentions_at, HasHolderRoom, HasUserRoom, IsSeenSame, KeepsCapacity}
+use Rattle.ti_index.specs.Names.{mentions_at, HasHolderRoom, HasUserRoom, IsForgotten, IsSeenSame, KeepsCapacity}
 
 -- whether a name is one of these
 abbrev pub is_name_of : List (RcSlice ℕ Global) → List ℕ → Bool
@@ -48,3 +48,9 @@ pub record IsGrown (old new : NameIndex) : Type 0 where
 -- the names that pass a test have room for one more holder and one more user
 abbrev pub HasRoomAt : (List ℕ → Bool) → NameIndex → Type 0
 HasRoomAt told index = (name : List ℕ) → told name ≡ true → HasHolderRoom index name × HasUserRoom index name
+
+-- the index shows the same, and nothing is kept of those of the names that pass a test which no block has or uses
+pub record Forgets (told : List ℕ → Bool) (old new : NameIndex) : Type 0 where
+  pub same : ShowsSameNames old new
+  pub gone : (name : List ℕ) → told name ≡ true → IsForgotten new name
+  pub kept : (name : List ℕ) → IsForgotten old name → IsForgotten new name

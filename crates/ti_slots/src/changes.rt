@@ -1,7 +1,7 @@
 // Blocks come to the list and leave it. Room is made first, and then no change takes memory.
 ghost use Rattle.std.specs.Prelude.{◌≡◌, ◌<◌, ◌≤◌, ◌+◌, ◌^◌, ℕ, length, OnOk};
 ghost use Rattle.ti_source.specs.Reading.{reading_of};
-ghost use Rattle.ti_slots.specs.Changes.{HasRoomFor, KeepsCapacities, KeepsRooms, PutsIn, ShowsSame, TakesOut};
+ghost use Rattle.ti_slots.specs.Changes.{HasForgotten, HasRoomFor, KeepsCapacities, KeepsRooms, PutsIn, ShowsSame, TakesOut};
 ghost use Rattle.ti_slots.specs.Slots.{slot_at, IsIndexed};
 
 use crate::indexing::{
@@ -80,6 +80,7 @@ impl Slots {
     /// look-up shows a difference; room made before may go.
     pub fn forget_unused(&mut self, block: &Parsed)
         requires { IsIndexed self.old }
+        ensures forgotten { HasForgotten self.new (reading_of block.now) }
         ensures indexed { IsIndexed self.new }
         ensures same { ShowsSame self.old self.new }
     {

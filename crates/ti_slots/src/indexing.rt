@@ -2,7 +2,7 @@
 ghost use Rattle.std.specs.Prelude.{◌≡◌, ◌⊎◌, ℕ, List, OnOk, true};
 ghost use Rattle.ti_index.specs.Labels.{Has};
 ghost use Rattle.ti_index.specs.Names.{holders_at, users_at, HasHolderRoom, HasUserRoom};
-ghost use Rattle.ti_slots.specs.Indexing.{is_name_of, is_used_by, Adds, HasRoomAt, IsGrown, IsPart, Removes, ShowsSameNames};
+ghost use Rattle.ti_slots.specs.Indexing.{is_name_of, is_used_by, Adds, Forgets, HasRoomAt, IsGrown, IsPart, Removes};
 
 use std::alloc::AllocError;
 use std::rc::RcSlice;
@@ -85,7 +85,7 @@ pub(crate) fn reserve_uses(index: &mut NameIndex, items: &[Item]) -> Result<(), 
 
 /// Lets go of those of the names that no block has or uses.
 pub(crate) fn forget_names(index: &mut NameIndex, names: &[RcSlice<u8>])
-    ensures { ShowsSameNames index.old index.new }
+    ensures { Forgets (is_name_of names.now) index.old index.new }
 {
     for name in names {
         index.forget_unused(name.as_slice());
@@ -94,7 +94,7 @@ pub(crate) fn forget_names(index: &mut NameIndex, names: &[RcSlice<u8>])
 
 /// Lets go of those of the names that the items use that no block has or uses.
 pub(crate) fn forget_uses(index: &mut NameIndex, items: &[Item])
-    ensures { ShowsSameNames index.old index.new }
+    ensures { Forgets (is_used_by items.now) index.old index.new }
 {
     for item in items {
         if let What::Import(name) = &item.what {

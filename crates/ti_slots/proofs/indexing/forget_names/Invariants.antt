@@ -1,5 +1,6 @@
-use Rattle.ti_slots.specs.Indexing.{ShowsSameNames}
+use Rattle.std.proofs.Common.{take}
+use Rattle.ti_slots.specs.Indexing.{is_name_of, Forgets}
 use Rattle.ti_slots.proofs.indexing.forget_names.Given as goal
 
 abbrev pub invariant-loop-name : goal.invariant-loop-name
-invariant-loop-name l = ShowsSameNames l.fn.index l.index
+invariant-loop-name l = Forgets (is_name_of (take l.name-index l.names)) l.fn.index l.index
