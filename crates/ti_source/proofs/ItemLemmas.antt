@@ -1,12 +1,17 @@
 -- Items read byte by byte.
-use Rattle.std.proofs.Common.{◌≡◌, ℕ, ◌<◌, true, false, List, [], ◌∷◌, ◌++◌, length, cond, refl, sym, ap, subst, ◌∙◌, arith, append_assoc}
-use Rattle.std.proofs.lemmas.List.{append-nil, length-append}
+use Rattle.std.proofs.Common.{◌≡◌, ◌≢◌, ℕ, zero, suc, ◌-◌, ◌<◌, ◌≤◌, Bool, true, false, not, ◌==◌, ◌||◌, ◌&&◌, List, [], ◌∷◌, ◌++◌, length, take, get_or, cond, refl, sym, ap, subst, ◌∙◌, arith, append_assoc, ◌⊎◌, inl, inr}
+use Rattle.std.proofs.Math.Bool.{or-false}
+use Rattle.std.proofs.Math.Seq.{take-suc}
+use Rattle.std.proofs.lemmas.Bool.{cases_Bool, ne_eqb, eqb-true}
+use Rattle.memchr.specs.Find.{NoneBefore, is_byte2}
+use Rattle.std.proofs.lemmas.List.{append-nil, length-append, length-take-le}
 use Rattle.ti_source.specs.declared.items.Taken.{Taken}
 use Rattle.ti_source.specs.declared.items.Taken.TheVariants as taken
 use Rattle.ti_source.specs.WhiteSpace.{is_white_space}
 use Rattle.ti_source.specs.Folding.{Placed}
 use Rattle.ti_source.specs.Items.{bytes, Piece, piece, without_front, line_of, piece_of}
-use Rattle.ti_source.specs.inside.Items.{taken_after, cuts, with_first, with_front, items_of, with_byte, on_line, GoesOn, goes_nowhere, goes_over, ReadsSoFar, TakesItem}
+use Rattle.ti_source.specs.inside.Folding.{SkipsWhiteSpace, skips_nothing, skips_byte}
+use Rattle.ti_source.specs.inside.Items.{taken_after, cuts, with_first, with_front, items_of, with_byte, on_line, GoesOn, goes_nowhere, goes_over, begins_visible, IsWholeItem, TakesWholeItem, ReadsSoFar, TakesItem}
 
 pub items_of-plain : (by : Taken) (before : ℕ) (x : Placed) (xs : List Placed) → cuts by x.0 ≡ false → items_of by before (x ∷ xs) ≡ with_first x (items_of (taken_after by before x.0) x.0 xs)
 items_of-plain by before x xs f = rw f
@@ -107,3 +112,152 @@ takes-last start by before shown r = record {
   is_first = r.items ∙ ap (λ item. item ∷ []) (append-nil r.seen);
   shorter = λ e. cc;
 }
+
+-- ---- white space at the front of an item
+
+white_cases : (x : ℕ) → is_white_space x ≡ true → (x ≡ 32) ⊎ (x ≡ 9)
+white_cases x w =
+    elim (cases_Bool (x == 32)) [
+      | inl t ↦ inl (eqb-true x 32 t)
+      | inr f ↦ inr (eqb-true x 9 (rw f at w))
+    ]
+
+items_of-space : (line : ℕ) (xs : List Placed) → items_of taken.Nothing 44 ((32, line) ∷ xs) ≡ with_first (32, line) (items_of taken.Nothing 44 xs)
+items_of-space line [] = refl
+items_of-space line (x ∷ xs) = refl
+
+items_of-tab : (line : ℕ) (xs : List Placed) → items_of taken.Nothing 44 ((9, line) ∷ xs) ≡ with_first (9, line) (items_of taken.Nothing 44 xs)
+items_of-tab line [] = refl
+items_of-tab line (x ∷ xs) = refl
+
+items_of-white : (x : Placed) (xs : List Placed) → is_white_space x.0 ≡ true → items_of taken.Nothing 44 (x ∷ xs) ≡ with_first x (items_of taken.Nothing 44 xs)
+items_of-white x xs w =
+    elim (white_cases x.0 w) [
+      | inl e ↦ subst (λ b. items_of taken.Nothing 44 ((b, x.1) ∷ xs) ≡ with_first (b, x.1) (items_of taken.Nothing 44 xs)) (sym e) (items_of-space x.1 xs)
+      | inr e ↦ subst (λ b. items_of taken.Nothing 44 ((b, x.1) ∷ xs) ≡ with_first (b, x.1) (items_of taken.Nothing 44 xs)) (sym e) (items_of-tab x.1 xs)
+    ]
+
+white_unseen : (x : Placed) → is_white_space x.0 ≡ true → with_byte (piece [] 0) x ≡ piece [] 0
+white_unseen x w = rw w refl
+
+pub so_far-white : (start : List Placed) {old new : List Placed} → SkipsWhiteSpace old new
+    → ReadsSoFar start taken.Nothing 44 old (piece [] 0) → ReadsSoFar start taken.Nothing 44 new (piece [] 0)
+so_far-white start skips_nothing r = r
+so_far-white start (skips_byte {new = new} x skips w) r =
+    let earlier = so_far-white start skips r in
+    record {
+      seen = earlier.seen ++ x ∷ [];
+      is_piece = piece_of-push earlier.seen x ∙ ap (λ p. with_byte p x) earlier.is_piece ∙ white_unseen x w;
+      items = earlier.items ∙ ap (with_front earlier.seen) (items_of-white x new w) ∙ with_front-push earlier.seen x (items_of taken.Nothing 44 new);
+      shorter = omega (arith, earlier.shorter);
+    }
+
+-- ---- an item on one line
+
+-- the line of a text on `line`, 0 where it is empty
+abbrev line_at : ℕ → List ℕ → ℕ
+line_at line [] = 0
+line_at line (x ∷ xs) = line
+
+begins_earlier : (run : List ℕ) (x : ℕ) → begins_visible (run ++ x ∷ []) ≡ true → begins_visible run ≡ true
+begins_earlier [] x v = refl
+begins_earlier (y ∷ ys) x v = v
+
+visible_more : (line x : ℕ) (run : List ℕ) → begins_visible (run ++ x ∷ []) ≡ true
+    → with_byte (piece run (line_at line run)) (x, line) ≡ piece (run ++ x ∷ []) (line_at line (run ++ x ∷ []))
+visible_more line x [] v =
+    elim (cases_Bool (is_white_space x)) [
+      | inl t ↦ (let no = rw t at v in cc)
+      | inr f ↦ rw f refl
+    ]
+visible_more line x (y ∷ ys) v = refl
+
+-- an item of which nothing shows, read over a run that begins with no white space
+so_far-item : (start : List Placed) {by next : Taken} {before last : ℕ} {run : List ℕ} (line : ℕ) (source : List Placed)
+    → GoesOn by before run next last → begins_visible run ≡ true → ReadsSoFar start by before (on_line line run ++ source) (piece [] 0)
+    → ReadsSoFar start next last source (piece run (line_at line run))
+so_far-item start line source goes_nowhere v r = r
+so_far-item start line source (goes_over {by = by} {next = next} {before = before} {last = last} {run = run} x goes plain inner) v r =
+    let regrouped : on_line line (run ++ x ∷ []) ++ source ≡ on_line line run ++ ((x, line) ∷ source) =
+    rw on_line-append (append_assoc (on_line line run) ((x, line) ∷ []) source) in
+    let earlier = so_far-item start line ((x, line) ∷ source) goes (begins_earlier run x v) (subst (λ (s : List Placed). ReadsSoFar start by before s (piece [] 0)) regrouped r) in
+    subst (λ (shown : Piece). ReadsSoFar start (taken_after next last x) x source shown) (visible_more line x run v)
+    (so_far-more start next last (x, line) source (piece run (line_at line run)) earlier inner)
+
+line_at-some : (line : ℕ) (text : List ℕ) → 0 < length text → line_at line text ≡ line
+line_at-some line [] some = absurd (omega arith)
+line_at-some line (x ∷ xs) some = refl
+
+pub takes-whole : (start old : List Placed) (text : List ℕ) (line : ℕ) (new : List Placed)
+    → ReadsSoFar start taken.Nothing 44 old (piece [] 0) → TakesWholeItem old text line new → TakesItem start (piece text line) false new
+takes-whole start old text line new r whole =
+    let from_item = subst (λ (s : List Placed). ReadsSoFar start taken.Nothing 44 s (piece [] 0)) whole.whole r in
+    let read = so_far-item start line ((44, line) ∷ new) whole.item.goes_on whole.item.visible from_item in
+    subst (λ (n : ℕ). TakesItem start (piece text n) false new) (line_at-some line text whole.item.some)
+    (takes-cut start whole.item.next whole.item.last (44, line) new (piece text (line_at line text)) read whole.item.ends)
+
+-- ---- how far an item on one line goes
+
+-- the byte just before the place `n` of a text before which a comma stands
+abbrev byte_before : List ℕ → ℕ → ℕ
+byte_before text zero = 44
+byte_before text (suc n) = get_or text n 0
+
+comma_ends : (by : Taken) (before x : ℕ) → (x == 92) ≡ false → cuts (taken_after by before x) 44 ≡ true
+comma_ends taken.Nothing before x f =
+    rw f (elim (x == 94 && not (before == 37)) as (λ b. cuts (cond b taken.Caret taken.Nothing) 44 ≡ true) [ true ↦ refl | false ↦ refl ])
+comma_ends taken.Backslash before x f = refl
+comma_ends taken.Caret before x f = refl
+
+no_cut : (by : Taken) (x : ℕ) → (x == 44) ≡ false → cuts by x ≡ false
+no_cut taken.Nothing x f = f
+no_cut taken.Backslash x f = refl
+no_cut taken.Caret x f = f
+
+neither : (a b : Bool) → ((a || b) ≡ true → ⊥) → (a ≡ false) × (b ≡ false)
+neither true b never = absurd (never refl)
+neither false true never = absurd (never refl)
+neither false false never = (refl, refl)
+
+-- an item goes on over bytes that are no comma and no newline, and a comma after them ends it where no backslash stands just before it
+goes_to : (text : List ℕ) (n : ℕ) → n ≤ length text → ((k : ℕ) → k < n → is_byte2 44 10 (get_or text k 0) ≡ true → ⊥)
+    → (next : Taken) × GoesOn taken.Nothing 44 (take n text) next (byte_before text n) × ((byte_before text n == 92) ≡ false → cuts next 44 ≡ true)
+goes_to text zero h none = (taken.Nothing, goes_nowhere, λ f. refl)
+goes_to text (suc n) h none =
+    let (next, goes, ends) = goes_to text n (omega arith) (λ k i. none k (omega arith)) in
+    let byte = get_or text n 0 in
+    let (no_comma, no_newline) = neither (byte == 44) (byte == 10) (none n (omega arith)) in
+    let more = goes_over byte goes no_newline (no_cut next byte no_comma) in
+    let longer = take-suc text n 0 (omega arith) in (
+      taken_after next (byte_before text n) byte,
+      subst (λ (s : List ℕ). GoesOn taken.Nothing 44 s (taken_after next (byte_before text n) byte) byte) (sym longer) more,
+      comma_ends next (byte_before text n) byte,
+    )
+
+begins-take : (text : List ℕ) (n : ℕ) → 0 < length text → is_white_space (get_or text 0 0) ≡ false → begins_visible (take (suc n) text) ≡ true
+begins-take [] n some v = absurd (omega arith)
+begins-take (x ∷ xs) n some v = rw v refl
+
+other_is_comma : (x : ℕ) → is_byte2 44 10 x ≡ true → x ≢ 10 → x ≡ 44
+other_is_comma x t other = eqb-true x 44 (rw (ne_eqb x 10 other, or-false) at t)
+
+pub whole_item : (text : List ℕ) (n : ℕ) → NoneBefore (λ k. is_byte2 44 10 (get_or text k 0) ≡ true) 0 (length text) n → is_byte2 44 10 (get_or text n 0) ≡ true
+    → 0 < n → get_or text n 0 ≢ 10 → get_or text (n - 1) 0 ≢ 92 → is_white_space (get_or text 0 0) ≡ false → IsWholeItem text n
+whole_item text zero none t some ended plain visible = absurd (omega arith)
+whole_item text (suc n) none t some ended plain visible =
+    let high = none.high in
+    let (next, goes, ends) = goes_to text (suc n) (omega arith) (λ k h. none.before k (omega arith) h) in
+    let back : suc n - 1 ≡ n = omega arith in
+    let last = rw back at plain in
+    record {
+      within = high;
+      comma = other_is_comma (get_or text (suc n) 0) t ended;
+      item = record {
+        next = next;
+        last = get_or text n 0;
+        some = omega (arith, length-take-le (suc n) text (omega arith));
+        visible = begins-take text n (omega arith) visible;
+        goes_on = goes;
+        ends = ends (ne_eqb (get_or text n 0) 92 last);
+      };
+    }

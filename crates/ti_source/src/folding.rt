@@ -1,11 +1,14 @@
 // The text of a block, folded: without its comments and its line breaks.
-ghost use Rattle.std.specs.Prelude.{◌≡◌, ◌≤◌, length};
+ghost use Rattle.std.specs.Prelude.{◌≡◌, ◌+◌, ◌<◌, ◌≤◌, ◌^◌, ◌==◌, ◌&&◌, IfSome, IfNone, length};
 ghost use Rattle.std.specs.Iterator.{YieldsFirst, item_count};
+ghost use Rattle.ti_text.specs.Ascii as ascii;
 ghost use Rattle.ti_source.specs.Folding.{folding_of, EachIsFolded, OneFolding};
-ghost use Rattle.ti_source.specs.inside.Items.{TakesRun};
+ghost use Rattle.ti_source.specs.inside.Folding.{SkipsWhiteSpace, after_line};
+ghost use Rattle.ti_source.specs.inside.Items.{TakesRun, TakesWholeItem};
 
-use crate::items::{Run, Taken, front_run};
+use crate::items::{Run, Taken, front_run, whole_item_size};
 use crate::white_space::is_white_space;
+use memchr::memchr;
 use std::marker::Model;
 
 /// What is left of a folded text: its bytes, each with its line in the block, counted from 1.
@@ -16,19 +19,17 @@ pub(crate) struct Folded<'a> {
     newlines: usize,
     // The byte before the rest, or a newline where there is none.
     before: u8,
-    // Whether that byte stands in a comment.
-    comment: bool,
     // Whether white space at the front of the rest belongs to a line break.
     joining: bool,
 }
 
 impl<'a> Model for Folded<'a> {
-    ghost use Rattle.std.specs.Prelude.{◌+◌, ◌<◌, ◌^◌, ℕ, List, length};
+    ghost use Rattle.std.specs.Prelude.{◌+◌, ◌<◌, ◌^◌, ℕ, false, List, length};
     ghost use Rattle.ti_source.specs.Folding.{Placed, bytes_on_lines, without_comments, without_breaks};
 
     ghost Value = { List (ℕ × ℕ) };
 
-    ghost view = { λ f. without_breaks f.joining (without_comments f.comment f.before (bytes_on_lines (f.newlines + 1) f.rest.now)) };
+    ghost view = { λ f. without_breaks f.joining (without_comments false f.before (bytes_on_lines (f.newlines + 1) f.rest.now)) };
 
     ghost invariant = { λ f. f.newlines + length f.rest.now < 2 ^ 64 };
 }
@@ -43,7 +44,6 @@ impl<'a> Folded<'a> {
             rest: block,
             newlines: 0,
             before: b'\n',
-            comment: false,
             joining: false,
         }
     }
@@ -53,7 +53,7 @@ impl<'a> Folded<'a> {
     pub(crate) fn take_run(&mut self, taken: Taken, before: u8) -> Run<'a>
         ensures { TakesRun self.old taken before result self.new }
     {
-        if self.joining || self.comment || self.before == b'\n' {
+        if self.joining || self.before == b'\n' {
             return Run {
                 bytes: &self.rest[..0],
                 taken,
@@ -66,6 +66,74 @@ impl<'a> Folded<'a> {
         self.rest = rest;
         run
     }
+
+    /// Passes over the white space at the front.
+    pub(crate) fn skip_white_space(&mut self)
+        ensures { SkipsWhiteSpace self.old self.new }
+    {
+        while let Some((byte, rest)) = self.rest.split_first() {
+            let byte = *byte;
+            if is_white_space(byte) {
+                self.rest = rest;
+                self.before = byte;
+            } else if byte == b'\n' {
+                self.rest = rest;
+                self.before = byte;
+                self.newlines += 1;
+                self.joining = true;
+            } else if begins_comment(self.before, byte) {
+                (self.rest, self.newlines) = after_comment(rest, self.newlines);
+            } else {
+                // the byte ends the break, if it stands behind one
+                self.joining = false;
+                return;
+            }
+        }
+    }
+
+    /// Takes the item at the front with the comma that ends it, and gives its text and its line; takes nothing where that
+    /// is not seen at once.
+    pub(crate) fn take_item(&mut self) -> Option<(&'a [u8], usize)>
+        ensures taken { IfSome result (λ item. TakesWholeItem self.old item.0.now item.1 self.new) }
+        ensures none { IfNone result (self.new ≡ self.old) }
+    {
+        if self.joining || self.before == b'\n' {
+            return None;
+        }
+        let size = whole_item_size(self.rest)?;
+        let (item, rest) = self.rest.split_at(size);
+        // neither the item nor the comma has a newline, so that `before` may stay
+        self.rest = &rest[1..];
+        Some((item, self.newlines + 1))
+    }
+}
+
+// Whether a comment begins at `byte`, where `before` stands just before it.
+fn begins_comment(before: u8, byte: u8) -> bool
+    ensures { result ≡ (before == ascii.newline && byte == ascii.number_sign) }
+{
+    before == b'\n' && byte == b'#'
+}
+
+// What stands behind the first line of a text.
+fn after_line(text: &[u8]) -> &[u8]
+    ensures rest { result.now ≡ after_line text.now }
+    ensures shorter { length result.now ≤ length text.now }
+{
+    match memchr(b'\n', text) {
+        Some(end) => &text[end + 1..],
+        None => &[],
+    }
+}
+
+// What stands behind the comment that `text` ends, and how many newlines were passed by then, where so many stand before it.
+fn after_comment(text: &[u8], newlines: usize) -> (&[u8], usize)
+    requires { newlines + 1 < 2 ^ 64 }
+    ensures rest { result.0.now ≡ after_line text.now }
+    ensures shorter { length result.0.now ≤ length text.now }
+    ensures newlines { result.1 ≡ newlines + 1 }
+{
+    (after_line(text), newlines + 1)
 }
 
 impl<'a> Iterator for Folded<'a> {
@@ -79,16 +147,14 @@ impl<'a> Iterator for Folded<'a> {
         while let Some((byte, rest)) = self.rest.split_first() {
             let byte = *byte;
             let line = self.newlines + 1;
-            if self.before == b'\n' {
-                self.comment = byte == b'#';
+            if begins_comment(self.before, byte) {
+                (self.rest, self.newlines) = after_comment(rest, self.newlines);
+                continue;
             }
             self.rest = rest;
             self.before = byte;
             if byte == b'\n' {
                 self.newlines += 1;
-            }
-            if self.comment {
-                continue;
             }
             self.joining = byte == b'\n' || self.joining && is_white_space(byte);
             if !self.joining {

@@ -1,7 +1,7 @@
 // The names field and the items of a block, and what an item states.
 ghost use Rattle.std.specs.Prelude.{◌≡◌, ◌+◌, ◌<◌, ◌≤◌, IfOk, IfSome, OnOk, length, take, drop, slice_index, option_map};
 ghost use Rattle.ti_source.specs.Items.{bytes, piece, without_outer_space};
-ghost use Rattle.ti_source.specs.inside.Items.{taken_after, cuts, field_of, after_field, GoesOn, ReadsOn, TakesItem, with_byte, statement_in_memory, statement_of, statement_with_value, plain_statement};
+ghost use Rattle.ti_source.specs.inside.Items.{taken_after, cuts, field_of, after_field, GoesOn, ReadsOn, TakesItem, EndsItem, IsWholeItem, with_byte, statement_in_memory, statement_of, statement_with_value, plain_statement};
 
 use crate::folding::Folded;
 use crate::white_space::{is_white_space, trim_end};
@@ -71,6 +71,18 @@ pub(crate) fn front_run(text: &[u8], taken: Taken, before: u8) -> Run<'_>
     }
 }
 
+/// The size of the item at the front of `text`, where it is not empty, begins with no white space and ends with a comma on
+/// the same line, before which no backslash stands; none where it is another.
+pub(crate) fn whole_item_size(text: &[u8]) -> Option<usize>
+    ensures { IfSome result (λ size. IsWholeItem text.now size) }
+{
+    let size = memchr2(b',', b'\n', text)?;
+    if size == 0 || text[size] == b'\n' || text[size - 1] == b'\\' || is_white_space(text[0]) {
+        return None;
+    }
+    Some(size)
+}
+
 /// The names field of a block: its text up to the first comma, which is taken too.
 pub(crate) fn read_field(alloc: Global, source: &mut Folded<'_>) -> Result<Vec<u8>, AllocError>
     ensures field { IfOk result (λ field. field.items ≡ bytes (field_of source.old)) }
@@ -133,6 +145,20 @@ fn push_run(
 /// Takes the next item, and the comma that ends it, and leaves its text in `text`, without white space at its front.
 pub(crate) fn read_item(source: &mut Folded<'_>, text: &mut Vec<u8>) -> Result<Reached, AllocError>
     ensures { IfOk result (λ item. TakesItem source.old (piece text.new.items item.line) item.last source.new) }
+{
+    source.skip_white_space();
+    // most items stand on one line, and are added at once
+    if let Some((item, line)) = source.take_item() {
+        text.clear();
+        text.extend_from_slice(item)?;
+        return Ok(Reached { line, last: false });
+    }
+    read_runs(source, text)
+}
+
+// The same, byte by byte and run by run, from behind the white space at the front of the item.
+fn read_runs(source: &mut Folded<'_>, text: &mut Vec<u8>) -> Result<Reached, AllocError>
+    ensures { IfOk result (λ item. EndsItem source.old (piece text.new.items item.line) item.last source.new) }
 {
     text.clear();
     let mut line = 0;

@@ -1,6 +1,6 @@
 -- The folded text of a block, computed (own).
 use Rattle.ti_text.specs.Ascii as ascii
-use Rattle.std.specs.Prelude.{ℕ, ◌+◌, Bool, true, false, ◌||◌, ◌&&◌, ◌==◌, if◌then◌else◌, List, [], ◌∷◌}
+use Rattle.std.specs.Prelude.{◌≡◌, ℕ, ◌+◌, Bool, true, false, ◌||◌, ◌&&◌, ◌==◌, if◌then◌else◌, List, [], ◌∷◌}
 use Rattle.ti_source.specs.WhiteSpace.{is_white_space}
 
 -- a byte, and the line that it stands on
@@ -35,3 +35,13 @@ without_breaks joining (x ∷ xs) =
 -- the folded text of a block: comments are left out first, then line breaks; a newline stands before a block, and its lines are counted from 1
 abbrev pub folding_of : List ℕ → List Placed
 folding_of block = without_breaks false (without_comments false ascii.newline (bytes_on_lines 1 block))
+
+-- what stands behind the first line of a text
+abbrev pub after_line : List ℕ → List ℕ
+after_line [] = []
+after_line (b ∷ bs) = if b == ascii.newline then bs else after_line bs
+
+-- White space was passed over at the front of `old`, and `new` is left.
+pub data SkipsWhiteSpace : (old new : List Placed) → Type 0 where
+  skips_nothing : {old : List Placed} → SkipsWhiteSpace old old
+  skips_byte : {old new : List Placed} (x : Placed) → SkipsWhiteSpace old (x ∷ new) → is_white_space x.0 ≡ true → SkipsWhiteSpace old new

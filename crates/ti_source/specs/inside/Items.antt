@@ -1,6 +1,6 @@
 -- The names field, the items and what an item states, computed; what a reader of a folded text takes, and statements in memory (own).
 use Rattle.ti_text.specs.Ascii as ascii
-use Rattle.std.specs.Prelude.{◌≡◌, ℕ, Bool, false, not, ◌&&◌, ◌==◌, if◌then◌else◌, List, [], ◌∷◌, ◌++◌, map, length, ◌<◌, ◌≤◌, Option, Some, None}
+use Rattle.std.specs.Prelude.{◌≡◌, ℕ, Bool, true, false, not, ◌&&◌, ◌==◌, if◌then◌else◌, List, [], ◌∷◌, ◌++◌, map, length, take, slice_index, ◌<◌, ◌≤◌, Option, Some, None}
 use Rattle.ti_source.specs.WhiteSpace.{is_white_space, without_trailing_space}
 use Rattle.ti_source.specs.Blocks.{last_byte}
 use Rattle.ti_source.specs.Folding.{Placed}
@@ -135,6 +135,36 @@ pub record TakesRun (old : List Placed) (by : Taken) (before : ℕ) (run : Run) 
 abbrev pub ReadsOn : (old : List Placed) (by : Taken) (before : ℕ) (text : List ℕ) (new : List Placed) (next : Taken) (last : ℕ) (longer : List ℕ) → Type 0
 ReadsOn old by before text new next last longer =
     (start : List Placed) (line : ℕ) → ReadsSoFar start by before old (piece text line) → ReadsSoFar start next last new (piece longer line)
+
+-- whether a text is empty or begins with no white space
+abbrev pub begins_visible : List ℕ → Bool
+begins_visible [] = true
+begins_visible (x ∷ xs) = not (is_white_space x)
+
+-- A text goes on as an item that ends at once: it is not empty and begins with no white space, and the next byte cuts where it is a comma.
+pub record IsItemText (text : List ℕ) : Type 0 where
+  pub next : Taken
+  pub last : ℕ
+  pub some : 0 < length text
+  pub visible : begins_visible text ≡ true
+  pub goes_on : GoesOn taken.Nothing ascii.comma text next last
+  pub ends : cuts next ascii.comma ≡ true
+
+-- The first bytes of a text, so many, are an item, and the next is the comma that ends it.
+pub record IsWholeItem (text : List ℕ) (size : ℕ) : Type 0 where
+  pub within : size < length text
+  pub comma : slice_index text size ≡ ascii.comma
+  pub item : IsItemText (take size text)
+
+-- An item of this text was taken with its comma from the front of `old`, all on one line, and `new` is left.
+pub record TakesWholeItem (old : List Placed) (text : List ℕ) (line : ℕ) (new : List Placed) : Type 0 where
+  pub whole : old ≡ on_line line text ++ (ascii.comma, line) ∷ new
+  pub item : IsItemText text
+
+-- Wherever an item begins with white space up to `old`, it is taken: `piece` says it, and `new` is left, or the item was the last.
+abbrev pub EndsItem : (old : List Placed) (piece : Piece) (last : Bool) (new : List Placed) → Type 0
+EndsItem old shown last new =
+    (start : List Placed) → ReadsSoFar start taken.Nothing ascii.comma old (piece [] 0) → TakesItem start shown last new
 
 -- a claim that holds its text in memory, as plain data
 abbrev pub claim_of : ClaimInMemory → Claim

@@ -1,21 +1,15 @@
-use Rattle.std.proofs.Common.{sym, ◌∙◌}
-use Rattle.ti_source.proofs.ItemLemmas.{so_far-start, so_far-more, takes-cut, takes-last}
+use Rattle.std.proofs.lemmas.Result.{IfOk-weaker}
+use Rattle.ti_source.proofs.ItemLemmas.{so_far-start, so_far-white, takes-whole}
 use Rattle.ti_source.proofs.items.read_item.Goals as goal
 
-pub loop-byte-init : goal.loop-byte-init
-loop-byte-init c = rw c.clear.ensures.items (so_far-start c.args.source.now)
-
-pub returns-then-cuts : goal.returns-then-cuts
-returns-then-cuts c =
-    let so_far = rw c.in-Some.ensures.steps at c.loop-byte.invariant in
-    takes-cut _ _ _ _ _ _ so_far (sym c.cuts.ensures ∙ c.if-cuts.true)
-
-pub loop-byte-preserved : goal.loop-byte-preserved
-loop-byte-preserved c =
-    let so_far = rw c.in-Some.ensures.steps at c.loop-byte.invariant in
-    c.in_ok-taken.ensures.reads _ _ (rw (c.after.ensures, c.in_ok-line.ensures) (so_far-more _ _ _ _ _ _ so_far (sym c.cuts.ensures ∙ c.if-cuts.false)))
+pub returns-in-Some : goal.returns-in-Some
+returns-in-Some c =
+    let start = c.args.source.now in
+    let read = so_far-white start c.skip_white_space.ensures (so_far-start start) in
+    rw (c.in_ok-extend_from_slice.ensures.items, c.clear.ensures.items) (takes-whole start _ _ _ _ read c.in-Some.ensures.taken)
 
 pub returns : goal.returns
 returns c =
-    let so_far = rw c.in_default.ensures.steps.0 at c.loop-byte.invariant in
-    rw c.in_default.ensures.steps.1 (takes-last _ _ _ _ so_far)
+    let start = c.args.source.now in
+    let read = so_far-white start c.skip_white_space.ensures (so_far-start start) in
+    IfOk-weaker c.read_runs.result _ _ (λ item ends. ends start (rw c.in_default.ensures.none read)) c.read_runs.ensures

@@ -20,6 +20,6 @@ returns c =
     record {
       line = f.newlines + 1;
       whole = sym c.self.view_is
-          ∙ run_taken f.joining f.comment f.before (f.newlines + 1) text c.split_at.result.1.now c.if-self.false c.if-self-2.false (ne_eqb f.before 10 c.if-self-eq10.false) whole goes;
+          ∙ run_taken f.joining f.before (f.newlines + 1) text c.split_at.result.1.now c.if-self.false (ne_eqb f.before 10 c.if-self-eq10.false) whole goes;
       goes_on = goes;
     }

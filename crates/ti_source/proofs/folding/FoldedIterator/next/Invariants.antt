@@ -1,4 +1,4 @@
-use Rattle.std.proofs.Common.{◌≡◌, ◌+◌, ◌<◌, ◌^◌, length}
+use Rattle.std.proofs.Common.{◌≡◌, ◌+◌, ◌<◌, ◌^◌, false, length}
 use Rattle.ti_source.specs.Folding.{bytes_on_lines, without_comments, without_breaks}
 use Rattle.ti_source.proofs.folding.FoldedIterator.next.Given as goal
 
@@ -6,8 +6,10 @@ use Rattle.ti_source.proofs.folding.FoldedIterator.next.Given as goal
 abbrev pub invariant-loop-byte : goal.invariant-loop-byte
 invariant-loop-byte l =
     let f = l.self-inside in
-    (without_breaks f.joining (without_comments f.comment f.before (bytes_on_lines (f.newlines + 1) f.rest.now)) ≡ l.fn.self)
-    × (f.newlines + length f.rest.now < 2 ^ 64)
+    record {
+      same : without_breaks f.joining (without_comments false f.before (bytes_on_lines (f.newlines + 1) f.rest.now)) ≡ l.fn.self;
+      fits : f.newlines + length f.rest.now < 2 ^ 64;
+    }
 
 abbrev pub decreases-loop-byte : goal.decreases-loop-byte
 decreases-loop-byte l = length l.self-inside.rest.now
