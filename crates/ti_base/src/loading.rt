@@ -9,10 +9,11 @@ ghost use Rattle.ti_base.specs.Loading.{AreTaken, IsLoadRefusal};
 
 use crate::rebuilding::rebuild_all;
 use crate::slot_edits::put_slot;
-use crate::texts::{check_text, read_slot};
+use crate::texts::{check_text, read_sharing_slot};
 use std::alloc::{AllocError, Global};
 use ti_meaning::EditError;
 use ti_slots::{Slot, Slots};
+use ti_source::SharedTexts;
 use ti_text::limits::BLOCKS_MAX;
 
 /// Puts a slot in at the end of the list.
@@ -37,12 +38,13 @@ fn read_slots(alloc: Global, texts: &[&[u8]]) -> Result<Slots, EditError>
     ensures refused { IfErr result (λ error. (error ≡ Memory) ⊎ IsLoadRefusal (map (λ text. text.now) texts.now) error) }
 {
     let mut slots = Slots::new(alloc);
+    let mut shared = SharedTexts::new(alloc)?;
     for text in texts {
         check_text(text)?;
         if slots.order.ids().len() >= BLOCKS_MAX {
             return Err(EditError::TooMany);
         }
-        let slot = read_slot(alloc, text)?;
+        let slot = read_sharing_slot(alloc, text, &mut shared)?;
         append_slot(&mut slots, slot)?;
     }
     Ok(slots)

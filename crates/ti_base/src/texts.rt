@@ -1,12 +1,15 @@
 // Texts of blocks: which of them are refused, and a text read into a slot.
 ghost use Rattle.std.specs.Prelude.{◌≡◌, IfOk, IfErr, OnOk};
+ghost use Rattle.ti_source.specs.Reading.{reading_of};
+ghost use Rattle.ti_source.specs.Sound.{IsWellRead};
+ghost use Rattle.ti_source.specs.Parsing.{reading_of_text};
 ghost use Rattle.ti_base.specs.Kept.{IsBlockText, IsTextRefusal};
 ghost use Rattle.ti_base.specs.KeptSlots.{IsSoundSlot};
 
 use std::alloc::{AllocError, Global};
 use ti_meaning::EditError;
 use ti_slots::{Settled, Slot, State};
-use ti_source::{is_block, parse};
+use ti_source::{Parsed, SharedTexts, is_block, parse, parse_sharing};
 use ti_text::limits::BLOCK_BYTES_MAX;
 
 /// The text of a block within the limit, copied, with the block as it is read; nothing is found out
@@ -17,6 +20,31 @@ pub(crate) fn read_slot(alloc: Global, text: &[u8]) -> Result<Slot, AllocError>
     ensures sound { IfOk result IsSoundSlot }
 {
     let block = parse(alloc, text)?;
+    slot_of(alloc, text, block)
+}
+
+/// The same, and texts of capabilities that were read before are shared.
+pub(crate) fn read_sharing_slot(
+    alloc: Global,
+    text: &[u8],
+    shared: &mut SharedTexts,
+) -> Result<Slot, AllocError>
+    requires { IsBlockText text.now }
+    ensures text { IfOk result (λ slot. slot.text.items ≡ text.now) }
+    ensures sound { IfOk result IsSoundSlot }
+{
+    let block = parse_sharing(alloc, text, shared)?;
+    slot_of(alloc, text, block)
+}
+
+// A slot of a text and of the block that it is read as.
+fn slot_of(alloc: Global, text: &[u8], block: Parsed) -> Result<Slot, AllocError>
+    requires text { IsBlockText text.now }
+    requires computed { reading_of block ≡ reading_of_text text.now }
+    requires sound { IsWellRead text.now (reading_of block) }
+    ensures text { IfOk result (λ slot. slot.text.items ≡ text.now) }
+    ensures sound { IfOk result IsSoundSlot }
+{
     let text = Vec::from_slice(alloc, text)?;
     let settled = Settled {
         state: State::Unresolved,

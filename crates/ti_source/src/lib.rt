@@ -1,12 +1,13 @@
 //! The terminfo source format, as terminfo(5) and X/Open Curses Issue 7 ("Terminfo Source Format") describe it: what a
-//! source says, with no files and no memory of what was read before.
+//! source says, with no files.
 //!
 //! - `code`: the codes of the faults that a description may have.
 //! - `cutting` and `walk`: a source as a preface and blocks, one for each entry; `heads` finds where they begin.
 //! - `header`: the names field of a block, and its lookup names.
 //! - `numbers`: the value of a number, or why a text is none; `white_space`: what stands after it.
 //! - `folding`: a block without its comments and line breaks; `items`: the names field and the items of a block, and
-//!   what an item states; `verdicts`: what comes of that; `parsing`: a block as it is read, with its faults.
+//!   what an item states; `verdicts`: what comes of that; `sharing`: texts that blocks share; `parsing`: a block as it is
+//!   read, with its faults.
 //!
 //! The crate `ti_spelling` below it has the spelling of string values; its calls are public here too.
 #![tactic(auto)]
@@ -19,6 +20,7 @@ mod heads;
 mod items;
 mod numbers;
 mod parsing;
+mod sharing;
 mod verdicts;
 mod walk;
 mod white_space;
@@ -33,7 +35,10 @@ pub use numbers::{
     NumberError, each_number_is_read, numbers_have_one_reading, numerals_have_one_value,
     read_number,
 };
-pub use parsing::{Item, Local, Parsed, What, each_is_well_read, one_reading, parse};
+pub use parsing::{
+    Item, Local, Parsed, What, each_is_well_read, one_reading, parse, parse_sharing,
+};
+pub use sharing::SharedTexts;
 pub use ti_spelling::{UnescapeError, Unescaped, escape, one_outcome, unescape, written_spells};
 pub use ti_text::lines_add;
 pub use walk::Blocks;

@@ -12,6 +12,7 @@ use crate::code::Code;
 use crate::folding::Folded;
 use crate::header::lookup_names;
 use crate::items::{read_field, read_item, statement_of};
+use crate::sharing::SharedTexts;
 use crate::verdicts::{Verdict, judge};
 use std::alloc::{AllocError, Global};
 use std::rc::RcSlice;
@@ -82,13 +83,28 @@ pub fn parse(alloc: Global, block: &[u8]) -> Result<Parsed, AllocError>
     ensures computed { IfOk result (λ p. reading_of p ≡ reading_of_text block.now) }
     ensures sound { IfOk result (λ p. IsWellRead block.now (reading_of p)) }
 {
+    parse_sharing(alloc, block, &mut SharedTexts::without_places(alloc))
+}
+
+/// The same, where texts that were read before are shared: the answer is that of `parse`, and takes less memory and time
+/// where blocks say the same.
+pub fn parse_sharing(
+    alloc: Global,
+    block: &[u8],
+    shared: &mut SharedTexts,
+) -> Result<Parsed, AllocError>
+    requires { OneBlock block.now }
+    ensures reading { IfOk result (λ p. Parses block.now (reading_of p)) }
+    ensures computed { IfOk result (λ p. reading_of p ≡ reading_of_text block.now) }
+    ensures sound { IfOk result (λ p. IsWellRead block.now (reading_of p)) }
+{
     // Laws, with no code: they give the clauses `reading` and `sound` of what is computed.
     one_reading();
     each_is_well_read();
     let mut source = Folded::new(block);
     let field = read_field(alloc, &mut source)?;
     let mut parsed = read_header(alloc, field)?;
-    read_items(alloc, &mut source, &mut parsed)?;
+    read_items(alloc, &mut source, shared, &mut parsed)?;
     Ok(parsed)
 }
 
@@ -130,7 +146,12 @@ fn read_header(alloc: Global, field: Vec<u8>) -> Result<Parsed, AllocError>
 }
 
 // Reads the items of a block, and adds what they say and their faults.
-fn read_items(alloc: Global, source: &mut Folded<'_>, parsed: &mut Parsed) -> Result<(), AllocError>
+fn read_items(
+    alloc: Global,
+    source: &mut Folded<'_>,
+    shared: &mut SharedTexts,
+    parsed: &mut Parsed,
+) -> Result<(), AllocError>
     requires { length source.old < 2 ^ 64 }
     ensures { OnOk result (AddsItems source.old (reading_of parsed.old) (reading_of parsed.new)) }
 {
@@ -138,7 +159,7 @@ fn read_items(alloc: Global, source: &mut Folded<'_>, parsed: &mut Parsed) -> Re
     let mut ordinal = 0;
     loop {
         let item = read_item(source, &mut text)?;
-        add_item(alloc, &text, ordinal, item.line, parsed)?;
+        add_item(alloc, &text, ordinal, item.line, shared, parsed)?;
         if item.last {
             return Ok(());
         }
@@ -152,6 +173,7 @@ fn add_item(
     text: &[u8],
     ordinal: usize,
     line: usize,
+    shared: &mut SharedTexts,
     parsed: &mut Parsed,
 ) -> Result<(), AllocError>
     ensures { OnOk result (AddsItem ordinal (piece text.now line) (reading_of parsed.old) (reading_of parsed.new)) }
@@ -160,7 +182,7 @@ fn add_item(
         return Ok(());
     };
     let name = statement.name;
-    match judge(alloc, &statement)? {
+    match judge(alloc, &statement, shared)? {
         Verdict::Accepted(what) => {
             parsed.items.push(Item {
                 ordinal,

@@ -9,6 +9,7 @@ use crate::code::Code;
 use crate::items::{Claim, Statement, strip};
 use crate::numbers::{NumberError, read_number};
 use crate::parsing::What;
+use crate::sharing::SharedTexts;
 use std::alloc::{AllocError, Global};
 use std::rc::RcSlice;
 use ti_caps::{Cap, Kind, find};
@@ -23,8 +24,12 @@ pub(crate) enum Verdict {
 }
 
 /// The verdict on a statement: first a name that is not in the tables, then one of another kind, then a value that cannot
-/// be read.
-pub(crate) fn judge(alloc: Global, statement: &Statement<'_>) -> Result<Verdict, AllocError>
+/// be read. A text may be shared with what was read before.
+pub(crate) fn judge(
+    alloc: Global,
+    statement: &Statement<'_>,
+    shared: &mut SharedTexts,
+) -> Result<Verdict, AllocError>
     ensures { IfOk result (λ v. verdict_in_memory v ≡ verdict_of (statement_in_memory statement.now).name (statement_in_memory statement.now).claim) }
 {
     let name = statement.name;
@@ -40,7 +45,7 @@ pub(crate) fn judge(alloc: Global, statement: &Statement<'_>) -> Result<Verdict,
     match (statement.claim, cap.kind()) {
         (Claim::Flag, Kind::Flag) => Ok(Verdict::Accepted(What::Flag(cap))),
         (Claim::Number(text), Kind::Number) => Ok(judge_number(cap, text)),
-        (Claim::Text(value), Kind::Text) => judge_text(alloc, cap, value),
+        (Claim::Text(value), Kind::Text) => judge_text(alloc, cap, value, shared),
         (Claim::Cancel, _) => Ok(Verdict::Accepted(What::Cancel(cap))),
         _ => Ok(Verdict::Refused(Code::WrongKind)),
     }
@@ -56,17 +61,25 @@ fn judge_number(cap: Cap, text: &[u8]) -> Verdict
     }
 }
 
-fn judge_text(alloc: Global, cap: Cap, value: &[u8]) -> Result<Verdict, AllocError>
+fn judge_text(
+    alloc: Global,
+    cap: Cap,
+    value: &[u8],
+    shared: &mut SharedTexts,
+) -> Result<Verdict, AllocError>
     ensures { IfOk result (λ v. verdict_in_memory v ≡ text_verdict cap (unescape_result value.now)) }
 {
+    if let Some(text) = shared.text_of(cap, value) {
+        return Ok(Verdict::Accepted(What::Text(cap, text.clone()?)));
+    }
     match unescape(alloc, value) {
         Ok(found) => {
-            let what = What::Text(cap, RcSlice::from_vec(found.bytes)?);
+            let text = RcSlice::from_vec(found.bytes)?;
             if found.odd {
-                Ok(Verdict::AcceptedOdd(what))
-            } else {
-                Ok(Verdict::Accepted(what))
+                return Ok(Verdict::AcceptedOdd(What::Text(cap, text)));
             }
+            shared.keep(alloc, cap, value, &text)?;
+            Ok(Verdict::Accepted(What::Text(cap, text)))
         }
         Err(UnescapeError::Memory) => Err(AllocError),
         Err(_) => Ok(Verdict::Refused(Code::BadString)),

@@ -4,7 +4,7 @@ use Rattle.ti_source.specs.Parsing.{Parses}
 use Rattle.ti_source.specs.Sound.{IsWellRead}
 use Rattle.ti_source.proofs.FoldLemmas.{length-after_field}
 use Rattle.ti_source.proofs.ReadingLaws.{parsed_by_parts}
-use Rattle.ti_source.proofs.parsing.parse.Goals as goal
+use Rattle.ti_source.proofs.parsing.parse_sharing.Goals as goal
 
 pub read_items-requires : goal.read_items-requires
 read_items-requires c =

@@ -1,0 +1,84 @@
+// Texts that blocks share: what was last read of each capability.
+ghost use Rattle.std.specs.Prelude.{◌≡◌, Ok, false, IfSome};
+ghost use Rattle.std.specs.Rc.{rc_slice_items};
+ghost use Rattle.ti_spelling.specs.inside.Spelling.{unescape_result};
+
+use std::alloc::{AllocError, Global};
+use std::rc::RcSlice;
+use ti_caps::{Cap, Kind, count};
+
+/// A longer spelling is not kept, so that what is kept stays small whatever a source says.
+const SPELLING_MAX: usize = 512;
+
+/// A text, and how it was spelled, by escapes that the manual names.
+#[derive(Drop)]
+struct SpelledText {
+    spelling: Vec<u8>,
+    text: RcSlice<u8>,
+    ghost spelled: { unescape_result spelling.items ≡ Ok (rc_slice_items text, false) },
+}
+
+/// The text that was last read of each capability: the next block that spells it so shares it, and it is made once. Most
+/// of the entries of a family say the same of a capability.
+#[derive(Drop)]
+pub struct SharedTexts {
+    // by the place of the capability among the texts
+    last: Vec<Option<SpelledText>>,
+}
+
+impl SharedTexts {
+    /// No text yet, and a place for that of each capability.
+    pub fn new(alloc: Global) -> Result<SharedTexts, AllocError> {
+        let mut last = Vec::with_capacity(alloc, count(Kind::Text))?;
+        for _ in 0..count(Kind::Text) {
+            last.push(None)?;
+        }
+        Ok(SharedTexts { last })
+    }
+
+    /// No text, and no place for one, so that none is shared.
+    pub(crate) fn without_places(alloc: Global) -> SharedTexts {
+        SharedTexts {
+            last: Vec::new(alloc),
+        }
+    }
+
+    /// The text of a spelling, where it is the one that was last kept of the capability.
+    pub(crate) fn text_of(&self, cap: Cap, spelling: &[u8]) -> Option<&RcSlice<u8>>
+        ensures { IfSome result (λ text. unescape_result spelling.now ≡ Ok (rc_slice_items text.now, false)) }
+    {
+        match self.last.get(cap.index()) {
+            Some(Some(kept)) if kept.spelling.as_slice() == spelling => Some(&kept.text),
+            _ => None,
+        }
+    }
+
+    /// Keeps the text of a spelling, in the place of the one that was kept of the capability.
+    pub(crate) fn keep(
+        &mut self,
+        alloc: Global,
+        cap: Cap,
+        spelling: &[u8],
+        text: &RcSlice<u8>,
+    ) -> Result<(), AllocError>
+        requires { unescape_result spelling.now ≡ Ok (rc_slice_items text.now, false) }
+    {
+        if spelling.len() > SPELLING_MAX {
+            return Ok(());
+        }
+        let Some(place) = self.last.get_mut(cap.index()) else {
+            return Ok(());
+        };
+        let mut room = match place.take() {
+            Some(kept) => kept.spelling,
+            None => Vec::new(alloc),
+        };
+        room.clear();
+        room.extend_from_slice(spelling)?;
+        *place = Some(SpelledText {
+            spelling: room,
+            text: text.clone()?,
+        });
+        Ok(())
+    }
+}
