@@ -1,6 +1,8 @@
 // The names field and the items of a block, and what an item states.
 ghost use Rattle.std.specs.Prelude.{◌≡◌, ◌+◌, ◌<◌, ◌≤◌, IfOk, IfSome, OnOk, length, take, drop, slice_index, option_map};
-ghost use Rattle.ti_source.specs.Items.{bytes, piece, without_outer_space};
+ghost use Rattle.memchr.specs.Find.{IsFirstByte};
+ghost use Rattle.std.specs.Option.{option_map_or};
+ghost use Rattle.ti_source.specs.Items.{bytes, is_mark, piece, without_outer_space};
 ghost use Rattle.ti_source.specs.inside.Items.{taken_after, cuts, field_of, after_field, GoesOn, ReadsOn, TakesItem, EndsItem, IsWholeItem, with_byte, statement_in_memory, statement_of, statement_with_value, plain_statement};
 
 use crate::folding::Folded;
@@ -100,7 +102,9 @@ pub(crate) fn read_field(alloc: Global, source: &mut Folded<'_>) -> Result<Vec<u
 
 /// Where an item stands, and whether the block ends with it.
 #[derive(Clone, Copy, Debug)]
-pub(crate) struct Reached {
+pub(crate) struct Reached<'a> {
+    /// Its text, where it is part of the block as it stands.
+    pub(crate) whole: Option<&'a [u8]>,
     /// The line of its first byte that is no white space.
     pub(crate) line: usize,
     /// Whether the block ends with it.
@@ -142,23 +146,44 @@ fn push_run(
     Ok((run.taken, run.last))
 }
 
-/// Takes the next item, and the comma that ends it, and leaves its text in `text`, without white space at its front.
-pub(crate) fn read_item(source: &mut Folded<'_>, text: &mut Vec<u8>) -> Result<Reached, AllocError>
-    ensures { IfOk result (λ item. TakesItem source.old (piece text.new.items item.line) item.last source.new) }
+impl<'a> Reached<'a> {
+    /// The text of the item: the part of the block that it is, or what was left in `text`.
+    pub(crate) fn text(&self, text: &'a [u8]) -> &'a [u8]
+        ensures { result.now ≡ option_map_or (λ t. t.now) self.now.whole text.now }
+    {
+        match self.whole {
+            Some(part) => part,
+            None => text,
+        }
+    }
+}
+
+/// Takes the next item, and the comma that ends it. Its text, without white space at its front, is part of the block, or is
+/// left in `text`.
+pub(crate) fn read_item<'a>(
+    source: &mut Folded<'a>,
+    text: &mut Vec<u8>,
+) -> Result<Reached<'a>, AllocError>
+    ensures { IfOk result (λ item. TakesItem source.old (piece (option_map_or (λ t. t.now) item.whole text.new.items) item.line) item.last source.new) }
 {
     source.skip_white_space();
-    // most items stand on one line, and are added at once
+    // most items stand on one line
     if let Some((item, line)) = source.take_item() {
-        text.clear();
-        text.extend_from_slice(item)?;
-        return Ok(Reached { line, last: false });
+        return Ok(Reached {
+            whole: Some(item),
+            line,
+            last: false,
+        });
     }
     read_runs(source, text)
 }
 
 // The same, byte by byte and run by run, from behind the white space at the front of the item.
-fn read_runs(source: &mut Folded<'_>, text: &mut Vec<u8>) -> Result<Reached, AllocError>
-    ensures { IfOk result (λ item. EndsItem source.old (piece text.new.items item.line) item.last source.new) }
+fn read_runs<'a>(
+    source: &mut Folded<'a>,
+    text: &mut Vec<u8>,
+) -> Result<Reached<'a>, AllocError>
+    ensures { IfOk result (λ item. EndsItem source.old (piece (option_map_or (λ t. t.now) item.whole text.new.items) item.line) item.last source.new) }
 {
     text.clear();
     let mut line = 0;
@@ -166,13 +191,21 @@ fn read_runs(source: &mut Folded<'_>, text: &mut Vec<u8>) -> Result<Reached, All
     let mut before = b',';
     while let Some((byte, at)) = source.next() {
         if taken.cuts(byte) {
-            return Ok(Reached { line, last: false });
+            return Ok(Reached {
+                whole: None,
+                line,
+                last: false,
+            });
         }
         line = push_visible(text, line, byte, at)?;
         // most bytes of an item stand in such runs, which are added at once
         (taken, before) = push_run(source, text, taken.after(before, byte), byte)?;
     }
-    Ok(Reached { line, last: true })
+    Ok(Reached {
+        whole: None,
+        line,
+        last: true,
+    })
 }
 
 /// What an item states of the capability of a name.
@@ -200,10 +233,31 @@ pub(crate) fn statement_of(text: &[u8]) -> Option<Statement<'_>>
     if *first == b'.' {
         return None;
     }
-    match memchr2(b'#', b'=', text) {
+    match first_mark(text) {
         Some(end) => Some(statement_with_value(text, end)),
         None => Some(plain_statement(trim_end(text))),
     }
+}
+
+// Whether a byte stands between a name and a value.
+fn is_mark(byte: u8) -> bool
+    ensures { result ≡ is_mark byte }
+{
+    matches!(byte, b'#' | b'=')
+}
+
+// Where the first mark stands. Names are short, so that a search byte by byte ends soonest.
+fn first_mark(text: &[u8]) -> Option<usize>
+    ensures { IsFirstByte is_mark text.now result }
+{
+    let mut place = 0;
+    while place < text.len() {
+        if is_mark(text[place]) {
+            return Some(place);
+        }
+        place += 1;
+    }
+    None
 }
 
 // What an item states in which the first mark stands at `end`: a number behind `#`, a text behind `=`.

@@ -155,11 +155,11 @@ fn read_items(
     requires { length source.old < 2 ^ 64 }
     ensures { OnOk result (AddsItems source.old (reading_of parsed.old) (reading_of parsed.new)) }
 {
-    let mut text = Vec::new(alloc);
+    let mut room = Vec::new(alloc);
     let mut ordinal = 0;
     loop {
-        let item = read_item(source, &mut text)?;
-        add_item(alloc, &text, ordinal, item.line, shared, parsed)?;
+        let item = read_item(source, &mut room)?;
+        add_item(alloc, item.text(&room), ordinal, item.line, shared, parsed)?;
         if item.last {
             return Ok(());
         }

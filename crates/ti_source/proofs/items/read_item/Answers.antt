@@ -6,7 +6,7 @@ pub returns-in-Some : goal.returns-in-Some
 returns-in-Some c =
     let start = c.args.source.now in
     let read = so_far-white start c.skip_white_space.ensures (so_far-start start) in
-    rw (c.in_ok-extend_from_slice.ensures.items, c.clear.ensures.items) (takes-whole start _ _ _ _ read c.in-Some.ensures.taken)
+    takes-whole start _ _ _ _ read c.in-Some.ensures.taken
 
 pub returns : goal.returns
 returns c =
