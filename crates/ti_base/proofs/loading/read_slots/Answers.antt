@@ -10,7 +10,7 @@ unfolding no_text
 returns-in_err-check_text-clause-refused c =
     let texts = map (λ text. text.now) c.args.texts.now in
     let at = c.loop-text.text-index in
-    let p = err_from_is_err_and c.from_residual.result c.from_residual.ensures.1 in
+    let p = err_from_is_err_and c.from_residual-in_err-check_text.result c.from_residual-in_err-check_text.ensures.1 in
     rw (p.1, p.2) (inr (text_refused texts at (get_or c.args.texts.now at no_text).now _ (text_at c.args.texts.now at (search rules)) c.loop-text.invariant.taken c.in_err-check_text.ensures.err))
 
 pub returns-then-ids-ge-BLOCKS_MAX-clause-refused : goal.returns-then-ids-ge-BLOCKS_MAX-clause-refused
