@@ -18,6 +18,7 @@ pub enum Scenario {
     RunOwners,
     RunMoves,
     RunLimit,
+    Load,
     Reports,
     Source,
     Table,
@@ -41,7 +42,7 @@ pub enum Scenario {
 
 impl Scenario {
     /// All of them, each with the word that names it.
-    pub const ALL: [(Scenario, &'static str); 29] = [
+    pub const ALL: [(Scenario, &'static str); 30] = [
         (Scenario::Three, "edits-of-three-blocks"),
         (Scenario::Ring, "edits-of-a-ring"),
         (Scenario::Owners, "edits-of-owners"),
@@ -52,6 +53,7 @@ impl Scenario {
         (Scenario::RunOwners, "run-of-owners"),
         (Scenario::RunMoves, "run-that-moves"),
         (Scenario::RunLimit, "run-at-the-limit"),
+        (Scenario::Load, "load"),
         (Scenario::Reports, "reports"),
         (Scenario::Source, "source"),
         (Scenario::Table, "table"),
@@ -89,6 +91,7 @@ impl Scenario {
             Scenario::RunOwners => wholes::run_all(alloc, &owners()),
             Scenario::RunMoves => wholes::run_all(alloc, &moves()),
             Scenario::RunLimit => wholes::run_at_limit(alloc),
+            Scenario::Load => wholes::load(alloc),
             Scenario::Reports => calls::reports(alloc),
             Scenario::Source => calls::source(alloc),
             Scenario::Table => entries::table(alloc),

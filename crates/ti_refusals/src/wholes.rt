@@ -1,6 +1,6 @@
-//! Lists of edits that are made in one call.
+//! Lists of edits that are made in one call, and lists of blocks that are loaded.
 use crate::edits::{LongBlocks, seen};
-use crate::tried::{Tried, Trouble};
+use crate::tried::{Tried, Trouble, again};
 use std::alloc::Global;
 use ti_base::{Database, Edit, EditError, Outcome, run};
 
@@ -76,4 +76,52 @@ pub fn run_all(alloc: Global, edits: &[Edit<'_>]) -> Result<Tried, Trouble> {
 pub fn run_at_limit(alloc: Global) -> Result<Tried, Trouble> {
     let blocks = LongBlocks::new(alloc)?;
     run_all(alloc, &blocks.edits())
+}
+
+/// Blocks that are loaded: texts that they share, uses, a ring, and faults.
+const LOADED: [&[u8]; 6] = [
+    b"a,cols#1,bel=^G,cr=\\r,\n",
+    b"b,cols#2,bel=^G,cr=\\n,\n",
+    b"c,use=a,use=b,\n",
+    b"d,cols@,use=a,cup=\\q,\n",
+    b"p,use=q,foo,\n",
+    b"q,use=p,\n",
+];
+
+/// Blocks of which the last is none.
+const REFUSED: [&[u8]; 2] = [b"a,bel=^G,\n", b"x,\ny,\n"];
+
+// The database of these blocks, each put in behind the others.
+fn put_in_turn(alloc: Global, texts: &[&[u8]]) -> Result<Database, Trouble> {
+    let mut database = Database::new(alloc);
+    for text in texts {
+        let end = database.len();
+        if database.insert(end, text).is_err() {
+            return Err(Trouble::Memory);
+        }
+    }
+    Ok(database)
+}
+
+/// Loads blocks, and once more where memory was refused to it: what is loaded is what the same blocks put in
+/// one by one are.
+///
+/// # Errors
+/// As of a scenario.
+pub fn load(alloc: Global) -> Result<Tried, Trouble> {
+    let mut tried = Tried::new();
+    let Ok(loaded) = again!(tried, EditError::Memory => Database::load(alloc, &LOADED)) else {
+        return Err(Trouble::Wrong("blocks were refused with memory there"));
+    };
+    let reference = put_in_turn(alloc, &LOADED)?;
+    let found = seen(alloc, &loaded)?;
+    if seen(alloc, &reference)? != found {
+        return Err(Trouble::Wrong("the blocks loaded are not those put in"));
+    }
+    tried.add(found.as_slice());
+    match again!(tried, EditError::Memory => Database::load(alloc, &REFUSED)) {
+        Err(EditError::NotOneBlock) => tried.add(b"NotOneBlock"),
+        _ => return Err(Trouble::Wrong("a text of two blocks was loaded")),
+    }
+    Ok(tried)
 }
