@@ -1,0 +1,158 @@
+// Blocks as they are read, with their faults.
+use std::alloc::{AllocError, Global};
+use std::fmt::Write;
+use std::test::Fail;
+use ti_caps::name;
+use ti_source::{Parsed, SharedTexts, What, is_block, parse, parse_sharing};
+
+// What an item says, a text in hexadecimal.
+fn say(said: &mut String, what: &What) -> Result<(), AllocError> {
+    let (cap, mark, text) = match what {
+        What::Flag(cap) => (name(*cap), "", None),
+        What::Number(cap, number) => {
+            let cap = name(*cap);
+            return write!(said, "{cap}#{number}");
+        }
+        What::Text(cap, text) => (name(*cap), "=", Some(text)),
+        What::Cancel(cap) => (name(*cap), "@", None),
+        What::Import(owner) => ("use", "=", Some(owner)),
+    };
+    write!(said, "{cap}{mark}")?;
+    if let Some(text) = text {
+        for byte in text.as_slice() {
+            let byte = *byte;
+            write!(said, "{byte:02x}")?;
+        }
+    }
+    Ok(())
+}
+
+// The items and the faults of a block, each with its place, its line and a semicolon.
+fn reading(alloc: Global, parsed: &Parsed) -> Result<String, AllocError> {
+    let mut said = String::new(alloc);
+    for item in &parsed.items {
+        let ordinal = item.ordinal;
+        let line = item.line;
+        write!(said, "{ordinal}:{line} ")?;
+        say(&mut said, &item.what)?;
+        said.push_str(";")?;
+    }
+    for fault in &parsed.faults {
+        let ordinal = fault.ordinal;
+        let line = fault.line;
+        let code = fault.code;
+        write!(said, "{ordinal}:{line} {code} ")?;
+        if let Some(detail) = &fault.detail {
+            for byte in detail.as_slice() {
+                said.push(char::from(*byte))?;
+            }
+        }
+        said.push_str(";")?;
+    }
+    Ok(said)
+}
+
+#[test]
+fn reads_blocks(rt: HostRuntime) -> Result<(), Fail> {
+    for (block, wanted) in [
+        ("x,clear=\\E[H\n\t\\E[J,\n", "0:1 clear=1b5b481b5b4a;"),
+        (
+            "x,.am,am#1,cols=3,bw@,cols#09,bel=\\400,foo,kf1=\\q,\n",
+            "3:1 bw@;7:1 kf1=71;1:1 W2 WrongKind am;2:1 W2 WrongKind cols;4:1 E3 BadNumber cols;5:1 E5 BadString bel;6:1 W1 UnknownCapability foo;7:1 W3 UnknownEscape kf1;",
+        ),
+        (
+            "x,use,use#1,use@,\n",
+            "0:1 W1 UnknownCapability use;1:1 W1 UnknownCapability use;2:1 W1 UnknownCapability use;",
+        ),
+        ("x,kf1=^\\,bel=a\\,b,\n", "0:1 kf1=1c;1:1 bel=612c62;"),
+        ("x,bel=^,am,\n", "1:1 am;0:1 E5 BadString bel;"),
+        ("x,bel=%^,am,\n", "0:1 bel=255e;1:1 am;"),
+        ("x,bel=%\n\t^,am,\n", "0:1 bel=255e;1:2 am;"),
+        ("x,bel=a\n# am,\n\tb,\n", "0:1 bel=6162;"),
+        (
+            "x,\n\tam,\n# c\n\t, .bw,\n  foo, km\n",
+            "0:2 am;4:5 km;3:5 W1 UnknownCapability foo;",
+        ),
+        ("x,\n\t# x,\n", "0:2 W1 UnknownCapability ;"),
+        (
+            "x,cols #5,use =a,am @,\n",
+            "0:1 W1 UnknownCapability cols ;1:1 W1 UnknownCapability use ;2:1 W1 UnknownCapability am ;",
+        ),
+        (
+            "x,foo\\,bar,am \n",
+            "1:1 am;0:1 W1 UnknownCapability foo\\,bar;",
+        ),
+        (
+            "x,bel=x\\ ,cr=y \n",
+            "0:1 bel=7820;1:1 cr=7920;0:1 W3 UnknownEscape bel;",
+        ),
+        (
+            "x,use=,use= a ,use=\\E,\n",
+            "0:1 use=;1:1 use=61;2:1 use=5c45;",
+        ),
+        (
+            "x,cols=\\400,bel#x,am=1,\n",
+            "0:1 W2 WrongKind cols;1:1 W2 WrongKind bel;2:1 W2 WrongKind am;",
+        ),
+        (
+            "x,cols#0x7fffffff ,it#2147483648,lm#00,\n",
+            "0:1 cols#2147483647;2:1 lm#0;1:1 E4 NumberTooLarge it;",
+        ),
+        ("x,bel=,\n", "0:1 bel=;"),
+        ("a|,am,\n", "0:1 am;0:1 E1 BadHeader ;"),
+        ("xterm\n", ""),
+    ] {
+        assert!(rt; is_block(block.as_bytes()), "{block:?}");
+        let parsed = parse(rt.alloc(), block.as_bytes())?;
+        assert_eq!(rt; reading(rt.alloc(), &parsed)?.as_str(), wanted, "{block:?}");
+    }
+    Ok(())
+}
+
+// Each block says what it says by itself, whatever the ones before it spelled.
+#[test]
+fn shares_texts(rt: HostRuntime) -> Result<(), Fail> {
+    let mut shared = SharedTexts::new(rt.alloc())?;
+    for (block, wanted) in [
+        (
+            "x,bel=^G,cr=\\r,kf1=\\q,\n",
+            "0:1 bel=07;1:1 cr=0d;2:1 kf1=71;2:1 W3 UnknownEscape kf1;",
+        ),
+        (
+            "y,cr=\\n,kf1=\\q,bel=^G,\n",
+            "0:1 cr=0a;1:1 kf1=71;2:1 bel=07;1:1 W3 UnknownEscape kf1;",
+        ),
+        (
+            "z,bel=\\r,cr=\\n,ind=\\n,\n",
+            "0:1 bel=0d;1:1 cr=0a;2:1 ind=0a;",
+        ),
+        (
+            "w,bel=\\400,cr=\\r,\n",
+            "1:1 cr=0d;0:1 E5 BadString bel;",
+        ),
+    ] {
+        assert!(rt; is_block(block.as_bytes()), "{block:?}");
+        let parsed = parse_sharing(rt.alloc(), block.as_bytes(), &mut shared)?;
+        assert_eq!(rt; reading(rt.alloc(), &parsed)?.as_str(), wanted, "{block:?}");
+    }
+    Ok(())
+}
+
+#[test]
+fn reads_names_fields(rt: HostRuntime) -> Result<(), Fail> {
+    let mut block = b"n|m|a b\\".to_vec(rt.alloc())?;
+    for (more, wanted, names) in [(119, "", 2), (1, "0:1 E2 NamesTooLong ;", 2)] {
+        for _ in 0..more {
+            block.push(b'c')?;
+        }
+        let length = block.len();
+        block.extend_from_slice(b",\n")?;
+        assert!(rt; is_block(&block));
+        let parsed = parse(rt.alloc(), &block)?;
+        assert_eq!(rt; reading(rt.alloc(), &parsed)?.as_str(), wanted);
+        assert_eq!(rt; parsed.field.as_slice(), &block[..length]);
+        assert_eq!(rt; parsed.names.len(), names);
+        block.truncate(length);
+    }
+    Ok(())
+}
