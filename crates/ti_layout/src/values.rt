@@ -51,6 +51,17 @@ impl Table {
         }
     }
 
+    /// A table without values, and room for so many, at most for one of each capability.
+    #[tactic(auto, unfolding(crate::specs::Values::contents))]
+    pub fn with_room(alloc: Global, values: usize) -> Result<Table, AllocError>
+        ensures { IfOk result (λ t. (c : Capability) → contents t c ≡ None) }
+    {
+        let most = count(Kind::Flag) + count(Kind::Number) + count(Kind::Text);
+        Ok(Table {
+            entries: Vec::with_capacity(alloc, values.min(most))?,
+        })
+    }
+
     /// The value of a capability, or `None` where it has none.
     pub fn get(&self, cap: Cap) -> Option<&Value>
         ensures found { option_map (λ v. content_of v.now) result ≡ contents self.now cap }

@@ -97,7 +97,7 @@ fn make_table(
     ensures table { IfOk result (λ table. IsTableOf (blocks_of known.now.slots.now) (reading_of block.now) (contents table)) }
     ensures work { OnOk result (work.new ≡ work.old + length block.now.items.items) }
 {
-    let mut table = Table::new(alloc);
+    let mut table = Table::with_room(alloc, block.items.len())?;
     for (index, item) in block.items.iter().enumerate() {
         lay_item(known, node, index, &item.what, &mut table, work)?;
     }
