@@ -6,8 +6,8 @@
 rates     MB/s (10^6 bytes a second) of `ti tic -c` on one-block sources of 64 KiB,
           256 KiB and 1 MiB, and of ncurses's `tic -c` on the last: the best of
           several runs
-entries   sources of many entries, compiled into files: 1,800 of 1.1 KB each, 1,800 of
-          which 1,500 have a use, 2,000 small ones, and 1,000 of which all but the first
+entries   sources of many entries, compiled into files: 1,800 of 1.1 KB each, that all say the same;
+          1,800 of which no two have a text in common; 1,800 of which 1,500 have a use, 2,000 small ones, and 1,000 of which all but the first
           use one before them
 tools     `ti tput` and `ti infocmp` on the system's own entry, where it is there; both read the same
           file, and a run that fails or writes something else is not timed
@@ -63,6 +63,15 @@ def large_entries(count):
     """So many entries of 1.1 KB each, none of which uses another."""
     items = ITEMS.lstrip("\n") + KEYS
     return "".join(f"e{i}|a large entry,\n{items}" for i in range(count)).encode()
+
+
+def differing_entries(count):
+    """So many entries as long as those, of which no two have a text in common: nothing can be shared."""
+    keys = "".join(KEYS.splitlines(True)[:4])
+    text = re.compile(r"(?<=[a-z0-9])=([^,]*)")
+    return "".join(
+        text.sub(lambda found, number=i: f"={found[1]}{number:03x}", f"d{i}|a large entry,\n{ITEMS.lstrip(chr(10))}{keys}") for i in range(count)
+    ).encode()
 
 
 def entries_with_uses(roots, users):
@@ -146,6 +155,7 @@ def rates(path):
 def entries(path):
     works = {
         "1,800 entries of 1.1 KB": large_entries(1800),
+        "1,800 entries of 1.1 KB, no text twice": differing_entries(1800),
         "1,800 entries, 1,500 with a use": entries_with_uses(300, 1500),
         "2,000 small entries": small_entries(2000),
         "1,000 entries in a chain of uses": chained_entries(1000),
