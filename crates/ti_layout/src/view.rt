@@ -33,6 +33,7 @@ pub struct View<'a> {
 }
 
 impl<'a> View<'a> {
+    ghost use Rattle.ti_text.specs.Ascii as ascii;
     ghost use Rattle.ti_layout.specs.Shown.{names_of, view_contents, shown_flag, shown_number, shown_text};
 
     /// Reads an entry. One pass over the sections and one search of the string table: the time is
@@ -76,7 +77,7 @@ impl<'a> View<'a> {
 
     /// The first name: the names field up to its first `|`, or the whole of it.
     pub fn first_name(&self) -> &'a [u8]
-        ensures { result.now ≡ before_first (λ b. b == 124) (names_of self.now) }
+        ensures { result.now ≡ before_first (λ b. b == ascii.bar) (names_of self.now) }
     {
         match memchr(b'|', self.names) {
             Some(place) => &self.names[..place],

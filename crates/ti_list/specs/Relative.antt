@@ -24,7 +24,7 @@ entry_shown view = record { field = names_of view; table = view_contents view }
 
 -- the first name of a names field: all before the first `|`
 abbrev pub first_name : List ℕ → List ℕ
-first_name field = before_first (λ byte. byte == 124) field
+first_name field = before_first (λ byte. byte == ascii.bar) field
 
 -- whether two contents are one
 abbrev pub same_content : Content → Content → Bool

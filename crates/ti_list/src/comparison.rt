@@ -7,7 +7,7 @@ ghost use Rattle.ti_list.specs.Contents.{content_of};
 ghost use Rattle.ti_list.specs.Listing.{in_order};
 ghost use Rattle.ti_list.specs.Relative.{entry_shown};
 
-use crate::contents::{Content, held, same_content};
+use crate::contents::{Content, same_content, view_content};
 use crate::layout::{Mode, Order};
 use crate::order::cap_at;
 use itoa::Buffer;
@@ -139,7 +139,7 @@ fn push_kind(
     out.extend_from_slice(kind_heading(kind))?;
     for place in 0..count(kind) {
         let cap = cap_at(order, kind, place);
-        push_row(out, mode, cap, held(one, cap), held(other, cap))?;
+        push_row(out, mode, cap, view_content(one, cap), view_content(other, cap))?;
     }
     Ok(())
 }

@@ -22,7 +22,7 @@ pub enum Content<'a> {
 
 /// What an entry has of a capability.
 #[inline(always)]
-pub fn held<'a>(view: &View<'a>, cap: Cap) -> Option<Content<'a>>
+pub fn view_content<'a>(view: &View<'a>, cap: Cap) -> Option<Content<'a>>
     ensures is { option_map content_of result ≡ view_contents view.now cap }
     ensures short { IfSome result (λ c. IsShort (content_of c)) }
 {
@@ -51,7 +51,7 @@ pub fn first_of<'a>(others: &[View<'a>], cap: Cap) -> Option<Content<'a>>
     ensures { option_map content_of result ≡ first_of (map (λ o. entry_shown o) others.now) cap }
 {
     for other in others {
-        if let Some(content) = held(other, cap) {
+        if let Some(content) = view_content(other, cap) {
             return Some(content);
         }
     }

@@ -10,7 +10,7 @@ ghost use Rattle.ti_list.specs.Room.{item_room, items_room, source_room, uses_ro
 ghost use Rattle.ti_list.specs.Relative.{differing_contents, relative, entry_shown, use_lines};
 ghost use Rattle.ti_list.specs.declared.listing.ListError.TheVariants.{Memory};
 
-use crate::contents::{Content, difference, first_of, held};
+use crate::contents::{Content, difference, first_of, view_content};
 use crate::items::{item_room, write_item};
 use crate::layout::{Layout, Order};
 use crate::order::cap_at;
@@ -29,7 +29,7 @@ fn said_of<'a>(view: &View<'a>, others: &[View<'a>], cap: Cap) -> Option<Content
     ensures is { option_map content_of result ≡ differing_contents (view_contents view.now) (map (λ o. entry_shown o) others.now) cap }
     ensures short { IfSome result (λ c. IsShort (content_of c)) }
 {
-    difference(held(view, cap), first_of(others, cap))
+    difference(view_content(view, cap), first_of(others, cap))
 }
 
 // Appends an item with its comma on a new line, behind a tab. Gives the columns that are then taken.
