@@ -139,7 +139,13 @@ fn push_kind(
     out.extend_from_slice(kind_heading(kind))?;
     for place in 0..count(kind) {
         let cap = cap_at(order, kind, place);
-        push_row(out, mode, cap, view_content(one, cap), view_content(other, cap))?;
+        push_row(
+            out,
+            mode,
+            cap,
+            view_content(one, cap),
+            view_content(other, cap),
+        )?;
     }
     Ok(())
 }

@@ -179,10 +179,7 @@ pub(crate) fn read_item<'a>(
 }
 
 // The same, byte by byte and run by run, from behind the white space at the front of the item.
-fn read_runs<'a>(
-    source: &mut Folded<'a>,
-    text: &mut Vec<u8>,
-) -> Result<Reached<'a>, AllocError>
+fn read_runs<'a>(source: &mut Folded<'a>, text: &mut Vec<u8>) -> Result<Reached<'a>, AllocError>
     ensures { IfOk result (λ item. EndsItem source.old (piece (option_map_or (λ t. t.now) item.whole text.new.items) item.line) item.last source.new) }
 {
     text.clear();
