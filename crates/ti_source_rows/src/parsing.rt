@@ -126,10 +126,7 @@ fn shares_texts(rt: HostRuntime) -> Result<(), Fail> {
             "z,bel=\\r,cr=\\n,ind=\\n,\n",
             "0:1 bel=0d;1:1 cr=0a;2:1 ind=0a;",
         ),
-        (
-            "w,bel=\\400,cr=\\r,\n",
-            "1:1 cr=0d;0:1 E5 BadString bel;",
-        ),
+        ("w,bel=\\400,cr=\\r,\n", "1:1 cr=0d;0:1 E5 BadString bel;"),
     ] {
         assert!(rt; is_block(block.as_bytes()), "{block:?}");
         let parsed = parse_sharing(rt.alloc(), block.as_bytes(), &mut shared)?;
