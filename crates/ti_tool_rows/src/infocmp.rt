@@ -1,7 +1,7 @@
-use crate::{InfocmpMode, InfocmpOptions, Layout, Order, TicOptions, ToolError, infocmp, tic};
 use std::alloc::Global;
 use std::test::Fail;
 use ti_layout::View;
+use ti_tools::{InfocmpMode, InfocmpOptions, Layout, Order, TicOptions, ToolError, infocmp, tic};
 
 const LAYOUT: Layout = Layout {
     width: 60,

@@ -1,7 +1,7 @@
 //! Sources with the files and reports that terminfo(5) and term(5) give for them.
-use crate::{MemTree, TicOptions, TicOutcome, ToolError, place, tic};
 use std::alloc::{AllocError, Global};
 use std::test::Fail;
+use ti_tools::{MemTree, TicOptions, TicOutcome, ToolError, place, tic};
 
 const DUMB: &[u8] =
     b"dumb|80-column dumb tty,\n\tam, cols#80, bel=^G, cr=\\r, cud1=\\n, ind=\\n,\n";

@@ -1,8 +1,8 @@
 //! Worked ends of tools.
-use crate::{Counted, Job, ToolError, message, status};
 use std::alloc::Global;
 use std::test::Fail;
 use ti_layout::ReadError;
+use ti_tools::{Counted, Job, ToolError, message, status};
 
 // A job of `tput`.
 fn tput_job(alloc: Global) -> Job {

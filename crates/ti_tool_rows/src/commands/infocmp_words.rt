@@ -1,7 +1,7 @@
 //! Worked words behind `infocmp`.
 use super::words;
-use crate::{InfocmpMode, Job, Layout, Order, UsageError, job};
 use std::test::Fail;
+use ti_commands::{InfocmpMode, Job, Layout, Order, UsageError, job};
 
 const LAYOUT: Layout = Layout {
     width: 60,

@@ -2,9 +2,9 @@
 mod infocmp_words;
 mod tput_words;
 
-use crate::{Job, UsageError, job, usage_text};
 use std::alloc::{AllocError, Global};
 use std::test::Fail;
+use ti_commands::{Job, UsageError, job, usage_text};
 
 fn words(alloc: Global, texts: &[&str]) -> Result<Vec<String>, AllocError> {
     let mut words = Vec::new(alloc);

@@ -1,8 +1,8 @@
 //! Worked words behind `tput`.
 use super::words;
-use crate::{Job, UsageError, job};
 use std::alloc::{AllocError, Global};
 use std::test::Fail;
+use ti_commands::{Job, UsageError, job};
 
 // A job of `tput`.
 fn tput_job(alloc: Global) -> Result<Job, AllocError> {
