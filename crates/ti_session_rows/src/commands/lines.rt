@@ -1,11 +1,11 @@
 //! Worked lines of `-S`, and devices that fail in mid-stream.
-use super::devices::{Drip, End, Narrow};
 use super::{compiled, dumb};
-use crate::{entry, tput_lines};
+use crate::devices::{Drip, End, Narrow};
 use std::alloc::{AllocError, Global};
 use std::process::Abort;
 use ti_devices::{Counted, ToolError};
 use ti_layout::View;
+use ti_tput::{entry, tput_lines};
 
 // What the lines write, and how they end.
 fn run(

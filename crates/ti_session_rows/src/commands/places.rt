@@ -1,10 +1,10 @@
 //! Worked searches for an entry.
 use super::dumb;
-use crate::{entry, locate, places};
 use std::alloc::{AllocError, Global};
 use std::process::Abort;
 use ti_devices::{MemTree, ToolError, Tree};
 use ti_layout::ReadError;
+use ti_tput::{entry, locate, places};
 
 fn strings(alloc: Global, texts: &[&str]) -> Result<Vec<String>, AllocError> {
     let mut strings = Vec::new(alloc);

@@ -1,14 +1,13 @@
 //! Worked commands, with answers from tput(1) and by hand.
-mod devices;
 mod lines;
 mod places;
 
-use crate::{entry, tput};
 use std::alloc::{AllocError, Global};
 use std::process::Abort;
 use ti_caps::find;
 use ti_devices::ToolError;
 use ti_layout::View;
+use ti_tput::{entry, tput};
 
 // A size as the two bytes that an entry has of it.
 fn word(size: usize) -> [u8; 2] {

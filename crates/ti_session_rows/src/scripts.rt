@@ -1,11 +1,9 @@
 //! Worked scripts, with replies from the manuals and by hand; devices that fail in mid-stream.
-ghost use Rattle.std.specs.Prelude.{◌≡◌, IfOk};
-
-use crate::{Counted, ToolError, session};
+use crate::devices::{Drip, End, Narrow};
 use std::alloc::{AllocError, Global};
-use std::io::{self, ErrorKind, Read, Write};
 use std::process::Abort;
 use std::test::Fail;
+use ti_session::{Counted, ToolError, session};
 
 /// Three blocks that are each at fault, one before them, and requests of all kinds.
 const SCRIPT: &[u8] = b"i 0\na,foo,\n.\ni 1\nb,use=zz,\n.\ni 2\nc,cols#9x,\n.\nf\n\
@@ -15,82 +13,6 @@ const REPLIES: &[u8] = b"ok\nok\nok\n\
 1: W1 UnknownCapability foo\n2: E6 MissingUse zz\n3: E3 BadNumber cols\n.\n\
 ok\n4: W1 UnknownCapability foo\n5: E6 MissingUse zz\n6: E3 BadNumber cols\n.\n\
 1a01020000000000000000006b00\nrefused Position\nunknown\n";
-
-/// What a device answers when it comes to its end.
-#[derive(Clone, Copy, Debug)]
-enum End {
-    /// A fault.
-    Fails,
-    /// That the call was interrupted, which is a fault like any other here.
-    IsInterrupted,
-    /// No byte: the end of an input, and a writer that takes nothing.
-    MovesNothing,
-}
-
-impl End {
-    fn answer(self) -> io::Result<usize>
-        ensures { IfOk result (λ count. count ≡ 0) }
-    {
-        match self {
-            End::Fails => Err(io::Error::from(ErrorKind::Other)),
-            End::IsInterrupted => Err(io::Error::from(ErrorKind::Interrupted)),
-            End::MovesNothing => Ok(0),
-        }
-    }
-}
-
-/// A reader that gives one byte a read, so many times.
-#[derive(Drop)]
-struct Drip<'a> {
-    rest: &'a [u8],
-    reads_left: usize,
-    end: End,
-}
-
-impl Read for Drip<'_> {
-    fn read(&mut self, buf: &mut [u8]) -> io::Result<usize> {
-        if self.reads_left == 0 {
-            return self.end.answer();
-        }
-        self.reads_left -= 1;
-        let Some((first, rest)) = self.rest.split_first() else {
-            return Ok(0);
-        };
-        if buf.is_empty() {
-            return Ok(0);
-        }
-        buf[0] = *first;
-        self.rest = rest;
-        Ok(1)
-    }
-}
-
-/// A writer that takes one byte a call, and so many in all.
-#[derive(Drop)]
-struct Narrow {
-    taken: Vec<u8>,
-    room: usize,
-    end: End,
-}
-
-impl Write for Narrow {
-    fn write(&mut self, buf: &[u8]) -> io::Result<usize> {
-        if self.taken.len() >= self.room {
-            return self.end.answer();
-        }
-        match buf.first() {
-            Some(byte) => {
-                self.taken.push(*byte)?;
-                Ok(1)
-            }
-            None => Ok(0),
-        }
-    }
-
-    fn flush(&mut self) -> io::Result<()> {
-        Ok(())
-    }
-}
 
 /// The script ends well, and has these replies.
 fn expect_replies(rt: &impl Abort, alloc: Global, script: &[u8], want: &[u8]) {
