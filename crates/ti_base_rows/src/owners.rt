@@ -1,8 +1,8 @@
 //! Whose name a use means, and what is rebuilt where that changes.
 use super::steps::Entry::{Absent, Cols, Empty};
 use super::steps::{Step, expect_source, expect_steps};
-use crate::{Database, Edit, EditError};
 use std::alloc::AllocError;
+use ti_base::{Database, Edit, EditError};
 
 #[rattlefmt::skip]
 const LEFTMOST_MENTION: [Step<'static>; 3] = [

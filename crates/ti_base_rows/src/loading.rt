@@ -1,8 +1,8 @@
 // Sources taken in one go: what is found out about their blocks, and why others are refused.
-use crate::Database;
 use std::alloc::Global;
 use std::process::Abort;
 use std::test::*;
+use ti_base::Database;
 use ti_meaning::EditError;
 
 /// The source of these blocks, inserted one by one.

@@ -1,7 +1,7 @@
 //! Steps that a source is led through: an edit, what it answers, and what the source is after it.
-use crate::{Database, Edit, EditError, Edited};
 use std::alloc::{AllocError, Global};
 use std::process::Abort;
+use ti_base::{Database, Edit, EditError, Edited};
 
 /// The entry of a block whose name has one byte.
 #[derive(Clone, Copy)]

@@ -1,6 +1,6 @@
 //! A run of edits.
-use crate::{Edit, EditError, Outcome, run};
 use std::alloc::AllocError;
+use ti_base::{Edit, EditError, Outcome, run};
 
 #[rattlefmt::skip]
 const EDITS: [Edit<'static>; 4] = [

@@ -1,9 +1,9 @@
 //! What is refused, and the largest blocks and entries.
 use super::steps::Entry::Empty;
 use super::steps::{Entry, Step, expect_report, expect_source, source_of};
-use crate::{Database, Edit, EditError};
 use std::alloc::{AllocError, Global};
 use std::process::Abort;
+use ti_base::{Database, Edit, EditError};
 
 const THREE: [Entry; 3] = [Empty(b'a'), Empty(b'b'), Empty(b'c')];
 

@@ -7,11 +7,11 @@ ghost use Rattle.ti_source.specs.Reading.{reading_of};
 ghost use Rattle.ti_slots.specs.Slots.{blocks_of, IsIndexed, StandsAt};
 ghost use Rattle.ti_dependents.specs.Dependents.{IsExchangeOf};
 
-use crate::{Plan, plan};
 use std::alloc::Global;
 use std::process::Abort;
 use std::test::*;
 use ti_dependents::find_dependents;
+use ti_plan::{Plan, plan};
 use ti_slots::{Settled, Slot, Slots, State};
 use ti_source::{Code, is_block, parse};
 
@@ -173,7 +173,7 @@ fn all_blocks(rt: HostRuntime) -> Result<(), Fail> {
     let b = put(&mut slots, slot_of(alloc, b"b,use=c,\n")?)?;
     let a = put(&mut slots, slot_of(alloc, b"a,use=b,use=d,\n")?)?;
     // The list is a, b, c, d, and nothing was found out about any of them.
-    let all = crate::plan_all(alloc, &slots)?;
+    let all = ti_plan::plan_all(alloc, &slots)?;
     assert_eq!(rt; all.ids.as_slice(), [a, b, c, d].as_slice());
     expect_rebuilt(&rt, &all, &[0, 1, 2, 3], 2);
     expect(&rt, &all, a, None, &[(Code::Unresolved, b"d")])?;

@@ -1,9 +1,9 @@
 //! Blocks that use each other in a ring, as edits make and unmake it.
 use super::steps::Entry::{Absent, Cols};
 use super::steps::{Entry, Step, expect_source, expect_steps};
-use crate::{Database, Edit};
 use std::alloc::{AllocError, Global};
 use std::process::Abort;
+use ti_base::{Database, Edit};
 
 const NONE_OF_TWO: [Entry; 2] = [Absent, Absent];
 

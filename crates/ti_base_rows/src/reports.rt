@@ -1,9 +1,9 @@
 //! What is said of a source, and where.
 use super::steps::Entry::{Absent, Am, Empty};
 use super::steps::{Step, expect_source, expect_steps, source_of};
-use crate::{Database, Edit, EditError, Fault};
 use std::alloc::AllocError;
 use std::process::Abort;
+use ti_base::{Database, Edit, EditError, Fault};
 use ti_source::Code;
 
 #[rattlefmt::skip]

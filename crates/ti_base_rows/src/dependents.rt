@@ -1,8 +1,8 @@
 //! Sources of many blocks that use one another, rebuilt from their root.
 use super::steps::expect_report;
-use crate::{Database, EditError, Edited};
 use std::alloc::{AllocError, Global};
 use std::process::Abort;
+use ti_base::{Database, EditError, Edited};
 
 /// A block of a name that uses another, both a letter and a number.
 fn link(alloc: Global, at: usize, used: usize) -> Result<String, AllocError> {
