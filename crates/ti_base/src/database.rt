@@ -234,6 +234,3 @@ pub fn run(alloc: Global, edits: &[Edit<'_>]) -> Result<(Database, Vec<Outcome>)
     }
     Ok((database, outcomes))
 }
-
-#[cfg(test)]
-mod tests;

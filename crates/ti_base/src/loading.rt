@@ -61,6 +61,3 @@ pub(crate) fn load_slots(alloc: Global, texts: &[&[u8]]) -> Result<Slots, EditEr
     rebuild_all(alloc, &mut slots)?;
     Ok(slots)
 }
-
-#[cfg(test)]
-mod tests;

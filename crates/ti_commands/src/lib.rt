@@ -21,6 +21,3 @@ pub use commands::command;
 pub use jobs::{InfocmpMode, Job};
 pub use ti_list::{Layout, Order};
 pub use usage::{UsageText, usage_text};
-
-#[cfg(test)]
-mod tests;

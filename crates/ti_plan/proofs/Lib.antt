@@ -8,5 +8,4 @@ pub mod Following
 pub mod Rising
 pub mod Steps
 pub mod MadePlans
-pub mod PutFirst
 pub mod AllPlans

@@ -19,6 +19,3 @@ mod settling;
 
 pub use planning::{plan, plan_all};
 pub use plans::Plan;
-
-#[cfg(test)]
-mod tests;

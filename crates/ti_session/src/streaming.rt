@@ -42,6 +42,3 @@ pub fn session<R: Read, W: Write>(
         }
     }
 }
-
-#[cfg(test)]
-mod tests;

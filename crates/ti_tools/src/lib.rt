@@ -29,6 +29,3 @@ pub use ti_devices::{Counted, File, MemTree, Tally, ToolError, Tree, TreeFault, 
 pub use ti_list::{Layout, Order};
 pub use ti_session::session;
 pub use ti_tput::{TputOutcome, entry, locate, places, tput, tput_lines};
-
-#[cfg(test)]
-mod tests;

@@ -19,6 +19,3 @@ pub use commands::{bad_commands_change_nothing, tput};
 pub use replies::TputOutcome;
 pub use searching::{entry, locate, places};
 pub use streaming::tput_lines;
-
-#[cfg(test)]
-mod tests;

@@ -1,0 +1,33 @@
+//! The worked rows of the database and of its plans as tests, with entries and reports by hand; no code of the
+//! product. They stand in tables, and what goes over a table is proved once: a test that makes many calls in a row
+//! takes long to prove.
+//!
+//! - `steps`: the steps that a source is led through, for the rows below
+//! - `dependents`: sources of many blocks that use one another
+//! - `limits`: what is refused, and the largest blocks and entries
+//! - `owners`: whose name a use means
+//! - `reports`: what is said of a source, and where
+//! - `rings`: blocks that use one another in a ring
+//! - `runs`: a run of edits
+//! - `loading`: sources taken in one go
+//! - `plans`: the plans of small lists
+#![tactic(auto)]
+
+#[cfg(test)]
+mod dependents;
+#[cfg(test)]
+mod limits;
+#[cfg(test)]
+mod loading;
+#[cfg(test)]
+mod owners;
+#[cfg(test)]
+mod plans;
+#[cfg(test)]
+mod reports;
+#[cfg(test)]
+mod rings;
+#[cfg(test)]
+mod runs;
+#[cfg(test)]
+mod steps;

@@ -1,0 +1,99 @@
+//! What is said of a source, and where.
+use super::steps::Entry::{Absent, Am, Empty};
+use super::steps::{Step, expect_source, expect_steps, source_of};
+use std::alloc::AllocError;
+use std::process::Abort;
+use ti_base::{Database, Edit, EditError, Fault};
+use ti_source::Code;
+
+#[rattlefmt::skip]
+const FAULTY_USES: [Step<'static>; 5] = [
+    Step { edit: Edit::Insert { at: 0, text: b"a,use=zz,\n" }, outcome: Ok((&[0], 0)),
+        entries: &[Absent], report: "1: E6 MissingUse zz\n" },
+    Step { edit: Edit::Insert { at: 1, text: b"b,use=b,\n" }, outcome: Ok((&[1], 0)),
+        entries: &[Absent, Absent], report: "1: E6 MissingUse zz\n2: E7 Circular b\n" },
+    Step { edit: Edit::Insert { at: 2, text: b"c,cols#,\n" }, outcome: Ok((&[2], 0)),
+        entries: &[Absent, Absent, Absent], report: "1: E6 MissingUse zz\n2: E7 Circular b\n3: E3 BadNumber cols\n" },
+    Step { edit: Edit::Insert { at: 3, text: b"d,use=c,\n" }, outcome: Ok((&[3], 0)),
+        entries: &[Absent, Absent, Absent, Absent],
+        report: "1: E6 MissingUse zz\n2: E7 Circular b\n3: E3 BadNumber cols\n4: E8 Unresolved c\n" },
+    Step { edit: Edit::Insert { at: 4, text: b"g,am,\n" }, outcome: Ok((&[4], 1)),
+        entries: &[Absent, Absent, Absent, Absent, Am(b'g')],
+        report: "1: E6 MissingUse zz\n2: E7 Circular b\n3: E3 BadNumber cols\n4: E8 Unresolved c\n" },
+];
+
+#[test]
+fn faults_of_uses(rt: HostRuntime) -> Result<(), AllocError> {
+    expect_source(&rt, rt.alloc(), &FAULTY_USES)
+}
+
+#[rattlefmt::skip]
+const BLOCKS_OF_LINES: [Step<'static>; 3] = [
+    Step { edit: Edit::Insert { at: 0, text: b"k,\n# one\n# two\n" }, outcome: Ok((&[0], 0)), entries: &[Empty(b'k')], report: "" },
+    Step { edit: Edit::Insert { at: 1, text: b"a,foo,\n" }, outcome: Ok((&[1], 0)),
+        entries: &[Empty(b'k'), Empty(b'a')], report: "4: W1 UnknownCapability foo\n" },
+    Step { edit: Edit::Insert { at: 2, text: b"b,\n\tuse=zz,\n" }, outcome: Ok((&[2], 0)),
+        entries: &[Empty(b'k'), Empty(b'a'), Absent], report: "4: W1 UnknownCapability foo\n6: E6 MissingUse zz\n" },
+];
+
+/// The faults stand in these blocks, on these lines of them.
+fn expect_places(rt: &impl Abort, faults: &[Fault], want: &[(usize, usize)]) {
+    assert_eq!(rt; faults.len(), want.len());
+    for (fault, place) in faults.iter().zip(want.iter()) {
+        assert_eq!(rt; (fault.block, fault.line), *place);
+    }
+}
+
+#[test]
+fn faults_stand_on_lines_of_their_blocks(rt: HostRuntime) -> Result<(), AllocError> {
+    let mut database = Database::new(rt.alloc());
+    expect_steps(&rt, &mut database, &BLOCKS_OF_LINES)?;
+    let faults = database.faults()?;
+    expect_places(&rt, faults.as_slice(), &[(1, 1), (2, 2)]);
+    assert_eq!(rt;
+        faults.last().map(|fault| fault.code),
+        Some(Code::MissingUse)
+    );
+    Ok(())
+}
+
+const SHARED_NAMES: [&[u8]; 3] = [
+    b"a|n|a|the first,\n",
+    b"b|,\n",
+    b"n|c|n|the last,\n\tuse=zz,\n",
+];
+
+/// The lookup names of each of these blocks, all of one byte.
+const NAMES: [&[u8]; 3] = [b"ana", b"", b"ncn"];
+
+/// The names of a block are these bytes.
+fn expect_names(rt: &impl Abort, database: &Database, at: usize, want: &[u8]) {
+    assert!(rt; at < database.len());
+    let names = database.names(at);
+    assert_eq!(rt; names.len(), want.len());
+    for (name, byte) in names.iter().zip(want.iter()) {
+        assert!(rt;
+            name.as_slice() == [*byte].as_slice(),
+            "names of block {at}"
+        );
+    }
+}
+
+#[test]
+fn names_of_blocks(rt: HostRuntime) -> Result<(), EditError> {
+    let database = source_of(rt.alloc(), &SHARED_NAMES)?;
+    for (at, want) in NAMES.iter().enumerate() {
+        expect_names(&rt, &database, at, want);
+    }
+    Ok(())
+}
+
+#[test]
+fn a_report_of_faults_that_are_there(rt: HostRuntime) -> Result<(), EditError> {
+    let database = source_of(rt.alloc(), &SHARED_NAMES)?;
+    let faults = database.faults()?;
+    let report = database.report_of(&faults, 7)?;
+    let want: &[u8] = b"8: E1 BadHeader\n9: W4 DuplicateName n\n10: E6 MissingUse zz\n";
+    assert!(rt; report.as_slice() == want);
+    Ok(())
+}

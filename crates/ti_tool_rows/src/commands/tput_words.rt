@@ -1,0 +1,35 @@
+//! Worked words behind `tput`.
+use super::words;
+use std::alloc::{AllocError, Global};
+use std::test::Fail;
+use ti_commands::{Job, UsageError, job};
+
+// A job of `tput`.
+fn tput_job(alloc: Global) -> Result<Job, AllocError> {
+    Ok(Job::Tput {
+        lines: false,
+        term: None,
+        rate: 9600,
+        words: words(alloc, &["cup", "4", "9"])?,
+    })
+}
+
+#[test]
+fn the_words_of_tput(rt: HostRuntime) -> Result<(), Fail> {
+    let alloc = rt.alloc();
+    let given = words(alloc, &["ti", "tput", "--rate", "9600", "cup", "4", "9"])?;
+    assert!(rt; job(alloc, given.as_slice())? == tput_job(alloc)?);
+    let refused: [&[&str]; 4] = [
+        &["ti", "tput"],
+        &["ti", "tput", "-S", "cols"],
+        &["ti", "tput", "--rate", "4294967296", "cols"],
+        &[
+            "ti", "tput", "u0", "0", "1", "2", "3", "4", "5", "6", "7", "8", "9",
+        ],
+    ];
+    for texts in refused {
+        let given = words(alloc, texts)?;
+        assert!(rt; job(alloc, given.as_slice()) == Err(UsageError::Usage));
+    }
+    Ok(())
+}
