@@ -1,8 +1,9 @@
 //! Reports of a database, and the reading of source.
-use crate::tried::{Tried, Trouble, again};
+use crate::again::again;
 use std::alloc::{AllocError, Global};
 use ti_base::{Database, EditError};
 use ti_source::{Code, Parsed, UnescapeError, What, escape, is_block, parse, unescape};
+use ti_tried_edits::{Tried, Trouble};
 
 /// Blocks that have a fault of almost each kind.
 const FAULTY: [&[u8]; 8] = [

@@ -2,11 +2,12 @@
 ghost use Rattle.std.specs.Prelude.{◌↔◌, IsTrue};
 ghost use Rattle.ti_layout.specs.Values.{HasNoNul};
 
-use crate::tried::{Tried, Trouble, again};
+use crate::again::again;
 use std::alloc::{AllocError, Global};
 use std::rc::RcSlice;
 use ti_caps::{Cap, Kind};
 use ti_compiled::{Image, Table, Value, WriteError, write};
+use ti_tried_edits::{Tried, Trouble};
 
 /// The places of the texts that are set.
 const PLACES: [usize; 6] = [1, 2, 11, 14, 19, 129];

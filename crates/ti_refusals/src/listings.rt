@@ -1,9 +1,10 @@
 //! Listings, comparisons and relative source, by the library and by the tool.
+use crate::again::again;
 use crate::calls::entry_of;
-use crate::tried::{Tried, Trouble, again};
 use std::alloc::{AllocError, Global};
 use ti_list::{Layout, ListError, Mode, Order, compare, list, relative};
 use ti_tools::{InfocmpMode, InfocmpOptions, ToolError, entry, infocmp};
+use ti_tried_edits::{Tried, Trouble};
 
 const FIRST: &[u8] = b"a|first,am,cols#80,bel=^G,cup=\\E[%i%p1%d;%p2%dH,\n";
 

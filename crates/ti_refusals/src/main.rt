@@ -2,28 +2,25 @@
 //! `tests/refusals`. Each scenario makes its calls; one that answers want of memory must have changed
 //! nothing, and is made again. So a scenario prints the same line whichever growth was refused, and
 //! `refused` goes to standard error where a call of the libraries said so.
+//! The edits and the loads among them stand in `ti_tried_edits`.
 //!
 //! The words are names of scenarios; without any, all run.
 #![tactic(auto)]
 
-mod blocks;
+mod again;
 mod calls;
-mod edits;
 mod entries;
 mod listings;
-mod many;
 mod scenarios;
 mod scripts;
 mod strings;
 mod tools;
-mod tried;
-mod wholes;
 
 use scenarios::Scenario;
 use std::process::ExitCode;
 use std::rt::Env;
 use std::{env, io};
-use tried::{Tried, Trouble};
+use ti_tried_edits::{Tried, Trouble};
 
 fn main(rt: HostRuntime) -> ExitCode {
     match run(&rt) {

@@ -1,9 +1,9 @@
 //! The scenarios, and their names.
-use crate::blocks::{moves, owners, ring, three};
-use crate::many::Many;
-use crate::tried::{Tried, Trouble};
-use crate::{calls, edits, entries, listings, many, scripts, strings, tools, wholes};
+use crate::{calls, entries, listings, scripts, strings, tools};
 use std::alloc::Global;
+use ti_tried_edits::blocks::{moves, owners, ring, three};
+use ti_tried_edits::many::Many;
+use ti_tried_edits::{Tried, Trouble, edits, many, wholes};
 
 /// Calls that are made one after the other.
 #[derive(Clone, Copy, Debug, PartialEq, Eq)]

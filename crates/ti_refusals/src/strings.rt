@@ -1,7 +1,8 @@
 //! Parameter strings expanded, and texts padded.
-use crate::tried::{Tried, Trouble, again};
+use crate::again::again;
 use std::alloc::Global;
 use ti_param::{Line, PadError, ParamError, Statics, Value, expand, pad};
+use ti_tried_edits::{Tried, Trouble};
 
 /// Formats, some of which set a variable or are bad.
 const FORMATS: [&[u8]; 8] = [

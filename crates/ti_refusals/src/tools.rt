@@ -1,11 +1,12 @@
 //! Command lines, places of entries, compiled sources and what `tput` answers.
+use crate::again::again;
 use crate::calls::entry_of;
-use crate::tried::{Tried, Trouble, again};
 use std::alloc::{AllocError, Global};
 use ti_tools::{
     File, Job, MemTree, TicOptions, TicOutcome, ToolError, Tree, TreeFault, UsageError, entry, job,
     locate, place, places, tic, tput,
 };
+use ti_tried_edits::{Tried, Trouble};
 
 /// Command lines of each tool, and two that ask for no job.
 const COMMANDS: [&[&str]; 7] = [

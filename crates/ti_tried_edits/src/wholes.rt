@@ -1,6 +1,6 @@
 //! Lists of edits that are made in one call, and lists of blocks that are loaded.
 use crate::edits::{LongBlocks, seen};
-use crate::tried::{Tried, Trouble, again};
+use crate::tried::{Tried, Trouble};
 use std::alloc::Global;
 use ti_base::{Database, Edit, EditError, Outcome, run};
 
@@ -103,14 +103,24 @@ fn put_in_turn(alloc: Global, texts: &[&[u8]]) -> Result<Database, Trouble> {
     Ok(database)
 }
 
-/// Loads blocks, and once more where memory was refused to it: what is loaded is what the same blocks put in
-/// one by one are.
+// The database of blocks that are loaded, and once more where memory was refused to it.
+fn load_again(alloc: Global, texts: &[&[u8]], tried: &mut Tried) -> Result<Database, EditError> {
+    match Database::load(alloc, texts) {
+        Err(EditError::Memory) => {
+            tried.count_refusal();
+            Database::load(alloc, texts)
+        }
+        answered => answered,
+    }
+}
+
+/// Loads blocks: what is loaded is what the same blocks put in one by one are, and one that is none is refused.
 ///
 /// # Errors
 /// As of a scenario.
 pub fn load(alloc: Global) -> Result<Tried, Trouble> {
     let mut tried = Tried::new();
-    let Ok(loaded) = again!(tried, EditError::Memory => Database::load(alloc, &LOADED)) else {
+    let Ok(loaded) = load_again(alloc, &LOADED, &mut tried) else {
         return Err(Trouble::Wrong("blocks were refused with memory there"));
     };
     let reference = put_in_turn(alloc, &LOADED)?;
@@ -119,7 +129,7 @@ pub fn load(alloc: Global) -> Result<Tried, Trouble> {
         return Err(Trouble::Wrong("the blocks loaded are not those put in"));
     }
     tried.add(found.as_slice());
-    match again!(tried, EditError::Memory => Database::load(alloc, &REFUSED)) {
+    match load_again(alloc, &REFUSED, &mut tried) {
         Err(EditError::NotOneBlock) => tried.add(b"NotOneBlock"),
         _ => return Err(Trouble::Wrong("a text of two blocks was loaded")),
     }

@@ -79,18 +79,3 @@ impl Tried {
         self.refusals
     }
 }
-
-/// The answer of a call, which is made again where it was want of memory.
-macro_rules! again {
-    ($tried:expr, $memory:pat => $call:expr) => {
-        match $call {
-            Err($memory) => {
-                $tried.count_refusal();
-                $call
-            }
-            answered => answered,
-        }
-    };
-}
-
-pub(crate) use again;
