@@ -1,6 +1,8 @@
 // Texts that blocks share: what was last read of each capability.
-ghost use Rattle.std.specs.Prelude.{◌≡◌, Ok, false, IfSome};
+ghost use Rattle.std.specs.Prelude.{◌≡◌, None, Ok, false, length, All, IfOk, IfSome};
 ghost use Rattle.std.specs.Rc.{rc_slice_items};
+ghost use Rattle.ti_caps.specs.Tables.{count_of};
+ghost use Rattle.ti_caps.specs.declared.capability.Kind.TheVariants.{Text};
 ghost use Rattle.ti_spelling.specs.inside.Spelling.{unescape_result};
 
 use std::alloc::{AllocError, Global};
@@ -28,9 +30,12 @@ pub struct SharedTexts {
 
 impl SharedTexts {
     /// No text yet, and a place for that of each capability.
-    pub fn new(alloc: Global) -> Result<SharedTexts, AllocError> {
+    pub fn new(alloc: Global) -> Result<SharedTexts, AllocError>
+        ensures places { IfOk result (λ shared. length shared.last.items ≡ count_of Text) }
+        ensures none { IfOk result (λ shared. All (λ kept. kept ≡ None) shared.last.items) }
+    {
         let mut last = Vec::with_capacity(alloc, count(Kind::Text))?;
-        for _ in 0..count(Kind::Text) {
+        for _place in 0..count(Kind::Text) {
             last.push(None)?;
         }
         Ok(SharedTexts { last })
