@@ -4,7 +4,7 @@ ghost use Rattle.std.specs.List.{flat_map, range_with_len};
 ghost use Rattle.std.specs.Rc.{rc_slice_items};
 ghost use Rattle.ti_text.specs.Texts.{line_count};
 ghost use Rattle.ti_source.specs.Codes.{code_text};
-ghost use Rattle.ti_meaning.specs.Report.{shown_byte, shown_detail, detail_text, fault_line, lines_before, report_line};
+ghost use Rattle.ti_meaning.specs.Report.{shown_byte, shown_detail, fault_line, lines_before, report_line};
 ghost use Rattle.ti_meaning.specs.Faults.{fault_seen};
 ghost use Rattle.ti_meaning.specs.Bounds.{IsPlaced};
 ghost use Rattle.ti_slots.specs.Slots.{texts_of};

@@ -1,5 +1,6 @@
 //! What clap reads of an argument of a tool, with its help.
-ghost use Rattle.std.specs.Prelude.{◌≡◌, false};
+ghost use Rattle.std.specs.Prelude.{◌≡◌, false, Some};
+ghost use Rattle.clap.specs.declared.builder.texts.Texts.TheVariants.{One};
 ghost use Rattle.clap.specs.Words.{rule_of};
 ghost use Rattle.ti_commands.specs.Rules.{flag_rule, long_option_rule, number_rule, operand_rule, operands_rule, option_rule};
 
@@ -11,6 +12,7 @@ use std::alloc::Global;
 pub fn flag<'a>(alloc: Global, id: &'a str, short: char, help: &'a str) -> Arg<'a>
     ensures rule { rule_of result ≡ flag_rule id.entry.now short }
     ensures local { result.global ≡ false }
+    ensures help { result.help ≡ Some help.entry }
 {
     Arg::new(alloc, id)
         .short(short)
@@ -22,6 +24,8 @@ pub fn flag<'a>(alloc: Global, id: &'a str, short: char, help: &'a str) -> Arg<'
 pub fn option<'a>(alloc: Global, id: &'a str, short: char, value: &'a str, help: &'a str) -> Arg<'a>
     ensures rule { rule_of result ≡ option_rule id.entry.now short }
     ensures local { result.global ≡ false }
+    ensures value { result.val_names ≡ One value.entry }
+    ensures help { result.help ≡ Some help.entry }
 {
     Arg::new(alloc, id)
         .short(short)
@@ -34,6 +38,8 @@ pub fn option<'a>(alloc: Global, id: &'a str, short: char, value: &'a str, help:
 pub fn operand<'a>(alloc: Global, id: &'a str, value: &'a str, help: &'a str) -> Arg<'a>
     ensures rule { rule_of result ≡ operand_rule id.entry.now }
     ensures local { result.global ≡ false }
+    ensures value { result.val_names ≡ One value.entry }
+    ensures help { result.help ≡ Some help.entry }
 {
     Arg::new(alloc, id)
         .action(ArgAction::Set)
@@ -45,6 +51,8 @@ pub fn operand<'a>(alloc: Global, id: &'a str, value: &'a str, help: &'a str) ->
 pub fn long_option<'a>(alloc: Global, id: &'a str, value: &'a str, help: &'a str) -> Arg<'a>
     ensures rule { rule_of result ≡ long_option_rule id.entry.now }
     ensures local { result.global ≡ false }
+    ensures value { result.val_names ≡ One value.entry }
+    ensures help { result.help ≡ Some help.entry }
 {
     Arg::new(alloc, id)
         .long(id)
@@ -57,6 +65,8 @@ pub fn long_option<'a>(alloc: Global, id: &'a str, value: &'a str, help: &'a str
 pub fn operands<'a>(alloc: Global, id: &'a str, value: &'a str, help: &'a str) -> Arg<'a>
     ensures rule { rule_of result ≡ operands_rule id.entry.now }
     ensures local { result.global ≡ false }
+    ensures value { result.val_names ≡ One value.entry }
+    ensures help { result.help ≡ Some help.entry }
 {
     Arg::new(alloc, id)
         .action(ArgAction::Append)
@@ -76,6 +86,7 @@ pub fn number<'a>(
 ) -> Arg<'a>
     ensures rule { rule_of result ≡ number_rule id.entry.now short least greatest }
     ensures local { result.global ≡ false }
+    ensures help { result.help ≡ Some help.entry }
 {
     option(alloc, id, short, "N", help).value_parser(ValueParser::unsigned(least, greatest))
 }

@@ -47,6 +47,13 @@ image_with bytes cap content = image (names_in bytes) (with_content (contents_in
 abbrev pub limit_with : List ℕ → Capability → Option Content → ℕ
 limit_with bytes cap content = limit_of (with_content (contents_in bytes) cap content)
 
+-- that image is within its limit, or is over it
+abbrev pub FitsWith : List ℕ → Capability → Option Content → Type 0
+FitsWith bytes cap content = IsWithin (names_in bytes) (with_content (contents_in bytes) cap content)
+
+abbrev pub IsOverWith : List ℕ → Capability → Option Content → Type 0
+IsOverWith bytes cap content = IsOver (names_in bytes) (with_content (contents_in bytes) cap content)
+
 -- what the bytes hold, with a number given or taken away
 abbrev pub with_number : List ℕ → ℕ → Option ℕ → Contents
 with_number bytes index number = with_content (contents_in bytes) (capability Number index) (number_content number)

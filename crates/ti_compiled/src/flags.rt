@@ -3,9 +3,9 @@
 ghost use Rattle.std.specs.Prelude.{◌≡◌, ◌≢◌, ℕ, suc, ◌<◌, ◌≤◌, ◌↔◌, length, slice_index, vec_capacity, IsErrOf, OnOk, OnErr};
 ghost use Rattle.ti_caps.specs.Tables.{capability};
 ghost use Rattle.ti_caps.specs.declared.capability.Kind.TheVariants.{Flag};
-ghost use Rattle.ti_layout.specs.Image.{image, limit_of, flag_value};
+ghost use Rattle.ti_layout.specs.Image.{image, flag_value};
 ghost use Rattle.ti_layout.specs.Sizes.{HasSizes};
-ghost use Rattle.ti_compiled.specs.Changes.{flag_content};
+ghost use Rattle.ti_compiled.specs.Changes.{flag_content, image_with, FitsWith, IsOverWith};
 ghost use Rattle.ti_compiled.specs.Held.{names_in, contents_in, with_content, IsImage};
 
 use crate::bytes::resize_part;
@@ -55,9 +55,9 @@ fn change_flag(bytes: &mut Vec<u8>, old: &Header, new: &Header, index: usize, on
     requires index { index < 44 }
     requires old { HasSizes (names_in bytes.old.items) (contents_in bytes.old.items) old.now }
     requires new { HasSizes (names_in bytes.old.items) (with_content (contents_in bytes.old.items) (capability Flag index) (flag_content on)) new.now }
-    requires small { length (image (names_in bytes.old.items) (with_content (contents_in bytes.old.items) (capability Flag index) (flag_content on))) ≤ limit_of (with_content (contents_in bytes.old.items) (capability Flag index) (flag_content on)) }
-    requires room { length (image (names_in bytes.old.items) (with_content (contents_in bytes.old.items) (capability Flag index) (flag_content on))) ≤ vec_capacity bytes.old }
-    ensures { bytes.new.items ≡ image (names_in bytes.old.items) (with_content (contents_in bytes.old.items) (capability Flag index) (flag_content on)) }
+    requires small { FitsWith bytes.old.items (capability Flag index) (flag_content on) }
+    requires room { length (image_with bytes.old.items (capability Flag index) (flag_content on)) ≤ vec_capacity bytes.old }
+    ensures { bytes.new.items ≡ image_with bytes.old.items (capability Flag index) (flag_content on) }
 {
     let start = HEADER_SIZE + old.names;
     let size = old.flags + (old.names + old.flags) % 2;
@@ -73,10 +73,10 @@ fn change_flag(bytes: &mut Vec<u8>, old: &Header, new: &Header, index: usize, on
 pub fn set_flag(bytes: &mut Vec<u8>, index: usize, on: bool) -> Result<(), WriteError>
     requires image { IsImage bytes.old.items }
     requires index { index < 44 }
-    ensures ok { OnOk result (bytes.new.items ≡ image (names_in bytes.old.items) (with_content (contents_in bytes.old.items) (capability Flag index) (flag_content on))) }
-    ensures within { OnOk result (length (image (names_in bytes.old.items) (with_content (contents_in bytes.old.items) (capability Flag index) (flag_content on))) ≤ limit_of (with_content (contents_in bytes.old.items) (capability Flag index) (flag_content on))) }
-    ensures too_large { IsErrOf result WriteError.TooLarge ↔ (limit_of (with_content (contents_in bytes.old.items) (capability Flag index) (flag_content on)) < length (image (names_in bytes.old.items) (with_content (contents_in bytes.old.items) (capability Flag index) (flag_content on)))) }
-    ensures memory { IsErrOf result WriteError.Memory → length (image (names_in bytes.old.items) (with_content (contents_in bytes.old.items) (capability Flag index) (flag_content on))) ≤ limit_of (with_content (contents_in bytes.old.items) (capability Flag index) (flag_content on)) }
+    ensures ok { OnOk result (bytes.new.items ≡ image_with bytes.old.items (capability Flag index) (flag_content on)) }
+    ensures within { OnOk result (FitsWith bytes.old.items (capability Flag index) (flag_content on)) }
+    ensures too_large { IsErrOf result WriteError.TooLarge ↔ IsOverWith bytes.old.items (capability Flag index) (flag_content on) }
+    ensures memory { IsErrOf result WriteError.Memory → FitsWith bytes.old.items (capability Flag index) (flag_content on) }
     ensures names_fit { IsErrOf result WriteError.NamesTooLong → ⊥ }
     ensures err { OnErr result (bytes.new.items ≡ bytes.old.items) }
 {

@@ -5,7 +5,7 @@ ghost use Rattle.ti_caps.specs.declared.capability.Kind.TheVariants.{Flag, Numbe
 ghost use Rattle.ti_layout.specs.Image.{image, limit_of, HasNoNul};
 ghost use Rattle.ti_layout.specs.Laws.{without_cancel};
 ghost use Rattle.ti_layout.specs.Values.{content_of, contents, AgreesIfSome};
-ghost use Rattle.ti_compiled.specs.Changes.{flag_content, number_content, text_content, image_with, limit_with, HoldsGiven, IsWithin};
+ghost use Rattle.ti_compiled.specs.Changes.{flag_content, number_content, text_lent, content_lent, image_with, FitsWith, HoldsGiven, IsOverWith, IsWithin};
 ghost use Rattle.ti_compiled.specs.Held.{names_in, contents_in};
 
 use crate::flags::set_flag;
@@ -119,9 +119,9 @@ impl Image {
         ensures ok { OnOk result (self.new ≡ image_with self.old cap (flag_content on)) }
         ensures names { OnOk result (names_in self.new ≡ names_in self.old) }
         ensures contents { OnOk result (HoldsGiven self.old self.new cap (flag_content on)) }
-        ensures within { OnOk result (length (image_with self.old cap (flag_content on)) ≤ limit_with self.old cap (flag_content on)) }
-        ensures too_large { IsErrOf result WriteError.TooLarge ↔ (limit_with self.old cap (flag_content on) < length (image_with self.old cap (flag_content on))) }
-        ensures memory { IsErrOf result WriteError.Memory → length (image_with self.old cap (flag_content on)) ≤ limit_with self.old cap (flag_content on) }
+        ensures within { OnOk result (FitsWith self.old cap (flag_content on)) }
+        ensures too_large { IsErrOf result WriteError.TooLarge ↔ IsOverWith self.old cap (flag_content on) }
+        ensures memory { IsErrOf result WriteError.Memory → FitsWith self.old cap (flag_content on) }
         ensures names_fit { IsErrOf result WriteError.NamesTooLong → ⊥ }
         ensures err { OnErr result (self.new ≡ self.old) }
     {
@@ -135,9 +135,9 @@ impl Image {
         ensures ok { OnOk result (self.new ≡ image_with self.old cap (number_content number)) }
         ensures names { OnOk result (names_in self.new ≡ names_in self.old) }
         ensures contents { OnOk result (HoldsGiven self.old self.new cap (number_content number)) }
-        ensures within { OnOk result (length (image_with self.old cap (number_content number)) ≤ limit_with self.old cap (number_content number)) }
-        ensures too_large { IsErrOf result WriteError.TooLarge ↔ (limit_with self.old cap (number_content number) < length (image_with self.old cap (number_content number))) }
-        ensures memory { IsErrOf result WriteError.Memory → length (image_with self.old cap (number_content number)) ≤ limit_with self.old cap (number_content number) }
+        ensures within { OnOk result (FitsWith self.old cap (number_content number)) }
+        ensures too_large { IsErrOf result WriteError.TooLarge ↔ IsOverWith self.old cap (number_content number) }
+        ensures memory { IsErrOf result WriteError.Memory → FitsWith self.old cap (number_content number) }
         ensures names_fit { IsErrOf result WriteError.NamesTooLong → ⊥ }
         ensures err { OnErr result (self.new ≡ self.old) }
     {
@@ -148,12 +148,12 @@ impl Image {
     fn set_text(&mut self, cap: Cap, text: Option<&[u8]>) -> Result<(), WriteError>
         requires kind { cap.kind ≡ Text }
         requires no_nul { IfSome text (λ t. HasNoNul t.now) }
-        ensures ok { OnOk result (self.new ≡ image_with self.old cap (text_content (option_map (λ t. t.now) text.entry))) }
+        ensures ok { OnOk result (self.new ≡ image_with self.old cap (text_lent text.entry)) }
         ensures names { OnOk result (names_in self.new ≡ names_in self.old) }
-        ensures contents { OnOk result (HoldsGiven self.old self.new cap (text_content (option_map (λ t. t.now) text.entry))) }
-        ensures within { OnOk result (length (image_with self.old cap (text_content (option_map (λ t. t.now) text.entry))) ≤ limit_with self.old cap (text_content (option_map (λ t. t.now) text.entry))) }
-        ensures too_large { IsErrOf result WriteError.TooLarge ↔ (limit_with self.old cap (text_content (option_map (λ t. t.now) text.entry)) < length (image_with self.old cap (text_content (option_map (λ t. t.now) text.entry)))) }
-        ensures memory { IsErrOf result WriteError.Memory → length (image_with self.old cap (text_content (option_map (λ t. t.now) text.entry))) ≤ limit_with self.old cap (text_content (option_map (λ t. t.now) text.entry)) }
+        ensures contents { OnOk result (HoldsGiven self.old self.new cap (text_lent text.entry)) }
+        ensures within { OnOk result (FitsWith self.old cap (text_lent text.entry)) }
+        ensures too_large { IsErrOf result WriteError.TooLarge ↔ IsOverWith self.old cap (text_lent text.entry) }
+        ensures memory { IsErrOf result WriteError.Memory → FitsWith self.old cap (text_lent text.entry) }
         ensures names_fit { IsErrOf result WriteError.NamesTooLong → ⊥ }
         ensures err { OnErr result (self.new ≡ self.old) }
     {
@@ -165,9 +165,9 @@ impl Image {
         ensures ok { OnOk result (self.new ≡ image_with self.old cap None) }
         ensures names { OnOk result (names_in self.new ≡ names_in self.old) }
         ensures contents { OnOk result (HoldsGiven self.old self.new cap None) }
-        ensures within { OnOk result (length (image_with self.old cap None) ≤ limit_with self.old cap None) }
-        ensures too_large { IsErrOf result WriteError.TooLarge ↔ (limit_with self.old cap None < length (image_with self.old cap None)) }
-        ensures memory { IsErrOf result WriteError.Memory → length (image_with self.old cap None) ≤ limit_with self.old cap None }
+        ensures within { OnOk result (FitsWith self.old cap None) }
+        ensures too_large { IsErrOf result WriteError.TooLarge ↔ IsOverWith self.old cap None }
+        ensures memory { IsErrOf result WriteError.Memory → FitsWith self.old cap None }
         ensures names_fit { IsErrOf result WriteError.NamesTooLong → ⊥ }
         ensures err { OnErr result (self.new ≡ self.old) }
     {
@@ -182,12 +182,12 @@ impl Image {
     /// change leaves the image.
     pub(crate) fn set_value(&mut self, cap: Cap, value: Option<&Value>) -> Result<(), WriteError>
         requires agrees { AgreesIfSome cap (option_map (λ v. content_of v.now) value) }
-        ensures ok { OnOk result (self.new ≡ image_with self.old cap (without_cancel (option_map (λ v. content_of v.now) value.entry))) }
+        ensures ok { OnOk result (self.new ≡ image_with self.old cap (without_cancel (content_lent value.entry))) }
         ensures names { OnOk result (names_in self.new ≡ names_in self.old) }
-        ensures contents { OnOk result (HoldsGiven self.old self.new cap (without_cancel (option_map (λ v. content_of v.now) value.entry))) }
-        ensures within { OnOk result (length (image_with self.old cap (without_cancel (option_map (λ v. content_of v.now) value.entry))) ≤ limit_with self.old cap (without_cancel (option_map (λ v. content_of v.now) value.entry))) }
-        ensures too_large { IsErrOf result WriteError.TooLarge ↔ (limit_with self.old cap (without_cancel (option_map (λ v. content_of v.now) value.entry)) < length (image_with self.old cap (without_cancel (option_map (λ v. content_of v.now) value.entry)))) }
-        ensures memory { IsErrOf result WriteError.Memory → length (image_with self.old cap (without_cancel (option_map (λ v. content_of v.now) value.entry))) ≤ limit_with self.old cap (without_cancel (option_map (λ v. content_of v.now) value.entry)) }
+        ensures contents { OnOk result (HoldsGiven self.old self.new cap (without_cancel (content_lent value.entry))) }
+        ensures within { OnOk result (FitsWith self.old cap (without_cancel (content_lent value.entry))) }
+        ensures too_large { IsErrOf result WriteError.TooLarge ↔ IsOverWith self.old cap (without_cancel (content_lent value.entry)) }
+        ensures memory { IsErrOf result WriteError.Memory → FitsWith self.old cap (without_cancel (content_lent value.entry)) }
         ensures names_fit { IsErrOf result WriteError.NamesTooLong → ⊥ }
         ensures err { OnErr result (self.new ≡ self.old) }
     {
@@ -210,9 +210,9 @@ impl Image {
         ensures ok { OnOk result (self.new ≡ image_with self.old cap (without_cancel (option_map content_of value))) }
         ensures names { OnOk result (names_in self.new ≡ names_in self.old) }
         ensures contents { OnOk result (HoldsGiven self.old self.new cap (without_cancel (option_map content_of value))) }
-        ensures within { OnOk result (length (image_with self.old cap (without_cancel (option_map content_of value))) ≤ limit_with self.old cap (without_cancel (option_map content_of value))) }
-        ensures too_large { IsErrOf result WriteError.TooLarge ↔ (limit_with self.old cap (without_cancel (option_map content_of value)) < length (image_with self.old cap (without_cancel (option_map content_of value)))) }
-        ensures memory { IsErrOf result WriteError.Memory → length (image_with self.old cap (without_cancel (option_map content_of value))) ≤ limit_with self.old cap (without_cancel (option_map content_of value)) }
+        ensures within { OnOk result (FitsWith self.old cap (without_cancel (option_map content_of value))) }
+        ensures too_large { IsErrOf result WriteError.TooLarge ↔ IsOverWith self.old cap (without_cancel (option_map content_of value)) }
+        ensures memory { IsErrOf result WriteError.Memory → FitsWith self.old cap (without_cancel (option_map content_of value)) }
         ensures names_fit { IsErrOf result WriteError.NamesTooLong → ⊥ }
         ensures err { OnErr result (self.new ≡ self.old) }
     {

@@ -1,12 +1,14 @@
 // A number of an image given, replaced or taken away. The section's numbers, 39 at most, are
 // read and spelled again, wider or narrower where the format changes.
 ghost use Rattle.std.specs.Prelude.{◌≡◌, ◌≢◌, ℕ, suc, ◌+◌, ◌*◌, ◌%◌, ◌<◌, ◌≤◌, List, length, take, slice_index, vec_len, vec_capacity, Option, IfSome, ◌↔◌, IsErrOf, OnOk, OnErr};
-ghost use Rattle.ti_layout.specs.Image.{image, limit_of, below, format_of};
+ghost use Rattle.ti_caps.specs.Tables.{capability};
+ghost use Rattle.ti_caps.specs.declared.capability.Kind.TheVariants.{Number};
+ghost use Rattle.ti_layout.specs.Image.{image, below, format_of};
 ghost use Rattle.ti_layout.specs.Layout as layout;
 ghost use Rattle.ti_layout.specs.Layout.{number_section, number_bytes};
 ghost use Rattle.ti_layout.specs.Sizes.{HasSizes};
 ghost use Rattle.ti_layout.specs.Values.{Contents};
-ghost use Rattle.ti_compiled.specs.Changes.{wide_value, with_number, HasNumbers};
+ghost use Rattle.ti_compiled.specs.Changes.{image_with, number_content, wide_value, with_number, FitsWith, HasNumbers, IsOverWith};
 ghost use Rattle.ti_compiled.specs.Held.{names_in, contents_in, IsImage};
 ghost use Rattle.ti_compiled.specs.Parts.{Replaces};
 
@@ -141,7 +143,7 @@ fn change_numbers(bytes: &mut Vec<u8>, old: &Header, new: &Header, values: &[u32
     requires few { new.now.numbers ≤ 39 }
     requires room { vec_len bytes.old + layout.width new.now.format * new.now.numbers ≤ vec_capacity bytes.old + layout.width old.now.format * old.now.numbers }
     ensures { (i : ℕ) (n : Option ℕ) → i < 39 → HasSizes (names_in bytes.old.items) (with_number bytes.old.items i n) new.now → values.now ≡ below (wide_value (with_number bytes.old.items i n)) 39
-        → length (image (names_in bytes.old.items) (with_number bytes.old.items i n)) ≤ limit_of (with_number bytes.old.items i n) → bytes.new.items ≡ image (names_in bytes.old.items) (with_number bytes.old.items i n) }
+        → FitsWith bytes.old.items (capability Number i) (number_content n) → bytes.new.items ≡ image_with bytes.old.items (capability Number i) (number_content n) }
 {
     let place = numbers_place(old);
     let size = old.format.width() * old.numbers;
@@ -156,10 +158,10 @@ pub fn set_number(bytes: &mut Vec<u8>, index: usize, number: Option<u32>) -> Res
     requires image { IsImage bytes.old.items }
     requires index { index < 39 }
     requires fits { IfSome number (λ n. n ≤ 2147483647) }
-    ensures ok { OnOk result (bytes.new.items ≡ image (names_in bytes.old.items) (with_number bytes.old.items index number)) }
-    ensures within { OnOk result (length (image (names_in bytes.old.items) (with_number bytes.old.items index number)) ≤ limit_of (with_number bytes.old.items index number)) }
-    ensures too_large { IsErrOf result WriteError.TooLarge ↔ (limit_of (with_number bytes.old.items index number) < length (image (names_in bytes.old.items) (with_number bytes.old.items index number))) }
-    ensures memory { IsErrOf result WriteError.Memory → length (image (names_in bytes.old.items) (with_number bytes.old.items index number)) ≤ limit_of (with_number bytes.old.items index number) }
+    ensures ok { OnOk result (bytes.new.items ≡ image_with bytes.old.items (capability Number index) (number_content number)) }
+    ensures within { OnOk result (FitsWith bytes.old.items (capability Number index) (number_content number)) }
+    ensures too_large { IsErrOf result WriteError.TooLarge ↔ IsOverWith bytes.old.items (capability Number index) (number_content number) }
+    ensures memory { IsErrOf result WriteError.Memory → FitsWith bytes.old.items (capability Number index) (number_content number) }
     ensures names_fit { IsErrOf result WriteError.NamesTooLong → ⊥ }
     ensures err { OnErr result (bytes.new.items ≡ bytes.old.items) }
 {

@@ -3,12 +3,12 @@
 ghost use Rattle.std.specs.Prelude.{◌≡◌, ◌≢◌, ℕ, suc, ◌+◌, ◌-◌, ◌*◌, ◌%◌, ◌<◌, ◌≤◌, List, ◌++◌, length, vec_len, vec_capacity, Option, option_map, ◌↔◌, IsErrOf, OnOk, OnErr};
 ghost use Rattle.ti_caps.specs.Tables.{capability};
 ghost use Rattle.ti_caps.specs.declared.capability.Kind.TheVariants.{Text};
-ghost use Rattle.ti_layout.specs.Image.{image, below, limit_of, texts_below};
+ghost use Rattle.ti_layout.specs.Image.{image, below, texts_below};
 ghost use Rattle.ti_layout.specs.Layout as layout;
-ghost use Rattle.ti_layout.specs.Layout.{number_section, number_bytes};
+ghost use Rattle.ti_layout.specs.Layout.{number_section};
 ghost use Rattle.ti_layout.specs.Reading.{word_at};
 ghost use Rattle.ti_layout.specs.Sizes.{HasSizes};
-ghost use Rattle.ti_compiled.specs.Changes.{text_content};
+ghost use Rattle.ti_compiled.specs.Changes.{image_with, text_lent, FitsWith, IsOverWith};
 ghost use Rattle.ti_compiled.specs.Held.{names_in, contents_in, with_content, IsImage};
 ghost use Rattle.ti_compiled.specs.Parts.{Replaces, moved_later, piece};
 
@@ -120,7 +120,7 @@ fn sizes_with_text(bytes: &[u8], old: &Header, index: usize, text: Option<&[u8]>
     requires image { IsImage bytes.now }
     requires old { HasSizes (names_in bytes.now) (contents_in bytes.now) old.now }
     requires index { index < 414 }
-    ensures { HasSizes (names_in bytes.now) (with_content (contents_in bytes.now) (capability Text index) (text_content (option_map (λ t. t.now) text.entry))) result }
+    ensures { HasSizes (names_in bytes.now) (with_content (contents_in bytes.now) (capability Text index) (text_lent text.entry)) result }
 {
     let start = start_of(bytes, old, index);
     let end = start_of(bytes, old, index + 1);
@@ -160,10 +160,10 @@ fn change_text(bytes: &mut Vec<u8>, old: &Header, new: &Header, index: usize, te
     requires image { IsImage bytes.old.items }
     requires index { index < 414 }
     requires old { HasSizes (names_in bytes.old.items) (contents_in bytes.old.items) old.now }
-    requires new { HasSizes (names_in bytes.old.items) (with_content (contents_in bytes.old.items) (capability Text index) (text_content (option_map (λ t. t.now) text))) new.now }
-    requires small { length (image (names_in bytes.old.items) (with_content (contents_in bytes.old.items) (capability Text index) (text_content (option_map (λ t. t.now) text)))) ≤ limit_of (with_content (contents_in bytes.old.items) (capability Text index) (text_content (option_map (λ t. t.now) text))) }
-    requires room { length (image (names_in bytes.old.items) (with_content (contents_in bytes.old.items) (capability Text index) (text_content (option_map (λ t. t.now) text)))) ≤ vec_capacity bytes.old }
-    ensures { bytes.new.items ≡ image (names_in bytes.old.items) (with_content (contents_in bytes.old.items) (capability Text index) (text_content (option_map (λ t. t.now) text.entry))) }
+    requires new { HasSizes (names_in bytes.old.items) (with_content (contents_in bytes.old.items) (capability Text index) (text_lent text)) new.now }
+    requires small { FitsWith bytes.old.items (capability Text index) (text_lent text) }
+    requires room { length (image_with bytes.old.items (capability Text index) (text_lent text)) ≤ vec_capacity bytes.old }
+    ensures { bytes.new.items ≡ image_with bytes.old.items (capability Text index) (text_lent text.entry) }
 {
     let start = start_of(bytes, old, index);
     let removed = start_of(bytes, old, index + 1) - start;
@@ -184,10 +184,10 @@ fn change_text(bytes: &mut Vec<u8>, old: &Header, new: &Header, index: usize, te
 pub fn set_text(bytes: &mut Vec<u8>, index: usize, text: Option<&[u8]>) -> Result<(), WriteError>
     requires image { IsImage bytes.old.items }
     requires index { index < 414 }
-    ensures ok { OnOk result (bytes.new.items ≡ image (names_in bytes.old.items) (with_content (contents_in bytes.old.items) (capability Text index) (text_content (option_map (λ t. t.now) text.entry)))) }
-    ensures within { OnOk result (length (image (names_in bytes.old.items) (with_content (contents_in bytes.old.items) (capability Text index) (text_content (option_map (λ t. t.now) text.entry)))) ≤ limit_of (with_content (contents_in bytes.old.items) (capability Text index) (text_content (option_map (λ t. t.now) text.entry)))) }
-    ensures too_large { IsErrOf result WriteError.TooLarge ↔ (limit_of (with_content (contents_in bytes.old.items) (capability Text index) (text_content (option_map (λ t. t.now) text.entry))) < length (image (names_in bytes.old.items) (with_content (contents_in bytes.old.items) (capability Text index) (text_content (option_map (λ t. t.now) text.entry))))) }
-    ensures memory { IsErrOf result WriteError.Memory → length (image (names_in bytes.old.items) (with_content (contents_in bytes.old.items) (capability Text index) (text_content (option_map (λ t. t.now) text.entry)))) ≤ limit_of (with_content (contents_in bytes.old.items) (capability Text index) (text_content (option_map (λ t. t.now) text.entry))) }
+    ensures ok { OnOk result (bytes.new.items ≡ image_with bytes.old.items (capability Text index) (text_lent text.entry)) }
+    ensures within { OnOk result (FitsWith bytes.old.items (capability Text index) (text_lent text.entry)) }
+    ensures too_large { IsErrOf result WriteError.TooLarge ↔ IsOverWith bytes.old.items (capability Text index) (text_lent text.entry) }
+    ensures memory { IsErrOf result WriteError.Memory → FitsWith bytes.old.items (capability Text index) (text_lent text.entry) }
     ensures names_fit { IsErrOf result WriteError.NamesTooLong → ⊥ }
     ensures err { OnErr result (bytes.new.items ≡ bytes.old.items) }
 {

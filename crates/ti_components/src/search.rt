@@ -1,6 +1,6 @@
 // The path search of Purdom and Munro, as Gabow simplified it: depth first, with a cursor for each
 // node, and with the nodes of open components on one path.
-ghost use Rattle.std.specs.Prelude.{◌≡◌, ◌<◌, ◌≤◌, ℕ, Some, slice_get, vec_len, length, OnOk, IfOk};
+ghost use Rattle.std.specs.Prelude.{◌≡◌, ◌<◌, ◌≤◌, ℕ, Some, slice_get, vec_len, OnOk, IfOk};
 ghost use Rattle.ti_components.specs.Graph.{IsGraph};
 ghost use Rattle.ti_components.specs.Walk.{AreNodes, Closes, Enters, Follows, IsCut, IsFresh, IsIdle, IsMarked, IsSearched, IsWalkOf, Leaves, Rises, Steps, Walks};
 ghost use Rattle.ti_components.specs.declared.search.Progress.TheVariants.{Unseen};

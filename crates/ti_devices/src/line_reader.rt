@@ -1,6 +1,6 @@
 //! Lines read from a counted device, one at a time, with a limit on their length and on the reads.
 ghost use Rattle.std.specs.Prelude.{◌≡◌, ◌+◌, ◌++◌, ◌<◌, [], IfErr, IfOk, MatchOption, OnOk, drop, length, take};
-ghost use Rattle.ti_devices.specs.Counted.{observation, reads_of};
+ghost use Rattle.ti_devices.specs.Counted.{observation};
 ghost use Rattle.ti_devices.specs.Lines.{IsOneLine, IsWithin, with_newline};
 ghost use Rattle.ti_devices.specs.declared.tool_error.ToolError.TheVariants.{LineTooLong};
 

@@ -1,5 +1,5 @@
 //! Bytes that were read at once and are used one after another.
-ghost use Rattle.std.specs.Prelude.{◌≡◌, ◌+◌, ◌-◌, ◌≤◌, [], IfOk, OnErr, OnOk, ℕ, List, drop, length, take};
+ghost use Rattle.std.specs.Prelude.{◌≡◌, ◌+◌, ◌-◌, ◌≤◌, [], ℕ, List, drop, length, take};
 ghost use Rattle.ti_devices.specs.Counted.{observation, reads_of};
 ghost use Rattle.ti_devices.specs.Reading.{Refill};
 

@@ -1,11 +1,11 @@
-ghost use Rattle.std.specs.Prelude.{◌≡◌, ◌≤◌, ◌↔◌, IsTrue};
+ghost use Rattle.std.specs.Prelude.{◌≤◌, ◌↔◌, IsTrue};
 ghost use Rattle.ti_layout.specs.Values.{HasNoNul};
 
 use std::alloc::{AllocError, Global};
 use std::rc::RcSlice;
 use std::test::Fail;
 use ti_caps::{Cap, Kind, find};
-use ti_layout::{Table, Value, WriteError, write};
+use ti_layout::{Mentions, Table, Value, WriteError, write};
 
 fn has_no_nul(bytes: &[u8]) -> bool
     ensures { IsTrue result ↔ HasNoNul bytes.now }
@@ -246,5 +246,63 @@ fn lays_what_is_absent(rt: HostRuntime) -> Result<(), Fail> {
     }
     let want = b"\x1a\x01\x02\0\0\0\0\0\x02\0\x04\0x\0\0\0\x02\0A\0B\0";
     assert!(rt; is_written(written(alloc, b"x", &table), want));
+    Ok(())
+}
+
+fn push_number(mentions: &mut Mentions, index: usize, n: u32) -> Result<(), AllocError>
+    requires { n ≤ 2147483647 }
+{
+    match Cap::at(Kind::Number, index) {
+        Some(cap) => mentions.push(cap, Value::Number(n)),
+        None => Ok(()),
+    }
+}
+
+fn push_text(
+    mentions: &mut Mentions,
+    alloc: Global,
+    index: usize,
+    bytes: &[u8],
+) -> Result<(), AllocError> {
+    match Cap::at(Kind::Text, index) {
+        Some(cap) if has_no_nul(bytes) => {
+            mentions.push(cap, Value::Text(RcSlice::from_slice(alloc, bytes)?))
+        }
+        _ => Ok(()),
+    }
+}
+
+// A table of mentions: of `lines` a cancel and then a value, of `cols` so many values upward from 80, of text 1 "B", and
+// then those of another table, and a last one.
+fn mentioned(alloc: Global, used: &Table, values: u32) -> Result<Table, AllocError>
+    requires { values ≤ 2000 }
+{
+    let mut mentions = Mentions::new(alloc, values as usize)?;
+    if let Some(cap) = find(b"lines") {
+        mentions.push(cap, Value::Cancelled)?;
+    }
+    for value in 0..values {
+        push_number(&mut mentions, 0, 80 + value)?;
+    }
+    push_text(&mut mentions, alloc, 1, b"B")?;
+    push_number(&mut mentions, 2, 24)?;
+    mentions.merge(used)?;
+    push_text(&mut mentions, alloc, 0, b"D")?;
+    mentions.into_table()
+}
+
+#[test]
+fn the_first_mention_decides(rt: HostRuntime) -> Result<(), Fail> {
+    let alloc = rt.alloc();
+    let mut used = Table::new(alloc);
+    set_flag(&mut used, 1)?;
+    set_text(&mut used, alloc, 0, b"A")?;
+    set_text(&mut used, alloc, 1, b"C")?;
+    let want = b"\x1a\x01\x02\0\x02\0\x01\0\x02\0\x04\0x\0\0\x01\x50\0\0\0\x02\0A\0B\0";
+    // few, so many that they are brought into order first, and more than are kept at once
+    for values in [1, 30, 1200] {
+        let table = mentioned(alloc, &used, values)?;
+        assert!(rt; is_written(written(alloc, b"x", &table), want));
+    }
     Ok(())
 }

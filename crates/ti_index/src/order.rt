@@ -1,5 +1,5 @@
 // The ids of blocks in the order of their list.
-ghost use Rattle.std.specs.Prelude.{◌≡◌, ◌<◌, ◌≤◌, ◌+◌, ◌^◌, ◌++◌, ◌∷◌, ◌↔◌, [], ℕ, Some, slice_get, length, insert, remove, vec_len, vec_capacity, IsTrue, OnOk, OnErr};
+ghost use Rattle.std.specs.Prelude.{◌≡◌, ◌<◌, ◌≤◌, ◌+◌, ◌^◌, ◌++◌, ◌∷◌, ◌↔◌, [], ℕ, Some, slice_get, length, insert, remove, vec_capacity, IsTrue, OnOk, OnErr};
 ghost use Rattle.ti_index.specs.Labels.{AreKnown, Has, IsDistinct};
 ghost use Rattle.ti_index.specs.Listing.{AreAmong, ListsBefore};
 
@@ -21,7 +21,7 @@ pub struct Order {
 }
 
 impl Model for Order {
-    ghost use Rattle.std.specs.Prelude.{List, ℕ, vec_capacity};
+    ghost use Rattle.std.specs.Prelude.{ℕ, vec_capacity};
     ghost use Rattle.ti_index.specs.Order.{Ids, IsOrder};
 
     ghost Value = { Ids };

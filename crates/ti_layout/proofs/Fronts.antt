@@ -28,16 +28,16 @@ or_if : (b : Bool) (x : Content) (o p : Option Content) → option_or (cond b (S
 or_if true x o p = refl
 or_if false x o p = refl
 
-contents-append : (xs ys : List Entry) (c : Capability) → contents (xs ++ ys) c ≡ option_or (contents xs c) (contents ys c)
+pub contents-append : (xs ys : List Entry) (c : Capability) → contents (xs ++ ys) c ≡ option_or (contents xs c) (contents ys c)
 unfolding contents
 contents-append [] ys c = refl
 contents-append (x ∷ xs) ys c = rw (contents-append xs ys c) (sym (or_if (same_capability x.0 c) x.1 (contents xs c) (contents ys c)))
 
-contents-none : (c : Capability) → contents [] c ≡ None
+pub contents-none : (c : Capability) → contents [] c ≡ None
 unfolding contents
 contents-none c = refl
 
-contents-one : (x : Entry) (c : Capability) → contents (x ∷ []) c ≡ cond (same_capability x.0 c) (Some x.1) None
+pub contents-one : (x : Entry) (c : Capability) → contents (x ∷ []) c ≡ cond (same_capability x.0 c) (Some x.1) None
 unfolding contents
 contents-one x c = refl
 
@@ -64,19 +64,19 @@ both-none x y c same none = elim (cases_Bool (same_capability x.0 c)) [
 insert-end : (xs : List Entry) (x : Entry) → insert xs (length xs) x ≡ xs ++ x ∷ []
 insert-end xs x = ap (λ t. t ++ x ∷ drop (length xs) xs) (take_all (length xs) xs (omega arith)) ∙ ap (λ t. xs ++ x ∷ t) (drop_all (length xs) xs (omega arith))
 
-abbrev AllBefore : List Entry → ℕ → Type 0
+abbrev pub AllBefore : List Entry → ℕ → Type 0
 AllBefore es rank = (k : ℕ) → k < length es → rank_at es k < rank
 
 gap_behind : (es : List Entry) (c : Capability) → AllBefore es (rank_of c) → IsGapFor es c (length es)
 gap_behind es c before = record { in_range = omega arith; before = λ j lt. before j lt; after = λ j le lt. absurd (omega arith) }
 
-kept-push : (es : List Entry) (x : Entry) → IsKept es → AllBefore es (rank_of x.0) → IsCapability x.0 → Agrees x.0 x.1 → IsKept (es ++ x ∷ [])
+pub kept-push : (es : List Entry) (x : Entry) → IsKept es → AllBefore es (rank_of x.0) → IsCapability x.0 → Agrees x.0 x.1 → IsKept (es ++ x ∷ [])
 kept-push es x kept before valid agrees = subst IsKept (insert-end es x) (kept-insert es x.0 x.1 (length es) kept (gap_behind es x.0 before) valid agrees)
 
-absent_behind : (es : List Entry) (c : Capability) → IsKept es → AllBefore es (rank_of c) → contents es c ≡ None
+pub absent_behind : (es : List Entry) (c : Capability) → IsKept es → AllBefore es (rank_of c) → contents es c ≡ None
 absent_behind es c kept before = contents_nowhere es c (nowhere es kept c (length es) (gap_behind es c before))
 
-rank-push : (es : List Entry) (x : Entry) (k rank : ℕ) → k < length (es ++ x ∷ []) → AllBefore es rank → rank_of x.0 < rank → rank_at (es ++ x ∷ []) k < rank
+pub rank-push : (es : List Entry) (x : Entry) (k rank : ℕ) → k < length (es ++ x ∷ []) → AllBefore es rank → rank_of x.0 < rank → rank_at (es ++ x ∷ []) k < rank
 rank-push es x k rank within before last =
     let long = length-append es (x ∷ []) in
     let read = rank_read (es ++ x ∷ []) k x within in

@@ -15,6 +15,7 @@ pub mod Laying
 pub mod Counting
 pub mod Assembling
 pub mod Fronts
+pub mod FirstMentions
 pub mod ImageReading
 pub mod OfValues
 pub mod Absent

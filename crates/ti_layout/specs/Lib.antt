@@ -8,3 +8,4 @@ pub mod Sound
 pub mod Laws
 pub mod Sizes
 pub mod Merging
+pub mod Mentions

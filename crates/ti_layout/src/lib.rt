@@ -13,6 +13,7 @@
 mod fault;
 mod laws;
 mod layout;
+mod mentions;
 mod merging;
 mod sections;
 mod values;
@@ -22,6 +23,7 @@ mod writing;
 pub use fault::ReadError;
 pub use laws::{images_are_of_values, images_are_read, one_reading};
 pub use layout::{Format, HEADER_SIZE, Header};
+pub use mentions::Mentions;
 pub use merging::{Turn, whose_turn};
 pub use sections::{number, word};
 pub use values::{Table, Value};

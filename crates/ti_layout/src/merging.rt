@@ -47,17 +47,26 @@ pub fn whose_turn(
     }
 }
 
-/// Adds a value once more, its text shared.
-fn push_copy(merged: &mut Vec<(Cap, Value)>, entry: &(Cap, Value)) -> Result<(), AllocError>
-    ensures { OnOk result (entries_of merged.new.items ≡ entries_of merged.old.items ++ (entry.now.0, content_of entry.now.1) ∷ []) }
+/// A value once more, its text shared.
+pub(crate) fn copy_of(value: &Value) -> Result<Value, AllocError>
+    ensures { IfOk result (λ copy. content_of copy ≡ content_of value.now) }
 {
-    let value = match &entry.1 {
+    Ok(match value {
         Value::True => Value::True,
         Value::Number(number) => Value::Number(*number),
         Value::Text(text) => Value::Text(text.clone()?),
         Value::Cancelled => Value::Cancelled,
-    };
-    merged.push((entry.0, value))?;
+    })
+}
+
+/// Adds a value once more.
+pub(crate) fn push_copy(
+    merged: &mut Vec<(Cap, Value)>,
+    entry: &(Cap, Value),
+) -> Result<(), AllocError>
+    ensures { OnOk result (entries_of merged.new.items ≡ entries_of merged.old.items ++ (entry.now.0, content_of entry.now.1) ∷ []) }
+{
+    merged.push((entry.0, copy_of(&entry.1)?))?;
     Ok(())
 }
 

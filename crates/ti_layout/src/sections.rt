@@ -1,5 +1,5 @@
 // The sections of a compiled entry: cut by the header's numbers, and each looked through once.
-ghost use Rattle.std.specs.Prelude.{◌≡◌, ◌≢◌, ℕ, ◌+◌, ◌*◌, ◌<◌, ◌≤◌, length, slice_index, IsTrue, MatchBool, IfOk, IfErr};
+ghost use Rattle.std.specs.Prelude.{◌≡◌, ◌+◌, ◌*◌, ◌<◌, ◌≤◌, length, MatchBool, IfOk, IfErr};
 ghost use Rattle.ti_layout.specs.Layout as layout;
 ghost use Rattle.ti_layout.specs.Reading.{word_at, number_at, Refused, HasBadNames, HasBadFlag, HasBadNumber, HasBadOffset};
 ghost use Rattle.ti_layout.specs.Cutting.{HasHeader, IsCut, AreNames, AreFlags, AreNumbers, AreOffsets};

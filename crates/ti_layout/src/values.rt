@@ -1,5 +1,5 @@
 // The values of an entry, and the table that holds them by capability.
-ghost use Rattle.std.specs.Prelude.{◌≡◌, ◌≢◌, Option, Some, None, option_map, OnOk, OnErr, IfOk, IfErr, IfSome, IsNone, IsOk, IsSome, vec_len, length, if◌then◌else◌};
+ghost use Rattle.std.specs.Prelude.{◌≡◌, ◌≢◌, Option, Some, None, option_map, OnOk, OnErr, IfOk, IfErr, IfSome, IsNone, IsOk, IsSome, if◌then◌else◌};
 ghost use Rattle.std.specs.Option.{option_or};
 ghost use Rattle.ti_caps.specs.Tables.{Capability, IsCapability, same_capability};
 ghost use Rattle.ti_layout.specs.Values.{contents, content_of, entries_of, rank_of, Agrees, AgreesIfSome, IsAt, IsGapFor, IsKept, SetsOnly};
@@ -51,15 +51,12 @@ impl Table {
         }
     }
 
-    /// A table without values, and room for so many, at most for one of each capability.
-    #[tactic(auto, unfolding(crate::specs::Values::contents))]
-    pub fn with_room(alloc: Global, values: usize) -> Result<Table, AllocError>
-        ensures { IfOk result (λ t. (c : Capability) → contents t c ≡ None) }
+    /// A table of these values, which stand in the order of the entry.
+    pub(crate) fn of_entries(entries: Vec<(Cap, Value)>) -> Table
+        requires { IsKept (entries_of entries.items) }
+        ensures { result ≡ entries_of entries.items }
     {
-        let most = count(Kind::Flag) + count(Kind::Number) + count(Kind::Text);
-        Ok(Table {
-            entries: Vec::with_capacity(alloc, values.min(most))?,
-        })
+        Table { entries }
     }
 
     /// The value of a capability, or `None` where it has none.

@@ -1,10 +1,10 @@
 // An entry written as term(5) lays it out. The entries of a table stand in the order of the entry,
 // so each section is laid in one walk over them: what is absent before a value is filled up in one
 // step, and what is absent behind the last value is not written.
-ghost use Rattle.std.specs.Prelude.{◌≡◌, ◌≢◌, ◌<◌, ◌≤◌, ◌↔◌, ◌+◌, ◌*◌, ◌++◌, [], length, replicate, Some, IfOk, IsErrOf, OnOk, MatchBool};
+ghost use Rattle.std.specs.Prelude.{◌≡◌, ◌≢◌, ◌<◌, ◌≤◌, ◌↔◌, ◌+◌, ◌*◌, ◌++◌, [], length, replicate, Some, IfOk, IsErrOf, OnOk};
 ghost use Rattle.ti_caps.specs.declared.capability.Kind.TheVariants.{Flag, Number, Text};
 ghost use Rattle.ti_layout.specs.Image.{is_wide as is_wide_content};
-ghost use Rattle.ti_layout.specs.Image.{image, format_of, limit_of, written_count, flags_below, numbers_below, texts_below, offsets_below, even_gap, HasNoNul};
+ghost use Rattle.ti_layout.specs.Image.{image, format_of, limit_of, written_count, flags_below, numbers_below, texts_below, offsets_below, HasNoNul};
 ghost use Rattle.ti_layout.specs.Layout as layout;
 ghost use Rattle.ti_layout.specs.Layout.{number_section, number_bytes};
 ghost use Rattle.ti_layout.specs.Sizes.{HasSizes};

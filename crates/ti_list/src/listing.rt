@@ -1,5 +1,5 @@
 // An entry as source text: its own items, or those in which it differs from others.
-ghost use Rattle.std.specs.Prelude.{◌≡◌, ℕ, ◌+◌, ◌≤◌, ◌++◌, ◌∷◌, ◌↔◌, [], List, map, option_map, IfNone, IfOk, IfSome, IsErrOf, ◌<◌, vec_len, vec_capacity};
+ghost use Rattle.std.specs.Prelude.{◌≡◌, ℕ, ◌+◌, ◌≤◌, ◌++◌, ◌∷◌, ◌↔◌, [], List, map, option_map, IfOk, IfSome, IsErrOf, ◌<◌, vec_len, vec_capacity};
 ghost use Rattle.ti_layout.specs.Shown.{view_contents, names_of};
 ghost use Rattle.ti_source.specs.Reading.{Said};
 ghost use Rattle.ti_list.specs.Contents.{content_of, said_for, IsShort};

@@ -2,7 +2,7 @@
 use Rattle.std.proofs.Common.{◌≡◌, ℕ, zero, suc, append_assoc, ◌+◌, inl, inr, Bool, true, false, cond, List, [], ◌∷◌, ◌++◌, Option, Some, None, slice_get, refl, sym, ◌∙◌, ap, arith}
 use Rattle.std.specs.Option.{option_or}
 use Rattle.std.proofs.lemmas.Option.{same_Some, none-some}
-use Rattle.ti_caps.specs.Tables.{Capability, same_capability}
+use Rattle.ti_caps.specs.Tables.{Capability, IsCapability, same_capability}
 use Rattle.ti_source.specs.Reading.{Reading, ReadItem, Said, said_flag, said_number, said_text, said_cancel, said_import}
 use Rattle.ti_layout.specs.Values.{Contents, Content}
 use Rattle.ti_meaning.specs.Owner.{owner_block}
@@ -32,8 +32,8 @@ said-append (m ∷ ms) ns c =
     rw (said-append ms ns c) (sym (if_or (same_capability m.capability c) None (leftmost_content ms c) (leftmost_content ns c) m.says))
 
 -- one mention was laid
-pub laid_one : (bs : List Reading) (item : Said) (m : Mention) (old new : Contents) → mentions_of (names_at (owner_block bs) 0) item ≡ Some (m ∷ []) → ((c : Capability) → new c ≡ option_or (old c) (cond (same_capability m.capability c) (Some m.says) None)) → IsLaid bs item old new
-laid_one bs item m old new e laid = record { depth = 0; mentions = m ∷ []; expands = e; lays = λ c _. laid c }
+pub laid_one : (bs : List Reading) (item : Said) (m : Mention) (old new : Contents) → mentions_of (names_at (owner_block bs) 0) item ≡ Some (m ∷ []) → ((c : Capability) → IsCapability c → new c ≡ option_or (old c) (cond (same_capability m.capability c) (Some m.says) None)) → IsLaid bs item old new
+laid_one bs item m old new e laid = record { depth = 0; mentions = m ∷ []; expands = e; lays = laid }
 
 -- ---- the items of a block, one after another
 

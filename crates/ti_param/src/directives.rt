@@ -1,7 +1,7 @@
 //! Reading a printf form of a format: flags, width, precision and conversion.
 ghost use Rattle.std.specs.Prelude.{◌≡◌, option_map, if◌then◌else◌};
 ghost use Rattle.ti_param.specs.Codes.{with_flag, span, row_for, conversions, begins_zero, is_flag};
-ghost use Rattle.ti_param.specs.inside.Codes.{directive_after, directive_with, precision_after, flags_after, flags_of};
+ghost use Rattle.ti_param.specs.inside.Codes.{directive_after, precision_after, flags_after, flags_of};
 ghost use Rattle.ti_text.specs.Digits.{is_decimal_digit};
 
 use crate::decimals::number;

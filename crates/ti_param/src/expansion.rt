@@ -1,5 +1,5 @@
 //! The bytes that a parameter string sends to the terminal.
-ghost use Rattle.std.specs.Prelude.{◌≡◌, ℕ, ◌+◌, ◌^◌, ◌<◌, ◌≤◌, ◌↔◌, IfOk, IfErr, OnErr, IsErrOf, map, length, MatchResult};
+ghost use Rattle.std.specs.Prelude.{◌≡◌, ℕ, ◌+◌, ◌^◌, ◌<◌, ◌≤◌, ◌↔◌, IfOk, OnErr, IsErrOf, map, length, MatchResult};
 ghost use Rattle.ti_param.specs.Formats.{Tree, IsTree, IsStuck};
 ghost use Rattle.ti_param.specs.inside.Formats.{after_part, level_after};
 ghost use Rattle.ti_param.specs.Meaning.{argument_of, meaning};

@@ -1,6 +1,6 @@
 //! The machine that runs a format: its stack, its parameters and variables, and what each code does to them.
 ghost use Rattle.std.specs.Prelude.{◌≡◌, ◌∷◌, [], map};
-ghost use Rattle.ti_param.specs.Meaning.{State, argument_of, start, with_print, with_output, push_outcome, without_top, top, top_number, with_top, with_variable, code_outcome, variable_value, with_increment};
+ghost use Rattle.ti_param.specs.Meaning.{State, argument_of, start, with_print, with_output, push_outcome, without_top, top, top_number, with_variable, code_outcome, variable_value, with_increment};
 ghost use Rattle.ti_param.specs.inside.Expansion.{HasOutcome};
 
 use crate::arithmetic::{bitwise_not, character, logical_not, operate, wrapped_length};

@@ -3,7 +3,7 @@ use Rattle.std.proofs.Common.{◌≡◌, ℕ, suc, ◌<◌, ◌≤◌, true, fal
 use Rattle.std.specs.Option.{option_or}
 use Rattle.std.proofs.lemmas.Bool.{lt-ltb, le-ltb}
 use Rattle.std.proofs.lemmas.Option.{none-some}
-use Rattle.ti_caps.specs.Tables.{Capability}
+use Rattle.ti_caps.specs.Tables.{Capability, IsCapability}
 use Rattle.ti_source.specs.declared.code.Code.{Code}
 use Rattle.ti_source.specs.Reading.{Reading, said_import}
 use Rattle.ti_layout.specs.declared.values.Table.{Table}
@@ -29,13 +29,17 @@ no_fault blocks at index name code h sound e =
     none-some code (sym none ∙ sym e)
 
 -- the table of the used name's owner was laid
-pub laid_use : (blocks : List Reading) (name : List ℕ) (used old new : Contents) → IsUsedTable blocks name used → ((c : Capability) → new c ≡ option_or (old c) (used c)) → IsLaid blocks (said_import name) old new
+pub laid_use : (blocks : List Reading) (name : List ℕ) (used old new : Contents) → IsUsedTable blocks name used → ((c : Capability) → IsCapability c → new c ≡ option_or (old c) (used c)) → IsLaid blocks (said_import name) old new
 laid_use blocks name used old new u laid = record {
   depth = suc (length blocks);
   mentions = u.2.0;
   expands = rw u.1 u.2.1;
-  lays = λ c valid. rw (← u.2.2 c valid) (laid c);
+  lays = λ c valid. rw (← u.2.2 c valid) (laid c valid);
 }
+
+-- a table that says the same
+pub same_table : (blocks : List Reading) (block : Reading) (f g : Contents) → ((c : Capability) → IsCapability c → g c ≡ f c) → IsTableOf blocks block f → IsTableOf blocks block g
+same_table blocks block f g same t = record { depth = t.depth; mentions = t.mentions; expands = t.expands; tells = λ c valid. same c valid ∙ t.tells c valid }
 
 -- ---- the state that a table makes
 

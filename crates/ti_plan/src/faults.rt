@@ -3,7 +3,7 @@ ghost use Rattle.std.specs.Prelude.{ℕ, ◌≡◌, ◌≤◌, ◌++◌, [], ◌
 ghost use Rattle.std.specs.Bool.{MatchBool};
 ghost use Rattle.std.specs.Rc.{rc_slice_items};
 ghost use Rattle.ti_source.specs.Codes.{is_of_header};
-ghost use Rattle.ti_source.specs.Reading.{fault_of, item_of, reading_of, said_of};
+ghost use Rattle.ti_source.specs.Reading.{fault_of, reading_of, said_of};
 ghost use Rattle.ti_meaning.specs.Faults.{entry_faults, fault_of_item, fault_of_use, faults_before, faults_from, is_kept, item_faults, local_fault, local_faults, use_fault};
 ghost use Rattle.ti_meaning.specs.KeptBlocks.{is_no_duplicate};
 ghost use Rattle.ti_meaning.specs.Reaching.{used_name};

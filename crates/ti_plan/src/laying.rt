@@ -1,9 +1,9 @@
 // The values of a block and its entry: items are laid into a table, the leftmost mention of a capability first, and the
 // entry that the block had before is patched to have these values.
-ghost use Rattle.std.specs.Prelude.{ℕ, ◌≡◌, ◌+◌, ◌<◌, ◌^◌, ◌↔◌, if◌then◌else◌, length, false, List, Some, None, slice_get, option_map, IfOk, IsErrOf, OnOk};
+ghost use Rattle.std.specs.Prelude.{ℕ, ◌≡◌, ◌+◌, ◌<◌, ◌^◌, ◌↔◌, if◌then◌else◌, length, false, List, Some, None, slice_get, IfOk, IsErrOf, OnOk};
 ghost use Rattle.std.specs.Option.{option_or};
 ghost use Rattle.ti_caps.specs.Tables.{Capability, IsCapability, same_capability};
-ghost use Rattle.ti_source.specs.Reading.{item_of, reading_of, said_of};
+ghost use Rattle.ti_source.specs.Reading.{reading_of, said_of};
 ghost use Rattle.ti_layout.specs.Image.{image, limit_of};
 ghost use Rattle.ti_layout.specs.Laws.{without_cancel};
 ghost use Rattle.ti_layout.specs.Values.{contents, content_of, Agrees};
@@ -20,31 +20,31 @@ ghost use Rattle.ti_plan.specs.Settling.{AreUsesSound, CanBeSettled, IsItemAt};
 use crate::owners::{Known, used_table};
 use std::alloc::{AllocError, Global};
 use ti_caps::Cap;
-use ti_compiled::{Image, Table, Value, WriteError};
+use ti_compiled::{Image, Mentions, Table, Value, WriteError};
 use ti_slots::{Entry, Slot, State};
 use ti_source::{Parsed, What};
 
-/// Lays a value into the table, unless the table mentions the capability already: a value or a
-/// cancel that is there stays.
-fn lay(table: &mut Table, cap: Cap, value: Value, work: &mut u64) -> Result<(), AllocError>
+/// Lays a value behind the mentions: a value or a cancel of the capability that is there stays.
+fn lay(mentions: &mut Mentions, cap: Cap, value: Value, work: &mut u64) -> Result<(), AllocError>
     requires agrees { Agrees cap (content_of value) }
     requires room { work.old + 1 < 2 ^ 64 }
-    ensures laid { OnOk result ((c : Capability) → contents table.new c
-        ≡ option_or (contents table.old c) (if same_capability cap c then Some (content_of value) else None)) }
+    ensures laid { OnOk result ((c : Capability) → IsCapability c → contents mentions.new c
+        ≡ option_or (contents mentions.old c) (if same_capability cap c then Some (content_of value) else None)) }
     ensures work { OnOk result (work.new ≡ work.old + 1) }
 {
     *work += 1;
-    table.set_if_absent(cap, value)
+    mentions.push(cap, value)
 }
 
-/// Lays all values of another table, unless the table mentions their capabilities already.
-fn merge(table: &mut Table, used: &Table, work: &mut u64) -> Result<(), AllocError>
+/// Lays all values of a table behind the mentions.
+fn merge(mentions: &mut Mentions, used: &Table, work: &mut u64) -> Result<(), AllocError>
     requires { work.old + 1 < 2 ^ 64 }
-    ensures merged { OnOk result ((c : Capability) → contents table.new c ≡ option_or (contents table.old c) (contents used.now c)) }
+    ensures merged { OnOk result ((c : Capability) → IsCapability c → contents mentions.new c
+        ≡ option_or (contents mentions.old c) (contents used.now c)) }
     ensures work { OnOk result (work.new ≡ work.old + 1) }
 {
     *work += 1;
-    table.merge(used)
+    mentions.merge(used)
 }
 
 /// Lays what an item of the block at a node stands for.
@@ -53,7 +53,7 @@ fn lay_item(
     node: usize,
     index: usize,
     what: &What,
-    table: &mut Table,
+    mentions: &mut Mentions,
     work: &mut u64,
 ) -> Result<(), AllocError>
     ghost at: { ℕ }
@@ -62,19 +62,19 @@ fn lay_item(
     requires sets { SetsWell (said_of what.now) }
     requires sound { AreUsesSound (blocks_of known.now.slots.now) at }
     requires room { work.old + 1 < 2 ^ 64 }
-    ensures laid { OnOk result (IsLaid (blocks_of known.now.slots.now) (said_of what.now) (contents table.old) (contents table.new)) }
+    ensures laid { OnOk result (IsLaid (blocks_of known.now.slots.now) (said_of what.now) (contents mentions.old) (contents mentions.new)) }
     ensures work { OnOk result (work.new ≡ work.old + 1) }
 {
     match what {
-        What::Flag(cap) => lay(table, *cap, Value::True, work)?,
-        What::Number(cap, number) => lay(table, *cap, Value::Number(*number), work)?,
-        What::Text(cap, text) => lay(table, *cap, Value::Text(text.clone()?), work)?,
-        What::Cancel(cap) => lay(table, *cap, Value::Cancelled, work)?,
+        What::Flag(cap) => lay(mentions, *cap, Value::True, work)?,
+        What::Number(cap, number) => lay(mentions, *cap, Value::Number(*number), work)?,
+        What::Text(cap, text) => lay(mentions, *cap, Value::Text(text.clone()?), work)?,
+        What::Cancel(cap) => lay(mentions, *cap, Value::Cancelled, work)?,
         What::Import(name) => {
             let Ok(used) = used_table(known, node, index, name.as_slice()) else {
                 unreachable!()
             };
-            merge(table, used, work)?;
+            merge(mentions, used, work)?;
         }
     }
     Ok(())
@@ -97,11 +97,11 @@ fn make_table(
     ensures table { IfOk result (λ table. IsTableOf (blocks_of known.now.slots.now) (reading_of block.now) (contents table)) }
     ensures work { OnOk result (work.new ≡ work.old + length block.now.items.items) }
 {
-    let mut table = Table::with_room(alloc, block.items.len())?;
+    let mut mentions = Mentions::new(alloc, block.items.len())?;
     for (index, item) in block.items.iter().enumerate() {
-        lay_item(known, node, index, &item.what, &mut table, work)?;
+        lay_item(known, node, index, &item.what, &mut mentions, work)?;
     }
-    Ok(table)
+    Ok(mentions.into_table()?)
 }
 
 /// The image of a sound block that has this table. Where the entry that the block had before has the

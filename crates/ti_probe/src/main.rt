@@ -2,7 +2,6 @@
 //! the file's name, one for the names of the entry, and one for each capability that is there.
 #![tactic(auto)]
 
-ghost use Rattle.std.specs.Prelude.{◌≡◌};
 ghost use Rattle.ti_caps.specs.declared.capability.Kind.TheVariants.{Flag, Number, Text};
 
 use std::io::Write;

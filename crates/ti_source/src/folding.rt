@@ -25,7 +25,7 @@ pub(crate) struct Folded<'a> {
 
 impl<'a> Model for Folded<'a> {
     ghost use Rattle.std.specs.Prelude.{◌+◌, ◌<◌, ◌^◌, ℕ, false, List, length};
-    ghost use Rattle.ti_source.specs.Folding.{Placed, bytes_on_lines, without_comments, without_breaks};
+    ghost use Rattle.ti_source.specs.Folding.{bytes_on_lines, without_comments, without_breaks};
 
     ghost Value = { List (ℕ × ℕ) };
 

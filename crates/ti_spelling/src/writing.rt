@@ -1,7 +1,7 @@
 //! String values as terminfo(5) spells them: writing.
 
 ghost use Rattle.std.specs.Prelude.{◌≡◌, ◌+◌, ◌*◌, ◌^◌, ◌<◌, ◌≤◌, ◌++◌, ◌∷◌, [], length, OnErr, OnOk, IfOk, vec_len, vec_capacity};
-ghost use Rattle.ti_spelling.specs.Spelling.{short_escape, octal_text, byte_text, is_percent, spelling_of, WrittenSpells};
+ghost use Rattle.ti_spelling.specs.Spelling.{short_escape, octal_text, byte_text, spelling_of, WrittenSpells};
 ghost use Rattle.ti_spelling.specs.inside.Spelling.{WrittenReadsBack};
 ghost use Rattle.ti_spelling.specs.inside.Writing.{is_plain};
 

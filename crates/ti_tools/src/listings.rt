@@ -1,5 +1,5 @@
 //! What `infocmp` prints of entries.
-ghost use Rattle.std.specs.Prelude.{◌≡◌, ◌≢◌, ◌⊎◌, ◌↔◌, ◌++◌, [], IfErr, IfOk, IsErrOf, None, OnOk, Some, map};
+ghost use Rattle.std.specs.Prelude.{◌≡◌, ◌≢◌, ◌⊎◌, ◌↔◌, [], IfErr, IfOk, IsErrOf, None, Some, map};
 ghost use Rattle.std.specs.List.{flat_map};
 ghost use Rattle.ti_list.specs.Comparison.{comparison};
 ghost use Rattle.ti_list.specs.Relative.{relative, entry_shown};

@@ -1,5 +1,5 @@
 //! `tput` of one command: a capability's name, and the words after it.
-ghost use Rattle.std.specs.Prelude.{◌≡◌, ℕ, ℤ, OnErr, map, pos, replicate};
+ghost use Rattle.std.specs.Prelude.{◌≡◌, ℕ, OnErr, map, pos, replicate};
 ghost use Rattle.ti_tput.specs.Entries.{entry_of, line_of};
 ghost use Rattle.ti_tput.specs.Commands.{Answers, AnswersAlone};
 ghost use Rattle.ti_tput.specs.Results.{tput_result};

@@ -1,5 +1,5 @@
 //! What an entry has of a capability that is asked for by its name, and the line of its terminal.
-ghost use Rattle.std.specs.Prelude.{◌≡◌, IfSome, Some, option_map};
+ghost use Rattle.std.specs.Prelude.{◌≡◌, Some, option_map};
 ghost use Rattle.ti_tput.specs.Entries.{entry_of, flag_value, holding_of, line_of, meaning_of, number_value, pad_byte_of, text_value};
 
 use ti_caps::{Kind, find};

@@ -1,7 +1,6 @@
 //! What a command is answered: bytes for the terminal, and an exit status.
-ghost use Rattle.std.specs.Prelude.{◌≡◌, ℕ, ℤ, List, [], IfOk, OnErr, length, map, option_map};
-ghost use Rattle.std.specs.List.{after_last};
-ghost use Rattle.ti_tput.specs.Entries.{entry_of, holding_of, line_of, meaning_of};
+ghost use Rattle.std.specs.Prelude.{◌≡◌, ℕ, ℤ, List, [], IfOk, OnErr, map, option_map};
+ghost use Rattle.ti_tput.specs.Entries.{entry_of, line_of, meaning_of};
 ghost use Rattle.ti_tput.specs.Results.{holding_reply, init_strings, long_name, named_reply, number_text};
 ghost use Rattle.ti_tput.specs.Results.{padded_texts, padded_text, reply, reset_strings, sent_reply, string_reply};
 ghost use Rattle.ti_tput.specs.Replies.{items_of, reply_of, texts_of};

@@ -3,7 +3,7 @@ ghost use Rattle.std.specs.Prelude.{◌≡◌, ◌+◌, ◌^◌, ◌<◌, ◌≤
 ghost use Rattle.std.specs.List.{slice_split};
 ghost use Rattle.std.specs.String.{string_bytes};
 ghost use Rattle.ti_devices.specs.declared.tool_error.ToolError.TheVariants.{Memory, ReadFault};
-ghost use Rattle.ti_tput.specs.Searching.{Finds, Locates, Opens, listed_places, own_place, place_of_part, places_of};
+ghost use Rattle.ti_tput.specs.Searching.{Finds, Locates, Opens, listed_places, place_of_part, places_of};
 
 use std::alloc::{AllocError, Global};
 use ti_devices::{ToolError, Tree, TreeFault, entry_path};

@@ -1,6 +1,6 @@
 //! A terminal that takes commands line by line, and writes what they write.
 ghost use Rattle.std.specs.Prelude.{◌≡◌, ◌==◌, ℕ, IfOk};
-ghost use Rattle.ti_devices.specs.Counted.{Observed, observation};
+ghost use Rattle.ti_devices.specs.Counted.{observation};
 ghost use Rattle.ti_tput.specs.Entries.{Entry, entry_of};
 ghost use Rattle.ti_tput.specs.Runs.{Course, line_step, run_status, start};
 

@@ -8,19 +8,19 @@ use Rattle.ti_plan.proofs.laying.lay_item.Goals as goal
 
 pub returns-in_ok-lay-in-Flag-clause-laid : goal.returns-in_ok-lay-in-Flag-clause-laid
 returns-in_ok-lay-in-Flag-clause-laid g c =
-    rw c.in-Flag.is (laid_one (blocks_of c.args.known.now.slots.now) _ (record { capability = c.in-Flag.cap; says = content_true }) (contents c.args.table.now) (contents c.lay.new.table) refl c.in_ok-lay-in-Flag.ensures.laid)
+    rw c.in-Flag.is (laid_one (blocks_of c.args.known.now.slots.now) _ (record { capability = c.in-Flag.cap; says = content_true }) (contents c.args.mentions.now) (contents c.lay.new.mentions) refl c.in_ok-lay-in-Flag.ensures.laid)
 
 pub returns-in_ok-lay-in-Number-clause-laid : goal.returns-in_ok-lay-in-Number-clause-laid
 returns-in_ok-lay-in-Number-clause-laid g c =
-    rw c.in-Number.is (laid_one (blocks_of c.args.known.now.slots.now) _ (record { capability = c.in-Number.cap; says = content_number c.in-Number.number }) (contents c.args.table.now) (contents c.lay-in-Number.new.table) refl c.in_ok-lay-in-Number.ensures.laid)
+    rw c.in-Number.is (laid_one (blocks_of c.args.known.now.slots.now) _ (record { capability = c.in-Number.cap; says = content_number c.in-Number.number }) (contents c.args.mentions.now) (contents c.lay-in-Number.new.mentions) refl c.in_ok-lay-in-Number.ensures.laid)
 
 pub returns-in_ok-lay-in-Text-clause-laid : goal.returns-in_ok-lay-in-Text-clause-laid
 returns-in_ok-lay-in-Text-clause-laid g c =
-    rw c.in-Text.is (laid_one (blocks_of c.args.known.now.slots.now) _ (record { capability = c.in-Text.cap; says = content_text (rc_slice_items c.in-Text.text) }) (contents c.args.table.now) (contents c.lay-in-Text.new.table) refl (rw (← c.in_ok-clone-in-Text.ensures.cases) c.in_ok-lay-in-Text.ensures.laid))
+    rw c.in-Text.is (laid_one (blocks_of c.args.known.now.slots.now) _ (record { capability = c.in-Text.cap; says = content_text (rc_slice_items c.in-Text.text) }) (contents c.args.mentions.now) (contents c.lay-in-Text.new.mentions) refl (rw (← c.in_ok-clone-in-Text.ensures.cases) c.in_ok-lay-in-Text.ensures.laid))
 
 pub returns-in_ok-lay-in-Cancel-clause-laid : goal.returns-in_ok-lay-in-Cancel-clause-laid
 returns-in_ok-lay-in-Cancel-clause-laid g c =
-    rw c.in-Cancel.is (laid_one (blocks_of c.args.known.now.slots.now) _ (record { capability = c.in-Cancel.cap; says = content_cancelled }) (contents c.args.table.now) (contents c.lay-in-Cancel.new.table) refl c.in_ok-lay-in-Cancel.ensures.laid)
+    rw c.in-Cancel.is (laid_one (blocks_of c.args.known.now.slots.now) _ (record { capability = c.in-Cancel.cap; says = content_cancelled }) (contents c.args.mentions.now) (contents c.lay-in-Cancel.new.mentions) refl c.in_ok-lay-in-Cancel.ensures.laid)
 
 pub unreachable-requires : goal.unreachable-requires
 unreachable-requires g c =
@@ -29,5 +29,5 @@ unreachable-requires g c =
 
 pub returns-in_ok-merge-in-Import-clause-laid : goal.returns-in_ok-merge-in-Import-clause-laid
 returns-in_ok-merge-in-Import-clause-laid g c =
-    rw c.in-Import.is (laid_use (blocks_of c.args.known.now.slots.now) (rc_slice_items c.in-Import.name) (contents c.in-Ok.used.now) (contents c.args.table.now) (contents c.merge.new.table)
+    rw c.in-Import.is (laid_use (blocks_of c.args.known.now.slots.now) (rc_slice_items c.in-Import.name) (contents c.in-Ok.used.now) (contents c.args.mentions.now) (contents c.merge.new.mentions)
     (rw c.as_slice.ensures.value at c.in-Ok.ensures.table) c.in_ok-merge-in-Import.ensures.merged)

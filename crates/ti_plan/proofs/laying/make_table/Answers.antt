@@ -6,6 +6,7 @@ use Rattle.ti_meaning.specs.Usable.{SetsWell}
 use Rattle.ti_meaning.proofs.Laying.{table_of_one_more, table_of_block}
 use Rattle.ti_slots.specs.Slots.{blocks_of}
 use Rattle.ti_plan.proofs.ItemLists.{All-map_item, map-take_item, slice_get-map_item}
+use Rattle.ti_plan.proofs.BlockValues.{same_table}
 use Rattle.ti_plan.proofs.Places.{usable_at}
 use Rattle.ti_plan.proofs.laying.make_table.Goals as goal
 
@@ -42,7 +43,7 @@ loop-index-preserved g c =
     let more = c.in_ok-lay_item.ensures.work in
     record {
       laid = rw (map-take_item item_of items c.loop-index.index c.item-item.result within here)
-          (table_of_one_more (blocks_of c.args.known.now.slots.now) (map item_of (take c.loop-index.index items)) (item_of c.item-item.result) (contents c.loop-index.table) (contents c.lay_item.new.table)
+          (table_of_one_more (blocks_of c.args.known.now.slots.now) (map item_of (take c.loop-index.index items)) (item_of c.item-item.result) (contents c.loop-index.mentions) (contents c.lay_item.new.mentions)
           c.loop-index.invariant.laid c.in_ok-lay_item.ensures.laid);
       steps = omega arith;
     }
@@ -51,4 +52,5 @@ pub returns-clause-table : goal.returns-clause-table
 returns-clause-table g c =
     let past : length c.args.block.now.items.items ≤ c.loop-index.index = rw c.deref-item-items.ensures.value at c.loop-index-test.false in
     let items = rw (take_all c.loop-index.index c.args.block.now.items.items past) at c.loop-index.invariant.laid in
-    table_of_block (blocks_of c.args.known.now.slots.now) (reading_of c.args.block.now) (contents c.loop-index.table) c.requires.1.1.0 items
+    same_table (blocks_of c.args.known.now.slots.now) (reading_of c.args.block.now) (contents c.loop-index.mentions) _ c.in_ok-into_table.ensures
+    (table_of_block (blocks_of c.args.known.now.slots.now) (reading_of c.args.block.now) (contents c.loop-index.mentions) c.requires.1.1.0 items)

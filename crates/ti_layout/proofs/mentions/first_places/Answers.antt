@@ -1,0 +1,29 @@
+use Rattle.std.proofs.Common.{◌≡◌, suc, set, ◌≤◌, get_or, ◌+◌, ◌++◌, ◌∷◌, [], length, take, refl, sym, subst, arith}
+use Rattle.ti_layout.specs.Mentions.{ArePlaces}
+use Rattle.ti_layout.specs.Values.{Entry, content_of, entries_of, rank_of}
+use Rattle.ti_layout.proofs.FirstMentions.{places_of_none, places_kept, places_more, entries_front, entries_count, rank_within}
+use Rattle.ti_layout.proofs.mentions.first_places.Goals as goal
+use Rattle.ti_layout.proofs.mentions.first_places.Goals.{then-places-rank-eq0, else-places-rank-eq0}
+
+pub loop-index-init : goal.loop-index-init
+loop-index-init c = places_of_none 497 refl
+
+pub loop-index-preserved : goal.loop-index-preserved
+loop-index-preserved c =
+    let ms = c.args.mentions.now in
+    let i = c.loop-index.index in
+    let x = c.index-mentions-index.result in
+    let e : Entry = (x.0, content_of x.1) in
+    let known = c.loop-index.invariant in
+    let front = entries_front ms i x c.loop-index-test.true (sym c.index-mentions-index.is) in
+    let es = entries_of (take i ms) in
+    let places = c.loop-index.places in
+    let rank = c.rank-rank.ensures.value in
+    rw front (elim c.if-places-rank-eq0.branch [
+      | then-places-rank-eq0 w ↦
+          let free = rw rank at w.if-places-rank-eq0.true in
+          let count = entries_count ms i (omega (arith, c.loop-index-test.true)) in
+          let more = places_more es e places known c.rank-rank.ensures.valid (rank_within x.0 c.rank-rank.ensures.valid) free in
+          rw (w.places-is, rank) (subst (λ n. ArePlaces (es ++ e ∷ []) (set places (rank_of x.0) n)) (omega (arith, count)) more)
+      | else-places-rank-eq0 w ↦ rw w.places-is (places_kept es e places known (λ free. w.if-places-rank-eq0.false (rw rank free)))
+    ])

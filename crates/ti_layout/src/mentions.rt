@@ -1,0 +1,165 @@
+// A table made of mentions of capabilities, of which the first of each decides.
+ghost use Rattle.std.specs.Prelude.{◌≡◌, ◌<◌, ◌≤◌, [], length, All, Some, None, IfOk, OnOk, if◌then◌else◌};
+ghost use Rattle.std.specs.Option.{option_or};
+ghost use Rattle.ti_caps.specs.Tables.{Capability, IsCapability, same_capability};
+ghost use Rattle.ti_layout.specs.Mentions.{ArePlaces};
+ghost use Rattle.ti_layout.specs.Values.{contents, content_of, entries_of, Agrees, IsKept};
+
+use crate::merging::{copy_of, push_copy};
+use crate::values::{Table, Value, rank};
+use std::alloc::{AllocError, Global};
+use std::marker::Model;
+use ti_caps::Cap;
+
+/// How many capabilities there are.
+const CAPABILITIES: usize = 497;
+
+/// So many mentions are brought into order by a walk over the places of all capabilities; fewer are inserted one by one.
+const MANY: usize = 24;
+
+// For each capability, by its place in the order of the entry, one more than the place of its first mention; 0 where there
+// is none.
+fn first_places(mentions: &[(Cap, Value)]) -> [u16; CAPABILITIES]
+    requires few { length mentions.now < 65536 }
+    ensures { ArePlaces (entries_of mentions.now) result }
+{
+    let mut places = [0; CAPABILITIES];
+    for (index, mention) in mentions.iter().enumerate() {
+        let rank = rank(mention.0);
+        if places[rank] == 0 {
+            places[rank] = index as u16 + 1;
+        }
+    }
+    places
+}
+
+/// The first mention of each capability, in the order of the entry, its text shared.
+pub(crate) fn first_mentions(
+    alloc: Global,
+    mentions: &[(Cap, Value)],
+) -> Result<Vec<(Cap, Value)>, AllocError>
+    requires few { length mentions.now < 65536 }
+    requires agree { All (λ e. Agrees e.0 e.1) (entries_of mentions.now) }
+    ensures kept { IfOk result (λ v. IsKept (entries_of v.items)) }
+    ensures said { IfOk result (λ v. (c : Capability) → IsCapability c → contents (entries_of v.items) c ≡ contents (entries_of mentions.now) c) }
+{
+    let places = first_places(mentions);
+    let mut entries = Vec::with_capacity(alloc, mentions.len().min(CAPABILITIES))?;
+    for place in &places {
+        if *place > 0 {
+            push_copy(&mut entries, &mentions[*place as usize - 1])?;
+        }
+    }
+    Ok(entries)
+}
+
+/// After how many mentions a table is made of them, so that they never take more memory than the source of a few blocks.
+const RECENT_MAX: usize = 1000;
+
+// Adds what a table does not have yet, mention by mention.
+fn insert_each(table: &mut Table, mentions: &[(Cap, Value)]) -> Result<(), AllocError>
+    requires agree { All (λ e. Agrees e.0 e.1) (entries_of mentions.now) }
+    ensures { OnOk result ((c : Capability) → IsCapability c → contents table.new c
+        ≡ option_or (contents table.old c) (contents (entries_of mentions.now) c)) }
+{
+    for mention in mentions {
+        table.set_if_absent(mention.0, copy_of(&mention.1)?)?;
+    }
+    Ok(())
+}
+
+// Adds what a table does not have yet, of mentions that are brought into order first.
+fn merge_all(alloc: Global, table: &mut Table, mentions: &[(Cap, Value)]) -> Result<(), AllocError>
+    requires few { length mentions.now < 65536 }
+    requires agree { All (λ e. Agrees e.0 e.1) (entries_of mentions.now) }
+    ensures { OnOk result ((c : Capability) → IsCapability c → contents table.new c
+        ≡ option_or (contents table.old c) (contents (entries_of mentions.now) c)) }
+{
+    let laid = Table::of_entries(first_mentions(alloc, mentions)?);
+    if table.entries().is_empty() {
+        *table = laid;
+        return Ok(());
+    }
+    table.merge(&laid)
+}
+
+// Adds what a table does not have yet, whichever way is shorter, and leaves no mention.
+fn settle(table: &mut Table, recent: &mut Vec<(Cap, Value)>) -> Result<(), AllocError>
+    requires few { length recent.old.items ≤ 1000 }
+    requires agree { All (λ e. Agrees e.0 e.1) (entries_of recent.old.items) }
+    ensures none { OnOk result (recent.new.items ≡ []) }
+    ensures few { length recent.new.items ≤ 1000 }
+    ensures agree { All (λ e. Agrees e.0 e.1) (entries_of recent.new.items) }
+    ensures laid { OnOk result ((c : Capability) → IsCapability c → contents table.new c
+        ≡ option_or (contents table.old c) (contents (entries_of recent.old.items) c)) }
+{
+    if recent.len() < MANY {
+        insert_each(table, recent)?;
+    } else {
+        merge_all(*recent.allocator(), table, recent)?;
+    }
+    recent.clear();
+    Ok(())
+}
+
+/// Mentions of capabilities one behind another, of which the first of each decides; a table is made of them at the end.
+#[derive(Drop)]
+pub struct Mentions {
+    // what the mentions before the recent ones come to
+    table: Table,
+    // the later mentions, in their order
+    recent: Vec<(Cap, Value)>,
+}
+
+impl Model for Mentions {
+    ghost use Rattle.std.specs.Prelude.{◌≤◌, ◌++◌, length, All, List};
+    ghost use Rattle.ti_layout.specs.Values.{Agrees, Entry, entries_of};
+
+    ghost Value = { List Entry };
+
+    ghost view = { λ m. m.table ++ entries_of m.recent.items };
+
+    ghost invariant = { λ m. (length m.recent.items ≤ 1000) × All (λ e. Agrees e.0 e.1) (entries_of m.recent.items) };
+}
+
+impl Mentions {
+    /// None yet, with room for so many.
+    #[tactic(auto, unfolding(crate::specs::Values::contents))]
+    pub fn new(alloc: Global, room: usize) -> Result<Mentions, AllocError>
+        ensures { IfOk result (λ m. (c : Capability) → contents m c ≡ None) }
+    {
+        Ok(Mentions {
+            table: Table::new(alloc),
+            recent: Vec::with_capacity(alloc, room.min(RECENT_MAX))?,
+        })
+    }
+
+    /// One more mention, behind the others: it decides where none of them is of the same capability. The kinds agree, a number is at most 2,147,483,647 and a text holds no NUL.
+    pub fn push(&mut self, cap: Cap, value: Value) -> Result<(), AllocError>
+        requires { Agrees cap (content_of value) }
+        ensures { OnOk result ((c : Capability) → IsCapability c → contents self.new c
+            ≡ option_or (contents self.old c) (if same_capability cap c then Some (content_of value) else None)) }
+    {
+        if self.recent.len() >= RECENT_MAX {
+            settle(&mut self.table, &mut self.recent)?;
+        }
+        self.recent.push((cap, value))?;
+        Ok(())
+    }
+
+    /// A mention of each value of a table, behind the others.
+    pub fn merge(&mut self, used: &Table) -> Result<(), AllocError>
+        ensures { OnOk result ((c : Capability) → IsCapability c → contents self.new c ≡ option_or (contents self.old c) (contents used.now c)) }
+    {
+        settle(&mut self.table, &mut self.recent)?;
+        self.table.merge(used)
+    }
+
+    /// The table of the first mentions.
+    pub fn into_table(mut self) -> Result<Table, AllocError>
+        ensures { IfOk result (λ t. (c : Capability) → IsCapability c → contents t c ≡ contents self c) }
+    {
+        settle(&mut self.table, &mut self.recent)?;
+        Ok(self.table)
+    }
+}
