@@ -1,5 +1,5 @@
 -- Mentions of capabilities one after another: where the first of each stands, and the entries of the first ones.
-use Rattle.std.proofs.Common.{◌≡◌, ◌≢◌, ℕ, zero, suc, ◌+◌, ◌<◌, ◌≤◌, Bool, true, false, cond, List, [], ◌∷◌, ◌++◌, length, get_or, set, replicate, Option, Some, None, refl, sym, ap, ◌∙◌, subst, arith, inl, inr, length-set, map, take}
+use Rattle.std.proofs.Common.{◌≡◌, ◌≢◌, ℕ, suc, ◌+◌, ◌<◌, ◌≤◌, cond, List, [], ◌∷◌, ◌++◌, length, get_or, set, replicate, Option, Some, None, refl, sym, ap, ◌∙◌, subst, arith, inl, inr, length-set, take}
 use Rattle.std.specs.Option.{option_or}
 use Rattle.std.proofs.lemmas.Bool.{cases_eq, cases_lt}
 use Rattle.std.proofs.lemmas.List.{length-append, length-map, length-take-le, map-append, take_more, length-replicate, get_or_append_left, get_or_at, get_or-replicate, get_or-set_same, get_or-set_other, get_or_past}
@@ -8,7 +8,7 @@ use Rattle.ti_caps.specs.declared.capability.Kind.{Kind}
 use Rattle.ti_caps.specs.declared.capability.Kind.TheVariants.{Flag, Number, Text}
 use Rattle.ti_layout.specs.Mentions.{ArePlaces, Decides}
 use Rattle.ti_layout.specs.declared.values.Value.{Value}
-use Rattle.ti_layout.specs.Values.{Content, Entry, Agrees, IsKept, contents, content_of, entries_of, rank_at, rank_in, rank_of}
+use Rattle.ti_layout.specs.Values.{Content, Entry, Agrees, IsKept, contents, content_of, entries_of, rank_in, rank_of}
 use Rattle.ti_layout.proofs.Held.{one_from_rank, same_from_one, test_from_other}
 use Rattle.ti_layout.proofs.Fronts.{AllBefore, absent_behind, contents-append, contents-none, contents-one, kept-push, rank-push}
 

@@ -1,8 +1,8 @@
-use Rattle.std.proofs.Common.{◌≡◌, ◌+◌, ◌-◌, ◌<◌, suc, length, slice_index_or, sym, subst, arith}
+use Rattle.std.proofs.Common.{◌≡◌, ◌-◌, ◌<◌, suc, length, slice_index_or, subst, arith}
 use Rattle.std.proofs.lemmas.List.{length-map}
 use Rattle.ti_layout.specs.Mentions.{Decides}
 use Rattle.ti_layout.specs.Values.{Entry, Agrees, content_of, entries_of}
-use Rattle.ti_layout.proofs.FirstMentions.{Gathers, gathers_on, gathers_more}
+use Rattle.ti_layout.proofs.FirstMentions.{gathers_on, gathers_more}
 use Rattle.ti_layout.proofs.Walked.{item_read}
 use Rattle.ti_layout.proofs.mentions.first_mentions.Goals as goal
 use Rattle.ti_layout.proofs.mentions.first_mentions.Goals.{then-place-gt0+in_ok-push_copy, else-place-gt0}

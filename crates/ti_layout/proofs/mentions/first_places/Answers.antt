@@ -1,4 +1,4 @@
-use Rattle.std.proofs.Common.{◌≡◌, suc, set, ◌≤◌, get_or, ◌+◌, ◌++◌, ◌∷◌, [], length, take, refl, sym, subst, arith}
+use Rattle.std.proofs.Common.{set, ◌++◌, ◌∷◌, [], take, refl, sym, subst, arith}
 use Rattle.ti_layout.specs.Mentions.{ArePlaces}
 use Rattle.ti_layout.specs.Values.{Entry, content_of, entries_of, rank_of}
 use Rattle.ti_layout.proofs.FirstMentions.{places_of_none, places_kept, places_more, entries_front, entries_count, rank_within}

@@ -1,6 +1,5 @@
-use Rattle.std.proofs.Common.{◌≡◌, eqb-true, sym, ap, ◌∙◌}
-use Rattle.std.specs.Option.{option_or}
-use Rattle.ti_layout.specs.Values.{contents, entries_of}
+use Rattle.std.proofs.Common.{eqb-true, sym, ap, ◌∙◌}
+use Rattle.ti_layout.specs.Values.{contents}
 use Rattle.ti_layout.proofs.FirstMentions.{behind_nothing, no_items}
 use Rattle.ti_layout.proofs.mentions.merge_all.Goals as goal
 

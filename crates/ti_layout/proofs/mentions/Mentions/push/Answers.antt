@@ -1,4 +1,4 @@
-use Rattle.std.proofs.Common.{◌≡◌, ◌++◌, ◌∷◌, [], Some, None, cond, sym, ap, ◌∙◌}
+use Rattle.std.proofs.Common.{◌≡◌, ◌++◌, Some, None, cond, sym, ap, ◌∙◌}
 use Rattle.std.specs.Option.{option_or}
 use Rattle.ti_caps.specs.Tables.{same_capability}
 use Rattle.ti_layout.specs.Values.{contents, content_of, entries_of}
