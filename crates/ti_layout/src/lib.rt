@@ -2,6 +2,7 @@
 //!
 //! - `values`: the values of an entry, a finite map from capabilities
 //! - `merging`: a walk over two such maps, and both made one, where the first decides
+//! - `mentions`: such a map made of mentions of capabilities, of which the first of each decides
 //! - `layout`: the two formats, and the numbers of a header
 //! - `writing`: an entry written from its names and values
 //! - `view`: an entry read where it lies, each name and value a slice of the caller's bytes

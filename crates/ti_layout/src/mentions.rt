@@ -34,7 +34,7 @@ fn first_places(mentions: &[(Cap, Value)]) -> [u16; CAPABILITIES]
 }
 
 /// The first mention of each capability, in the order of the entry, its text shared.
-pub(crate) fn first_mentions(
+fn first_mentions(
     alloc: Global,
     mentions: &[(Cap, Value)],
 ) -> Result<Vec<(Cap, Value)>, AllocError>
@@ -53,7 +53,7 @@ pub(crate) fn first_mentions(
     Ok(entries)
 }
 
-/// After how many mentions a table is made of them, so that they never take more memory than the source of a few blocks.
+/// After how many mentions a table is made of them, so that those of a long block take no more memory than those of a short one.
 const RECENT_MAX: usize = 1000;
 
 // Adds what a table does not have yet, mention by mention.
