@@ -1,15 +1,18 @@
 -- What a search of the keys says of the names.
-use Rattle.std.proofs.Common.{◌≡◌, ◌≢◌, ℕ, zero, suc, ◌<◌, ◌≤◌, Bool, true, ◌&&◌, nat_lt, inl, inr, List, [], ◌∷◌, map, length, get_or, Bor, Option, Some, None, IfNone, refl, sym, ◌∙◌, ap, subst, arith, ltb-true}
+use Rattle.std.proofs.Common.{◌≡◌, ◌≢◌, ℕ, zero, suc, ◌<◌, ◌≤◌, Bool, true, ◌&&◌, nat_lt, inl, inr, List, [], ◌∷◌, map, length, get_or, Option, Some, None, IfNone, refl, sym, ◌∙◌, ap, subst, arith, ltb-true}
 use Rattle.std.proofs.lemmas.Bool.{and_parts, cases_lt}
 use Rattle.std.proofs.lemmas.List.{get_or-map, length-map}
-use Rattle.ti_caps.specs.declared.capability.Kind.{Kind}
 use Rattle.ti_caps.specs.declared.keys.TheConstants.{KEYS}
-use Rattle.ti_caps.specs.ByName.{Row, rows_of, by_name, IsRowOf, IsOfAnother, HasNoRow}
+use Rattle.ti_caps.specs.declared.tables.TheConstants.{BY_NAME}
+use Rattle.ti_caps.specs.Names.{flag_names, number_names, text_names}
+use Rattle.ti_caps.specs.Tables.{Capability, IsCapability, name_of, names}
+use Rattle.ti_caps.specs.ByName.{Row, numbered, row_of, by_name, IsRowOf, IsOfAnother, HasNoRow}
 use Rattle.ti_caps.specs.Keys.{key_of}
+use Rattle.ti_caps.proofs.Table.{row_names}
 
 -- each key is that of the name at its place
 keys_are : KEYS ≡ map (λ (r : Row). key_of r.0) by_name
-unfolding by_name key_of
+unfolding by_name key_of names flag_names number_names text_names
 keys_are = refl
 
 -- numbers that rise from one to the next
@@ -52,7 +55,8 @@ keys_do_not_fall i j l within = elim (cases_lt i j) [
   | inr not_below ↦ let one : i ≡ j = omega arith in rw one (omega arith)
 ]
 
-as_long : length KEYS ≡ length by_name
+-- there are as many keys as rows
+pub as_long : length KEYS ≡ length by_name
 unfolding by_name
 as_long = refl
 
@@ -83,17 +87,28 @@ no_place x i low high = λ k d within same.
       | inr above ↦ let more = high k above inside in absurd (omega (arith, more, at))
     ]
 
-module _ (rs : List (Bor (List ℕ) × Kind × ℕ)) (i : ℕ) (d : Bor (List ℕ) × Kind × ℕ) (x : List ℕ) (within : i < length rs) where
+-- the numbers in the order by name are as many
+pub numbers_as_long : length BY_NAME ≡ length by_name
+unfolding by_name
+numbers_as_long = sym (length-map BY_NAME (λ n. row_of (numbered n)))
+
+-- the row at a place is that of the capability whose number stands there
+row_at_place : (i n : ℕ) (d : Row) → i < length by_name → n ≡ get_or BY_NAME i 0 → get_or by_name i d ≡ row_of (numbered n)
+unfolding by_name
+row_at_place i n d within at = get_or-map (λ m. row_of (numbered m)) BY_NAME i 0 d (rw numbers_as_long within) ∙ ap (λ m. row_of (numbered m)) (sym at)
+
+module _ (i n : ℕ) (c : Capability) (within : i < length by_name) (at : n ≡ get_or BY_NAME i 0) (is : c ≡ numbered n) where
+  -- that is a capability
+  pub is_there : IsCapability c
+  is_there = rw is (row_names (row_of (numbered n)) (i, within, row_at_place i n (row_of (numbered n)) within at)).0
+
   -- a row whose name is that one is a row of the name
-  pub row_here : (get_or rs i d).0.now ≡ x → IsRowOf (rows_of rs) x (get_or rs i d).1 (get_or rs i d).2
-  row_here same =
-      let kind = (get_or rs i d).1 in
-      let index = (get_or rs i d).2 in
-      (i, rw length-map within, get_or-map (λ r. (r.0.now, r.1, r.2)) rs i d (x, kind, index) within ∙ ap (λ n. (n, kind, index)) same)
+  pub row_here : (x : List ℕ) → name_of c ≡ x → IsRowOf by_name x c.kind c.index
+  row_here x same = (i, within, row_at_place i n (x, c.kind, c.index) within at ∙ ap row_of (sym is) ∙ ap (λ (m : List ℕ). (m, c.kind, c.index)) same)
 
   -- and one whose name isn't is of another
-  pub other_here : (get_or rs i d).0.now ≢ x → IsOfAnother (rows_of rs) i x
-  other_here other = λ e same. other (sym (ap (λ (r : Row). r.0) (get_or-map (λ r. (r.0.now, r.1, r.2)) rs i d e within)) ∙ same)
+  pub other_here : (x : List ℕ) → name_of c ≢ x → IsOfAnother by_name i x
+  other_here x other = λ d same. other (ap name_of is ∙ sym (ap (λ (r : Row). r.0) (row_at_place i n d within at)) ∙ same)
 
 -- what follows where there is none
 pub none_then : {X P Q : Type 0} → (o : Option X) → (P → Q) → IfNone o P → IfNone o Q

@@ -1,19 +1,15 @@
 -- What a binary search finds in rows whose names are in order.
-use Rattle.std.proofs.Common.{◌≡◌, ◌≢◌, ℕ, zero, suc, ◌+◌, ◌<◌, ◌≤◌, Bool, true, ◌&&◌, inl, inr, List, [], ◌∷◌, map, length, get_or, Err, Bor, refl, ◌∙◌, ap, subst, arith}
-use Rattle.std.specs.Ordering.{nat_cmp, ordering_index, is_lt, is_eq}
+use Rattle.std.proofs.Common.{◌≡◌, ◌≢◌, ℕ, zero, suc, ◌+◌, ◌<◌, Bool, true, ◌&&◌, List, [], ◌∷◌, map, length, get_or, refl, ◌∙◌, ap, subst, arith}
+use Rattle.std.specs.Ordering.{nat_cmp, is_lt, is_eq}
 use Rattle.std.specs.declared.cmp.Ordering.TheVariants.{Less, Equal, Greater}
 use Rattle.std.specs.Cmp.Lexicographic.{slice_cmp, texts_ties}
-use Rattle.std.specs.List.Sorted.{IsBinarySearchResult, IsNonDecreasingBy}
-use Rattle.std.proofs.lemmas.Bool.{and_parts, cases_lt}
+use Rattle.std.proofs.lemmas.Bool.{and_parts}
 use Rattle.std.proofs.lemmas.Cmp.{nat_list_cmp_total, tied_itself}
 use Rattle.std.proofs.lemmas.List.{get_or-map, length-map}
-use Rattle.std.proofs.lemmas.List.Elements.{All-map}
-use Rattle.std.proofs.lemmas.List.Sorted.{searchable_from_sorted}
 use Rattle.std.proofs.lemmas.Map.Keys.{Less-from_sorted, sorted_from_all_adjacent}
 use Rattle.std.proofs.lemmas.Slice.Eq.{bytes_eq-Decides}
 use native.Mathlib.Numerals.{unary_clauses}
-use Rattle.ti_caps.specs.declared.capability.Kind.{Kind}
-use Rattle.ti_caps.specs.ByName.{Row, rows_of, IsInNameOrder, IsRowOf, HasNoRow}
+use Rattle.ti_caps.specs.ByName.{Row, IsInNameOrder}
 
 -- texts that compare as equal are equal, and no text is below itself
 pub text_from_equal : (x y : List ℕ) → slice_cmp nat_cmp x y ≡ Equal → x ≡ y

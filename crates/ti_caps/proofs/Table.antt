@@ -22,7 +22,7 @@ length-names Text = refl
 
 -- the names rise
 pub in_name_order : IsInNameOrder by_name
-unfolding by_name
+unfolding by_name names flag_names number_names text_names
 in_name_order = order_from_rising _ _ refl
 
 -- each row is that of a capability

@@ -1,11 +1,13 @@
 -- The table of all capabilities in the order of the bytes of their names, which a look-up searches (own).
-use Rattle.std.specs.Prelude.{◌≢◌, ℕ, List, map, slice_index_or, All, Contains}
+use Rattle.std.specs.Prelude.{◌≢◌, ℕ, ◌-◌, List, map, slice_index_or, All, Contains, nat_lt, if◌then◌else◌}
 use Rattle.std.specs.Ordering.{nat_cmp}
 use Rattle.std.specs.Cmp.Lexicographic.{slice_cmp}
 use Rattle.std.specs.List.Sorted.{IsStrictlySortedBy}
 use Rattle.std.specs.Borrow.{Bor}
 use Rattle.ti_caps.specs.declared.capability.Kind.{Kind}
+use Rattle.ti_caps.specs.declared.capability.Kind.TheVariants.{Flag, Number, Text}
 use Rattle.ti_caps.specs.declared.tables.TheConstants.{BY_NAME}
+use Rattle.ti_caps.specs.Tables.{Capability, capability, name_of}
 
 -- the texts of a slice of texts
 abbrev pub texts_of : List (Bor (List ℕ)) → List (List ℕ)
@@ -15,13 +17,17 @@ texts_of ts = map (λ t. t.now) ts
 abbrev pub Row : Type 0
 Row = List ℕ × Kind × ℕ
 
--- the rows of a slice of rows
-abbrev pub rows_of : List (Bor (List ℕ) × Kind × ℕ) → List Row
-rows_of rs = map (λ r. (r.0.now, r.1, r.2)) rs
+-- the capability that has a number: all are counted from 0, the flags first, then the numbers, then the texts, each in the order of its list
+abbrev pub numbered : ℕ → Capability
+numbered n = if nat_lt n 44 then capability Flag n else (if nat_lt n 83 then capability Number (n - 44) else capability Text (n - 83))
+
+-- the row of a capability
+abbrev pub row_of : Capability → Row
+row_of c = (name_of c, c.kind, c.index)
 
 -- the table that is searched
 unfoldable pub by_name : List Row
-by_name = map (λ r. (r.0.now, r.1, r.2)) BY_NAME
+by_name = map (λ n. row_of (numbered n)) BY_NAME
 
 -- each name comes before the next, byte by byte
 pub record IsInNameOrder (rows : List Row) : Type 0 where

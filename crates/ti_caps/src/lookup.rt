@@ -2,7 +2,7 @@
 ghost use Rattle.std.specs.Prelude.{◌≡◌, ◌≢◌, ◌<◌, length, [], IfSome, IfNone};
 ghost use Rattle.std.specs.List.{slice_index_or};
 ghost use Rattle.ti_caps.specs.Tables.{Capability, IsCapability, capability, capability_named, count_of, name_of, names, EveryNameIsFound, NamesAreDistinct};
-ghost use Rattle.ti_caps.specs.ByName.{IsRowOf, IsOfAnother, HasNoRow, by_name, rows_of, texts_of};
+ghost use Rattle.ti_caps.specs.ByName.{IsRowOf, IsOfAnother, HasNoRow, by_name, numbered, texts_of};
 
 use crate::capability::{Cap, Kind};
 use crate::keys::{KEYS, key_of};
@@ -24,11 +24,7 @@ pub fn count(kind: Kind) -> usize
 pub fn name(cap: Cap) -> &'static str
     ensures { result.now ≡ name_of cap }
 {
-    match cap.kind() {
-        Kind::Flag => text_at(&FLAGS, cap.index()),
-        Kind::Number => text_at(&NUMBERS, cap.index()),
-        Kind::Text => text_at(&TEXTS, cap.index()),
-    }
+    text_of(cap.kind(), cap.index())
 }
 
 /// The capability of a name, byte for byte; `None` where no capability has it.
@@ -47,7 +43,7 @@ fn listed(name: &[u8]) -> Option<(Kind, usize)>
     ensures none { IfNone result (HasNoRow by_name name.now) }
 {
     match KEYS.binary_search(&key_of(name)) {
-        Ok(place) => row_at(&BY_NAME, place, name),
+        Ok(place) => row_at(place, name),
         Err(_) => None,
     }
 }
@@ -62,6 +58,18 @@ pub fn every_name_is_found()
     ensures { EveryNameIsFound }
 {}
 
+// The name of the capability of a kind at a place of its list.
+fn text_of(kind: Kind, index: usize) -> &'static str
+    requires { index < count_of kind }
+    ensures { result.now ≡ name_of (capability kind index) }
+{
+    match kind {
+        Kind::Flag => text_at(&FLAGS, index),
+        Kind::Number => text_at(&NUMBERS, index),
+        Kind::Text => text_at(&TEXTS, index),
+    }
+}
+
 // The name at a place of a list.
 fn text_at(names: &'static [&'static str], index: usize) -> &'static str
     requires { index < length names.now }
@@ -70,17 +78,38 @@ fn text_at(names: &'static [&'static str], index: usize) -> &'static str
     names[index]
 }
 
-// The kind and the index in the row at a place, where it is that of the name.
-fn row_at(rows: &[(&str, Kind, u16)], place: usize, name: &[u8]) -> Option<(Kind, usize)>
-    requires { place < length rows.now }
-    ensures found { IfSome result (λ r. IsRowOf (rows_of rows.now) name.now r.0 r.1) }
-    ensures none { IfNone result (IsOfAnother (rows_of rows.now) place name.now) }
+// The kind and the index of the capability at a place of the order by names, where it has that name.
+fn row_at(place: usize, name: &[u8]) -> Option<(Kind, usize)>
+    requires { place < length by_name }
+    ensures found { IfSome result (λ r. IsRowOf by_name name.now r.0 r.1) }
+    ensures none { IfNone result (IsOfAnother by_name place name.now) }
 {
-    let (text, kind, index) = rows[place];
-    if text.as_bytes() == name {
-        Some((kind, index as usize))
+    let (kind, index) = numbered(number_at(&BY_NAME, place));
+    if text_of(kind, index).as_bytes() == name {
+        Some((kind, index))
     } else {
         None
+    }
+}
+
+// The number at a place of a list.
+fn number_at(numbers: &[u16], place: usize) -> usize
+    requires { place < length numbers.now }
+    ensures { result ≡ slice_index_or numbers.now place 0 }
+{
+    numbers[place] as usize
+}
+
+// The kind and the index of the capability that has a number.
+fn numbered(number: usize) -> (Kind, usize)
+    ensures { capability result.0 result.1 ≡ numbered number }
+{
+    if number < FLAG_COUNT {
+        (Kind::Flag, number)
+    } else if number < FLAG_COUNT + NUMBER_COUNT {
+        (Kind::Number, number - FLAG_COUNT)
+    } else {
+        (Kind::Text, number - (FLAG_COUNT + NUMBER_COUNT))
     }
 }
 

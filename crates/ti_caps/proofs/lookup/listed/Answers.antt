@@ -1,11 +1,16 @@
 -- the row of that key has the name, or none has it
-use Rattle.std.proofs.Common.{Ok, Err}
+use Rattle.std.proofs.Common.{◌<◌, Ok, Err, subst}
 use Rattle.std.proofs.lemmas.List.Sorted.{searched}
 use Rattle.ti_caps.specs.declared.keys.TheConstants.{KEYS}
 use Rattle.ti_caps.specs.ByName.{by_name}
 use Rattle.ti_caps.specs.Keys.{key_of}
-use Rattle.ti_caps.proofs.KeyTable.{keys_do_not_fall, only_place, no_place, none_then}
+use Rattle.ti_caps.proofs.KeyTable.{as_long, keys_do_not_fall, only_place, no_place, none_then}
 use Rattle.ti_caps.proofs.lookup.listed.Goals as goal
+
+pub row_at-requires : goal.row_at-requires
+row_at-requires c =
+    let at = searched KEYS (key_of c.args.name.now) (Ok c.in-Ok.place) (rw (← c.key_of.ensures) c.in-Ok.ensures.position) keys_do_not_fall in
+    subst (λ n. c.in-Ok.place < n) as_long at.0
 
 pub returns-in-Ok-clause-found : goal.returns-in-Ok-clause-found
 unfolding by_name

@@ -4,7 +4,7 @@ use Rattle.ti_caps.specs.declared.capability.Kind.TheVariants.{Flag, Number, Tex
 use Rattle.ti_caps.specs.declared.tables.TheConstants.{FLAGS, NUMBERS, TEXTS}
 use Rattle.ti_caps.specs.Names.{flag_names, number_names, text_names}
 use Rattle.ti_caps.specs.Tables.{names}
-use Rattle.ti_caps.proofs.lookup.name.Goals as goal
+use Rattle.ti_caps.proofs.lookup.text_of.Goals as goal
 
 flags_are : map (λ t. t.now) FLAGS ≡ names Flag
 unfolding names flag_names
@@ -19,10 +19,10 @@ unfolding names text_names
 texts_are = refl
 
 pub returns-in-Flag : goal.returns-in-Flag
-returns-in-Flag c = c.text_at.ensures ∙ ap (λ ns. get_or ns c.index.result []) flags_are ∙ ap (λ i. get_or (names Flag) i []) c.index.ensures.value ∙ ap (λ k. get_or (names k) c.args.cap.index []) c.in-Flag.ensures.value
+returns-in-Flag c = rw c.in-Flag.is (c.text_at.ensures ∙ ap (λ ns. get_or ns c.args.index []) flags_are)
 
 pub returns-in-Number : goal.returns-in-Number
-returns-in-Number c = c.text_at-in-Number.ensures ∙ ap (λ ns. get_or ns c.index-in-Number.result []) numbers_are ∙ ap (λ i. get_or (names Number) i []) c.index-in-Number.ensures.value ∙ ap (λ k. get_or (names k) c.args.cap.index []) c.in-Number.ensures.value
+returns-in-Number c = rw c.in-Number.is (c.text_at-in-Number.ensures ∙ ap (λ ns. get_or ns c.args.index []) numbers_are)
 
 pub returns-in-Text : goal.returns-in-Text
-returns-in-Text c = c.text_at-in-Text.ensures ∙ ap (λ ns. get_or ns c.index-in-Text.result []) texts_are ∙ ap (λ i. get_or (names Text) i []) c.index-in-Text.ensures.value ∙ ap (λ k. get_or (names k) c.args.cap.index []) c.in-Text.ensures.value
+returns-in-Text c = rw c.in-Text.is (c.text_at-in-Text.ensures ∙ ap (λ ns. get_or ns c.args.index []) texts_are)
