@@ -74,27 +74,43 @@ fn text<'a>(view: &View<'a>, name: &str) -> Option<&'a [u8]> {
 }
 
 #[test]
-fn an_entry_is_read(rt: HostRuntime) -> Result<(), Fail> {
+fn an_entry_has_its_names(rt: HostRuntime) -> Result<(), Fail> {
     let bytes = dumb(rt.alloc())?;
     assert_eq!(rt; bytes.len(), 308);
     let view = View::read(&bytes)?;
     assert_eq!(rt; view.names(), b"dumb|80-column dumb tty".as_slice());
     assert_eq!(rt; view.first_name(), b"dumb".as_slice());
-    assert!(rt; flag(&view, "am"));
-    assert!(rt; !flag(&view, "bw"));
-    assert!(rt; !flag(&view, "OTxr"));
-    assert_eq!(rt; number(&view, "cols"), Some(80));
-    assert_eq!(rt; number(&view, "lines"), None);
-    for (name, value) in [
-        ("bel", b"\x07"),
-        ("cr", b"\x0d"),
-        ("cud1", b"\x0a"),
-        ("ind", b"\x0a"),
-    ] {
-        assert_eq!(rt; text(&view, name), Some(value.as_slice()), "{name}");
+    Ok(())
+}
+
+#[test]
+fn an_entry_has_its_flags_and_numbers(rt: HostRuntime) -> Result<(), Fail> {
+    let bytes = dumb(rt.alloc())?;
+    let view = View::read(&bytes)?;
+    for (name, value) in [("am", true), ("bw", false), ("OTxr", false)] {
+        assert_eq!(rt; flag(&view, name), value, "{name}");
     }
-    assert_eq!(rt; text(&view, "cbt"), None);
-    assert_eq!(rt; text(&view, "box1"), None);
+    for (name, value) in [("cols", Some(80)), ("lines", None)] {
+        assert_eq!(rt; number(&view, name), value, "{name}");
+    }
+    Ok(())
+}
+
+#[test]
+fn an_entry_has_its_texts(rt: HostRuntime) -> Result<(), Fail> {
+    let bytes = dumb(rt.alloc())?;
+    let view = View::read(&bytes)?;
+    let rows: [(&str, Option<&[u8]>); 6] = [
+        ("bel", Some(b"\x07")),
+        ("cr", Some(b"\x0d")),
+        ("cud1", Some(b"\x0a")),
+        ("ind", Some(b"\x0a")),
+        ("cbt", None),
+        ("box1", None),
+    ];
+    for (name, value) in rows {
+        assert_eq!(rt; text(&view, name), value, "{name}");
+    }
     Ok(())
 }
 
@@ -177,6 +193,20 @@ fn overlapping_texts(rt: HostRuntime) -> Result<(), Fail> {
     Ok(())
 }
 
+/// Whether the first name is no longer than the names field; every getter is asked too, and answers.
+fn answers(view: &View<'_>) -> bool {
+    for name in ["am", "OTxr"] {
+        let _ = flag(view, name);
+    }
+    for name in ["cols", "OTkn"] {
+        let _ = number(view, name);
+    }
+    for name in ["cbt", "bel", "cr", "cud1", "ind", "box1"] {
+        let _ = text(view, name);
+    }
+    view.first_name().len() <= view.names().len()
+}
+
 /// Whatever a byte is changed to, reading answers, and so does every getter.
 #[test]
 fn any_changed_byte_is_answered(rt: HostRuntime) -> Result<(), Fail> {
@@ -187,16 +217,7 @@ fn any_changed_byte_is_answered(rt: HostRuntime) -> Result<(), Fail> {
             let changed = with(rt.alloc(), &bytes, &[(at, byte)])?;
             if let Ok(view) = View::read(&changed) {
                 read |= 1;
-                assert!(rt; view.first_name().len() <= view.names().len());
-                for name in ["am", "OTxr"] {
-                    let _ = flag(&view, name);
-                }
-                for name in ["cols", "OTkn"] {
-                    let _ = number(&view, name);
-                }
-                for name in ["cbt", "bel", "cr", "cud1", "ind", "box1"] {
-                    let _ = text(&view, name);
-                }
+                assert!(rt; answers(&view), "at {at}");
             }
         }
     }
@@ -212,16 +233,23 @@ const EXTENDED: [u8; 18] = [
 
 #[test]
 fn numbers_of_32_bits_are_read(rt: HostRuntime) -> Result<(), Fail> {
-    let alloc = rt.alloc();
-    assert_eq!(rt; number(&View::read(&EXTENDED)?, "cols"), Some(80));
-    let wide = with(alloc, &EXTENDED, &[(16, 0x01)])?;
-    assert_eq!(rt; number(&View::read(&wide)?, "cols"), Some(65_616));
-    let cancelled = [(14, 0xfe), (15, 0xff), (16, 0xff), (17, 0xff)];
-    let void = with(alloc, &EXTENDED, &cancelled)?;
-    assert_eq!(rt; number(&View::read(&void)?, "cols"), None);
+    let rows: [(&[(usize, u8)], Option<u32>); 3] = [
+        (&[], Some(80)),
+        (&[(16, 0x01)], Some(65_616)),
+        (&[(14, 0xfe), (15, 0xff), (16, 0xff), (17, 0xff)], None),
+    ];
+    for (changes, wanted) in rows {
+        let bytes = with(rt.alloc(), &EXTENDED, changes)?;
+        assert_eq!(rt; number(&View::read(&bytes)?, "cols"), wanted);
+    }
+    Ok(())
+}
+
+#[test]
+fn bad_numbers_of_32_bits_are_refused(rt: HostRuntime) -> Result<(), Fail> {
     let bad = [(14, 0xfd), (15, 0xff), (16, 0xff), (17, 0xff)];
     assert_eq!(rt;
-        refusal(&with(alloc, &EXTENDED, &bad)?),
+        refusal(&with(rt.alloc(), &EXTENDED, &bad)?),
         Some(ReadError::BadNumber)
     );
     assert_eq!(rt; refusal(&EXTENDED[..17]), Some(ReadError::Truncated));
