@@ -34,10 +34,7 @@ fn first_places(mentions: &[(Cap, Value)]) -> [u16; CAPABILITIES]
 }
 
 /// The first mention of each capability, in the order of the entry, its text shared.
-fn first_mentions(
-    alloc: Global,
-    mentions: &[(Cap, Value)],
-) -> Result<Vec<(Cap, Value)>, AllocError>
+fn first_mentions(alloc: Global, mentions: &[(Cap, Value)]) -> Result<Vec<(Cap, Value)>, AllocError>
     requires few { length mentions.now < 65536 }
     requires agree { All (λ e. Agrees e.0 e.1) (entries_of mentions.now) }
     ensures kept { IfOk result (λ v. IsKept (entries_of v.items)) }

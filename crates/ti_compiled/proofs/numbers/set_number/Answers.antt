@@ -1,18 +1,12 @@
-use Rattle.std.proofs.Common.{◌≡◌, ◌≤◌, ℕ, List, length, sym, ap, ◌∙◌, subst, Option, Result, Ok, Err, arith, vec_capacity}
-use Rattle.std.specs.Prelude.{OnOk}
-use Rattle.ti_layout.specs.declared.writing.WriteError.{WriteError}
+use Rattle.std.proofs.Common.{◌≡◌, ◌≤◌, ℕ, List, length, sym, ap, ◌∙◌, subst, Option, arith, vec_capacity}
 use Rattle.ti_layout.specs.declared.layout.Header.{Header}
 use Rattle.ti_layout.specs.Image.{image, below, limit_of}
 use Rattle.ti_layout.specs.Sizes.{HasSizes}
 use Rattle.ti_compiled.specs.Changes.{with_number, wide_value}
 use Rattle.ti_compiled.specs.Held.{names_in, contents_in}
-use Rattle.ti_compiled.proofs.Rooms.{when_ok}
+use Rattle.ti_compiled.proofs.Rooms.{when_ok, on_ok, on_err, none_ok, none_err, no_fault, image_again, sizes_again, names_room, flags_room, numbers_room, texts_room}
 use Rattle.ti_compiled.proofs.NumberChange.{number_room}
 use Rattle.ti_compiled.proofs.numbers.set_number.Goals as goal
-
-on_ok : (r : Result (Unit {0}) WriteError) (P : Type 0) → P → OnOk r P
-on_ok (Ok x) P p = p
-on_ok (Err x) P p = tt
 
 -- what is told of the bytes that a call is given
 old_sizes : (b x : List ℕ) (h : Header) → x ≡ b → HasSizes (names_in x) (contents_in x) h → HasSizes (names_in b) (contents_in b) h
@@ -82,3 +76,85 @@ returns-else-is_ok-clause-memory c =
     let all = all_values b c.deref-2.result.now c.numbers_with-values.result c.args.index c.args.number c.deref-2.ensures.value c.numbers_with-values.ensures in
     let has : HasSizes (names_in b) g c.sizes_with_numbers-new.result = c.sizes_with_numbers-new.ensures.sizes b c.args.index c.args.number c.requires.image old c.requires.index c.requires.fits all in
     c.make_room-room.ensures.memory (names_in b) g has
+
+pub header_of-old-requires : goal.header_of-old-requires
+header_of-old-requires c = image_again _ _ c.deref.ensures.value c.requires.image
+
+pub numbers_with-values-requires-clause-image : goal.numbers_with-values-requires-clause-image
+numbers_with-values-requires-clause-image c = image_again _ _ c.deref-2.ensures.value c.requires.image
+
+pub numbers_with-values-requires-clause-old : goal.numbers_with-values-requires-clause-old
+numbers_with-values-requires-clause-old c = sizes_again _ _ c.header_of-old.result (c.deref-2.ensures.value ∙ sym c.deref.ensures.value) c.header_of-old.ensures.sizes
+
+pub numbers_with-values-requires-clause-index : goal.numbers_with-values-requires-clause-index
+numbers_with-values-requires-clause-index c = c.requires.index
+
+pub make_room-room-requires-clause-names : goal.make_room-room-requires-clause-names
+make_room-room-requires-clause-names c =
+    let b = c.args.bytes.now.items in
+    let old = old_sizes b c.deref.result.now c.header_of-old.result c.deref.ensures.value c.header_of-old.ensures.sizes in
+    let all = all_values b c.deref-2.result.now c.numbers_with-values.result c.args.index c.args.number c.deref-2.ensures.value c.numbers_with-values.ensures in
+    let has : HasSizes (names_in b) (with_number b c.args.index c.args.number) c.sizes_with_numbers-new.result = c.sizes_with_numbers-new.ensures.sizes b c.args.index c.args.number c.requires.image old c.requires.index c.requires.fits all in
+    names_room b _ c.sizes_with_numbers-new.result c.requires.image has
+
+pub make_room-room-requires-clause-flags : goal.make_room-room-requires-clause-flags
+make_room-room-requires-clause-flags c =
+    let b = c.args.bytes.now.items in
+    let old = old_sizes b c.deref.result.now c.header_of-old.result c.deref.ensures.value c.header_of-old.ensures.sizes in
+    let all = all_values b c.deref-2.result.now c.numbers_with-values.result c.args.index c.args.number c.deref-2.ensures.value c.numbers_with-values.ensures in
+    let has : HasSizes (names_in b) (with_number b c.args.index c.args.number) c.sizes_with_numbers-new.result = c.sizes_with_numbers-new.ensures.sizes b c.args.index c.args.number c.requires.image old c.requires.index c.requires.fits all in
+    flags_room c.sizes_with_numbers-new.result has
+
+pub make_room-room-requires-clause-numbers : goal.make_room-room-requires-clause-numbers
+make_room-room-requires-clause-numbers c =
+    let b = c.args.bytes.now.items in
+    let old = old_sizes b c.deref.result.now c.header_of-old.result c.deref.ensures.value c.header_of-old.ensures.sizes in
+    let all = all_values b c.deref-2.result.now c.numbers_with-values.result c.args.index c.args.number c.deref-2.ensures.value c.numbers_with-values.ensures in
+    let has : HasSizes (names_in b) (with_number b c.args.index c.args.number) c.sizes_with_numbers-new.result = c.sizes_with_numbers-new.ensures.sizes b c.args.index c.args.number c.requires.image old c.requires.index c.requires.fits all in
+    numbers_room c.sizes_with_numbers-new.result has
+
+pub make_room-room-requires-clause-texts : goal.make_room-room-requires-clause-texts
+make_room-room-requires-clause-texts c =
+    let b = c.args.bytes.now.items in
+    let old = old_sizes b c.deref.result.now c.header_of-old.result c.deref.ensures.value c.header_of-old.ensures.sizes in
+    let all = all_values b c.deref-2.result.now c.numbers_with-values.result c.args.index c.args.number c.deref-2.ensures.value c.numbers_with-values.ensures in
+    let has : HasSizes (names_in b) (with_number b c.args.index c.args.number) c.sizes_with_numbers-new.result = c.sizes_with_numbers-new.ensures.sizes b c.args.index c.args.number c.requires.image old c.requires.index c.requires.fits all in
+    texts_room c.sizes_with_numbers-new.result has
+
+pub change_numbers-requires-clause-image : goal.change_numbers-requires-clause-image
+change_numbers-requires-clause-image c = image_again _ _ c.make_room-room.ensures.items c.requires.image
+
+pub change_numbers-requires-clause-old : goal.change_numbers-requires-clause-old
+change_numbers-requires-clause-old c = sizes_again _ _ c.header_of-old.result (c.make_room-room.ensures.items ∙ sym c.deref.ensures.value) c.header_of-old.ensures.sizes
+
+pub change_numbers-requires-clause-count : goal.change_numbers-requires-clause-count
+change_numbers-requires-clause-count c = c.sizes_with_numbers-new.ensures.numbers
+
+pub change_numbers-requires-clause-few : goal.change_numbers-requires-clause-few
+change_numbers-requires-clause-few c =
+    let b = c.args.bytes.now.items in
+    let old = old_sizes b c.deref.result.now c.header_of-old.result c.deref.ensures.value c.header_of-old.ensures.sizes in
+    let all = all_values b c.deref-2.result.now c.numbers_with-values.result c.args.index c.args.number c.deref-2.ensures.value c.numbers_with-values.ensures in
+    let has : HasSizes (names_in b) (with_number b c.args.index c.args.number) c.sizes_with_numbers-new.result = c.sizes_with_numbers-new.ensures.sizes b c.args.index c.args.number c.requires.image old c.requires.index c.requires.fits all in
+    has.numbers_fit
+
+pub returns-then-is_ok-clause-memory : goal.returns-then-is_ok-clause-memory
+returns-then-is_ok-clause-memory c = no_fault c.make_room-room.result _ _ (sym c.is_ok.ensures.value ∙ c.if-is_ok.true)
+
+pub returns-then-is_ok-clause-names_fit : goal.returns-then-is_ok-clause-names_fit
+returns-then-is_ok-clause-names_fit c = c.make_room-room.ensures.names_fit
+
+pub returns-then-is_ok-clause-err : goal.returns-then-is_ok-clause-err
+returns-then-is_ok-clause-err c = none_err c.make_room-room.result _ (sym c.is_ok.ensures.value ∙ c.if-is_ok.true)
+
+pub returns-else-is_ok-clause-ok : goal.returns-else-is_ok-clause-ok
+returns-else-is_ok-clause-ok c = none_ok c.make_room-room.result _ (sym c.is_ok.ensures.value ∙ c.if-is_ok.false)
+
+pub returns-else-is_ok-clause-within : goal.returns-else-is_ok-clause-within
+returns-else-is_ok-clause-within c = none_ok c.make_room-room.result _ (sym c.is_ok.ensures.value ∙ c.if-is_ok.false)
+
+pub returns-else-is_ok-clause-names_fit : goal.returns-else-is_ok-clause-names_fit
+returns-else-is_ok-clause-names_fit c = c.make_room-room.ensures.names_fit
+
+pub returns-else-is_ok-clause-err : goal.returns-else-is_ok-clause-err
+returns-else-is_ok-clause-err c = on_err c.make_room-room.result _ c.make_room-room.ensures.items

@@ -1,4 +1,4 @@
-use Rattle.std.proofs.Common.{◌<◌, length, sym, ap, subst, ◌∙◌}
+use Rattle.std.proofs.Common.{◌<◌, length, sym, ap, subst, ◌∙◌, rules, arith}
 use Rattle.std.proofs.lemmas.List.{length-map}
 use Rattle.ti_caps.specs.Tables.{Capability, IsCapability}
 use Rattle.std.specs.Prelude.{◌≡◌, Some, None}
@@ -104,3 +104,83 @@ returns-clause-names c = c.loop-turn.invariant.names
 
 pub returns-clause-contents : goal.returns-clause-contents
 returns-clause-contents c = patches_all (entries_of c.args.old.now) (entries_of c.args.new.now) (contents_in c.loop-turn.copy) c.loop-turn.at_old c.loop-turn.at_new c.requires.old c.requires.new c.loop-turn.invariant.patches c.in_default.ensures
+
+pub bounds-old-at_old : goal.bounds-old-at_old
+bounds-old-at_old c =
+    let turn = subst (TurnIs (entries_of c.args.old.now) c.loop-turn.at_old (entries_of c.args.new.now) c.loop-turn.at_new) c.in-First.is c.in-Some.ensures in
+    rw length-map at turn.0
+
+pub bounds-old-at_old-in-First : goal.bounds-old-at_old-in-First
+bounds-old-at_old-in-First c =
+    let turn = subst (TurnIs (entries_of c.args.old.now) c.loop-turn.at_old (entries_of c.args.new.now) c.loop-turn.at_new) c.in-First.is c.in-Some.ensures in
+    rw length-map at turn.0
+
+pub bounds-new-at_new : goal.bounds-new-at_new
+bounds-new-at_new c =
+    let turn = subst (TurnIs (entries_of c.args.old.now) c.loop-turn.at_old (entries_of c.args.new.now) c.loop-turn.at_new) c.in-Second.is c.in-Some.ensures in
+    rw length-map at turn.0
+
+pub bounds-old-at_old-in-Both : goal.bounds-old-at_old-in-Both
+bounds-old-at_old-in-Both c =
+    let turn = subst (TurnIs (entries_of c.args.old.now) c.loop-turn.at_old (entries_of c.args.new.now) c.loop-turn.at_new) c.in-Both.is c.in-Some.ensures in
+    rw length-map at turn.0
+
+pub bounds-new-at_new-in-Both : goal.bounds-new-at_new-in-Both
+bounds-new-at_new-in-Both c =
+    let turn = subst (TurnIs (entries_of c.args.old.now) c.loop-turn.at_old (entries_of c.args.new.now) c.loop-turn.at_new) c.in-Both.is c.in-Some.ensures in
+    rw length-map at turn.1
+
+pub offset_bounds-old-at_old : goal.offset_bounds-old-at_old
+offset_bounds-old-at_old c = let b = bounds-old-at_old c in search rules
+
+pub offset_bounds-new-at_new : goal.offset_bounds-new-at_new
+offset_bounds-new-at_new c = let b = bounds-new-at_new c in search rules
+
+pub offset_bounds-old-at_old-in-Both : goal.offset_bounds-old-at_old-in-Both
+offset_bounds-old-at_old-in-Both c = let b = bounds-old-at_old-in-Both c in search rules
+
+pub offset_bounds-new-at_new-in-Both : goal.offset_bounds-new-at_new-in-Both
+offset_bounds-new-at_new-in-Both c = let b = bounds-new-at_new-in-Both c in search rules
+
+pub overflow_add-at_old : goal.overflow_add-at_old
+overflow_add-at_old c =
+    let turn = subst (TurnIs (entries_of c.args.old.now) c.loop-turn.at_old (entries_of c.args.new.now) c.loop-turn.at_new) c.in-First.is c.in-Some.ensures in
+    let within : c.loop-turn.at_old < length c.args.old.now = rw length-map at turn.0 in
+    search rules
+
+pub overflow_add-at_new : goal.overflow_add-at_new
+overflow_add-at_new c =
+    let turn = subst (TurnIs (entries_of c.args.old.now) c.loop-turn.at_old (entries_of c.args.new.now) c.loop-turn.at_new) c.in-Second.is c.in-Some.ensures in
+    let within : c.loop-turn.at_new < length c.args.new.now = rw length-map at turn.0 in
+    search rules
+
+pub overflow_add-at_old-in-Both : goal.overflow_add-at_old-in-Both
+overflow_add-at_old-in-Both c =
+    let turn = subst (TurnIs (entries_of c.args.old.now) c.loop-turn.at_old (entries_of c.args.new.now) c.loop-turn.at_new) c.in-Both.is c.in-Some.ensures in
+    let within : c.loop-turn.at_old < length c.args.old.now = rw length-map at turn.0 in
+    search rules
+
+pub overflow_add-at_new-in-Both : goal.overflow_add-at_new-in-Both
+overflow_add-at_new-in-Both c =
+    let turn = subst (TurnIs (entries_of c.args.old.now) c.loop-turn.at_old (entries_of c.args.new.now) c.loop-turn.at_new) c.in-Both.is c.in-Some.ensures in
+    let within : c.loop-turn.at_new < length c.args.new.now = rw length-map at turn.1 in
+    search rules
+
+pub loop-turn-smaller-in-First : goal.loop-turn-smaller-in-First
+loop-turn-smaller-in-First c =
+    let turn = subst (TurnIs (entries_of c.args.old.now) c.loop-turn.at_old (entries_of c.args.new.now) c.loop-turn.at_new) c.in-First.is c.in-Some.ensures in
+    let within : c.loop-turn.at_old < length c.args.old.now = rw length-map at turn.0 in
+    omega arith
+
+pub loop-turn-smaller-in-Second : goal.loop-turn-smaller-in-Second
+loop-turn-smaller-in-Second c =
+    let turn = subst (TurnIs (entries_of c.args.old.now) c.loop-turn.at_old (entries_of c.args.new.now) c.loop-turn.at_new) c.in-Second.is c.in-Some.ensures in
+    let within : c.loop-turn.at_new < length c.args.new.now = rw length-map at turn.0 in
+    omega arith
+
+pub loop-turn-smaller : goal.loop-turn-smaller
+loop-turn-smaller c =
+    let turn = subst (TurnIs (entries_of c.args.old.now) c.loop-turn.at_old (entries_of c.args.new.now) c.loop-turn.at_new) c.in-Both.is c.in-Some.ensures in
+    let within : c.loop-turn.at_old < length c.args.old.now = rw length-map at turn.0 in
+    let within_n : c.loop-turn.at_new < length c.args.new.now = rw length-map at turn.1 in
+    omega arith

@@ -1,5 +1,5 @@
 use Rattle.std.proofs.Common.{arith}
-use Rattle.ti_layout.proofs.Refusing.{refused_offsets}
+use Rattle.ti_layout.proofs.Refusing.{refused_names, refused_flags, refused_numbers, refused_offsets}
 use Rattle.ti_layout.proofs.Whole.{is_read, reads}
 use Rattle.ti_layout.proofs.view.View.read.Goals as goal
 
@@ -16,3 +16,13 @@ returns-clause-found c =
 pub returns-then-not-are_offsets-clause-refused : goal.returns-then-not-are_offsets-clause-refused
 returns-then-not-are_offsets-clause-refused c =
     refused_offsets _ _ c.in_ok-sections.ensures.found c.if-not-are_names.ensures c.if-not-are_flags.ensures c.if-not-are_numbers.ensures c.if-not-are_offsets.ensures
+
+pub returns-then-not-are_names-clause-refused : goal.returns-then-not-are_names-clause-refused
+returns-then-not-are_names-clause-refused c = refused_names _ _ c.in_ok-sections.ensures.found c.if-not-are_names.ensures
+
+pub returns-then-not-are_flags-clause-refused : goal.returns-then-not-are_flags-clause-refused
+returns-then-not-are_flags-clause-refused c = refused_flags _ _ c.in_ok-sections.ensures.found c.if-not-are_names.ensures c.if-not-are_flags.ensures
+
+pub returns-then-not-are_numbers-clause-refused : goal.returns-then-not-are_numbers-clause-refused
+returns-then-not-are_numbers-clause-refused c =
+    refused_numbers _ _ c.in_ok-sections.ensures.found c.if-not-are_names.ensures c.if-not-are_flags.ensures c.if-not-are_numbers.ensures
