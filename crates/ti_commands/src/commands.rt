@@ -6,7 +6,7 @@ ghost use Rattle.clap.specs.declared.builder.Command.TheViews.{out-Command as fi
 ghost use Rattle.ti_commands.specs.Commands.{first_tools_app, session_app, ti_app, tic_app, tool_app, tput_app, tput_options_app};
 
 use crate::infocmp_words::infocmp;
-use crate::rules::{flag, long_option, operand, operands, option};
+use crate::rules::{flag, long_option, operand, operands, option, with_three, with_two};
 use clap::Command;
 use std::alloc::{AllocError, Global};
 
@@ -82,12 +82,10 @@ fn tic<'a>(alloc: Global) -> Result<Command<'a>, AllocError>
         "FILE",
         "The source [default: standard input]",
     );
-    Command::new(alloc, "tic")
+    let command = Command::new(alloc, "tic")
         .about("Compile terminfo source into entries, one file for each name.")
-        .after_help(TIC_NOTES)
-        .arg(check)?
-        .arg(dir)?
-        .arg(file)
+        .after_help(TIC_NOTES);
+    with_three(command, check, dir, file)
 }
 
 // `tput [-T TYPE] [--rate N]`.
@@ -102,11 +100,10 @@ fn tput_options<'a>(alloc: Global) -> Result<Command<'a>, AllocError>
         "N",
         "Pad for a line of N bits a second [default: 0, no padding]",
     );
-    Command::new(alloc, "tput")
+    let command = Command::new(alloc, "tput")
         .about("Write what drives a terminal: a capability of its entry.")
-        .after_help(TPUT_NOTES)
-        .arg(term)?
-        .arg(rate)
+        .after_help(TPUT_NOTES);
+    with_two(command, term, rate)
 }
 
 // `tput [-T TYPE] [--rate N] [-S] [CAP] [WORD..]`.
@@ -114,6 +111,7 @@ fn tput<'a>(alloc: Global) -> Result<Command<'a>, AllocError>
     ensures app { IfOk result (λ command. app_of command ≡ tput_app) }
     ensures local { IfOk result (λ command. (fields_of command).has_globals ≡ false) }
 {
+    let command = tput_options(alloc)?;
     let lines = flag(
         alloc,
         "lines",
@@ -126,7 +124,7 @@ fn tput<'a>(alloc: Global) -> Result<Command<'a>, AllocError>
         "WORD",
         "The capability's name, and its parameters",
     );
-    tput_options(alloc)?.arg(lines)?.arg(words)
+    with_two(command, lines, words)
 }
 
 // `session`.
@@ -175,11 +173,12 @@ pub fn command<'a>(alloc: Global) -> Result<Command<'a>, AllocError>
 pub(crate) fn tool_command<'a>(alloc: Global, name: &str) -> Result<Option<Command<'a>>, AllocError>
     ensures { IfOk result (λ found. option_map (λ command. app_of command) found ≡ tool_app name.now) }
 {
-    Ok(match name {
-        "tic" => Some(tic(alloc)?),
-        "tput" => Some(tput(alloc)?),
-        "session" => Some(session(alloc)?),
-        "infocmp" => Some(infocmp(alloc)?),
-        _ => None,
-    })
+    let command = match name {
+        "tic" => tic(alloc),
+        "tput" => tput(alloc),
+        "session" => session(alloc),
+        "infocmp" => infocmp(alloc),
+        _ => return Ok(None),
+    };
+    Ok(Some(command?))
 }

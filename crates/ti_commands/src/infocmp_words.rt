@@ -10,7 +10,7 @@ ghost use Rattle.ti_commands.specs.Jobs.{task_of};
 use crate::arguments::UsageError;
 use crate::jobs::{InfocmpMode, Job};
 use crate::matches::{on, text, texts, value, values};
-use crate::rules::{flag, number, operands, option};
+use crate::rules::{flag, number, operands, option, with_three, with_two};
 use clap::{ArgMatches, Command};
 use std::alloc::{AllocError, Global};
 use ti_list::{Layout, Order};
@@ -58,7 +58,7 @@ fn first_modes<'a>(alloc: Global, command: Command<'a>) -> Result<Command<'a>, A
         'c',
         "Show what the first and each other have in common",
     );
-    command.arg(list)?.arg(differ)?.arg(common)
+    with_three(command, list, differ, common)
 }
 
 // The options that name another mode.
@@ -79,7 +79,7 @@ fn other_modes<'a>(alloc: Global, command: Command<'a>) -> Result<Command<'a>, A
         'u',
         "List the first so that it uses the others",
     );
-    command.arg(neither)?.arg(relative)
+    with_two(command, neither, relative)
 }
 
 // The options that lay a listing out.
@@ -104,7 +104,7 @@ fn layouts<'a>(alloc: Global, command: Command<'a>) -> Result<Command<'a>, Alloc
         "ORDER",
         "Sort by place in the entry (d) or by name (i) [default: i]",
     );
-    command.arg(one)?.arg(width)?.arg(sort)
+    with_three(command, one, width, sort)
 }
 
 // Where entries stand, and the names.
@@ -128,7 +128,7 @@ fn operands_of<'a>(alloc: Global, command: Command<'a>) -> Result<Command<'a>, A
         "Look for the other names in DIR alone",
     );
     let names = operands(alloc, "name", "NAME", "The terminals [default: $TERM]");
-    command.arg(first)?.arg(other)?.arg(names)
+    with_three(command, first, other, names)
 }
 
 /// `infocmp [-I|-d|-c|-n|-u] [-1] [-w N] [-s d|i] [-A DIR] [-B DIR] [NAME..]`.
