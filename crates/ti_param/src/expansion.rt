@@ -12,10 +12,6 @@ use crate::errors::ParamError;
 use crate::lexer::{Lexer, Placed};
 use crate::machine::Machine;
 use crate::values::{Statics, Value};
-
-#[cfg(test)]
-mod tests;
-
 use std::alloc::Global;
 
 /// The bytes of a format for its parameters: what the format's tree means.

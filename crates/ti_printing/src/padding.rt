@@ -4,9 +4,6 @@ ghost use Rattle.std.specs.Iterator.{YieldsFirst, item_count};
 ghost use Rattle.ti_printing.specs.Padding.{OneCut, with_pad_bytes, padding_of, pad_count};
 ghost use Rattle.ti_printing.specs.inside.Padding.{parts_of, padding_at, after_byte, digits_len, milliseconds_at, tenths_at, mark_at, marks_at};
 
-#[cfg(test)]
-mod tests;
-
 use memchr::memchr;
 use std::alloc::{AllocError, Global};
 use thiserror::Error;

@@ -5,9 +5,6 @@ ghost use Rattle.std.specs.Int.Digits.{digits_of};
 ghost use Rattle.ti_printing.specs.Printf.{form_bytes, printed_text, printed_number, parts_text, numeral, digits_in, in_width, sign_in, prefix_in, OneNumeral};
 ghost use Rattle.ti_text.specs.Ascii as ascii;
 
-#[cfg(test)]
-mod tests;
-
 use std::alloc::AllocError;
 use ti_text::room::{append_reserved, fill_reserved};
 

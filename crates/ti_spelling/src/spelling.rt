@@ -318,6 +318,3 @@ pub fn one_outcome()
     ensures computed { UnescapedAgrees }
     ensures values { ValuesAreSound }
 {}
-
-#[cfg(test)]
-mod tests;

@@ -179,6 +179,3 @@ pub fn written_spells()
     ensures spells { WrittenSpells }
     ensures computed { WrittenReadsBack }
 {}
-
-#[cfg(test)]
-mod tests;

@@ -29,20 +29,3 @@ pub fn insert_reserved<T: Drop>(items: &mut Vec<T>, at: usize, item: T)
 {
     items.insert(at, item).unwrap();
 }
-
-#[cfg(test)]
-mod tests {
-    use super::*;
-    use std::test::Fail;
-
-    #[test]
-    fn grows_in_room_made_before(rt: HostRuntime) -> Result<(), Fail> {
-        let mut text = Vec::with_capacity(rt.alloc(), 7)?;
-        append_reserved(&mut text, b"ab");
-        fill_reserved(&mut text, b'-', 3);
-        append_reserved(&mut text, b"c");
-        insert_reserved(&mut text, 1, b'|');
-        assert_eq!(rt; text.as_slice(), b"a|b---c".as_slice());
-        Ok(())
-    }
-}

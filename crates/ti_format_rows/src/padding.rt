@@ -1,6 +1,7 @@
-use super::*;
+//! Texts with their padding as pad bytes, and texts that ask for too much of it.
 use std::process::Abort;
 use std::test::Fail;
+use ti_printing::{Line, PadError, pad};
 
 /// 9,600 bits a second, no xon, padding at any rate, by NUL bytes.
 const PLAIN: Line = Line {

@@ -1,5 +1,6 @@
-use super::*;
+// Values with the texts that spell them.
 use std::test::Fail;
+use ti_spelling::{escape, escaped_len};
 
 #[test]
 fn writes_values(rt: HostRuntime) -> Result<(), Fail> {

@@ -1,8 +1,9 @@
 //! Forms against what the printf of the GNU C library prints.
-use super::Conversion::{Decimal, LowerHex, Octal, UpperHex};
-use super::*;
+use std::alloc::AllocError;
 use std::process::Abort;
 use std::test::Fail;
+use ti_printing::printf::Conversion::{Decimal, LowerHex, Octal, UpperHex};
+use ti_printing::printf::{Conversion, Directive, Flags, print};
 
 /// Flags, width, precision, conversion, number and what is printed.
 type NumberRow = (

@@ -1,5 +1,6 @@
-use super::*;
+// Texts with the bytes that they spell, and texts that spell none.
 use std::test::Fail;
+use ti_spelling::{UnescapeError, unescape};
 
 #[test]
 fn spells_bytes(rt: HostRuntime) -> Result<(), Fail> {

@@ -1,7 +1,8 @@
-use super::*;
-use std::alloc::AllocError;
+//! Parameter strings with what they send, and those that are stuck.
+use std::alloc::{AllocError, Global};
 use std::process::Abort;
 use std::test::Fail;
+use ti_param::{ParamError, Statics, Value, expand};
 
 /// A format, its first three parameters, the others being 0, and its expansion.
 type Row = (&'static str, [i32; 3], &'static str);

@@ -1,0 +1,47 @@
+// The names of the capabilities, and their places among those of a kind.
+use ti_caps::{Cap, Kind, count, every_name_is_found, find, name, names_are_distinct};
+
+#[test]
+fn leads_from_each_name_back_to_the_capability(rt: HostRuntime) {
+    let mut seen: usize = 0;
+    for kind in [Kind::Flag, Kind::Number, Kind::Text] {
+        for index in 0..count(kind) {
+            if let Some(cap) = Cap::at(kind, index) {
+                assert!(rt; find(name(cap).as_bytes()) == Some(cap), "at {index}");
+                seen = seen.saturating_add(1);
+            }
+        }
+        assert!(rt; Cap::at(kind, count(kind)).is_none());
+    }
+    assert_eq!(rt; seen, 497);
+}
+
+#[test]
+fn has_the_names_at_their_places(rt: HostRuntime) {
+    let rows = [
+        ("bw", Kind::Flag, 0),
+        ("OTxr", Kind::Flag, 43),
+        ("cols", Kind::Number, 0),
+        ("OTkn", Kind::Number, 38),
+        ("cbt", Kind::Text, 0),
+        ("bel", Kind::Text, 1),
+        ("cr", Kind::Text, 2),
+        ("cud1", Kind::Text, 11),
+        ("ind", Kind::Text, 129),
+        ("kf11", Kind::Text, 216),
+        ("kf63", Kind::Text, 268),
+        ("box1", Kind::Text, 413),
+    ];
+    for (word, kind, index) in rows {
+        let cap = find(word.as_bytes());
+        assert!(rt; cap == Cap::at(kind, index), "{word}");
+        let place = cap.map(|c| c.index());
+        assert!(rt; place == Some(index), "{word}");
+        assert!(rt; cap.map(|c| c.kind()) == Some(kind), "{word}");
+    }
+    for word in ["", "a", "bw ", "BW", "kf64", "zz"] {
+        assert!(rt; find(word.as_bytes()).is_none(), "{word}");
+    }
+    names_are_distinct();
+    every_name_is_found();
+}

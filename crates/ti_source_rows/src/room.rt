@@ -1,0 +1,14 @@
+// Text that grows in room made before.
+use std::test::Fail;
+use ti_text::room::{append_reserved, fill_reserved, insert_reserved};
+
+#[test]
+fn grows_in_room_made_before(rt: HostRuntime) -> Result<(), Fail> {
+    let mut text = Vec::with_capacity(rt.alloc(), 7)?;
+    append_reserved(&mut text, b"ab");
+    fill_reserved(&mut text, b'-', 3);
+    append_reserved(&mut text, b"c");
+    insert_reserved(&mut text, 1, b'|');
+    assert_eq!(rt; text.as_slice(), b"a|b---c".as_slice());
+    Ok(())
+}
