@@ -149,38 +149,55 @@ fn damaged_entries_are_refused(rt: HostRuntime) -> Result<(), Fail> {
     Ok(())
 }
 
+/// Whether the bytes are read, and the capability of the name has this text in them.
+fn has_text(bytes: &[u8], name: &str, value: &[u8]) -> bool {
+    match View::read(bytes) {
+        Ok(view) => text(&view, name) == Some(value),
+        Err(_) => false,
+    }
+}
+
 #[test]
-fn shared_texts_and_further_bytes_are_accepted(rt: HostRuntime) -> Result<(), Fail> {
+fn a_shared_text_is_accepted(rt: HostRuntime) -> Result<(), Fail> {
     let bytes = dumb(rt.alloc())?;
     let shared = with(rt.alloc(), &bytes, &[(298, 4), (299, 0)])?;
-    assert_eq!(rt;
-        text(&View::read(&shared)?, "ind"),
-        Some(b"\x0a".as_slice())
-    );
-    let mut longer = with(rt.alloc(), &bytes, &[])?;
-    longer.extend_from_slice(b"\x01\x02\xff\x00anything")?;
-    assert_eq!(rt;
-        text(&View::read(&longer)?, "ind"),
-        Some(b"\x0a".as_slice())
-    );
+    assert!(rt; has_text(&shared, "ind", b"\x0a"));
     Ok(())
 }
 
 #[test]
-fn overlapping_texts(rt: HostRuntime) -> Result<(), Fail> {
-    let alloc = rt.alloc();
+fn further_bytes_are_accepted(rt: HostRuntime) -> Result<(), Fail> {
+    let mut longer = dumb(rt.alloc())?;
+    longer.extend_from_slice(b"\x01\x02\xff\x00anything")?;
+    assert!(rt; has_text(&longer, "ind", b"\x0a"));
+    Ok(())
+}
+
+#[test]
+fn overlapping_texts_are_read(rt: HostRuntime) -> Result<(), Fail> {
     for changes in [[(15, 0)], [(15, 0x7f)]] {
-        let bytes = with(alloc, &OVERLAP, &changes)?;
+        let bytes = with(rt.alloc(), &OVERLAP, &changes)?;
         let view = View::read(&bytes)?;
         assert_eq!(rt; view.names(), b"x".as_slice());
         assert!(rt; flag(&view, "bw"));
-        assert_eq!(rt; text(&view, "cbt"), Some(b"AB".as_slice()));
-        assert_eq!(rt; text(&view, "bel"), Some(b"B".as_slice()));
+        for (name, value) in [("cbt", b"AB".as_slice()), ("bel", b"B".as_slice())] {
+            assert_eq!(rt; text(&view, name), Some(value), "{name}");
+        }
     }
-    let cancelled = with(alloc, &OVERLAP, &[(14, 0xff)])?;
+    Ok(())
+}
+
+#[test]
+fn values_that_are_not_there_are_absent(rt: HostRuntime) -> Result<(), Fail> {
+    let cancelled = with(rt.alloc(), &OVERLAP, &[(14, 0xff)])?;
     assert!(rt; !flag(&View::read(&cancelled)?, "bw"));
-    let void = with(alloc, &OVERLAP, &[(18, 0xfe), (19, 0xff)])?;
+    let void = with(rt.alloc(), &OVERLAP, &[(18, 0xfe), (19, 0xff)])?;
     assert_eq!(rt; text(&View::read(&void)?, "bel"), None);
+    Ok(())
+}
+
+#[test]
+fn damaged_texts_are_refused(rt: HostRuntime) -> Result<(), Fail> {
     let rows: [(&[(usize, u8)], ReadError); 4] = [
         (&[(14, 2)], ReadError::BadFlag),
         (&[(18, 3), (19, 0)], ReadError::BadOffset),
@@ -188,7 +205,10 @@ fn overlapping_texts(rt: HostRuntime) -> Result<(), Fail> {
         (&[(2, 1)], ReadError::BadNames),
     ];
     for (changes, wanted) in rows {
-        assert_eq!(rt; refusal(&with(alloc, &OVERLAP, changes)?), Some(wanted));
+        assert_eq!(rt;
+            refusal(&with(rt.alloc(), &OVERLAP, changes)?),
+            Some(wanted)
+        );
     }
     Ok(())
 }

@@ -192,19 +192,29 @@ fn writes_numbers_of_32_bits(rt: HostRuntime) -> Result<(), Fail> {
     Ok(())
 }
 
+// How long the entry is, or why there is none.
+fn outcome(got: Option<Result<Vec<u8>, WriteError>>) -> Option<Result<usize, WriteError>> {
+    match got? {
+        Ok(bytes) => Some(Ok(bytes.len())),
+        Err(error) => Some(Err(error)),
+    }
+}
+
 #[test]
 fn keeps_to_the_limit_of_its_format(rt: HostRuntime) -> Result<(), Fail> {
     let alloc = rt.alloc();
     let letters = vec![in alloc; b'A'; 32748]?;
     let mut table = Table::new(alloc);
-    set_number(&mut table, 0, 32768)?;
-    set_text(&mut table, alloc, 0, &letters[..32747])?;
-    assert_eq!(rt; size(written(alloc, b"x", &table)), 32768);
-    set_number(&mut table, 0, 80)?;
-    assert!(rt; is_refused(written(alloc, b"x", &table), WriteError::TooLarge));
-    set_number(&mut table, 0, 32768)?;
-    set_text(&mut table, alloc, 0, &letters)?;
-    assert!(rt; is_refused(written(alloc, b"x", &table), WriteError::TooLarge));
+    let rows: [(u16, usize, Result<usize, WriteError>); 3] = [
+        (32768, 32747, Ok(32768)),
+        (80, 32747, Err(WriteError::TooLarge)),
+        (32768, 32748, Err(WriteError::TooLarge)),
+    ];
+    for (number, length, wanted) in rows {
+        set_number(&mut table, 0, u32::from(number))?;
+        set_text(&mut table, alloc, 0, &letters[..length.min(letters.len())])?;
+        assert_eq!(rt; outcome(written(alloc, b"x", &table)), Some(wanted));
+    }
     Ok(())
 }
 
@@ -228,22 +238,39 @@ fn merges_what_is_absent(rt: HostRuntime) -> Result<(), Fail> {
     Ok(())
 }
 
+// A cancel of a flag, and behind it the flag, which the cancel keeps out.
+fn cancel_then_lay_flag(table: &mut Table, index: usize) -> Result<(), AllocError> {
+    match Cap::at(Kind::Flag, index) {
+        Some(cap) => {
+            table.set(cap, Some(Value::Cancelled))?;
+            table.set_if_absent(cap, Value::True)
+        }
+        None => Ok(()),
+    }
+}
+
+fn lay_text(
+    table: &mut Table,
+    alloc: Global,
+    index: usize,
+    bytes: &[u8],
+) -> Result<(), AllocError> {
+    match Cap::at(Kind::Text, index) {
+        Some(cap) if has_no_nul(bytes) => {
+            table.set_if_absent(cap, Value::Text(RcSlice::from_slice(alloc, bytes)?))
+        }
+        _ => Ok(()),
+    }
+}
+
 #[test]
 fn lays_what_is_absent(rt: HostRuntime) -> Result<(), Fail> {
     let alloc = rt.alloc();
     let mut table = Table::new(alloc);
     set_text(&mut table, alloc, 1, b"B")?;
-    if let Some(cap) = Cap::at(Kind::Flag, 1) {
-        table.set(cap, Some(Value::Cancelled))?;
-        table.set_if_absent(cap, Value::True)?;
-    }
-    for (index, bytes) in [(0, b"A".as_slice()), (1, b"C".as_slice())] {
-        if let Some(cap) = Cap::at(Kind::Text, index)
-            && has_no_nul(bytes)
-        {
-            table.set_if_absent(cap, Value::Text(RcSlice::from_slice(alloc, bytes)?))?;
-        }
-    }
+    cancel_then_lay_flag(&mut table, 1)?;
+    lay_text(&mut table, alloc, 0, b"A")?;
+    lay_text(&mut table, alloc, 1, b"C")?;
     let want = b"\x1a\x01\x02\0\0\0\0\0\x02\0\x04\0x\0\0\0\x02\0A\0B\0";
     assert!(rt; is_written(written(alloc, b"x", &table), want));
     Ok(())
