@@ -1,5 +1,5 @@
 -- Bytes that were cut are their sections, one after the other.
-use Rattle.std.proofs.Common.{◌≡◌, ℕ, suc, ◌+◌, ◌-◌, ◌*◌, ◌%◌, ◌<◌, ◌≤◌, List, [], ◌∷◌, ◌++◌, length, take, drop, get_or, slice_range, All, refl, sym, ap, ◌∙◌, subst, append_assoc, arith, inl, inr}
+use Rattle.std.proofs.Common.{◌≡◌, ℕ, suc, min, ◌+◌, ◌-◌, ◌*◌, ◌%◌, ◌<◌, ◌≤◌, List, [], ◌∷◌, ◌++◌, length, take, drop, get_or, slice_range, All, refl, sym, ap, ◌∙◌, subst, append_assoc, arith, inl, inr}
 use Rattle.std.proofs.lemmas.List.{take_all, take_more, take-append-drop, length-drop, length-take, get_or-drop, get_or-take, get_or_default, get_or_past, drop-drop}
 use Rattle.std.proofs.lemmas.Bool.{cases_lt}
 use Rattle.ti_layout.specs.declared.layout.Format.{Format}
@@ -7,6 +7,7 @@ use Rattle.ti_layout.specs.declared.layout.Format.TheVariants.{Legacy}
 use Rattle.ti_layout.specs.Layout.{Sections, header, laid_out, magic, number_bytes, number_section, width}
 use Rattle.ti_layout.specs.Reading.{word_at, number_at, count_in, numbers_in, AreSound, IsNumber, IsOffset, Reads, contents_of, format_in, names_size, flag_count, number_count, text_count, strings_size, flags_place, numbers_place, offsets_place, strings_place, end_place, names_section, flags_section, numbers_section, offsets_section, strings_section}
 use Rattle.ti_layout.specs.Cutting.{AreNames, AreFlags, AreNumbers, AreOffsets, EachNumber}
+use Rattle.ti_layout.specs.Sound.{OffsetsEnd}
 use Rattle.ti_layout.proofs.Below.{length-below, get_or-below}
 use Rattle.ti_layout.proofs.Spelled.{IsBytes, part-number, spelled-again, length-numbers_in}
 
@@ -215,3 +216,23 @@ reads b w names flags numbers offsets strings r e n f m o s =
       named = rw n refl;
       held = rw (f, m, o, s, e) refl;
     }
+
+no_longer : (x n l place size : ℕ) → x ≡ min n l → n ≡ place + size - place → size < 32768 → x < 32768
+no_longer x n l place size same cut fits = omega arith
+
+-- the string table is no longer than the header tells
+pub few_strings : (b strings : List ℕ) → strings_size b < 32768 → strings ≡ strings_section b → length strings < 32768
+few_strings b strings fits cut =
+    let place = strings_place b in
+    let size = strings_size b in
+    let n = end_place b - place in
+    let same : length strings ≡ min n (length (drop place b)) = ap (λ (x : List ℕ). length x) cut ∙ length-take n (drop place b) in
+    no_longer (length strings) n (length (drop place b)) place size same refl fits
+
+-- an offset that has its end in the string table begins in it
+offset_ends : (strings : List ℕ) (n : ℕ) → IsOffset strings n → n < 32768 → n < length strings
+offset_ends strings n (inl plain) low = let e = plain.1 in let from : n ≤ e.0 = e.1 in let within : e.0 < length strings = e.2 in omega arith
+offset_ends strings n (inr void) low = let high : 65534 ≤ n = void.0 in omega arith
+
+pub offsets_end : (offsets strings : List ℕ) → AreOffsets offsets strings → OffsetsEnd offsets strings
+offsets_end offsets strings are k within low = offset_ends strings _ (are k within) low
