@@ -1,5 +1,5 @@
 -- A plan from its parts.
-use Rattle.std.proofs.Common.{◌≡◌, ℕ, List, length, get_or, map, option_map, ◌+◌, Option, Some, slice_get, AllPairs, All, Contains, refl, sym, ◌∙◌, ap, arith}
+use Rattle.std.proofs.Common.{◌≡◌, ◌<◌, ℕ, List, length, get_or, map, option_map, ◌+◌, Option, Some, slice_get, AllPairs, All, Contains, refl, sym, ◌∙◌, ap, arith}
 use Rattle.std.specs.List.Sorted.{IsPermutation}
 use Rattle.std.proofs.lemmas.List.{length-map}
 use Rattle.std.proofs.lemmas.List.Sorted.{IsPermutation-sym, Contains-permutation, sum_by-IsPermutation}
@@ -39,6 +39,10 @@ module _ (slots : Slots) (d : Dependents) (component_of order : List ℕ) (found
       let w = item_at order i (rw length-map at (slice_get_within (map (place_of d) order) i place e)) in
       let same : place_of d w.0 ≡ place = same_Some (place_of d w.0) place (sym (at_place i w.0 w.1) ∙ e) in
       (w.0, w.1, place_stands slots d component_of order i w.0 found closing w.1 ∙ ap (λ k. Some k) same)
+
+  -- each node of the order has a position
+  pub nodes_placed : All (λ node. node < length d.places.items) order
+  nodes_placed k e l = slice_get_within d.places.items (get_or order k e) _ (place_stands slots d component_of order k (get_or order k e) found closing (slice_get-get_or order k e l))
 
   -- no position stands twice
   pub distinct_places : AllPairs (λ x y. x ≡ y → ⊥) (map (place_of d) order)

@@ -18,3 +18,6 @@ returns-clause-found c =
     let ids = c.in_ok-ids.ensures.items ∙ c.as_slice.ensures.keys in
     copied_ids c.args.slots.now c.args.put (map rc_slice_items c.args.out.now) c.in_ok-found.found.keys c.deref.result.now c.in_ok-ids.ids.items c.in_ok-places.places.items
     c.requires.indexed c.in_ok-places.ensures.distinct c.as_slice.ensures.unique c.in_ok-found.ensures (c.deref.ensures.value ∙ ids) ids c.in_ok-places.ensures.places
+
+pub returns-clause-uses : goal.returns-clause-uses
+returns-clause-uses c = rw (c.in_ok-ids.ensures.items, c.as_slice.ensures.keys) c.in_ok-uses.ensures.uses

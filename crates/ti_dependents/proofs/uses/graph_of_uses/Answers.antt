@@ -1,7 +1,7 @@
 use Rattle.std.proofs.Common.{◌<◌, length, get_or, map, take, ◌∙◌, ap, arith}
 use Rattle.std.proofs.lemmas.List.{take_more}
 use Rattle.ti_source.specs.Reading.{item_of}
-use Rattle.ti_dependents.proofs.Edges.{rows_more, rows_ended, uses_whole}
+use Rattle.ti_dependents.proofs.Edges.{rows_begun, rows_more, rows_ended, uses_whole}
 use Rattle.ti_dependents.proofs.uses.graph_of_uses.Goals as goal
 
 pub loop-id-preserved : goal.loop-id-preserved
@@ -19,3 +19,6 @@ returns-clause-uses c =
 
 pub returns-clause-graph : goal.returns-clause-graph
 returns-clause-graph c = uses_whole c.args.slots.now c.args.found.now.keys c.loop-id.uses (returns-clause-uses c)
+
+pub loop-id-init : goal.loop-id-init
+loop-id-init c = rows_begun c.args.slots.now c.args.found.now.keys c.in_ok-uses.uses c.in_ok-uses.ensures

@@ -1,3 +1,6 @@
+use Rattle.std.proofs.Common.{subst}
+use Rattle.std.proofs.lemmas.Option.{slice_get_within, get_or_from_slice_get}
+use Rattle.ti_meaning.specs.Usable.{IsUsable}
 use Rattle.std.proofs.Common.{◌≡◌, ◌+◌, Some, length, sym, ◌∙◌, ap}
 use Rattle.std.proofs.lemmas.List.{length-map}
 use Rattle.ti_source.specs.Reading.{reading_of, item_of}
@@ -29,3 +32,9 @@ returns-clause-work g c =
     let steps : c.make_table.new.work ≡ c.args.work.now + length items = c.in_ok-table.ensures.work in
     let all : work_of blocks (Some block) ≡ length items = all_work blocks block table.0 table.1 ∙ length-map items item_of in
     steps ∙ ap (λ n. c.args.work.now + n) (sym all)
+
+pub make_state-requires-clause-usable : goal.make_state-requires-clause-usable
+make_state-requires-clause-usable g c =
+    let bs = blocks_of c.args.known.now.slots.now in
+    let b = reading_of c.args.slot.now.block in
+    subst IsUsable (get_or_from_slice_get bs g.at b b c.requires.1.0) (c.requires.0.known.found.usable g.at b (slice_get_within bs g.at b c.requires.1.0))

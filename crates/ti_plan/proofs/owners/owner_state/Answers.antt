@@ -1,3 +1,5 @@
+use Rattle.std.proofs.Common.{◌≡◌, ◌<◌, ℕ, arith}
+use Rattle.std.proofs.lemmas.Option.{slice_get_within}
 use Rattle.std.proofs.Common.{Some, None, rules}
 use Rattle.std.proofs.lemmas.Option.{none-some, same_Some}
 use Rattle.ti_slots.specs.Slots.{blocks_of}
@@ -74,3 +76,18 @@ returns-in-Some-owner-clause-owner g c =
 pub returns-in-None-owner-clause-fault : goal.returns-in-None-owner-clause-fault
 returns-in-None-owner-clause-fault g c =
     use_fault_missing (blocks_of c.args.known.now.slots.now) g.at c.args.name.now (c.owner.ensures.none c.in-None-owner.is)
+
+pub bounds-row-index : goal.bounds-row-index
+bounds-row-index g c =
+    let k = c.args.known.now in
+    row_at k.slots.now k.dependents.now c.requires.0.known.found c.args.node g.at c.args.index c.args.name.now c.row.result.now c.requires.0.stands c.requires.1 c.row.ensures
+
+-- the places, the ids and the rows are as many
+below_as_many : (node places ids rows : ℕ) → node < places → places ≡ ids → rows ≡ ids → node < rows
+below_as_many node places ids rows l e f = omega arith
+
+pub row-requires : goal.row-requires
+row-requires g c =
+    let d = c.args.known.now.dependents.now in
+    let found = c.requires.0.known.found in
+    below_as_many c.args.node _ _ _ (slice_get_within d.places.items c.args.node g.at c.requires.0.stands) found.as_many found.graph.as_many

@@ -1,12 +1,19 @@
+use Rattle.std.proofs.Common.{ℕ}
 use Rattle.std.proofs.Common.{◌≡◌, ◌+◌, ◌<◌, ◌≤◌, ◌++◌, ◌∷◌, [], length, map, take, Some, slice_get, slice_index_or, arith}
 use Rattle.std.proofs.lemmas.List.{take_more, map-append}
 use Rattle.std.proofs.lemmas.Option.{slice_get-get_or}
 use Rattle.ti_slots.specs.Slots.{blocks_of}
 use Rattle.ti_plan.specs.Settling.{place_of}
-use Rattle.ti_plan.proofs.Following.{following_more, following_ended, next_can, place_stands, right_at}
+use Rattle.ti_plan.proofs.Following.{following_begun, following_more, following_ended, next_can, place_stands, right_at}
 use Rattle.ti_plan.proofs.Places.{block_of, node_of_place}
 use Rattle.ti_plan.proofs.Steps.{next_room, steps_more, bound_more}
 use Rattle.ti_plan.proofs.planning.settle_all.Goals as goal
+
+none_made : (n : ℕ) → n ≡ n + 0
+none_made n = omega arith
+
+from_start : (n : ℕ) → n ≤ n + 0
+from_start n = omega arith
 
 pub settle-requires : goal.settle-requires
 settle-requires c =
@@ -60,3 +67,13 @@ returns-clause-settled c =
     let order = c.args.components.now.order.items in
     let past : length order ≤ c.loop-node.node-index = rw c.deref-node-items.ensures.value at c.loop-node-test.false in
     following_ended c.args.slots.now c.args.dependents.now c.args.components.now.component_of.items order c.loop-node.settled.items c.loop-node.node-index c.requires.found c.requires.order past c.loop-node.invariant.following
+
+pub loop-node-init : goal.loop-node-init
+loop-node-init c =
+    let all = c.in_ok-settled.settled.items in
+    let none : length all ≡ length c.args.dependents.now.ids.items = omega (arith, c.in_ok-settled.ensures.len, c.len.ensures, c.args.dependents.now.ids.ok.0) in
+    record {
+      following = following_begun c.args.slots.now c.args.dependents.now c.args.components.now.order.items all none c.in_ok-settled.ensures.none;
+      steps = none_made c.args.steps.now;
+      bound = from_start c.args.steps.now;
+    }

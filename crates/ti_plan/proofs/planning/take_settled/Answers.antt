@@ -1,3 +1,5 @@
+use Rattle.std.proofs.Common.{append_assoc}
+use Rattle.std.proofs.lemmas.List.{map-append}
 use Rattle.std.proofs.Common.{◌≡◌, ℕ, ◌<◌, List, ◌∷◌, ◌++◌, length, map, Option, Some, None, slice_get, [], refl, sym, ◌∙◌, ap}
 use Rattle.std.proofs.lemmas.Option.{none-some, same_Some, slice_get_within}
 use Rattle.ti_slots.specs.declared.slots.Settled.{Settled}
@@ -19,3 +21,12 @@ unreachable-requires c =
     let front = map (λ one. Some one) c.loop-one.all.items in
     let next = rw c.in_default.is at c.in-Some.ensures.steps.0 in
     none_open front c.next.new.self.rest.items c.args.settled.items c.requires (ap (λ xs. front ++ xs) (sym next) ∙ c.loop-one.invariant)
+
+-- one more is taken from those that are left
+one_more : (all new : List Settled) (one : Settled) (rest left whole : List (Option Settled)) → new ≡ all ++ one ∷ [] → rest ≡ Some one ∷ left → map (λ one. Some one) all ++ rest ≡ whole → map (λ one. Some one) new ++ left ≡ whole
+one_more all new one rest left whole n r h = rw (n, map-append (λ x. Some x) all (one ∷ []), append_assoc) (ap (λ xs. map (λ x. Some x) all ++ xs) (sym r) ∙ h)
+
+pub loop-one-preserved : goal.loop-one-preserved
+loop-one-preserved c =
+    let next = rw c.in-Some-one.is at c.in-Some.ensures.steps.0 in
+    one_more c.loop-one.all.items c.push.new.self.items c.in-Some-one.one c.loop-one.one-iterator.rest.items c.next.new.self.rest.items c.args.settled.items c.in_ok-push.ensures.items next c.loop-one.invariant

@@ -1,5 +1,5 @@
 use Rattle.std.proofs.Common.{sym, arith}
-use Rattle.std.proofs.lemmas.Bool.{MatchBool-at_true}
+use Rattle.std.proofs.lemmas.Bool.{MatchBool-at_true, MatchBool-at_false}
 use Rattle.ti_source.specs.Reading.{reading_of}
 use Rattle.ti_meaning.proofs.UseLawProofs.{never_broken}
 use Rattle.ti_slots.specs.Slots.{blocks_of}
@@ -23,3 +23,8 @@ pub returns-then-is_wrong-clause-work : goal.returns-then-is_wrong-clause-work
 returns-then-is_wrong-clause-work g c =
     let none = no_work (blocks_of c.args.known.now.slots.now) (reading_of c.args.slot.now.block) (returns-then-is_wrong-clause-table g c) in
     omega (arith, none)
+
+pub compile-requires : goal.compile-requires
+compile-requires g c =
+    let whole = rw c.deref.ensures.value at (sym c.if-has_error.ensures) in
+    (c.requires.0, (c.requires.1.0, (whole, (MatchBool-at_false _ _ c.if-is_wrong.false c.requires.1.1.0, c.requires.1.1.1))))

@@ -1,3 +1,5 @@
+use Rattle.std.proofs.lemmas.List.{length-map}
+use Rattle.ti_source.specs.Reading.{item_of}
 use Rattle.std.proofs.Common.{◌≡◌, map, sym, ◌∙◌, subst, ap}
 use Rattle.std.proofs.lemmas.Option.{same_Some}
 use Rattle.ti_source.specs.Reading.{reading_of}
@@ -21,3 +23,9 @@ returns-clause-settled g c = λ block s.
       faults = lasting_added bs g.at b (state_seen c.in_ok-state.state) (map (fault_at g.at) c.add_locals.new.faults.items) (map (fault_at g.at) c.add_item_faults.new.faults.items) (map (fault_at g.at) c.add_entry_fault.new.faults.items)
           one c.in_ok-is_wrong.ensures.added three c.in_ok-state.ensures.state;
     })
+
+pub find_state-requires : goal.find_state-requires
+find_state-requires g c =
+    let slot = c.slot_of-slot.result.now in
+    let room = rw (length-map slot.block.items.items item_of) at (c.requires.1 (reading_of slot.block) c.slot_of-slot.ensures) in
+    (c.requires.0, (c.slot_of-slot.ensures, (c.in_ok-is_wrong.ensures.told, room)))
