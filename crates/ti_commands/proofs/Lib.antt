@@ -1,3 +1,4 @@
+pub mod Added
 pub mod Asked
 pub mod Rates
 pub mod Tools

@@ -6,7 +6,7 @@ ghost use Rattle.clap.specs.declared.builder.Command.TheViews.{out-Command as fi
 ghost use Rattle.ti_commands.specs.Commands.{first_tools_app, session_app, ti_app, tic_app, tool_app, tput_app, tput_options_app};
 
 use crate::infocmp_words::infocmp;
-use crate::rules::{flag, long_option, operand, operands, option, with_three, with_two};
+use crate::rules::{flag, long_option, operand, operands, option};
 use clap::Command;
 use std::alloc::{AllocError, Global};
 
@@ -68,24 +68,23 @@ fn tic<'a>(alloc: Global) -> Result<Command<'a>, AllocError>
     ensures app { IfOk result (λ command. app_of command ≡ tic_app) }
     ensures local { IfOk result (λ command. (fields_of command).has_globals ≡ false) }
 {
-    let check = flag(alloc, "check", 'c', "Check only: report, and write no file");
-    let dir = option(
-        alloc,
-        "dir",
-        'o',
-        "DIR",
-        "Write below DIR [default: $TERMINFO, else /usr/share/terminfo]",
-    );
-    let file = operand(
-        alloc,
-        "file",
-        "FILE",
-        "The source [default: standard input]",
-    );
-    let command = Command::new(alloc, "tic")
+    Command::new(alloc, "tic")
         .about("Compile terminfo source into entries, one file for each name.")
-        .after_help(TIC_NOTES);
-    with_three(command, check, dir, file)
+        .after_help(TIC_NOTES)
+        .arg(flag(alloc, "check", 'c', "Check only: report, and write no file"))?
+        .arg(option(
+            alloc,
+            "dir",
+            'o',
+            "DIR",
+            "Write below DIR [default: $TERMINFO, else /usr/share/terminfo]",
+        ))?
+        .arg(operand(
+            alloc,
+            "file",
+            "FILE",
+            "The source [default: standard input]",
+        ))
 }
 
 // `tput [-T TYPE] [--rate N]`.
@@ -93,17 +92,16 @@ fn tput_options<'a>(alloc: Global) -> Result<Command<'a>, AllocError>
     ensures app { IfOk result (λ command. app_of command ≡ tput_options_app) }
     ensures local { IfOk result (λ command. (fields_of command).has_globals ≡ false) }
 {
-    let term = option(alloc, "term", 'T', "TYPE", "The terminal [default: $TERM]");
-    let rate = long_option(
-        alloc,
-        "rate",
-        "N",
-        "Pad for a line of N bits a second [default: 0, no padding]",
-    );
-    let command = Command::new(alloc, "tput")
+    Command::new(alloc, "tput")
         .about("Write what drives a terminal: a capability of its entry.")
-        .after_help(TPUT_NOTES);
-    with_two(command, term, rate)
+        .after_help(TPUT_NOTES)
+        .arg(option(alloc, "term", 'T', "TYPE", "The terminal [default: $TERM]"))?
+        .arg(long_option(
+            alloc,
+            "rate",
+            "N",
+            "Pad for a line of N bits a second [default: 0, no padding]",
+        ))
 }
 
 // `tput [-T TYPE] [--rate N] [-S] [CAP] [WORD..]`.
@@ -111,20 +109,19 @@ fn tput<'a>(alloc: Global) -> Result<Command<'a>, AllocError>
     ensures app { IfOk result (λ command. app_of command ≡ tput_app) }
     ensures local { IfOk result (λ command. (fields_of command).has_globals ≡ false) }
 {
-    let command = tput_options(alloc)?;
-    let lines = flag(
-        alloc,
-        "lines",
-        'S',
-        "Read commands from standard input, one a line",
-    );
-    let words = operands(
-        alloc,
-        "words",
-        "WORD",
-        "The capability's name, and its parameters",
-    );
-    with_two(command, lines, words)
+    tput_options(alloc)?
+        .arg(flag(
+            alloc,
+            "lines",
+            'S',
+            "Read commands from standard input, one a line",
+        ))?
+        .arg(operands(
+            alloc,
+            "words",
+            "WORD",
+            "The capability's name, and its parameters",
+        ))
 }
 
 // `session`.

@@ -10,7 +10,7 @@ ghost use Rattle.ti_commands.specs.Jobs.{task_of};
 use crate::arguments::UsageError;
 use crate::jobs::{InfocmpMode, Job};
 use crate::matches::{on, text, texts, value, values};
-use crate::rules::{flag, number, operands, option, with_three, with_two};
+use crate::rules::{flag, number, operands, option};
 use clap::{ArgMatches, Command};
 use std::alloc::{AllocError, Global};
 use ti_list::{Layout, Order};
@@ -45,20 +45,20 @@ fn first_modes<'a>(alloc: Global, command: Command<'a>) -> Result<Command<'a>, A
     ensures app { IfOk result (λ r. app_of r ≡ first_mode_rules (app_of command.entry)) }
     ensures local { IfOk result (λ r. (fields_of r).has_globals ≡ false) }
 {
-    let list = flag(alloc, "list", 'I', "List each entry [default for one name]");
-    let differ = flag(
-        alloc,
-        "differ",
-        'd',
-        "Show where the first differs from each other [default for more]",
-    );
-    let common = flag(
-        alloc,
-        "common",
-        'c',
-        "Show what the first and each other have in common",
-    );
-    with_three(command, list, differ, common)
+    command
+        .arg(flag(alloc, "list", 'I', "List each entry [default for one name]"))?
+        .arg(flag(
+            alloc,
+            "differ",
+            'd',
+            "Show where the first differs from each other [default for more]",
+        ))?
+        .arg(flag(
+            alloc,
+            "common",
+            'c',
+            "Show what the first and each other have in common",
+        ))
 }
 
 // The options that name another mode.
@@ -67,19 +67,19 @@ fn other_modes<'a>(alloc: Global, command: Command<'a>) -> Result<Command<'a>, A
     ensures app { IfOk result (λ r. app_of r ≡ other_mode_rules (app_of command.entry)) }
     ensures local { IfOk result (λ r. (fields_of r).has_globals ≡ false) }
 {
-    let neither = flag(
-        alloc,
-        "neither",
-        'n',
-        "Show what neither the first nor each other has",
-    );
-    let relative = flag(
-        alloc,
-        "relative",
-        'u',
-        "List the first so that it uses the others",
-    );
-    with_two(command, neither, relative)
+    command
+        .arg(flag(
+            alloc,
+            "neither",
+            'n',
+            "Show what neither the first nor each other has",
+        ))?
+        .arg(flag(
+            alloc,
+            "relative",
+            'u',
+            "List the first so that it uses the others",
+        ))
 }
 
 // The options that lay a listing out.
@@ -88,23 +88,23 @@ fn layouts<'a>(alloc: Global, command: Command<'a>) -> Result<Command<'a>, Alloc
     ensures app { IfOk result (λ r. app_of r ≡ layout_rules (app_of command.entry)) }
     ensures local { IfOk result (λ r. (fields_of r).has_globals ≡ false) }
 {
-    let one = flag(alloc, "one", '1', "Give each item a line of its own");
-    let width = number(
-        alloc,
-        "width",
-        'w',
-        WIDTH_MIN as u64,
-        WIDTH_MAX as u64,
-        "Lines of at most N columns, from 20 to 4096 [default: 60]",
-    );
-    let sort = option(
-        alloc,
-        "sort",
-        's',
-        "ORDER",
-        "Sort by place in the entry (d) or by name (i) [default: i]",
-    );
-    with_three(command, one, width, sort)
+    command
+        .arg(flag(alloc, "one", '1', "Give each item a line of its own"))?
+        .arg(number(
+            alloc,
+            "width",
+            'w',
+            WIDTH_MIN as u64,
+            WIDTH_MAX as u64,
+            "Lines of at most N columns, from 20 to 4096 [default: 60]",
+        ))?
+        .arg(option(
+            alloc,
+            "sort",
+            's',
+            "ORDER",
+            "Sort by place in the entry (d) or by name (i) [default: i]",
+        ))
 }
 
 // Where entries stand, and the names.
@@ -113,22 +113,22 @@ fn operands_of<'a>(alloc: Global, command: Command<'a>) -> Result<Command<'a>, A
     ensures app { IfOk result (λ r. app_of r ≡ name_rules (app_of command.entry)) }
     ensures local { IfOk result (λ r. (fields_of r).has_globals ≡ false) }
 {
-    let first = option(
-        alloc,
-        "first",
-        'A',
-        "DIR",
-        "Look for the first name in DIR alone",
-    );
-    let other = option(
-        alloc,
-        "other",
-        'B',
-        "DIR",
-        "Look for the other names in DIR alone",
-    );
-    let names = operands(alloc, "name", "NAME", "The terminals [default: $TERM]");
-    with_three(command, first, other, names)
+    command
+        .arg(option(
+            alloc,
+            "first",
+            'A',
+            "DIR",
+            "Look for the first name in DIR alone",
+        ))?
+        .arg(option(
+            alloc,
+            "other",
+            'B',
+            "DIR",
+            "Look for the other names in DIR alone",
+        ))?
+        .arg(operands(alloc, "name", "NAME", "The terminals [default: $TERM]"))
 }
 
 /// `infocmp [-I|-d|-c|-n|-u] [-1] [-w N] [-s d|i] [-A DIR] [-B DIR] [NAME..]`.

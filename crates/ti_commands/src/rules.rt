@@ -1,13 +1,12 @@
 //! What clap reads of an argument of a tool, with its help.
-ghost use Rattle.std.specs.Prelude.{◌≡◌, IfOk, false, Some};
-ghost use Rattle.clap.specs.declared.builder.Command.TheViews.{out-Command as fields_of};
+ghost use Rattle.std.specs.Prelude.{◌≡◌, false, Some};
 ghost use Rattle.clap.specs.declared.builder.texts.Texts.TheVariants.{One};
-ghost use Rattle.clap.specs.Words.{app_of, rule_of, with_rule};
+ghost use Rattle.clap.specs.Words.{rule_of};
 ghost use Rattle.ti_commands.specs.Rules.{flag_rule, long_option_rule, number_rule, operand_rule, operands_rule, option_rule};
 
 use clap::builder::ValueParser;
-use clap::{Arg, ArgAction, Command};
-use std::alloc::{AllocError, Global};
+use clap::{Arg, ArgAction};
+use std::alloc::Global;
 
 /// An option that is on or off.
 pub fn flag<'a>(alloc: Global, id: &'a str, short: char, help: &'a str) -> Arg<'a>
@@ -90,39 +89,4 @@ pub fn number<'a>(
     ensures help { result.help ≡ Some help.entry }
 {
     option(alloc, id, short, "N", help).value_parser(ValueParser::unsigned(least, greatest))
-}
-
-/// The command with two more arguments.
-///
-/// Here stand the ways out at want of memory, once for all commands.
-pub fn with_two<'a>(
-    command: Command<'a>,
-    first: Arg<'a>,
-    second: Arg<'a>,
-) -> Result<Command<'a>, AllocError>
-    requires local_command { (fields_of command).has_globals ≡ false }
-    requires local_first { first.global ≡ false }
-    requires local_second { second.global ≡ false }
-    ensures app { IfOk result (λ r. app_of r ≡ with_rule (with_rule (app_of command.entry) (rule_of first.entry)) (rule_of second.entry)) }
-    ensures local { IfOk result (λ r. (fields_of r).has_globals ≡ false) }
-{
-    command.arg(first)?.arg(second)
-}
-
-/// The command with three more.
-pub fn with_three<'a>(
-    command: Command<'a>,
-    first: Arg<'a>,
-    second: Arg<'a>,
-    third: Arg<'a>,
-) -> Result<Command<'a>, AllocError>
-    requires local_command { (fields_of command).has_globals ≡ false }
-    requires local_first { first.global ≡ false }
-    requires local_second { second.global ≡ false }
-    requires local_third { third.global ≡ false }
-    ensures app { IfOk result (λ r. app_of r
-        ≡ with_rule (with_rule (with_rule (app_of command.entry) (rule_of first.entry)) (rule_of second.entry)) (rule_of third.entry)) }
-    ensures local { IfOk result (λ r. (fields_of r).has_globals ≡ false) }
-{
-    with_two(command, first, second)?.arg(third)
 }
