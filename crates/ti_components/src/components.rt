@@ -57,6 +57,3 @@ fn numbers(alloc: Global, progress: &[Progress]) -> Result<Vec<usize>, AllocErro
     }
     Ok(numbers)
 }
-
-#[cfg(test)]
-mod tests;

@@ -16,6 +16,3 @@ mod search;
 mod uses;
 
 pub use dependents::{Dependents, find_all, find_dependents};
-
-#[cfg(test)]
-mod tests;

@@ -13,8 +13,6 @@ mod laws;
 mod listing;
 mod names;
 mod order;
-#[cfg(test)]
-mod tests;
 
 pub use laws::{firsts_are_first, lists_agree, lists_are_among, lists_fit, lists_stay};
 pub use names::NameIndex;

@@ -14,8 +14,6 @@ mod entries;
 mod indexing;
 mod laws;
 mod slots;
-#[cfg(test)]
-mod tests;
 
 pub use entries::Entry;
 pub use laws::changes_are_undone;

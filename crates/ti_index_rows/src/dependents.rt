@@ -2,11 +2,11 @@
 ghost use Rattle.std.specs.Prelude.{IfOk};
 ghost use Rattle.ti_slots.specs.Slots.{IsIndexed, StandsAt};
 
-use crate::{Dependents, find_all, find_dependents};
 use std::alloc::Global;
 use std::process::Abort;
 use std::rc::RcSlice;
 use std::test::*;
+use ti_dependents::{Dependents, find_all, find_dependents};
 use ti_slots::{Settled, Slot, Slots, State};
 use ti_source::{Item, Parsed, What};
 

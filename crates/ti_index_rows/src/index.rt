@@ -3,9 +3,9 @@ ghost use Rattle.std.specs.Prelude.{IsTrue};
 ghost use Rattle.ti_index.specs.Labels.{Has};
 ghost use Rattle.ti_index.specs.Listing.{AreAmong};
 
-use crate::{NameIndex, Order};
 use std::alloc::AllocError;
 use std::test::*;
+use ti_index::{NameIndex, Order};
 
 /// Puts an id in at a position, if the list reaches so far.
 fn put(order: &mut Order, position: usize) -> Result<Option<u32>, AllocError> {

@@ -1,6 +1,7 @@
 // Small graphs with components found by hand, and long ones.
-use super::*;
+use std::alloc::{AllocError, Global};
 use std::test::*;
+use ti_components::{Components, Graph};
 
 /// A graph by its rows.
 fn graph_of(alloc: Global, rows: &[&[Option<usize>]]) -> Result<Graph, AllocError> {

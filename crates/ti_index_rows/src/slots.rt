@@ -1,10 +1,10 @@
 // Blocks come and go at run time: what the index then has, and the way back.
 ghost use Rattle.ti_slots.specs.Slots.{IsIndexed};
 
-use crate::{Settled, Slot, Slots, State};
 use std::alloc::{AllocError, Global};
 use std::rc::RcSlice;
 use std::test::*;
+use ti_slots::{Settled, Slot, Slots, State};
 use ti_source::{Item, Parsed, What};
 
 /// A slot of a block with these names that uses these names.
