@@ -1,12 +1,9 @@
 -- The slots of a list of blocks, in its order, and what they say of the blocks.
 use Rattle.std.proofs.Common.{◌≡◌, ℕ, zero, suc, ◌<◌, ◌≤◌, List, [], ◌∷◌, length, map, Option, Some, None, option_map, slice_get, refl, sym, ◌∙◌, ap, arith}
 use Rattle.std.specs.Option.{IsSome}
-use Rattle.std.specs.List.{insert, remove}
 use Rattle.std.proofs.lemmas.Bool.{false≢true}
 use Rattle.std.proofs.lemmas.List.{length-map}
 use Rattle.std.proofs.lemmas.Option.{same_Some, none-some, slice_get-map}
-use Rattle.ti_source.specs.Reading.{Reading, reading_of}
-use Rattle.ti_source.specs.Parsing.{reading_of_text}
 use Rattle.ti_meaning.specs.Owner.{readings}
 use Rattle.ti_meaning.specs.Exchange.{with_block, HasPlace, shifted_position}
 use Rattle.ti_meaning.proofs.EditedLists.{map-insert}
@@ -36,6 +33,13 @@ length_blocks slots = length-map slots.order.listed (reading_at slots.slots.item
 
 pub length_texts : (slots : Slots) → length (texts_of slots) ≡ length slots.order.listed
 length_texts slots = length-map slots.order.listed (text_at slots.slots.items)
+
+-- there are as many as texts
+pub as_many_listed : (slots : Slots) (texts : List (List ℕ)) (count : ℕ) → texts_of slots ≡ texts → count ≡ length texts → length slots.order.listed ≡ count
+as_many_listed slots texts count e n = sym (length_texts slots) ∙ (ap (λ xs. length xs) e ∙ sym n)
+
+pub within_list : (slots : Slots) (texts : List (List ℕ)) (at count : ℕ) → texts_of slots ≡ texts → count ≡ length texts → at < count → at < length slots.order.listed
+within_list slots texts at count e n l = rw (as_many_listed slots texts count e n) l
 
 -- ---- the slot at a position
 

@@ -1,18 +1,30 @@
-use Rattle.std.proofs.Common.{◌≡◌, ◌<◌, ◌≤◌, ℕ, Some, length, map, set, ap, sym, subst, ◌∙◌, arith}
+use Rattle.std.proofs.Common.{◌≡◌, ◌<◌, ◌≤◌, ◌+◌, ℕ, Some, length, map, set, ap, sym, subst, ◌∙◌, arith}
 use Rattle.std.specs.List.{insert, remove}
 use Rattle.std.specs.Rc.{rc_slice_items}
+use Rattle.std.proofs.lemmas.List.Edits.{length-insert}
 use Rattle.ti_source.specs.Reading.{reading_of}
 use Rattle.ti_meaning.specs.Edits.{replacement}
 use Rattle.ti_meaning.specs.Dependents.{Rebuilds}
 use Rattle.ti_slots.specs.declared.slots.Slot.{Slot}
 use Rattle.ti_slots.specs.declared.slots.Slots.{Slots}
-use Rattle.ti_slots.specs.Changes.{HasRoomFor}
+use Rattle.ti_slots.specs.Changes.{HasRoomFor, PutsIn}
 use Rattle.ti_base.specs.KeptSlots.{PlacedSlot, slots_of, with_settled}
 use Rattle.ti_base.proofs.Exchanges.{replaced, edit_ready, edit_rebuilds, sound_replaced, sound_settled, back_replaced, room_again, kept_back, texts_back}
 use Rattle.ti_base.proofs.slot_edits.replace_slot.Goals as goal
 
 still_within : (old room : Slots) (at : ℕ) → room.order.listed ≡ old.order.listed → at < length old.order.listed → at < length room.order.listed
 still_within old room at e l = let n : length room.order.listed ≡ length old.order.listed = ap (λ xs. length xs) e in omega arith
+
+not_past : (at left all : ℕ) → at < all → left + 1 ≡ all → at ≤ left
+not_past at left all l e = omega arith
+
+-- with a slot put in for the one taken out, there are as many as before
+as_many : (old room taken put : Slots) (at id : ℕ) (slot : Slot) → room.order.listed ≡ old.order.listed → length taken.order.listed + 1 ≡ length room.order.listed → at < length old.order.listed → PutsIn taken put at slot id
+    → length put.order.listed ≡ length old.order.listed
+as_many old room taken put at id slot e n l p =
+    let same : length room.order.listed ≡ length old.order.listed = ap (λ xs. length xs) e in
+    let fits : at ≤ length taken.order.listed = not_past at (length taken.order.listed) (length room.order.listed) (rw same l) n in
+    ap (λ xs. length xs) p.listed ∙ (length-insert taken.order.listed at id fits ∙ (n ∙ same))
 
 pub rebuild-requires-clause-sound : goal.rebuild-requires-clause-sound
 rebuild-requires-clause-sound c =
@@ -95,3 +107,19 @@ put_slot_over-requires-clause-room c =
     subst (λ (s : Slot). HasRoomFor c.take_slot-new.new.slots (reading_of s.block)) (sym c.put_slot_over-id.ensures.old)
     (room_again c.changes_are_undone.ensures taken.new.slots c.put_slot_over-id.new.slots c.rebuild.new.slots c.take_slot-new.new.slots c.args.at (with_settled taken.result.settled c.args.slot) c.take_slot-new.result c.put_slot_over-id.result (reading_of taken.result.block)
     taken.ensures.taken.indexed fits taken.ensures.taken.room c.put_slot_over-id.ensures.put c.in-Err.ensures.err c.take_slot-new.ensures.taken)
+
+pub take_slot-new-requires-clause-within : goal.take_slot-new-requires-clause-within
+take_slot-new-requires-clause-within c =
+    let many = as_many c.args.slots.now c.reserve.new.slots c.take_slot-old.new.slots c.put_slot_over-id.new.slots c.args.at c.put_slot_over-id.result _ c.reserve.ensures.listed c.take_slot-old.ensures.count c.requires.within c.put_slot_over-id.ensures.put in
+    rw (c.in-Err.ensures.err, many) c.requires.within
+
+pub put_slot_over-requires-clause-within : goal.put_slot_over-requires-clause-within
+put_slot_over-requires-clause-within c =
+    let many = as_many c.args.slots.now c.reserve.new.slots c.take_slot-old.new.slots c.put_slot_over-id.new.slots c.args.at c.put_slot_over-id.result _ c.reserve.ensures.listed c.take_slot-old.ensures.count c.requires.within c.put_slot_over-id.ensures.put in
+    let within : c.args.at < length c.rebuild.new.slots.order.listed = rw (c.in-Err.ensures.err, many) c.requires.within in
+    not_past c.args.at (length c.take_slot-new.new.slots.order.listed) (length c.rebuild.new.slots.order.listed) within c.take_slot-new.ensures.count
+
+pub rebuild-requires-clause-few : goal.rebuild-requires-clause-few
+rebuild-requires-clause-few c =
+    let many = as_many c.args.slots.now c.reserve.new.slots c.take_slot-old.new.slots c.put_slot_over-id.new.slots c.args.at c.put_slot_over-id.result _ c.reserve.ensures.listed c.take_slot-old.ensures.count c.requires.within c.put_slot_over-id.ensures.put in
+    rw many c.requires.kept.few

@@ -1,8 +1,7 @@
-use Rattle.std.proofs.Common.{subst}
+use Rattle.std.proofs.Common.{subst, ◌≡◌, ◌+◌, Some, length, sym, ◌∙◌, ap}
 use Rattle.std.proofs.lemmas.Option.{slice_get_within, get_or_from_slice_get}
-use Rattle.ti_meaning.specs.Usable.{IsUsable}
-use Rattle.std.proofs.Common.{◌≡◌, ◌+◌, Some, length, sym, ◌∙◌, ap}
 use Rattle.std.proofs.lemmas.List.{length-map}
+use Rattle.ti_meaning.specs.Usable.{IsUsable}
 use Rattle.ti_source.specs.Reading.{reading_of, item_of}
 use Rattle.ti_meaning.specs.Dependents.{work_of}
 use Rattle.ti_plan.proofs.BlockFaults.{all_work}

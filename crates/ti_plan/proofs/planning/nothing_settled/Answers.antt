@@ -1,7 +1,6 @@
-use Rattle.std.proofs.Common.{refl, ap, ◌∙◌, ◌+◌}
+use Rattle.std.proofs.Common.{refl, ap, ◌∙◌, ◌+◌, ◌≡◌, None}
 use Rattle.std.proofs.lemmas.List.{length_push}
 use Rattle.std.proofs.lemmas.List.Elements.{All-push}
-use Rattle.std.proofs.Common.{◌≡◌, None}
 use Rattle.ti_plan.proofs.planning.nothing_settled.Goals as goal
 
 pub loop-node-preserved : goal.loop-node-preserved

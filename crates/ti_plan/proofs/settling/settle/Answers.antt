@@ -1,8 +1,7 @@
-use Rattle.std.proofs.lemmas.List.{length-map}
-use Rattle.ti_source.specs.Reading.{item_of}
 use Rattle.std.proofs.Common.{◌≡◌, map, sym, ◌∙◌, subst, ap}
+use Rattle.std.proofs.lemmas.List.{length-map}
 use Rattle.std.proofs.lemmas.Option.{same_Some}
-use Rattle.ti_source.specs.Reading.{reading_of}
+use Rattle.ti_source.specs.Reading.{item_of, reading_of}
 use Rattle.ti_slots.specs.Settled.{IsSettled, fault_at, state_seen}
 use Rattle.ti_slots.specs.Slots.{blocks_of}
 use Rattle.ti_plan.proofs.BlockFaults.{lasting_added}

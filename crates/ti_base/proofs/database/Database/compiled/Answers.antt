@@ -1,7 +1,8 @@
-use Rattle.std.proofs.Common.{Some, ap, sym, ◌∙◌}
+use Rattle.std.proofs.Common.{length, refl, Some, ap, sym, ◌∙◌}
 use Rattle.ti_meaning.specs.Compiled.{compiled}
 use Rattle.ti_slots.specs.Settled.{state_seen}
 use Rattle.ti_base.proofs.SlotEntries.{shown_entry, shown_other, entry_of_slot}
+use Rattle.ti_base.proofs.SlotLists.{within_list}
 use Rattle.ti_base.proofs.database.Database.compiled.Goals as goal
 
 pub returns-in-Compiled : goal.returns-in-Compiled
@@ -13,3 +14,6 @@ pub returns-in_default : goal.returns-in_default
 returns-in_default c =
     let kept = entry_of_slot c.self.inside.slots c.args.at c.slot_of.result.now c.self.invariant c.slot_of.ensures in
     shown_other c.slot_of.result.now.settled.state (λ entry e. c.in_default.not-Compiled entry e) ∙ (kept ∙ ap (λ texts. compiled texts c.args.at) c.self.view_is)
+
+pub slot_of-requires-clause-within : goal.slot_of-requires-clause-within
+slot_of-requires-clause-within c = within_list c.self.inside.slots c.args.self.now c.args.at (length c.args.self.now) c.self.view_is refl c.requires

@@ -1,9 +1,9 @@
-use Rattle.std.proofs.Common.{List, Some, map, option_map, slice_get, ap, sym, ◌∙◌}
+use Rattle.std.proofs.Common.{length, refl, List, Some, map, option_map, slice_get, ap, sym, ◌∙◌}
 use Rattle.std.specs.Rc.{rc_slice_items}
 use Rattle.ti_source.specs.Reading.{Reading}
 use Rattle.ti_meaning.specs.Owner.{readings}
 use Rattle.ti_base.proofs.SlotFaults.{block_of_slot}
-use Rattle.ti_base.proofs.SlotLists.{blocks_read}
+use Rattle.ti_base.proofs.SlotLists.{within_list, blocks_read}
 use Rattle.ti_base.proofs.database.Database.names.Goals as goal
 
 pub returns : goal.returns
@@ -13,3 +13,6 @@ returns c =
     let here = block_of_slot slots c.args.at c.slot_of.result.now c.slot_of.ensures in
     ap (λ (bs : List Reading). option_map (λ (b : Reading). b.names) (slice_get bs c.args.at)) (sym read)
     ∙ (ap (λ o. option_map (λ (b : Reading). b.names) o) here ∙ ap (λ names. Some (map rc_slice_items names)) (sym c.deref.ensures.value))
+
+pub slot_of-requires-clause-within : goal.slot_of-requires-clause-within
+slot_of-requires-clause-within c = within_list c.self.inside.slots c.args.self.now c.args.at (length c.args.self.now) c.self.view_is refl c.requires

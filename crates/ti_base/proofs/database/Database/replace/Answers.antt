@@ -1,0 +1,8 @@
+use Rattle.ti_base.proofs.SlotLists.{within_list}
+use Rattle.ti_base.proofs.database.Database.replace.Goals as goal
+
+pub replace_slot-requires-clause-within : goal.replace_slot-requires-clause-within
+replace_slot-requires-clause-within c = within_list c.self.inside.slots c.args.self.now c.args.at c.len.result c.self.view_is c.len.ensures c.if-at-len.false
+
+pub returns-clause-rebuilds : goal.returns-clause-rebuilds
+returns-clause-rebuilds c = rw (← c.self.view_is, ← c.in_ok-slot.ensures.text) c.in_ok-edited.ensures.rebuilds
