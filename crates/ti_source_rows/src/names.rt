@@ -16,28 +16,30 @@ fn leads_from_each_name_back_to_the_capability(rt: HostRuntime) {
     assert_eq!(rt; seen, 497);
 }
 
+/// Names, each with its kind and its place among those of the kind.
+static PLACES: [(&'static str, Kind, usize); 12] = [
+    ("bw", Kind::Flag, 0),
+    ("OTxr", Kind::Flag, 43),
+    ("cols", Kind::Number, 0),
+    ("OTkn", Kind::Number, 38),
+    ("cbt", Kind::Text, 0),
+    ("bel", Kind::Text, 1),
+    ("cr", Kind::Text, 2),
+    ("cud1", Kind::Text, 11),
+    ("ind", Kind::Text, 129),
+    ("kf11", Kind::Text, 216),
+    ("kf63", Kind::Text, 268),
+    ("box1", Kind::Text, 413),
+];
+
 #[test]
 fn has_the_names_at_their_places(rt: HostRuntime) {
-    let rows = [
-        ("bw", Kind::Flag, 0),
-        ("OTxr", Kind::Flag, 43),
-        ("cols", Kind::Number, 0),
-        ("OTkn", Kind::Number, 38),
-        ("cbt", Kind::Text, 0),
-        ("bel", Kind::Text, 1),
-        ("cr", Kind::Text, 2),
-        ("cud1", Kind::Text, 11),
-        ("ind", Kind::Text, 129),
-        ("kf11", Kind::Text, 216),
-        ("kf63", Kind::Text, 268),
-        ("box1", Kind::Text, 413),
-    ];
-    for (word, kind, index) in rows {
+    for (word, kind, index) in PLACES.iter() {
         let cap = find(word.as_bytes());
-        assert!(rt; cap == Cap::at(kind, index), "{word}");
+        assert!(rt; cap == Cap::at(*kind, *index), "{word}");
         let place = cap.map(|c| c.index());
-        assert!(rt; place == Some(index), "{word}");
-        assert!(rt; cap.map(|c| c.kind()) == Some(kind), "{word}");
+        assert!(rt; place == Some(*index), "{word}");
+        assert!(rt; cap.map(|c| c.kind()) == Some(*kind), "{word}");
     }
     for word in ["", "a", "bw ", "BW", "kf64", "zz"] {
         assert!(rt; find(word.as_bytes()).is_none(), "{word}");

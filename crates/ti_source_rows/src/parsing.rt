@@ -52,59 +52,66 @@ fn reading(alloc: Global, parsed: &Parsed) -> Result<String, AllocError> {
     Ok(said)
 }
 
+// Blocks, and what is read of them.
+static BLOCKS: [(&'static str, &'static str); 19] = [
+    ("x,clear=\\E[H\n\t\\E[J,\n", "0:1 clear=1b5b481b5b4a;"),
+    (
+        "x,.am,am#1,cols=3,bw@,cols#09,bel=\\400,foo,kf1=\\q,\n",
+        "3:1 bw@;7:1 kf1=71;1:1 W2 WrongKind am;2:1 W2 WrongKind cols;4:1 E3 BadNumber cols;5:1 E5 BadString bel;6:1 W1 UnknownCapability foo;7:1 W3 UnknownEscape kf1;",
+    ),
+    (
+        "x,use,use#1,use@,\n",
+        "0:1 W1 UnknownCapability use;1:1 W1 UnknownCapability use;2:1 W1 UnknownCapability use;",
+    ),
+    ("x,kf1=^\\,bel=a\\,b,\n", "0:1 kf1=1c;1:1 bel=612c62;"),
+    ("x,bel=^,am,\n", "1:1 am;0:1 E5 BadString bel;"),
+    ("x,bel=%^,am,\n", "0:1 bel=255e;1:1 am;"),
+    ("x,bel=%\n\t^,am,\n", "0:1 bel=255e;1:2 am;"),
+    ("x,bel=a\n# am,\n\tb,\n", "0:1 bel=6162;"),
+    (
+        "x,\n\tam,\n# c\n\t, .bw,\n  foo, km\n",
+        "0:2 am;4:5 km;3:5 W1 UnknownCapability foo;",
+    ),
+    ("x,\n\t# x,\n", "0:2 W1 UnknownCapability ;"),
+    (
+        "x,cols #5,use =a,am @,\n",
+        "0:1 W1 UnknownCapability cols ;1:1 W1 UnknownCapability use ;2:1 W1 UnknownCapability am ;",
+    ),
+    (
+        "x,foo\\,bar,am \n",
+        "1:1 am;0:1 W1 UnknownCapability foo\\,bar;",
+    ),
+    (
+        "x,bel=x\\ ,cr=y \n",
+        "0:1 bel=7820;1:1 cr=7920;0:1 W3 UnknownEscape bel;",
+    ),
+    (
+        "x,use=,use= a ,use=\\E,\n",
+        "0:1 use=;1:1 use=61;2:1 use=5c45;",
+    ),
+    (
+        "x,cols=\\400,bel#x,am=1,\n",
+        "0:1 W2 WrongKind cols;1:1 W2 WrongKind bel;2:1 W2 WrongKind am;",
+    ),
+    (
+        "x,cols#0x7fffffff ,it#2147483648,lm#00,\n",
+        "0:1 cols#2147483647;2:1 lm#0;1:1 E4 NumberTooLarge it;",
+    ),
+    ("x,bel=,\n", "0:1 bel=;"),
+    ("a|,am,\n", "0:1 am;0:1 E1 BadHeader ;"),
+    ("xterm\n", ""),
+];
+
 #[test]
 fn reads_blocks(rt: HostRuntime) -> Result<(), Fail> {
-    for (block, wanted) in [
-        ("x,clear=\\E[H\n\t\\E[J,\n", "0:1 clear=1b5b481b5b4a;"),
-        (
-            "x,.am,am#1,cols=3,bw@,cols#09,bel=\\400,foo,kf1=\\q,\n",
-            "3:1 bw@;7:1 kf1=71;1:1 W2 WrongKind am;2:1 W2 WrongKind cols;4:1 E3 BadNumber cols;5:1 E5 BadString bel;6:1 W1 UnknownCapability foo;7:1 W3 UnknownEscape kf1;",
-        ),
-        (
-            "x,use,use#1,use@,\n",
-            "0:1 W1 UnknownCapability use;1:1 W1 UnknownCapability use;2:1 W1 UnknownCapability use;",
-        ),
-        ("x,kf1=^\\,bel=a\\,b,\n", "0:1 kf1=1c;1:1 bel=612c62;"),
-        ("x,bel=^,am,\n", "1:1 am;0:1 E5 BadString bel;"),
-        ("x,bel=%^,am,\n", "0:1 bel=255e;1:1 am;"),
-        ("x,bel=%\n\t^,am,\n", "0:1 bel=255e;1:2 am;"),
-        ("x,bel=a\n# am,\n\tb,\n", "0:1 bel=6162;"),
-        (
-            "x,\n\tam,\n# c\n\t, .bw,\n  foo, km\n",
-            "0:2 am;4:5 km;3:5 W1 UnknownCapability foo;",
-        ),
-        ("x,\n\t# x,\n", "0:2 W1 UnknownCapability ;"),
-        (
-            "x,cols #5,use =a,am @,\n",
-            "0:1 W1 UnknownCapability cols ;1:1 W1 UnknownCapability use ;2:1 W1 UnknownCapability am ;",
-        ),
-        (
-            "x,foo\\,bar,am \n",
-            "1:1 am;0:1 W1 UnknownCapability foo\\,bar;",
-        ),
-        (
-            "x,bel=x\\ ,cr=y \n",
-            "0:1 bel=7820;1:1 cr=7920;0:1 W3 UnknownEscape bel;",
-        ),
-        (
-            "x,use=,use= a ,use=\\E,\n",
-            "0:1 use=;1:1 use=61;2:1 use=5c45;",
-        ),
-        (
-            "x,cols=\\400,bel#x,am=1,\n",
-            "0:1 W2 WrongKind cols;1:1 W2 WrongKind bel;2:1 W2 WrongKind am;",
-        ),
-        (
-            "x,cols#0x7fffffff ,it#2147483648,lm#00,\n",
-            "0:1 cols#2147483647;2:1 lm#0;1:1 E4 NumberTooLarge it;",
-        ),
-        ("x,bel=,\n", "0:1 bel=;"),
-        ("a|,am,\n", "0:1 am;0:1 E1 BadHeader ;"),
-        ("xterm\n", ""),
-    ] {
+    for (block, wanted) in BLOCKS.iter() {
         assert!(rt; is_block(block.as_bytes()), "{block:?}");
         let parsed = parse(rt.alloc(), block.as_bytes())?;
-        assert_eq!(rt; reading(rt.alloc(), &parsed)?.as_str(), wanted, "{block:?}");
+        assert_eq!(rt;
+            reading(rt.alloc(), &parsed)?.as_str(),
+            *wanted,
+            "{block:?}"
+        );
     }
     Ok(())
 }

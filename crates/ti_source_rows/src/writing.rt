@@ -2,28 +2,30 @@
 use std::test::Fail;
 use ti_spelling::{escape, escaped_len};
 
+/// A value, and the text that spells it.
+static ROWS: [(&'static [u8], &'static [u8]); 16] = [
+    (b"", b""),
+    (b"\x1b[,\\^\x1c\x80\x7f ", b"\\E[\\,\\\\\\^\\034\\200^?\\s"),
+    (b"%^%\x07%\x7f", b"%^%\\007%\\177"),
+    (b" ", b"\\s"),
+    (b" a b ", b"\\sa b\\s"),
+    (b"% ", b"%\\s"),
+    (b"\n\r\t\x08\x0c", b"\\n\\r\\t\\b\\f"),
+    (b"\x01\x1a\x1d\x1e\x1f", b"^A^Z^]^^^_"),
+    (b"\xff:~!", b"\\377:~!"),
+    (b"\0", b"\\0"),
+    (b"%\0", b"%\\0"),
+    (b"%\x1b%\n", b"%\\E%\\n"),
+    (b"%\x1c%\xff", b"%\\034%\\377"),
+    (b"%^^", b"%^\\^"),
+    (b"%\x1f\x1f", b"%\\037^_"),
+    (b"%%\x01", b"%%\\001"),
+];
+
 #[test]
 fn writes_values(rt: HostRuntime) -> Result<(), Fail> {
-    let rows: [(&[u8], &[u8]); 16] = [
-        (b"", b""),
-        (b"\x1b[,\\^\x1c\x80\x7f ", b"\\E[\\,\\\\\\^\\034\\200^?\\s"),
-        (b"%^%\x07%\x7f", b"%^%\\007%\\177"),
-        (b" ", b"\\s"),
-        (b" a b ", b"\\sa b\\s"),
-        (b"% ", b"%\\s"),
-        (b"\n\r\t\x08\x0c", b"\\n\\r\\t\\b\\f"),
-        (b"\x01\x1a\x1d\x1e\x1f", b"^A^Z^]^^^_"),
-        (b"\xff:~!", b"\\377:~!"),
-        (b"\0", b"\\0"),
-        (b"%\0", b"%\\0"),
-        (b"%\x1b%\n", b"%\\E%\\n"),
-        (b"%\x1c%\xff", b"%\\034%\\377"),
-        (b"%^^", b"%^\\^"),
-        (b"%\x1f\x1f", b"%\\037^_"),
-        (b"%%\x01", b"%%\\001"),
-    ];
-    for (value, text) in rows {
-        assert_eq!(rt; escape(rt.alloc(), value)?.as_slice(), text, "{value:?}");
+    for (value, text) in ROWS.iter() {
+        assert_eq!(rt; escape(rt.alloc(), value)?.as_slice(), *text, "{value:?}");
         assert_eq!(rt; escaped_len(value), text.len(), "{value:?}");
     }
     Ok(())
