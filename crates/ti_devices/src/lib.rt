@@ -38,6 +38,3 @@ pub use tally::Tally;
 pub use tool_error::ToolError;
 pub use tree::{Tree, TreeFault};
 pub use writing::write_out;
-
-#[cfg(test)]
-mod tests;

@@ -19,6 +19,3 @@ mod order;
 pub use comparison::compare;
 pub use layout::{Layout, Mode, Order};
 pub use listing::{ListError, list, relative};
-
-#[cfg(test)]
-mod tests;

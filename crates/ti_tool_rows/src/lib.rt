@@ -1,9 +1,11 @@
-//! The worked rows of the tools and of their command lines as tests, with answers from the manuals and by hand; no
-//! code of the product.
+//! The worked rows of the tools, of their command lines, and of the listings and trees of files that they rest on, as
+//! tests, with answers from the manuals and by hand; no code of the product.
 //!
 //! - `commands`: command lines, the jobs that they ask for and what is said of others
 //! - `compiling`: sources with their files and reports
 //! - `infocmp`: relative source that compiles back
+//! - `listing`: entries listed and compared
+//! - `placing`: files placed into trees
 //! - `stopping`: ends of tools, their statuses and messages
 #![tactic(auto)]
 
@@ -13,5 +15,9 @@ mod commands;
 mod compiling;
 #[cfg(test)]
 mod infocmp;
+#[cfg(test)]
+mod listing;
+#[cfg(test)]
+mod placing;
 #[cfg(test)]
 mod stopping;

@@ -1,7 +1,7 @@
 //! Files placed into a tree in memory, and a tree that fails when it is told to.
-use crate::{File, MemTree, Tree, TreeFault, place};
 use std::alloc::{AllocError, Global};
 use std::test::Fail;
+use ti_devices::{File, MemTree, Tree, TreeFault, place};
 
 fn file(alloc: Global, path: &str, bytes: &[u8]) -> Result<File, AllocError> {
     Ok(File {

@@ -1,7 +1,8 @@
-use crate::{Layout, ListError, Mode, Order, compare, list, relative};
+//! Entries as they are listed and compared.
 use std::alloc::{AllocError, Global};
 use std::test::Fail;
 use ti_layout::View;
+use ti_list::{Layout, ListError, Mode, Order, compare, list, relative};
 
 // `a|first,am,cols#80,bel=^G,` as it is compiled, `b|second,cols#132,bel=^G,cr=\r,` and `v,bel=b,cbt=a,`.
 const A: &[u8] = b"\x1a\x01\x08\0\x02\0\x01\0\x02\0\x02\0a|first\0\0\x01\x50\0\xff\xff\0\0\x07\0";
