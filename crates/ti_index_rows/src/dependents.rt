@@ -40,8 +40,8 @@ fn block(alloc: Global, names: &[&[u8]], uses: &[&[u8]]) -> Result<Slot, Fail> {
     })
 }
 
-/// Puts a block in at the front, and gives its id.
-fn put(slots: &mut Slots, slot: Slot) -> Result<u32, Fail>
+/// Puts a block in at the front that has these lookup names and uses those, and gives its id.
+fn put(slots: &mut Slots, alloc: Global, names: &[&[u8]], uses: &[&[u8]]) -> Result<u32, Fail>
     requires indexed { IsIndexed slots.old }
     ensures indexed { IsIndexed slots.new }
     ensures stands { IfOk result (λ id. StandsAt slots.new 0 id) }
@@ -49,6 +49,7 @@ fn put(slots: &mut Slots, slot: Slot) -> Result<u32, Fail>
     if slots.order.ids().len() >= 100 {
         return Err(Fail::new("too many blocks"));
     }
+    let slot = block(alloc, names, uses)?;
     slots.make_room(&slot.block)?;
     Ok(slots.put_in(0, slot))
 }
@@ -82,15 +83,23 @@ fn expect_edges(
 }
 
 #[test]
+fn a_block_alone(rt: HostRuntime) -> Result<(), Fail> {
+    let alloc = rt.alloc();
+    let mut slots = Slots::new(alloc);
+    let d = put(&mut slots, alloc, &[b"d"], &[])?;
+    let found = find_dependents(alloc, &slots, Some(d), &[])?;
+    expect_places(&rt, &found, &[0]);
+    Ok(())
+}
+
+#[test]
 fn users_and_their_users(rt: HostRuntime) -> Result<(), Fail> {
     let alloc = rt.alloc();
     let mut slots = Slots::new(alloc);
-    let d = put(&mut slots, block(alloc, &[b"d"], &[])?)?;
-    let found = find_dependents(alloc, &slots, Some(d), &[])?;
-    expect_places(&rt, &found, &[0]);
-    let c = put(&mut slots, block(alloc, &[b"c"], &[b"b"])?)?;
-    let b = put(&mut slots, block(alloc, &[b"b"], &[b"a", b"d"])?)?;
-    let a = put(&mut slots, block(alloc, &[b"a"], &[])?)?;
+    put(&mut slots, alloc, &[b"d"], &[])?;
+    let c = put(&mut slots, alloc, &[b"c"], &[b"b"])?;
+    let b = put(&mut slots, alloc, &[b"b"], &[b"a", b"d"])?;
+    let a = put(&mut slots, alloc, &[b"a"], &[])?;
     // The list is a, b, c, d.
     let found = find_dependents(alloc, &slots, Some(a), &[])?;
     expect_places(&rt, &found, &[0, 1, 2]);
@@ -104,9 +113,9 @@ fn users_and_their_users(rt: HostRuntime) -> Result<(), Fail> {
 fn a_ring(rt: HostRuntime) -> Result<(), Fail> {
     let alloc = rt.alloc();
     let mut slots = Slots::new(alloc);
-    put(&mut slots, block(alloc, &[b"z"], &[])?)?;
-    let y = put(&mut slots, block(alloc, &[b"y"], &[b"x", b"z"])?)?;
-    let x = put(&mut slots, block(alloc, &[b"x"], &[b"y"])?)?;
+    put(&mut slots, alloc, &[b"z"], &[])?;
+    let y = put(&mut slots, alloc, &[b"y"], &[b"x", b"z"])?;
+    let x = put(&mut slots, alloc, &[b"x"], &[b"y"])?;
     let found = find_dependents(alloc, &slots, Some(x), &[])?;
     expect_places(&rt, &found, &[0, 1]);
     expect_edges(&rt, &found, x, &[Some(y)])?;
@@ -118,10 +127,10 @@ fn a_ring(rt: HostRuntime) -> Result<(), Fail> {
 fn a_name_that_two_blocks_have(rt: HostRuntime) -> Result<(), Fail> {
     let alloc = rt.alloc();
     let mut slots = Slots::new(alloc);
-    put(&mut slots, block(alloc, &[b"x", b"n"], &[b"a"])?)?;
-    put(&mut slots, block(alloc, &[b"u"], &[b"n"])?)?;
-    put(&mut slots, block(alloc, &[b"o", b"n"], &[])?)?;
-    let a = put(&mut slots, block(alloc, &[b"a"], &[])?)?;
+    put(&mut slots, alloc, &[b"x", b"n"], &[b"a"])?;
+    put(&mut slots, alloc, &[b"u"], &[b"n"])?;
+    put(&mut slots, alloc, &[b"o", b"n"], &[])?;
+    let a = put(&mut slots, alloc, &[b"a"], &[])?;
     // The list is a, o, u, x. The name n is that of o, so who uses it does not use x.
     let found = find_dependents(alloc, &slots, Some(a), &[])?;
     expect_places(&rt, &found, &[0, 3]);
@@ -136,9 +145,9 @@ fn a_name_that_two_blocks_have(rt: HostRuntime) -> Result<(), Fail> {
 fn all_blocks(rt: HostRuntime) -> Result<(), Fail> {
     let alloc = rt.alloc();
     let mut slots = Slots::new(alloc);
-    let d = put(&mut slots, block(alloc, &[b"d"], &[])?)?;
-    let b = put(&mut slots, block(alloc, &[b"b"], &[b"a", b"d", b"z"])?)?;
-    let a = put(&mut slots, block(alloc, &[b"a"], &[b"b"])?)?;
+    let d = put(&mut slots, alloc, &[b"d"], &[])?;
+    let b = put(&mut slots, alloc, &[b"b"], &[b"a", b"d", b"z"])?;
+    let a = put(&mut slots, alloc, &[b"a"], &[b"b"])?;
     // The list is a, b, d, and nothing depends on d but b and a.
     let found = find_all(alloc, &slots)?;
     assert_eq!(rt; found.ids.as_slice(), [a, b, d].as_slice());

@@ -1,7 +1,9 @@
 // Blocks come and go at run time: what the index then has, and the way back.
+ghost use Rattle.std.specs.Prelude.{IfOk};
 ghost use Rattle.ti_slots.specs.Slots.{IsIndexed};
 
 use std::alloc::{AllocError, Global};
+use std::process::Abort;
 use std::rc::RcSlice;
 use std::test::*;
 use ti_slots::{Settled, Slot, Slots, State};
@@ -74,8 +76,10 @@ fn take(slots: &mut Slots, at: usize)
     }
 }
 
-#[test]
-fn blocks_come_and_go(rt: HostRuntime) -> Result<(), Fail> {
+/// The slots of two blocks, the second of which is put in before the first.
+fn two_blocks(rt: &(impl Abort + AllocGlobal)) -> Result<Slots, Fail>
+    ensures { IfOk result IsIndexed }
+{
     let alloc = rt.alloc();
     let mut slots = Slots::new(alloc);
     assert_eq!(rt; slots.owner(b"n"), None);
@@ -84,17 +88,34 @@ fn blocks_come_and_go(rt: HostRuntime) -> Result<(), Fail> {
     assert_eq!(rt; put(&mut slots, 0, first)?, Some(0));
     let second = slot(alloc, &[b"n"], &[b"m"])?;
     assert_eq!(rt; put(&mut slots, 0, second)?, Some(1));
-    assert_eq!(rt; slots.names.holders(b"n"), [1, 0].as_slice());
-    assert_eq!(rt; slots.names.users(b"m"), [1, 0].as_slice());
-    assert_eq!(rt; slots.owner(b"n"), Some(1));
+    Ok(slots)
+}
+
+/// The blocks that have the name `n`, those that use the name `m`, and the one that owns `n`.
+fn expect_mentions(
+    rt: &impl Abort,
+    slots: &Slots,
+    holders: &[u32],
+    users: &[u32],
+    owner: Option<u32>,
+)
+    requires { IsIndexed slots.now }
+{
+    assert_eq!(rt; slots.names.holders(b"n"), holders);
+    assert_eq!(rt; slots.names.users(b"m"), users);
+    assert_eq!(rt; slots.owner(b"n"), owner);
+}
+
+#[test]
+fn blocks_come_and_go(rt: HostRuntime) -> Result<(), Fail> {
+    let mut slots = two_blocks(&rt)?;
+    expect_mentions(&rt, &slots, &[1, 0], &[1, 0], Some(1));
     assert_eq!(rt; slots.owner(b"m"), Some(0));
     assert_eq!(rt; exchange(&mut slots, 1), Some(3));
     assert_eq!(rt; slots.order.ids(), [1, 0].as_slice());
     assert_eq!(rt; slots.names.holders(b"n"), [1, 0].as_slice());
     assert_eq!(rt; slots.names.users(b"x"), [0].as_slice());
     take(&mut slots, 0);
-    assert_eq!(rt; slots.names.holders(b"n"), [0].as_slice());
-    assert_eq!(rt; slots.names.users(b"m"), [0].as_slice());
-    assert_eq!(rt; slots.owner(b"n"), Some(0));
+    expect_mentions(&rt, &slots, &[0], &[0], Some(0));
     Ok(())
 }
