@@ -101,7 +101,7 @@ def changed_bytes_shown(take):
         paths = {it: os.path.join(room.path, it[0], it) for it in entries}
         for at in range(0, len(entries), AT_ONCE):
             some = list(entries)[at : at + AT_ONCE]
-            done = take([paths[it] for it in some], program=PROBE)
+            done = take(["files", *(paths[it] for it in some)], program=PROBE)
             wanted = [line for it in some for line in (f"file {paths[it]}", *probed(*read(entries[it])))]
             if done.status != 0 or done.out.decode().splitlines() != wanted:
                 return f"status {done.status}, of {some[0]} to {some[-1]}"

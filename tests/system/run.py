@@ -75,7 +75,7 @@ def shown(files):
     found = {}
     for at in range(0, len(files), AT_ONCE):
         done = subprocess.run(
-            [PROGRAM, *files[at:at + AT_ONCE]], stdout=subprocess.PIPE, check=True, timeout=120,
+            [PROGRAM, "files", *files[at:at + AT_ONCE]], stdout=subprocess.PIPE, check=True, timeout=120,
         )
         for line in done.stdout.decode().split("\n"):
             if line.startswith("file "):

@@ -1,93 +1,28 @@
-//! A program for the tests: prints what a view shows of each file that its words name, a line for
-//! the file's name, one for the names of the entry, and one for each capability that is there.
+//! A program for the tests. Its first word says what it does:
+//!
+//! - `files`: prints what a view shows of each file that the further words name
+//! - `hostile`: tries hostile bytes, and prints how often each answer came
+//! - `all`: both, which the gate runs
 #![tactic(auto)]
 
-ghost use Rattle.ti_caps.specs.declared.capability.Kind.TheVariants.{Flag, Number, Text};
+mod files;
+mod hostile;
 
-use std::io::Write;
 use std::rt::{Env, Files};
-use std::{env, fs, io};
-use ti_caps::{Cap, Kind, count, name};
-use ti_layout::{ReadError, View};
-
-/// The longest file that is read.
-const FILE_MAX: usize = 65_536;
-
-fn print_flags(out: &mut impl Write, view: &View<'_>) -> io::Result<()> {
-    for index in 0..count(Kind::Flag) {
-        if let Some(cap) = Cap::at(Kind::Flag, index) {
-            if view.flag(cap) {
-                writeln!(out, "{}", name(cap))?;
-            }
-        }
-    }
-    Ok(())
-}
-
-fn print_numbers(out: &mut impl Write, view: &View<'_>) -> io::Result<()> {
-    for index in 0..count(Kind::Number) {
-        if let Some(cap) = Cap::at(Kind::Number, index) {
-            if let Some(value) = view.number(cap) {
-                writeln!(out, "{}#{value}", name(cap))?;
-            }
-        }
-    }
-    Ok(())
-}
-
-fn print_text(out: &mut impl Write, name: &str, text: &[u8]) -> io::Result<()> {
-    write!(out, "{name}=")?;
-    for byte in text {
-        write!(out, "{byte:02x}")?;
-    }
-    writeln!(out)?;
-    Ok(())
-}
-
-fn print_texts(out: &mut impl Write, view: &View<'_>) -> io::Result<()> {
-    for index in 0..count(Kind::Text) {
-        if let Some(cap) = Cap::at(Kind::Text, index) {
-            if let Some(text) = view.text(cap) {
-                print_text(out, name(cap), text)?;
-            }
-        }
-    }
-    Ok(())
-}
-
-fn print_view(out: &mut impl Write, view: &View<'_>) -> io::Result<()> {
-    print_text(out, "names", view.names())?;
-    print_text(out, "first name", view.first_name())?;
-    print_flags(out, view)?;
-    print_numbers(out, view)?;
-    print_texts(out, view)
-}
-
-fn print_refusal(out: &mut impl Write, refusal: ReadError) -> io::Result<()> {
-    writeln!(out, "refused {refusal}")
-}
-
-fn print_file<R: Files + AllocGlobal>(rt: &R, out: &mut impl Write, path: &str) -> io::Result<()> {
-    writeln!(out, "file {path}")?;
-    let bytes = fs::read(rt, path)?;
-    if bytes.len() > FILE_MAX {
-        return writeln!(out, "too long");
-    }
-    match View::read(&bytes) {
-        Ok(view) => print_view(out, &view),
-        Err(refusal) => print_refusal(out, refusal),
-    }
-}
+use std::{env, io};
 
 fn run<R: Env + Files + Print + AllocGlobal>(rt: &R) -> io::Result<()> {
     let words: Vec<String> = env::args(rt)?.collect(rt.alloc())?;
-    let mut out = io::writer(rt);
-    for (index, path) in words.iter().enumerate() {
-        if index > 0 {
-            print_file(rt, &mut out, path.as_str())?;
+    let paths = words.get(2..).unwrap_or(&[]);
+    match words.get(1).map_or("", |word| word.as_str()) {
+        "files" => files::print_files(rt, paths),
+        "hostile" => hostile::print_tallies(rt),
+        "all" => {
+            hostile::print_tallies(rt)?;
+            files::print_files(rt, paths)
         }
+        word => println!(rt; "not a part of this program: {word}"),
     }
-    Ok(())
 }
 
 fn main(rt: HostRuntime) -> io::Result<()> {

@@ -1,8 +1,5 @@
-//! A program for the tests: hostile bytes through the calls that read, list, compare and print entries and expand
-//! formats. It prints how often each answer came, which a model that was written from the definitions
-//! alone has told before.
-#![tactic(auto)]
-
+//! Hostile bytes through the calls that read, list, compare and print entries and expand formats. It is printed how
+//! often each answer came, which a model that was written from the definitions alone has told before.
 mod changes;
 mod uses;
 
@@ -79,13 +76,12 @@ fn print_formats(out: &mut impl Write, alloc: Global) -> io::Result<()> {
     print_expansion(out, alloc, "200,000 tests in turn", &otherwise)
 }
 
-fn print_all(out: &mut impl Write, alloc: Global) -> io::Result<()> {
+/// Tries the entries and the formats, and prints what came of them.
+pub fn print_tallies<R: Print + AllocGlobal>(rt: &R) -> io::Result<()> {
+    let alloc = rt.alloc();
+    let mut out = io::writer(rt);
     let entry = plain_entry(alloc)?;
-    try_each_byte(alloc, &entry)?.write_to(out, "each byte")?;
-    try_header_pairs(alloc, &entry)?.write_to(out, "each two of the header")?;
-    print_formats(out, alloc)
-}
-
-fn main(rt: HostRuntime) -> io::Result<()> {
-    print_all(&mut io::writer(&rt), rt.alloc())
+    try_each_byte(alloc, &entry)?.write_to(&mut out, "each byte")?;
+    try_header_pairs(alloc, &entry)?.write_to(&mut out, "each two of the header")?;
+    print_formats(&mut out, alloc)
 }
