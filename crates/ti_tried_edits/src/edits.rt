@@ -10,23 +10,52 @@ use ti_base::{Database, Edit, EditError, Edited};
 /// Want of memory.
 pub fn seen(alloc: Global, database: &Database) -> Result<Vec<u8>, AllocError> {
     let mut bytes = Vec::with_capacity(alloc, 16_384)?;
+    push_blocks(&mut bytes, database)?;
+    push_owners(&mut bytes, database)?;
+    bytes.extend_from_slice(database.report(1)?.as_slice())?;
+    Ok(bytes)
+}
+
+// Adds each text and entry.
+fn push_blocks(bytes: &mut Vec<u8>, database: &Database) -> Result<(), AllocError> {
     for at in 0..database.len() {
         bytes.extend_from_slice(database.text(at))?;
-        match database.compiled(at) {
-            Some(entry) => bytes.extend_from_slice(entry)?,
-            None => bytes.extend_from_slice(b"none")?,
-        }
+        bytes.extend_from_slice(database.compiled(at).unwrap_or(b"none"))?;
         bytes.push(0)?;
     }
+    Ok(())
+}
+
+// Adds the owner of each name.
+fn push_owners(bytes: &mut Vec<u8>, database: &Database) -> Result<(), AllocError> {
     for name in NAMES {
         match database.owner(name) {
             Some(at) => bytes.extend_from_slice(&at.to_le_bytes())?,
             None => bytes.push(255)?,
         }
     }
-    let report = database.report(1)?;
-    bytes.extend_from_slice(report.as_slice())?;
-    Ok(bytes)
+    Ok(())
+}
+
+/// Adds what is seen of a database as an answer.
+///
+/// # Errors
+/// Want of memory.
+pub fn add_seen(alloc: Global, database: &Database, tried: &mut Tried) -> Result<(), AllocError> {
+    tried.add(seen(alloc, database)?.as_slice());
+    Ok(())
+}
+
+/// After an edit that was refused the database is seen as it was before.
+///
+/// # Errors
+/// Want of memory, or that something has changed.
+pub fn expect_unchanged(alloc: Global, database: &Database, before: &[u8]) -> Result<(), Trouble> {
+    if seen(alloc, database)?.as_slice() == before {
+        Ok(())
+    } else {
+        Err(Trouble::Wrong("a refused edit has changed something"))
+    }
 }
 
 // Adds what an edit answered.
@@ -48,7 +77,7 @@ fn add_answer(tried: &mut Tried, answer: &Result<Edited, EditError>) {
     }
 }
 
-// Makes an edit. One that was refused for memory has left all as it was, and is made again.
+// Makes an edit, and adds what it answers and what is then seen.
 fn apply_one(
     alloc: Global,
     database: &mut Database,
@@ -56,23 +85,33 @@ fn apply_one(
     tried: &mut Tried,
 ) -> Result<(), Trouble> {
     let before = seen(alloc, database)?;
-    let mut answer = database.apply(edit);
-    if let Err(EditError::Memory) = answer {
-        tried.count_refusal();
-        if seen(alloc, database)? != before {
-            return Err(Trouble::Wrong("a refused edit has changed something"));
-        }
-        answer = database.apply(edit);
-        if let Err(EditError::Memory) = answer {
-            return Err(Trouble::Wrong("an edit was refused with memory there"));
-        }
-    }
-    if answer.is_err() && seen(alloc, database)? != before {
-        return Err(Trouble::Wrong("a refused edit has changed something"));
+    let answer = apply_again(alloc, database, edit, &before, tried)?;
+    if answer.is_err() {
+        expect_unchanged(alloc, database, &before)?;
     }
     add_answer(tried, &answer);
-    tried.add(seen(alloc, database)?.as_slice());
+    add_seen(alloc, database, tried)?;
     Ok(())
+}
+
+// Makes an edit. One that was refused for memory has left all as it was, and is made again.
+fn apply_again(
+    alloc: Global,
+    database: &mut Database,
+    edit: &Edit<'_>,
+    before: &[u8],
+    tried: &mut Tried,
+) -> Result<Result<Edited, EditError>, Trouble> {
+    match database.apply(edit) {
+        Err(EditError::Memory) => {}
+        answer => return Ok(answer),
+    }
+    tried.count_refusal();
+    expect_unchanged(alloc, database, before)?;
+    match database.apply(edit) {
+        Err(EditError::Memory) => Err(Trouble::Wrong("an edit was refused with memory there")),
+        answer => Ok(answer),
+    }
 }
 
 /// Makes edits one after the other, from no blocks on.

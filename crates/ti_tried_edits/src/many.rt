@@ -1,8 +1,9 @@
 //! One edit of a thousand blocks: it takes few growths of memory, however many blocks there are.
-use crate::edits::seen;
+use crate::blocks::{insertion, replacement};
+use crate::edits::{add_seen, expect_unchanged, seen};
 use crate::tried::{Tried, Trouble};
 use std::alloc::Global;
-use ti_base::{Database, EditError, Edited};
+use ti_base::{Database, Edit, EditError, Edited};
 
 /// How many blocks there are.
 const BLOCKS: usize = 1000;
@@ -18,13 +19,13 @@ pub enum Many {
 }
 
 impl Many {
-    fn apply(self, database: &mut Database) -> Option<Result<Edited, EditError>> {
+    fn edit(self) -> Option<Edit<'static>> {
         match self {
             Many::None => None,
-            Many::Replace => Some(database.replace(500, b"b500,cols#2,\n")),
-            Many::Insert => Some(database.insert(0, b"z,\n")),
-            Many::Remove => Some(database.remove(500)),
-            Many::Relocate => Some(database.relocate(500, 3)),
+            Many::Replace => Some(replacement(500, b"b500,cols#2,\n")),
+            Many::Insert => Some(insertion(0, b"z,\n")),
+            Many::Remove => Some(Edit::Remove { at: 500 }),
+            Many::Relocate => Some(Edit::Relocate { from: 500, to: 3 }),
         }
     }
 
@@ -37,21 +38,39 @@ impl Many {
             Many::Relocate => (Some(3), 1),
         }
     }
+
+    // Whether the edit rebuilt what it must, with so much work.
+    fn is_expected(self, edited: &Edited) -> bool {
+        let (rebuilt, work) = self.expected();
+        edited.rebuilt.first().copied() == rebuilt
+            && edited.rebuilt.len() <= 1
+            && edited.work == work
+    }
 }
 
 // The blocks.
 fn filled(alloc: Global) -> Result<Database, Trouble> {
     let mut database = Database::new(alloc);
     for number in 0..BLOCKS {
-        let text = format!(in alloc; "b{number},cols#1,\n")?;
-        let end = database.len();
-        match database.insert(end, text.as_bytes()) {
-            Ok(_) => {}
-            Err(EditError::Memory) => return Err(Trouble::Memory),
-            Err(_) => return Err(Trouble::Wrong("a block was refused")),
-        }
+        put_in(alloc, &mut database, number)?;
     }
     Ok(database)
+}
+
+// Puts the block of a number in at the end.
+fn put_in(alloc: Global, database: &mut Database, number: usize) -> Result<(), Trouble> {
+    let text = format!(in alloc; "b{number},cols#1,\n")?;
+    let end = database.len();
+    match database.insert(end, text.as_bytes()) {
+        Ok(_) => Ok(()),
+        Err(EditError::Memory) => Err(Trouble::Memory),
+        Err(_) => Err(Trouble::Wrong("a block was refused")),
+    }
+}
+
+// What is seen of the blocks.
+fn seen_filled(alloc: Global) -> Result<Vec<u8>, Trouble> {
+    Ok(seen(alloc, &filled(alloc)?)?)
 }
 
 /// Makes one edit of the blocks. Between the last insertion and the edit no memory is asked for.
@@ -61,30 +80,33 @@ fn filled(alloc: Global) -> Result<Database, Trouble> {
 pub fn edit(alloc: Global, many: Many) -> Result<Tried, Trouble> {
     let mut tried = Tried::new();
     let mut database = filled(alloc)?;
-    let Some(mut answer) = many.apply(&mut database) else {
-        return Ok(tried);
-    };
-    if let Err(EditError::Memory) = answer {
-        tried.count_refusal();
-        if seen(alloc, &database)? != seen(alloc, &filled(alloc)?)? {
-            return Err(Trouble::Wrong("a refused edit has changed something"));
+    if let Some(edit) = many.edit() {
+        let edited = apply(alloc, &mut database, &edit, &mut tried)?;
+        if !many.is_expected(&edited) {
+            return Err(Trouble::Wrong("the edit rebuilt other blocks"));
         }
-        let Some(again) = many.apply(&mut database) else {
-            return Ok(tried);
-        };
-        answer = again;
+        tried.add_number(edited.work);
+        add_seen(alloc, &database, &mut tried)?;
     }
-    let Ok(edited) = answer else {
-        return Err(Trouble::Wrong("the edit was refused"));
-    };
-    let (rebuilt, work) = many.expected();
-    if edited.rebuilt.first().copied() != rebuilt
-        || edited.rebuilt.len() > 1
-        || edited.work != work
-    {
-        return Err(Trouble::Wrong("the edit rebuilt other blocks"));
-    }
-    tried.add_number(edited.work);
-    tried.add(seen(alloc, &database)?.as_slice());
     Ok(tried)
+}
+
+// Makes the edit. One that was refused for memory has left the blocks as they were, and is made again.
+fn apply(
+    alloc: Global,
+    database: &mut Database,
+    edit: &Edit<'_>,
+    tried: &mut Tried,
+) -> Result<Edited, Trouble> {
+    match database.apply(edit) {
+        Ok(edited) => return Ok(edited),
+        Err(EditError::Memory) => {}
+        Err(_) => return Err(Trouble::Wrong("the edit was refused")),
+    }
+    tried.count_refusal();
+    expect_unchanged(alloc, database, &seen_filled(alloc)?)?;
+    match database.apply(edit) {
+        Ok(edited) => Ok(edited),
+        Err(_) => Err(Trouble::Wrong("the edit was refused")),
+    }
 }

@@ -1,50 +1,96 @@
 //! Lists of edits that are made in one call, and lists of blocks that are loaded.
-use crate::edits::{LongBlocks, seen};
+use crate::edits::{LongBlocks, add_seen, seen};
 use crate::tried::{Tried, Trouble};
 use std::alloc::Global;
 use ti_base::{Database, Edit, EditError, Outcome, run};
 
-/// What a list of edits may answer, as far as memory goes.
-#[derive(Clone, Copy, Debug, PartialEq, Eq)]
-enum Memory {
-    /// No edit was refused for memory.
-    Sufficed,
-    /// One edit was refused for memory, and all else follows from the others.
-    RefusedOne,
+// Whether memory sufficed for all edits. One may have been refused for memory.
+fn has_sufficed(outcomes: &[Outcome]) -> Result<bool, Trouble> {
+    let mut sufficed = true;
+    for outcome in outcomes {
+        if *outcome == Outcome::Refused(EditError::Memory) {
+            if !sufficed {
+                return Err(Trouble::Wrong("two edits were refused for memory"));
+            }
+            sufficed = false;
+        }
+    }
+    Ok(sufficed)
 }
 
-// Whether the outcomes and the database follow from the edits but those that were refused for memory, of which
-// there may be one. It is asked after the only refusal, or where there was none.
-fn follows(
-    alloc: Global,
+// The edits have these outcomes on the database, but those that were refused for memory, which are left out.
+// It is asked after the only refusal, or where there was none.
+fn expect_outcomes(
+    reference: &mut Database,
     edits: &[Edit<'_>],
-    database: &Database,
     outcomes: &[Outcome],
-) -> Result<Memory, Trouble> {
-    let mut reference = Database::new(alloc);
-    let mut memory = Memory::Sufficed;
+) -> Result<(), Trouble> {
     if outcomes.len() != edits.len() {
         return Err(Trouble::Wrong("there are not as many outcomes as edits"));
     }
     for (edit, outcome) in edits.iter().zip(outcomes.iter()) {
-        if *outcome == Outcome::Refused(EditError::Memory) {
-            if memory == Memory::RefusedOne {
-                return Err(Trouble::Wrong("two edits were refused for memory"));
-            }
-            memory = Memory::RefusedOne;
-            continue;
-        }
-        match (reference.apply(edit), outcome) {
-            (Ok(_), Outcome::Accepted) => {}
-            (Err(EditError::Memory), _) => return Err(Trouble::Memory),
-            (Err(error), Outcome::Refused(other)) if error == *other => {}
-            _ => return Err(Trouble::Wrong("an outcome does not follow from the edits")),
+        if *outcome != Outcome::Refused(EditError::Memory) {
+            expect_outcome(reference, edit, *outcome)?;
         }
     }
-    if seen(alloc, &reference)? != seen(alloc, database)? {
-        return Err(Trouble::Wrong("the database does not follow from the edits"));
+    Ok(())
+}
+
+fn expect_outcome(
+    reference: &mut Database,
+    edit: &Edit<'_>,
+    outcome: Outcome,
+) -> Result<(), Trouble> {
+    let follows = match reference.apply(edit) {
+        Ok(_) => outcome == Outcome::Accepted,
+        Err(EditError::Memory) => return Err(Trouble::Memory),
+        Err(error) => outcome == Outcome::Refused(error),
+    };
+    if follows {
+        Ok(())
+    } else {
+        Err(Trouble::Wrong("an outcome does not follow from the edits"))
     }
-    Ok(memory)
+}
+
+// What is seen after the edits but those that were refused for memory.
+fn seen_after(alloc: Global, edits: &[Edit<'_>], outcomes: &[Outcome]) -> Result<Vec<u8>, Trouble> {
+    let mut reference = Database::new(alloc);
+    expect_outcomes(&mut reference, edits, outcomes)?;
+    Ok(seen(alloc, &reference)?)
+}
+
+// Makes edits in one call. Whether memory sufficed for it and for each of them.
+fn run_once(alloc: Global, edits: &[Edit<'_>], tried: &mut Tried) -> Result<bool, Trouble> {
+    match run(alloc, edits) {
+        Ok((database, outcomes)) => add_run(alloc, edits, &database, &outcomes, tried),
+        Err(_) => Ok(false),
+    }
+}
+
+// The outcomes and the database follow from the edits but those that were refused for memory. Where none was, what is
+// seen is added as an answer. Whether none was.
+fn add_run(
+    alloc: Global,
+    edits: &[Edit<'_>],
+    database: &Database,
+    outcomes: &[Outcome],
+    tried: &mut Tried,
+) -> Result<bool, Trouble> {
+    let sufficed = has_sufficed(outcomes)?;
+    expect_seen(alloc, database, &seen_after(alloc, edits, outcomes)?)?;
+    if sufficed {
+        add_seen(alloc, database, tried)?;
+    }
+    Ok(sufficed)
+}
+
+fn expect_seen(alloc: Global, database: &Database, want: &[u8]) -> Result<(), Trouble> {
+    if seen(alloc, database)?.as_slice() == want {
+        Ok(())
+    } else {
+        Err(Trouble::Wrong("the database does not follow from the edits"))
+    }
 }
 
 /// Makes edits in one call, and once more where memory was refused to it.
@@ -54,17 +100,10 @@ fn follows(
 pub fn run_all(alloc: Global, edits: &[Edit<'_>]) -> Result<Tried, Trouble> {
     let mut tried = Tried::new();
     for _turn in 0..2 {
-        let Ok((database, outcomes)) = run(alloc, edits) else {
-            tried.count_refusal();
-            continue;
-        };
-        match follows(alloc, edits, &database, outcomes.as_slice())? {
-            Memory::Sufficed => {
-                tried.add(seen(alloc, &database)?.as_slice());
-                return Ok(tried);
-            }
-            Memory::RefusedOne => tried.count_refusal(),
+        if run_once(alloc, edits, &mut tried)? {
+            return Ok(tried);
         }
+        tried.count_refusal();
     }
     Err(Trouble::Wrong("edits were refused with memory there"))
 }
@@ -114,24 +153,39 @@ fn load_again(alloc: Global, texts: &[&[u8]], tried: &mut Tried) -> Result<Datab
     }
 }
 
+// What is seen of the blocks loaded.
+fn seen_loaded(alloc: Global, tried: &mut Tried) -> Result<Vec<u8>, Trouble> {
+    match load_again(alloc, &LOADED, tried) {
+        Ok(database) => Ok(seen(alloc, &database)?),
+        Err(_) => Err(Trouble::Wrong("blocks were refused with memory there")),
+    }
+}
+
+// What is seen of the same blocks put in one by one.
+fn seen_put_in(alloc: Global) -> Result<Vec<u8>, Trouble> {
+    Ok(seen(alloc, &put_in_turn(alloc, &LOADED)?)?)
+}
+
+// The blocks of which one is none are refused by that name.
+fn expect_refused(alloc: Global, tried: &mut Tried) -> Result<(), Trouble> {
+    match load_again(alloc, &REFUSED, tried) {
+        Err(EditError::NotOneBlock) => Ok(()),
+        _ => Err(Trouble::Wrong("a text of two blocks was loaded")),
+    }
+}
+
 /// Loads blocks: what is loaded is what the same blocks put in one by one are, and one that is none is refused.
 ///
 /// # Errors
 /// As of a scenario.
 pub fn load(alloc: Global) -> Result<Tried, Trouble> {
     let mut tried = Tried::new();
-    let Ok(loaded) = load_again(alloc, &LOADED, &mut tried) else {
-        return Err(Trouble::Wrong("blocks were refused with memory there"));
-    };
-    let reference = put_in_turn(alloc, &LOADED)?;
-    let found = seen(alloc, &loaded)?;
-    if seen(alloc, &reference)? != found {
+    let found = seen_loaded(alloc, &mut tried)?;
+    if seen_put_in(alloc)? != found {
         return Err(Trouble::Wrong("the blocks loaded are not those put in"));
     }
     tried.add(found.as_slice());
-    match load_again(alloc, &REFUSED, &mut tried) {
-        Err(EditError::NotOneBlock) => tried.add(b"NotOneBlock"),
-        _ => return Err(Trouble::Wrong("a text of two blocks was loaded")),
-    }
+    expect_refused(alloc, &mut tried)?;
+    tried.add(b"NotOneBlock");
     Ok(tried)
 }
