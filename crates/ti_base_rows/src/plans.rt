@@ -22,13 +22,14 @@ fn slot_of(alloc: Global, text: &[u8]) -> Result<Slot, Fail>
     if text.len() > 1_000 || !is_block(text) {
         return Err(Fail::new("no block"));
     }
+    let copy = Vec::from_slice(alloc, text)?;
     let block = parse(alloc, text)?;
     let settled = Settled {
         state: State::Unresolved,
         faults: Vec::new(alloc),
     };
     Ok(Slot {
-        text: Vec::from_slice(alloc, text)?,
+        text: copy,
         block,
         settled,
     })
