@@ -54,11 +54,21 @@ const BLOCKS: [Blocks<'static>; 4] = [
 
 /// The blocks taken in one go are the same source as those inserted one by one, and have this report.
 fn expect_same(rt: &impl Abort, alloc: Global, blocks: &Blocks<'_>) -> Result<(), EditError> {
-    let one = Database::load(alloc, blocks.texts)?;
-    expect_report(rt, &one, blocks.report)?;
-    let other = source_of(alloc, blocks.texts)?;
-    expect_report(rt, &other, blocks.report)?;
-    assert!(rt; are_same(&one, &other));
+    let loaded = Database::load(alloc, blocks.texts)?;
+    expect_report(rt, &loaded, blocks.report)?;
+    expect_inserted(rt, alloc, &loaded, blocks)
+}
+
+/// The blocks inserted one by one are the same source as this one, and have their report.
+fn expect_inserted(
+    rt: &impl Abort,
+    alloc: Global,
+    loaded: &Database,
+    blocks: &Blocks<'_>,
+) -> Result<(), EditError> {
+    let inserted = source_of(alloc, blocks.texts)?;
+    assert!(rt; are_same(loaded, &inserted));
+    expect_report(rt, &inserted, blocks.report)?;
     Ok(())
 }
 

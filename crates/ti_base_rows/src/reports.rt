@@ -2,6 +2,7 @@
 use super::steps::Entry::{Absent, Am, Empty};
 use super::steps::{Step, expect_source, expect_steps, source_of};
 use std::alloc::AllocError;
+use std::process::Abort;
 use std::rc::RcSlice;
 use ti_base::{Database, Edit, EditError, Fault};
 use ti_source::Code;
@@ -57,14 +58,19 @@ fn is_last(faults: &[Fault], want: Code) -> bool {
     }
 }
 
-#[test]
-fn faults_stand_on_lines_of_their_blocks(rt: HostRuntime) -> Result<(), AllocError> {
-    let mut database = Database::new(rt.alloc());
-    expect_steps(&rt, &mut database, &BLOCKS_OF_LINES)?;
+/// A fault on the first line of the second block, and on the second of the third.
+fn expect_faults(rt: &impl Abort, database: &Database) -> Result<(), AllocError> {
     let faults = database.faults()?;
     assert!(rt; have_places(&faults, &[(1, 1), (2, 2)]));
     assert!(rt; is_last(&faults, Code::MissingUse));
     Ok(())
+}
+
+#[test]
+fn faults_stand_on_lines_of_their_blocks(rt: HostRuntime) -> Result<(), AllocError> {
+    let mut database = Database::new(rt.alloc());
+    expect_steps(&rt, &mut database, &BLOCKS_OF_LINES)?;
+    expect_faults(&rt, &database)
 }
 
 const SHARED_NAMES: [&[u8]; 3] = [
