@@ -84,12 +84,16 @@ fn expect_owner_after(
     Ok(())
 }
 
+/// From no blocks the holders of the name come and go.
+fn expect_holders(rt: &impl Abort, database: &mut Database) -> Result<(), AllocError> {
+    expect_owner_after(rt, database, &EARLIER_HOLDER_COMES, Some(0))?;
+    expect_owner_after(rt, database, &HOLDERS_GO, None)?;
+    expect_steps(rt, database, &LAST_GOES)
+}
+
 #[test]
 fn a_name_goes_to_the_first_block_that_has_it(rt: HostRuntime) -> Result<(), AllocError> {
-    let mut database = Database::new(rt.alloc());
-    expect_owner_after(&rt, &mut database, &EARLIER_HOLDER_COMES, Some(0))?;
-    expect_owner_after(&rt, &mut database, &HOLDERS_GO, None)?;
-    expect_steps(&rt, &mut database, &LAST_GOES)
+    expect_holders(&rt, &mut Database::new(rt.alloc()))
 }
 
 #[rattlefmt::skip]

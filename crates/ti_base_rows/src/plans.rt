@@ -203,13 +203,19 @@ const PLAN_OF_R: Wanted<'static> = Wanted {
     ],
 };
 
+/// Among no blocks, each block put in is used by the one before it.
+fn expect_chain(rt: &impl Abort, alloc: Global, slots: &mut Slots) -> Result<(), Fail>
+    requires indexed { IsIndexed slots.old }
+    requires usable { All IsUsable (blocks_of slots.old) }
+{
+    expect_put(rt, alloc, slots, b"p,use=q,\n", &PLAN_OF_P)?;
+    expect_put(rt, alloc, slots, b"q,use=r,\n", &PLAN_OF_Q)?;
+    expect_put(rt, alloc, slots, b"r,cols#1,\n", &PLAN_OF_R)
+}
+
 #[test]
 fn a_chain(rt: HostRuntime) -> Result<(), Fail> {
-    let mut slots = Slots::new(rt.alloc());
-    expect_put(&rt, rt.alloc(), &mut slots, b"p,use=q,\n", &PLAN_OF_P)?;
-    expect_put(&rt, rt.alloc(), &mut slots, b"q,use=r,\n", &PLAN_OF_Q)?;
-    expect_put(&rt, rt.alloc(), &mut slots, b"r,cols#1,\n", &PLAN_OF_R)?;
-    Ok(())
+    expect_chain(&rt, rt.alloc(), &mut Slots::new(rt.alloc()))
 }
 
 /// The list is `a`, `b`. A broken block with a missing name lies on a ring all the same.
