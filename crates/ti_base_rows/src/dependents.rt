@@ -1,5 +1,7 @@
 //! Sources of many blocks that use one another, rebuilt from their root.
-use super::steps::expect_report;
+ghost use Rattle.std.specs.Prelude.{◌<◌, length};
+
+use super::steps::{expect_report, source_of};
 use std::alloc::{AllocError, Global};
 use std::process::Abort;
 use ti_base::{Database, EditError, Edited};
@@ -14,35 +16,66 @@ fn doubled_link(alloc: Global, at: usize, used: usize) -> Result<String, AllocEr
     format!(in alloc; "d{at},use=d{used},use=d{used},\n")
 }
 
-/// All positions from 0 on were rebuilt, so many, with so many steps.
-fn expect_all_rebuilt(rt: &impl Abort, edited: &Edited, count: usize, work: u64) {
-    assert_eq!(rt; edited.rebuilt.len(), count);
-    for (at, place) in edited.rebuilt.iter().enumerate() {
-        assert!(rt; *place == at);
+/// Whether all positions from 0 on were rebuilt, so many, with so many steps.
+fn are_all_rebuilt(edited: &Edited, count: usize, work: u64) -> bool {
+    for at in 0..edited.rebuilt.len() {
+        if edited.rebuilt[at] != at {
+            return false;
+        }
     }
-    assert_eq!(rt; edited.work, work);
+    edited.rebuilt.len() == count && edited.work == work
+}
+
+/// Whether there is an entry at this position, and ends with these bytes.
+fn ends_with(database: &Database, at: usize, end: &[u8]) -> bool
+    requires { at < length database.now }
+{
+    match database.compiled(at) {
+        Some(entry) => entry.ends_with(end),
+        None => false,
+    }
 }
 
 /// All entries end with these bytes.
 fn expect_ends(rt: &impl Abort, database: &Database, end: &[u8]) {
     for at in 0..database.len() {
-        let ends = database
-            .compiled(at)
-            .is_some_and(|entry| entry.ends_with(end));
-        assert!(rt; ends, "entry {at}");
+        assert!(rt; ends_with(database, at, end), "entry {at}");
     }
+}
+
+/// Another first block: all blocks are rebuilt, so many, with so many steps.
+fn expect_first_replaced(
+    rt: &impl Abort,
+    database: &mut Database,
+    text: &[u8],
+    count: usize,
+    work: u64,
+) -> Result<(), EditError> {
+    let edited = database.replace(0, text)?;
+    assert!(rt; are_all_rebuilt(&edited, count, work));
+    Ok(())
+}
+
+/// Puts in a block that uses the one before it.
+fn put_link(alloc: Global, database: &mut Database, at: usize) -> Result<(), EditError> {
+    let text = link(alloc, at, at.saturating_sub(1))?;
+    database.insert(at, text.as_bytes())?;
+    Ok(())
+}
+
+/// A chain of so many blocks, the first of which does not resolve.
+fn chain(alloc: Global, count: usize) -> Result<Database, EditError> {
+    let mut database = source_of(alloc, &[b"b0,use=zz,\n".as_slice()])?;
+    for at in 1..count {
+        put_link(alloc, &mut database, at)?;
+    }
+    Ok(database)
 }
 
 #[test]
 fn a_chain_is_rebuilt_whole(rt: HostRuntime) -> Result<(), EditError> {
-    let mut database = Database::new(rt.alloc());
-    database.insert(0, b"b0,use=zz,\n")?;
-    for at in 1..300 {
-        let text = link(rt.alloc(), at, at - 1)?;
-        database.insert(at, text.as_bytes())?;
-    }
-    let edited = database.replace(0, b"b0,cols#1,\n")?;
-    expect_all_rebuilt(&rt, &edited, 300, 300);
+    let mut database = chain(rt.alloc(), 300)?;
+    expect_first_replaced(&rt, &mut database, b"b0,cols#1,\n", 300, 300)?;
     expect_ends(&rt, &database, &[1, 0]);
     expect_report(&rt, &database, "")?;
     Ok(())
@@ -57,23 +90,33 @@ fn put_diamond(
 ) -> Result<(), EditError> {
     let text = doubled_link(alloc, at, at.saturating_sub(1))?;
     let edited = database.insert(at, text.as_bytes())?;
-    assert!(rt; edited.rebuilt.as_slice() == [at].as_slice());
-    assert!(rt; edited.work == 2);
+    assert!(rt; edited.rebuilt.as_slice() == [at].as_slice() && edited.work == 2);
     Ok(())
+}
+
+/// The first of the blocks below, alone.
+fn first_diamond(rt: &impl Abort, alloc: Global) -> Result<Database, EditError> {
+    let mut database = Database::new(alloc);
+    let edited = database.insert(0, b"d0,cols#1,\n")?;
+    assert!(rt; are_all_rebuilt(&edited, 1, 1));
+    Ok(database)
+}
+
+/// Blocks of which each uses the one before it twice.
+fn diamonds(rt: &impl Abort, alloc: Global, count: usize) -> Result<Database, EditError> {
+    let mut database = first_diamond(rt, alloc)?;
+    for at in 1..count {
+        put_diamond(rt, alloc, &mut database, at)?;
+    }
+    Ok(database)
 }
 
 /// The last block reaches the first in 2 to the 40 ways.
 #[test]
 fn doubled_diamonds_are_rebuilt_once(rt: HostRuntime) -> Result<(), EditError> {
-    let mut database = Database::new(rt.alloc());
-    let edited = database.insert(0, b"d0,cols#1,\n")?;
-    expect_all_rebuilt(&rt, &edited, 1, 1);
-    for at in 1..41 {
-        put_diamond(&rt, rt.alloc(), &mut database, at)?;
-    }
+    let mut database = diamonds(&rt, rt.alloc(), 41)?;
     expect_ends(&rt, &database, &[1, 0]);
-    let edited = database.replace(0, b"d0,cols#2,\n")?;
-    expect_all_rebuilt(&rt, &edited, 41, 81);
+    expect_first_replaced(&rt, &mut database, b"d0,cols#2,\n", 41, 81)?;
     expect_ends(&rt, &database, &[2, 0]);
     expect_report(&rt, &database, "")?;
     Ok(())

@@ -3,7 +3,7 @@ use super::steps::Entry::Empty;
 use super::steps::{Entry, Step, expect_report, expect_source, source_of};
 use std::alloc::{AllocError, Global};
 use std::process::Abort;
-use ti_base::{Database, Edit, EditError};
+use ti_base::{Database, Edit, EditError, Edited};
 
 const THREE: [Entry; 3] = [Empty(b'a'), Empty(b'b'), Empty(b'c')];
 
@@ -35,7 +35,11 @@ const REFUSALS_OF_NO_BLOCKS: [Step<'static>; 4] = [
 
 #[test]
 fn each_refusal_by_its_name(rt: HostRuntime) -> Result<(), AllocError> {
-    expect_source(&rt, rt.alloc(), &REFUSALS)?;
+    expect_source(&rt, rt.alloc(), &REFUSALS)
+}
+
+#[test]
+fn each_refusal_of_no_blocks(rt: HostRuntime) -> Result<(), AllocError> {
     expect_source(&rt, rt.alloc(), &REFUSALS_OF_NO_BLOCKS)
 }
 
@@ -55,20 +59,33 @@ fn repeated(
     Ok(text)
 }
 
+/// Whether an edit is refused for this cause.
+fn is_refused(seen: &Result<Edited, EditError>, want: EditError) -> bool {
+    match seen {
+        Ok(_) => false,
+        Err(error) => *error == want,
+    }
+}
+
 /// A text that is too long is refused as that at a position that is there, and as `Position` at another.
 fn expect_too_long(rt: &impl Abort, database: &mut Database, text: &[u8]) {
     assert!(rt; database.len() == 1);
-    assert!(rt; database.replace(0, text) == Err(EditError::TooLong));
-    assert!(rt; database.insert(1, text) == Err(EditError::TooLong));
-    assert!(rt; database.replace(1, text) == Err(EditError::Position));
-    assert!(rt; database.insert(2, text) == Err(EditError::Position));
+    assert!(rt; is_refused(&database.replace(0, text), EditError::TooLong));
+    assert!(rt; is_refused(&database.insert(1, text), EditError::TooLong));
+    assert!(rt; is_refused(&database.replace(1, text), EditError::Position));
+    assert!(rt; is_refused(&database.insert(2, text), EditError::Position));
+}
+
+/// A source of one block, as long as a block may be.
+fn longest_block(rt: &impl Abort, alloc: Global) -> Result<Database, EditError> {
+    let text = repeated(alloc, b"x,\n#", b'a', 1_048_571, b"\n")?;
+    assert!(rt; text.len() == 1_048_576);
+    source_of(alloc, &[text.as_slice()])
 }
 
 #[test]
 fn the_longest_block(rt: HostRuntime) -> Result<(), EditError> {
-    let longest = repeated(rt.alloc(), b"x,\n#", b'a', 1_048_571, b"\n")?;
-    assert_eq!(rt; longest.len(), 1_048_576);
-    let mut database = source_of(rt.alloc(), &[longest.as_slice()])?;
+    let mut database = longest_block(&rt, rt.alloc())?;
     let longer = repeated(rt.alloc(), b"x,\n#", b'a', 1_048_572, b"\n")?;
     expect_too_long(&rt, &mut database, &longer);
     Ok(())
@@ -95,11 +112,19 @@ const fn report_of(size: Option<usize>) -> &'static str {
     }
 }
 
+/// Whether an entry has so many bytes, or there is none and none is wanted.
+fn is_size(entry: Option<&[u8]>, want: Option<usize>) -> bool {
+    match (entry, want) {
+        (Some(bytes), Some(size)) => bytes.len() == size,
+        (None, None) => true,
+        _ => false,
+    }
+}
+
 /// The source is one block, whose entry has so many bytes.
 fn expect_size(rt: &impl Abort, database: &Database, want: Option<usize>) -> Result<(), EditError> {
     assert!(rt; database.len() == 1);
-    let size = database.compiled(0).map(|entry| entry.len());
-    assert_eq!(rt; size, want);
+    assert!(rt; is_size(database.compiled(0), want));
     expect_report(rt, database, report_of(want))?;
     Ok(())
 }
@@ -123,15 +148,24 @@ fn expect_replaced(
     let text = text_of(alloc, block)?;
     database.replace(0, &text)?;
     expect_size(rt, database, block.size)?;
-    let alone = source_of(alloc, &[text.as_slice()])?;
-    expect_size(rt, &alone, block.size)?;
+    expect_alone(rt, alloc, database, &text, block.size)
+}
+
+/// A source of the block alone has the same entry.
+fn expect_alone(
+    rt: &impl Abort,
+    alloc: Global,
+    database: &Database,
+    text: &[u8],
+    want: Option<usize>,
+) -> Result<(), EditError> {
+    let alone = source_of(alloc, &[text])?;
     expect_same_entry(rt, database, &alone);
-    Ok(())
+    expect_size(rt, &alone, want)
 }
 
 fn expect_same_entry(rt: &impl Abort, database: &Database, other: &Database) {
-    assert!(rt; database.len() == 1);
-    assert!(rt; other.len() == 1);
+    assert!(rt; database.len() == 1 && other.len() == 1);
     assert!(rt; database.compiled(0) == other.compiled(0));
 }
 
@@ -171,13 +205,21 @@ const ENTRY_WITH_CBT: [u8; 18] = [
     0x1a, 1, 2, 0, 0, 0, 0, 0, 1, 0, 2, 0, b'v', 0, 0, 0, b'B', 0,
 ];
 
+/// A block whose entry is too large, and one that uses it.
+fn large_and_user(alloc: Global) -> Result<Database, EditError> {
+    let large = repeated(alloc, b"x,cbt=", b'A', 4080, b",\n")?;
+    source_of(alloc, &[large.as_slice(), b"v,cbt=B,use=x,\n"])
+}
+
+/// Whether the first of two blocks has no entry, and the second has this one.
+fn has_second_entry_alone(database: &Database, entry: &[u8]) -> bool {
+    database.len() == 2 && database.compiled(0).is_none() && database.compiled(1) == Some(entry)
+}
+
 #[test]
 fn a_use_of_an_entry_that_is_too_large(rt: HostRuntime) -> Result<(), EditError> {
-    let large = repeated(rt.alloc(), b"x,cbt=", b'A', 4080, b",\n")?;
-    let database = source_of(rt.alloc(), &[large.as_slice(), b"v,cbt=B,use=x,\n"])?;
+    let database = large_and_user(rt.alloc())?;
+    assert!(rt; has_second_entry_alone(&database, &ENTRY_WITH_CBT));
     expect_report(&rt, &database, "1: E9 TooLarge x\n")?;
-    assert!(rt; database.len() == 2);
-    assert!(rt; database.compiled(0).is_none());
-    assert!(rt; database.compiled(1) == Some(ENTRY_WITH_CBT.as_slice()));
     Ok(())
 }

@@ -2,6 +2,7 @@
 use super::steps::Entry::{Absent, Cols, Empty};
 use super::steps::{Step, expect_source, expect_steps};
 use std::alloc::AllocError;
+use std::process::Abort;
 use ti_base::{Database, Edit, EditError};
 
 #[rattlefmt::skip]
@@ -71,14 +72,28 @@ const LAST_GOES: [Step<'static>; 1] = [
     Step { edit: Edit::Remove { at: 0 }, outcome: Ok((&[], 0)), entries: &[], report: "" },
 ];
 
+/// The steps go as they say, and then the name `n` belongs to the block at this position.
+fn expect_owner_after(
+    rt: &impl Abort,
+    database: &mut Database,
+    steps: &[Step<'_>],
+    owner: Option<usize>,
+) -> Result<(), AllocError> {
+    expect_steps(rt, database, steps)?;
+    assert!(rt; database.owner(b"n") == owner);
+    Ok(())
+}
+
+/// From no blocks the holders of the name come and go.
+fn expect_holders(rt: &impl Abort, database: &mut Database) -> Result<(), AllocError> {
+    expect_owner_after(rt, database, &EARLIER_HOLDER_COMES, Some(0))?;
+    expect_owner_after(rt, database, &HOLDERS_GO, None)?;
+    expect_steps(rt, database, &LAST_GOES)
+}
+
 #[test]
 fn a_name_goes_to_the_first_block_that_has_it(rt: HostRuntime) -> Result<(), AllocError> {
-    let mut database = Database::new(rt.alloc());
-    expect_steps(&rt, &mut database, &EARLIER_HOLDER_COMES)?;
-    assert_eq!(rt; database.owner(b"n"), Some(0));
-    expect_steps(&rt, &mut database, &HOLDERS_GO)?;
-    assert_eq!(rt; database.owner(b"n"), None);
-    expect_steps(&rt, &mut database, &LAST_GOES)
+    expect_holders(&rt, &mut Database::new(rt.alloc()))
 }
 
 #[rattlefmt::skip]

@@ -3,6 +3,7 @@ use super::steps::Entry::{Absent, Am, Empty};
 use super::steps::{Step, expect_source, expect_steps, source_of};
 use std::alloc::AllocError;
 use std::process::Abort;
+use std::rc::RcSlice;
 use ti_base::{Database, Edit, EditError, Fault};
 use ti_source::Code;
 
@@ -36,25 +37,40 @@ const BLOCKS_OF_LINES: [Step<'static>; 3] = [
         entries: &[Empty(b'k'), Empty(b'a'), Absent], report: "4: W1 UnknownCapability foo\n6: E6 MissingUse zz\n" },
 ];
 
-/// The faults stand in these blocks, on these lines of them.
-fn expect_places(rt: &impl Abort, faults: &[Fault], want: &[(usize, usize)]) {
-    assert_eq!(rt; faults.len(), want.len());
-    for (fault, place) in faults.iter().zip(want.iter()) {
-        assert_eq!(rt; (fault.block, fault.line), *place);
+/// Whether the faults stand in these blocks, on these lines of them.
+fn have_places(faults: &[Fault], want: &[(usize, usize)]) -> bool {
+    if faults.len() != want.len() {
+        return false;
     }
+    for at in 0..want.len() {
+        if faults[at].block != want[at].0 || faults[at].line != want[at].1 {
+            return false;
+        }
+    }
+    true
+}
+
+/// Whether the last of the faults is of this code.
+fn is_last(faults: &[Fault], want: Code) -> bool {
+    match faults.last() {
+        Some(fault) => fault.code == want,
+        None => false,
+    }
+}
+
+/// A fault on the first line of the second block, and on the second of the third.
+fn expect_faults(rt: &impl Abort, database: &Database) -> Result<(), AllocError> {
+    let faults = database.faults()?;
+    assert!(rt; have_places(&faults, &[(1, 1), (2, 2)]));
+    assert!(rt; is_last(&faults, Code::MissingUse));
+    Ok(())
 }
 
 #[test]
 fn faults_stand_on_lines_of_their_blocks(rt: HostRuntime) -> Result<(), AllocError> {
     let mut database = Database::new(rt.alloc());
     expect_steps(&rt, &mut database, &BLOCKS_OF_LINES)?;
-    let faults = database.faults()?;
-    expect_places(&rt, faults.as_slice(), &[(1, 1), (2, 2)]);
-    assert_eq!(rt;
-        faults.last().map(|fault| fault.code),
-        Some(Code::MissingUse)
-    );
-    Ok(())
+    expect_faults(&rt, &database)
 }
 
 const SHARED_NAMES: [&[u8]; 3] = [
@@ -66,33 +82,42 @@ const SHARED_NAMES: [&[u8]; 3] = [
 /// The lookup names of each of these blocks, all of one byte.
 const NAMES: [&[u8]; 3] = [b"ana", b"", b"ncn"];
 
-/// The names of a block are these bytes.
-fn expect_names(rt: &impl Abort, database: &Database, at: usize, want: &[u8]) {
-    assert!(rt; at < database.len());
-    let names = database.names(at);
-    assert_eq!(rt; names.len(), want.len());
-    for (name, byte) in names.iter().zip(want.iter()) {
-        assert!(rt;
-            name.as_slice() == [*byte].as_slice(),
-            "names of block {at}"
-        );
+/// Whether the names are these bytes.
+fn are_names(names: &[RcSlice<u8>], want: &[u8]) -> bool {
+    if names.len() != want.len() {
+        return false;
     }
+    for at in 0..want.len() {
+        if names[at].as_slice() != [want[at]].as_slice() {
+            return false;
+        }
+    }
+    true
 }
 
 #[test]
 fn names_of_blocks(rt: HostRuntime) -> Result<(), EditError> {
     let database = source_of(rt.alloc(), &SHARED_NAMES)?;
-    for (at, want) in NAMES.iter().enumerate() {
-        expect_names(&rt, &database, at, want);
+    for at in 0..NAMES.len() {
+        assert!(rt; at < database.len());
+        assert!(rt;
+            are_names(database.names(at), NAMES[at]),
+            "names of block {at}"
+        );
     }
     Ok(())
+}
+
+/// The report of the faults of a source that are found before it is asked for.
+fn report_of_faults(database: &Database) -> Result<Vec<u8>, AllocError> {
+    let faults = database.faults()?;
+    database.report_of(&faults, 7)
 }
 
 #[test]
 fn a_report_of_faults_that_are_there(rt: HostRuntime) -> Result<(), EditError> {
     let database = source_of(rt.alloc(), &SHARED_NAMES)?;
-    let faults = database.faults()?;
-    let report = database.report_of(&faults, 7)?;
+    let report = report_of_faults(&database)?;
     let want: &[u8] = b"8: E1 BadHeader\n9: W4 DuplicateName n\n10: E6 MissingUse zz\n";
     assert!(rt; report.as_slice() == want);
     Ok(())

@@ -165,9 +165,26 @@ fn expect_ring_and_user(
 ) -> Result<(), AllocError> {
     let mut database = Database::new(alloc);
     expect_steps(rt, &mut database, steps)?;
-    expect_steps(rt, &mut database, &BROKEN_BY_REPLACEMENTS)?;
-    expect_steps(rt, &mut database, &BROKEN_BY_REMOVALS)?;
-    expect_steps(rt, &mut database, &MOVES)
+    expect_broken_rings(rt, &mut database)
+}
+
+/// The ring broken and made again in each way.
+fn expect_broken_rings(rt: &impl Abort, database: &mut Database) -> Result<(), AllocError> {
+    expect_broken_by_replacements(rt, database)?;
+    expect_broken_by_removals(rt, database)?;
+    expect_steps(rt, database, &MOVES)
+}
+
+// What goes over two large tables takes long to prove, so that each has a function of its own.
+fn expect_broken_by_replacements(
+    rt: &impl Abort,
+    database: &mut Database,
+) -> Result<(), AllocError> {
+    expect_steps(rt, database, &BROKEN_BY_REPLACEMENTS)
+}
+
+fn expect_broken_by_removals(rt: &impl Abort, database: &mut Database) -> Result<(), AllocError> {
+    expect_steps(rt, database, &BROKEN_BY_REMOVALS)
 }
 
 #[test]

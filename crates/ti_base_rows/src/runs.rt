@@ -1,6 +1,6 @@
 //! A run of edits.
 use std::alloc::AllocError;
-use ti_base::{Edit, EditError, Outcome, run};
+use ti_base::{Database, Edit, EditError, Outcome, run};
 
 #[rattlefmt::skip]
 const EDITS: [Edit<'static>; 4] = [
@@ -20,12 +20,15 @@ const OUTCOMES: [Outcome; 4] = [
 /// The entry of `b` with `cols#3`.
 const LAST_ENTRY: [u8; 16] = [0x1a, 1, 2, 0, 0, 0, 1, 0, 0, 0, 0, 0, b'b', 0, 3, 0];
 
+/// Whether the source is one block, with this text and this entry.
+fn is_one_block(database: &Database, text: &[u8], entry: &[u8]) -> bool {
+    database.len() == 1 && database.compiled(0) == Some(entry) && database.text(0) == text
+}
+
 #[test]
 fn a_run_goes_on_after_a_refusal(rt: HostRuntime) -> Result<(), AllocError> {
     let (database, outcomes) = run(rt.alloc(), &EDITS)?;
     assert!(rt; outcomes.as_slice() == OUTCOMES.as_slice());
-    assert!(rt; database.len() == 1);
-    assert!(rt; database.compiled(0) == Some(LAST_ENTRY.as_slice()));
-    assert!(rt; database.text(0) == b"b,cols#3,\n".as_slice());
+    assert!(rt; is_one_block(&database, b"b,cols#3,\n", &LAST_ENTRY));
     Ok(())
 }
