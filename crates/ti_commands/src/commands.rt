@@ -12,7 +12,7 @@ use crate::rules::{Argument, Form};
 use clap::Command;
 use std::alloc::{AllocError, Global};
 
-/// A tool of the program: its name, what it does, its arguments, and what help says below them.
+/// A tool, or the program: its name, what it does, its arguments, and what help says below them.
 #[derive(Clone, Copy)]
 pub(crate) struct Tool<'a> {
     pub(crate) name: &'a str,
@@ -21,13 +21,21 @@ pub(crate) struct Tool<'a> {
     pub(crate) notes: &'a str,
 }
 
-/// What stands below the options in the help of the program.
-const TI_NOTES: &str = "\
+/// The program, without its tools.
+const PROGRAM: Tool<'static> = Tool {
+    name: "ti",
+    about: "Tools for terminfo, the database of terminals.",
+    arguments: &[],
+    notes: "\
 Exit status: 0 where all went well, 1 at a fault, 2 at wrong usage.
 'ti help TOOL' says more of each tool.
 
 Example:
-  ti tic -o ~/.terminfo dumb.ti";
+  ti tic -o ~/.terminfo dumb.ti",
+};
+
+/// The tools, in the order in which help shows them.
+static TOOLS: [Tool<'static>; 4] = [TIC, TPUT, SESSION, INFOCMP];
 
 /// `tic [-c] [-o DIR] [FILE]`.
 const TIC: Tool<'static> = Tool {
@@ -129,14 +137,13 @@ Example:
 // The command with these arguments behind those that it has.
 fn with_arguments<'a>(
     alloc: Global,
-    command: Command<'a>,
+    mut command: Command<'a>,
     arguments: &[Argument<'a>],
 ) -> Result<Command<'a>, AllocError>
     requires { (fields_of command).has_globals ≡ false }
     ensures app { IfOk result (λ r. app_of r ≡ fold with_argument (app_of command.entry) arguments.now) }
     ensures local { IfOk result (λ r. (fields_of r).has_globals ≡ false) }
 {
-    let mut command = command;
     for argument in arguments {
         command = command.arg(argument.built(alloc))?;
     }
@@ -144,8 +151,11 @@ fn with_arguments<'a>(
 }
 
 impl<'a> Tool<'a> {
-    // The tool's command line.
-    fn command(&self, alloc: Global) -> Result<Command<'a>, AllocError>
+    /// Its command line.
+    ///
+    /// # Errors
+    /// Want of memory.
+    pub(crate) fn command(&self, alloc: Global) -> Result<Command<'a>, AllocError>
         ensures app { IfOk result (λ command. app_of command ≡ app_for self.now) }
         ensures local { IfOk result (λ command. (fields_of command).has_globals ≡ false) }
     {
@@ -159,14 +169,13 @@ impl<'a> Tool<'a> {
 // The program with a subcommand for each of these tools.
 fn with_tools<'a>(
     alloc: Global,
-    program: Command<'a>,
+    mut program: Command<'a>,
     tools: &[Tool<'a>],
 ) -> Result<Command<'a>, AllocError>
     requires { (fields_of program).has_globals ≡ false }
     ensures app { IfOk result (λ r. app_of r ≡ fold with_tool (app_of program.entry) tools.now) }
     ensures local { IfOk result (λ r. (fields_of r).has_globals ≡ false) }
 {
-    let mut program = program;
     for tool in tools {
         program = program.subcommand(tool.command(alloc)?)?;
     }
@@ -182,26 +191,19 @@ pub fn command<'a>(alloc: Global) -> Result<Command<'a>, AllocError>
     ensures app { IfOk result (λ command. app_of command ≡ ti_app) }
     ensures local { IfOk result (λ command. (fields_of command).has_globals ≡ false) }
 {
-    let program = Command::new(alloc, "ti")
-        .about("Tools for terminfo, the database of terminals.")
-        .after_help(TI_NOTES)
-        .subcommand_required(true);
-    with_tools(alloc, program, &[TIC, TPUT, SESSION, INFOCMP])
+    let program = PROGRAM.command(alloc)?.subcommand_required(true);
+    with_tools(alloc, program, &TOOLS)
 }
 
-/// The command line of the tool of that name alone.
-///
-/// # Errors
-/// Want of memory.
-pub(crate) fn tool_command<'a>(alloc: Global, name: &str) -> Result<Option<Command<'a>>, AllocError>
-    ensures { IfOk result (λ found. option_map (λ command. app_of command) found ≡ tool_app name.now) }
+/// The tool of that name.
+pub(crate) fn tool_named(name: &str) -> Option<Tool<'static>>
+    ensures { option_map app_for result ≡ tool_app name.now }
 {
-    let tool = match name {
-        "tic" => TIC,
-        "tput" => TPUT,
-        "session" => SESSION,
-        "infocmp" => INFOCMP,
-        _ => return Ok(None),
-    };
-    Ok(Some(tool.command(alloc)?))
+    match name {
+        "tic" => Some(TIC),
+        "tput" => Some(TPUT),
+        "session" => Some(SESSION),
+        "infocmp" => Some(INFOCMP),
+        _ => None,
+    }
 }

@@ -66,20 +66,6 @@ fn flag<'a>(alloc: Global, id: &'a str, short: char, help: &'a str) -> Arg<'a>
         .help(help)
 }
 
-// An option with one value.
-fn option<'a>(alloc: Global, id: &'a str, short: char, value: &'a str, help: &'a str) -> Arg<'a>
-    ensures rule { rule_of result ≡ option_rule id.entry.now short }
-    ensures local { result.global ≡ false }
-    ensures value { result.val_names ≡ One value.entry }
-    ensures help { result.help ≡ Some help.entry }
-{
-    Arg::new(alloc, id)
-        .short(short)
-        .action(ArgAction::Set)
-        .value_name(value)
-        .help(help)
-}
-
 // A word of its own.
 fn operand<'a>(alloc: Global, id: &'a str, value: &'a str, help: &'a str) -> Arg<'a>
     ensures rule { rule_of result ≡ operand_rule id.entry.now }
@@ -93,6 +79,16 @@ fn operand<'a>(alloc: Global, id: &'a str, value: &'a str, help: &'a str) -> Arg
         .help(help)
 }
 
+// An option with one value.
+fn option<'a>(alloc: Global, id: &'a str, short: char, value: &'a str, help: &'a str) -> Arg<'a>
+    ensures rule { rule_of result ≡ option_rule id.entry.now short }
+    ensures local { result.global ≡ false }
+    ensures value { result.val_names ≡ One value.entry }
+    ensures help { result.help ≡ Some help.entry }
+{
+    operand(alloc, id, value, help).short(short)
+}
+
 // An option with one value that has a long name alone.
 fn long_option<'a>(alloc: Global, id: &'a str, value: &'a str, help: &'a str) -> Arg<'a>
     ensures rule { rule_of result ≡ long_option_rule id.entry.now }
@@ -100,11 +96,7 @@ fn long_option<'a>(alloc: Global, id: &'a str, value: &'a str, help: &'a str) ->
     ensures value { result.val_names ≡ One value.entry }
     ensures help { result.help ≡ Some help.entry }
 {
-    Arg::new(alloc, id)
-        .long(id)
-        .action(ArgAction::Set)
-        .value_name(value)
-        .help(help)
+    operand(alloc, id, value, help).long(id)
 }
 
 // Words of their own, as many as there are.
@@ -114,11 +106,9 @@ fn operands<'a>(alloc: Global, id: &'a str, value: &'a str, help: &'a str) -> Ar
     ensures value { result.val_names ≡ One value.entry }
     ensures help { result.help ≡ Some help.entry }
 {
-    Arg::new(alloc, id)
+    operand(alloc, id, value, help)
         .action(ArgAction::Append)
         .num_args(0..)
-        .value_name(value)
-        .help(help)
 }
 
 // An option with a number from a least to a greatest.
