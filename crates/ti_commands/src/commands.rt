@@ -12,7 +12,7 @@ use crate::rules::{Argument, Form};
 use clap::Command;
 use std::alloc::{AllocError, Global};
 
-/// A tool, or the program: its name, what it does, its arguments, and what help says below them.
+/// A tool of the program: its name, what it does, its arguments, and what help says below them.
 #[derive(Clone, Copy)]
 pub(crate) struct Tool<'a> {
     pub(crate) name: &'a str,
@@ -21,18 +21,13 @@ pub(crate) struct Tool<'a> {
     pub(crate) notes: &'a str,
 }
 
-/// The program, without its tools.
-const PROGRAM: Tool<'static> = Tool {
-    name: "ti",
-    about: "Tools for terminfo, the database of terminals.",
-    arguments: &[],
-    notes: "\
+/// What stands below the options in the help of the program.
+const TI_NOTES: &str = "\
 Exit status: 0 where all went well, 1 at a fault, 2 at wrong usage.
 'ti help TOOL' says more of each tool.
 
 Example:
-  ti tic -o ~/.terminfo dumb.ti",
-};
+  ti tic -o ~/.terminfo dumb.ti";
 
 /// The tools, in the order in which help shows them.
 static TOOLS: [Tool<'static>; 4] = [TIC, TPUT, SESSION, INFOCMP];
@@ -191,7 +186,10 @@ pub fn command<'a>(alloc: Global) -> Result<Command<'a>, AllocError>
     ensures app { IfOk result (λ command. app_of command ≡ ti_app) }
     ensures local { IfOk result (λ command. (fields_of command).has_globals ≡ false) }
 {
-    let program = PROGRAM.command(alloc)?.subcommand_required(true);
+    let program = Command::new(alloc, "ti")
+        .about("Tools for terminfo, the database of terminals.")
+        .after_help(TI_NOTES)
+        .subcommand_required(true);
     with_tools(alloc, program, &TOOLS)
 }
 
