@@ -6,7 +6,7 @@ ghost use Rattle.ti_commands.specs.Arguments.{Task, faults_of, is_word_count, jo
 ghost use Rattle.ti_commands.specs.Jobs.{IsRefusal, refusal_of, task_of};
 ghost use Rattle.ti_commands.specs.declared.arguments.UsageError.TheVariants.{Memory};
 
-use crate::commands::{command, tool_command};
+use crate::commands::{command, tool_named};
 use crate::infocmp_words::infocmp_job;
 use crate::jobs::Job;
 use crate::matches::{on, text, texts, value, values};
@@ -150,9 +150,10 @@ fn job_of_tool(alloc: Global, words: &[String]) -> Result<Option<Job>, AllocErro
     let Some(name) = words.get(1) else {
         return Ok(None);
     };
-    let Some(command) = tool_command(alloc, name.as_str())? else {
+    let Some(tool) = tool_named(name.as_str()) else {
         return Ok(None);
     };
+    let command = tool.command(alloc)?;
     let own_words = &words[1..];
     match command.try_get_matches_from(own_words) {
         Ok(matches) => Ok(tool_job(alloc, name.as_str(), &matches).ok()),

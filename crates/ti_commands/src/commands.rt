@@ -1,14 +1,25 @@
 //! The command lines of the program, for clap: each tool with its options, their help and one
 //! example.
 ghost use Rattle.std.specs.Prelude.{◌≡◌, IfOk, false, option_map};
+ghost use Rattle.std.specs.List.{fold};
 ghost use Rattle.clap.specs.Words.{app_of};
 ghost use Rattle.clap.specs.declared.builder.Command.TheViews.{out-Command as fields_of};
-ghost use Rattle.ti_commands.specs.Commands.{first_tools_app, session_app, ti_app, tic_app, tool_app, tput_app, tput_options_app};
+ghost use Rattle.ti_commands.specs.Commands.{ti_app, tool_app};
+ghost use Rattle.ti_commands.specs.Tools.{app_for, with_argument, with_tool};
 
-use crate::infocmp_words::infocmp;
-use crate::rules::{flag, long_option, operand, operands, option};
+use crate::infocmp_words::INFOCMP;
+use crate::rules::{Argument, Form};
 use clap::Command;
 use std::alloc::{AllocError, Global};
+
+/// A tool of the program: its name, what it does, its arguments, and what help says below them.
+#[derive(Clone, Copy)]
+pub(crate) struct Tool<'a> {
+    pub(crate) name: &'a str,
+    pub(crate) about: &'a str,
+    pub(crate) arguments: &'a [Argument<'a>],
+    pub(crate) notes: &'a str,
+}
 
 /// What stands below the options in the help of the program.
 const TI_NOTES: &str = "\
@@ -18,8 +29,31 @@ Exit status: 0 where all went well, 1 at a fault, 2 at wrong usage.
 Example:
   ti tic -o ~/.terminfo dumb.ti";
 
-/// The same of `tic`.
-const TIC_NOTES: &str = "\
+/// The tools, in the order in which help shows them.
+static TOOLS: [Tool<'static>; 4] = [TIC, TPUT, SESSION, INFOCMP];
+
+/// `tic [-c] [-o DIR] [FILE]`.
+const TIC: Tool<'static> = Tool {
+    name: "tic",
+    about: "Compile terminfo source into entries, one file for each name.",
+    arguments: &[
+        Argument {
+            id: "check",
+            form: Form::Flag('c'),
+            help: "Check only: report, and write no file",
+        },
+        Argument {
+            id: "dir",
+            form: Form::Value('o', "DIR"),
+            help: "Write below DIR [default: $TERMINFO, else /usr/share/terminfo]",
+        },
+        Argument {
+            id: "file",
+            form: Form::Operand("FILE"),
+            help: "The source [default: standard input]",
+        },
+    ],
+    notes: "\
 The report of the faults in the source goes to standard error. A block without
 error gets its files also where another block has one.
 
@@ -29,10 +63,53 @@ Exit status:
   2  wrong usage
 
 Example:
-  ti tic -o ~/.terminfo dumb.ti";
+  ti tic -o ~/.terminfo dumb.ti",
+};
 
-/// The same of `session`.
-const SESSION_NOTES: &str = "\
+/// `tput [-T TYPE] [--rate N] [-S] [CAP] [WORD..]`.
+const TPUT: Tool<'static> = Tool {
+    name: "tput",
+    about: "Write what drives a terminal: a capability of its entry.",
+    arguments: &[
+        Argument {
+            id: "term",
+            form: Form::Value('T', "TYPE"),
+            help: "The terminal [default: $TERM]",
+        },
+        Argument {
+            id: "rate",
+            form: Form::LongValue("N"),
+            help: "Pad for a line of N bits a second [default: 0, no padding]",
+        },
+        Argument {
+            id: "lines",
+            form: Form::Flag('S'),
+            help: "Read commands from standard input, one a line",
+        },
+        Argument {
+            id: "words",
+            form: Form::Operands("WORD"),
+            help: "The capability's name, and its parameters",
+        },
+    ],
+    notes: "The first WORD is a capability of terminfo(5), longname, init or reset.
+
+Exit status: 0; 1 where a flag or a string is absent; 2 at bad usage; 3 at an
+unknown terminal; 4 at an unknown capability or a bad string; 255 at a fault.
+With -S, 4 and the number of bad lines, 255 at most.
+
+Examples:
+  ti tput setaf 1
+  ti tput cup 0 0
+  printf 'bold\\nsetaf 2\\n' | ti tput -S",
+};
+
+/// `session`.
+const SESSION: Tool<'static> = Tool {
+    name: "session",
+    about: "Edit a source by a script on standard input, and answer each line.",
+    arguments: &[],
+    notes: "\
 Each line of the script is a request; N is the position of a block, from 0:
   i N    put in, before block N, the block that follows up to a line '.'
   r N    put the block that follows up to a line '.' in the place of block N
@@ -49,104 +126,55 @@ Exit status:
   2  wrong usage
 
 Example:
-  ti session < script.txt";
+  ti session < script.txt",
+};
 
-/// What the help of `tput` says below its options.
-const TPUT_NOTES: &str = "The first WORD is a capability of terminfo(5), longname, init or reset.
-
-Exit status: 0; 1 where a flag or a string is absent; 2 at bad usage; 3 at an
-unknown terminal; 4 at an unknown capability or a bad string; 255 at a fault.
-With -S, 4 and the number of bad lines, 255 at most.
-
-Examples:
-  ti tput setaf 1
-  ti tput cup 0 0
-  printf 'bold\\nsetaf 2\\n' | ti tput -S";
-
-// `tic [-c] [-o DIR] [FILE]`.
-fn tic<'a>(alloc: Global) -> Result<Command<'a>, AllocError>
-    ensures app { IfOk result (λ command. app_of command ≡ tic_app) }
-    ensures local { IfOk result (λ command. (fields_of command).has_globals ≡ false) }
+// The command with these arguments behind those that it has.
+fn with_arguments<'a>(
+    alloc: Global,
+    mut command: Command<'a>,
+    arguments: &[Argument<'a>],
+) -> Result<Command<'a>, AllocError>
+    requires { (fields_of command).has_globals ≡ false }
+    ensures app { IfOk result (λ r. app_of r ≡ fold with_argument (app_of command.entry) arguments.now) }
+    ensures local { IfOk result (λ r. (fields_of r).has_globals ≡ false) }
 {
-    Command::new(alloc, "tic")
-        .about("Compile terminfo source into entries, one file for each name.")
-        .after_help(TIC_NOTES)
-        .arg(flag(alloc, "check", 'c', "Check only: report, and write no file"))?
-        .arg(option(
-            alloc,
-            "dir",
-            'o',
-            "DIR",
-            "Write below DIR [default: $TERMINFO, else /usr/share/terminfo]",
-        ))?
-        .arg(operand(
-            alloc,
-            "file",
-            "FILE",
-            "The source [default: standard input]",
-        ))
+    for argument in arguments {
+        command = command.arg(argument.built(alloc))?;
+    }
+    Ok(command)
 }
 
-// `tput [-T TYPE] [--rate N]`.
-fn tput_options<'a>(alloc: Global) -> Result<Command<'a>, AllocError>
-    ensures app { IfOk result (λ command. app_of command ≡ tput_options_app) }
-    ensures local { IfOk result (λ command. (fields_of command).has_globals ≡ false) }
-{
-    Command::new(alloc, "tput")
-        .about("Write what drives a terminal: a capability of its entry.")
-        .after_help(TPUT_NOTES)
-        .arg(option(alloc, "term", 'T', "TYPE", "The terminal [default: $TERM]"))?
-        .arg(long_option(
-            alloc,
-            "rate",
-            "N",
-            "Pad for a line of N bits a second [default: 0, no padding]",
-        ))
+impl<'a> Tool<'a> {
+    /// Its command line.
+    ///
+    /// # Errors
+    /// Want of memory.
+    pub(crate) fn command(&self, alloc: Global) -> Result<Command<'a>, AllocError>
+        ensures app { IfOk result (λ command. app_of command ≡ app_for self.now) }
+        ensures local { IfOk result (λ command. (fields_of command).has_globals ≡ false) }
+    {
+        let command = Command::new(alloc, self.name)
+            .about(self.about)
+            .after_help(self.notes);
+        with_arguments(alloc, command, self.arguments)
+    }
 }
 
-// `tput [-T TYPE] [--rate N] [-S] [CAP] [WORD..]`.
-fn tput<'a>(alloc: Global) -> Result<Command<'a>, AllocError>
-    ensures app { IfOk result (λ command. app_of command ≡ tput_app) }
-    ensures local { IfOk result (λ command. (fields_of command).has_globals ≡ false) }
+// The program with a subcommand for each of these tools.
+fn with_tools<'a>(
+    alloc: Global,
+    mut program: Command<'a>,
+    tools: &[Tool<'a>],
+) -> Result<Command<'a>, AllocError>
+    requires { (fields_of program).has_globals ≡ false }
+    ensures app { IfOk result (λ r. app_of r ≡ fold with_tool (app_of program.entry) tools.now) }
+    ensures local { IfOk result (λ r. (fields_of r).has_globals ≡ false) }
 {
-    tput_options(alloc)?
-        .arg(flag(
-            alloc,
-            "lines",
-            'S',
-            "Read commands from standard input, one a line",
-        ))?
-        .arg(operands(
-            alloc,
-            "words",
-            "WORD",
-            "The capability's name, and its parameters",
-        ))
-}
-
-// `session`.
-fn session<'a>(alloc: Global) -> Result<Command<'a>, AllocError>
-    ensures app { IfOk result (λ command. app_of command ≡ session_app) }
-    ensures local { IfOk result (λ command. (fields_of command).has_globals ≡ false) }
-{
-    Ok(
-        Command::new(alloc, "session")
-            .about("Edit a source by a script on standard input, and answer each line.")
-            .after_help(SESSION_NOTES),
-    )
-}
-
-// The program, with the first of its tools.
-fn first_tools<'a>(alloc: Global) -> Result<Command<'a>, AllocError>
-    ensures app { IfOk result (λ command. app_of command ≡ first_tools_app) }
-    ensures local { IfOk result (λ command. (fields_of command).has_globals ≡ false) }
-{
-    Command::new(alloc, "ti")
-        .about("Tools for terminfo, the database of terminals.")
-        .after_help(TI_NOTES)
-        .subcommand_required(true)
-        .subcommand(tic(alloc)?)?
-        .subcommand(tput(alloc)?)
+    for tool in tools {
+        program = program.subcommand(tool.command(alloc)?)?;
+    }
+    Ok(program)
 }
 
 /// The program's command line, with a subcommand for each tool.
@@ -158,24 +186,22 @@ pub fn command<'a>(alloc: Global) -> Result<Command<'a>, AllocError>
     ensures app { IfOk result (λ command. app_of command ≡ ti_app) }
     ensures local { IfOk result (λ command. (fields_of command).has_globals ≡ false) }
 {
-    first_tools(alloc)?
-        .subcommand(session(alloc)?)?
-        .subcommand(infocmp(alloc)?)
+    let program = Command::new(alloc, "ti")
+        .about("Tools for terminfo, the database of terminals.")
+        .after_help(TI_NOTES)
+        .subcommand_required(true);
+    with_tools(alloc, program, &TOOLS)
 }
 
-/// The command line of the tool of that name alone.
-///
-/// # Errors
-/// Want of memory.
-pub(crate) fn tool_command<'a>(alloc: Global, name: &str) -> Result<Option<Command<'a>>, AllocError>
-    ensures { IfOk result (λ found. option_map (λ command. app_of command) found ≡ tool_app name.now) }
+/// The tool of that name.
+pub(crate) fn tool_named(name: &str) -> Option<Tool<'static>>
+    ensures { option_map app_for result ≡ tool_app name.now }
 {
-    let command = match name {
-        "tic" => tic(alloc),
-        "tput" => tput(alloc),
-        "session" => session(alloc),
-        "infocmp" => infocmp(alloc),
-        _ => return Ok(None),
-    };
-    Ok(Some(command?))
+    match name {
+        "tic" => Some(TIC),
+        "tput" => Some(TPUT),
+        "session" => Some(SESSION),
+        "infocmp" => Some(INFOCMP),
+        _ => None,
+    }
 }

@@ -1,17 +1,16 @@
 //! What the words behind `infocmp` are, for clap, and what they ask for.
-ghost use Rattle.std.specs.Prelude.{◌≡◌, ◌⊎◌, IfErr, IfOk, None, Some, codes, false, map, option_map};
-ghost use Rattle.clap.specs.Words.{app_of, first_of, found_of, rows_of};
-ghost use Rattle.clap.specs.declared.builder.Command.TheViews.{out-Command as fields_of};
+ghost use Rattle.std.specs.Prelude.{◌≡◌, ◌⊎◌, IfErr, IfOk, None, Some, codes, map, option_map};
+ghost use Rattle.clap.specs.Words.{first_of, found_of, rows_of};
 ghost use Rattle.ti_commands.specs.Arguments.{infocmp_job_of, task_infocmp};
-ghost use Rattle.ti_commands.specs.InfocmpWords.{infocmp_app, first_mode_rules, layout_rules, name_rules, other_mode_rules};
 ghost use Rattle.ti_commands.specs.InfocmpWords.{choice_in, choice_with, infocmp_with, mode_for, order_for, suits, width_for};
 ghost use Rattle.ti_commands.specs.Jobs.{task_of};
 
 use crate::arguments::UsageError;
+use crate::commands::Tool;
 use crate::jobs::{InfocmpMode, Job};
 use crate::matches::{on, text, texts, value, values};
-use crate::rules::{flag, number, operands, option};
-use clap::{ArgMatches, Command};
+use crate::rules::{Argument, Form};
+use clap::ArgMatches;
 use std::alloc::{AllocError, Global};
 use ti_list::{Layout, Order};
 
@@ -24,8 +23,68 @@ const WIDTH_MIN: usize = 20;
 /// The greatest.
 const WIDTH_MAX: usize = 4096;
 
-/// What stands below the options in the help.
-const NOTES: &str = "\
+/// `infocmp [-I|-d|-c|-n|-u] [-1] [-w N] [-s d|i] [-A DIR] [-B DIR] [NAME..]`.
+pub(crate) const INFOCMP: Tool<'static> = Tool {
+    name: "infocmp",
+    about: "List and compare entries, as source or side by side.",
+    arguments: &[
+        Argument {
+            id: "list",
+            form: Form::Flag('I'),
+            help: "List each entry [default for one name]",
+        },
+        Argument {
+            id: "differ",
+            form: Form::Flag('d'),
+            help: "Show where the first differs from each other [default for more]",
+        },
+        Argument {
+            id: "common",
+            form: Form::Flag('c'),
+            help: "Show what the first and each other have in common",
+        },
+        Argument {
+            id: "neither",
+            form: Form::Flag('n'),
+            help: "Show what neither the first nor each other has",
+        },
+        Argument {
+            id: "relative",
+            form: Form::Flag('u'),
+            help: "List the first so that it uses the others",
+        },
+        Argument {
+            id: "one",
+            form: Form::Flag('1'),
+            help: "Give each item a line of its own",
+        },
+        Argument {
+            id: "width",
+            form: Form::Number('w', WIDTH_MIN as u64, WIDTH_MAX as u64),
+            help: "Lines of at most N columns, from 20 to 4096 [default: 60]",
+        },
+        Argument {
+            id: "sort",
+            form: Form::Value('s', "ORDER"),
+            help: "Sort by place in the entry (d) or by name (i) [default: i]",
+        },
+        Argument {
+            id: "first",
+            form: Form::Value('A', "DIR"),
+            help: "Look for the first name in DIR alone",
+        },
+        Argument {
+            id: "other",
+            form: Form::Value('B', "DIR"),
+            help: "Look for the other names in DIR alone",
+        },
+        Argument {
+            id: "name",
+            form: Form::Operands("NAME"),
+            help: "The terminals [default: $TERM]",
+        },
+    ],
+    notes: "\
 A listing is source that 'ti tic' compiles back to the same entry; with '-u' it
 is, where the entries that it uses stand beside it.
 
@@ -37,116 +96,8 @@ Exit status:
 Examples:
   ti infocmp -1 xterm
   ti infocmp -d xterm vt100
-  ti infocmp -u xterm-256color xterm";
-
-// The options that list, and those that compare for differences.
-fn first_modes<'a>(alloc: Global, command: Command<'a>) -> Result<Command<'a>, AllocError>
-    requires { (fields_of command).has_globals ≡ false }
-    ensures app { IfOk result (λ r. app_of r ≡ first_mode_rules (app_of command.entry)) }
-    ensures local { IfOk result (λ r. (fields_of r).has_globals ≡ false) }
-{
-    command
-        .arg(flag(alloc, "list", 'I', "List each entry [default for one name]"))?
-        .arg(flag(
-            alloc,
-            "differ",
-            'd',
-            "Show where the first differs from each other [default for more]",
-        ))?
-        .arg(flag(
-            alloc,
-            "common",
-            'c',
-            "Show what the first and each other have in common",
-        ))
-}
-
-// The options that name another mode.
-fn other_modes<'a>(alloc: Global, command: Command<'a>) -> Result<Command<'a>, AllocError>
-    requires { (fields_of command).has_globals ≡ false }
-    ensures app { IfOk result (λ r. app_of r ≡ other_mode_rules (app_of command.entry)) }
-    ensures local { IfOk result (λ r. (fields_of r).has_globals ≡ false) }
-{
-    command
-        .arg(flag(
-            alloc,
-            "neither",
-            'n',
-            "Show what neither the first nor each other has",
-        ))?
-        .arg(flag(
-            alloc,
-            "relative",
-            'u',
-            "List the first so that it uses the others",
-        ))
-}
-
-// The options that lay a listing out.
-fn layouts<'a>(alloc: Global, command: Command<'a>) -> Result<Command<'a>, AllocError>
-    requires { (fields_of command).has_globals ≡ false }
-    ensures app { IfOk result (λ r. app_of r ≡ layout_rules (app_of command.entry)) }
-    ensures local { IfOk result (λ r. (fields_of r).has_globals ≡ false) }
-{
-    command
-        .arg(flag(alloc, "one", '1', "Give each item a line of its own"))?
-        .arg(number(
-            alloc,
-            "width",
-            'w',
-            WIDTH_MIN as u64,
-            WIDTH_MAX as u64,
-            "Lines of at most N columns, from 20 to 4096 [default: 60]",
-        ))?
-        .arg(option(
-            alloc,
-            "sort",
-            's',
-            "ORDER",
-            "Sort by place in the entry (d) or by name (i) [default: i]",
-        ))
-}
-
-// Where entries stand, and the names.
-fn operands_of<'a>(alloc: Global, command: Command<'a>) -> Result<Command<'a>, AllocError>
-    requires { (fields_of command).has_globals ≡ false }
-    ensures app { IfOk result (λ r. app_of r ≡ name_rules (app_of command.entry)) }
-    ensures local { IfOk result (λ r. (fields_of r).has_globals ≡ false) }
-{
-    command
-        .arg(option(
-            alloc,
-            "first",
-            'A',
-            "DIR",
-            "Look for the first name in DIR alone",
-        ))?
-        .arg(option(
-            alloc,
-            "other",
-            'B',
-            "DIR",
-            "Look for the other names in DIR alone",
-        ))?
-        .arg(operands(alloc, "name", "NAME", "The terminals [default: $TERM]"))
-}
-
-/// `infocmp [-I|-d|-c|-n|-u] [-1] [-w N] [-s d|i] [-A DIR] [-B DIR] [NAME..]`.
-///
-/// # Errors
-/// Want of memory.
-pub fn infocmp<'a>(alloc: Global) -> Result<Command<'a>, AllocError>
-    ensures app { IfOk result (λ command. app_of command ≡ infocmp_app) }
-    ensures local { IfOk result (λ command. (fields_of command).has_globals ≡ false) }
-{
-    let command = Command::new(alloc, "infocmp")
-        .about("List and compare entries, as source or side by side.")
-        .after_help(NOTES);
-    let command = first_modes(alloc, command)?;
-    let command = other_modes(alloc, command)?;
-    let command = layouts(alloc, command)?;
-    operands_of(alloc, command)
-}
+  ti infocmp -u xterm-256color xterm",
+};
 
 /// The modes that options name.
 #[derive(Clone, Copy)]

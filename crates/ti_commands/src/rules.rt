@@ -3,13 +3,59 @@ ghost use Rattle.std.specs.Prelude.{◌≡◌, false, Some};
 ghost use Rattle.clap.specs.declared.builder.texts.Texts.TheVariants.{One};
 ghost use Rattle.clap.specs.Words.{rule_of};
 ghost use Rattle.ti_commands.specs.Rules.{flag_rule, long_option_rule, number_rule, operand_rule, operands_rule, option_rule};
+ghost use Rattle.ti_commands.specs.Tools.{ShowsValue, rule_for};
 
 use clap::builder::ValueParser;
 use clap::{Arg, ArgAction};
 use std::alloc::Global;
 
-/// An option that is on or off.
-pub fn flag<'a>(alloc: Global, id: &'a str, short: char, help: &'a str) -> Arg<'a>
+/// How an argument is given. A text is the name of the value in help.
+#[derive(Clone, Copy)]
+pub enum Form<'a> {
+    /// An option that is on or off, by its letter.
+    Flag(char),
+    /// An option with one value.
+    Value(char, &'a str),
+    /// An option with a number from a least to a greatest.
+    Number(char, u64, u64),
+    /// An option with one value that has a long name alone.
+    LongValue(&'a str),
+    /// A word of its own.
+    Operand(&'a str),
+    /// Words of their own, as many as there are.
+    Operands(&'a str),
+}
+
+/// An argument of a tool: the name that the matches have for it, how it is given, and its help.
+#[derive(Clone, Copy)]
+pub struct Argument<'a> {
+    pub id: &'a str,
+    pub form: Form<'a>,
+    pub help: &'a str,
+}
+
+impl<'a> Argument<'a> {
+    /// The argument as clap takes it.
+    pub fn built(&self, alloc: Global) -> Arg<'a>
+        ensures rule { rule_of result ≡ rule_for self.now }
+        ensures local { result.global ≡ false }
+        ensures value { ShowsValue self.now.form result.val_names }
+        ensures help { result.help ≡ Some self.now.help }
+    {
+        let Argument { id, form, help } = *self;
+        match form {
+            Form::Flag(short) => flag(alloc, id, short, help),
+            Form::Value(short, value) => option(alloc, id, short, value, help),
+            Form::Number(short, least, greatest) => number(alloc, id, short, least, greatest, help),
+            Form::LongValue(value) => long_option(alloc, id, value, help),
+            Form::Operand(value) => operand(alloc, id, value, help),
+            Form::Operands(value) => operands(alloc, id, value, help),
+        }
+    }
+}
+
+// An option that is on or off.
+fn flag<'a>(alloc: Global, id: &'a str, short: char, help: &'a str) -> Arg<'a>
     ensures rule { rule_of result ≡ flag_rule id.entry.now short }
     ensures local { result.global ≡ false }
     ensures help { result.help ≡ Some help.entry }
@@ -20,22 +66,8 @@ pub fn flag<'a>(alloc: Global, id: &'a str, short: char, help: &'a str) -> Arg<'
         .help(help)
 }
 
-/// An option with one value.
-pub fn option<'a>(alloc: Global, id: &'a str, short: char, value: &'a str, help: &'a str) -> Arg<'a>
-    ensures rule { rule_of result ≡ option_rule id.entry.now short }
-    ensures local { result.global ≡ false }
-    ensures value { result.val_names ≡ One value.entry }
-    ensures help { result.help ≡ Some help.entry }
-{
-    Arg::new(alloc, id)
-        .short(short)
-        .action(ArgAction::Set)
-        .value_name(value)
-        .help(help)
-}
-
-/// A word of its own.
-pub fn operand<'a>(alloc: Global, id: &'a str, value: &'a str, help: &'a str) -> Arg<'a>
+// A word of its own.
+fn operand<'a>(alloc: Global, id: &'a str, value: &'a str, help: &'a str) -> Arg<'a>
     ensures rule { rule_of result ≡ operand_rule id.entry.now }
     ensures local { result.global ≡ false }
     ensures value { result.val_names ≡ One value.entry }
@@ -47,36 +79,40 @@ pub fn operand<'a>(alloc: Global, id: &'a str, value: &'a str, help: &'a str) ->
         .help(help)
 }
 
-/// An option with one value that has a long name alone.
-pub fn long_option<'a>(alloc: Global, id: &'a str, value: &'a str, help: &'a str) -> Arg<'a>
+// An option with one value.
+fn option<'a>(alloc: Global, id: &'a str, short: char, value: &'a str, help: &'a str) -> Arg<'a>
+    ensures rule { rule_of result ≡ option_rule id.entry.now short }
+    ensures local { result.global ≡ false }
+    ensures value { result.val_names ≡ One value.entry }
+    ensures help { result.help ≡ Some help.entry }
+{
+    operand(alloc, id, value, help).short(short)
+}
+
+// An option with one value that has a long name alone.
+fn long_option<'a>(alloc: Global, id: &'a str, value: &'a str, help: &'a str) -> Arg<'a>
     ensures rule { rule_of result ≡ long_option_rule id.entry.now }
     ensures local { result.global ≡ false }
     ensures value { result.val_names ≡ One value.entry }
     ensures help { result.help ≡ Some help.entry }
 {
-    Arg::new(alloc, id)
-        .long(id)
-        .action(ArgAction::Set)
-        .value_name(value)
-        .help(help)
+    operand(alloc, id, value, help).long(id)
 }
 
-/// Words of their own, as many as there are.
-pub fn operands<'a>(alloc: Global, id: &'a str, value: &'a str, help: &'a str) -> Arg<'a>
+// Words of their own, as many as there are.
+fn operands<'a>(alloc: Global, id: &'a str, value: &'a str, help: &'a str) -> Arg<'a>
     ensures rule { rule_of result ≡ operands_rule id.entry.now }
     ensures local { result.global ≡ false }
     ensures value { result.val_names ≡ One value.entry }
     ensures help { result.help ≡ Some help.entry }
 {
-    Arg::new(alloc, id)
+    operand(alloc, id, value, help)
         .action(ArgAction::Append)
         .num_args(0..)
-        .value_name(value)
-        .help(help)
 }
 
-/// An option with a number from a least to a greatest.
-pub fn number<'a>(
+// An option with a number from a least to a greatest.
+fn number<'a>(
     alloc: Global,
     id: &'a str,
     short: char,

@@ -1,6 +1,8 @@
-use Rattle.std.proofs.Common.{◌≡◌, Some, None, ◌∙◌, ap, sym, inl, inr}
+use Rattle.std.proofs.Common.{◌≡◌, Some, None, ◌∙◌, ap, sym, inl, inr, map, string_bytes}
 use Rattle.std.proofs.lemmas.Result.{IfErr-weaker, IfOk-weaker}
 use Rattle.clap.proofs.BuiltLemmas.{on_ok_always}
+use Rattle.clap.specs.Simple.{App}
+use Rattle.clap.specs.Takes.{takes}
 use Rattle.ti_commands.specs.Jobs.{refusal_of}
 use Rattle.ti_commands.proofs.Asked.{IsRefusal-no_job, IsRefusal-of_fault, no_faults, task_in-matches}
 use Rattle.ti_commands.proofs.arguments.job_of_program.Goals as goal
@@ -27,6 +29,11 @@ returns-in-Ok-clause-refused c =
     let same = task_in-matches _ _ c.in-Ok.matches c.in_ok-command.ensures.app c.in-Ok.ensures.matches in
     let no_fault = no_faults _ _ c.in-Ok.matches c.in_ok-command.ensures.app c.in-Ok.ensures.kinds in
     IfErr-weaker c.used_job.result _ _ (λ e refused. IsRefusal-no_job _ _ e no_fault same refused) c.used_job.ensures.refused
+
+pub returns-in-Err-clause-answered : goal.returns-in-Err-clause-answered
+returns-in-Err-clause-answered c = λ task is takes_words.
+    let taken = ap (λ (a : App). takes a (map string_bytes c.args.words.now)) c.in_ok-command.ensures.app ∙ takes_words in
+    c.refusal.ensures ∙ ap refusal_of (c.kind.ensures ∙ c.in-Err.ensures.passes taken)
 
 pub returns-in-Err-clause-refused : goal.returns-in-Err-clause-refused
 returns-in-Err-clause-refused c =

@@ -1,0 +1,45 @@
+-- What clap reads of a tool that stands in a table: its name and its arguments in turn (own).
+use Rattle.std.specs.Prelude.{◌≡◌, ⊤}
+use Rattle.std.specs.List.{fold}
+use Rattle.clap.specs.Simple.{App, new_app, with_rule, with_subcommand}
+use Rattle.clap.specs.Walk.{Rule, Text}
+use Rattle.clap.specs.declared.builder.texts.Texts.{Texts}
+use Rattle.clap.specs.declared.builder.texts.Texts.TheVariants.{One}
+use Rattle.ti_commands.specs.Rules.{flag_rule, long_option_rule, number_rule, operand_rule, operands_rule, option_rule}
+use Rattle.ti_commands.specs.declared.commands.Tool.{Tool}
+use Rattle.ti_commands.specs.declared.rules.Argument.{Argument}
+use Rattle.ti_commands.specs.declared.rules.Form.{Form}
+use Rattle.ti_commands.specs.declared.rules.Form.TheVariants.{Flag, LongValue, Number, Operand, Operands, Value}
+
+-- an argument that is given so
+abbrev pub form_rule : Text → Form → Rule
+form_rule id (Flag short) = flag_rule id short
+form_rule id (Value short value) = option_rule id short
+form_rule id (Number short least greatest) = number_rule id short least greatest
+form_rule id (LongValue value) = long_option_rule id
+form_rule id (Operand value) = operand_rule id
+form_rule id (Operands value) = operands_rule id
+
+-- an argument of the table
+abbrev pub rule_for : Argument → Rule
+rule_for argument = form_rule argument.id.now argument.form
+
+-- help shows the name of the value that the table says, where it says one
+abbrev pub ShowsValue : Form → Texts → Type 0
+ShowsValue (Value short value) names = names ≡ One value
+ShowsValue (LongValue value) names = names ≡ One value
+ShowsValue (Operand value) names = names ≡ One value
+ShowsValue (Operands value) names = names ≡ One value
+ShowsValue _ names = ⊤
+
+-- one more argument
+abbrev pub with_argument : App → Argument → App
+with_argument app argument = with_rule app (rule_for argument)
+
+-- the command line of a tool alone
+abbrev pub app_for : Tool → App
+app_for tool = fold with_argument (new_app tool.name.now) tool.arguments.now
+
+-- one more tool of the program
+abbrev pub with_tool : App → Tool → App
+with_tool app tool = with_subcommand app (app_for tool).top
