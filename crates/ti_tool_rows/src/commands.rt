@@ -19,9 +19,9 @@ fn some(alloc: Global, text: &str) -> Result<Option<String>, AllocError> {
 }
 
 // Whether the words ask for a job.
-fn ask_for(alloc: Global, texts: &[&str], expected: &Job) -> Result<bool, Fail> {
+fn ask_for(alloc: Global, texts: &[&str], expected: Job) -> Result<bool, Fail> {
     let words = words(alloc, texts)?;
-    Ok(job(alloc, words.as_slice())? == *expected)
+    Ok(job(alloc, words.as_slice())? == expected)
 }
 
 // Why the words ask for no job, if they do not.
@@ -38,7 +38,7 @@ fn a_check_of_a_file(rt: HostRuntime) -> Result<(), Fail> {
         dir: None,
         file: some(alloc, "f.ti")?,
     };
-    assert!(rt; ask_for(alloc, &["ti", "tic", "-c", "f.ti"], &expected)?);
+    assert!(rt; ask_for(alloc, &["ti", "tic", "-c", "f.ti"], expected)?);
     Ok(())
 }
 
@@ -50,13 +50,13 @@ fn an_empty_folder_is_taken_as_it_is(rt: HostRuntime) -> Result<(), Fail> {
         dir: some(alloc, "")?,
         file: None,
     };
-    assert!(rt; ask_for(alloc, &["ti", "tic", "-o", ""], &expected)?);
+    assert!(rt; ask_for(alloc, &["ti", "tic", "-o", ""], expected)?);
     Ok(())
 }
 
 #[test]
 fn a_session(rt: HostRuntime) -> Result<(), Fail> {
-    assert!(rt; ask_for(rt.alloc(), &["ti", "session"], &Job::Session)?);
+    assert!(rt; ask_for(rt.alloc(), &["ti", "session"], Job::Session)?);
     Ok(())
 }
 

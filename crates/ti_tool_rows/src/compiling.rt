@@ -1,4 +1,5 @@
 //! Sources with the files and reports that terminfo(5) and term(5) give for them.
+use crate::listing::dumb;
 use std::alloc::{AllocError, Global};
 use ti_tools::{File, MemTree, TicOptions, TicOutcome, ToolError, place, tic};
 
@@ -31,23 +32,6 @@ fn joined(
     Ok(text)
 }
 
-fn dumb_entry(alloc: Global) -> Result<Vec<u8>, AllocError> {
-    let mut entry = Vec::new(alloc);
-    entry.extend_from_slice(&[
-        0x1a, 0x01, 0x18, 0x00, 0x02, 0x00, 0x01, 0x00, 0x82, 0x00, 0x08, 0x00,
-    ])?;
-    entry.extend_from_slice(b"dumb|80-column dumb tty\0")?;
-    entry.extend_from_slice(&[0x00, 0x01, 0x50, 0x00])?;
-    push_many(&mut entry, 0xff, 2)?;
-    entry.extend_from_slice(&[0x00, 0x00, 0x02, 0x00])?;
-    push_many(&mut entry, 0xff, 2 * 8)?;
-    entry.extend_from_slice(&[0x04, 0x00])?;
-    push_many(&mut entry, 0xff, 2 * 117)?;
-    entry.extend_from_slice(&[0x06, 0x00])?;
-    entry.extend_from_slice(&[0x07, 0x00, 0x0d, 0x00, 0x0a, 0x00, 0x0a, 0x00])?;
-    Ok(entry)
-}
-
 // Whether the files, placed into a tree, have these bytes at a path.
 fn are_placed(alloc: Global, files: &[File], path: &str, bytes: &[u8]) -> bool {
     let mut tree = MemTree::new(alloc);
@@ -59,7 +43,7 @@ fn the_smallest_useful_entry(rt: HostRuntime) -> Result<(), ToolError> {
     let alloc = rt.alloc();
     let outcome = made(alloc, DUMB, false)?;
     assert!(rt; outcome.report.is_empty() && outcome.status == 0);
-    let entry = dumb_entry(alloc)?;
+    let entry = dumb(alloc)?;
     assert_eq!(rt; entry.len(), 308);
     assert!(rt; are_placed(alloc, outcome.files.as_slice(), "out/d/dumb", &entry));
     Ok(())

@@ -13,6 +13,10 @@ fn tput_job(alloc: Global) -> Job {
     }
 }
 
+fn status_of(job: Job, error: ToolError, found: bool) -> u8 {
+    status(&job, &error, found)
+}
+
 const TPUT_STATUSES: [(ToolError, bool, u8); 4] = [
     (ToolError::NoTerminal, false, 3),
     (ToolError::ReadFault, false, 3),
@@ -22,17 +26,16 @@ const TPUT_STATUSES: [(ToolError, bool, u8); 4] = [
 
 #[test]
 fn statuses(rt: HostRuntime) {
-    let tput = tput_job(rt.alloc());
     for (error, found, wanted) in TPUT_STATUSES {
-        assert_eq!(rt; status(&tput, &error, found), wanted);
+        assert!(rt; status_of(tput_job(rt.alloc()), error, found) == wanted);
     }
     let tic = Job::Tic {
         check: false,
         dir: None,
         file: None,
     };
-    assert_eq!(rt; status(&tic, &ToolError::WriteFault, false), 1);
-    assert_eq!(rt; status(&Job::Session, &ToolError::Usage, false), 2);
+    assert!(rt; status_of(tic, ToolError::WriteFault, false) == 1);
+    assert!(rt; status_of(Job::Session, ToolError::Usage, false) == 2);
 }
 
 /// What is said of a name and an error.

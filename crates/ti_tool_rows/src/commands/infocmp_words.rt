@@ -41,8 +41,8 @@ fn all(alloc: Global) -> Result<Job, AllocError> {
 #[test]
 fn words_of_infocmp(rt: HostRuntime) -> Result<(), Fail> {
     let alloc = rt.alloc();
-    assert!(rt; ask_for(alloc, &["ti", "infocmp", "-n"], &neither(alloc))?);
-    assert!(rt; ask_for(alloc, ALL, &all(alloc)?)?);
+    assert!(rt; ask_for(alloc, &["ti", "infocmp", "-n"], neither(alloc))?);
+    assert!(rt; ask_for(alloc, ALL, all(alloc)?)?);
     Ok(())
 }
 

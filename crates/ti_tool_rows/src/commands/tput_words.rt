@@ -28,7 +28,7 @@ const REFUSED: [&[&str]; 4] = [
 #[test]
 fn the_words_of_tput(rt: HostRuntime) -> Result<(), Fail> {
     let alloc = rt.alloc();
-    assert!(rt; ask_for(alloc, TPUT, &tput_job(alloc)?)?);
+    assert!(rt; ask_for(alloc, TPUT, tput_job(alloc)?)?);
     for texts in REFUSED {
         assert!(rt; refusal(alloc, texts)? == Some(UsageError::Usage));
     }
