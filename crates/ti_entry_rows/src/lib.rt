@@ -3,11 +3,14 @@
 //! - `writing`: entries written from values
 //! - `reading`: entries read, whole and damaged
 //! - `images`: entries changed in place
+//! - `tables`: the values that the first and the last of them are given, and the entry of `dumb`
 #![tactic(auto)]
 
 #[cfg(test)]
 mod images;
 #[cfg(test)]
 mod reading;
+#[cfg(test)]
+mod tables;
 #[cfg(test)]
 mod writing;
