@@ -4,7 +4,7 @@ ghost use Rattle.std.specs.Prelude.{◌≡◌, IfSome};
 use crate::tables::dumb;
 use std::alloc::{AllocError, Global};
 use std::process::Abort;
-use std::test::*;
+use std::test::Fail;
 use ti_caps::{Cap, Kind, find};
 use ti_layout::{ReadError, View};
 
@@ -56,13 +56,26 @@ fn text<'a>(view: &View<'a>, name: &str) -> Option<&'a [u8]> {
     }
 }
 
+// What bytes have of the capability of a name, or why they are refused.
+fn flag_in(bytes: &[u8], name: &str) -> Result<bool, ReadError> {
+    Ok(flag(&View::read(bytes)?, name))
+}
+
+fn number_in(bytes: &[u8], name: &str) -> Result<Option<u32>, ReadError> {
+    Ok(number(&View::read(bytes)?, name))
+}
+
+fn text_in<'a>(bytes: &'a [u8], name: &str) -> Result<Option<&'a [u8]>, ReadError> {
+    Ok(text(&View::read(bytes)?, name))
+}
+
 #[test]
 fn an_entry_has_its_names(rt: HostRuntime) -> Result<(), Fail> {
     let bytes = dumb(rt.alloc())?;
     assert_eq!(rt; bytes.len(), 308);
     let view = View::read(&bytes)?;
-    assert_eq!(rt; view.names(), b"dumb|80-column dumb tty".as_slice());
-    assert_eq!(rt; view.first_name(), b"dumb".as_slice());
+    assert!(rt; view.names() == b"dumb|80-column dumb tty".as_slice());
+    assert!(rt; view.first_name() == b"dumb".as_slice());
     Ok(())
 }
 
@@ -71,14 +84,13 @@ const FLAGS: [(&str, bool); 3] = [("am", true), ("bw", false), ("OTxr", false)];
 const NUMBERS: [(&str, Option<u32>); 2] = [("cols", Some(80)), ("lines", None)];
 
 #[test]
-fn an_entry_has_its_flags_and_numbers(rt: HostRuntime) -> Result<(), Fail> {
+fn an_entry_has_its_flags_and_numbers(rt: HostRuntime) -> Result<(), AllocError> {
     let bytes = dumb(rt.alloc())?;
-    let view = View::read(&bytes)?;
     for (name, value) in FLAGS {
-        assert!(rt; flag(&view, name) == value, "{name}");
+        assert!(rt; flag_in(&bytes, name) == Ok(value), "{name}");
     }
     for (name, value) in NUMBERS {
-        assert!(rt; number(&view, name) == value, "{name}");
+        assert!(rt; number_in(&bytes, name) == Ok(value), "{name}");
     }
     Ok(())
 }
@@ -93,17 +105,16 @@ const TEXTS: [(&str, Option<&[u8]>); 6] = [
 ];
 
 #[test]
-fn an_entry_has_its_texts(rt: HostRuntime) -> Result<(), Fail> {
+fn an_entry_has_its_texts(rt: HostRuntime) -> Result<(), AllocError> {
     let bytes = dumb(rt.alloc())?;
-    let view = View::read(&bytes)?;
     for (name, value) in TEXTS {
-        assert!(rt; text(&view, name) == value, "{name}");
+        assert!(rt; text_in(&bytes, name) == Ok(value), "{name}");
     }
     Ok(())
 }
 
 #[test]
-fn a_cut_entry_is_short_or_truncated(rt: HostRuntime) -> Result<(), Fail> {
+fn a_cut_entry_is_short_or_truncated(rt: HostRuntime) -> Result<(), AllocError> {
     let bytes = dumb(rt.alloc())?;
     for len in 0..bytes.len() {
         let wanted = if len < 12 {
@@ -111,7 +122,7 @@ fn a_cut_entry_is_short_or_truncated(rt: HostRuntime) -> Result<(), Fail> {
         } else {
             ReadError::Truncated
         };
-        assert_eq!(rt; refusal(&bytes[..len]), Some(wanted), "{len}");
+        assert!(rt; refusal(&bytes[..len]) == Some(wanted), "{len}");
     }
     Ok(())
 }
@@ -152,47 +163,50 @@ fn damaged_entries_are_refused(rt: HostRuntime) -> Result<(), AllocError> {
     Ok(())
 }
 
-/// Whether the bytes are read, and the capability of the name has this text in them.
-fn has_text(bytes: &[u8], name: &str, value: &[u8]) -> bool {
+#[test]
+fn a_shared_text_is_accepted(rt: HostRuntime) -> Result<(), AllocError> {
+    let bytes = dumb(rt.alloc())?;
+    let shared = with(rt.alloc(), &bytes, &[(298, 4), (299, 0)])?;
+    assert!(rt; text_in(&shared, "ind") == Ok(Some(b"\x0a")));
+    Ok(())
+}
+
+#[test]
+fn further_bytes_are_accepted(rt: HostRuntime) -> Result<(), AllocError> {
+    let mut longer = dumb(rt.alloc())?;
+    longer.extend_from_slice(b"\x01\x02\xff\x00anything")?;
+    assert!(rt; text_in(&longer, "ind") == Ok(Some(b"\x0a")));
+    Ok(())
+}
+
+/// Whether the bytes are read, and have the name, the flag and the texts of `OVERLAP`.
+fn is_overlap(bytes: &[u8]) -> bool {
     match View::read(bytes) {
-        Ok(view) => text(&view, name) == Some(value),
+        Ok(view) => {
+            view.names() == b"x".as_slice()
+                && flag(&view, "bw")
+                && text(&view, "cbt") == Some(b"AB")
+                && text(&view, "bel") == Some(b"B")
+        }
         Err(_) => false,
     }
 }
 
 #[test]
-fn a_shared_text_is_accepted(rt: HostRuntime) -> Result<(), Fail> {
-    let bytes = dumb(rt.alloc())?;
-    let shared = with(rt.alloc(), &bytes, &[(298, 4), (299, 0)])?;
-    assert!(rt; has_text(&shared, "ind", b"\x0a"));
-    Ok(())
-}
-
-#[test]
-fn further_bytes_are_accepted(rt: HostRuntime) -> Result<(), Fail> {
-    let mut longer = dumb(rt.alloc())?;
-    longer.extend_from_slice(b"\x01\x02\xff\x00anything")?;
-    assert!(rt; has_text(&longer, "ind", b"\x0a"));
-    Ok(())
-}
-
-#[test]
-fn overlapping_texts_are_read(rt: HostRuntime) -> Result<(), Fail> {
+fn overlapping_texts_are_read(rt: HostRuntime) -> Result<(), AllocError> {
     for byte in [0, 0x7f] {
         let bytes = with(rt.alloc(), &OVERLAP, &[(15, byte)])?;
-        let view = View::read(&bytes)?;
-        assert!(rt; view.names() == b"x".as_slice() && flag(&view, "bw"));
-        assert!(rt; has_text(&bytes, "cbt", b"AB") && has_text(&bytes, "bel", b"B"));
+        assert!(rt; is_overlap(&bytes), "{byte}");
     }
     Ok(())
 }
 
 #[test]
-fn values_that_are_not_there_are_absent(rt: HostRuntime) -> Result<(), Fail> {
+fn values_that_are_not_there_are_absent(rt: HostRuntime) -> Result<(), AllocError> {
     let cancelled = with(rt.alloc(), &OVERLAP, &[(14, 0xff)])?;
-    assert!(rt; !flag(&View::read(&cancelled)?, "bw"));
+    assert!(rt; flag_in(&cancelled, "bw") == Ok(false));
     let void = with(rt.alloc(), &OVERLAP, &[(18, 0xfe), (19, 0xff)])?;
-    assert_eq!(rt; text(&View::read(&void)?, "bel"), None);
+    assert!(rt; text_in(&void, "bel") == Ok(None));
     Ok(())
 }
 
@@ -224,7 +238,7 @@ fn answers(view: &View<'_>) -> bool {
 
 /// Whatever a byte is changed to, reading answers, and so does every getter.
 #[test]
-fn any_changed_byte_is_answered(rt: HostRuntime) -> Result<(), Fail> {
+fn any_changed_byte_is_answered(rt: HostRuntime) -> Result<(), AllocError> {
     let bytes = dumb(rt.alloc())?;
     let mut read = 0;
     for at in 0..bytes.len() {
@@ -253,21 +267,19 @@ const CHANGED_NUMBERS: [(&[(usize, u8)], Option<u32>); 3] = [
 ];
 
 #[test]
-fn numbers_of_32_bits_are_read(rt: HostRuntime) -> Result<(), Fail> {
+fn numbers_of_32_bits_are_read(rt: HostRuntime) -> Result<(), AllocError> {
     for (changes, wanted) in CHANGED_NUMBERS {
         let bytes = with(rt.alloc(), &EXTENDED, changes)?;
-        assert!(rt; number(&View::read(&bytes)?, "cols") == wanted);
+        assert!(rt; number_in(&bytes, "cols") == Ok(wanted));
     }
     Ok(())
 }
 
 #[test]
-fn bad_numbers_of_32_bits_are_refused(rt: HostRuntime) -> Result<(), Fail> {
+fn bad_numbers_of_32_bits_are_refused(rt: HostRuntime) -> Result<(), AllocError> {
     let bad = [(14, 0xfd), (15, 0xff), (16, 0xff), (17, 0xff)];
-    assert_eq!(rt;
-        refusal(&with(rt.alloc(), &EXTENDED, &bad)?),
-        Some(ReadError::BadNumber)
-    );
-    assert_eq!(rt; refusal(&EXTENDED[..17]), Some(ReadError::Truncated));
+    let damaged = with(rt.alloc(), &EXTENDED, &bad)?;
+    assert!(rt; refusal(&damaged) == Some(ReadError::BadNumber));
+    assert!(rt; refusal(&EXTENDED[..17]) == Some(ReadError::Truncated));
     Ok(())
 }
