@@ -18,10 +18,16 @@ fn some(alloc: Global, text: &str) -> Result<Option<String>, AllocError> {
     Ok(Some(String::from_str(alloc, text)?))
 }
 
+// The job that the words ask for.
+fn asked_for(alloc: Global, texts: &[&str]) -> Result<Job, Fail> {
+    let words = words(alloc, texts)?;
+    Ok(job(alloc, words.as_slice())?)
+}
+
 // Whether the words ask for a job.
 fn ask_for(alloc: Global, texts: &[&str], expected: Job) -> Result<bool, Fail> {
-    let words = words(alloc, texts)?;
-    Ok(job(alloc, words.as_slice())? == expected)
+    let asked = asked_for(alloc, texts)?;
+    Ok(asked == expected)
 }
 
 // Why the words ask for no job, if they do not.
