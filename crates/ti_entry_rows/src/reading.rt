@@ -56,7 +56,7 @@ fn text<'a>(view: &View<'a>, name: &str) -> Option<&'a [u8]> {
     }
 }
 
-// What bytes have of the capability of a name, or why they are refused.
+// What bytes have of the flag of a name, or why they are refused; the next two say so of a number and of a text.
 fn flag_in(bytes: &[u8], name: &str) -> Result<bool, ReadError> {
     Ok(flag(&View::read(bytes)?, name))
 }
