@@ -1,6 +1,4 @@
-ghost use Rattle.std.specs.Prelude.{◌↔◌, IsTrue};
-ghost use Rattle.ti_layout.specs.Values.{HasNoNul};
-
+use crate::tables::{Given, has_no_nul, table_of};
 use std::alloc::{AllocError, Global};
 use std::process::Abort;
 use std::rc::RcSlice;
@@ -8,28 +6,12 @@ use ti_caps::{Cap, Kind};
 use ti_compiled::Image;
 use ti_layout::{Table, Value, WriteError};
 
-fn has_no_nul(bytes: &[u8]) -> bool
-    ensures { IsTrue result ↔ HasNoNul bytes.now }
-{
-    bytes.iter().all(|byte| *byte != 0)
-}
-
 // The image of these names with an empty table.
 fn empty(alloc: Global, names: &[u8]) -> Result<Image, WriteError> {
     if names.is_empty() || !has_no_nul(names) {
         return Err(WriteError::NamesTooLong);
     }
     Image::new(alloc, names, &Table::new(alloc))
-}
-
-/// What the capability at a place of its table is given.
-#[derive(Clone, Copy, Debug)]
-enum Given<'a> {
-    Flag(usize),
-    Number(usize, u32),
-    CancelledNumber(usize),
-    Text(usize, &'a [u8]),
-    NoText(usize),
 }
 
 // Gives an image a text, where it holds no NUL.
@@ -179,49 +161,6 @@ fn numbers_change_the_format(rt: HostRuntime) -> Result<(), WriteError> {
     let mut image = empty(rt.alloc(), b"x")?;
     expect_steps(&rt, rt.alloc(), &mut image, &NUMBERS);
     Ok(())
-}
-
-// Gives a table a flag.
-fn put_flag(table: &mut Table, index: usize) -> Result<(), AllocError> {
-    match Cap::at(Kind::Flag, index) {
-        Some(cap) => table.set(cap, Some(Value::True)),
-        None => Ok(()),
-    }
-}
-
-// Gives a table a number, where it is none too great.
-fn put_number(table: &mut Table, index: usize, number: u32) -> Result<(), AllocError> {
-    match Cap::at(Kind::Number, index) {
-        Some(cap) if number <= 2_147_483_647 => table.set(cap, Some(Value::Number(number))),
-        _ => Ok(()),
-    }
-}
-
-// Gives a table a text, where it holds no NUL.
-fn put_text(table: &mut Table, alloc: Global, index: usize, text: &[u8]) -> Result<(), AllocError> {
-    let shared = RcSlice::from_slice(alloc, text)?;
-    match Cap::at(Kind::Text, index) {
-        Some(cap) if has_no_nul(shared.as_slice()) => table.set(cap, Some(Value::Text(shared))),
-        _ => Ok(()),
-    }
-}
-
-// Gives a table what an image may be given; nothing is taken from it.
-fn put(table: &mut Table, alloc: Global, given: Given<'_>) -> Result<(), AllocError> {
-    match given {
-        Given::Flag(index) => put_flag(table, index),
-        Given::Number(index, number) => put_number(table, index, number),
-        Given::Text(index, text) => put_text(table, alloc, index, text),
-        Given::CancelledNumber(_) | Given::NoText(_) => Ok(()),
-    }
-}
-
-fn table_of(alloc: Global, all: &[Given<'_>]) -> Result<Table, AllocError> {
-    let mut table = Table::new(alloc);
-    for given in all {
-        put(&mut table, alloc, *given)?;
-    }
-    Ok(table)
 }
 
 // The image of `x` with the values of one table, patched to those of another.

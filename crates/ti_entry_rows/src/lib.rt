@@ -3,11 +3,14 @@
 //! - `writing`: entries written from values
 //! - `reading`: entries read, whole and damaged
 //! - `images`: entries changed in place
+//! - `tables`: what these share: values for a table or an image, and the entry of `dumb`
 #![tactic(auto)]
 
 #[cfg(test)]
 mod images;
 #[cfg(test)]
 mod reading;
+#[cfg(test)]
+mod tables;
 #[cfg(test)]
 mod writing;

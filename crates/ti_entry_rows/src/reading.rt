@@ -1,29 +1,12 @@
 // The worked entries of the reader: damaged files, shared texts, values of old writers.
 ghost use Rattle.std.specs.Prelude.{◌≡◌, IfSome};
 
+use crate::tables::dumb;
 use std::alloc::{AllocError, Global};
-use std::test::*;
+use std::process::Abort;
+use std::test::Fail;
 use ti_caps::{Cap, Kind, find};
 use ti_layout::{ReadError, View};
-
-/// `dumb|80-column dumb tty,` with am, cols 80, bel, cr, cud1 and ind: 308 bytes.
-fn dumb(alloc: Global) -> Result<Vec<u8>, AllocError> {
-    let mut bytes = Vec::new(alloc);
-    bytes.extend_from_slice(b"\x1a\x01\x18\x00\x02\x00\x01\x00\x82\x00\x08\x00")?;
-    bytes.extend_from_slice(b"dumb|80-column dumb tty\0\x00\x01\x50\x00")?;
-    for index in 0..130u16 {
-        let offset: [u8; 2] = match index {
-            1 => [0, 0],
-            2 => [2, 0],
-            11 => [4, 0],
-            129 => [6, 0],
-            _ => [0xff, 0xff],
-        };
-        bytes.extend_from_slice(&offset)?;
-    }
-    bytes.extend_from_slice(b"\x07\x00\x0d\x00\x0a\x00\x0a\x00")?;
-    Ok(bytes)
-}
 
 /// Two texts that overlap.
 const OVERLAP: [u8; 23] = [
@@ -73,49 +56,65 @@ fn text<'a>(view: &View<'a>, name: &str) -> Option<&'a [u8]> {
     }
 }
 
+// What bytes have of the flag of a name, or why they are refused; the next two say so of a number and of a text.
+fn flag_in(bytes: &[u8], name: &str) -> Result<bool, ReadError> {
+    Ok(flag(&View::read(bytes)?, name))
+}
+
+fn number_in(bytes: &[u8], name: &str) -> Result<Option<u32>, ReadError> {
+    Ok(number(&View::read(bytes)?, name))
+}
+
+fn text_in<'a>(bytes: &'a [u8], name: &str) -> Result<Option<&'a [u8]>, ReadError> {
+    Ok(text(&View::read(bytes)?, name))
+}
+
 #[test]
 fn an_entry_has_its_names(rt: HostRuntime) -> Result<(), Fail> {
     let bytes = dumb(rt.alloc())?;
     assert_eq!(rt; bytes.len(), 308);
     let view = View::read(&bytes)?;
-    assert_eq!(rt; view.names(), b"dumb|80-column dumb tty".as_slice());
-    assert_eq!(rt; view.first_name(), b"dumb".as_slice());
+    assert!(rt; view.names() == b"dumb|80-column dumb tty".as_slice());
+    assert!(rt; view.first_name() == b"dumb".as_slice());
     Ok(())
 }
 
+const FLAGS: [(&str, bool); 3] = [("am", true), ("bw", false), ("OTxr", false)];
+
+const NUMBERS: [(&str, Option<u32>); 2] = [("cols", Some(80)), ("lines", None)];
+
 #[test]
-fn an_entry_has_its_flags_and_numbers(rt: HostRuntime) -> Result<(), Fail> {
+fn an_entry_has_its_flags_and_numbers(rt: HostRuntime) -> Result<(), AllocError> {
     let bytes = dumb(rt.alloc())?;
-    let view = View::read(&bytes)?;
-    for (name, value) in [("am", true), ("bw", false), ("OTxr", false)] {
-        assert_eq!(rt; flag(&view, name), value, "{name}");
+    for (name, value) in FLAGS {
+        assert!(rt; flag_in(&bytes, name) == Ok(value), "{name}");
     }
-    for (name, value) in [("cols", Some(80)), ("lines", None)] {
-        assert_eq!(rt; number(&view, name), value, "{name}");
+    for (name, value) in NUMBERS {
+        assert!(rt; number_in(&bytes, name) == Ok(value), "{name}");
     }
     Ok(())
 }
 
+const TEXTS: [(&str, Option<&[u8]>); 6] = [
+    ("bel", Some(b"\x07")),
+    ("cr", Some(b"\x0d")),
+    ("cud1", Some(b"\x0a")),
+    ("ind", Some(b"\x0a")),
+    ("cbt", None),
+    ("box1", None),
+];
+
 #[test]
-fn an_entry_has_its_texts(rt: HostRuntime) -> Result<(), Fail> {
+fn an_entry_has_its_texts(rt: HostRuntime) -> Result<(), AllocError> {
     let bytes = dumb(rt.alloc())?;
-    let view = View::read(&bytes)?;
-    let rows: [(&str, Option<&[u8]>); 6] = [
-        ("bel", Some(b"\x07")),
-        ("cr", Some(b"\x0d")),
-        ("cud1", Some(b"\x0a")),
-        ("ind", Some(b"\x0a")),
-        ("cbt", None),
-        ("box1", None),
-    ];
-    for (name, value) in rows {
-        assert_eq!(rt; text(&view, name), value, "{name}");
+    for (name, value) in TEXTS {
+        assert!(rt; text_in(&bytes, name) == Ok(value), "{name}");
     }
     Ok(())
 }
 
 #[test]
-fn a_cut_entry_is_short_or_truncated(rt: HostRuntime) -> Result<(), Fail> {
+fn a_cut_entry_is_short_or_truncated(rt: HostRuntime) -> Result<(), AllocError> {
     let bytes = dumb(rt.alloc())?;
     for len in 0..bytes.len() {
         let wanted = if len < 12 {
@@ -123,94 +122,104 @@ fn a_cut_entry_is_short_or_truncated(rt: HostRuntime) -> Result<(), Fail> {
         } else {
             ReadError::Truncated
         };
-        assert_eq!(rt; refusal(&bytes[..len]), Some(wanted), "{len}");
+        assert!(rt; refusal(&bytes[..len]) == Some(wanted), "{len}");
     }
+    Ok(())
+}
+
+/// What bytes are changed to, and why they are refused then.
+type Damage = (&'static [(usize, u8)], ReadError);
+
+fn expect_refused(
+    rt: &impl Abort,
+    alloc: Global,
+    bytes: &[u8],
+    damage: &[Damage],
+) -> Result<(), AllocError> {
+    for (changes, wanted) in damage {
+        let damaged = with(alloc, bytes, changes)?;
+        assert!(rt; refusal(&damaged) == Some(*wanted), "{changes:?}");
+    }
+    Ok(())
+}
+
+const DAMAGED_ENTRIES: [Damage; 5] = [
+    (&[(307, 0x78)], ReadError::BadOffset),
+    (&[(36, 2)], ReadError::BadFlag),
+    (&[(38, 0xfd), (39, 0xff)], ReadError::BadNumber),
+    (&[(40, 0xfd), (41, 0xff)], ReadError::BadOffset),
+    (&[(1, 2)], ReadError::Magic),
+];
+
+#[test]
+fn damaged_entries_are_refused(rt: HostRuntime) -> Result<(), AllocError> {
+    let bytes = dumb(rt.alloc())?;
+    expect_refused(&rt, rt.alloc(), &bytes, &DAMAGED_ENTRIES)?;
+    assert!(rt; refusal(&[0xff; 12]) == Some(ReadError::Magic));
+    let mut counts = [0xff; 12];
+    counts[0] = 0x1a;
+    counts[1] = 0x01;
+    assert!(rt; refusal(&counts) == Some(ReadError::Counts));
     Ok(())
 }
 
 #[test]
-fn damaged_entries_are_refused(rt: HostRuntime) -> Result<(), Fail> {
+fn a_shared_text_is_accepted(rt: HostRuntime) -> Result<(), AllocError> {
     let bytes = dumb(rt.alloc())?;
-    let rows: [(&[(usize, u8)], ReadError); 5] = [
-        (&[(307, 0x78)], ReadError::BadOffset),
-        (&[(36, 2)], ReadError::BadFlag),
-        (&[(38, 0xfd), (39, 0xff)], ReadError::BadNumber),
-        (&[(40, 0xfd), (41, 0xff)], ReadError::BadOffset),
-        (&[(1, 2)], ReadError::Magic),
-    ];
-    for (changes, wanted) in rows {
-        assert_eq!(rt; refusal(&with(rt.alloc(), &bytes, changes)?), Some(wanted));
-    }
-    assert_eq!(rt; refusal(&[0xff; 12]), Some(ReadError::Magic));
-    let mut counts = [0xff; 12];
-    counts[0] = 0x1a;
-    counts[1] = 0x01;
-    assert_eq!(rt; refusal(&counts), Some(ReadError::Counts));
+    let shared = with(rt.alloc(), &bytes, &[(298, 4), (299, 0)])?;
+    assert!(rt; text_in(&shared, "ind") == Ok(Some(b"\x0a")));
     Ok(())
 }
 
-/// Whether the bytes are read, and the capability of the name has this text in them.
-fn has_text(bytes: &[u8], name: &str, value: &[u8]) -> bool {
+#[test]
+fn further_bytes_are_accepted(rt: HostRuntime) -> Result<(), AllocError> {
+    let mut longer = dumb(rt.alloc())?;
+    longer.extend_from_slice(b"\x01\x02\xff\x00anything")?;
+    assert!(rt; text_in(&longer, "ind") == Ok(Some(b"\x0a")));
+    Ok(())
+}
+
+/// Whether the bytes are read, and have the name, the flag and the texts of `OVERLAP`.
+fn is_overlap(bytes: &[u8]) -> bool {
     match View::read(bytes) {
-        Ok(view) => text(&view, name) == Some(value),
+        Ok(view) => {
+            view.names() == b"x".as_slice()
+                && flag(&view, "bw")
+                && text(&view, "cbt") == Some(b"AB")
+                && text(&view, "bel") == Some(b"B")
+        }
         Err(_) => false,
     }
 }
 
 #[test]
-fn a_shared_text_is_accepted(rt: HostRuntime) -> Result<(), Fail> {
-    let bytes = dumb(rt.alloc())?;
-    let shared = with(rt.alloc(), &bytes, &[(298, 4), (299, 0)])?;
-    assert!(rt; has_text(&shared, "ind", b"\x0a"));
-    Ok(())
-}
-
-#[test]
-fn further_bytes_are_accepted(rt: HostRuntime) -> Result<(), Fail> {
-    let mut longer = dumb(rt.alloc())?;
-    longer.extend_from_slice(b"\x01\x02\xff\x00anything")?;
-    assert!(rt; has_text(&longer, "ind", b"\x0a"));
-    Ok(())
-}
-
-#[test]
-fn overlapping_texts_are_read(rt: HostRuntime) -> Result<(), Fail> {
-    for changes in [[(15, 0)], [(15, 0x7f)]] {
-        let bytes = with(rt.alloc(), &OVERLAP, &changes)?;
-        let view = View::read(&bytes)?;
-        assert_eq!(rt; view.names(), b"x".as_slice());
-        assert!(rt; flag(&view, "bw"));
-        for (name, value) in [("cbt", b"AB".as_slice()), ("bel", b"B".as_slice())] {
-            assert_eq!(rt; text(&view, name), Some(value), "{name}");
-        }
+fn overlapping_texts_are_read(rt: HostRuntime) -> Result<(), AllocError> {
+    for byte in [0, 0x7f] {
+        let bytes = with(rt.alloc(), &OVERLAP, &[(15, byte)])?;
+        assert!(rt; is_overlap(&bytes), "{byte}");
     }
     Ok(())
 }
 
 #[test]
-fn values_that_are_not_there_are_absent(rt: HostRuntime) -> Result<(), Fail> {
+fn values_that_are_not_there_are_absent(rt: HostRuntime) -> Result<(), AllocError> {
     let cancelled = with(rt.alloc(), &OVERLAP, &[(14, 0xff)])?;
-    assert!(rt; !flag(&View::read(&cancelled)?, "bw"));
+    assert!(rt; flag_in(&cancelled, "bw") == Ok(false));
     let void = with(rt.alloc(), &OVERLAP, &[(18, 0xfe), (19, 0xff)])?;
-    assert_eq!(rt; text(&View::read(&void)?, "bel"), None);
+    assert!(rt; text_in(&void, "bel") == Ok(None));
     Ok(())
 }
 
+const DAMAGED_TEXTS: [Damage; 4] = [
+    (&[(14, 2)], ReadError::BadFlag),
+    (&[(18, 3), (19, 0)], ReadError::BadOffset),
+    (&[(4, 0x2d)], ReadError::Counts),
+    (&[(2, 1)], ReadError::BadNames),
+];
+
 #[test]
-fn damaged_texts_are_refused(rt: HostRuntime) -> Result<(), Fail> {
-    let rows: [(&[(usize, u8)], ReadError); 4] = [
-        (&[(14, 2)], ReadError::BadFlag),
-        (&[(18, 3), (19, 0)], ReadError::BadOffset),
-        (&[(4, 0x2d)], ReadError::Counts),
-        (&[(2, 1)], ReadError::BadNames),
-    ];
-    for (changes, wanted) in rows {
-        assert_eq!(rt;
-            refusal(&with(rt.alloc(), &OVERLAP, changes)?),
-            Some(wanted)
-        );
-    }
-    Ok(())
+fn damaged_texts_are_refused(rt: HostRuntime) -> Result<(), AllocError> {
+    expect_refused(&rt, rt.alloc(), &OVERLAP, &DAMAGED_TEXTS)
 }
 
 /// Whether the first name is no longer than the names field; every getter is asked too, and answers.
@@ -229,7 +238,7 @@ fn answers(view: &View<'_>) -> bool {
 
 /// Whatever a byte is changed to, reading answers, and so does every getter.
 #[test]
-fn any_changed_byte_is_answered(rt: HostRuntime) -> Result<(), Fail> {
+fn any_changed_byte_is_answered(rt: HostRuntime) -> Result<(), AllocError> {
     let bytes = dumb(rt.alloc())?;
     let mut read = 0;
     for at in 0..bytes.len() {
@@ -251,27 +260,26 @@ const EXTENDED: [u8; 18] = [
     0x00, 0x00,
 ];
 
+const CHANGED_NUMBERS: [(&[(usize, u8)], Option<u32>); 3] = [
+    (&[], Some(80)),
+    (&[(16, 0x01)], Some(65_616)),
+    (&[(14, 0xfe), (15, 0xff), (16, 0xff), (17, 0xff)], None),
+];
+
 #[test]
-fn numbers_of_32_bits_are_read(rt: HostRuntime) -> Result<(), Fail> {
-    let rows: [(&[(usize, u8)], Option<u32>); 3] = [
-        (&[], Some(80)),
-        (&[(16, 0x01)], Some(65_616)),
-        (&[(14, 0xfe), (15, 0xff), (16, 0xff), (17, 0xff)], None),
-    ];
-    for (changes, wanted) in rows {
+fn numbers_of_32_bits_are_read(rt: HostRuntime) -> Result<(), AllocError> {
+    for (changes, wanted) in CHANGED_NUMBERS {
         let bytes = with(rt.alloc(), &EXTENDED, changes)?;
-        assert_eq!(rt; number(&View::read(&bytes)?, "cols"), wanted);
+        assert!(rt; number_in(&bytes, "cols") == Ok(wanted));
     }
     Ok(())
 }
 
 #[test]
-fn bad_numbers_of_32_bits_are_refused(rt: HostRuntime) -> Result<(), Fail> {
+fn bad_numbers_of_32_bits_are_refused(rt: HostRuntime) -> Result<(), AllocError> {
     let bad = [(14, 0xfd), (15, 0xff), (16, 0xff), (17, 0xff)];
-    assert_eq!(rt;
-        refusal(&with(rt.alloc(), &EXTENDED, &bad)?),
-        Some(ReadError::BadNumber)
-    );
-    assert_eq!(rt; refusal(&EXTENDED[..17]), Some(ReadError::Truncated));
+    let damaged = with(rt.alloc(), &EXTENDED, &bad)?;
+    assert!(rt; refusal(&damaged) == Some(ReadError::BadNumber));
+    assert!(rt; refusal(&EXTENDED[..17]) == Some(ReadError::Truncated));
     Ok(())
 }

@@ -4,7 +4,7 @@ mod tput_words;
 
 use std::alloc::{AllocError, Global};
 use std::test::Fail;
-use ti_commands::{Job, UsageError, job, usage_text};
+use ti_commands::{Job, UsageError, UsageText, job, usage_text};
 
 fn words(alloc: Global, texts: &[&str]) -> Result<Vec<String>, AllocError> {
     let mut words = Vec::new(alloc);
@@ -18,97 +18,117 @@ fn some(alloc: Global, text: &str) -> Result<Option<String>, AllocError> {
     Ok(Some(String::from_str(alloc, text)?))
 }
 
+// The job that the words ask for.
+fn asked_for(alloc: Global, texts: &[&str]) -> Result<Job, Fail> {
+    let words = words(alloc, texts)?;
+    Ok(job(alloc, words.as_slice())?)
+}
+
+// Whether the words ask for a job.
+fn ask_for(alloc: Global, texts: &[&str], expected: Job) -> Result<bool, Fail> {
+    let asked = asked_for(alloc, texts)?;
+    Ok(asked == expected)
+}
+
+// Why the words ask for no job, if they do not.
+fn refusal(alloc: Global, texts: &[&str]) -> Result<Option<UsageError>, AllocError> {
+    let words = words(alloc, texts)?;
+    Ok(job(alloc, words.as_slice()).err())
+}
+
 #[test]
 fn a_check_of_a_file(rt: HostRuntime) -> Result<(), Fail> {
     let alloc = rt.alloc();
-    let words = words(alloc, &["ti", "tic", "-c", "f.ti"])?;
     let expected = Job::Tic {
         check: true,
         dir: None,
         file: some(alloc, "f.ti")?,
     };
-    assert!(rt; job(alloc, words.as_slice())? == expected);
+    assert!(rt; ask_for(alloc, &["ti", "tic", "-c", "f.ti"], expected)?);
     Ok(())
 }
 
 #[test]
 fn an_empty_folder_is_taken_as_it_is(rt: HostRuntime) -> Result<(), Fail> {
     let alloc = rt.alloc();
-    let words = words(alloc, &["ti", "tic", "-o", ""])?;
     let expected = Job::Tic {
         check: false,
         dir: some(alloc, "")?,
         file: None,
     };
-    assert!(rt; job(alloc, words.as_slice())? == expected);
+    assert!(rt; ask_for(alloc, &["ti", "tic", "-o", ""], expected)?);
     Ok(())
 }
 
 #[test]
 fn a_session(rt: HostRuntime) -> Result<(), Fail> {
-    let alloc = rt.alloc();
-    let session = words(alloc, &["ti", "session"])?;
-    assert!(rt; job(alloc, session.as_slice())? == Job::Session);
-    let more = words(alloc, &["ti", "session", "script"])?;
-    assert!(rt; job(alloc, more.as_slice()) == Err(UsageError::Usage));
+    assert!(rt; ask_for(rt.alloc(), &["ti", "session"], Job::Session)?);
     Ok(())
 }
 
+const REFUSED: [(&[&str], UsageError); 5] = [
+    (&["ti", "session", "script"], UsageError::Usage),
+    (&["ti", "tic", "-x"], UsageError::Usage),
+    (&["ti"], UsageError::Usage),
+    (&["ti", "toc"], UsageError::Usage),
+    (&["ti", "tic", "--help"], UsageError::Help),
+];
+
 #[test]
-fn words_that_ask_for_no_job(rt: HostRuntime) -> Result<(), Fail> {
-    let alloc = rt.alloc();
-    let usage = words(alloc, &["ti", "tic", "-x"])?;
-    assert!(rt; job(alloc, usage.as_slice()) == Err(UsageError::Usage));
-    let bare = words(alloc, &["ti"])?;
-    assert!(rt; job(alloc, bare.as_slice()) == Err(UsageError::Usage));
-    let unknown = words(alloc, &["ti", "toc"])?;
-    assert!(rt; job(alloc, unknown.as_slice()) == Err(UsageError::Usage));
-    let help = words(alloc, &["ti", "tic", "--help"])?;
-    assert!(rt; job(alloc, help.as_slice()) == Err(UsageError::Help));
+fn words_that_ask_for_no_job(rt: HostRuntime) -> Result<(), AllocError> {
+    for (texts, error) in REFUSED {
+        assert!(rt; refusal(rt.alloc(), texts)? == Some(error));
+    }
     Ok(())
+}
+
+// What is said of the words.
+fn said_of(alloc: Global, texts: &[&str]) -> Result<Option<UsageText>, AllocError> {
+    let words = words(alloc, texts)?;
+    usage_text(alloc, words.as_slice())
 }
 
 // The help of a tool.
 fn help_of(alloc: Global, tool: &str) -> Result<String, Fail> {
-    let words = words(alloc, &["ti", tool, "--help"])?;
-    match usage_text(alloc, words.as_slice())? {
+    match said_of(alloc, &["ti", tool, "--help"])? {
         Some(usage) if usage.is_help => Ok(usage.text),
         _ => Err(Fail::from("no help")),
     }
 }
 
+// Whether what is said is no help, and begins so.
+fn is_fault(said: &Option<UsageText>, begin: &str) -> bool {
+    match said {
+        Some(usage) => !usage.is_help && usage.text.as_str().starts_with(begin),
+        None => false,
+    }
+}
+
 #[test]
-fn what_is_said_of_a_wrong_option(rt: HostRuntime) -> Result<(), Fail> {
-    let alloc = rt.alloc();
-    let wrong = words(alloc, &["ti", "tic", "-x"])?;
-    let Some(usage) = usage_text(alloc, wrong.as_slice())? else {
-        return Err(Fail::from("nothing is said"));
-    };
-    assert!(rt; !usage.is_help);
-    let begin = "error: unexpected argument '-x' found\n";
-    assert!(rt; usage.text.as_str().starts_with(begin), "{}", usage.text);
-    let right = words(alloc, &["ti", "tic", "-c"])?;
-    assert!(rt; usage_text(alloc, right.as_slice())?.is_none());
+fn what_is_said_of_a_wrong_option(rt: HostRuntime) -> Result<(), AllocError> {
+    let said = said_of(rt.alloc(), &["ti", "tic", "-x"])?;
+    assert!(rt; is_fault(&said, "error: unexpected argument '-x' found\n"));
+    assert!(rt; said_of(rt.alloc(), &["ti", "tic", "-c"])?.is_none());
     Ok(())
+}
+
+// Whether a help has no line over 80 columns, and ends in an example.
+fn reads_well(help: &str) -> bool {
+    help.lines().all(|line| line.len() <= 80) && help.contains("Example:\n  ti ")
 }
 
 #[test]
 fn help_reads_well_at_80_columns(rt: HostRuntime) -> Result<(), Fail> {
-    let alloc = rt.alloc();
     for tool in ["tic", "session"] {
-        let text = help_of(alloc, tool)?;
-        for line in text.as_str().lines() {
-            assert!(rt; line.len() <= 80, "{line}");
-        }
-        assert!(rt; text.as_str().contains("Example:\n  ti "), "{text}");
+        let help = help_of(rt.alloc(), tool)?;
+        assert!(rt; reads_well(help.as_str()), "{help}");
     }
     Ok(())
 }
 
 #[test]
 fn the_help_of_tic(rt: HostRuntime) -> Result<(), Fail> {
-    let alloc = rt.alloc();
-    let text = help_of(alloc, "tic")?;
+    let text = help_of(rt.alloc(), "tic")?;
     let expected = "Compile terminfo source into entries, one file for each name.
 
 Usage: ti tic [OPTIONS] [FILE]

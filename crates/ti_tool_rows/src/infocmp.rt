@@ -1,18 +1,17 @@
+//! The relative source of an entry, compiled again.
 use std::alloc::Global;
 use std::test::Fail;
 use ti_layout::View;
 use ti_tools::{InfocmpMode, InfocmpOptions, Layout, Order, TicOptions, ToolError, infocmp, tic};
 
-const LAYOUT: Layout = Layout {
-    width: 60,
-    one_per_line: false,
-    order: Order::Name,
-};
-
 fn options(mode: InfocmpMode) -> InfocmpOptions {
     InfocmpOptions {
         mode,
-        layout: LAYOUT,
+        layout: Layout {
+            width: 60,
+            one_per_line: false,
+            order: Order::Name,
+        },
     }
 }
 
@@ -30,19 +29,31 @@ fn first_entry(alloc: Global, source: &[u8]) -> Result<Vec<u8>, ToolError> {
     Ok(entry)
 }
 
+// The first entry as source text that uses the second.
+fn relative_source(alloc: Global, first: &[u8], second: &[u8]) -> Result<Vec<u8>, Fail> {
+    let views = [View::read(first)?, View::read(second)?];
+    Ok(infocmp(alloc, &views, &options(InfocmpMode::Relative))?)
+}
+
+// What is printed of an entry without others.
+fn printed_alone(alloc: Global, entry: &[u8], mode: InfocmpMode) -> Result<Vec<u8>, ToolError> {
+    match View::read(entry) {
+        Ok(view) => infocmp(alloc, &[view], &options(mode)),
+        Err(error) => Err(ToolError::BadEntry(error)),
+    }
+}
+
 #[test]
 fn relative_source_compiles_back(rt: HostRuntime) -> Result<(), Fail> {
     let alloc = rt.alloc();
     let a = first_entry(alloc, b"a|first,am,cols#80,bel=^G,\n")?;
     let b = first_entry(alloc, b"b|second,cols#132,bel=^G,cr=\\r,\n")?;
-    let views = [View::read(&a)?, View::read(&b)?];
-    let mut text = infocmp(alloc, &views, &options(InfocmpMode::Relative))?;
+    let mut text = relative_source(alloc, &a, &b)?;
     let uses = b"a|first,\n\tam,\n\tcols#80,\n\tcr@,\n\tuse=b,\n";
-    assert_eq!(rt; text.as_slice(), uses.as_slice());
-    text.extend_from_slice(infocmp(alloc, &views[1..], &options(InfocmpMode::List))?.as_slice())?;
-    let again = first_entry(alloc, text.as_slice())?;
-    assert_eq!(rt; again.as_slice(), a.as_slice());
-    let alone = infocmp(alloc, &views[1..], &options(InfocmpMode::Common));
-    assert!(rt; alone == Err(ToolError::Usage));
+    assert!(rt; text.as_slice() == uses.as_slice());
+    text.extend_from_slice(&printed_alone(alloc, &b, InfocmpMode::List)?)?;
+    assert!(rt; first_entry(alloc, &text)? == a);
+    let common = printed_alone(alloc, &b, InfocmpMode::Common);
+    assert!(rt; common == Err(ToolError::Usage));
     Ok(())
 }

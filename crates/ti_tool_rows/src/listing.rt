@@ -20,8 +20,8 @@ fn layout(width: usize, order: Order) -> Layout {
     }
 }
 
-// The entry of `dumb|80-column dumb tty,am,cols#80,bel=^G,cr=\r,cud1=\n,ind=\n,`.
-fn dumb(alloc: Global) -> Result<Vec<u8>, AllocError> {
+/// The entry of `dumb|80-column dumb tty,am,cols#80,bel=^G,cr=\r,cud1=\n,ind=\n,`.
+pub fn dumb(alloc: Global) -> Result<Vec<u8>, AllocError> {
     let mut bytes = Vec::from_slice(
         alloc,
         b"\x1a\x01\x18\0\x02\0\x01\0\x82\0\x08\0dumb|80-column dumb tty\0\0\x01\x50\0",
@@ -39,28 +39,60 @@ fn dumb(alloc: Global) -> Result<Vec<u8>, AllocError> {
     Ok(bytes)
 }
 
+// The listing of a compiled entry.
+fn listing(alloc: Global, entry: &[u8], layout: &Layout) -> Result<Vec<u8>, Fail> {
+    let view = View::read(entry)?;
+    Ok(list(alloc, &view, layout)?)
+}
+
+/// How an entry is listed, and its listing.
+struct Listed {
+    layout: Layout,
+    text: &'static [u8],
+}
+
+#[rattlefmt::skip]
+const LISTINGS_OF_DUMB: [Listed; 3] = [
+    Listed {
+        layout: Layout { width: 60, one_per_line: false, order: Order::Name },
+        text: b"dumb|80-column dumb tty,\n\tam,\n\tcols#80,\n\tbel=^G, cr=\\r, cud1=\\n, ind=\\n,\n",
+    },
+    Listed {
+        layout: Layout { width: 24, one_per_line: false, order: Order::Name },
+        text: b"dumb|80-column dumb tty,\n\tam,\n\tcols#80,\n\tbel=^G, cr=\\r,\n\tcud1=\\n, ind=\\n,\n",
+    },
+    Listed {
+        layout: Layout { width: 60, one_per_line: true, order: Order::Name },
+        text: b"dumb|80-column dumb tty,\n\tam,\n\tcols#80,\n\tbel=^G,\n\tcr=\\r,\n\tcud1=\\n,\n\tind=\\n,\n",
+    },
+];
+
+#[rattlefmt::skip]
+const LISTINGS_OF_V: [Listed; 2] = [
+    Listed {
+        layout: Layout { width: 60, one_per_line: false, order: Order::Table },
+        text: b"v,\n\tcbt=a, bel=b,\n",
+    },
+    Listed {
+        layout: Layout { width: 60, one_per_line: false, order: Order::Name },
+        text: b"v,\n\tbel=b, cbt=a,\n",
+    },
+];
+
+fn has_listings(alloc: Global, entry: &[u8], listings: &[Listed]) -> Result<bool, Fail> {
+    for wanted in listings {
+        if listing(alloc, entry, &wanted.layout)?.as_slice() != wanted.text {
+            return Ok(false);
+        }
+    }
+    Ok(true)
+}
+
 #[test]
 fn lists_an_entry(rt: HostRuntime) -> Result<(), Fail> {
     let bytes = dumb(rt.alloc())?;
     assert_eq!(rt; bytes.len(), 308);
-    let view = View::read(&bytes)?;
-    let text = list(rt.alloc(), &view, &layout(60, Order::Name))?;
-    let wide =
-        b"dumb|80-column dumb tty,\n\tam,\n\tcols#80,\n\tbel=^G, cr=\\r, cud1=\\n, ind=\\n,\n";
-    assert_eq!(rt; text.as_slice(), wide.as_slice());
-    let text = list(rt.alloc(), &view, &layout(24, Order::Name))?;
-    let narrow =
-        b"dumb|80-column dumb tty,\n\tam,\n\tcols#80,\n\tbel=^G, cr=\\r,\n\tcud1=\\n, ind=\\n,\n";
-    assert_eq!(rt; text.as_slice(), narrow.as_slice());
-    let alone = Layout {
-        width: 60,
-        one_per_line: true,
-        order: Order::Name,
-    };
-    let text = list(rt.alloc(), &view, &alone)?;
-    let lines =
-        b"dumb|80-column dumb tty,\n\tam,\n\tcols#80,\n\tbel=^G,\n\tcr=\\r,\n\tcud1=\\n,\n\tind=\\n,\n";
-    assert_eq!(rt; text.as_slice(), lines.as_slice());
+    assert!(rt; has_listings(rt.alloc(), &bytes, &LISTINGS_OF_DUMB)?);
     Ok(())
 }
 
@@ -69,11 +101,10 @@ fn lists_an_entry(rt: HostRuntime) -> Result<(), Fail> {
 #[test]
 fn a_listing_has_the_room_that_was_made_before(rt: HostRuntime) -> Result<(), Fail> {
     let bytes = dumb(rt.alloc())?;
-    let view = View::read(&bytes)?;
     for width in [20, 60, 4096] {
         for order in [Order::Table, Order::Name] {
-            let text = list(rt.alloc(), &view, &layout(width, order))?;
-            assert_eq!(rt; text.capacity(), 23 + 2 + 5 + 18 + 11 + 10 + 12 + 11);
+            let room = listing(rt.alloc(), &bytes, &layout(width, order))?.capacity();
+            assert!(rt; room == 23 + 2 + 5 + 18 + 11 + 10 + 12 + 11);
         }
     }
     Ok(())
@@ -81,46 +112,54 @@ fn a_listing_has_the_room_that_was_made_before(rt: HostRuntime) -> Result<(), Fa
 
 #[test]
 fn lists_in_the_order_asked_for(rt: HostRuntime) -> Result<(), Fail> {
-    let view = View::read(V)?;
-    let text = list(rt.alloc(), &view, &layout(60, Order::Table))?;
-    assert_eq!(rt; text.as_slice(), b"v,\n\tcbt=a, bel=b,\n".as_slice());
-    let text = list(rt.alloc(), &view, &layout(60, Order::Name))?;
-    assert_eq!(rt; text.as_slice(), b"v,\n\tbel=b, cbt=a,\n".as_slice());
+    assert!(rt; has_listings(rt.alloc(), V, &LISTINGS_OF_V)?);
     Ok(())
+}
+
+// What is said of A beside B.
+fn comparison(alloc: Global, mode: Mode, order: Order) -> Result<Vec<u8>, Fail> {
+    let (a, b) = (View::read(A)?, View::read(B)?);
+    Ok(compare(alloc, &a, &b, mode, order)?)
 }
 
 #[test]
 fn compares_two_entries(rt: HostRuntime) -> Result<(), Fail> {
-    let (a, b) = (View::read(A)?, View::read(B)?);
-    let text = compare(rt.alloc(), &a, &b, Mode::Differ, Order::Name)?;
-    let differing_contents =
+    let differing =
         b"comparing a to b.\n    comparing booleans.\n\tam: T:F.\n    comparing numbers.\n\tcols: 80, 132.\n    comparing strings.\n\tcr: NULL, '\\r'.\n";
-    assert_eq!(rt; text.as_slice(), differing_contents.as_slice());
-    let text = compare(rt.alloc(), &a, &b, Mode::Common, Order::Name)?;
+    let text = comparison(rt.alloc(), Mode::Differ, Order::Name)?;
+    assert!(rt; text.as_slice() == differing.as_slice());
     let common =
         b"comparing a to b.\n    comparing booleans.\n    comparing numbers.\n    comparing strings.\n\tbel= '^G'.\n";
-    assert_eq!(rt; text.as_slice(), common.as_slice());
-    let text = compare(rt.alloc(), &a, &b, Mode::Neither, Order::Name)?;
-    assert_eq!(rt;
-        text.iter().filter(|byte| **byte == b'!').count(),
-        43 + 38 + 412
-    );
-    let front = b"comparing a to b.\n    comparing booleans.\n\t!OTMT.\n";
-    assert!(rt; text.as_slice().starts_with(front));
-    let text = compare(rt.alloc(), &a, &b, Mode::Neither, Order::Table)?;
-    let front = b"comparing a to b.\n    comparing booleans.\n\t!bw.\n";
-    assert!(rt; text.as_slice().starts_with(front));
+    let text = comparison(rt.alloc(), Mode::Common, Order::Name)?;
+    assert!(rt; text.as_slice() == common.as_slice());
     Ok(())
 }
 
 #[test]
-fn gives_the_relative_source(rt: HostRuntime) -> Result<(), Fail> {
+fn says_what_two_entries_both_lack(rt: HostRuntime) -> Result<(), Fail> {
+    let by_name = comparison(rt.alloc(), Mode::Neither, Order::Name)?;
+    let count = by_name.iter().filter(|byte| **byte == b'!').count();
+    assert!(rt; count == 43 + 38 + 412);
+    let front = b"comparing a to b.\n    comparing booleans.\n\t!OTMT.\n";
+    assert!(rt; by_name.as_slice().starts_with(front));
+    let by_table = comparison(rt.alloc(), Mode::Neither, Order::Table)?;
+    let front = b"comparing a to b.\n    comparing booleans.\n\t!bw.\n";
+    assert!(rt; by_table.as_slice().starts_with(front));
+    Ok(())
+}
+
+// The source of A as it uses B.
+fn relative_source(alloc: Global) -> Result<Vec<u8>, Fail> {
     let (a, b) = (View::read(A)?, View::read(B)?);
-    let text = relative(rt.alloc(), &a, &[b], &layout(60, Order::Name))?;
-    assert_eq!(rt;
-        text.as_slice(),
-        b"a|first,\n\tam,\n\tcols#80,\n\tcr@,\n\tuse=b,\n".as_slice()
-    );
+    Ok(relative(alloc, &a, &[b], &layout(60, Order::Name))?)
+}
+
+#[test]
+fn gives_the_relative_source(rt: HostRuntime) -> Result<(), Fail> {
+    let text = relative_source(rt.alloc())?;
+    let uses = b"a|first,\n\tam,\n\tcols#80,\n\tcr@,\n\tuse=b,\n";
+    assert!(rt; text.as_slice() == uses.as_slice());
+    let a = View::read(A)?;
     let none = relative(rt.alloc(), &a, &[], &layout(60, Order::Name));
     assert!(rt; matches!(none, Err(ListError::NoOthers)));
     Ok(())

@@ -1,61 +1,86 @@
 //! Files placed into a tree in memory, and a tree that fails when it is told to.
 use std::alloc::{AllocError, Global};
-use std::test::Fail;
+use std::process::Abort;
 use ti_devices::{File, MemTree, Tree, TreeFault, place};
 
-fn file(alloc: Global, path: &str, bytes: &[u8]) -> Result<File, AllocError> {
-    Ok(File {
-        path: String::from_str(alloc, path)?,
-        bytes: Vec::from_slice(alloc, bytes)?,
-    })
+// Files of these paths and bytes.
+fn files(alloc: Global, rows: &[(&str, &[u8])]) -> Result<Vec<File>, AllocError> {
+    let mut files = Vec::new(alloc);
+    for (path, bytes) in rows {
+        files.push(File {
+            path: String::from_str(alloc, path)?,
+            bytes: Vec::from_slice(alloc, bytes)?,
+        })?;
+    }
+    Ok(files)
 }
 
+fn holds(tree: &MemTree, path: &str, want: Option<&[u8]>) -> bool {
+    tree.file(path) == want
+}
+
+// Whether a read answers the front of a file, or that there is none.
+fn reads(tree: &mut MemTree, alloc: Global, path: &str, limit: usize, want: Option<&[u8]>) -> bool {
+    match tree.read(alloc, path, limit) {
+        Ok(Some(front)) => want == Some(front.as_slice()),
+        Ok(None) => want.is_none(),
+        Err(_) => false,
+    }
+}
+
+const PLACED_TWICE: [(&str, &[u8]); 3] = [
+    ("out/a/a", b"first"),
+    ("out/b/b", b""),
+    ("out/a/a", b"again"),
+];
+
 #[test]
-fn placed_files_are_found(rt: HostRuntime) -> Result<(), Fail> {
+fn placed_files_are_found(rt: HostRuntime) -> Result<(), AllocError> {
     let alloc = rt.alloc();
     let mut tree = MemTree::new(alloc);
-    let mut files = Vec::new(alloc);
-    files.push(file(alloc, "out/a/a", b"first")?)?;
-    files.push(file(alloc, "out/b/b", b"")?)?;
-    files.push(file(alloc, "out/a/a", b"again")?)?;
-    let placed = place(&mut tree, files.as_slice());
-    assert!(rt; placed == Ok(()));
-    assert!(rt; tree.file("out/a/a") == Some(b"again".as_slice()));
-    assert!(rt; tree.file("out/b/b") == Some(b"".as_slice()));
-    assert!(rt; tree.file("out/b").is_none());
-    let front = tree.read(alloc, "out/a/a", 3)?;
-    let front = front.expect(&rt, "a file");
-    assert!(rt; front.as_slice() == b"agai".as_slice());
-    let whole = tree.read(alloc, "out/a/a", 5)?;
-    let whole = whole.expect(&rt, "a file");
-    assert!(rt; whole.as_slice() == b"again".as_slice());
-    let none = tree.read(alloc, "out/b", 5)?;
-    assert!(rt; none.is_none());
+    let files = files(alloc, &PLACED_TWICE)?;
+    assert!(rt; place(&mut tree, files.as_slice()) == Ok(()));
+    assert!(rt; holds(&tree, "out/a/a", Some(b"again")));
+    assert!(rt; holds(&tree, "out/b/b", Some(b"")));
+    assert!(rt; holds(&tree, "out/b", None));
+    assert!(rt; reads(&mut tree, alloc, "out/a/a", 3, Some(b"agai")));
+    assert!(rt; reads(&mut tree, alloc, "out/a/a", 5, Some(b"again")));
+    assert!(rt; reads(&mut tree, alloc, "out/b", 5, None));
     Ok(())
 }
 
-#[test]
-fn the_call_that_is_to_fail_fails_once(rt: HostRuntime) -> Result<(), Fail> {
-    let alloc = rt.alloc();
-    let mut tree = MemTree::new(alloc);
-    let mut files = Vec::new(alloc);
-    files.push(file(alloc, "out/a/a", b"first")?)?;
-    files.push(file(alloc, "out/b/b", b"second")?)?;
+const TWO_FILES: [(&str, &[u8]); 2] = [("out/a/a", b"first"), ("out/b/b", b"second")];
+
+fn expect_that_a_write_fails_once(rt: &impl Abort, tree: &mut MemTree, files: &[File]) {
     tree.fail_at(2);
-    let placed = place(&mut tree, files.as_slice());
-    assert!(rt; placed == Err((1, TreeFault::Failed)));
-    assert!(rt; tree.file("out/a/a") == Some(b"first".as_slice()));
-    assert!(rt; tree.file("out/b/b").is_none());
-    let again = place(&mut tree, files.as_slice());
-    assert!(rt; again == Ok(()));
-    assert!(rt; tree.file("out/b/b") == Some(b"second".as_slice()));
+    assert!(rt; place(tree, files) == Err((1, TreeFault::Failed)));
+    assert!(rt; holds(tree, "out/a/a", Some(b"first")));
+    assert!(rt; holds(tree, "out/b/b", None));
+    assert!(rt; place(tree, files) == Ok(()));
+    assert!(rt; holds(tree, "out/b/b", Some(b"second")));
+}
+
+const READS: [(&str, Option<&[u8]>); 3] = [
+    ("out/a/a", Some(b"first")),
+    ("nil", None),
+    ("out/b/b", Some(b"second")),
+];
+
+fn expect_that_a_read_fails_once(rt: &impl Abort, tree: &mut MemTree, alloc: Global) {
     tree.fail_at(3);
     tree.fail_at(1);
-    let refused = tree.read(alloc, "out/a/a", 5);
-    assert!(rt; refused == Err(TreeFault::Failed));
-    for path in ["out/a/a", "nil", "out/b/b"] {
-        let found = tree.read(alloc, path, 5)?;
-        assert!(rt; found.is_some() == (path != "nil"), "{path}");
+    assert!(rt; tree.read(alloc, "out/a/a", 5) == Err(TreeFault::Failed));
+    for (path, want) in READS {
+        assert!(rt; reads(tree, alloc, path, 5, want), "{path}");
     }
+}
+
+#[test]
+fn the_call_that_is_to_fail_fails_once(rt: HostRuntime) -> Result<(), AllocError> {
+    let alloc = rt.alloc();
+    let mut tree = MemTree::new(alloc);
+    let files = files(alloc, &TWO_FILES)?;
+    expect_that_a_write_fails_once(&rt, &mut tree, files.as_slice());
+    expect_that_a_read_fails_once(&rt, &mut tree, alloc);
     Ok(())
 }

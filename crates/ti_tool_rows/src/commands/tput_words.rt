@@ -1,8 +1,8 @@
 //! Worked words behind `tput`.
-use super::words;
+use super::{ask_for, refusal, words};
 use std::alloc::{AllocError, Global};
 use std::test::Fail;
-use ti_commands::{Job, UsageError, job};
+use ti_commands::{Job, UsageError};
 
 // A job of `tput`.
 fn tput_job(alloc: Global) -> Result<Job, AllocError> {
@@ -14,22 +14,23 @@ fn tput_job(alloc: Global) -> Result<Job, AllocError> {
     })
 }
 
+const TPUT: &[&str] = &["ti", "tput", "--rate", "9600", "cup", "4", "9"];
+
+const REFUSED: [&[&str]; 4] = [
+    &["ti", "tput"],
+    &["ti", "tput", "-S", "cols"],
+    &["ti", "tput", "--rate", "4294967296", "cols"],
+    &[
+        "ti", "tput", "u0", "0", "1", "2", "3", "4", "5", "6", "7", "8", "9",
+    ],
+];
+
 #[test]
 fn the_words_of_tput(rt: HostRuntime) -> Result<(), Fail> {
     let alloc = rt.alloc();
-    let given = words(alloc, &["ti", "tput", "--rate", "9600", "cup", "4", "9"])?;
-    assert!(rt; job(alloc, given.as_slice())? == tput_job(alloc)?);
-    let refused: [&[&str]; 4] = [
-        &["ti", "tput"],
-        &["ti", "tput", "-S", "cols"],
-        &["ti", "tput", "--rate", "4294967296", "cols"],
-        &[
-            "ti", "tput", "u0", "0", "1", "2", "3", "4", "5", "6", "7", "8", "9",
-        ],
-    ];
-    for texts in refused {
-        let given = words(alloc, texts)?;
-        assert!(rt; job(alloc, given.as_slice()) == Err(UsageError::Usage));
+    assert!(rt; ask_for(alloc, TPUT, tput_job(alloc)?)?);
+    for texts in REFUSED {
+        assert!(rt; refusal(alloc, texts)? == Some(UsageError::Usage));
     }
     Ok(())
 }
