@@ -1,10 +1,11 @@
 -- What a capability is given, by its kind (own).
-use Rattle.std.specs.Prelude.{◌≡◌, ℕ, ◌<◌, ◌≤◌, Bool, true, false, List, length, Option, Some, None, option_map}
+use Rattle.std.specs.Prelude.{◌≡◌, ◌≢◌, ℕ, ◌<◌, ◌≤◌, Bool, true, false, List, length, Option, Some, None, option_map}
 use Rattle.std.specs.Borrow.{Bor}
 use Rattle.ti_caps.specs.Tables.{Capability, IsCapability, capability}
 use Rattle.ti_caps.specs.declared.capability.Kind.TheVariants.{Number}
 use Rattle.ti_layout.specs.Image.{image, limit_of, number_value, of_kind}
 use Rattle.ti_compiled.specs.Held.{names_in, contents_in, with_content}
+use Rattle.ti_layout.specs.Laws.{without_cancel}
 use Rattle.ti_layout.specs.Values.{Content, content_true, content_number, content_text, content_of, Contents, AgreesIfSome}
 use Rattle.ti_layout.specs.declared.values.Value.{Value}
 
@@ -39,6 +40,15 @@ IsOver names contents = limit_of contents < length (image names contents)
 -- new bytes hold what the old ones do, with another content of a capability
 pub record HoldsGiven (old new : List ℕ) (cap : Capability) (content : Option Content) : Type 0 where
   pub says : (c : Capability) → IsCapability c → contents_in new c ≡ with_content (contents_in old) cap content c
+
+-- new bytes hold what the old ones do, but for a capability
+pub record IsSameBut (old new : List ℕ) (cap : Capability) : Type 0 where
+  pub says : (c : Capability) → IsCapability c → c ≢ cap → contents_in new c ≡ contents_in old c
+
+-- what is held of a capability once all that changes is taken away: what the old and the new values both say, and else nothing
+pub record IsLeft (old new held : Option Content) : Type 0 where
+  pub same : old ≡ new → held ≡ without_cancel new
+  pub gone : old ≢ new → held ≡ None
 
 -- the image of what the bytes hold, with another content of a capability, and the most bytes that it may have
 abbrev pub image_with : List ℕ → Capability → Option Content → List ℕ

@@ -73,9 +73,9 @@ impl Image {
         names_of(&self.bytes)
     }
 
-    /// The same entry with the values of another table: where few values change, a copy in which each
-    /// of them is set. Where more do, an image between would be over its limit, or the copy gets no
-    /// memory, the entry is laid anew.
+    /// The same entry with the values of another table: a copy in which first each value that changes
+    /// is taken away and then the new ones are given. Where a number of either table is over 32,767, or
+    /// the copy gets no memory, the entry is laid anew.
     ///
     /// # Errors
     /// [`WriteError::TooLarge`] exactly where [`write`] answers it, and [`WriteError::Memory`].
@@ -88,7 +88,7 @@ impl Image {
         ensures memory { IsErrOf result WriteError.Memory → length (image (names_in self.now) (contents new.now)) ≤ limit_of (contents new.now) }
         ensures names_fit { IsErrOf result WriteError.NamesTooLong → ⊥ }
     {
-        match changed_copy(self, alloc, old.entries(), new.entries()) {
+        match changed_copy(self, alloc, old, new) {
             Some(image) => {
                 image.is_laid();
                 Ok(image)

@@ -1,24 +1,23 @@
-// An image given the values of another table: one walk over both tables finds what changes, and each
-// capability that does is set in a copy.
-ghost use Rattle.std.specs.Prelude.{◌≡◌, Some, option_map, IfSome, IsTrue};
+// An image given the values of another table: first each value that changes is taken away, then each
+// new one is given. So what an image between holds is a part of the old values or of the new ones,
+// and where the limit is one for all of them none is over it.
+ghost use Rattle.std.specs.Prelude.{◌≡◌, ◌≢◌, ◌↔◌, Some, option_map, IfSome, IsTrue};
 ghost use Rattle.ti_caps.specs.Tables.{Capability, IsCapability};
+ghost use Rattle.ti_layout.specs.declared.layout.Format.TheVariants.{Extended};
+ghost use Rattle.ti_layout.specs.Image.{format_of};
 ghost use Rattle.ti_layout.specs.Laws.{without_cancel};
 ghost use Rattle.ti_layout.specs.Values.{contents, content_of, entries_of, Agrees, AgreesIfSome, IsKept};
-ghost use Rattle.ti_compiled.specs.Changes.{HoldsGiven};
+ghost use Rattle.ti_compiled.specs.Changes.{HoldsGiven, IsLeft, IsSameBut};
 ghost use Rattle.ti_compiled.specs.Held.{names_in, contents_in};
 
 use crate::image::Image;
 use std::alloc::Global;
 use ti_caps::Cap;
-use ti_layout::{Turn, Value, whose_turn};
-
-// The most values that are set in a copy. By instructions, to lay an entry anew costs as much as to
-// copy it, to compare its values and to set one to three of them, the more the more texts it has.
-const CHANGES_MAX: usize = 2;
+use ti_layout::{Format, Table, Value, format_wanted};
 
 // Whether two values say the same.
 fn is_same(first: &Value, second: &Value) -> bool
-    ensures { IsTrue result → content_of first.now ≡ content_of second.now }
+    ensures { IsTrue result ↔ (content_of first.now ≡ content_of second.now) }
 {
     match (first, second) {
         (Value::True, Value::True) | (Value::Cancelled, Value::Cancelled) => true,
@@ -28,80 +27,102 @@ fn is_same(first: &Value, second: &Value) -> bool
     }
 }
 
-// Gives a capability a value or takes it away, where changes are left.
-fn change(image: &mut Image, left: &mut usize, cap: Cap, value: Option<&Value>) -> Option<()>
+// Whether a table gives a capability this value.
+fn gives(table: &Table, entry: &(Cap, Value)) -> bool
+    ensures { IsTrue result ↔ (contents table.now entry.now.0 ≡ Some (content_of entry.now.1)) }
+{
+    match table.get(entry.0) {
+        Some(value) => is_same(value, &entry.1),
+        None => false,
+    }
+}
+
+// Gives a capability a value, or takes it away.
+fn set(image: &mut Image, cap: Cap, value: Option<&Value>) -> Option<()>
     requires agrees { AgreesIfSome cap (option_map (λ v. content_of v.now) value) }
+    ensures valid { IsCapability cap }
     ensures names { IfSome result (λ _. names_in image.new ≡ names_in image.old) }
     ensures contents { IfSome result (λ _. HoldsGiven image.old image.new cap (without_cancel (option_map (λ v. content_of v.now) value.entry))) }
 {
-    *left = left.checked_sub(1)?;
     image.set_value(cap, value).ok()
 }
 
-// Gives a capability the value that it has in a table.
-fn give(image: &mut Image, left: &mut usize, entry: &(Cap, Value)) -> Option<()>
-    requires agrees { Agrees entry.now.0 (content_of entry.now.1) }
+// Takes an old value away, unless the new table gives the same.
+fn take_away_changed(image: &mut Image, entry: &(Cap, Value), new: &Table) -> Option<()>
+    requires held { contents_in image.old entry.now.0 ≡ without_cancel (Some (content_of entry.now.1)) }
     ensures names { IfSome result (λ _. names_in image.new ≡ names_in image.old) }
-    ensures contents { IfSome result (λ _. HoldsGiven image.old image.new entry.now.0 (without_cancel (Some (content_of entry.now.1)))) }
+    ensures others { IfSome result (λ _. IsSameBut image.old image.new entry.now.0) }
+    ensures left { IfSome result (λ _. IsLeft (Some (content_of entry.now.1)) (contents new.now entry.now.0) (contents_in image.new entry.now.0)) }
 {
-    change(image, left, entry.0, Some(&entry.1))
-}
-
-// Gives a capability that has a value already the one that it has in a table, if that is another.
-fn renew(image: &mut Image, left: &mut usize, held: &Value, entry: &(Cap, Value)) -> Option<()>
-    requires agrees { Agrees entry.now.0 (content_of entry.now.1) }
-    requires held { contents_in image.old entry.now.0 ≡ without_cancel (Some (content_of held.now)) }
-    ensures names { IfSome result (λ _. names_in image.new ≡ names_in image.old) }
-    ensures contents { IfSome result (λ _. HoldsGiven image.old image.new entry.now.0 (without_cancel (Some (content_of entry.now.1)))) }
-{
-    if is_same(held, &entry.1) {
+    if gives(new, entry) {
         return Some(());
     }
-    give(image, left, entry)
+    set(image, entry.0, None)?;
+    Some(())
 }
 
-// A copy of an image, where there is memory for it.
-fn copy_of(image: &Image, alloc: Global) -> Option<Image>
-    ensures { IfSome result (λ i. i ≡ image.now) }
+// Takes the old values away that the new table does not give.
+fn take_all_changed_away(image: &mut Image, old: &[(Cap, Value)], new: &Table) -> Option<()>
+    requires kept { IsKept (entries_of old.now) }
+    requires held { (c : Capability) → IsCapability c → contents_in image.old c ≡ without_cancel (contents (entries_of old.now) c) }
+    ensures names { IfSome result (λ _. names_in image.new ≡ names_in image.old) }
+    ensures left { IfSome result (λ _. (c : Capability) → IsCapability c → IsLeft (contents (entries_of old.now) c) (contents new.now c) (contents_in image.new c)) }
 {
-    image.copy(alloc).ok()
+    for entry in old {
+        take_away_changed(image, entry, new)?;
+    }
+    Some(())
+}
+
+// Gives a new value, unless the old table gave the same.
+fn give_changed(image: &mut Image, old: &Table, entry: &(Cap, Value)) -> Option<()>
+    requires agrees { Agrees entry.now.0 (content_of entry.now.1) }
+    requires left { IsLeft (contents old.now entry.now.0) (Some (content_of entry.now.1)) (contents_in image.old entry.now.0) }
+    ensures names { IfSome result (λ _. names_in image.new ≡ names_in image.old) }
+    ensures others { IfSome result (λ _. IsSameBut image.old image.new entry.now.0) }
+    ensures given { IfSome result (λ _. contents_in image.new entry.now.0 ≡ without_cancel (Some (content_of entry.now.1))) }
+{
+    if gives(old, entry) {
+        return Some(());
+    }
+    set(image, entry.0, Some(&entry.1))?;
+    Some(())
+}
+
+// Gives the new values that the old table did not.
+fn give_all_changed(image: &mut Image, old: &Table, new: &[(Cap, Value)]) -> Option<()>
+    requires kept { IsKept (entries_of new.now) }
+    requires left { (c : Capability) → IsCapability c → IsLeft (contents old.now c) (contents (entries_of new.now) c) (contents_in image.old c) }
+    ensures names { IfSome result (λ _. names_in image.new ≡ names_in image.old) }
+    ensures contents { IfSome result (λ _. (c : Capability) → IsCapability c → contents_in image.new c ≡ without_cancel (contents (entries_of new.now) c)) }
+{
+    for entry in new {
+        give_changed(image, old, entry)?;
+    }
+    Some(())
+}
+
+// Whether a table has a number that only the extended format holds.
+fn has_wide_number(table: &Table) -> bool
+    ensures { IsTrue result ↔ (format_of (contents table.now) ≡ Extended) }
+{
+    matches!(format_wanted(table.entries()), Format::Extended)
 }
 
 /// A copy of an image that holds the values of one table, which holds those of another. `None` where
-/// more than two values change, where an image between would be over its limit, and where there is
-/// no memory.
-pub fn changed_copy(
-    image: &Image,
-    alloc: Global,
-    old: &[(Cap, Value)],
-    new: &[(Cap, Value)],
-) -> Option<Image>
-    requires old { IsKept (entries_of old.now) }
-    requires new { IsKept (entries_of new.now) }
-    requires held { (c : Capability) → IsCapability c → contents_in image.now c ≡ without_cancel (contents (entries_of old.now) c) }
+/// a number of the old or of the new values is over 32,767, since the limit is another there, where
+/// the new entry would be over the limit, and where there is no memory.
+pub fn changed_copy(image: &Image, alloc: Global, old: &Table, new: &Table) -> Option<Image>
+    requires held { (c : Capability) → IsCapability c → contents_in image.now c ≡ without_cancel (contents old.now c) }
+    ensures narrow { IfSome result (λ _. (format_of (contents old.now) ≢ Extended) × (format_of (contents new.now) ≢ Extended)) }
     ensures names { IfSome result (λ i. names_in i ≡ names_in image.now) }
-    ensures contents { IfSome result (λ i. (c : Capability) → IsCapability c → contents_in i c ≡ without_cancel (contents (entries_of new.now) c)) }
+    ensures contents { IfSome result (λ i. (c : Capability) → IsCapability c → contents_in i c ≡ without_cancel (contents new.now c)) }
 {
-    let mut copy = copy_of(image, alloc)?;
-    let mut left = CHANGES_MAX;
-    let mut at_old = 0;
-    let mut at_new = 0;
-    while let Some(turn) = whose_turn(old, at_old, new, at_new) {
-        match turn {
-            Turn::First => {
-                change(&mut copy, &mut left, old[at_old].0, None)?;
-                at_old += 1;
-            }
-            Turn::Second => {
-                give(&mut copy, &mut left, &new[at_new])?;
-                at_new += 1;
-            }
-            Turn::Both => {
-                renew(&mut copy, &mut left, &old[at_old].1, &new[at_new])?;
-                at_old += 1;
-                at_new += 1;
-            }
-        }
+    if has_wide_number(old) || has_wide_number(new) {
+        return None;
     }
+    let mut copy = image.copy(alloc).ok()?;
+    take_all_changed_away(&mut copy, old.entries(), new)?;
+    give_all_changed(&mut copy, old, new.entries())?;
     Some(copy)
 }

@@ -1,7 +1,7 @@
 //! Compiled terminfo entries, as term(5) lays them out.
 //!
 //! - `values`: the values of an entry, a finite map from capabilities
-//! - `merging`: a walk over two such maps, and both made one, where the first decides
+//! - `merging`: two such maps made one, where the first decides
 //! - `mentions`: such a map made of mentions of capabilities, of which the first of each decides
 //! - `layout`: the two formats, and the numbers of a header
 //! - `writing`: an entry written from its names and values
@@ -25,8 +25,7 @@ pub use fault::ReadError;
 pub use laws::{images_are_of_values, images_are_read, one_reading};
 pub use layout::{Format, HEADER_SIZE, Header};
 pub use mentions::Mentions;
-pub use merging::{Turn, whose_turn};
 pub use sections::{number, word};
 pub use values::{Table, Value};
 pub use view::View;
-pub use writing::{WriteError, write};
+pub use writing::{WriteError, format_wanted, write};

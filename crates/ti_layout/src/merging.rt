@@ -11,19 +11,19 @@ use std::alloc::{AllocError, Global};
 use std::cmp::Ordering;
 use ti_caps::Cap;
 
-/// Whose value comes next in a walk over two tables.
-pub enum Turn {
-    /// That of the first.
+// Whose value comes next in a walk over two tables.
+enum Turn {
+    // That of the first.
     First,
-    /// That of the second.
+    // That of the second.
     Second,
-    /// Those of both, which have the same capability.
+    // Those of both, which have the same capability.
     Both,
 }
 
-/// Whose value comes next, where so many of the first and of the second are passed; `None` where
-/// nothing is left of either.
-pub fn whose_turn(
+// Whose value comes next, where so many of the first and of the second are passed; `None` where
+// nothing is left of either.
+fn whose_turn(
     first: &[(Cap, Value)],
     at_first: usize,
     second: &[(Cap, Value)],

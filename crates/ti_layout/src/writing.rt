@@ -83,8 +83,9 @@ fn is_wide(value: &Value) -> bool
     matches!(value, Value::Number(number) if *number > SHORT_MAX)
 }
 
-// The format that the numbers want.
-fn format_wanted(entries: &[(Cap, Value)]) -> Format
+/// The format of the entry with these values, which stand in the order of the entry: the extended one
+/// where a number is over 32,767.
+pub fn format_wanted(entries: &[(Cap, Value)]) -> Format
     requires { IsKept (entries_of entries.now) }
     ensures { result ≡ format_of (contents (entries_of entries.now)) }
 {
