@@ -109,6 +109,13 @@ fn has_wide_number(table: &Table) -> bool
     matches!(format_wanted(table.entries()), Format::Extended)
 }
 
+// A copy of an image, where there is memory for it.
+fn copy_of(image: &Image, alloc: Global) -> Option<Image>
+    ensures { IfSome result (λ i. i ≡ image.now) }
+{
+    image.copy(alloc).ok()
+}
+
 /// A copy of an image that holds the values of one table, which holds those of another. `None` where
 /// a number of the old or of the new values is over 32,767, since the limit is another there, where
 /// the new entry would be over the limit, and where there is no memory.
@@ -121,7 +128,7 @@ pub fn changed_copy(image: &Image, alloc: Global, old: &Table, new: &Table) -> O
     if has_wide_number(old) || has_wide_number(new) {
         return None;
     }
-    let mut copy = image.copy(alloc).ok()?;
+    let mut copy = copy_of(image, alloc)?;
     take_all_changed_away(&mut copy, old.entries(), new)?;
     give_all_changed(&mut copy, old, new.entries())?;
     Some(copy)
