@@ -1,5 +1,5 @@
 -- A walk over the entries of a table, by which what is held of each capability comes to be as it is wanted.
-use Rattle.std.proofs.Common.{◌≡◌, ◌≢◌, ℕ, suc, ◌+◌, ◌<◌, ◌≤◌, true, false, List, length, get_or, Option, Some, None, refl, sym, ap, ◌∙◌, subst, arith, inl, inr}
+use Rattle.std.proofs.Common.{◌≡◌, ◌≢◌, ℕ, ◌+◌, ◌<◌, ◌≤◌, true, false, List, length, get_or, Option, Some, None, refl, sym, ap, ◌∙◌, subst, arith, inl, inr}
 use Rattle.std.proofs.lemmas.Bool.{cases_lt}
 use Rattle.std.proofs.lemmas.List.{get_or_default, length-map}
 use Rattle.ti_caps.specs.Tables.{Capability, IsCapability, same_capability}
@@ -18,51 +18,79 @@ use Rattle.ti_compiled.proofs.Given.{given_here, given_other}
 abbrev pub Wanted : Type 1
 Wanted = Capability → Option Content → Type 0
 
--- no entry from a place on is of the capability
-abbrev pub IsNotFrom : List Entry → ℕ → Capability → Type 0
-IsNotFrom es k c = (m : ℕ) (e : Entry) → k ≤ m → m < length es → (get_or es m e).0 ≢ c
+-- which places of the entries a walk has still to come to
+abbrev pub Places : Type 1
+Places = ℕ → Type 0
 
--- of the entries from a place on, what is held is as it was at first, and of every other capability as it is at last
-pub record Walks (es : List Entry) (first last : Wanted) (held : Contents) (k : ℕ) : Type 0 where
-  pub ahead : (m : ℕ) (e : Entry) → k ≤ m → m < length es → first (get_or es m e).0 (held (get_or es m e).0)
-  pub behind : (c : Capability) → IsCapability c → IsNotFrom es k c → last c (held c)
+abbrev pub from : ℕ → Places
+from k m = k ≤ m
+
+abbrev pub below : ℕ → Places
+below k m = m < k
+
+-- no entry at such a place is of the capability
+abbrev pub IsAtNone : List Entry → Places → Capability → Type 0
+IsAtNone es left c = (m : ℕ) (e : Entry) → left m → m < length es → (get_or es m e).0 ≢ c
+
+-- of the entries that are left, what is held is as it was at first, and of every other capability as it is at last
+pub record Walks (es : List Entry) (first last : Wanted) (held : Contents) (left : Places) : Type 0 where
+  pub ahead : (m : ℕ) (e : Entry) → left m → m < length es → first (get_or es m e).0 (held (get_or es m e).0)
+  pub behind : (c : Capability) → IsCapability c → IsAtNone es left c → last c (held c)
+
+-- one place less is left
+pub record Passes (left later : Places) (k : ℕ) : Type 0 where
+  pub was_left : (m : ℕ) → later m → left m
+  pub is_passed : (m : ℕ) → later m → m ≢ k
+  pub stays : (m : ℕ) → left m → m ≢ k → later m
+
+pub passes_up : (k : ℕ) → Passes (from k) (from (k + 1)) k
+passes_up k = record { was_left = λ m le. omega arith; is_passed = λ m le e. omega arith; stays = λ m le other. elim (cases_lt k m) [ inl lt ↦ omega arith | inr not_lt ↦ absurd (other (omega arith)) ] }
+
+pub passes_down : (k j : ℕ) → k ≡ j + 1 → Passes (below k) (below j) j
+passes_down k j e = record { was_left = λ m lt. omega arith; is_passed = λ m lt s. omega arith; stays = λ m lt other. elim (cases_lt m j) [ inl under ↦ under | inr not_under ↦ absurd (other (omega arith)) ] }
 
 module _ (es : List Entry) (kept : IsKept es) (first last : Wanted) where
-  pub walk_begins : (held : Contents) → ((c : Capability) → IsCapability c → first c (held c))
-      → ((c : Capability) → contents es c ≡ None → first c (held c) → last c (held c)) → Walks es first last held 0
-  walk_begins held at_first quiet = record {
-    ahead = λ m e le lt. at_first (get_or es m e).0 (kept.agree m e lt).0;
-    behind = λ c valid apart. quiet c (contents_nowhere es c (λ m e lt. apart m e (omega arith) lt)) (at_first c valid);
+  pub walk_begins : (held : Contents) (left : Places) → ((m : ℕ) → m < length es → left m) → ((c : Capability) → IsCapability c → first c (held c))
+      → ((c : Capability) → contents es c ≡ None → first c (held c) → last c (held c)) → Walks es first last held left
+  walk_begins held left all at_first quiet = record {
+    ahead = λ m e here lt. at_first (get_or es m e).0 (kept.agree m e lt).0;
+    behind = λ c valid apart. quiet c (contents_nowhere es c (λ m e lt. apart m e (all m lt) lt)) (at_first c valid);
   }
 
-  module _ (held : Contents) (k : ℕ) (x : Entry) (within : k < length es) (here : get_or es k x ≡ x) (walks : Walks es first last held k) where
+  module _ (held : Contents) (left later : Places) (k : ℕ) (passes : Passes left later k) (here : left k) (x : Entry) (within : k < length es) (is : get_or es k x ≡ x) (walks : Walks es first last held left) where
     read_here : (e : Entry) → get_or es k e ≡ x
-    read_here e = get_or_default es k e x within ∙ here
+    read_here e = get_or_default es k e x within ∙ is
 
     pub first_here : first x.0 (held x.0)
-    first_here = subst (λ (y : Entry). first y.0 (held y.0)) here (walks.ahead k x (omega arith) within)
+    first_here = subst (λ (y : Entry). first y.0 (held y.0)) is (walks.ahead k x here within)
 
-    apart_later : (m : ℕ) (e : Entry) → suc k ≤ m → m < length es → (get_or es m e).0 ≢ x.0
-    apart_later m e le lt = elsewhere es kept x.0 k (record { in_range = within; is_here = λ d. ap (λ (y : Entry). y.0) (read_here d) }) m e (λ same. omega arith) lt
+    apart_elsewhere : (m : ℕ) (e : Entry) → m ≢ k → m < length es → (get_or es m e).0 ≢ x.0
+    apart_elsewhere m e other lt = elsewhere es kept x.0 k (record { in_range = within; is_here = λ d. ap (λ (y : Entry). y.0) (read_here d) }) m e other lt
 
-    pub walk_goes_on : (after : Contents) → last x.0 (after x.0) → ((c : Capability) → IsCapability c → c ≢ x.0 → after c ≡ held c) → Walks es first last after (k + 1)
+    at_none : (c : Capability) → x.0 ≢ c → IsAtNone es later c → IsAtNone es left c
+    at_none c other apart m d was lt = elim (cases_lt m k) [
+      | inl under ↦ apart m d (passes.stays m was (λ e. omega arith)) lt
+      | inr not_under ↦ elim (cases_lt k m) [
+        | inl over ↦ apart m d (passes.stays m was (λ e. omega arith)) lt
+        | inr not_over ↦ let s : k ≡ m = omega arith in λ one. other (sym (ap (λ (y : Entry). y.0) (subst (λ n. get_or es n d ≡ x) s (read_here d))) ∙ one)
+      ]
+    ]
+
+    pub walk_goes_on : (after : Contents) → last x.0 (after x.0) → ((c : Capability) → IsCapability c → c ≢ x.0 → after c ≡ held c) → Walks es first last after later
     walk_goes_on after done others = record {
-      ahead = λ m e le lt.
+      ahead = λ m e is_left lt.
           let c = (get_or es m e).0 in
-          subst (first c) (sym (others c (kept.agree m e lt).0 (apart_later m e (omega arith) lt))) (walks.ahead m e (omega arith) lt);
+          subst (first c) (sym (others c (kept.agree m e lt).0 (apart_elsewhere m e (passes.is_passed m is_left) lt))) (walks.ahead m e (passes.was_left m is_left) lt);
       behind = λ c valid apart. elim (same_capability x.0 c) as (λ b. same_capability x.0 c ≡ b → last c (after c)) [
         | true ↦ λ e. subst (λ d. last d (after d)) (same_capability-true x.0 c e) done
         | false ↦ λ e.
             let other : x.0 ≢ c = other_from_test x.0 c e in
-            subst (last c) (sym (others c valid (λ s. other (sym s)))) (walks.behind c valid (λ m d le lt. elim (cases_lt k m) [
-              | inl later ↦ apart m d (omega arith) lt
-              | inr not_later ↦ let s : k ≡ m = omega arith in λ one. other (sym (ap (λ (y : Entry). y.0) (subst (λ n. get_or es n d ≡ x) s (read_here d))) ∙ one)
-            ]))
+            subst (last c) (sym (others c valid (λ s. other (sym s)))) (walks.behind c valid (at_none c other apart))
       ] refl;
     }
 
-  pub walk_ends : (held : Contents) (k : ℕ) → length es ≤ k → Walks es first last held k → (c : Capability) → IsCapability c → last c (held c)
-  walk_ends held k le walks c valid = walks.behind c valid (λ m e from lt. absurd (omega arith))
+  pub walk_ends : (held : Contents) (left : Places) → ((m : ℕ) → left m → m < length es → ⊥) → Walks es first last held left → (c : Capability) → IsCapability c → last c (held c)
+  walk_ends held left none walks c valid = walks.behind c valid (λ m e here lt. absurd (none m here lt))
 
 -- ---- one capability given another content
 
@@ -109,22 +137,23 @@ module _ (xs : List (Capability × Value)) (kept : IsKept (entries_of xs)) (k : 
   entry_said : contents (entries_of xs) x.0 ≡ Some (content_of x.1)
   entry_said = let e : Entry = (x.0, content_of x.1) in subst (λ (y : Entry). contents (entries_of xs) y.0 ≡ Some y.1) (item_read xs k x within item) (contents_read (entries_of xs) kept k e inside)
 
-  module _ (other held : Contents) where
-    module _ (walks : Walks (entries_of xs) (says (contents (entries_of xs))) (leaves (contents (entries_of xs)) other) held k) where
+  module _ (other held : Contents) (left later : Places) (passes : Passes left later k) (here : left k) where
+    module _ (walks : Walks (entries_of xs) (says (contents (entries_of xs))) (leaves (contents (entries_of xs)) other) held left) where
       pub old_held : held x.0 ≡ without_cancel (Some (content_of x.1))
-      old_held = first_here (entries_of xs) kept _ _ held k (x.0, content_of x.1) inside (item_read xs k x within item) walks ∙ ap without_cancel entry_said
+      old_held = first_here (entries_of xs) kept _ _ held left later k passes here (x.0, content_of x.1) inside (item_read xs k x within item) walks ∙ ap without_cancel entry_said
 
       pub one_taken_away : (after : Contents) → IsLeft (Some (content_of x.1)) (other x.0) (after x.0) → ((c : Capability) → IsCapability c → c ≢ x.0 → after c ≡ held c)
-          → Walks (entries_of xs) (says (contents (entries_of xs))) (leaves (contents (entries_of xs)) other) after (k + 1)
-      one_taken_away after left same_but =
-          walk_goes_on (entries_of xs) kept _ _ held k (x.0, content_of x.1) inside (item_read xs k x within item) walks after
-          (subst (λ o. IsLeft o (other x.0) (after x.0)) (sym entry_said) left) same_but
+          → Walks (entries_of xs) (says (contents (entries_of xs))) (leaves (contents (entries_of xs)) other) after later
+      one_taken_away after is_left same_elsewhere =
+          walk_goes_on (entries_of xs) kept _ _ held left later k passes here (x.0, content_of x.1) inside (item_read xs k x within item) walks after
+          (subst (λ o. IsLeft o (other x.0) (after x.0)) (sym entry_said) is_left) same_elsewhere
 
-    module _ (walks : Walks (entries_of xs) (leaves other (contents (entries_of xs))) (says (contents (entries_of xs))) held k) where
+    module _ (walks : Walks (entries_of xs) (leaves other (contents (entries_of xs))) (says (contents (entries_of xs))) held left) where
       pub old_left : IsLeft (other x.0) (Some (content_of x.1)) (held x.0)
-      old_left = subst (λ o. IsLeft (other x.0) o (held x.0)) entry_said (first_here (entries_of xs) kept _ _ held k (x.0, content_of x.1) inside (item_read xs k x within item) walks)
+      old_left = subst (λ o. IsLeft (other x.0) o (held x.0)) entry_said (first_here (entries_of xs) kept _ _ held left later k passes here (x.0, content_of x.1) inside (item_read xs k x within item) walks)
 
       pub one_given : (after : Contents) → after x.0 ≡ without_cancel (Some (content_of x.1)) → ((c : Capability) → IsCapability c → c ≢ x.0 → after c ≡ held c)
-          → Walks (entries_of xs) (leaves other (contents (entries_of xs))) (says (contents (entries_of xs))) after (k + 1)
-      one_given after given same_but =
-          walk_goes_on (entries_of xs) kept _ _ held k (x.0, content_of x.1) inside (item_read xs k x within item) walks after (given ∙ sym (ap without_cancel entry_said)) same_but
+          → Walks (entries_of xs) (leaves other (contents (entries_of xs))) (says (contents (entries_of xs))) after later
+      one_given after given same_elsewhere =
+          walk_goes_on (entries_of xs) kept _ _ held left later k passes here (x.0, content_of x.1) inside (item_read xs k x within item) walks after
+          (given ∙ sym (ap without_cancel entry_said)) same_elsewhere

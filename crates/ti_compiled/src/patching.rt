@@ -61,15 +61,18 @@ fn take_away_changed(image: &mut Image, entry: &(Cap, Value), new: &Table) -> Op
     Some(())
 }
 
-// Takes the old values away that the new table does not give.
+// Takes the old values away that the new table does not give: the last one first, so that of what
+// goes nothing is left behind it that would have to be moved.
 fn take_all_changed_away(image: &mut Image, old: &[(Cap, Value)], new: &Table) -> Option<()>
     requires kept { IsKept (entries_of old.now) }
     requires held { (c : Capability) → IsCapability c → contents_in image.old c ≡ without_cancel (contents (entries_of old.now) c) }
     ensures names { IfSome result (λ _. names_in image.new ≡ names_in image.old) }
     ensures left { IfSome result (λ _. (c : Capability) → IsCapability c → IsLeft (contents (entries_of old.now) c) (contents new.now c) (contents_in image.new c)) }
 {
-    for entry in old {
-        take_away_changed(image, entry, new)?;
+    let mut left = old.len();
+    while left > 0 {
+        left -= 1;
+        take_away_changed(image, &old[left], new)?;
     }
     Some(())
 }

@@ -1,11 +1,15 @@
-use Rattle.std.proofs.Common.{◌≡◌}
+use Rattle.std.proofs.Common.{◌≡◌, ◌≤◌, length}
 use Rattle.ti_layout.specs.Values.{contents, entries_of}
 use Rattle.ti_compiled.specs.Held.{names_in, contents_in}
-use Rattle.ti_compiled.proofs.TableWalk.{Walks, says, leaves}
+use Rattle.ti_compiled.proofs.TableWalk.{Walks, below, says, leaves}
 use Rattle.ti_compiled.proofs.patching.take_all_changed_away.Given as goal
 
-abbrev pub invariant-loop-entry : goal.invariant-loop-entry
-invariant-loop-entry l = record {
+abbrev pub invariant-loop-left : goal.invariant-loop-left
+invariant-loop-left l = record {
+  within : l.left ≤ length l.old;
   names : names_in l.image ≡ names_in l.initial.image;
-  walks : Walks (entries_of l.old) (says (contents (entries_of l.old))) (leaves (contents (entries_of l.old)) (contents l.new)) (contents_in l.image) l.entry-index;
+  walks : Walks (entries_of l.old) (says (contents (entries_of l.old))) (leaves (contents (entries_of l.old)) (contents l.new)) (contents_in l.image) (below l.left);
 }
+
+abbrev pub decreases-loop-left : goal.decreases-loop-left
+decreases-loop-left l = l.left
