@@ -23,8 +23,8 @@ import limits
 import randoms
 import squares  # noqa: F401, adds its inputs
 
-# how many of each kind are made at random: short, and with --all. A session of `edits` has 20 edits.
-COUNTS = {"edits": (25, 100), "scripts": (1_000, 12_000), "sources": (600, 8_000)}
+# how many of each kind are made at random: short, and with --all. A session of `edits` has 20 edits, so these are 2,000.
+COUNTS = {"edits": (100, 100), "scripts": (1_000, 12_000), "sources": (600, 8_000)}
 # how many of the faults of a kind are printed
 FAULTS_SHOWN = 10
 
