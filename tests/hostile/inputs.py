@@ -311,6 +311,23 @@ def full_chain_short(take):
     return take.tic(full_chain(10_000), b"")
 
 
+@case("a chain of 2,000 blocks: every second of the 414 texts of the first changes, then each, and all come back")
+def texts_change(take):
+    count = 2_000
+
+    def first(value):
+        return b",".join(it + b"=" + value(at) for at, it in enumerate(NAMES_OF[TEXT]))
+
+    states = [first(lambda at: b"a%d" % (at % 10)), first(lambda at: (b"a%d" % (at % 10), b"bcd")[at % 2]), first(lambda at: b"e")]
+    # what a list of the first and the last alone compiles the last to
+    fresh = [take(["session"], b"i 0\nb0,%s,\n.\ni 1\nb%d,use=b0,\n.\np 1\n" % (it, count - 1)).out.split(b"\n")[2] + b"\n" for it in states]
+    if len(set(fresh)) != len(states):
+        return "entries of other texts are the same"
+    show = b"p %d\n" % (count - 1)
+    commands = show + b"".join(b"r 0\nb0,%s,\n.\n" % it + show for it in states[1:] + states[:1])
+    return take.session(chain(count, states[0]), commands, b"ok\n".join(fresh + fresh[:1]))
+
+
 @case("a chain of 65,535 blocks, each with all 497 capabilities of the first", long=True)
 def full_chain_long(take):
     return take.tic(full_chain(BLOCKS_MAX), b"")
