@@ -221,6 +221,19 @@ def wide_headers(take):
         b"2: W4 DuplicateName %s\n" % it for it in short_names(250_000)))
 
 
+@case("two blocks of 1,048,576 bytes, each a header of 300,000 names, of which 224,000 differ, compiled")
+def fullest_headers(take):
+    names = short_names(224_000)
+    again = [names[at % 80] for at in range(76_000)]
+    short = len(wide_header(names + again)) - 2
+    names[-1] += b"n" * (BLOCK_MAX - 2 - short)
+    header = wide_header(names + again)
+    if len(header) != BLOCK_MAX:
+        return f"a header of {len(header)} bytes was made"
+    return take.tic([header] * 2, b"1: E2 NamesTooLong\n2: E2 NamesTooLong\n" + b"".join(
+        b"2: W4 DuplicateName %s\n" % it for it in names))
+
+
 @case("two headers of a megabyte with one name 300,000 times, compiled")
 def repeated_names(take):
     header = wide_header([b"nn"] * 300_000)
@@ -364,9 +377,12 @@ def taken_out(take):
 @case("65,536 blocks are too many, and a session refuses the last")
 def too_many(take):
     blocks = [b"b%d,cols#1,\n" % at for at in range(BLOCKS_MAX)]
+    long = b"x,\n" + b"#\n" * (BLOCK_MAX // 2)
     return take.fault(["tic", "-c"], b"".join(blocks) + b"x,\n", 1, b"", b"tic: too many blocks\n") or take.session(
-        blocks, b"i 0\nx,\n.\ni 9\n\n.\ni 70000\nx,\n.\nm 65534 0\np 0\nd 65534\ni 65534\nx,\n.\np 65534\n",
-        b"refused TooMany\nrefused NotOneBlock\nrefused Position\nok\n" + entry_of(b"b65534") + b"ok\nok\n"
+        blocks, b"i 0\nx,\n.\ni 9\n\n.\ni 70000\nx,\n.\ni 70000\n" + long + b".\nr 65535\n" + long + b".\ni 0\n" + long
+        + b".\nm 65534 0\np 0\nd 65534\ni 65534\nx,\n.\np 65534\n",
+        b"refused TooMany\nrefused NotOneBlock\nrefused Position\nrefused Position\nrefused Position\nrefused TooLong\nok\n"
+        + entry_of(b"b65534") + b"ok\nok\n"
         + b"1a0102000000000000000000" + b"7800" + b"\n")
 
 

@@ -78,6 +78,11 @@ def edits(seed):
     return fault
 
 
+def closed(lines):
+    """A script with lines behind it that end the text of an edit, where it ends within one."""
+    return lines + b"\n.\n"
+
+
 def script(seed):
     """A session of any commands, and a fresh session of the list that it then holds."""
     source, database = Source(seed), Database()
@@ -90,11 +95,13 @@ def script(seed):
             database.apply(edit)
             lines += lines_of(edit) + (b"w\n" if source.maybe(0.6) else b"")
     if source.maybe(0.15):
-        lines = source.damage(lines)
+        lines = closed(source.damage(lines))
+    before, status, texts = replies(lines)
+    if status != 0:
+        # a line that is too long ended it, and nothing behind it is read
         return checked(lines)[2]
-    before = len(replies(lines)[0])
-    got, texts, fault = checked(lines + shown(database.texts))
-    return fault or fresh_fault(texts, got[before:])
+    got, texts, fault = checked(lines + shown(texts))
+    return fault or fresh_fault(texts, got[len(before) :])
 
 
 def source(seed):

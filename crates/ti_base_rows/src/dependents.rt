@@ -74,8 +74,8 @@ fn chain(alloc: Global, count: usize) -> Result<Database, EditError> {
 
 #[test]
 fn a_chain_is_rebuilt_whole(rt: HostRuntime) -> Result<(), EditError> {
-    let mut database = chain(rt.alloc(), 300)?;
-    expect_first_replaced(&rt, &mut database, b"b0,cols#1,\n", 300, 300)?;
+    let mut database = chain(rt.alloc(), 65_535)?;
+    expect_first_replaced(&rt, &mut database, b"b0,cols#1,\n", 65_535, 65_535)?;
     expect_ends(&rt, &database, &[1, 0]);
     expect_report(&rt, &database, "")?;
     Ok(())

@@ -1,4 +1,4 @@
--- What a capability is given, by its kind (own).
+-- What a capability is given, by its kind, and what is held of it while values change (own).
 use Rattle.std.specs.Prelude.{◌≡◌, ◌≢◌, ℕ, ◌<◌, ◌≤◌, Bool, true, false, List, length, Option, Some, None, option_map}
 use Rattle.std.specs.Borrow.{Bor}
 use Rattle.ti_caps.specs.Tables.{Capability, IsCapability, capability}

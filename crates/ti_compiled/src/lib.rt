@@ -16,5 +16,5 @@ mod texts;
 pub use image::Image;
 pub use ti_layout::{
     Format, HEADER_SIZE, Header, Mentions, ReadError, Table, Value, View, WriteError,
-    images_are_of_values, images_are_read, number, one_reading, word, write,
+    format_wanted, images_are_of_values, images_are_read, number, one_reading, word, write,
 };

@@ -61,8 +61,8 @@ fn take_away_changed(image: &mut Image, entry: &(Cap, Value), new: &Table) -> Op
     Some(())
 }
 
-// Takes the old values away that the new table does not give: the last one first, so that of what
-// goes nothing is left behind it that would have to be moved.
+// Takes the old values away that the new table does not give: the last one first, so that what each
+// moves, which is what stands behind it, is only what stays.
 fn take_all_changed_away(image: &mut Image, old: &[(Cap, Value)], new: &Table) -> Option<()>
     requires kept { IsKept (entries_of old.now) }
     requires held { (c : Capability) → IsCapability c → contents_in image.old c ≡ without_cancel (contents (entries_of old.now) c) }

@@ -209,7 +209,7 @@ const CBT_AND_BEL_BYTES: &[u8] = b"\x1a\x01\x02\0\0\0\0\0\x02\0\x05\0x\0\0\0\x03
 const WIDE_BYTES: &[u8] = b"\x1e\x02\x02\0\0\0\x01\0\x02\0\x05\0x\0\0\x80\0\0\0\0\x03\0CC\0A\0";
 
 #[test]
-fn few_values_change(rt: HostRuntime) -> Result<(), AllocError> {
+fn values_of_a_patch_come_and_go(rt: HostRuntime) -> Result<(), AllocError> {
     expect_patched(
         &rt,
         rt.alloc(),
@@ -229,7 +229,7 @@ const ALL_KINDS_BYTES: &[u8] =
 const EMPTY_BYTES: &[u8] = b"\x1a\x01\x02\0\0\0\0\0\0\0\0\0x\0";
 
 #[test]
-fn many_values_change(rt: HostRuntime) -> Result<(), AllocError> {
+fn all_values_of_a_patch_change(rt: HostRuntime) -> Result<(), AllocError> {
     expect_patched(&rt, rt.alloc(), &[], &ALL_KINDS, ALL_KINDS_BYTES)?;
     expect_patched(&rt, rt.alloc(), &ALL_KINDS, &[], EMPTY_BYTES)
 }
