@@ -1,30 +1,30 @@
 -- Edits of a kept list of slots as exchanges: what planning asks holds, and what is rebuilt is right.
-use Rattle.std.proofs.Common.{◌≡◌, ◌≢◌, ◌↔◌, ◌⊎◌, inl, inr, ℕ, zero, suc, ◌<◌, ◌≤◌, Bool, true, false, ◌||◌, List, [], ◌∷◌, ◌++◌, length, set, map, All, Option, Some, None, option_map, slice_get, refl, sym, ◌∙◌, ap, subst, arith}
+use Rattle.std.proofs.Common.{◌≡◌, ◌≢◌, ◌↔◌, inl, inr, ℕ, zero, suc, ◌<◌, ◌≤◌, Bool, true, false, ◌||◌, List, [], ◌∷◌, ◌++◌, length, set, map, Option, Some, None, option_map, slice_get, refl, sym, ◌∙◌, ap, subst, arith}
 use Rattle.std.specs.List.{insert, remove}
-use Rattle.std.proofs.lemmas.List.{length-map, map-set}
-use Rattle.std.proofs.lemmas.List.Edits.{length-insert, length-remove}
+use Rattle.std.proofs.lemmas.List.{map-set}
+use Rattle.std.proofs.lemmas.List.Edits.{length-remove}
 use Rattle.std.proofs.lemmas.Option.{same_Some, none-some, slice_get-map}
 use Rattle.ti_source.specs.Reading.{Reading, reading_of}
 use Rattle.ti_source.specs.Parsing.{reading_of_text}
 use Rattle.ti_meaning.specs.Owner.{is_among, readings}
 use Rattle.ti_meaning.specs.Edits.{Change, IsInPlace, after, insertion, replacement, removal, relocation, with_item_moved}
-use Rattle.ti_meaning.specs.Exchange.{position_behind, PlacedBlock, Exchange, IsExchange, HasPlace, new_list, exchange_of, block_from}
-use Rattle.ti_meaning.specs.Dependents.{AreDependents, IsDependent, IsPutAt, Rebuilds, names_of, work}
+use Rattle.ti_meaning.specs.Exchange.{position_behind, Exchange, IsExchange, exchange_of, block_from}
+use Rattle.ti_meaning.specs.Dependents.{AreDependents, IsDependent, Rebuilds, names_of, work}
 use Rattle.ti_meaning.proofs.EditedLists.{map-insert, map-remove, insert-remove, remove-insert}
 use Rattle.ti_meaning.proofs.Exchanging.{list_any-append}
 use Rattle.ti_meaning.proofs.ExchangeLaws.{exchanged}
 use Rattle.ti_meaning.proofs.Placing.{get-insert, get-insert_at, split-insert}
-use Rattle.ti_index.specs.Labels.{Has, IsDistinct}
+use Rattle.ti_index.specs.Labels.{IsDistinct}
 use Rattle.ti_slots.specs.declared.slots.Settled.{Settled}
 use Rattle.ti_slots.specs.declared.slots.Slot.{Slot}
 use Rattle.ti_slots.specs.declared.slots.Slots.{Slots}
-use Rattle.ti_slots.specs.Slots.{IsIndexed, StandsAt, slot_at, reading_at, blocks_of, texts_of}
-use Rattle.ti_slots.specs.Changes.{HasRoomFor, KeepsRooms, PutsIn, TakesOut, ShowsSame, IsAgain, ChangesAreUndone}
+use Rattle.ti_slots.specs.Slots.{IsIndexed, StandsAt, slot_at, blocks_of, texts_of}
+use Rattle.ti_slots.specs.Changes.{HasRoomFor, PutsIn, TakesOut, ShowsSame, ChangesAreUndone}
 use Rattle.ti_slots.specs.Settled.{IsSettled}
 use Rattle.ti_dependents.specs.Dependents.{IsExchangeOf}
 use Rattle.ti_plan.specs.Plan.{OthersAreSettled, IsReady}
 use Rattle.ti_base.specs.KeptSlots.{AreKept, AreSettled, AreSound, IsSoundSlot, PlacedSlot, slots_of, reading_seen, text_seen, with_slot, block_seen, exchange_with, HasId, with_settled}
-use Rattle.ti_base.proofs.SlotLists.{blocks_seen, texts_seen, length_slots, length_texts, slot_there, id_there, are_filled, read_from_texts, blocks_read, readings_with}
+use Rattle.ti_base.proofs.SlotLists.{blocks_seen, texts_seen, length_slots, length_texts, slot_there, blocks_read, readings_with}
 use Rattle.ti_base.proofs.Untouched.{others_settled, settled_in}
 
 -- ---- sound slots

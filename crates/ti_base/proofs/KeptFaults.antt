@@ -1,18 +1,16 @@
 -- The faults kept with a block, of which those of its header come first, and the faults of all blocks.
-use Rattle.std.proofs.Common.{◌≡◌, ℕ, suc, ◌+◌, ◌<◌, ◌≤◌, nat_lt, Bool, true, false, cond, List, [], ◌∷◌, ◌++◌, length, length-append, append_assoc, take, drop, map, filter, Option, Some, None, slice_get, refl, sym, ◌∙◌, ap, arith}
+use Rattle.std.proofs.Common.{◌≡◌, ℕ, suc, ◌+◌, ◌≤◌, nat_lt, Bool, true, false, cond, List, [], ◌∷◌, ◌++◌, length, length-append, append_assoc, take, drop, map, filter, Option, Some, None, slice_get, refl, sym, ◌∙◌, ap, arith}
 use Rattle.std.specs.List.{take-map, drop-map}
 use Rattle.std.proofs.lemmas.List.{length-map}
 use Rattle.std.proofs.lemmas.List.Elements.{filter-append}
-use Rattle.ti_source.specs.declared.code.Code.{Code}
 use Rattle.ti_source.specs.declared.code.Code.TheVariants as code
-use Rattle.ti_source.specs.Codes.{is_of_header}
 use Rattle.ti_source.specs.Reading.{Reading, ReadItem, ReadFault}
 use Rattle.ti_meaning.specs.Owner.{owner_block}
 use Rattle.ti_meaning.specs.Expansion.{resolves}
 use Rattle.ti_meaning.specs.Reaching.{used_name, leads_to}
 use Rattle.ti_meaning.specs.Compiled.{EntryState, unresolved, oversized, written, state_of}
-use Rattle.ti_meaning.specs.Faults.{SourceFault, fault_between, use_fault, local_fault, local_faults, is_kept, name_fault, name_faults, is_owned_before, distinct, fault_of_use, fault_of_item, faults_before, faults_from, item_faults, entry_faults, block_faults, faults_after}
-use Rattle.ti_meaning.specs.KeptBlocks.{is_duplicate, is_no_duplicate, lasting_faults}
+use Rattle.ti_meaning.specs.Faults.{SourceFault, fault_between, local_fault, local_faults, is_kept, name_fault, name_faults, is_owned_before, distinct, fault_of_use, fault_of_item, faults_before, faults_from, item_faults, entry_faults, block_faults, faults_after}
+use Rattle.ti_meaning.specs.KeptBlocks.{is_no_duplicate, lasting_faults}
 use Rattle.ti_slots.specs.declared.slots.KeptFault.{KeptFault}
 use Rattle.ti_slots.specs.Settled.{fault_at}
 use Rattle.ti_base.proofs.Lists.{drop_get}

@@ -1,14 +1,14 @@
 -- Texts that are loaded in one go are refused for one cause alone.
-use Rattle.std.proofs.Common.{◌≡◌, inl, inr, ℕ, ◌+◌, ◌<◌, ◌≤◌, List, take, Some, slice_get, refl, sym, ◌∙◌, ap, subst, arith}
+use Rattle.std.proofs.Common.{◌≡◌, inl, inr, ℕ, ◌<◌, List, take, slice_get, sym, ◌∙◌, ap, subst, arith}
 use Rattle.std.proofs.lemmas.Bool.{cases_eq, cases_lt}
 use Rattle.std.proofs.lemmas.List.{take-take}
 use Rattle.std.proofs.lemmas.Option.{same_Some}
 use Rattle.ti_index.proofs.Lists.{get-take}
 use Rattle.ti_meaning.proofs.Causes.{one_cause, refused_unsound}
-use Rattle.ti_meaning.specs.Edits.{insertion, IsRefusal, IsSoundEdit}
+use Rattle.ti_meaning.specs.Edits.{insertion, IsSoundEdit}
 use Rattle.ti_meaning.specs.declared.edits.EditError.{EditError}
 use Rattle.ti_meaning.specs.declared.edits.EditError.TheVariants.{Memory}
-use Rattle.ti_base.specs.Loading.{AreTaken, IsLoadRefusal, LoadsHaveOneRefusal, TakenLoadsAreNotRefused}
+use Rattle.ti_base.specs.Loading.{IsLoadRefusal, LoadsHaveOneRefusal, TakenLoadsAreNotRefused}
 
 pub taken_not_refused : TakenLoadsAreNotRefused
 taken_not_refused texts cause taken r apart =

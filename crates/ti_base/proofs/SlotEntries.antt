@@ -1,5 +1,5 @@
 -- What the slot of a block tells of its text and its entry.
-use Rattle.std.proofs.Common.{◌≡◌, ℕ, Bool, true, false, cond, List, map, Option, Some, None, option_and_then, slice_get, refl, sym, ◌∙◌, ap}
+use Rattle.std.proofs.Common.{◌≡◌, ℕ, Bool, true, false, cond, List, Option, Some, None, option_and_then, slice_get, refl, sym, ◌∙◌, ap}
 use Rattle.std.proofs.lemmas.Option.{slice_get-map}
 use Rattle.ti_source.specs.Reading.{Reading, reading_of}
 use Rattle.ti_meaning.specs.Owner.{readings}
@@ -10,7 +10,7 @@ use Rattle.ti_slots.specs.declared.slots.Slot.{Slot}
 use Rattle.ti_slots.specs.declared.slots.Slots.{Slots}
 use Rattle.ti_slots.specs.declared.slots.State.{State}
 use Rattle.ti_slots.specs.declared.slots.State.TheVariants as s
-use Rattle.ti_slots.specs.Slots.{blocks_of, texts_of}
+use Rattle.ti_slots.specs.Slots.{texts_of}
 use Rattle.ti_slots.specs.Settled.{state_seen}
 use Rattle.ti_base.specs.KeptSlots.{AreKept, slots_of, text_seen}
 use Rattle.ti_base.proofs.SlotLists.{blocks_seen, texts_seen, blocks_read}

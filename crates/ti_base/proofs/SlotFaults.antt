@@ -1,7 +1,7 @@
 -- What the slot of a block tells of its faults.
-use Rattle.std.proofs.Common.{◌≡◌, ℕ, List, map, Some, slice_get, refl, sym, ◌∙◌, ap, subst}
+use Rattle.std.proofs.Common.{◌≡◌, ℕ, map, Some, slice_get, refl, sym, ◌∙◌, ap, subst}
 use Rattle.std.proofs.lemmas.Option.{slice_get-map}
-use Rattle.ti_source.specs.Reading.{Reading, reading_of}
+use Rattle.ti_source.specs.Reading.{reading_of}
 use Rattle.ti_meaning.specs.KeptBlocks.{lasting_faults}
 use Rattle.ti_slots.specs.declared.slots.Slot.{Slot}
 use Rattle.ti_slots.specs.declared.slots.Slots.{Slots}

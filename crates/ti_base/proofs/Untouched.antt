@@ -1,24 +1,22 @@
 -- A block that does not depend on an exchange is settled after it, at its new position.
-use Rattle.std.proofs.Common.{◌≡◌, ℕ, inl, inr, List, [], ◌∷◌, map, Option, Some, None, option_map, slice_get, refl, sym, ◌∙◌, ap, subst}
+use Rattle.std.proofs.Common.{◌≡◌, ℕ, inl, inr, List, [], ◌∷◌, map, Option, Some, None, slice_get, refl, sym, ◌∙◌, ap, subst}
 use Rattle.std.proofs.lemmas.Option.{slice_get-map}
-use Rattle.std.proofs.lemmas.List.{length-map}
 use Rattle.ti_source.specs.Reading.{Reading, reading_of}
 use Rattle.ti_layout.specs.declared.values.Table.{Table}
 use Rattle.ti_layout.specs.Values.{contents}
 use Rattle.ti_meaning.specs.Expansion.{expansion}
 use Rattle.ti_meaning.specs.Compiled.{state_of}
-use Rattle.ti_meaning.specs.Faults.{SourceFault}
 use Rattle.ti_meaning.specs.ValueTables.{HasTable}
 use Rattle.ti_meaning.specs.KeptBlocks.{lasting_faults, moved_to}
 use Rattle.ti_meaning.specs.Exchange.{IsExchange, new_list, old_list, shifted_position}
-use Rattle.ti_meaning.specs.Dependents.{IsDependent, IsPutAt, touched_names}
+use Rattle.ti_meaning.specs.Dependents.{IsDependent}
 use Rattle.ti_meaning.proofs.Placing.{split-with}
 use Rattle.ti_meaning.proofs.KeptFaults.{kept_block, touched_in_both}
 use Rattle.ti_slots.specs.declared.slots.KeptFault.{KeptFault}
 use Rattle.ti_slots.specs.declared.slots.Settled.{Settled}
 use Rattle.ti_slots.specs.declared.slots.Slot.{Slot}
 use Rattle.ti_slots.specs.Settled.{IsSettled, fault_at, table_of}
-use Rattle.ti_base.specs.KeptSlots.{reading_seen, AreSettled, PlacedSlot, with_slot, block_seen, exchange_with}
+use Rattle.ti_base.specs.KeptSlots.{reading_seen, AreSettled, PlacedSlot, with_slot, exchange_with}
 use Rattle.ti_base.proofs.SlotLists.{readings_with, get-with_slot}
 
 table_stays : (bs cs : List Reading) (b : Reading) (o : Option Table) → expansion cs b ≡ expansion bs b → HasTable contents bs b o → HasTable contents cs b o

@@ -15,7 +15,7 @@ use Rattle.ti_commands.specs.declared.rules.Form.TheVariants.{Flag, LongValue, N
 abbrev pub form_rule : Text → Form → Rule
 form_rule id (Flag short) = flag_rule id short
 form_rule id (Value short value) = option_rule id short
-form_rule id (Number short least greatest) = number_rule id short least greatest
+form_rule id (Number short value least greatest) = number_rule id short least greatest
 form_rule id (LongValue value) = long_option_rule id
 form_rule id (Operand value) = operand_rule id
 form_rule id (Operands value) = operands_rule id
@@ -27,6 +27,7 @@ rule_for argument = form_rule argument.id.now argument.form
 -- help shows the name of the value that the table says, where it says one
 abbrev pub ShowsValue : Form → Texts → Type 0
 ShowsValue (Value short value) names = names ≡ One value
+ShowsValue (Number short value least greatest) names = names ≡ One value
 ShowsValue (LongValue value) names = names ≡ One value
 ShowsValue (Operand value) names = names ≡ One value
 ShowsValue (Operands value) names = names ≡ One value

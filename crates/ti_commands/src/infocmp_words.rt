@@ -60,7 +60,7 @@ pub(crate) const INFOCMP: Tool<'static> = Tool {
         },
         Argument {
             id: "width",
-            form: Form::Number('w', WIDTH_MIN as u64, WIDTH_MAX as u64),
+            form: Form::Number('w', "N", WIDTH_MIN as u64, WIDTH_MAX as u64),
             help: "Lines of at most N columns, from 20 to 4096 [default: 60]",
         },
         Argument {

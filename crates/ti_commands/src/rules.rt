@@ -2,7 +2,7 @@
 ghost use Rattle.std.specs.Prelude.{◌≡◌, false, Some};
 ghost use Rattle.clap.specs.declared.builder.texts.Texts.TheVariants.{One};
 ghost use Rattle.clap.specs.Words.{rule_of};
-ghost use Rattle.ti_commands.specs.Rules.{flag_rule, long_option_rule, number_rule, operand_rule, operands_rule, option_rule};
+ghost use Rattle.ti_commands.specs.Rules.{flag_rule, long_option_rule, operand_rule, operands_rule, option_rule};
 ghost use Rattle.ti_commands.specs.Tools.{ShowsValue, rule_for};
 
 use clap::builder::ValueParser;
@@ -17,7 +17,7 @@ pub enum Form<'a> {
     /// An option with one value.
     Value(char, &'a str),
     /// An option with a number from a least to a greatest.
-    Number(char, u64, u64),
+    Number(char, &'a str, u64, u64),
     /// An option with one value that has a long name alone.
     LongValue(&'a str),
     /// A word of its own.
@@ -46,7 +46,10 @@ impl<'a> Argument<'a> {
         match form {
             Form::Flag(short) => flag(alloc, id, short, help),
             Form::Value(short, value) => option(alloc, id, short, value, help),
-            Form::Number(short, least, greatest) => number(alloc, id, short, least, greatest, help),
+            Form::Number(short, value, least, greatest) => {
+                let range = ValueParser::unsigned(least, greatest);
+                option(alloc, id, short, value, help).value_parser(range)
+            }
             Form::LongValue(value) => long_option(alloc, id, value, help),
             Form::Operand(value) => operand(alloc, id, value, help),
             Form::Operands(value) => operands(alloc, id, value, help),
@@ -109,20 +112,4 @@ fn operands<'a>(alloc: Global, id: &'a str, value: &'a str, help: &'a str) -> Ar
     operand(alloc, id, value, help)
         .action(ArgAction::Append)
         .num_args(0..)
-}
-
-// An option with a number from a least to a greatest.
-fn number<'a>(
-    alloc: Global,
-    id: &'a str,
-    short: char,
-    least: u64,
-    greatest: u64,
-    help: &'a str,
-) -> Arg<'a>
-    ensures rule { rule_of result ≡ number_rule id.entry.now short least greatest }
-    ensures local { result.global ≡ false }
-    ensures help { result.help ≡ Some help.entry }
-{
-    option(alloc, id, short, "N", help).value_parser(ValueParser::unsigned(least, greatest))
 }

@@ -1,5 +1,5 @@
 -- The rows of a graph that is kept as one list of edges and the places where the rows start.
-use Rattle.std.proofs.Common.{◌≡◌, ℕ, zero, suc, ◌+◌, ◌-◌, ◌<◌, ◌≤◌, ◌⊎◌, inl, inr, List, [], ◌∷◌, ◌++◌, length, take, drop, Option, Some, slice_get, refl, sym, ap, arith, length-drop, length-append, length-take, get_or, sum_by, false, ◌==◌, ◌∙◌}
+use Rattle.std.proofs.Common.{◌≡◌, ℕ, zero, suc, ◌+◌, ◌-◌, ◌≤◌, ◌⊎◌, inl, inr, List, [], ◌∷◌, ◌++◌, length, take, drop, Option, Some, slice_get, refl, sym, ap, arith, length-drop, length-append, length-take, get_or, sum_by, false, ◌==◌, ◌∙◌}
 use Rattle.std.proofs.lemmas.List.{drop_all, take_rest, drop-append-le, take-append-le}
 use Rattle.std.proofs.lemmas.List.Sums.{sum_by-cons}
 use Rattle.std.proofs.lemmas.Bool.{false≢true}

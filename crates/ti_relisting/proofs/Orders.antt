@@ -1,7 +1,7 @@
 -- Each order of the capabilities has each of them, and nothing else.
-use Rattle.std.proofs.Common.{◌==◌, ◌≡◌, ℕ, ◌<◌, Bool, true, ◌||◌, nat_lt, List, [], ◌∷◌, ◌++◌, refl, ◌∙◌, inl, inr}
+use Rattle.std.proofs.Common.{◌≡◌, ℕ, ◌<◌, Bool, true, ◌||◌, nat_lt, List, [], ◌∷◌, ◌++◌, refl, ◌∙◌, inl, inr}
 use Rattle.std.specs.List.{list_all, list_any, All, Contains}
-use Rattle.std.proofs.lemmas.Bool.{cases_Bool, agree_below, agree_below_at, ltb-true, or_left, or_right, and_from, eq-eqb}
+use Rattle.std.proofs.lemmas.Bool.{cases_Bool, agree_below, agree_below_at, ltb-true, or_left, or_right}
 use Rattle.std.proofs.lemmas.List.Elements.{All-nil, All-cons, All-append, All-weaker, All-contains}
 use Rattle.std.proofs.lemmas.List.Sums.{AllPass-from_list_all}
 use Rattle.ti_caps.specs.Tables.{Capability, capability, IsCapability, count_of, same_capability}

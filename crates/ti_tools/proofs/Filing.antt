@@ -1,11 +1,10 @@
 -- The files of entries, name by name and block by block.
-use Rattle.std.proofs.Common.{◌≡◌, ℕ, zero, suc, ◌+◌, ◌<◌, ◌≤◌, option_map, slice_get, Bool, true, false, ◌&&◌, not, List, [], ◌∷◌, ◌++◌, length, map, filter, take, drop, get_or, All, None, Some, refl, sym, ap, ap₂, ◌∙◌, subst, inl, inr, arith}
+use Rattle.std.proofs.Common.{◌≡◌, ℕ, suc, ◌+◌, ◌<◌, option_map, slice_get, Bool, true, false, ◌&&◌, not, List, [], ◌∷◌, ◌++◌, length, map, filter, take, drop, get_or, All, Some, refl, sym, ap, ap₂, ◌∙◌, subst, inl, inr, arith}
 use Rattle.std.proofs.lemmas.Bool.{and_parts, cases_Bool}
-use Rattle.std.proofs.lemmas.List.{append-nil, append_assoc, get_or-map, length-map, take-map, take_more}
+use Rattle.std.proofs.lemmas.List.{append_assoc, get_or-map, length-map, take-map, take_more}
 use Rattle.std.proofs.lemmas.Option.{same_Some, slice_get-get_or, slice_get-map}
-use Rattle.std.proofs.lemmas.List.Elements.{All-get_or, All-nil, All-tail, All-weaker}
+use Rattle.std.proofs.lemmas.List.Elements.{All-get_or, All-nil, All-weaker}
 use Rattle.std.proofs.Math.Seq.{drop-cons}
-use Rattle.ti_source.specs.Blocks.{OneBlock}
 use Rattle.ti_source.specs.Header.{IsLookupName, IsNameByte}
 use Rattle.ti_source.specs.Parsing.{HasReading, Parses, ReadsHeader, bad_header, good_header, long_header, reading_of_text}
 use Rattle.ti_source.specs.Reading.{ReadFault, Reading}

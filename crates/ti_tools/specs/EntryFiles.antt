@@ -1,6 +1,6 @@
 -- The files of compiled entries (term(5), "Storage location"): one for each lookup name that a block owns, below a folder
 -- of the name's first byte.
-use Rattle.std.specs.Prelude.{ℕ, suc, ◌<◌, All, Bool, length, List, [], ◌∷◌, ◌++◌, map, filter, take, Option, Some, None}
+use Rattle.std.specs.Prelude.{ℕ, suc, ◌<◌, All, Bool, length, List, [], ◌∷◌, ◌++◌, map, filter, Option, Some, None}
 use Rattle.std.specs.Ordering.{nat_cmp}
 use Rattle.std.specs.Cmp.Lexicographic.{slice_cmp}
 use Rattle.std.specs.BTreeSet.{BTreeSet, contains_by}

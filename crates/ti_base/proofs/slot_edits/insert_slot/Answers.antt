@@ -1,12 +1,10 @@
-use Rattle.std.proofs.Common.{◌≡◌, ◌≤◌, ℕ, [], Some, None, length, refl, ap, sym, subst, ◌∙◌, arith}
+use Rattle.std.proofs.Common.{◌≡◌, ◌≤◌, ℕ, [], Some, None, length, refl, ap, subst, ◌∙◌, arith}
 use Rattle.std.specs.List.{insert}
 use Rattle.ti_meaning.specs.Edits.{insertion}
 use Rattle.ti_meaning.specs.Dependents.{Rebuilds}
 use Rattle.ti_slots.specs.declared.slots.Slots.{Slots}
-use Rattle.ti_slots.specs.declared.slots.Slot.{Slot}
-use Rattle.ti_slots.specs.Slots.{StandsAt, texts_of}
-use Rattle.ti_base.specs.KeptSlots.{AreKept, AreSound, IsSoundSlot, PlacedSlot, slots_of}
-use Rattle.ti_base.proofs.Exchanges.{IsEdit, inserted, edit_ready, edit_rebuilds, sound_put, back_inserted, kept_back, texts_back}
+use Rattle.ti_base.specs.KeptSlots.{PlacedSlot, slots_of}
+use Rattle.ti_base.proofs.Exchanges.{inserted, edit_ready, edit_rebuilds, sound_put, back_inserted, kept_back, texts_back}
 use Rattle.ti_base.proofs.slot_edits.insert_slot.Goals as goal
 
 still_within : (old room : Slots) (at : ℕ) → room.order.listed ≡ old.order.listed → at ≤ length old.order.listed → at ≤ length room.order.listed

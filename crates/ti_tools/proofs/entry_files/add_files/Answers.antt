@@ -1,4 +1,4 @@
-use Rattle.std.proofs.Common.{◌≡◌, ◌+◌, ◌&&◌, ◌++◌, true, false, not, ℕ, List, ap, map, sym, take, ◌∙◌, rules}
+use Rattle.std.proofs.Common.{◌≡◌, ◌+◌, ◌&&◌, ◌++◌, true, false, not, ℕ, List, ap, map, sym, take, ◌∙◌}
 use Rattle.std.specs.Rc.{rc_slice_items}
 use Rattle.ti_meaning.specs.Owner.{is_among, readings}
 use Rattle.ti_meaning.specs.Reaching.{is_owner}

@@ -1,8 +1,6 @@
-use Rattle.std.proofs.Common.{◌≡◌, map, All, sym, ◌∙◌, ap}
+use Rattle.std.proofs.Common.{map, All, ◌∙◌, ap}
 use Rattle.std.proofs.lemmas.Result.{IfErr-weaker, on_ok_weaker}
 use Rattle.ti_source.specs.Blocks.{OneBlock, blocks_of}
-use Rattle.ti_meaning.specs.declared.edits.EditError.TheVariants.{Memory}
-use Rattle.ti_base.specs.Loading.{AreTaken, IsLoadRefusal}
 use Rattle.ti_tools.proofs.Inserting.{load_refused, load_sound}
 use Rattle.ti_tools.proofs.loading.database_of.Goals as goal
 
