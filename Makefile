@@ -6,7 +6,7 @@
 #   make package    whether pages, completions and install are in order
 #   make hostile    malicious inputs of full size, and 20,000 made at random
 #   make wrong-bodies   the further wrong bodies, which the prover must refuse too
-#   make bench      times `ti tic -c` beside ncurses's tic, and an expansion
+#   make bench      counts and times the tools beside ncurses's, and edits of long lists
 #   make install    puts the program, its pages and its completions below
 #                   DESTDIR and PREFIX (which is /usr/local); with TOOLS=1 also
 #                   ti-tic, ti-infocmp and ti-tput

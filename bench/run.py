@@ -1,22 +1,22 @@
 #!/usr/bin/env python3
 """Speed, beside ncurses's tools on the same work.
 
-    bench/run.py [PART..]      the parts named, or all: rates, entries, tools, machine, edits
+    bench/run.py [PART..]      the parts named, or all: entries, tools, edits, rates, machine
 
-rates     MB/s (10^6 bytes a second) of `ti tic -c` on one-block sources of 64 KiB,
-          256 KiB and 1 MiB, and of ncurses's `tic -c` on the last: the best of
-          several runs
 entries   sources of many entries, compiled into files: 1,800 of 1.1 KB each, that all say the same;
           1,800 of which no two have a text in common; 1,800 of which 1,500 have a use, 2,000 small ones, and 1,000 of which all but the first
           use one before them
 tools     `ti tput` and `ti infocmp` on the system's own entry, where it is there; both read the same
           file, and a run that fails or writes something else is not timed
+edits     edits of a database of 1,000 and of 65,535 blocks, a chain and a ring of uses, in microseconds and MB
+rates     MB/s (10^6 bytes a second) of `ti tic -c` on one-block sources of 64 KiB,
+          256 KiB and 1 MiB, and of ncurses's `tic -c` on the last: the best of
+          several runs
 machine   what `ti_bench` prints of the libraries alone
-edits     edits of a database of 1,000 and of 65,535 blocks, a chain and a ring of uses
 
-Times on a shared machine are noisy; so `entries` and `tools` count instructions by
-valgrind's callgrind too, where that is installed, and give the ratio. A tool that is
-not installed, or not built yet, is left out, and that is said. The sources are made here.
+`entries` and `tools` are rows of one table, `edits` of another. Times on a shared machine are noisy; so
+the first counts instructions by valgrind's callgrind too, where that is installed, and gives the ratio.
+A tool that is not installed, or not built yet, is left out, and that is said. The sources are made here.
 """
 
 import os
@@ -116,18 +116,22 @@ def instructions(words, stdin=None):
     return int(found[1]) if found else None
 
 
-def beside(what, ours, theirs, stdin=None, runs=5):
-    """A line that sets our words beside theirs: seconds, and instructions where counting them takes no minutes."""
+TOOLS_HEAD = """| Tool | Work | Instructions, ti | ncurses | Ratio | Milliseconds, ti | ncurses |
+|---|---|---:|---:|---:|---:|---:|"""
+EDITS_HEAD = """| Blocks | Edit | Microseconds | MB at most |
+|---:|---|---:|---:|"""
+
+
+def beside(tool, work, ours, theirs, stdin=None, runs=5):
+    """A row that sets our words beside theirs: instructions, where counting them takes no minutes, and seconds."""
     took = seconds(ours, runs, stdin)
-    line = f"{what}: ti {took * 1000:.1f} ms"
     if not shutil.which(theirs[0]):
-        print(f"{line}; {theirs[0]} is not installed here")
+        print(f"| {tool} | {work} | | not installed | | {took * 1000:.1f} | |")
         return
-    line += f", ncurses {seconds(theirs, runs, stdin) * 1000:.1f} ms"
+    their_time = seconds(theirs, runs, stdin)
     mine, other = (instructions(ours, stdin), instructions(theirs, stdin)) if took < LONG else (None, None)
-    if mine and other:
-        line += f"; instructions {mine:,} and {other:,}, ratio {mine / other:.2f}"
-    print(line)
+    counted = f"{mine:,} | {other:,} | {mine / other:.2f}" if mine and other else "not counted | | "
+    print(f"| {tool} | {work} | {counted} | {took * 1000:.1f} | {their_time * 1000:.1f} |")
 
 
 def rates(path):
@@ -164,7 +168,7 @@ def entries(path):
         name, out = path("many.ti"), path("out")
         with open(name, "wb") as file:
             file.write(text)
-        beside(what, [PROGRAM, "tic", "-o", out, name], ["tic", "-o", path("theirs"), name], runs=1)
+        beside("tic", what, [PROGRAM, "tic", "-o", out, name], ["tic", "-o", path("theirs"), name], runs=1)
 
 
 def output(words, stdin=None):
@@ -180,20 +184,20 @@ def tools(path):
         print(f"tput, infocmp: left out ({TERMINAL} is in none of {', '.join(FOLDERS)})")
         return
     os.environ["TERMINFO"] = folder  # for both, so that both read the same file
-    lines = {f"tput -S, 10,000 lines '{line}'": f"{line}\n".encode() * 10_000 for line in ("bold", "setaf 12", "cup 4 9")}
-    works = [(" ".join(words), words, None) for words in (["tput", "-T", TERMINAL, "setaf", "200"], ["infocmp", TERMINAL])]
+    lines = {f"`-S`, 10,000 lines `{line}`": f"{line}\n".encode() * 10_000 for line in ("bold", "setaf 12", "cup 4 9")}
+    works = [(f"`{' '.join(words[1:])}`", words, None) for words in (["tput", "-T", TERMINAL, "setaf", "200"], ["infocmp", TERMINAL])]
     works += [(what, ["tput", "-T", TERMINAL, "-S"], text) for what, text in lines.items()]
     for what, words, stdin in works:
         ours = output([PROGRAM, *words], stdin)
         # a run that fails is fast, so none is timed
         if not ours:
-            print(f"{what}: ti failed, or wrote nothing")
+            print(f"| {words[0]} | {what} | ti failed, or wrote nothing | | | | |")
             continue
         # listings differ in layout and in what ncurses says of its file
         if words[0] == "tput" and shutil.which("tput") and output(words, stdin) != ours:
-            print(f"{what}: ti and ncurses do not write the same")
+            print(f"| {words[0]} | {what} | ti and ncurses do not write the same | | | | |")
             continue
-        beside(what, [PROGRAM, *words], words, stdin=stdin)
+        beside(words[0], what, [PROGRAM, *words], words, stdin=stdin)
 
 
 def machine(path):
@@ -213,22 +217,26 @@ def edits(path):
             printed = run.stdout.read().decode()
             _, _, used = os.wait4(run.pid, 0)
             run.returncode = 0
-        for line in printed.splitlines():
-            print(f"{count:,} blocks, {line}")
-        print(f"{count:,} blocks, {what}: {used.ru_maxrss / 1024:.0f} MB at most")
+        for edit, took in re.findall(r"^(.*): (\d+) ns each", printed, re.M):
+            print(f"| {count:,} | {edit} | {int(took) / 1000:,.1f} | {used.ru_maxrss / 1024:.0f} |")
 
 
-PARTS = {"rates": rates, "entries": entries, "tools": tools, "machine": machine, "edits": edits}
+PARTS = {"entries": entries, "tools": tools, "edits": edits, "rates": rates, "machine": machine}
+HEADS = {"entries": TOOLS_HEAD, "tools": TOOLS_HEAD, "edits": EDITS_HEAD}
 
 
 def main():
-    wanted = sys.argv[1:] or list(PARTS)
+    wanted, begun = sys.argv[1:] or list(PARTS), ""
     for name in wanted:
         if name not in PARTS:
             print(f"no such part: {name}; the parts are {', '.join(PARTS)}")
             return 2
     with tempfile.TemporaryDirectory(prefix="ti-bench-") as room:
         for name in wanted:
+            head = HEADS.get(name, "")
+            if head != begun:
+                print(("\n" if begun else "") + head, flush=True)
+            begun = head
             PARTS[name](lambda it: os.path.join(room, it))
     return 0
 

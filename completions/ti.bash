@@ -131,7 +131,10 @@ _ti_tput() {
     esac
     for ((at = begin; at < COMP_CWORD; at++)); do
         case ${COMP_WORDS[at]} in
-            -T | --rate) ((at++)) ;;
+            -T | --rate)
+                ((at++))
+                [[ ${COMP_WORDS[at]-} != = ]] || ((at++))
+                ;;
             -S) _ti_words -T --rate -h --help; return ;;
             -*) ;;
             *) return ;;

@@ -48,7 +48,7 @@ function __ti_terminals
     end
     set -a places /usr/share/terminfo
     for place in $places
-        for path in $place/?*/*
+        for path in $place/*/*
             test -f $path; and string split -r -m 1 -f 2 / -- $path
         end
     end

@@ -64,7 +64,7 @@ def words_of(lines):
 def names_in_reach(path, crate, name):
     """The definitions that a file can name by a bare word: those that it imports."""
     found = {}
-    for of, words in re.findall(r"^use Rattle\.(\w+\.specs\.\w+)\.\{([^}]*)\}", "\n".join(lines_of(path)), re.M):
+    for of, words in re.findall(r"^(?:pub )?use Rattle\.(\w+\.specs\.[\w.]+)\.\{([^}]*)\}", "\n".join(lines_of(path)), re.M):
         for it in words.split(","):
             found[it.strip().split(" as ")[-1]] = (of, it.strip().split(" as ")[0])
     return found
@@ -127,18 +127,18 @@ def contracts(crate):
                 known |= {(path, it.strip()) for it in words.split(",")}
             short = dict(re.findall(r"ghost use Rattle\.(\w+\.specs\.[\w.]+) as (\w+);", text))
             short = {name: path for path, name in short.items()}
-            owner = ""
+            owner, is_trait = "", False
             forms = r"^impl[^{\n]*|^pub trait (\w+)|^(?: {4})?(?:pub (?:const )?)?fn (\w+)(.*?)(?=^ {0,4}\{|;$)"
             for part in re.finditer(forms, text, re.M | re.S):
                 if part[0].startswith("impl"):
                     of = re.search(r"(?:for )?(\w+)(?:<[^>]*>)?\s*$", part[0].split(" where")[0].strip())
-                    owner = of[1] if of else ""
+                    owner, is_trait = of[1] if of else "", " for " in part[0]
                     continue
                 if part[1]:
-                    owner = part[1]
+                    owner, is_trait = part[1], True
                     continue
                 is_method = part[0].startswith("    ")
-                is_public = part[0].lstrip().startswith("pub") or (is_method and owner == "Tree")
+                is_public = part[0].lstrip().startswith("pub") or (is_method and is_trait)
                 if not is_public or (owner if is_method else part[2]) not in public:
                     continue
                 words = set(re.findall(r"[^\s(){},;]+", part[3]))
@@ -155,10 +155,31 @@ def crates_in_order():
 
 
 def files_of(crate):
-    """The files of a crate's definitions, by name."""
-    folder = os.path.join(TOP, "crates", crate, "specs")
-    names = sorted(os.listdir(folder)) if os.path.isdir(folder) else []
-    return [(it[:-5], os.path.join(folder, it)) for it in names if it.endswith(".antt") and it != "Lib.antt"]
+    """The files of a crate's definitions, by name; those of the folder inside/ come last."""
+    found = []
+    for inside in ("", "inside"):
+        folder = os.path.join(TOP, "crates", crate, "specs", inside)
+        names = sorted(os.listdir(folder)) if os.path.isdir(folder) else []
+        names = [it for it in names if it.endswith(".antt") and it != "Lib.antt"]
+        found += [(f"{inside}.{it[:-5]}".lstrip("."), os.path.join(folder, it)) for it in names]
+    return found
+
+
+def homes():
+    """Where a name that a file makes public for another one is defined, by file and name."""
+    given = {}
+    for crate in crates_in_order():
+        for name, path in files_of(crate):
+            text = "\n".join(lines_of(path))
+            for of, words in re.findall(r"^pub use Rattle\.(\w+\.specs\.[\w.]+)\.\{([^}]*)\}", text, re.M):
+                given.update({(f"{crate}.specs.{name}", it.strip()): (of, it.strip()) for it in words.split(",")})
+    return given
+
+
+def home_of(it, given):
+    while it in given:
+        it = given[it]
+    return it
 
 
 def in_order(section):
@@ -168,11 +189,11 @@ def in_order(section):
 
 def page():
     order = crates_in_order()
-    users = {}
+    users, given = {}, homes()
     for crate in order:
         for call, cited in contracts(crate):
             for it in cited:
-                users.setdefault(it, []).append(f"`{call}`")
+                users.setdefault(home_of(it, given), []).append(f"`{call}`")
     files, named = {}, set()
     for crate in sorted(order):
         for name, path in files_of(crate):
@@ -183,7 +204,7 @@ def page():
             reach.update({word: (at, word) for word, _, _ in found})
             for word, _, lines in found:
                 if (at, word) in users:
-                    named |= {reach[it] for it in words_of(lines) if it in reach}
+                    named |= {home_of(reach[it], given) for it in words_of(lines) if it in reach}
     out, sections, rules = [HEAD], {}, []
     for at, (crate, name, head, found) in files.items():
         rows = [(word, says) for word, says, _ in found if (at, word) in users or (at, word) in named]
@@ -192,8 +213,9 @@ def page():
     for section in sorted(sections, key=in_order):
         out.append(f"## {section}\n")
         for at, crate, name, head, rows in sections[section]:
-            rules.append((section, head, f"crates/{crate}/specs/{name}.antt"))
-            out.append(f"### {name} (`{crate}`)\n\n`crates/{crate}/specs/{name}.antt`. {head}\n")
+            path = f"crates/{crate}/specs/{name.replace('.', '/')}.antt"
+            rules.append((section, head, path))
+            out.append(f"### {name.replace('.', '/')} (`{crate}`)\n\n`{path}`. {head}\n")
             out.append("| Definition | Says | Cited by |\n|---|---|---|")
             for word, says in rows:
                 calls = dict.fromkeys(users.get((at, word), []))

@@ -117,7 +117,8 @@ def source(seed):
         found = {}
         for at, _, names in os.walk(os.fsencode(room)):
             for name in names:
-                if os.path.basename(at) != name[:1]:
+                # of a name that begins with a full stop this is the folder itself
+                if at != os.path.normpath(os.path.join(os.fsencode(room), name[:1])):
                     return f"{name!r} is in the folder {at!r}"
                 with open(os.path.join(at, name), "rb") as file:
                     found[name] = file.read()

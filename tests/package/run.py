@@ -14,7 +14,7 @@ copies       what cases of tests/cli hold of the repository's own files is still
              the word `renew` behind it, it is made so
 tarball      `make dist` makes a tarball of every file of the commit
 tarball-builds
-             the program is built from that tarball, every proof anew: a quarter of an hour
+             the program is built from that tarball, every proof anew: half an hour
 
 What needs a program that is not installed is skipped, and said to be. The last line is
 `package: N passed, M failed`.
