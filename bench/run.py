@@ -8,7 +8,7 @@ entries   sources of many entries, compiled into files: 1,800 of 1.1 KB each, th
           use one before them
 tools     `ti tput` and `ti infocmp` on the system's own entry, where it is there; both read the same
           file, and a run that fails or writes something else is not timed
-edits     edits of a database of 1,000 and of 65,535 blocks, a chain and a ring of uses, in microseconds and MB
+edits     edits of a database of 1,000 and of 65,535 blocks, a chain of uses and circular ones, in microseconds and MB
 rates     MB/s (10^6 bytes a second) of `ti tic -c` on one-block sources of 64 KiB,
           256 KiB and 1 MiB, and of ncurses's `tic -c` on the last: the best of
           several runs
@@ -212,7 +212,7 @@ def edits(path):
     if not os.access(MACHINE, os.X_OK):
         print("edits: left out (ti_bench is not built)")
         return
-    for count, what in ((1000, "edits"), (65535, "edits"), (65535, "chain"), (1000, "ring"), (65535, "ring")):
+    for count, what in ((1000, "edits"), (65535, "edits"), (65535, "chain"), (1000, "circular"), (65535, "circular")):
         with subprocess.Popen([MACHINE, str(count), what], stdout=subprocess.PIPE) as run:
             printed = run.stdout.read().decode()
             _, _, used = os.wait4(run.pid, 0)

@@ -1,6 +1,6 @@
 """Sources, edits and scripts made at random, from a seed.
 
-Names come from a small set, so that rings, second owners, broken owners and missing ones are
+Names come from a small set, so that circular uses, second owners, broken owners and missing ones are
 frequent; capabilities too, so that cancels and inherited values meet. A part of the sources is then
 damaged byte by byte.
 """

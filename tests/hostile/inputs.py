@@ -95,7 +95,7 @@ def unresolved(count):
 
 
 def circular(count):
-    """The report of a ring."""
+    """The report of circular uses."""
     return b"".join(b"%d: E7 Circular b%d\n" % (at + 1, (at - 1) % count) for at in range(count))
 
 
@@ -126,7 +126,7 @@ def chain_edited(take):
         chain(BLOCKS_MAX, b"use=zz"), commands, replies + b"ok\n" + bad + b"none\nok\n" + entry_of(b"b65534"))
 
 
-@case("ring of 1,000, compiled")
+@case("1,000 circular uses, compiled")
 def ring_small(take):
     return take.tic(chain(1_000, b"use=b999"), circular(1_000))
 
@@ -134,23 +134,23 @@ def ring_small(take):
 def ring_session(take, count):
     commands = b"r 0\nb0,use=b%d,\n.\nw\nf\nr %d\nb%d,cols#1,\n.\nf\np 0\nr %d\nb%d,use=b%d,\n.\nf\n" % (
         count - 1, count // 2, count // 2, count // 2, count // 2, count // 2 - 1)
-    ring = circular(count) + b".\n"
+    faults = circular(count) + b".\n"
     return take.session(
         chain(count, b"cols#1"), commands,
-        b"ok\n" + numbers(count) + ring + b"ok\n.\n" + entry_of(b"b0") + b"ok\n" + ring)
+        b"ok\n" + numbers(count) + faults + b"ok\n.\n" + entry_of(b"b0") + b"ok\n" + faults)
 
 
-@case("ring of 1,000 in a session: closed, opened in its middle, closed again")
+@case("1,000 uses in a session: made circular, mended in the middle, made circular again")
 def ring_edited(take):
     return ring_session(take, 1_000)
 
 
-@case("ring of 65,535 in a session: closed, opened in its middle, closed again")
+@case("65,535 uses in a session: made circular, mended in the middle, made circular again")
 def long_ring_edited(take):
     return ring_session(take, BLOCKS_MAX)
 
 
-@case("ring of 65,535, compiled")
+@case("65,535 circular uses, compiled")
 def ring_long(take):
     return take.tic(chain(BLOCKS_MAX, b"use=b65534"), circular(BLOCKS_MAX))
 

@@ -7,7 +7,7 @@ use Rattle.std.proofs.lemmas.Option.{same_Some, none-some, slice_get-map}
 use Rattle.ti_source.specs.Reading.{Reading, reading_of}
 use Rattle.ti_source.specs.Parsing.{reading_of_text}
 use Rattle.ti_meaning.specs.Owner.{is_among, readings}
-use Rattle.ti_meaning.specs.Edits.{Change, IsInPlace, after, insertion, replacement, removal, relocation, with_item_moved}
+use Rattle.ti_meaning.specs.Edits.{Change, IsInPlace, list_after, insertion, replacement, removal, relocation, with_item_moved}
 use Rattle.ti_meaning.specs.Exchange.{position_behind, Exchange, IsExchange, exchange_of, block_from}
 use Rattle.ti_meaning.specs.Dependents.{AreDependents, IsDependent, Rebuilds, names_of, work}
 use Rattle.ti_meaning.proofs.EditedLists.{map-insert, map-remove, insert-remove, remove-insert}
@@ -23,7 +23,7 @@ use Rattle.ti_slots.specs.Changes.{HasRoomFor, PutsIn, TakesOut, ShowsSame, Chan
 use Rattle.ti_slots.specs.Settled.{IsSettled}
 use Rattle.ti_dependents.specs.Dependents.{IsExchangeOf}
 use Rattle.ti_plan.specs.Plan.{OthersAreSettled, IsReady}
-use Rattle.ti_base.specs.KeptSlots.{AreKept, AreSettled, AreSound, IsSoundSlot, PlacedSlot, slots_of, reading_seen, text_seen, with_slot, block_seen, exchange_with, HasId, with_settled}
+use Rattle.ti_base.specs.inside.KeptSlots.{AreKept, AreSettled, AreSound, IsSoundSlot, PlacedSlot, slots_of, reading_seen, text_seen, with_slot, block_seen, exchange_with, HasId, with_settled}
 use Rattle.ti_base.proofs.SlotLists.{blocks_seen, texts_seen, length_slots, length_texts, slot_there, blocks_read, readings_with}
 use Rattle.ti_base.proofs.Untouched.{others_settled, settled_in}
 
@@ -51,7 +51,7 @@ pub record IsEdit (old new : Slots) (change : Change) (rest : List (Option Slot)
   pub exchange : exchange_of (texts_of old) change ≡ exchange_with rest out put
   pub was : slots_of old ≡ with_slot rest out
   pub is : slots_of new ≡ with_slot rest put
-  pub texts : texts_of new ≡ after (texts_of old) change
+  pub texts : texts_of new ≡ list_after (texts_of old) change
 
 pub edit_fits : (old new : Slots) (change : Change) (rest : List (Option Slot)) (out put : Option PlacedSlot) → IsEdit old new change rest out put → IsExchange (exchange_with rest out put)
 edit_fits old new change rest out put h = subst IsExchange h.exchange (exchanged (texts_of old) change h.in_place).fits

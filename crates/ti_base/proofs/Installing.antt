@@ -9,7 +9,7 @@ use Rattle.ti_text.specs.Limits.{blocks_max}
 use Rattle.ti_source.specs.Reading.{reading_of}
 use Rattle.ti_source.specs.Parsing.{reading_of_text}
 use Rattle.ti_meaning.specs.Owner.{is_among}
-use Rattle.ti_meaning.specs.Reaching.{any_use}
+use Rattle.ti_meaning.specs.inside.Reaching.{any_use}
 use Rattle.ti_meaning.specs.Usable.{IsUsable}
 use Rattle.ti_meaning.specs.Dependents.{IsDependent}
 use Rattle.ti_index.specs.Names.{holders_at, users_at}
@@ -20,8 +20,8 @@ use Rattle.ti_slots.specs.Slots.{IsIndexed, StandsAt, slot_at, reading_at, text_
 use Rattle.ti_slots.specs.Settled.{IsSettled}
 use Rattle.ti_plan.specs.declared.plans.Plan.{Plan}
 use Rattle.ti_plan.specs.Plan.{IsReady, IsPlan, IsPlanOfAll}
-use Rattle.ti_base.specs.Kept.{IsBlockText}
-use Rattle.ti_base.specs.KeptSlots.{AreKept, AreRead, AreSettled, AreSound, slots_of, reading_seen, text_seen, with_settled, settled_at, settled_all}
+use Rattle.ti_base.specs.inside.Kept.{IsBlockText}
+use Rattle.ti_base.specs.inside.KeptSlots.{AreKept, AreRead, AreSettled, AreSound, slots_of, reading_seen, text_seen, with_settled, settled_at, settled_all}
 use Rattle.ti_index.proofs.Lists.{item_at}
 use Rattle.ti_plan.proofs.ItemLists.{drop_item}
 use Rattle.ti_base.proofs.SlotLists.{blocks_seen, length_slots, slot_there, id_there, are_filled}

@@ -5,7 +5,7 @@ pub mod SlotLists
 pub mod Untouched
 pub mod Installing
 pub mod Exchanges
-pub mod Telling
+pub mod Naming
 pub mod KeptFaults
 pub mod SlotFaults
 pub mod SlotEntries

@@ -4,9 +4,9 @@ use Rattle.ti_meaning.specs.declared.edits.Outcome.{Outcome}
 use Rattle.ti_meaning.specs.Edits.{Change, Step, Run}
 
 -- what follows from a list, after these outcomes, is a run of all edits
-abbrev pub GoesOn : List Change → List Outcome → List (List ℕ) → List Change → Type 0
-GoesOn all outcomes texts rest = (more : List Outcome) (last : List (List ℕ)) → Run texts rest more last → Run [] all (outcomes ++ more) last
+abbrev pub RunExtends : List Change → List Outcome → List (List ℕ) → List Change → Type 0
+RunExtends all outcomes texts rest = (more : List Outcome) (last : List (List ℕ)) → Run texts rest more last → Run [] all (outcomes ++ more) last
 
-pub goes_on : (all : List Change) (outcomes : List Outcome) (texts next : List (List ℕ)) (change : Change) (rest : List Change) (outcome : Outcome) → GoesOn all outcomes texts (change ∷ rest) → Step texts change outcome next → GoesOn all (outcomes ++ outcome ∷ []) next rest
-goes_on all outcomes texts next change rest outcome h step more last r =
+pub run_extends : (all : List Change) (outcomes : List Outcome) (texts next : List (List ℕ)) (change : Change) (rest : List Change) (outcome : Outcome) → RunExtends all outcomes texts (change ∷ rest) → Step texts change outcome next → RunExtends all (outcomes ++ outcome ∷ []) next rest
+run_extends all outcomes texts next change rest outcome h step more last r =
     rw append_assoc (h (outcome ∷ more) last (next, step, r))

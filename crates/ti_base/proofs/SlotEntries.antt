@@ -12,7 +12,7 @@ use Rattle.ti_slots.specs.declared.slots.State.{State}
 use Rattle.ti_slots.specs.declared.slots.State.TheVariants as s
 use Rattle.ti_slots.specs.Slots.{texts_of}
 use Rattle.ti_slots.specs.Settled.{state_seen}
-use Rattle.ti_base.specs.KeptSlots.{AreKept, slots_of, text_seen}
+use Rattle.ti_base.specs.inside.KeptSlots.{AreKept, slots_of, text_seen}
 use Rattle.ti_base.proofs.SlotLists.{blocks_seen, texts_seen, blocks_read}
 use Rattle.ti_base.proofs.SlotFaults.{block_of_slot}
 

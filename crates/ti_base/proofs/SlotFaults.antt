@@ -7,7 +7,7 @@ use Rattle.ti_slots.specs.declared.slots.Slot.{Slot}
 use Rattle.ti_slots.specs.declared.slots.Slots.{Slots}
 use Rattle.ti_slots.specs.Slots.{blocks_of}
 use Rattle.ti_slots.specs.Settled.{fault_at}
-use Rattle.ti_base.specs.KeptSlots.{AreKept, slots_of, reading_seen}
+use Rattle.ti_base.specs.inside.KeptSlots.{AreKept, slots_of, reading_seen}
 use Rattle.ti_base.proofs.SlotLists.{blocks_seen}
 use Rattle.ti_meaning.proofs.NoDuplicates.{AreOthers, read_others}
 

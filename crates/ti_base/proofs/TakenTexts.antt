@@ -12,8 +12,8 @@ use Rattle.ti_slots.specs.declared.slots.Slot.{Slot}
 use Rattle.ti_slots.specs.declared.slots.Slots.{Slots}
 use Rattle.ti_slots.specs.Slots.{IsIndexed, texts_of}
 use Rattle.ti_slots.specs.Changes.{ShowsSame}
-use Rattle.ti_base.specs.Kept.{IsBlockText, IsTextRefusal}
-use Rattle.ti_base.specs.KeptSlots.{AreRead, AreSound, IsSoundSlot, slots_of}
+use Rattle.ti_base.specs.inside.Kept.{IsBlockText, IsTextRefusal}
+use Rattle.ti_base.specs.inside.KeptSlots.{AreRead, AreSound, IsSoundSlot, slots_of}
 use Rattle.ti_base.specs.Loading.{AreTaken, IsLoadRefusal}
 use Rattle.ti_index.proofs.Lists.{get-take, take_get}
 use Rattle.ti_base.proofs.Exchanges.{slots_same, sound_put}

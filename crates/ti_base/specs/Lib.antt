@@ -4,7 +4,5 @@ pub use Rattle.ti_meaning.specs.Compiled
 pub use Rattle.ti_meaning.specs.Faults
 pub use Rattle.ti_meaning.specs.Report
 pub use Rattle.ti_meaning.specs.Edits
-pub mod Kept
-pub mod KeptSlots
 pub mod Loading
-pub mod Told
+pub mod inside

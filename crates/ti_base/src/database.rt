@@ -33,7 +33,7 @@ impl Model for Database {
     ghost Value = { List (List ℕ) };
 
     ghost use Rattle.ti_slots.specs.Slots.{texts_of};
-    ghost use Rattle.ti_base.specs.KeptSlots.{AreKept};
+    ghost use Rattle.ti_base.specs.inside.KeptSlots.{AreKept};
 
     ghost view = { λ d. texts_of d.slots };
 

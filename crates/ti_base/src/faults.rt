@@ -2,28 +2,20 @@
 ghost use Rattle.std.specs.Prelude.{◌≡◌, ◌<◌, ◌++◌, ◌∷◌, [], List, ℕ, filter, map, length, slice_get, Some, true, not, ◌||◌, ◌&&◌, option_map, IfOk, OnOk};
 ghost use Rattle.std.specs.Str.{bytes_eq};
 ghost use Rattle.std.specs.Rc.{rc_slice_items};
-ghost use Rattle.ti_source.specs.Codes.{is_of_header};
 ghost use Rattle.ti_source.specs.Reading.{Reading, fault_of};
 ghost use Rattle.ti_meaning.specs.Faults.{block_faults, fault_seen, faults, is_kept, is_owned_before, name_fault, name_faults};
 ghost use Rattle.ti_slots.specs.Slots.{IsIndexed, blocks_of};
 ghost use Rattle.ti_slots.specs.Settled.{fault_at};
-ghost use Rattle.ti_base.specs.KeptSlots.{AreKept};
-ghost use Rattle.ti_base.specs.Told.{is_told};
+ghost use Rattle.ti_base.specs.inside.KeptSlots.{AreKept};
+ghost use Rattle.ti_base.specs.inside.Faults.{is_named};
 
 use crate::owners::{is_owned_before, slot_of};
 use std::alloc::{AllocError, Global};
 use std::collections::BTreeSet;
 use std::rc::RcSlice;
 use ti_meaning::Fault;
-use ti_slots::{KeptFault, Slots};
+use ti_slots::{KeptFault, Slots, copy_detail};
 use ti_source::{Code, Local};
-
-/// Whether a fault of this code is one of the header.
-fn is_of_header(code: Code) -> bool
-    ensures { result ≡ is_of_header code }
-{
-    matches!(code, Code::BadHeader | Code::NamesTooLong)
-}
 
 /// How many of the faults that reading gave are of the header.
 fn count_of_header(locals: &[Local]) -> usize
@@ -31,21 +23,11 @@ fn count_of_header(locals: &[Local]) -> usize
 {
     let mut count = 0;
     for local in locals {
-        if is_of_header(local.code) {
+        if local.code.is_of_header() {
             count += 1;
         }
     }
     count
-}
-
-/// The same detail once more, its bytes shared.
-fn shared(detail: &Option<RcSlice<u8>>) -> Result<Option<RcSlice<u8>>, AllocError>
-    ensures { IfOk result (λ d. option_map rc_slice_items d ≡ option_map rc_slice_items detail.now) }
-{
-    Ok(match detail {
-        Some(bytes) => Some(bytes.clone()?),
-        None => None,
-    })
 }
 
 /// Adds faults that are kept with the block at a position.
@@ -57,26 +39,26 @@ fn add_kept(at: usize, kept: &[KeptFault], faults: &mut Vec<Fault>) -> Result<()
             block: at,
             line: fault.line,
             code: fault.code,
-            detail: shared(&fault.detail)?,
+            detail: copy_detail(&fault.detail)?,
         })?;
     }
     Ok(())
 }
 
-/// Puts a name among those told.
-fn tell(alloc: Global, told: &mut BTreeSet<Vec<u8>>, name: &[u8]) -> Result<(), AllocError>
-    ensures { OnOk result ((other : List ℕ) → is_told told.new other ≡ (bytes_eq other name.now || is_told told.old other)) }
+/// Puts a name among those whose fault was added.
+fn add_named(alloc: Global, named: &mut BTreeSet<Vec<u8>>, name: &[u8]) -> Result<(), AllocError>
+    ensures { OnOk result ((other : List ℕ) → is_named named.new other ≡ (bytes_eq other name.now || is_named named.old other)) }
 {
-    told.insert(Vec::from_slice(alloc, name)?)?;
+    named.insert(Vec::from_slice(alloc, name)?)?;
     Ok(())
 }
 
-/// Whether the name belongs to a block before that position and was not told.
-fn is_to_tell(slots: &Slots, at: usize, told: &BTreeSet<Vec<u8>>, name: &[u8]) -> bool
+/// Whether the name belongs to a block before that position and has no fault yet.
+fn is_new_duplicate(slots: &Slots, at: usize, named: &BTreeSet<Vec<u8>>, name: &[u8]) -> bool
     requires { IsIndexed slots.now }
-    ensures { result ≡ (is_owned_before (blocks_of slots.now) at name.now && not (is_told told.now name.now)) }
+    ensures { result ≡ (is_owned_before (blocks_of slots.now) at name.now && not (is_named named.now name.now)) }
 {
-    is_owned_before(slots, at, name) && !told.contains(name)
+    is_owned_before(slots, at, name) && !named.contains(name)
 }
 
 /// Adds the fault of a name that an earlier block owns.
@@ -105,10 +87,10 @@ fn add_name_faults(
     ensures { OnOk result (map fault_seen faults.new.items ≡ map fault_seen faults.old.items
         ++ name_faults (blocks_of slots.now) at (map rc_slice_items names.now)) }
 {
-    let mut told = BTreeSet::new(alloc);
+    let mut named = BTreeSet::new(alloc);
     for name in names {
-        if is_to_tell(slots, at, &told, name.as_slice()) {
-            tell(alloc, &mut told, name.as_slice())?;
+        if is_new_duplicate(slots, at, &named, name.as_slice()) {
+            add_named(alloc, &mut named, name.as_slice())?;
             add_name_fault(at, name, faults)?;
         }
     }

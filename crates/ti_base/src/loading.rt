@@ -4,7 +4,7 @@ ghost use Rattle.std.specs.Prelude.{◌≡◌, ◌<◌, ◌⊎◌, ◌++◌, ◌
 ghost use Rattle.ti_text.specs.Limits.{blocks_max};
 ghost use Rattle.ti_meaning.specs.declared.edits.EditError.TheVariants.{Memory};
 ghost use Rattle.ti_slots.specs.Slots.{texts_of};
-ghost use Rattle.ti_base.specs.KeptSlots.{AreKept, AreRead, IsSoundSlot};
+ghost use Rattle.ti_base.specs.inside.KeptSlots.{AreKept, AreRead, IsSoundSlot};
 ghost use Rattle.ti_base.specs.Loading.{AreTaken, IsLoadRefusal};
 
 use crate::rebuilding::rebuild_all;

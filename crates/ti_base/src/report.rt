@@ -2,13 +2,12 @@
 ghost use Rattle.std.specs.Prelude.{◌≡◌, ◌≤◌, ◌++◌, length, map, option_map, All, IfOk, OnOk};
 ghost use Rattle.std.specs.List.{flat_map, range_with_len};
 ghost use Rattle.std.specs.Rc.{rc_slice_items};
-ghost use Rattle.ti_text.specs.Texts.{line_count};
-ghost use Rattle.ti_source.specs.Codes.{code_text};
+ghost use Rattle.ti_source.specs.Code.{code_text};
 ghost use Rattle.ti_meaning.specs.Report.{shown_byte, shown_detail, fault_line, lines_before, report_line};
 ghost use Rattle.ti_meaning.specs.Faults.{fault_seen};
-ghost use Rattle.ti_meaning.specs.Bounds.{IsPlaced};
+ghost use Rattle.ti_meaning.specs.inside.Bounds.{IsPlaced};
 ghost use Rattle.ti_slots.specs.Slots.{texts_of};
-ghost use Rattle.ti_base.specs.KeptSlots.{AreKept};
+ghost use Rattle.ti_base.specs.inside.KeptSlots.{AreKept};
 
 use crate::owners::slot_of;
 use std::alloc::{AllocError, Global};
@@ -16,9 +15,10 @@ use std::fmt::Write;
 use ti_meaning::Fault;
 use ti_slots::Slots;
 use ti_source::Code;
+use ti_text::count_lines;
 
 /// What a report shows for a byte of a detail: `?` for one that does not print or is white space.
-fn shown(byte: u8) -> u8
+fn printed_byte(byte: u8) -> u8
     ensures { result ≡ shown_byte byte }
 {
     if (33..=126).contains(&byte) {
@@ -37,7 +37,7 @@ fn write_detail(out: &mut Vec<u8>, detail: &[u8]) -> Result<(), AllocError>
         return Ok(());
     }
     for byte in detail {
-        out.push(shown(*byte))?;
+        out.push(printed_byte(*byte))?;
     }
     Ok(())
 }
@@ -73,14 +73,6 @@ pub fn write_fault(
     }
     out.push(b'\n')?;
     Ok(())
-}
-
-/// How many lines a text has, each of which ends with a newline.
-fn count_lines(text: &[u8]) -> usize
-    ensures lines { result ≡ line_count text.now }
-    ensures within { result ≤ length text.now }
-{
-    text.iter().filter(|byte| **byte == b'\n').count()
 }
 
 /// The number of lines before each of the texts.

@@ -7,12 +7,14 @@
 //! - `limits`: what is refused, and the largest blocks and entries
 //! - `owners`: whose name a use means
 //! - `reports`: what is said of a source, and where
-//! - `rings`: blocks that use one another in a ring
+//! - `circular`: blocks that use one another
 //! - `runs`: a run of edits
 //! - `loading`: sources taken in one go
 //! - `plans`: the plans of small lists
 #![tactic(auto)]
 
+#[cfg(test)]
+mod circular;
 #[cfg(test)]
 mod dependents;
 #[cfg(test)]
@@ -25,8 +27,6 @@ mod owners;
 mod plans;
 #[cfg(test)]
 mod reports;
-#[cfg(test)]
-mod rings;
 #[cfg(test)]
 mod runs;
 #[cfg(test)]

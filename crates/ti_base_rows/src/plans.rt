@@ -218,7 +218,7 @@ fn a_chain(rt: HostRuntime) -> Result<(), Fail> {
     expect_chain(&rt, rt.alloc(), &mut Slots::new(rt.alloc()))
 }
 
-/// The list is `a`, `b`. A broken block with a missing name lies on a ring all the same.
+/// The list is `a`, `b`. A broken block with a missing name is circular all the same.
 #[rattlefmt::skip]
 const PLAN_OF_RING: Wanted<'static> = Wanted {
     rebuilt: &[0, 1],
@@ -230,7 +230,7 @@ const PLAN_OF_RING: Wanted<'static> = Wanted {
 };
 
 #[test]
-fn rings(rt: HostRuntime) -> Result<(), Fail> {
+fn circular(rt: HostRuntime) -> Result<(), Fail> {
     let alloc = rt.alloc();
     let mut slots = Slots::new(alloc);
     put(alloc, &mut slots, b"b,use=a,\n")?;

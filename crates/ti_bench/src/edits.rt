@@ -1,4 +1,4 @@
-//! Databases of many blocks: a list of small ones, a chain and a ring of uses, and edits of them.
+//! Databases of many blocks: a list of small ones, a chain of uses and circular ones, and edits of them.
 use std::alloc::{AllocError, Global};
 use ti_base::{Database, EditError};
 
@@ -79,7 +79,7 @@ pub fn replace_root(database: &mut Database) -> Result<(), EditError> {
     Ok(())
 }
 
-/// Makes a ring of a chain of so many blocks: its first then uses its last.
+/// Makes a chain of so many blocks circular: its first then uses its last.
 pub fn close_ring(alloc: Global, database: &mut Database, count: u32) -> Result<(), EditError> {
     let text = block(alloc, 0, "use=b", count.saturating_sub(1))?;
     database.replace(0, &text)?;

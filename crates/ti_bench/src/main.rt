@@ -1,22 +1,22 @@
 //! Times `ti_param::expand` on setaf's usual 256-colour format, and `ti_layout::write` on a small
-//! and on a full entry. With a number N as its word it expands N times, lays N entries of each kind,
+//! and on a full entry. With a number N as its word it expands N times, writes N entries of each kind,
 //! and prints the nanoseconds of one; with a second word, `expand`, `small` or `full`, that alone.
-//! With the second word `edits`, `chain` or `ring` it edits a database of N blocks instead: small
+//! With the second word `edits`, `chain` or `circular` it edits a database of N blocks instead: small
 //! ones that use nothing; each with a use of the one before it; these, and the first with a use of
 //! the last. Without a word it only shows the bytes for the colours 3, 12 and 200, in hexadecimal.
 #![tactic(auto)]
 
 mod edits;
-mod laying;
+mod writing;
 
 use edits::{close_ring, fill, fill_chain, move_middle, replace_many, replace_root};
-use laying::{full_table, lay_all, small_table};
 use std::rt::{Clock, Env};
 use std::time::Instant;
 use std::{env, io};
 use ti_base::{Database, EditError};
 use ti_layout::Table;
 use ti_param::{Statics, Value, expand};
+use writing::{full_table, small_table, write_all};
 
 const SETAF: &[u8] = b"\x1b[%?%p1%{8}%<%t3%p1%d%e%p1%{16}%<%t9%p1%{8}%-%d%e38;5;%p1%d%;m";
 
@@ -82,14 +82,14 @@ fn time_expansions<R: Clock + Print + AllocGlobal>(rt: &R, count: u32) -> io::Re
     print_time(rt, "expand", start, count, total)
 }
 
-fn time_laying<R: Clock + Print + AllocGlobal>(
+fn time_writing<R: Clock + Print + AllocGlobal>(
     rt: &R,
     what: &str,
     table: &Table,
     count: u32,
 ) -> io::Result<()> {
     let start = Instant::now(rt)?;
-    let total = lay_all(rt.alloc(), table, count);
+    let total = write_all(rt.alloc(), table, count);
     print_time(rt, what, start, count, total)
 }
 
@@ -135,16 +135,16 @@ fn time_chain<R: Clock + Print + AllocGlobal>(rt: &R, count: u32) -> io::Result<
     print_edits(rt, "replace the root of a chain", start, 1, done)
 }
 
-fn time_ring<R: Clock + Print + AllocGlobal>(rt: &R, count: u32) -> io::Result<()> {
+fn time_circular<R: Clock + Print + AllocGlobal>(rt: &R, count: u32) -> io::Result<()> {
     let mut database = Database::new(rt.alloc());
     let done = fill_chain(rt.alloc(), &mut database, count);
     if let Err(error) = done {
-        return println!(rt; "ring: {error}");
+        return println!(rt; "circular: {error}");
     }
     let start = Instant::now(rt)?;
     let done = close_ring(rt.alloc(), &mut database, count);
     let report = database.report(1);
-    print_edits(rt, "close a ring and report", start, 1, done)?;
+    print_edits(rt, "make a chain circular and report", start, 1, done)?;
     match report {
         Ok(text) => println!(rt; "its report: {} bytes", text.len()),
         Err(_) => println!(rt; "its report: out of memory"),
@@ -155,17 +155,17 @@ fn time<R: Clock + Print + AllocGlobal>(rt: &R, count: u32, part: &str) -> io::R
     match part {
         "edits" => return time_edits(rt, count),
         "chain" => return time_chain(rt, count),
-        "ring" => return time_ring(rt, count),
+        "circular" => return time_circular(rt, count),
         _ => {}
     }
     if part.is_empty() || part == "expand" {
         time_expansions(rt, count)?;
     }
     if part.is_empty() || part == "small" {
-        time_laying(rt, "lay a small entry", &small_table(rt.alloc())?, count)?;
+        time_writing(rt, "write a small entry", &small_table(rt.alloc())?, count)?;
     }
     if part.is_empty() || part == "full" {
-        time_laying(rt, "lay a full entry", &full_table(rt.alloc())?, count)?;
+        time_writing(rt, "write a full entry", &full_table(rt.alloc())?, count)?;
     }
     Ok(())
 }

@@ -6,8 +6,9 @@ use Rattle.ti_caps.specs.declared.keys.TheConstants.{KEYS}
 use Rattle.ti_caps.specs.declared.tables.TheConstants.{BY_NAME}
 use Rattle.ti_caps.specs.Names.{flag_names, number_names, text_names}
 use Rattle.ti_caps.specs.Tables.{Capability, IsCapability, name_of, names}
-use Rattle.ti_caps.specs.ByName.{Row, numbered, row_of, by_name, IsRowOf, IsOfAnother, HasNoRow}
-use Rattle.ti_caps.specs.Keys.{key_of}
+use Rattle.ti_caps.specs.ByName.{Row, capability_numbered, row_of, by_name}
+use Rattle.ti_caps.specs.inside.ByName.{IsRowOf, IsOfAnother, HasNoRow}
+use Rattle.ti_caps.specs.inside.Keys.{key_of}
 use Rattle.ti_caps.proofs.Table.{row_names}
 
 -- each key is that of the name at its place
@@ -90,17 +91,17 @@ no_place x i low high = λ k d within same.
 -- the numbers in the order by name are as many
 pub numbers_as_long : length BY_NAME ≡ length by_name
 unfolding by_name
-numbers_as_long = sym (length-map BY_NAME (λ n. row_of (numbered n)))
+numbers_as_long = sym (length-map BY_NAME (λ n. row_of (capability_numbered n)))
 
 -- the row at a place is that of the capability whose number stands there
-row_at_place : (i n : ℕ) (d : Row) → i < length by_name → n ≡ get_or BY_NAME i 0 → get_or by_name i d ≡ row_of (numbered n)
+row_at_place : (i n : ℕ) (d : Row) → i < length by_name → n ≡ get_or BY_NAME i 0 → get_or by_name i d ≡ row_of (capability_numbered n)
 unfolding by_name
-row_at_place i n d within at = get_or-map (λ m. row_of (numbered m)) BY_NAME i 0 d (rw numbers_as_long within) ∙ ap (λ m. row_of (numbered m)) (sym at)
+row_at_place i n d within at = get_or-map (λ m. row_of (capability_numbered m)) BY_NAME i 0 d (rw numbers_as_long within) ∙ ap (λ m. row_of (capability_numbered m)) (sym at)
 
-module _ (i n : ℕ) (c : Capability) (within : i < length by_name) (at : n ≡ get_or BY_NAME i 0) (is : c ≡ numbered n) where
+module _ (i n : ℕ) (c : Capability) (within : i < length by_name) (at : n ≡ get_or BY_NAME i 0) (is : c ≡ capability_numbered n) where
   -- that is a capability
   pub is_there : IsCapability c
-  is_there = rw is (row_names (row_of (numbered n)) (i, within, row_at_place i n (row_of (numbered n)) within at)).0
+  is_there = rw is (row_names (row_of (capability_numbered n)) (i, within, row_at_place i n (row_of (capability_numbered n)) within at)).0
 
   -- a row whose name is that one is a row of the name
   pub row_here : (x : List ℕ) → name_of c ≡ x → IsRowOf by_name x c.kind c.index

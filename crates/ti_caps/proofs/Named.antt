@@ -4,7 +4,8 @@ use Rattle.std.proofs.lemmas.Slice.Eq.{bytes_eq-Decides}
 use Rattle.ti_caps.specs.declared.capability.Kind.{Kind}
 use Rattle.ti_caps.specs.declared.capability.Kind.TheVariants.{Flag, Number, Text}
 use Rattle.ti_caps.specs.Tables.{Capability, IsCapability, capability, count_of, name_of, names, EveryNameIsFound, place_of, named_in, first_of_two, capability_named}
-use Rattle.ti_caps.specs.ByName.{by_name, IsRowOf}
+use Rattle.ti_caps.specs.ByName.{by_name}
+use Rattle.ti_caps.specs.inside.ByName.{IsRowOf}
 use Rattle.ti_caps.proofs.Table.{length-names, row_names, distinct_names}
 
 -- a place of a name, or that there is none

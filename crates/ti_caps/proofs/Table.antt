@@ -7,9 +7,10 @@ use Rattle.std.proofs.lemmas.List.Elements.{All-contains, at_from_Contains}
 use Rattle.std.proofs.lemmas.Slice.Eq.{bytes_eq-Decides}
 use Rattle.ti_caps.specs.declared.capability.Kind.{Kind}
 use Rattle.ti_caps.specs.declared.capability.Kind.TheVariants.{Flag, Number, Text}
-use Rattle.ti_caps.specs.Tables.{same_kind, Capability, IsCapability, capability, count_of, name_of, names, NamesAreDistinct}
+use Rattle.ti_caps.specs.Tables.{same_kind, Capability, IsCapability, capability, count_of, name_of, names, CapabilityNamesAreDistinct}
 use Rattle.ti_caps.specs.Names.{flag_names, number_names, text_names}
-use Rattle.ti_caps.specs.ByName.{Row, by_name, IsInNameOrder, IsRowOf, HasNoRow}
+use Rattle.ti_caps.specs.ByName.{Row, by_name, IsInNameOrder}
+use Rattle.ti_caps.specs.inside.ByName.{IsRowOf, HasNoRow}
 use Rattle.ti_caps.proofs.Same.{same_kind-true}
 use Rattle.ti_caps.proofs.Order.{order_from_rising, names_apart}
 
@@ -89,7 +90,7 @@ pub no_name_from_no_row : (x : List ℕ) → HasNoRow by_name x → (c : Capabil
 no_name_from_no_row x none c within = All-contains (λ r. r.0 ≢ x) by_name (name_of c, c.kind, c.index) none (row_of_capability c within)
 
 -- no two capabilities have one name
-pub distinct_names : NamesAreDistinct
+pub distinct_names : CapabilityNamesAreDistinct
 distinct_names c d here there same =
     let (p, low, at_p) = at_from_Contains by_name _ (row_of_capability c here) in
     let (q, high, at_q) = at_from_Contains by_name _ (row_of_capability d there) in

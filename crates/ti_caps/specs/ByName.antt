@@ -1,5 +1,5 @@
 -- The table of all capabilities in the order of the bytes of their names, which a look-up searches (own).
-use Rattle.std.specs.Prelude.{◌≢◌, ℕ, ◌-◌, List, map, slice_index_or, All, Contains, nat_lt, if◌then◌else◌}
+use Rattle.std.specs.Prelude.{ℕ, ◌-◌, List, map, nat_lt, if◌then◌else◌}
 use Rattle.std.specs.Ordering.{nat_cmp}
 use Rattle.std.specs.Cmp.Lexicographic.{slice_cmp}
 use Rattle.std.specs.List.Sorted.{IsStrictlySortedBy}
@@ -18,8 +18,8 @@ abbrev pub Row : Type 0
 Row = List ℕ × Kind × ℕ
 
 -- the capability that has a number: all are counted from 0, the flags first, then the numbers, then the texts, each in the order of its list
-abbrev pub numbered : ℕ → Capability
-numbered n = if nat_lt n 44 then capability Flag n else (if nat_lt n 83 then capability Number (n - 44) else capability Text (n - 83))
+abbrev pub capability_numbered : ℕ → Capability
+capability_numbered n = if nat_lt n 44 then capability Flag n else (if nat_lt n 83 then capability Number (n - 44) else capability Text (n - 83))
 
 -- the row of a capability
 abbrev pub row_of : Capability → Row
@@ -27,20 +27,8 @@ row_of c = (name_of c, c.kind, c.index)
 
 -- the table that is searched
 unfoldable pub by_name : List Row
-by_name = map (λ n. row_of (numbered n)) BY_NAME
+by_name = map (λ n. row_of (capability_numbered n)) BY_NAME
 
 -- each name comes before the next, byte by byte
 pub record IsInNameOrder (rows : List Row) : Type 0 where
   pub sorted : IsStrictlySortedBy (slice_cmp nat_cmp) (map (λ r. r.0) rows)
-
--- the table has this row
-abbrev pub IsRowOf : List Row → List ℕ → Kind → ℕ → Type 0
-IsRowOf rows name kind index = Contains rows (name, kind, index)
-
--- the row at the place has another name
-abbrev pub IsOfAnother : List Row → ℕ → List ℕ → Type 0
-IsOfAnother rows place name = (d : Row) → (slice_index_or rows place d).0 ≢ name
-
--- no row has this name
-abbrev pub HasNoRow : List Row → List ℕ → Type 0
-HasNoRow rows name = All (λ r. r.0 ≢ name) rows

@@ -2,4 +2,4 @@ pub mod Names
 pub mod Tables
 pub mod ByName
 pub mod NameOrder
-pub mod Keys
+pub mod inside

@@ -63,8 +63,8 @@ unfoldable pub capability_named : List ℕ → Option Capability
 capability_named x = first_of_two (named_in x Flag) (first_of_two (named_in x Number) (named_in x Text))
 
 -- no two capabilities have one name, over all three lists
-abbrev pub NamesAreDistinct : Type 0
-NamesAreDistinct = (c d : Capability) → IsCapability c → IsCapability d → name_of c ≡ name_of d → c ≡ d
+abbrev pub CapabilityNamesAreDistinct : Type 0
+CapabilityNamesAreDistinct = (c d : Capability) → IsCapability c → IsCapability d → name_of c ≡ name_of d → c ≡ d
 
 -- the name of each capability leads back to it
 abbrev pub EveryNameIsFound : Type 0

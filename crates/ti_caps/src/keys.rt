@@ -1,6 +1,6 @@
 // The keys of the names, by which a look-up searches.
 ghost use Rattle.std.specs.Prelude.{◌≡◌};
-ghost use Rattle.ti_caps.specs.Keys.{key_of};
+ghost use Rattle.ti_caps.specs.inside.Keys.{key_of};
 
 /// How many bytes of a name its key has.
 const KEY_BYTES: usize = 8;

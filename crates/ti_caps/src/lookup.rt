@@ -1,8 +1,9 @@
 // From the name of a capability to the capability, and back.
 ghost use Rattle.std.specs.Prelude.{◌≡◌, ◌≢◌, ◌<◌, length, [], IfSome, IfNone};
 ghost use Rattle.std.specs.List.{slice_index_or};
-ghost use Rattle.ti_caps.specs.Tables.{Capability, IsCapability, capability, capability_named, count_of, name_of, names, EveryNameIsFound, NamesAreDistinct};
-ghost use Rattle.ti_caps.specs.ByName.{IsRowOf, IsOfAnother, HasNoRow, by_name, numbered, texts_of};
+ghost use Rattle.ti_caps.specs.Tables.{Capability, IsCapability, capability, capability_named, count_of, name_of, names, EveryNameIsFound, CapabilityNamesAreDistinct};
+ghost use Rattle.ti_caps.specs.ByName.{by_name, capability_numbered, texts_of};
+ghost use Rattle.ti_caps.specs.inside.ByName.{IsRowOf, IsOfAnother, HasNoRow};
 
 use crate::capability::{Cap, Kind};
 use crate::keys::{KEYS, key_of};
@@ -33,12 +34,12 @@ pub fn find(name: &[u8]) -> Option<Cap>
     ensures none { IfNone result ((c : Capability) → IsCapability c → name_of c ≢ name.now) }
     ensures is { result ≡ capability_named name.now }
 {
-    let (kind, index) = listed(name)?;
+    let (kind, index) = kind_and_index(name)?;
     Cap::at(kind, index)
 }
 
 // The kind and the index that the table gives to a name, by a binary search of its key.
-fn listed(name: &[u8]) -> Option<(Kind, usize)>
+fn kind_and_index(name: &[u8]) -> Option<(Kind, usize)>
     ensures found { IfSome result (λ r. IsRowOf by_name name.now r.0 r.1) }
     ensures none { IfNone result (HasNoRow by_name name.now) }
 {
@@ -50,7 +51,7 @@ fn listed(name: &[u8]) -> Option<(Kind, usize)>
 
 /// No two capabilities have one name.
 pub fn names_are_distinct()
-    ensures { NamesAreDistinct }
+    ensures { CapabilityNamesAreDistinct }
 {}
 
 /// The name of each capability leads back to it.
@@ -84,7 +85,7 @@ fn row_at(place: usize, name: &[u8]) -> Option<(Kind, usize)>
     ensures found { IfSome result (λ r. IsRowOf by_name name.now r.0 r.1) }
     ensures none { IfNone result (IsOfAnother by_name place name.now) }
 {
-    let (kind, index) = numbered(number_at(&BY_NAME, place));
+    let (kind, index) = capability_numbered(number_at(&BY_NAME, place));
     if text_of(kind, index).as_bytes() == name {
         Some((kind, index))
     } else {
@@ -101,8 +102,8 @@ fn number_at(numbers: &[u16], place: usize) -> usize
 }
 
 // The kind and the index of the capability that has a number.
-fn numbered(number: usize) -> (Kind, usize)
-    ensures { capability result.0 result.1 ≡ numbered number }
+fn capability_numbered(number: usize) -> (Kind, usize)
+    ensures { capability result.0 result.1 ≡ capability_numbered number }
 {
     if number < FLAG_COUNT {
         (Kind::Flag, number)

@@ -10,7 +10,7 @@ use Rattle.clap.specs.declared.error.kind.ErrorKind.TheVariants.{OutOfMemory}
 use Rattle.clap.specs.declared.parser.matches.ArgMatches.{ArgMatches}
 use Rattle.ti_commands.specs.Arguments.{faults_of, job_of, task_in}
 use Rattle.ti_commands.specs.Commands.{ti_app}
-use Rattle.ti_commands.specs.Jobs.{IsRefusal, TellsHelp, is_help, refusal_of}
+use Rattle.ti_commands.specs.Jobs.{IsUsageRefusal, TellsHelp, is_help, refusal_of}
 use Rattle.ti_commands.specs.declared.arguments.UsageError.{UsageError}
 use Rattle.ti_commands.specs.declared.arguments.UsageError.TheVariants as usage
 
@@ -32,19 +32,19 @@ pub no_faults : (app : App) (words : List Text) (matches : ArgMatches) → app �
 no_faults app words matches same fails =
     ap (λ (a : App). fault_of a words) (sym same) ∙ fails (ap is_simple_and_free same ∙ is_program_free)
 
-pub IsRefusal-of_fault : (app : App) (words : List Text) (job : _) (error : Error) (e : UsageError) → app ≡ ti_app
+pub IsUsageRefusal-of_fault : (app : App) (words : List Text) (job : _) (error : Error) (e : UsageError) → app ≡ ti_app
     → (is_simple_and_free app ≡ true → FailsBy {T = ArgMatches} (fault_of app words) (Err error))
-    → e ≡ refusal_of (kind_of error) → IsRefusal (faults_of words) job e
-IsRefusal-of_fault app words job error e same fails is =
+    → e ≡ refusal_of (kind_of error) → IsUsageRefusal (faults_of words) job e
+IsUsageRefusal-of_fault app words job error e same fails is =
     elim (fails (ap is_simple_and_free same ∙ is_program_free)) [
       | inl memory ↦ inl (is ∙ ap refusal_of memory)
       | inr among ↦ inr (inl (kind_of error, subst (λ (a : App). IsAmong (kind_of error) (fault_of a words)) same among, is))
     ]
 
-pub IsRefusal-no_job : (words : List Text) (job : _) (e : UsageError) → faults_of words ≡ [] → job ≡ job_of words
-    → (e ≡ usage.Memory) ⊎ ((e ≡ usage.Usage) × (job ≡ None)) → IsRefusal (faults_of words) (job_of words) e
-IsRefusal-no_job words job e no_fault same (inl memory) = inl memory
-IsRefusal-no_job words job e no_fault same (inr refused) = inr (inr (no_fault, sym same ∙ refused.1, refused.0))
+pub IsUsageRefusal-no_job : (words : List Text) (job : _) (e : UsageError) → faults_of words ≡ [] → job ≡ job_of words
+    → (e ≡ usage.Memory) ⊎ ((e ≡ usage.Usage) × (job ≡ None)) → IsUsageRefusal (faults_of words) (job_of words) e
+IsUsageRefusal-no_job words job e no_fault same (inl memory) = inl memory
+IsUsageRefusal-no_job words job e no_fault same (inr refused) = inr (inr (no_fault, sym same ∙ refused.1, refused.0))
 
 pub tells_help : (app : App) (words : List Text) (error : Error) (help : Bool) → app ≡ ti_app
     → (is_simple_and_free app ≡ true → FailsBy {T = ArgMatches} (fault_of app words) (Err error))

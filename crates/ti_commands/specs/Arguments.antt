@@ -1,7 +1,9 @@
 -- What the words of a command line ask for: the job that stands for the matches that clap defines
 -- for the words. (tic(1), tput(1), infocmp(1); the session is own)
-use Rattle.std.specs.Prelude.{ℕ, ◌^◌, ◌&&◌, ◌==◌, nat_lt, Bool, if◌then◌else◌, List, [], length, codes}
+use Rattle.std.specs.Prelude.{ℕ, ◌^◌, ◌&&◌, ◌==◌, nat_lt, Bool, if◌then◌else◌, List, [], length, map, codes, String}
 use Rattle.std.specs.Prelude.{Option, Some, None, option_and_then, option_map, unwrap_or}
+use Rattle.std.specs.String.{string_bytes}
+use Rattle.std.specs.declared.alloc.Global.{Global}
 use Rattle.std.specs.Str.{all_ascii_digits, bytes_eq}
 use Rattle.std.specs.Str.Parse.{digits_value, without_leading_plus}
 use Rattle.clap.specs.Faults.{fault_of}
@@ -12,6 +14,10 @@ use Rattle.clap.specs.Walk.{Row, Text, all_of, first_of}
 use Rattle.ti_commands.specs.Commands.{ti_app}
 use Rattle.ti_commands.specs.InfocmpWords.{InfocmpTask, infocmp_task}
 use Rattle.ti_commands.specs.Matches.{is_on}
+
+-- the words of a command line, byte for byte
+abbrev pub word_texts : List (String Global) → List Text
+word_texts words = map string_bytes words
 
 -- a job, as plain data
 pub data Task : Type 0 where

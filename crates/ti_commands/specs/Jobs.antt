@@ -32,8 +32,8 @@ refusal_of _ = usage.Usage
 
 -- why words are refused in which clap's definition finds these faults, and which ask for this job:
 -- by one of the faults, or as no job
-abbrev pub IsRefusal : Kinds → Option Task → UsageError → Type 0
-IsRefusal faults job e =
+abbrev pub IsUsageRefusal : Kinds → Option Task → UsageError → Type 0
+IsUsageRefusal faults job e =
     (e ≡ usage.Memory) ⊎ ((k : ErrorKind) × IsAmong k faults × (e ≡ refusal_of k))
     ⊎ ((faults ≡ []) × (job ≡ None) × (e ≡ usage.Usage))
 

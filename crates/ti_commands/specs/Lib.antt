@@ -1,7 +1,7 @@
 -- The definitions that the contracts of this crate cite.
 pub mod Matches
 pub mod Rules
-pub mod Tools
+pub mod inside
 pub mod InfocmpWords
 pub mod Commands
 pub mod Arguments

@@ -1,10 +1,10 @@
 //! What the words of a command line ask for.
 ghost use Rattle.std.specs.Prelude.{◌≡◌, ◌⊎◌, [], IfErr, IfOk, IfSome, None, OnOk, Some, codes, map, true};
-ghost use Rattle.std.specs.String.{string_bytes};
-ghost use Rattle.clap.specs.Words.{first_of, found_of, rows_of, subcommand_rows_of};
-ghost use Rattle.ti_commands.specs.Arguments.{Task, faults_of, is_word_count, job_of, rate_in, takes_words, task_at, task_in, tic_task, tput_task, tput_with};
-ghost use Rattle.ti_commands.specs.Jobs.{IsRefusal, refusal_of, task_of};
+ghost use Rattle.clap.specs.Words.{first_of, subcommand_rows_of};
+ghost use Rattle.ti_commands.specs.Arguments.{Task, faults_of, is_word_count, job_of, rate_in, takes_words, task_at, task_in, tic_task, tput_task, tput_with, word_texts};
+ghost use Rattle.ti_commands.specs.Jobs.{IsUsageRefusal, refusal_of, task_of};
 ghost use Rattle.ti_commands.specs.declared.arguments.UsageError.TheVariants.{Memory};
+ghost use Rattle.ti_commands.specs.Matches.{matched_rows};
 
 use crate::commands::{command, tool_named};
 use crate::infocmp_words::infocmp_job;
@@ -49,7 +49,7 @@ fn refusal(kind: ErrorKind) -> UsageError
 }
 
 fn tic_job(alloc: Global, matches: &ArgMatches<'_>) -> Result<Job, AllocError>
-    ensures { IfOk result (λ job. task_of job ≡ tic_task (rows_of (found_of matches.now))) }
+    ensures { IfOk result (λ job. task_of job ≡ tic_task (matched_rows matches.now)) }
 {
     let check = on(matches, "check");
     let dir = text(alloc, matches, "dir")?;
@@ -59,7 +59,7 @@ fn tic_job(alloc: Global, matches: &ArgMatches<'_>) -> Result<Job, AllocError>
 
 // The rate of `--rate`, 0 where it is not there.
 fn rate(matches: &ArgMatches<'_>) -> Option<u32>
-    ensures { result ≡ rate_in (first_of (codes "rate") (rows_of (found_of matches.now))) }
+    ensures { result ≡ rate_in (first_of (codes "rate") (matched_rows matches.now)) }
 {
     match value(matches, "rate") {
         Some(text) => text.parse().ok(),
@@ -80,10 +80,10 @@ fn is_word_count(lines: bool, count: usize) -> bool
 
 // The job of `tput` with these words.
 fn tput_of(alloc: Global, matches: &ArgMatches<'_>, words: &[&str]) -> Result<Job, UsageError>
-    ensures right { IfOk result (λ job. tput_with (rows_of (found_of matches.now)) (map (λ word. word.now) words.now)
+    ensures right { IfOk result (λ job. tput_with (matched_rows matches.now) (map (λ word. word.now) words.now)
         ≡ Some (task_of job)) }
     ensures refused { IfErr result (λ error. (error ≡ UsageError.Memory)
-        ⊎ ((error ≡ UsageError.Usage) × (tput_with (rows_of (found_of matches.now)) (map (λ word. word.now) words.now) ≡ None))) }
+        ⊎ ((error ≡ UsageError.Usage) × (tput_with (matched_rows matches.now) (map (λ word. word.now) words.now) ≡ None))) }
 {
     let lines = on(matches, "lines");
     let Some(rate) = rate(matches) else {
@@ -103,9 +103,9 @@ fn tput_of(alloc: Global, matches: &ArgMatches<'_>, words: &[&str]) -> Result<Jo
 }
 
 fn tput_job(alloc: Global, matches: &ArgMatches<'_>) -> Result<Job, UsageError>
-    ensures right { IfOk result (λ job. tput_task (rows_of (found_of matches.now)) ≡ Some (task_of job)) }
+    ensures right { IfOk result (λ job. tput_task (matched_rows matches.now) ≡ Some (task_of job)) }
     ensures refused { IfErr result (λ error. (error ≡ UsageError.Memory)
-        ⊎ ((error ≡ UsageError.Usage) × (tput_task (rows_of (found_of matches.now)) ≡ None))) }
+        ⊎ ((error ≡ UsageError.Usage) × (tput_task (matched_rows matches.now) ≡ None))) }
 {
     match values(matches, "words") {
         Some(words) => tput_of(alloc, matches, words),
@@ -115,9 +115,9 @@ fn tput_job(alloc: Global, matches: &ArgMatches<'_>) -> Result<Job, UsageError>
 
 // The job of the tool of that name, with its matches.
 fn tool_job(alloc: Global, name: &str, matches: &ArgMatches<'_>) -> Result<Job, UsageError>
-    ensures right { IfOk result (λ job. task_at name.now (rows_of (found_of matches.now)) ≡ Some (task_of job)) }
+    ensures right { IfOk result (λ job. task_at name.now (matched_rows matches.now) ≡ Some (task_of job)) }
     ensures refused { IfErr result (λ error. (error ≡ UsageError.Memory)
-        ⊎ ((error ≡ UsageError.Usage) × (task_at name.now (rows_of (found_of matches.now)) ≡ None))) }
+        ⊎ ((error ≡ UsageError.Usage) × (task_at name.now (matched_rows matches.now) ≡ None))) }
 {
     match name {
         "tic" => Ok(tic_job(alloc, matches)?),
@@ -144,8 +144,8 @@ fn used_job(alloc: Global, matches: &ArgMatches<'_>) -> Result<Job, UsageError>
 // The job that the words ask for, read by the command of their tool alone, which takes about half as long as by all. `None`
 // where that finds no job: only the whole command says why.
 fn job_of_tool(alloc: Global, words: &[String]) -> Result<Option<Job>, AllocError>
-    ensures { IfOk result (λ found. IfSome found (λ job. (job_of (map string_bytes words.now) ≡ Some (task_of job))
-        × (faults_of (map string_bytes words.now) ≡ []))) }
+    ensures { IfOk result (λ found. IfSome found (λ job. (job_of (word_texts words.now) ≡ Some (task_of job))
+        × (faults_of (word_texts words.now) ≡ []))) }
 {
     let Some(name) = words.get(1) else {
         return Ok(None);
@@ -163,13 +163,13 @@ fn job_of_tool(alloc: Global, words: &[String]) -> Result<Option<Job>, AllocErro
 
 // The job that the words ask for, read by the command of all tools.
 fn job_of_program(alloc: Global, words: &[String]) -> Result<Job, UsageError>
-    ensures right { IfOk result (λ job. job_of (map string_bytes words.now) ≡ Some (task_of job)) }
-    ensures answered { (task : Task) → job_of (map string_bytes words.now) ≡ Some task
-        → takes_words (map string_bytes words.now) ≡ true
+    ensures right { IfOk result (λ job. job_of (word_texts words.now) ≡ Some (task_of job)) }
+    ensures answered { (task : Task) → job_of (word_texts words.now) ≡ Some task
+        → takes_words (word_texts words.now) ≡ true
         → IfErr result (λ error. error ≡ UsageError.Memory) }
-    ensures accepted { OnOk result (faults_of (map string_bytes words.now) ≡ []) }
-    ensures refused { IfErr result (IsRefusal (faults_of (map string_bytes words.now))
-        (job_of (map string_bytes words.now))) }
+    ensures accepted { OnOk result (faults_of (word_texts words.now) ≡ []) }
+    ensures refused { IfErr result (IsUsageRefusal (faults_of (word_texts words.now))
+        (job_of (word_texts words.now))) }
 {
     let command = command(alloc)?;
     match command.try_get_matches_from(words) {
@@ -184,13 +184,13 @@ fn job_of_program(alloc: Global, words: &[String]) -> Result<Job, UsageError>
 /// `Usage` where the words are no command line of the program, and `Help` where they ask for help;
 /// then `Memory`.
 pub fn job(alloc: Global, words: &[String]) -> Result<Job, UsageError>
-    ensures right { IfOk result (λ job. job_of (map string_bytes words.now) ≡ Some (task_of job)) }
-    ensures answered { (task : Task) → job_of (map string_bytes words.now) ≡ Some task
-        → takes_words (map string_bytes words.now) ≡ true
+    ensures right { IfOk result (λ job. job_of (word_texts words.now) ≡ Some (task_of job)) }
+    ensures answered { (task : Task) → job_of (word_texts words.now) ≡ Some task
+        → takes_words (word_texts words.now) ≡ true
         → IfErr result (λ error. error ≡ UsageError.Memory) }
-    ensures accepted { OnOk result (faults_of (map string_bytes words.now) ≡ []) }
-    ensures refused { IfErr result (IsRefusal (faults_of (map string_bytes words.now))
-        (job_of (map string_bytes words.now))) }
+    ensures accepted { OnOk result (faults_of (word_texts words.now) ≡ []) }
+    ensures refused { IfErr result (IsUsageRefusal (faults_of (word_texts words.now))
+        (job_of (word_texts words.now))) }
 {
     match job_of_tool(alloc, words)? {
         Some(job) => Ok(job),

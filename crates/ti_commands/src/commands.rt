@@ -5,7 +5,7 @@ ghost use Rattle.std.specs.List.{fold};
 ghost use Rattle.clap.specs.Words.{app_of};
 ghost use Rattle.clap.specs.declared.builder.Command.TheViews.{out-Command as fields_of};
 ghost use Rattle.ti_commands.specs.Commands.{ti_app, tool_app};
-ghost use Rattle.ti_commands.specs.Tools.{app_for, with_argument, with_tool};
+ghost use Rattle.ti_commands.specs.inside.Tools.{app_for, with_argument, with_tool};
 
 use crate::infocmp_words::INFOCMP;
 use crate::rules::{Argument, Form};
@@ -140,7 +140,7 @@ fn with_arguments<'a>(
     ensures local { IfOk result (λ r. (fields_of r).has_globals ≡ false) }
 {
     for argument in arguments {
-        command = command.arg(argument.built(alloc))?;
+        command = command.arg(argument.to_argument(alloc))?;
     }
     Ok(command)
 }

@@ -1,9 +1,10 @@
 //! What the words behind `infocmp` are, for clap, and what they ask for.
 ghost use Rattle.std.specs.Prelude.{◌≡◌, ◌⊎◌, IfErr, IfOk, None, Some, codes, map, option_map};
-ghost use Rattle.clap.specs.Words.{first_of, found_of, rows_of};
+ghost use Rattle.clap.specs.Words.{first_of};
 ghost use Rattle.ti_commands.specs.Arguments.{infocmp_job_of, task_infocmp};
 ghost use Rattle.ti_commands.specs.InfocmpWords.{choice_in, choice_with, infocmp_with, mode_for, order_for, suits, width_for};
 ghost use Rattle.ti_commands.specs.Jobs.{task_of};
+ghost use Rattle.ti_commands.specs.Matches.{matched_rows};
 
 use crate::arguments::UsageError;
 use crate::commands::Tool;
@@ -124,7 +125,7 @@ impl Choice {
 
 // The modes that the options name.
 fn choice_of(matches: &ArgMatches<'_>) -> Choice
-    ensures { result ≡ choice_in (rows_of (found_of matches.now)) }
+    ensures { result ≡ choice_in (matched_rows matches.now) }
 {
     Choice::Nothing
         .with(on(matches, "list"), InfocmpMode::List)
@@ -169,7 +170,7 @@ fn width_in(text: &str) -> Option<usize>
 
 // The width that is said.
 fn width_of(matches: &ArgMatches<'_>) -> Option<usize>
-    ensures { result ≡ width_for (first_of (codes "width") (rows_of (found_of matches.now))) }
+    ensures { result ≡ width_for (first_of (codes "width") (matched_rows matches.now)) }
 {
     match value(matches, "width") {
         Some(text) => width_in(text),
@@ -179,7 +180,7 @@ fn width_of(matches: &ArgMatches<'_>) -> Option<usize>
 
 // The order that is said.
 fn order_of(matches: &ArgMatches<'_>) -> Option<Order>
-    ensures { result ≡ order_for (first_of (codes "sort") (rows_of (found_of matches.now))) }
+    ensures { result ≡ order_for (first_of (codes "sort") (matched_rows matches.now)) }
 {
     match value(matches, "sort") {
         None => Some(Order::Name),
@@ -191,11 +192,11 @@ fn order_of(matches: &ArgMatches<'_>) -> Option<Order>
 
 // The job of `infocmp` with these names.
 fn infocmp_of(alloc: Global, matches: &ArgMatches<'_>, names: &[&str]) -> Result<Job, UsageError>
-    ensures right { IfOk result (λ job. option_map task_infocmp (infocmp_with (rows_of (found_of matches.now)) (map (λ name. name.now) names.now))
+    ensures right { IfOk result (λ job. option_map task_infocmp (infocmp_with (matched_rows matches.now) (map (λ name. name.now) names.now))
         ≡ Some (task_of job)) }
     ensures refused { IfErr result (λ error. (error ≡ UsageError.Memory)
         ⊎ ((error ≡ UsageError.Usage)
-        × (option_map task_infocmp (infocmp_with (rows_of (found_of matches.now)) (map (λ name. name.now) names.now)) ≡ None))) }
+        × (option_map task_infocmp (infocmp_with (matched_rows matches.now) (map (λ name. name.now) names.now)) ≡ None))) }
 {
     let mode = mode_for(choice_of(matches), names.len());
     let (Some(mode), Some(width), Some(order)) = (mode, width_of(matches), order_of(matches)) else {
@@ -224,9 +225,9 @@ fn infocmp_of(alloc: Global, matches: &ArgMatches<'_>, names: &[&str]) -> Result
 /// `Usage` where they ask for none; then `Memory`.
 #[tactic(auto, unfolding(crate::specs::Arguments::infocmp_job_of))]
 pub fn infocmp_job(alloc: Global, matches: &ArgMatches<'_>) -> Result<Job, UsageError>
-    ensures right { IfOk result (λ job. infocmp_job_of (rows_of (found_of matches.now)) ≡ Some (task_of job)) }
+    ensures right { IfOk result (λ job. infocmp_job_of (matched_rows matches.now) ≡ Some (task_of job)) }
     ensures refused { IfErr result (λ error. (error ≡ UsageError.Memory)
-        ⊎ ((error ≡ UsageError.Usage) × (infocmp_job_of (rows_of (found_of matches.now)) ≡ None))) }
+        ⊎ ((error ≡ UsageError.Usage) × (infocmp_job_of (matched_rows matches.now) ≡ None))) }
 {
     match values(matches, "name") {
         Some(names) => infocmp_of(alloc, matches, names),

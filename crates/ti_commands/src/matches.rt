@@ -2,15 +2,15 @@
 ghost use Rattle.std.specs.Prelude.{◌≡◌, IfOk, map, option_map};
 ghost use Rattle.std.specs.String.{string_bytes};
 ghost use Rattle.clap.specs.Walk.{all_of};
-ghost use Rattle.clap.specs.Words.{first_of, found_of, rows_of};
-ghost use Rattle.ti_commands.specs.Matches.{is_on};
+ghost use Rattle.clap.specs.Words.{first_of};
+ghost use Rattle.ti_commands.specs.Matches.{is_on, matched_rows};
 
 use clap::ArgMatches;
 use std::alloc::{AllocError, Global};
 
 /// The value of an argument, where it has one.
 pub fn value<'a>(matches: &ArgMatches<'a>, id: &str) -> Option<&'a str>
-    ensures { option_map (λ value. value.now) result ≡ first_of id.now (rows_of (found_of matches.now)) }
+    ensures { option_map (λ value. value.now) result ≡ first_of id.now (matched_rows matches.now) }
 {
     matches.get_str(id)
 }
@@ -18,7 +18,7 @@ pub fn value<'a>(matches: &ArgMatches<'a>, id: &str) -> Option<&'a str>
 /// The same as a text of its own.
 pub fn text(alloc: Global, matches: &ArgMatches<'_>, id: &str) -> Result<Option<String>, AllocError>
     ensures { IfOk result (λ text. option_map string_bytes text
-        ≡ first_of id.now (rows_of (found_of matches.now))) }
+        ≡ first_of id.now (matched_rows matches.now)) }
 {
     match value(matches, id) {
         Some(value) => Ok(Some(String::from_str(alloc, value)?)),
@@ -28,7 +28,7 @@ pub fn text(alloc: Global, matches: &ArgMatches<'_>, id: &str) -> Result<Option<
 
 /// Whether an option that is on or off is on.
 pub fn on(matches: &ArgMatches<'_>, id: &str) -> bool
-    ensures { result ≡ is_on id.now (rows_of (found_of matches.now)) }
+    ensures { result ≡ is_on id.now (matched_rows matches.now) }
 {
     match value(matches, id) {
         Some(value) => value == "true",
@@ -38,7 +38,7 @@ pub fn on(matches: &ArgMatches<'_>, id: &str) -> bool
 
 /// The values of an argument that may have many.
 pub fn values<'m, 'a>(matches: &'m ArgMatches<'a>, id: &str) -> Option<&'m [&'a str]>
-    ensures { option_map (λ values. map (λ value. value.now) values.now) result ≡ all_of id.now (rows_of (found_of matches.now)) }
+    ensures { option_map (λ values. map (λ value. value.now) values.now) result ≡ all_of id.now (matched_rows matches.now) }
 {
     matches.get_strs(id)
 }

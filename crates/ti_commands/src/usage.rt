@@ -1,9 +1,8 @@
 //! What is said of the words of a command line that ask for no job.
-ghost use Rattle.std.specs.Prelude.{◌≡◌, ◌≢◌, [], IfNone, IfOk, IfSome, map};
-ghost use Rattle.std.specs.String.{string_bytes};
+ghost use Rattle.std.specs.Prelude.{◌≡◌, ◌≢◌, [], IfNone, IfOk, IfSome};
 ghost use Rattle.clap.specs.Words.{kind_of};
 ghost use Rattle.clap.specs.declared.error.kind.ErrorKind.TheVariants.{OutOfMemory};
-ghost use Rattle.ti_commands.specs.Arguments.{faults_of};
+ghost use Rattle.ti_commands.specs.Arguments.{faults_of, word_texts};
 ghost use Rattle.ti_commands.specs.Jobs.{TellsHelp, is_help};
 
 use crate::commands::command;
@@ -40,13 +39,14 @@ fn text_of(alloc: Global, error: &Error) -> Result<UsageText, AllocError>
 }
 
 /// What is said of words that ask for help or that are no command line of the program; `None` where they are one. The words
-/// are read again, since a `UsageError` has no text.
+/// are read again: a `UsageError` is one of three causes and has no text, and what clap found is not kept between the two
+/// calls. Words that are taken are read once.
 ///
 /// # Errors
 /// Want of memory.
 pub fn usage_text(alloc: Global, words: &[String]) -> Result<Option<UsageText>, AllocError>
-    ensures taken { IfOk result (λ said. IfNone said (faults_of (map string_bytes words.now) ≡ [])) }
-    ensures help { IfOk result (λ said. IfSome said (λ usage. TellsHelp (faults_of (map string_bytes words.now)) usage.is_help)) }
+    ensures taken { IfOk result (λ said. IfNone said (faults_of (word_texts words.now) ≡ [])) }
+    ensures help { IfOk result (λ said. IfSome said (λ usage. TellsHelp (faults_of (word_texts words.now)) usage.is_help)) }
 {
     let command = command(alloc)?;
     match command.try_get_matches_from(words) {

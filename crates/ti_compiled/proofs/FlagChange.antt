@@ -14,9 +14,9 @@ use Rattle.ti_layout.proofs.Assembling.{header_laid}
 use Rattle.ti_layout.proofs.Below.{length-below, below-filled, below-same}
 use Rattle.ti_layout.proofs.Parts.{length-header}
 use Rattle.ti_layout.proofs.Sizes.{length-image}
-use Rattle.ti_compiled.specs.Changes.{flag_content}
-use Rattle.ti_compiled.specs.Held.{with_content}
-use Rattle.ti_compiled.specs.Parts.{Replaces, with_length}
+use Rattle.ti_compiled.specs.inside.Changes.{flag_content}
+use Rattle.ti_compiled.specs.Image.{with_content}
+use Rattle.ti_compiled.specs.inside.Parts.{Replaces, with_length}
 use Rattle.ti_compiled.proofs.Given.{HoldsNoOther, given_here, given_place, given_past, nothing_past}
 use Rattle.ti_compiled.proofs.Resizing.{resized-below, set-below}
 use Rattle.ti_compiled.proofs.Same.{same_offsets, same_strings, same_text_count}

@@ -8,7 +8,7 @@ use Rattle.ti_layout.specs.Laws.{without_cancel}
 use Rattle.ti_layout.specs.Values.{Content, Contents}
 use Rattle.ti_layout.proofs.Held.{same_from_one, test_from_other}
 use Rattle.ti_layout.proofs.ImageReading.{past-written}
-use Rattle.ti_compiled.specs.Held.{with_content}
+use Rattle.ti_compiled.specs.Image.{with_content}
 
 -- nothing is held but of the 497 capabilities
 abbrev pub HoldsNoOther : Contents → Type 0

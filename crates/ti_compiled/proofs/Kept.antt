@@ -19,7 +19,7 @@ use Rattle.ti_layout.proofs.ImageReading.{images_are_read}
 use Rattle.ti_layout.proofs.OfValues.{images_are_of_values, limits_are_of_values}
 use Rattle.ti_layout.specs.declared.writing.WriteError.TheVariants.{TooLarge}
 use Rattle.ti_compiled.specs.Changes.{HoldsGiven, IsWithin, IsOver}
-use Rattle.ti_compiled.specs.Held.{names_in, contents_in, with_content, IsImage}
+use Rattle.ti_compiled.specs.Image.{names_in, contents_in, with_content, IsImage}
 use Rattle.ti_compiled.proofs.Carried.{carried}
 
 uncancelled-twice : (o : Option Content) → without_cancel (without_cancel o) ≡ without_cancel o

@@ -6,15 +6,15 @@ use Rattle.ti_layout.specs.declared.layout.Format.{Format}
 use Rattle.ti_layout.specs.declared.layout.Format.TheVariants.{Legacy, Extended}
 use Rattle.ti_layout.specs.declared.layout.Header.{Header}
 use Rattle.ti_layout.specs.Image.{image, below, format_of, is_there, limit_of, number_value, of_kind, offsets_below, texts_below, written_count}
-use Rattle.ti_layout.specs.Layout.{absent, header, number_bytes, number_section, width}
+use Rattle.ti_layout.specs.Layout.{absent_mark, header, number_bytes, number_section, width}
 use Rattle.ti_layout.specs.Sizes.{HasSizes, at_most_max}
 use Rattle.ti_layout.specs.Values.{Content, content_true, content_number, content_text, content_cancelled, Contents, AgreesIfSome}
 use Rattle.ti_layout.proofs.Assembling.{header_laid}
 use Rattle.ti_layout.proofs.Below.{length-below, get_or-below, last_passing-is}
 use Rattle.ti_layout.proofs.Spelled.{length-spelled, spelled-append, spelled-one}
-use Rattle.ti_compiled.specs.Changes.{number_content, wide_value, with_number, HasNumbers}
-use Rattle.ti_compiled.specs.Held.{names_in, contents_in, IsImage}
-use Rattle.ti_compiled.specs.Parts.{Replaces, with_length}
+use Rattle.ti_compiled.specs.inside.Changes.{number_content, wide_value, with_number, HasNumbers}
+use Rattle.ti_compiled.specs.Image.{names_in, contents_in, IsImage}
+use Rattle.ti_compiled.specs.inside.Parts.{Replaces, with_length}
 use Rattle.ti_compiled.proofs.FlagPlaces.{length_sized}
 use Rattle.ti_compiled.proofs.Given.{given_here, given_place}
 use Rattle.ti_compiled.proofs.Kept.{given_agrees}
@@ -25,7 +25,7 @@ use Rattle.ti_compiled.proofs.Same.{same_offsets, same_strings, same_text_count}
 use Rattle.ti_compiled.proofs.TextPlaces.{head_of, length_head}
 
 -- what does not fit is dropped, so the wide value spells the narrow one
-narrow_bytes : (w : Format) (o : Option Content) → number_bytes w (number_value 4294967295 o) ≡ number_bytes w (number_value (absent w) o)
+narrow_bytes : (w : Format) (o : Option Content) → number_bytes w (number_value 4294967295 o) ≡ number_bytes w (number_value (absent_mark w) o)
 narrow_bytes Legacy None = refl
 narrow_bytes Legacy (Some content_true) = refl
 narrow_bytes Legacy (Some (content_number n)) = refl

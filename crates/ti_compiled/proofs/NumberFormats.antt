@@ -7,7 +7,7 @@ use Rattle.ti_layout.specs.declared.layout.Format.TheVariants.{Legacy, Extended}
 use Rattle.ti_layout.specs.Image.{below, format_of, is_wide, number_value, of_kind}
 use Rattle.ti_layout.specs.Values.{Content, content_true, content_number, content_text, content_cancelled, Contents, AgreesIfSome}
 use Rattle.ti_layout.proofs.Below.{length-below, get_or-below, some_below-true, some_below-false}
-use Rattle.ti_compiled.specs.Changes.{wide_value, HasNumbers}
+use Rattle.ti_compiled.specs.inside.Changes.{wide_value, HasNumbers}
 
 narrow : (j : ℕ) (o : Option Content) → AgreesIfSome (capability Number j) o → (number_value 4294967295 o ≤ 32767) ⊎ (number_value 4294967295 o ≡ 4294967295) → is_wide o ≡ false
 narrow j None a v = refl

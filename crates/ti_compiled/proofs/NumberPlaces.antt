@@ -8,15 +8,15 @@ use Rattle.ti_layout.specs.declared.layout.Format.{Format}
 use Rattle.ti_layout.specs.declared.layout.Format.TheVariants.{Legacy, Extended}
 use Rattle.ti_layout.specs.declared.layout.Header.{Header}
 use Rattle.ti_layout.specs.Image.{image, below, even_gap, flags_below, format_of, numbers_below, number_value, of_kind, offsets_below, texts_below, written_count}
-use Rattle.ti_layout.specs.Layout.{absent, negative, number_section, width}
+use Rattle.ti_layout.specs.Layout.{absent_mark, first_negative, number_section, width}
 use Rattle.ti_layout.specs.Laws.{without_cancel}
 use Rattle.ti_layout.specs.Reading.{number_at}
 use Rattle.ti_layout.specs.Sizes.{HasSizes}
 use Rattle.ti_layout.specs.Values.{Content, content_true, content_number, content_text, content_cancelled, Contents, AgreesIfSome}
 use Rattle.ti_layout.proofs.Below.{length-below, below-none, below-filled, below-same}
 use Rattle.ti_layout.proofs.ImageReading.{number-plain}
-use Rattle.ti_compiled.specs.Changes.{wide_value}
-use Rattle.ti_compiled.specs.Held.{names_in, contents_in, IsImage}
+use Rattle.ti_compiled.specs.inside.Changes.{wide_value}
+use Rattle.ti_compiled.specs.Image.{names_in, contents_in, IsImage}
 use Rattle.ti_compiled.proofs.FlagPlaces.{length_sized}
 use Rattle.ti_compiled.proofs.Given.{nothing_past}
 use Rattle.ti_compiled.proofs.Moving.{mixed, mixed_low, mixed_high, mixed_more}
@@ -32,21 +32,21 @@ void_number void (Some (content_text t)) e = refl
 void_number void (Some content_cancelled) e = refl
 
 -- what a number in the bytes tells
-pub record Tells (w : Format) (o : Option Content) : Type 0 where
-  pub fits : number_value (absent w) o ≤ absent w
-  pub plain : number_value (absent w) o < negative w → number_value 4294967295 o ≡ number_value (absent w) o
-  pub void : negative w ≤ number_value (absent w) o → number_value 4294967295 o ≡ 4294967295
+pub record NumberFacts (w : Format) (o : Option Content) : Type 0 where
+  pub fits : number_value (absent_mark w) o ≤ absent_mark w
+  pub plain : number_value (absent_mark w) o < first_negative w → number_value 4294967295 o ≡ number_value (absent_mark w) o
+  pub void : first_negative w ≤ number_value (absent_mark w) o → number_value 4294967295 o ≡ 4294967295
 
-least : (w : Format) → negative w ≤ absent w
+least : (w : Format) → first_negative w ≤ absent_mark w
 least Legacy = omega arith
 least Extended = omega arith
 
-tells : (w : Format) (o : Option Content) → ((n : ℕ) → o ≡ Some (content_number n) → n < negative w) → Tells w o
-tells w None small = let l = least w in record { fits = omega arith; plain = λ h. absurd (omega arith); void = λ h. refl }
-tells w (Some content_true) small = let l = least w in record { fits = omega arith; plain = λ h. absurd (omega arith); void = λ h. refl }
-tells w (Some (content_number n)) small = let l = least w in let s = small n refl in record { fits = omega arith; plain = λ h. refl; void = λ h. absurd (omega arith) }
-tells w (Some (content_text t)) small = let l = least w in record { fits = omega arith; plain = λ h. absurd (omega arith); void = λ h. refl }
-tells w (Some content_cancelled) small = let l = least w in record { fits = omega arith; plain = λ h. absurd (omega arith); void = λ h. refl }
+number_facts : (w : Format) (o : Option Content) → ((n : ℕ) → o ≡ Some (content_number n) → n < first_negative w) → NumberFacts w o
+number_facts w None small = let l = least w in record { fits = omega arith; plain = λ h. absurd (omega arith); void = λ h. refl }
+number_facts w (Some content_true) small = let l = least w in record { fits = omega arith; plain = λ h. absurd (omega arith); void = λ h. refl }
+number_facts w (Some (content_number n)) small = let l = least w in let s = small n refl in record { fits = omega arith; plain = λ h. refl; void = λ h. absurd (omega arith) }
+number_facts w (Some (content_text t)) small = let l = least w in record { fits = omega arith; plain = λ h. absurd (omega arith); void = λ h. refl }
+number_facts w (Some content_cancelled) small = let l = least w in record { fits = omega arith; plain = λ h. absurd (omega arith); void = λ h. refl }
 
 nine : (h n z f g m o s r : List ℕ) → h ++ n ++ z ++ f ++ g ++ m ++ o ++ s ++ r ≡ h ++ ((n ++ z ++ f ++ g) ++ (m ++ (o ++ s ++ r)))
 nine h n z f g m o s r = simp append_assoc
@@ -62,7 +62,7 @@ after_numbers c = number_section Legacy (offsets_below c (written_count c Text))
 
 -- the number of a place, in a format
 abbrev pub number_in : Format → Contents → ℕ → ℕ
-number_in w c j = number_value (absent w) (of_kind c Number j)
+number_in w c j = number_value (absent_mark w) (of_kind c Number j)
 
 pub number_frame : (names : List ℕ) (c : Contents) → image names c ≡ head_of names c ++ (before_numbers names c ++ (number_section (format_of c) (below (number_in (format_of c) c) (written_count c Number)) ++ after_numbers c))
 unfolding image
@@ -86,7 +86,7 @@ module _ (b : List ℕ) (is : IsImage b) (h : Header) (has : HasSizes (names_in 
   abbrev c : Contents
   c = contents_in b
 
-  number_small : (j : ℕ) → j < h.numbers → (n : ℕ) → of_kind (contents_in b) Number j ≡ Some (content_number n) → n < negative (format_of (contents_in b))
+  number_small : (j : ℕ) → j < h.numbers → (n : ℕ) → of_kind (contents_in b) Number j ≡ Some (content_number n) → n < first_negative (format_of (contents_in b))
   number_small j lt n e =
       let N = has.numbers in
       let fit = has.numbers_fit in
@@ -94,8 +94,8 @@ module _ (b : List ℕ) (is : IsImage b) (h : Header) (has : HasSizes (names_in 
       let agrees = subst (AgreesIfSome (capability Number j)) e (is.imaged.agree (capability Number j) under) in
       number-plain (contents_in b) j n under e agrees.1
 
-  pub number_tells : (j : ℕ) → j < h.numbers → Tells (format_of (contents_in b)) (of_kind (contents_in b) Number j)
-  number_tells j lt = tells (format_of c) (of_kind c Number j) (number_small j lt)
+  pub number_tells : (j : ℕ) → j < h.numbers → NumberFacts (format_of (contents_in b)) (of_kind (contents_in b) Number j)
+  number_tells j lt = number_facts (format_of c) (of_kind c Number j) (number_small j lt)
 
   pub numbers_end : numbers_from h + width h.format * h.numbers ≤ length b
   numbers_end = let l = ap (λ (x : List ℕ). length x) is.whole ∙ length_sized (names_in b) c h has in omega arith
@@ -128,27 +128,27 @@ module _ (b : List ℕ) (is : IsImage b) (h : Header) (has : HasSizes (names_in 
     found : n ≡ number_in (format_of (contents_in b)) (contents_in b) at
     found = number_read place size at n ep es lt value
 
-    same_negative : negative h.format ≡ negative (format_of (contents_in b))
-    same_negative = ap negative has.format
+    same_negative : first_negative h.format ≡ first_negative (format_of (contents_in b))
+    same_negative = ap first_negative has.format
 
     next : mixed (λ _. 4294967295) (wide_value (contents_in b)) (at + 1) at ≡ wide_value (contents_in b) at
     next = mixed_low (λ _. 4294967295) (wide_value c) (at + 1) at (omega arith)
 
-    pub read_plain : n < negative h.format → ReadUpTo (set values at n) (at + 1)
+    pub read_plain : n < first_negative h.format → ReadUpTo (set values at n) (at + 1)
     read_plain small =
         let f = found in
         let e = same_negative in
         let fit = has.numbers_fit in
-        let under : number_in (format_of c) c at < negative (format_of c) = omega arith in
+        let under : number_in (format_of c) c at < first_negative (format_of c) = omega arith in
         ap (λ t. set t at n) so_far
         ∙ set-below (mixed (λ _. 4294967295) (wide_value c) at) (mixed (λ _. 4294967295) (wide_value c) (at + 1)) 39 at n (omega arith) (next ∙ (number_tells at lt).plain under ∙ sym found)
         (λ j other. mixed_more (λ _. 4294967295) (wide_value c) at j other)
 
-    pub read_void : negative h.format ≤ n → ReadUpTo values (at + 1)
+    pub read_void : first_negative h.format ≤ n → ReadUpTo values (at + 1)
     read_void large =
         let f = found in
         let e = same_negative in
-        let over : negative (format_of c) ≤ number_in (format_of c) c at = omega arith in
+        let over : first_negative (format_of c) ≤ number_in (format_of c) c at = omega arith in
         let m = mixed (λ _. 4294967295) (wide_value c) in
         let step : m at at ≡ m (at + 1) at = mixed_high (λ _. 4294967295) (wide_value c) at at (omega arith) ∙ sym (next ∙ (number_tells at lt).void over) in
         so_far ∙ below-same (m at) (m (at + 1)) 39 (λ j l. elim (cases_eq j at) [

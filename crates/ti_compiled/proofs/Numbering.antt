@@ -5,11 +5,11 @@ use Rattle.std.proofs.lemmas.List.{length-append, length-take, drop_at, set_spli
 use Rattle.ti_layout.specs.declared.layout.Format.{Format}
 use Rattle.ti_layout.specs.declared.layout.Format.TheVariants.{Legacy, Extended}
 use Rattle.ti_layout.specs.Image.{below}
-use Rattle.ti_layout.specs.Layout.{absent, number_bytes, number_section, width}
+use Rattle.ti_layout.specs.Layout.{absent_mark, number_bytes, number_section, width}
 use Rattle.ti_layout.specs.Reading.{number_at}
 use Rattle.ti_layout.proofs.Below.{length-below, get_or-below, below-filled}
 use Rattle.ti_layout.proofs.Spelled.{length-number_bytes, length-spelled, number_at-first, number_at-here, spelled-append, spelled-absent}
-use Rattle.ti_compiled.specs.Parts.{Replaces, with_length}
+use Rattle.ti_compiled.specs.inside.Parts.{Replaces, with_length}
 use Rattle.ti_compiled.proofs.Resizing.{take-below, set-below}
 
 spelled-cons : (w : Format) (x : ℕ) (xs : List ℕ) → number_section w (x ∷ xs) ≡ number_bytes w x ++ number_section w xs
@@ -45,7 +45,7 @@ module _ (w : Format) (p r : List ℕ) (place : ℕ) (long : length p ≡ place)
       let a = length-append p (number_section w (take j xs)) in
       omega arith
 
-  pub number-get : (b xs : List ℕ) (j : ℕ) → get_or xs j 0 ≤ absent w → j < length xs → b ≡ p ++ (number_section w xs ++ r) → number_at w (place + width w * j) b ≡ get_or xs j 0
+  pub number-get : (b xs : List ℕ) (j : ℕ) → get_or xs j 0 ≤ absent_mark w → j < length xs → b ≡ p ++ (number_section w xs ++ r) → number_at w (place + width w * j) b ≡ get_or xs j 0
   number-get b xs j fit lt whole =
       let rest = number_section w (drop (suc j) xs) ++ r in
       sym (number_at-first w (place + width w * j) b)
@@ -63,7 +63,7 @@ module _ (w : Format) (p r : List ℕ) (place : ℕ) (long : length p ≡ place)
   place-set b b' f g to j n lt here others whole replaces =
       number-set b b' (below f to) j n (let l = length-below f to in omega arith) whole replaces ∙ ap (λ t. p ++ (number_section w t ++ r)) (set-below f g to j n lt here others)
 
-  pub place-get : (b : List ℕ) (f : ℕ → ℕ) (to j : ℕ) → f j ≤ absent w → j < to → b ≡ p ++ (number_section w (below f to) ++ r) → number_at w (place + width w * j) b ≡ f j
+  pub place-get : (b : List ℕ) (f : ℕ → ℕ) (to j : ℕ) → f j ≤ absent_mark w → j < to → b ≡ p ++ (number_section w (below f to) ++ r) → number_at w (place + width w * j) b ≡ f j
   place-get b f to j fit lt whole =
       let l = length-below f to in
       let at = get_or-below f to j 0 lt in
@@ -78,7 +78,7 @@ distance Legacy m n le = omega arith
 distance Extended m n le = omega arith
 
 -- numbers cut off, or filled up with the one that is absent
-pub resized-spelled : (w : Format) (f : ℕ → ℕ) (m n : ℕ) → ((j : ℕ) → m ≤ j → f j ≡ absent w) → with_length (number_section w (below f m)) (width w * n) 255 ≡ number_section w (below f n)
+pub resized-spelled : (w : Format) (f : ℕ → ℕ) (m n : ℕ) → ((j : ℕ) → m ≤ j → f j ≡ absent_mark w) → with_length (number_section w (below f m)) (width w * n) 255 ≡ number_section w (below f n)
 resized-spelled w f m n past =
     let l = length-spelled w (below f m) in
     let k = length-below f m in
@@ -97,6 +97,6 @@ resized-spelled w f m n past =
           let d : width w * n - width w * m ≡ width w * (n - m) = distance w m n (omega arith) in
           ap (λ t. t ++ replicate (width w * n - length (number_section w (below f m))) 255) (take_all (width w * n) (number_section w (below f m)) (let u = at_most w m n (omega arith) in omega arith))
           ∙ ap (λ x. number_section w (below f m) ++ replicate {A = ℕ} x 255) (ap (λ x. width w * n - x) lk ∙ d)
-          ∙ ap (λ t. number_section w (below f m) ++ t) (sym (spelled-absent w (n - m))) ∙ sym (spelled-append w (below f m) (replicate (n - m) (absent w)))
-          ∙ ap (number_section w) (sym (below-filled f (absent w) m (n - m) (λ j low high. past j low)) ∙ ap (below f) e)
+          ∙ ap (λ t. number_section w (below f m) ++ t) (sym (spelled-absent w (n - m))) ∙ sym (spelled-append w (below f m) (replicate (n - m) (absent_mark w)))
+          ∙ ap (number_section w) (sym (below-filled f (absent_mark w) m (n - m) (λ j low high. past j low)) ∙ ap (below f) e)
     ]

@@ -5,13 +5,14 @@ use Rattle.std.proofs.lemmas.List.{get_or_default, length-map}
 use Rattle.ti_caps.specs.Tables.{Capability, IsCapability, same_capability}
 use Rattle.ti_caps.proofs.Same.{same_capability-true}
 use Rattle.ti_layout.specs.Laws.{without_cancel}
-use Rattle.ti_layout.specs.Values.{Content, Contents, Entry, Agrees, IsKept, contents, content_of, entries_of}
+use Rattle.ti_layout.specs.Values.{Content, Contents, TableEntry, Agrees, IsKept, contents, content_of, entries_of}
 use Rattle.ti_layout.specs.declared.values.Value.{Value}
 use Rattle.ti_layout.proofs.Held.{contents_nowhere, other_from_test}
 use Rattle.ti_layout.proofs.Places.{elsewhere}
 use Rattle.ti_layout.proofs.Walked.{contents_read, item_read}
-use Rattle.ti_compiled.specs.Changes.{HoldsGiven, IsLeft, IsSameBut}
-use Rattle.ti_compiled.specs.Held.{contents_in}
+use Rattle.ti_compiled.specs.Changes.{HoldsGiven}
+use Rattle.ti_compiled.specs.inside.Changes.{IsLeft, IsSameBut}
+use Rattle.ti_compiled.specs.Image.{contents_in}
 use Rattle.ti_compiled.proofs.Given.{given_here, given_other}
 
 -- what is held of a capability is as it is wanted
@@ -29,12 +30,12 @@ abbrev pub below : ℕ → Places
 below k m = m < k
 
 -- no entry at such a place is of the capability
-abbrev pub IsAtNone : List Entry → Places → Capability → Type 0
-IsAtNone es left c = (m : ℕ) (e : Entry) → left m → m < length es → (get_or es m e).0 ≢ c
+abbrev pub IsAtNone : List TableEntry → Places → Capability → Type 0
+IsAtNone es left c = (m : ℕ) (e : TableEntry) → left m → m < length es → (get_or es m e).0 ≢ c
 
 -- of the entries that are left, what is held is as it was at first, and of every other capability as it is at last
-pub record Walks (es : List Entry) (first last : Wanted) (held : Contents) (left : Places) : Type 0 where
-  pub ahead : (m : ℕ) (e : Entry) → left m → m < length es → first (get_or es m e).0 (held (get_or es m e).0)
+pub record Walks (es : List TableEntry) (first last : Wanted) (held : Contents) (left : Places) : Type 0 where
+  pub ahead : (m : ℕ) (e : TableEntry) → left m → m < length es → first (get_or es m e).0 (held (get_or es m e).0)
   pub behind : (c : Capability) → IsCapability c → IsAtNone es left c → last c (held c)
 
 -- one place less is left
@@ -49,7 +50,7 @@ passes_up k = record { was_left = λ m le. omega arith; is_passed = λ m le e. o
 pub passes_down : (k j : ℕ) → k ≡ j + 1 → Passes (below k) (below j) j
 passes_down k j e = record { was_left = λ m lt. omega arith; is_passed = λ m lt s. omega arith; stays = λ m lt other. elim (cases_lt m j) [ inl under ↦ under | inr not_under ↦ absurd (other (omega arith)) ] }
 
-module _ (es : List Entry) (kept : IsKept es) (first last : Wanted) where
+module _ (es : List TableEntry) (kept : IsKept es) (first last : Wanted) where
   pub walk_begins : (held : Contents) (left : Places) → ((m : ℕ) → m < length es → left m) → ((c : Capability) → IsCapability c → first c (held c))
       → ((c : Capability) → contents es c ≡ None → first c (held c) → last c (held c)) → Walks es first last held left
   walk_begins held left all at_first quiet = record {
@@ -57,22 +58,22 @@ module _ (es : List Entry) (kept : IsKept es) (first last : Wanted) where
     behind = λ c valid apart. quiet c (contents_nowhere es c (λ m e lt. apart m e (all m lt) lt)) (at_first c valid);
   }
 
-  module _ (held : Contents) (left later : Places) (k : ℕ) (passes : Passes left later k) (here : left k) (x : Entry) (within : k < length es) (is : get_or es k x ≡ x) (walks : Walks es first last held left) where
-    read_here : (e : Entry) → get_or es k e ≡ x
+  module _ (held : Contents) (left later : Places) (k : ℕ) (passes : Passes left later k) (here : left k) (x : TableEntry) (within : k < length es) (is : get_or es k x ≡ x) (walks : Walks es first last held left) where
+    read_here : (e : TableEntry) → get_or es k e ≡ x
     read_here e = get_or_default es k e x within ∙ is
 
     pub first_here : first x.0 (held x.0)
-    first_here = subst (λ (y : Entry). first y.0 (held y.0)) is (walks.ahead k x here within)
+    first_here = subst (λ (y : TableEntry). first y.0 (held y.0)) is (walks.ahead k x here within)
 
-    apart_elsewhere : (m : ℕ) (e : Entry) → m ≢ k → m < length es → (get_or es m e).0 ≢ x.0
-    apart_elsewhere m e other lt = elsewhere es kept x.0 k (record { in_range = within; is_here = λ d. ap (λ (y : Entry). y.0) (read_here d) }) m e other lt
+    apart_elsewhere : (m : ℕ) (e : TableEntry) → m ≢ k → m < length es → (get_or es m e).0 ≢ x.0
+    apart_elsewhere m e other lt = elsewhere es kept x.0 k (record { in_range = within; is_here = λ d. ap (λ (y : TableEntry). y.0) (read_here d) }) m e other lt
 
     at_none : (c : Capability) → x.0 ≢ c → IsAtNone es later c → IsAtNone es left c
     at_none c other apart m d was lt = elim (cases_lt m k) [
       | inl under ↦ apart m d (passes.stays m was (λ e. omega arith)) lt
       | inr not_under ↦ elim (cases_lt k m) [
         | inl over ↦ apart m d (passes.stays m was (λ e. omega arith)) lt
-        | inr not_over ↦ let s : k ≡ m = omega arith in λ one. other (sym (ap (λ (y : Entry). y.0) (subst (λ n. get_or es n d ≡ x) s (read_here d))) ∙ one)
+        | inr not_over ↦ let s : k ≡ m = omega arith in λ one. other (sym (ap (λ (y : TableEntry). y.0) (subst (λ n. get_or es n d ≡ x) s (read_here d))) ∙ one)
       ]
     ]
 
@@ -132,10 +133,10 @@ module _ (xs : List (Capability × Value)) (kept : IsKept (entries_of xs)) (k : 
   inside = rw length-map within
 
   pub entry_agrees : Agrees x.0 (content_of x.1)
-  entry_agrees = (subst (λ (y : Entry). IsCapability y.0 × Agrees y.0 y.1) (item_read xs k x within item) (kept.agree k (x.0, content_of x.1) inside)).1
+  entry_agrees = (subst (λ (y : TableEntry). IsCapability y.0 × Agrees y.0 y.1) (item_read xs k x within item) (kept.agree k (x.0, content_of x.1) inside)).1
 
   entry_said : contents (entries_of xs) x.0 ≡ Some (content_of x.1)
-  entry_said = let e : Entry = (x.0, content_of x.1) in subst (λ (y : Entry). contents (entries_of xs) y.0 ≡ Some y.1) (item_read xs k x within item) (contents_read (entries_of xs) kept k e inside)
+  entry_said = let e : TableEntry = (x.0, content_of x.1) in subst (λ (y : TableEntry). contents (entries_of xs) y.0 ≡ Some y.1) (item_read xs k x within item) (contents_read (entries_of xs) kept k e inside)
 
   module _ (other held : Contents) (left later : Places) (passes : Passes left later k) (here : left k) where
     module _ (walks : Walks (entries_of xs) (says (contents (entries_of xs))) (leaves (contents (entries_of xs)) other) held left) where

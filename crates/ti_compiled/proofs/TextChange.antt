@@ -6,8 +6,8 @@ use Rattle.ti_caps.specs.declared.capability.Kind.TheVariants.{Text}
 use Rattle.ti_layout.specs.Image.{of_kind, text_piece, texts_below}
 use Rattle.ti_layout.specs.Values.{Contents}
 use Rattle.ti_layout.proofs.Texts.{texts-more, texts-same}
-use Rattle.ti_compiled.specs.Changes.{text_content}
-use Rattle.ti_compiled.specs.Parts.{piece}
+use Rattle.ti_compiled.specs.inside.Changes.{text_content}
+use Rattle.ti_compiled.specs.inside.Parts.{piece}
 
 pub piece_of : (t : Option (List ℕ)) → text_piece (text_content t) ≡ piece t
 piece_of None = refl

@@ -8,9 +8,9 @@ use Rattle.ti_layout.specs.Image.{image, format_of, is_there, limit_of, of_kind,
 use Rattle.ti_layout.specs.Layout.{width}
 use Rattle.ti_layout.specs.Sizes.{HasSizes}
 use Rattle.ti_layout.proofs.Sizes.{limit-le}
-use Rattle.ti_compiled.specs.Changes.{text_content}
-use Rattle.ti_compiled.specs.Held.{names_in, contents_in, with_content, IsImage}
-use Rattle.ti_compiled.specs.Parts.{piece}
+use Rattle.ti_compiled.specs.inside.Changes.{text_content}
+use Rattle.ti_compiled.specs.Image.{names_in, contents_in, with_content, IsImage}
+use Rattle.ti_compiled.specs.inside.Parts.{piece}
 use Rattle.ti_compiled.proofs.Counted.{count-put}
 use Rattle.ti_compiled.proofs.FlagPlaces.{length_sized}
 use Rattle.ti_compiled.proofs.TextPlaces.{offsets_from, texts_within}

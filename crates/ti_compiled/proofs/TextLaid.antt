@@ -14,9 +14,9 @@ use Rattle.ti_layout.proofs.Assembling.{header_laid}
 use Rattle.ti_layout.proofs.Below.{below-same}
 use Rattle.ti_layout.proofs.Spelled.{length-spelled}
 use Rattle.ti_layout.proofs.Below.{length-below}
-use Rattle.ti_compiled.specs.Changes.{text_content}
-use Rattle.ti_compiled.specs.Held.{names_in, contents_in, with_content, IsImage}
-use Rattle.ti_compiled.specs.Parts.{Replaces, with_length, offset_after, moved_later, piece}
+use Rattle.ti_compiled.specs.inside.Changes.{text_content}
+use Rattle.ti_compiled.specs.Image.{names_in, contents_in, with_content, IsImage}
+use Rattle.ti_compiled.specs.inside.Parts.{Replaces, with_length, offset_after, moved_later, piece}
 use Rattle.ti_compiled.proofs.Moving.{moved_absent, moved_there, later_before, later_from}
 use Rattle.ti_compiled.proofs.Numbering.{resized-spelled}
 use Rattle.ti_compiled.proofs.TextChange.{piece_of, lengths_about, texts_about, texts_before}

@@ -17,7 +17,7 @@ use Rattle.ti_layout.proofs.Parts.{length-header}
 use Rattle.ti_layout.proofs.Sizes.{strings_small}
 use Rattle.ti_layout.proofs.Spelled.{length-spelled}
 use Rattle.ti_layout.proofs.Texts.{texts-skipped, length-texts-le}
-use Rattle.ti_compiled.specs.Held.{names_in, contents_in, IsImaged, IsImage}
+use Rattle.ti_compiled.specs.Image.{names_in, contents_in, IsImaged, IsImage}
 use Rattle.ti_compiled.proofs.FlagPlaces.{length_sized}
 use Rattle.ti_compiled.proofs.Given.{HoldsNoOther, nothing_past}
 use Rattle.ti_compiled.proofs.Numbering.{place-get}
@@ -41,17 +41,17 @@ void_offset n (Some (content_text t)) e = absurd cc
 void_offset n (Some content_cancelled) e = refl
 
 -- what an offset tells
-pub record Tells (n : ℕ) (o : Option Content) : Type 0 where
+pub record OffsetFacts (n : ℕ) (o : Option Content) : Type 0 where
   pub fits : offset_value n o ≤ 65535
   pub there : offset_value n o ≢ 65535 → (is_there o ≡ true) × (offset_value n o ≡ n)
   pub absent : offset_value n o ≡ 65535 → (is_there o ≡ false) × (text_piece o ≡ [])
 
-tells : (j n : ℕ) (o : Option Content) → n < 65535 → AgreesIfSome (capability Text j) o → Tells n o
-tells j n None lt a = record { fits = omega arith; there = λ h. absurd (h refl); absent = λ h. (refl, refl) }
-tells j n (Some content_true) lt a = absurd cc
-tells j n (Some (content_number m)) lt a = let never = a.0 in absurd cc
-tells j n (Some (content_text t)) lt a = record { fits = omega arith; there = λ h. (refl, refl); absent = λ h. absurd (omega arith) }
-tells j n (Some content_cancelled) lt a = record { fits = omega arith; there = λ h. absurd (h refl); absent = λ h. (refl, refl) }
+offset_facts : (j n : ℕ) (o : Option Content) → n < 65535 → AgreesIfSome (capability Text j) o → OffsetFacts n o
+offset_facts j n None lt a = record { fits = omega arith; there = λ h. absurd (h refl); absent = λ h. (refl, refl) }
+offset_facts j n (Some content_true) lt a = absurd cc
+offset_facts j n (Some (content_number m)) lt a = let never = a.0 in absurd cc
+offset_facts j n (Some (content_text t)) lt a = record { fits = omega arith; there = λ h. (refl, refl); absent = λ h. absurd (omega arith) }
+offset_facts j n (Some content_cancelled) lt a = record { fits = omega arith; there = λ h. absurd (h refl); absent = λ h. (refl, refl) }
 
 nine : (h n z f g m o s r : List ℕ) → h ++ n ++ z ++ f ++ g ++ m ++ o ++ s ++ r ≡ h ++ ((n ++ z ++ f ++ g ++ m) ++ (o ++ (s ++ r)))
 nine h n z f g m o s r = simp append_assoc
@@ -87,8 +87,8 @@ module _ (names : List ℕ) (c : Contents) (is : IsImaged names c) where
     | inr over ↦ subst (AgreesIfSome (capability Text j)) (sym (is.past Text j over)) tt
   ]
 
-  pub offset_tells : (j : ℕ) → Tells (length (texts_below c j)) (of_kind c Text j)
-  offset_tells j = let s = texts_small j in tells j (length (texts_below c j)) (of_kind c Text j) (omega arith) (agrees_text j)
+  pub offset_tells : (j : ℕ) → OffsetFacts (length (texts_below c j)) (of_kind c Text j)
+  offset_tells j = let s = texts_small j in offset_facts j (length (texts_below c j)) (of_kind c Text j) (omega arith) (agrees_text j)
 
   pub offset_past : (j : ℕ) → written_count c Text ≤ j → offset_of c j ≡ 65535
   offset_past j le = void_offset (length (texts_below c j)) (c (capability Text j)) (nothing_past c is.past Text j le)

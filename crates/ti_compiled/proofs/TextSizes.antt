@@ -10,9 +10,9 @@ use Rattle.ti_layout.specs.Sizes.{HasSizes, at_most_max}
 use Rattle.ti_layout.specs.Values.{Contents}
 use Rattle.ti_layout.proofs.Below.{last_passing-le}
 use Rattle.ti_layout.proofs.Texts.{texts-more, length-texts-le}
-use Rattle.ti_compiled.specs.Changes.{text_content}
-use Rattle.ti_compiled.specs.Held.{names_in, contents_in, with_content, IsImage}
-use Rattle.ti_compiled.specs.Parts.{piece}
+use Rattle.ti_compiled.specs.inside.Changes.{text_content}
+use Rattle.ti_compiled.specs.Image.{names_in, contents_in, with_content, IsImage}
+use Rattle.ti_compiled.specs.inside.Parts.{piece}
 use Rattle.ti_compiled.proofs.Counted.{count-put, count-kept, count-down}
 use Rattle.ti_compiled.proofs.Given.{HoldsNoOther, given_here, given_place, given_past}
 use Rattle.ti_compiled.proofs.TextChange.{piece_of, lengths_about}

@@ -1,4 +1,3 @@
-pub mod Held
-pub mod Parts
-pub mod Headers
+pub mod Image
+pub mod inside
 pub mod Changes

@@ -5,8 +5,9 @@ ghost use Rattle.ti_caps.specs.Tables.{capability};
 ghost use Rattle.ti_caps.specs.declared.capability.Kind.TheVariants.{Flag};
 ghost use Rattle.ti_layout.specs.Image.{image, flag_value};
 ghost use Rattle.ti_layout.specs.Sizes.{HasSizes};
-ghost use Rattle.ti_compiled.specs.Changes.{flag_content, image_with, FitsWith, IsOverWith};
-ghost use Rattle.ti_compiled.specs.Held.{names_in, contents_in, with_content, IsImage};
+ghost use Rattle.ti_compiled.specs.Changes.{image_with, FitsWith, IsOverWith};
+ghost use Rattle.ti_compiled.specs.inside.Changes.{flag_content};
+ghost use Rattle.ti_compiled.specs.Image.{names_in, contents_in, with_content, IsImage};
 
 use crate::bytes::resize_part;
 use crate::header::{header_of, make_room, write_header};

@@ -1,14 +1,15 @@
 // The header of an image: the sizes of its sections.
 ghost use Rattle.std.specs.Prelude.{◌≡◌, ◌≢◌, ℕ, ◌+◌, ◌≤◌, ◌<◌, ◌↔◌, List, [], length, vec_len, vec_capacity, IsErrOf, OnOk};
+ghost use Rattle.ti_text.specs.Limits.{names_max};
 ghost use Rattle.ti_caps.specs.declared.capability.Kind.TheVariants.{Text};
 ghost use Rattle.ti_layout.specs.Image.{image, limit_of, texts_below, written_count};
 ghost use Rattle.ti_layout.specs.Layout as layout;
 ghost use Rattle.ti_layout.specs.Layout.{number_bytes};
 ghost use Rattle.ti_layout.specs.Sizes.{HasSizes};
 ghost use Rattle.ti_layout.specs.Values.{Contents, HasNoNul};
-ghost use Rattle.ti_compiled.specs.Held.{names_in, contents_in, IsImage};
-ghost use Rattle.ti_compiled.specs.Headers.{IsHeaderAt};
-ghost use Rattle.ti_compiled.specs.Parts.{Replaces};
+ghost use Rattle.ti_compiled.specs.Image.{names_in, contents_in, IsImage};
+ghost use Rattle.ti_compiled.specs.inside.Header.{IsHeaderAt};
+ghost use Rattle.ti_compiled.specs.inside.Parts.{Replaces};
 
 use crate::bytes::overwrite;
 use ti_layout::{Format, HEADER_SIZE, Header, WriteError, word};
@@ -50,7 +51,7 @@ pub fn names_of(bytes: &[u8]) -> &[u8]
     ensures names { result.now ≡ names_in bytes.now }
     ensures present { result.now ≢ [] }
     ensures no_nul { HasNoNul result.now }
-    ensures short { length result.now ≤ 127 }
+    ensures short { length result.now ≤ names_max }
 {
     &bytes[HEADER_SIZE..HEADER_SIZE + word(bytes, 2) - 1]
 }

@@ -1,12 +1,14 @@
 // A compiled entry, and one capability of it changed where it lies.
 ghost use Rattle.std.specs.Prelude.{None, ◌≡◌, ◌≢◌, ◌<◌, ◌≤◌, ◌↔◌, [], List, length, option_map, IfOk, IfSome, IsErrOf, OnOk, OnErr};
+ghost use Rattle.ti_text.specs.Limits.{names_max, number_max};
 ghost use Rattle.ti_caps.specs.Tables.{Capability, IsCapability};
 ghost use Rattle.ti_caps.specs.declared.capability.Kind.TheVariants.{Flag, Number, Text};
 ghost use Rattle.ti_layout.specs.Image.{image, limit_of, HasNoNul};
 ghost use Rattle.ti_layout.specs.Laws.{without_cancel};
 ghost use Rattle.ti_layout.specs.Values.{content_of, contents, AgreesIfSome};
-ghost use Rattle.ti_compiled.specs.Changes.{flag_content, number_content, text_lent, content_lent, image_with, FitsWith, HoldsGiven, IsOverWith, IsWithin};
-ghost use Rattle.ti_compiled.specs.Held.{names_in, contents_in};
+ghost use Rattle.ti_compiled.specs.Changes.{image_with, FitsWith, HoldsGiven, IsOverWith, IsWithin};
+ghost use Rattle.ti_compiled.specs.inside.Changes.{flag_content, number_content, text_lent, content_lent};
+ghost use Rattle.ti_compiled.specs.Image.{names_in, contents_in};
 
 use crate::flags::set_flag;
 use crate::header::names_of;
@@ -28,7 +30,7 @@ pub struct Image {
 
 impl Model for Image {
     ghost use Rattle.std.specs.Prelude.{ℕ, List};
-    ghost use Rattle.ti_compiled.specs.Held.{IsImage};
+    ghost use Rattle.ti_compiled.specs.Image.{IsImage};
 
     ghost Value = { List ℕ };
 
@@ -48,9 +50,9 @@ impl Image {
         ensures image { IfOk result (λ i. i ≡ image names.now (contents table.now)) }
         ensures names { IfOk result (λ i. names_in i ≡ names.now) }
         ensures contents { IfOk result (λ i. (c : Capability) → IsCapability c → contents_in i c ≡ without_cancel (contents table.now c)) }
-        ensures names_too_long { IsErrOf result WriteError.NamesTooLong ↔ (127 < length names.now) }
-        ensures too_large { IsErrOf result WriteError.TooLarge ↔ ((length names.now ≤ 127) × (limit_of (contents table.now) < length (image names.now (contents table.now)))) }
-        ensures memory { IsErrOf result WriteError.Memory → (length names.now ≤ 127) × (length (image names.now (contents table.now)) ≤ limit_of (contents table.now)) }
+        ensures names_too_long { IsErrOf result WriteError.NamesTooLong ↔ (names_max < length names.now) }
+        ensures too_large { IsErrOf result WriteError.TooLarge ↔ ((length names.now ≤ names_max) × (limit_of (contents table.now) < length (image names.now (contents table.now)))) }
+        ensures memory { IsErrOf result WriteError.Memory → (length names.now ≤ names_max) × (length (image names.now (contents table.now)) ≤ limit_of (contents table.now)) }
     {
         table.values_agree();
         let bytes = write(alloc, names, table)?;
@@ -131,7 +133,7 @@ impl Image {
     // Gives a number or takes it away. A refused change leaves the image.
     fn set_number(&mut self, cap: Cap, number: Option<u32>) -> Result<(), WriteError>
         requires kind { cap.kind ≡ Number }
-        requires fits { IfSome number (λ n. n ≤ 2147483647) }
+        requires fits { IfSome number (λ n. n ≤ number_max) }
         ensures ok { OnOk result (self.new ≡ image_with self.old cap (number_content number)) }
         ensures names { OnOk result (names_in self.new ≡ names_in self.old) }
         ensures contents { OnOk result (HoldsGiven self.old self.new cap (number_content number)) }

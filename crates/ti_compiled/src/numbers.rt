@@ -1,6 +1,7 @@
 // A number of an image given, replaced or taken away. The section's numbers, 39 at most, are
 // read and spelled again, wider or narrower where the format changes.
 ghost use Rattle.std.specs.Prelude.{◌≡◌, ◌≢◌, ℕ, suc, ◌+◌, ◌*◌, ◌%◌, ◌<◌, ◌≤◌, List, length, take, slice_index, vec_len, vec_capacity, Option, IfSome, ◌↔◌, IsErrOf, OnOk, OnErr};
+ghost use Rattle.ti_text.specs.Limits.{number_max};
 ghost use Rattle.ti_caps.specs.Tables.{capability};
 ghost use Rattle.ti_caps.specs.declared.capability.Kind.TheVariants.{Number};
 ghost use Rattle.ti_layout.specs.Image.{image, below, format_of};
@@ -8,19 +9,18 @@ ghost use Rattle.ti_layout.specs.Layout as layout;
 ghost use Rattle.ti_layout.specs.Layout.{number_section, number_bytes};
 ghost use Rattle.ti_layout.specs.Sizes.{HasSizes};
 ghost use Rattle.ti_layout.specs.Values.{Contents};
-ghost use Rattle.ti_compiled.specs.Changes.{image_with, number_content, wide_value, with_number, FitsWith, HasNumbers, IsOverWith};
-ghost use Rattle.ti_compiled.specs.Held.{names_in, contents_in, IsImage};
-ghost use Rattle.ti_compiled.specs.Parts.{Replaces};
+ghost use Rattle.ti_compiled.specs.Changes.{image_with, FitsWith, IsOverWith};
+ghost use Rattle.ti_compiled.specs.inside.Changes.{number_content, wide_value, with_number, HasNumbers};
+ghost use Rattle.ti_compiled.specs.Image.{names_in, contents_in, IsImage};
+ghost use Rattle.ti_compiled.specs.inside.Parts.{Replaces};
 
 use crate::bytes::{overwrite, resize_part};
 use crate::header::{header_of, make_room, write_header};
 use ti_layout::{Format, HEADER_SIZE, Header, WriteError, number};
+use ti_text::limits::LEGACY_NUMBER_MAX;
 
 // What stands for a number that is absent, of either format.
 const ABSENT: u32 = u32::MAX;
-
-// The greatest number of the legacy format.
-const SHORT_MAX: u32 = 32767;
 
 // Where the numbers begin.
 fn numbers_place(header: &Header) -> usize
@@ -42,7 +42,7 @@ fn read_numbers(bytes: &[u8], header: &Header) -> [u32; 39]
     let width = header.format.width();
     for at in 0..header.numbers {
         let number = number(bytes, place + width * at, header.format);
-        if number < header.format.negative() {
+        if number < header.format.first_negative() {
             values[at] = number;
         }
     }
@@ -54,7 +54,7 @@ fn format_for(values: &[u32]) -> Format
     ensures { (c : Contents) → values.now ≡ below (wide_value c) 39 → HasNumbers c → result ≡ format_of c }
 {
     for value in values {
-        if *value > SHORT_MAX && *value != ABSENT {
+        if *value > LEGACY_NUMBER_MAX && *value != ABSENT {
             return Format::Extended;
         }
     }
@@ -157,7 +157,7 @@ fn change_numbers(bytes: &mut Vec<u8>, old: &Header, new: &Header, values: &[u32
 pub fn set_number(bytes: &mut Vec<u8>, index: usize, number: Option<u32>) -> Result<(), WriteError>
     requires image { IsImage bytes.old.items }
     requires index { index < 39 }
-    requires fits { IfSome number (λ n. n ≤ 2147483647) }
+    requires fits { IfSome number (λ n. n ≤ number_max) }
     ensures ok { OnOk result (bytes.new.items ≡ image_with bytes.old.items (capability Number index) (number_content number)) }
     ensures within { OnOk result (FitsWith bytes.old.items (capability Number index) (number_content number)) }
     ensures too_large { IsErrOf result WriteError.TooLarge ↔ IsOverWith bytes.old.items (capability Number index) (number_content number) }

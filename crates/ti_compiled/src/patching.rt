@@ -7,8 +7,9 @@ ghost use Rattle.ti_layout.specs.declared.layout.Format.TheVariants.{Extended};
 ghost use Rattle.ti_layout.specs.Image.{format_of};
 ghost use Rattle.ti_layout.specs.Laws.{without_cancel};
 ghost use Rattle.ti_layout.specs.Values.{contents, content_of, entries_of, Agrees, AgreesIfSome, IsKept};
-ghost use Rattle.ti_compiled.specs.Changes.{HoldsGiven, IsLeft, IsSameBut};
-ghost use Rattle.ti_compiled.specs.Held.{names_in, contents_in};
+ghost use Rattle.ti_compiled.specs.Changes.{HoldsGiven};
+ghost use Rattle.ti_compiled.specs.inside.Changes.{IsLeft, IsSameBut};
+ghost use Rattle.ti_compiled.specs.Image.{names_in, contents_in};
 
 use crate::image::Image;
 use std::alloc::Global;

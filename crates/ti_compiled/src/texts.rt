@@ -8,9 +8,10 @@ ghost use Rattle.ti_layout.specs.Layout as layout;
 ghost use Rattle.ti_layout.specs.Layout.{number_section};
 ghost use Rattle.ti_layout.specs.Reading.{word_at};
 ghost use Rattle.ti_layout.specs.Sizes.{HasSizes};
-ghost use Rattle.ti_compiled.specs.Changes.{image_with, text_lent, FitsWith, IsOverWith};
-ghost use Rattle.ti_compiled.specs.Held.{names_in, contents_in, with_content, IsImage};
-ghost use Rattle.ti_compiled.specs.Parts.{Replaces, moved_later, piece};
+ghost use Rattle.ti_compiled.specs.Changes.{image_with, FitsWith, IsOverWith};
+ghost use Rattle.ti_compiled.specs.inside.Changes.{text_lent};
+ghost use Rattle.ti_compiled.specs.Image.{names_in, contents_in, with_content, IsImage};
+ghost use Rattle.ti_compiled.specs.inside.Parts.{Replaces, moved_later, piece};
 
 use crate::bytes::{overwrite, resize_part};
 use crate::header::{header_of, make_room, word_bytes, write_header};

@@ -6,7 +6,7 @@ use Rattle.std.proofs.lemmas.Option.{same_Some, slice_get_within, get_or_from_sl
 use Rattle.ti_components.specs.Graph.{Rows}
 use Rattle.ti_components.specs.Leading.{IsWay}
 use Rattle.ti_components.specs.Components.{AreComponents, IsClosingOrder}
-use Rattle.ti_components.specs.Walk.{AreGroups, AreNumbers, IsSearched}
+use Rattle.ti_components.specs.inside.Walk.{AreGroups, AreNumbers, IsSearched}
 use Rattle.ti_components.specs.declared.search.Progress.{Progress}
 use Rattle.ti_components.specs.declared.search.Progress.TheVariants.{Unseen, OnPath, Closed}
 use Rattle.ti_components.specs.declared.search.Search.{Search}

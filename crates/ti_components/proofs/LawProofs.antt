@@ -4,11 +4,11 @@ use Rattle.std.proofs.lemmas.Option.{same_Some}
 use Rattle.ti_components.specs.Graph.{Rows, IsGraph}
 use Rattle.ti_components.specs.Leading.{IsWay}
 use Rattle.ti_components.specs.Components.{AreComponents}
-use Rattle.ti_components.specs.Laws.{RingsShareANumber, NumbersFall, ComponentsAreDetermined, WalksJoin}
+use Rattle.ti_components.specs.Laws.{CyclesShareANumber, NumbersFall, ComponentsAreDetermined, WalksJoin}
 use Rattle.ti_components.proofs.Lists.{item_at}
 use Rattle.ti_components.proofs.Leading.{leads_edge, leads_on}
 
-pub shared_numbers : RingsShareANumber
+pub shared_numbers : CyclesShareANumber
 shared_numbers g cs u w c d h e f edge =
     let same = h.same u w c d e f in
     ((λ one. (same.0 one).1), λ back. same.1 (leads_edge g u w edge, back))

@@ -6,7 +6,7 @@ use Rattle.std.proofs.lemmas.Option.{same_Some, none-some, slice_get_within, sli
 use Rattle.ti_components.specs.Graph.{Rows}
 use Rattle.ti_components.specs.Leading.{Leads}
 use Rattle.ti_components.specs.Components.{Has}
-use Rattle.ti_components.specs.Walk.{AreNodes, Closes, Enters, Follows, IsCut, IsFresh, IsIdle, IsMarked, IsSearched, IsTop, IsWalkOf, KeepsMet, Leaves, Rises, Steps, Walks, edges_left}
+use Rattle.ti_components.specs.inside.Walk.{AreNodes, Closes, Enters, Follows, IsCutOffAt, IsFresh, IsIdle, IsMarked, IsSearched, IsTop, IsWalkOf, KeepsMet, Leaves, Rises, Steps, Walks, edges_left}
 use Rattle.ti_components.specs.declared.search.Progress.{Progress}
 use Rattle.ti_components.specs.declared.search.Progress.TheVariants.{Unseen, OnPath, Closed}
 use Rattle.ti_components.specs.declared.search.Search.{Search}
@@ -34,7 +34,7 @@ above_more xs place count h some more = record {
   ];
 }
 
-pub cut_done : (xs : List ℕ) (place count : ℕ) → Rises xs → AreAbove xs place count → (0 < count → get_or xs (count - 1) 0 ≤ place) → IsCut xs (take count xs) place
+pub cut_done : (xs : List ℕ) (place count : ℕ) → Rises xs → AreAbove xs place count → (0 < count → get_or xs (count - 1) 0 ≤ place) → IsCutOffAt xs (take count xs) place
 cut_done xs place count rises h stop = record {
   rises = Rises_take count xs rises;
   kept = λ s f.
@@ -159,7 +159,7 @@ follow_closed old target c e = record {
   followed = λ g place node walk top here edge. record { walk = walk; stays = here; explored = λ t same. rw (← same_Some target t same) (inl (c, e)) };
 }
 
-pub follow_cut : (old new : Search) (target m : ℕ) → slice_get old.progress.items target ≡ Some (OnPath m) → IsCut old.starts.items new.starts.items m → new.progress.items ≡ old.progress.items → new.cursors.items ≡ old.cursors.items → new.path.items ≡ old.path.items → new.active.items ≡ old.active.items → new.order.items ≡ old.order.items → Follows old new (Some target)
+pub follow_cut : (old new : Search) (target m : ℕ) → slice_get old.progress.items target ≡ Some (OnPath m) → IsCutOffAt old.starts.items new.starts.items m → new.progress.items ≡ old.progress.items → new.cursors.items ≡ old.cursors.items → new.path.items ≡ old.path.items → new.active.items ≡ old.active.items → new.order.items ≡ old.order.items → Follows old new (Some target)
 follow_cut old new target m e cut p c path active order = record {
   cursors = c;
   met = λ v f. rw p at f;

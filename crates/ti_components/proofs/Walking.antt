@@ -5,7 +5,7 @@ use Rattle.std.proofs.lemmas.Option.{same_Some, slice_get_within}
 use Rattle.ti_components.specs.Graph.{Rows, HasEdge}
 use Rattle.ti_components.specs.Leading.{Leads}
 use Rattle.ti_components.specs.Components.{Has}
-use Rattle.ti_components.specs.Walk.{Rises, IsExplored, IsPath, AreGroups, IsOrder, IsWalk, IsCut}
+use Rattle.ti_components.specs.inside.Walk.{Rises, IsExplored, IsPath, AreGroups, IsOrder, IsWalk, IsCutOffAt}
 use Rattle.ti_components.specs.declared.search.Progress.{Progress}
 use Rattle.ti_components.specs.declared.search.Progress.TheVariants.{Unseen, OnPath, Closed}
 use Rattle.ti_components.proofs.Lists.{get_front, get_last, push_cases, get-set_same, get-set_other, Has_front, Has_last, Has_push, Rises_push, Rises_take, rising_last, but_last, take_last_lacks}
@@ -155,7 +155,7 @@ walk_pushed g p cursors path starts active order v h e leads =
 
 -- ---- starts are taken off, since an edge leads back
 
-pub path_cut : (g : Rows) (p : List Progress) (cursors path starts new active : List ℕ) (m k y x : ℕ) → IsPath g p cursors path starts active → IsCut starts new m → slice_get path m ≡ Some y → slice_get path k ≡ Some x → ((s : ℕ) → Has starts s → s ≤ k) → HasEdge g x y → IsPath g p cursors path new active
+pub path_cut : (g : Rows) (p : List Progress) (cursors path starts new active : List ℕ) (m k y x : ℕ) → IsPath g p cursors path starts active → IsCutOffAt starts new m → slice_get path m ≡ Some y → slice_get path k ≡ Some x → ((s : ℕ) → Has starts s → s ≤ k) → HasEdge g x y → IsPath g p cursors path new active
 path_cut g p cursors path starts new active m k y x h cut here from last edge = record {
   nodes = h.nodes;
   cursor_each = h.cursor_each;

@@ -4,9 +4,9 @@ use Rattle.ti_components.specs.Graph.{Rows, HasEdge, IsGraph}
 use Rattle.ti_components.specs.Leading.{Leads}
 use Rattle.ti_components.specs.Components.{AreComponents}
 
--- the ends of an edge have one number exactly where it lies on a ring: where its end leads back
-abbrev pub RingsShareANumber : Type 0
-RingsShareANumber =
+-- the ends of an edge have one number exactly where it lies on a cycle: where its end leads back
+abbrev pub CyclesShareANumber : Type 0
+CyclesShareANumber =
     (graph : Rows) (component_of : List ℕ) (u w c d : ℕ) → AreComponents graph component_of
     → slice_get component_of u ≡ Some c → slice_get component_of w ≡ Some d → HasEdge graph u w → (c ≡ d) ↔ Leads graph w u
 

@@ -2,4 +2,4 @@ pub mod Graph
 pub mod Leading
 pub mod Components
 pub mod Laws
-pub mod Walk
+pub mod inside

@@ -2,7 +2,7 @@
 ghost use Rattle.std.specs.Prelude.{ℕ, ◌<◌, length, IfOk};
 ghost use Rattle.ti_components.specs.Graph.{IsGraph};
 ghost use Rattle.ti_components.specs.Components.{AreComponents, IsClosingOrder};
-ghost use Rattle.ti_components.specs.Walk.{AreNumbers, IsClosed};
+ghost use Rattle.ti_components.specs.inside.Walk.{AreNumbers, IsClosed};
 
 use crate::graph::Graph;
 use crate::search::{Progress, Search, search_graph};

@@ -1,9 +1,9 @@
 // Laws of components, for what stands on their numbers. They compute nothing.
-ghost use Rattle.ti_components.specs.Laws.{ComponentsAreDetermined, NumbersFall, RingsShareANumber, WalksJoin};
+ghost use Rattle.ti_components.specs.Laws.{ComponentsAreDetermined, NumbersFall, CyclesShareANumber, WalksJoin};
 
-/// The ends of an edge are in one component exactly where the edge lies on a ring.
-pub fn rings_share_a_number()
-    ensures { RingsShareANumber }
+/// The ends of an edge are in one component exactly where the edge lies on a cycle.
+pub fn cycles_share_a_number()
+    ensures { CyclesShareANumber }
 {}
 
 /// Along a walk no component's number rises.

@@ -14,4 +14,4 @@ mod search;
 
 pub use components::Components;
 pub use graph::Graph;
-pub use laws::{components_are_determined, numbers_fall, rings_share_a_number, walks_join};
+pub use laws::{components_are_determined, cycles_share_a_number, numbers_fall, walks_join};

@@ -2,7 +2,7 @@
 // node, and with the nodes of open components on one path.
 ghost use Rattle.std.specs.Prelude.{◌≡◌, ◌<◌, ◌≤◌, ℕ, Some, slice_get, vec_len, OnOk, IfOk};
 ghost use Rattle.ti_components.specs.Graph.{IsGraph};
-ghost use Rattle.ti_components.specs.Walk.{AreNodes, Closes, Enters, Follows, IsCut, IsFresh, IsIdle, IsMarked, IsSearched, IsWalkOf, Leaves, Rises, Steps, Walks};
+ghost use Rattle.ti_components.specs.inside.Walk.{AreNodes, Closes, Enters, Follows, IsCutOffAt, IsFresh, IsIdle, IsMarked, IsSearched, IsWalkOf, Leaves, Rises, Steps, Walks};
 ghost use Rattle.ti_components.specs.declared.search.Progress.TheVariants.{Unseen};
 
 use crate::graph::Graph;
@@ -160,7 +160,7 @@ impl Search {
 /// Takes the starts above a place off.
 fn cut_above(starts: &mut Vec<usize>, place: usize)
     requires { Rises starts.old.items }
-    ensures { IsCut starts.old.items starts.new.items place }
+    ensures { IsCutOffAt starts.old.items starts.new.items place }
 {
     let mut count = starts.len();
     while count > 0 && starts[count - 1] > place {

@@ -8,7 +8,7 @@ use Rattle.ti_index.specs.Names.{users_at}
 use Rattle.ti_index.proofs.Lists.{get_front, push_cases, get_last}
 use Rattle.ti_slots.specs.declared.slots.Slots.{Slots}
 use Rattle.ti_slots.specs.Slots.{reading_at, IsOwnerId}
-use Rattle.ti_dependents.specs.Search.{Adds, IsUserOf, IsUserOfOne, IsUserOfOwned, IsPutOrUser}
+use Rattle.ti_dependents.specs.inside.Search.{Adds, IsUserOf, IsUserOfOne, IsUserOfOwned, IsPutOrUser}
 use Rattle.ti_dependents.proofs.Lists.{Has_front, Has_last, Has_split, Has_one, Has_none, Has_from_any}
 
 pub adds_none : (A : ℕ → Type 0) (xs : List ℕ) → ((id : ℕ) → A id → ⊥) → Adds A xs xs

@@ -21,8 +21,8 @@ use Rattle.ti_slots.specs.declared.slots.Slots.{Slots}
 use Rattle.ti_slots.specs.Slots.{blocks_of, reading_at, StandsAt, IsIndexed}
 use Rattle.ti_slots.proofs.Owners.{uses_user}
 use Rattle.ti_dependents.specs.Dependents.{IsExchangeOf, AreDependentIds}
-use Rattle.ti_dependents.specs.Search.{IsPutOrUser, IsPutOrUserIn, IsSearch}
-use Rattle.ti_dependents.specs.Uses.{ArePlaces}
+use Rattle.ti_dependents.specs.inside.Search.{IsPutOrUser, IsPutOrUserIn, IsSearch}
+use Rattle.ti_dependents.specs.inside.Uses.{ArePlaces}
 use Rattle.ti_dependents.proofs.Lists.{once}
 use Rattle.ti_dependents.proofs.Owners.{HasId, id_at}
 

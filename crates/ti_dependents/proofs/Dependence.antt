@@ -16,7 +16,7 @@ use Rattle.ti_slots.specs.declared.slots.Slots.{Slots}
 use Rattle.ti_slots.specs.Slots.{reading_at, StandsAt, IsIndexed}
 use Rattle.ti_slots.proofs.Owners.{user_uses}
 use Rattle.ti_dependents.specs.Dependents.{IsExchangeOf}
-use Rattle.ti_dependents.specs.Search.{IsUserOfOne, IsUserOfOwned, IsUserOf, Depends}
+use Rattle.ti_dependents.specs.inside.Search.{IsUserOfOne, IsUserOfOwned, IsUserOf, Depends}
 use Rattle.ti_dependents.proofs.Owners.{block_at}
 
 -- ---- names among names

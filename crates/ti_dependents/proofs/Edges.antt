@@ -10,7 +10,7 @@ use Rattle.ti_index.proofs.Lists.{push_cases, item_at}
 use Rattle.ti_slots.specs.declared.slots.Slots.{Slots}
 use Rattle.ti_slots.specs.Slots.{reading_at, IsOwnerId}
 use Rattle.ti_dependents.specs.Dependents.{IsEdgeOf, IsRowOf, IsGraphOfUses}
-use Rattle.ti_dependents.specs.Uses.{AddsRow, AreRowsOf}
+use Rattle.ti_dependents.specs.inside.Uses.{AddsRow, AreRowsOf}
 use Rattle.ti_dependents.proofs.Lists.{place_given, place_found}
 use Rattle.ti_dependents.proofs.Owners.{owner_one}
 

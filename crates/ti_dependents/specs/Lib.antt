@@ -1,3 +1,2 @@
 pub mod Dependents
-pub mod Search
-pub mod Uses
+pub mod inside

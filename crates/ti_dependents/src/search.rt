@@ -2,7 +2,7 @@
 ghost use Rattle.std.specs.Prelude.{◌≡◌, ◌↔◌, ℕ, Some, IsSome, IsTrue, length, map, OnOk, IfOk};
 ghost use Rattle.std.specs.Rc.{rc_slice_items};
 ghost use Rattle.ti_slots.specs.Slots.{slot_at, IsIndexed, IsOwnerId, StandsAt};
-ghost use Rattle.ti_dependents.specs.Search.{Adds, IsUserOf, IsUserOfOne, IsUserOfOwned, IsPutOrUser, IsSearch};
+ghost use Rattle.ti_dependents.specs.inside.Search.{Adds, IsUserOf, IsUserOfOne, IsUserOfOwned, IsPutOrUser, IsSearch};
 
 use crate::blocks::block_of;
 use indexmap::IndexSet;

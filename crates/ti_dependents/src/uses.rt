@@ -6,7 +6,7 @@ ghost use Rattle.ti_index.specs.Labels.{Has, IsDistinct as AreDistinct};
 ghost use Rattle.ti_slots.specs.Slots.{slot_at, IsIndexed};
 ghost use Rattle.ti_components.specs.Graph.{IsGraph};
 ghost use Rattle.ti_dependents.specs.Dependents.{IsEdgeOf, IsGraphOfUses};
-ghost use Rattle.ti_dependents.specs.Uses.{AddsRow, ArePlaces};
+ghost use Rattle.ti_dependents.specs.inside.Uses.{AddsRow, ArePlaces};
 
 use crate::blocks::block_of;
 use indexmap::IndexSet;

@@ -3,10 +3,10 @@ use Rattle.std.proofs.Common.{◌≡◌, ℕ, ◌+◌, ◌<◌, List, [], ◌∷
 use Rattle.std.proofs.Math.Seq.{drop-cons}
 use Rattle.std.proofs.lemmas.List.{drop-map, map_more, take-map}
 use Rattle.ti_devices.specs.Placing.{entries, entry_of}
-use Rattle.ti_devices.specs.Tree.{ChangesOnly, Entry, Files, Sets, Writes, WritesUpTo}
+use Rattle.ti_devices.specs.Tree.{ChangesOnly, FileAt, Files, Sets, Writes, WritesUpTo}
 use Rattle.ti_devices.specs.declared.placing.File.{File}
 
-pub Writes-push : (before : List Entry) (entry : Entry) (old mid new : Option Files)
+pub Writes-push : (before : List FileAt) (entry : FileAt) (old mid new : Option Files)
     → Writes before old mid → Sets entry mid new → Writes (before ++ entry ∷ []) old new
 Writes-push [] entry old mid new same sets =
     (new, subst (λ (from : Option Files). Sets entry from new) same sets, refl)

@@ -1,5 +1,5 @@
 -- The definitions that the contracts of this crate cite.
-pub mod Buffer
+pub mod inside
 pub mod Counted
 pub mod LineReader
 pub mod Lines

@@ -1,15 +1,16 @@
 -- Lines of an input: bytes up to a newline, and a last line that may have none (own).
+use Rattle.ti_text.specs.Ascii as ascii
 use Rattle.std.specs.Prelude.{◌≡◌, ◌≢◌, ℕ, ◌≤◌, List, [], ◌∷◌, ◌++◌, length}
 use Rattle.std.specs.List.{flat_map, AllByRecursion}
 
 -- a line with its newline
 abbrev pub with_newline : List ℕ → List ℕ
-with_newline line = line ++ 10 ∷ []
+with_newline line = line ++ ascii.newline ∷ []
 
 -- the bytes hold no newline
 abbrev pub IsOneLine : List ℕ → Type 0
 IsOneLine [] = Unit {0}
-IsOneLine (byte ∷ bytes) = (byte ≢ 10) × IsOneLine bytes
+IsOneLine (byte ∷ bytes) = (byte ≢ ascii.newline) × IsOneLine bytes
 
 -- a line, counted without its newline, is within a limit
 abbrev pub IsWithin : ℕ → List ℕ → Type 0

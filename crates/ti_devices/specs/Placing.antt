@@ -1,13 +1,13 @@
 -- The files that a tool made, as paths and bytes (own).
 use Rattle.std.specs.Prelude.{List, map}
 use Rattle.std.specs.String.{string_bytes}
-use Rattle.ti_devices.specs.Tree.{Entry}
+use Rattle.ti_devices.specs.Tree.{FileAt}
 use Rattle.ti_devices.specs.declared.placing.File.{File}
 
 -- a file that holds its path and its bytes in memory, as plain data
-abbrev pub entry_of : File → Entry
+abbrev pub entry_of : File → FileAt
 entry_of file = (string_bytes file.path, file.bytes.items)
 
 -- the files in their order, as plain data
-abbrev pub entries : List File → List Entry
+abbrev pub entries : List File → List FileAt
 entries files = map entry_of files

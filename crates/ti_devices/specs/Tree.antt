@@ -9,8 +9,8 @@ abbrev pub Files : Type 0
 Files = List ℕ → Option (List ℕ)
 
 -- a path and the bytes that stand at it
-abbrev pub Entry : Type 0
-Entry = List ℕ × List ℕ
+abbrev pub FileAt : Type 0
+FileAt = List ℕ × List ℕ
 
 -- the files with these bytes at this path
 abbrev pub with_file : Files → List ℕ → List ℕ → Files
@@ -21,7 +21,7 @@ abbrev pub IsBare : Files → Type 0
 IsBare files = (path : List ℕ) → files path ≡ None
 
 -- the bytes of the entry stand at its path afterwards, and each other path holds what it held
-abbrev pub Sets : Entry → Option Files → Option Files → Type 0
+abbrev pub Sets : FileAt → Option Files → Option Files → Type 0
 Sets entry None new = Unit {0}
 Sets entry (Some old) None = ⊥
 Sets entry (Some old) (Some new) = (path : List ℕ) → new path ≡ with_file old entry.0 entry.1 path
@@ -33,17 +33,17 @@ ChangesOnly at (Some old) None = ⊥
 ChangesOnly at (Some old) (Some new) = (path : List ℕ) → path ≢ at → new path ≡ old path
 
 -- what was found at the path: its first `count` bytes, or none where there is no such file
-abbrev pub Reads : List ℕ → ℕ → Option Files → Option (List ℕ) → Type 0
-Reads path count None found = Unit {0}
-Reads path count (Some files) found = found ≡ option_map (take count) (files path)
+abbrev pub FindsFile : List ℕ → ℕ → Option Files → Option (List ℕ) → Type 0
+FindsFile path count None found = Unit {0}
+FindsFile path count (Some files) found = found ≡ option_map (take count) (files path)
 
 -- each entry was written, one after the other
-abbrev pub Writes : List Entry → Option Files → Option Files → Type 0
+abbrev pub Writes : List FileAt → Option Files → Option Files → Type 0
 Writes [] old new = new ≡ old
 Writes (entry ∷ entries) old new = (mid : Option Files) × Sets entry old mid × Writes entries mid new
 
 -- the first `count` entries were written, and of the rest at most the path of the next one changed
-abbrev pub WritesUpTo : ℕ → List Entry → Option Files → Option Files → Type 0
-WritesUpTo count entries old new = (mid : Option Files) × (next : Entry) × (rest : List Entry)
+abbrev pub WritesUpTo : ℕ → List FileAt → Option Files → Option Files → Type 0
+WritesUpTo count entries old new = (mid : Option Files) × (next : FileAt) × (rest : List FileAt)
     × (drop count entries ≡ next ∷ rest) × Writes (take count entries) old mid
     × ChangesOnly next.0 mid new

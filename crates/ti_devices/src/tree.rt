@@ -1,6 +1,6 @@
 //! The trees of files that the tools read and write.
 ghost use Rattle.std.specs.Prelude.{◌≡◌, ◌+◌, ◌<◌, ◌≤◌, ℕ, Option, None, IfOk, IsErrOf, OnErr, OnOk, option_map};
-ghost use Rattle.ti_devices.specs.Tree.{ChangesOnly, Files, Reads, Sets};
+ghost use Rattle.ti_devices.specs.Tree.{ChangesOnly, Files, FindsFile, Sets};
 
 use std::alloc::Global;
 use thiserror::Error;
@@ -36,7 +36,7 @@ pub trait Tree {
         path: &str,
         limit: usize,
     ) -> Result<Option<Vec<u8>>, TreeFault>
-        ensures found { IfOk result (λ found. Reads path.now (limit + 1) (files self.old)
+        ensures found { IfOk result (λ found. FindsFile path.now (limit + 1) (files self.old)
             (option_map (λ bytes. bytes.items) found)) }
         ensures kept { files self.new ≡ files self.old }
         ensures later { failures self.old ≤ failures self.new }

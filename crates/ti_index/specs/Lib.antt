@@ -1,5 +1,5 @@
 pub mod Labels
-pub mod Order
+pub mod inside
 pub mod Listing
 pub mod Names
 pub mod Laws

@@ -22,7 +22,7 @@ pub struct Order {
 
 impl Model for Order {
     ghost use Rattle.std.specs.Prelude.{ℕ, vec_capacity};
-    ghost use Rattle.ti_index.specs.Order.{Ids, IsOrder};
+    ghost use Rattle.ti_index.specs.inside.Order.{Ids, IsOrder};
 
     ghost Value = { Ids };
 

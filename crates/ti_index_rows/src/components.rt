@@ -34,15 +34,15 @@ fn components_of_small_graphs(rt: HostRuntime) -> Result<(), Fail> {
         (&[&[Some(1)], &[Some(2)], &[]], &[2, 1, 0], &[2, 1, 0]),
         // A node with an edge to itself, and an edge that leads nowhere.
         (&[&[Some(0)], &[None, Some(0)]], &[0, 1], &[0, 1]),
-        // A ring above a ring.
+        // A cycle above a cycle.
         (
             &[&[Some(1)], &[Some(0), Some(2)], &[Some(3)], &[Some(2)]],
             &[2, 2, 0, 0],
             &[2, 3, 0, 1],
         ),
-        // An edge between two rings of one node each lies on no ring.
+        // An edge between two cycles of one node each lies on no cycle.
         (&[&[Some(1), Some(0)], &[Some(1)]], &[1, 0], &[1, 0]),
-        // A node between two nodes of a ring is of it, and one that only reaches it is not.
+        // A node between two nodes of a cycle is of it, and one that only reaches it is not.
         (
             &[&[Some(2)], &[Some(2)], &[Some(3), Some(1)], &[Some(1)]],
             &[3, 0, 0, 0],

@@ -6,7 +6,7 @@ use std::alloc::{AllocError, Global};
 use std::process::Abort;
 use std::rc::RcSlice;
 use std::test::*;
-use ti_slots::{Settled, Slot, Slots, State};
+use ti_slots::{Settled, Slot, Slots, State, copy_detail};
 use ti_source::{Item, Parsed, What};
 
 /// A slot of a block with these names that uses these names.
@@ -117,5 +117,13 @@ fn blocks_come_and_go(rt: HostRuntime) -> Result<(), Fail> {
     assert_eq!(rt; slots.names.users(b"x"), [0].as_slice());
     take(&mut slots, 0);
     expect_mentions(&rt, &slots, &[0], &[0], Some(0));
+    Ok(())
+}
+
+#[test]
+fn a_detail_is_copied(rt: HostRuntime) -> Result<(), Fail> {
+    let name = Some(RcSlice::from_slice(rt.alloc(), b"n")?);
+    assert!(rt; copy_detail(&name)?.is_some_and(|copy| copy.as_slice() == b"n".as_slice()));
+    assert!(rt; copy_detail(&None)?.is_none());
     Ok(())
 }

@@ -3,7 +3,7 @@ use Rattle.std.proofs.Common.{◌≡◌, Bool, true, false, if◌then◌else◌,
 use Rattle.std.specs.Option.{option_or}
 use Rattle.ti_caps.specs.Tables.{Capability, same_capability}
 use Rattle.ti_caps.proofs.Same.{same_capability-true}
-use Rattle.ti_layout.specs.Values.{Content, Entry, SetsOnly, contents}
+use Rattle.ti_layout.specs.Values.{Content, TableEntry, SetsOnly, contents}
 use Rattle.ti_layout.proofs.Held.{other_from_test}
 
 or_nothing : {X : Type 0} (o : Option X) → o ≡ option_or o None
@@ -11,7 +11,7 @@ or_nothing None = refl
 or_nothing (Some x) = refl
 
 -- the capability had none
-pub laid_in_gap : (old new : List Entry) (c : Capability) (x : Content) → contents old c ≡ None → SetsOnly old new c (Some x)
+pub laid_in_gap : (old new : List TableEntry) (c : Capability) (x : Content) → contents old c ≡ None → SetsOnly old new c (Some x)
     → (d : Capability) → contents new d ≡ option_or (contents old d) (if same_capability c d then Some x else None)
 laid_in_gap old new c x none sets d = by_test (same_capability c d) refl
   where
@@ -22,7 +22,7 @@ laid_in_gap old new c x none sets d = by_test (same_capability c d) refl
     by_test false e = sets.others d (λ same. other_from_test c d e (sym same)) ∙ or_nothing (contents old d)
 
 -- the capability had one, which stays
-pub laid_behind : (es : List Entry) (c : Capability) (there x : Content) → Some there ≡ contents es c
+pub laid_behind : (es : List TableEntry) (c : Capability) (there x : Content) → Some there ≡ contents es c
     → (d : Capability) → contents es d ≡ option_or (contents es d) (if same_capability c d then Some x else None)
 laid_behind es c there x has d = by_test (same_capability c d) refl
   where

@@ -6,28 +6,28 @@ use Rattle.std.proofs.lemmas.List.{length-append, length-map, length-take-le, ma
 use Rattle.ti_caps.specs.Tables.{Capability, IsCapability, count_of, same_capability}
 use Rattle.ti_caps.specs.declared.capability.Kind.{Kind}
 use Rattle.ti_caps.specs.declared.capability.Kind.TheVariants.{Flag, Number, Text}
-use Rattle.ti_layout.specs.Mentions.{ArePlaces, Decides}
+use Rattle.ti_layout.specs.inside.Mentions.{ArePlaces, Decides}
 use Rattle.ti_layout.specs.declared.values.Value.{Value}
-use Rattle.ti_layout.specs.Values.{Content, Entry, Agrees, IsKept, contents, content_of, entries_of, rank_in, rank_of}
+use Rattle.ti_layout.specs.Values.{Content, TableEntry, Agrees, IsKept, contents, content_of, entries_of, rank_in, rank_of}
 use Rattle.ti_layout.proofs.Held.{one_from_rank, same_from_one, test_from_other}
 use Rattle.ti_layout.proofs.Fronts.{AllBefore, absent_behind, contents-append, contents-none, contents-one, kept-push, rank-push}
 
 -- ---- one more mention
 
 -- it says nothing of another capability
-says_nothing : (x : Entry) (c : Capability) → x.0 ≢ c → contents (x ∷ []) c ≡ None
+says_nothing : (x : TableEntry) (c : Capability) → x.0 ≢ c → contents (x ∷ []) c ≡ None
 says_nothing x c other = contents-one x c ∙ ap (λ b. cond b (Some x.1) None) (test_from_other x.0 c other)
 
-says_own : (x : Entry) → contents (x ∷ []) x.0 ≡ Some x.1
+says_own : (x : TableEntry) → contents (x ∷ []) x.0 ≡ Some x.1
 says_own x = contents-one x x.0 ∙ ap (λ b. cond b (Some x.1) None) (same_from_one x.0 x.0 refl)
 
-none_more : (es : List Entry) (x : Entry) (c : Capability) → contents es c ≡ None → x.0 ≢ c → contents (es ++ x ∷ []) c ≡ None
+none_more : (es : List TableEntry) (x : TableEntry) (c : Capability) → contents es c ≡ None → x.0 ≢ c → contents (es ++ x ∷ []) c ≡ None
 none_more es x c none other = contents-append es (x ∷ []) c ∙ ap (λ o. option_or o (contents (x ∷ []) c)) none ∙ says_nothing x c other
 
-some_more : (es : List Entry) (x : Entry) (c : Capability) (v : Content) → contents es c ≡ Some v → contents (es ++ x ∷ []) c ≡ Some v
+some_more : (es : List TableEntry) (x : TableEntry) (c : Capability) (v : Content) → contents es c ≡ Some v → contents (es ++ x ∷ []) c ≡ Some v
 some_more es x c v some = contents-append es (x ∷ []) c ∙ ap (λ o. option_or o (contents (x ∷ []) c)) some
 
-first_more : (es : List Entry) (x : Entry) → contents es x.0 ≡ None → contents (es ++ x ∷ []) x.0 ≡ Some x.1
+first_more : (es : List TableEntry) (x : TableEntry) → contents es x.0 ≡ None → contents (es ++ x ∷ []) x.0 ≡ Some x.1
 first_more es x none = contents-append es (x ∷ []) x.0 ∙ ap (λ o. option_or o (contents (x ∷ []) x.0)) none ∙ says_own x
 
 -- ---- mentions behind a table
@@ -41,11 +41,11 @@ no_items [] e = refl
 no_items (x ∷ xs) e = absurd (omega arith)
 
 -- none of them
-pub nothing_behind : (table : List Entry) (xs : List (Capability × Value)) (c : Capability) → xs ≡ [] → contents table c ≡ option_or (contents table c) (contents (entries_of xs) c)
+pub nothing_behind : (table : List TableEntry) (xs : List (Capability × Value)) (c : Capability) → xs ≡ [] → contents table c ≡ option_or (contents table c) (contents (entries_of xs) c)
 nothing_behind table xs c none = sym (ap (λ o. option_or (contents table c) o) (ap (λ ys. contents (entries_of ys) c) none ∙ contents-none c) ∙ or_nothing (contents table c))
 
 -- them behind an empty table
-pub behind_nothing : (table : List Entry) (xs : List (Capability × Value)) (c : Capability) (said : Option Content) → xs ≡ [] → entries_of xs ≡ table → said ≡ option_or (contents table c) said
+pub behind_nothing : (table : List TableEntry) (xs : List (Capability × Value)) (c : Capability) (said : Option Content) → xs ≡ [] → entries_of xs ≡ table → said ≡ option_or (contents table c) said
 behind_nothing table xs c said none is = sym (ap (λ o. option_or o said) (ap (λ es. contents es c) (sym is ∙ ap entries_of none) ∙ contents-none c))
 
 -- what was laid, and one more value
@@ -53,10 +53,10 @@ pub or_assoc : (a b o : Option Content) → option_or (option_or a b) o ≡ opti
 or_assoc None b o = refl
 or_assoc (Some v) b o = refl
 
-pub laid_more : (table : List Entry) (xs : List (Capability × Value)) (x : Capability × Value) (c : Capability)
+pub laid_more : (table : List TableEntry) (xs : List (Capability × Value)) (x : Capability × Value) (c : Capability)
     → contents (table ++ entries_of (xs ++ x ∷ [])) c ≡ option_or (contents (table ++ entries_of xs) c) (cond (same_capability x.0 c) (Some (content_of x.1)) None)
 laid_more table xs x c =
-    let e : Entry = (x.0, content_of x.1) in
+    let e : TableEntry = (x.0, content_of x.1) in
     let end : entries_of (xs ++ x ∷ []) ≡ entries_of xs ++ e ∷ [] = map-append (λ (y : Capability × Value). (y.0, content_of y.1)) xs (x ∷ []) in
     contents-append table (entries_of (xs ++ x ∷ [])) c
     ∙ ap (λ o. option_or (contents table c) o) (ap (λ es. contents es c) end ∙ contents-append (entries_of xs) (e ∷ []) c)
@@ -65,7 +65,7 @@ laid_more table xs x c =
     ∙ ap (λ o. option_or (contents (table ++ entries_of xs) c) o) (contents-one e c)
 
 -- all that was laid is in the table
-pub laid_all : (table : List Entry) (xs : List (Capability × Value)) (c : Capability) → xs ≡ [] → contents (table ++ entries_of xs) c ≡ contents table c
+pub laid_all : (table : List TableEntry) (xs : List (Capability × Value)) (c : Capability) → xs ≡ [] → contents (table ++ entries_of xs) c ≡ contents table c
 laid_all table xs c none = contents-append table (entries_of xs) c ∙ sym (nothing_behind table xs c none)
 
 -- ---- the places of first mentions
@@ -102,13 +102,13 @@ front_more xs i x within here c =
 pub entries_count : (xs : List (Capability × Value)) (i : ℕ) → i ≤ length xs → length (entries_of (take i xs)) ≡ i
 entries_count xs i within = rw length-map (length-take-le i xs within)
 
-module _ (es : List Entry) (x : Entry) (places : List ℕ) (known : ArePlaces es places) where
+module _ (es : List TableEntry) (x : TableEntry) (places : List ℕ) (known : ArePlaces es places) where
   longer : length (es ++ x ∷ []) ≡ length es + 1
   longer = length-append es (x ∷ [])
 
   -- what was first stays first
   stays : (rank p : ℕ) → get_or places rank 0 ≡ suc p
-      → (p < length (es ++ x ∷ [])) × ((e : Entry) → Decides (es ++ x ∷ []) rank (get_or (es ++ x ∷ []) p e))
+      → (p < length (es ++ x ∷ [])) × ((e : TableEntry) → Decides (es ++ x ∷ []) rank (get_or (es ++ x ∷ []) p e))
   stays rank p at =
       let old = known.first rank p at in
       let long = longer in (
@@ -157,19 +157,19 @@ module _ (es : List Entry) (x : Entry) (places : List ℕ) (known : ArePlaces es
 -- ---- the first mentions, in the order of the entry
 
 -- these entries are the first mentions of the capabilities below a rank
-pub record Gathers (es out : List Entry) (rank : ℕ) : Type 0 where
+pub record Gathers (es out : List TableEntry) (rank : ℕ) : Type 0 where
   pub kept : IsKept out
   pub before : AllBefore out rank
   pub said : (c : Capability) → IsCapability c → rank_of c < rank → contents out c ≡ contents es c
 
-pub gathers_none : (es : List Entry) → Gathers es [] 0
+pub gathers_none : (es : List TableEntry) → Gathers es [] 0
 gathers_none es = record {
   kept = record { rises = λ i j lt within. absurd (omega arith); agree = λ k d lt. absurd (omega arith) };
   before = λ k within. absurd (omega arith);
   said = λ c valid below. absurd (omega arith);
 }
 
-module _ (es out : List Entry) (rank : ℕ) (so_far : Gathers es out rank) (places : List ℕ) (known : ArePlaces es places) where
+module _ (es out : List TableEntry) (rank : ℕ) (so_far : Gathers es out rank) (places : List ℕ) (known : ArePlaces es places) where
   later : AllBefore out (rank + 1)
   later k within = let b = so_far.before k within in omega arith
 
@@ -188,7 +188,7 @@ module _ (es out : List Entry) (rank : ℕ) (so_far : Gathers es out rank) (plac
   }
 
   -- the first mention that has it
-  pub gathers_more : (x : Entry) → Agrees x.0 x.1 → Decides es rank x → Gathers es (out ++ x ∷ []) (rank + 1)
+  pub gathers_more : (x : TableEntry) → Agrees x.0 x.1 → Decides es rank x → Gathers es (out ++ x ∷ []) (rank + 1)
   gathers_more x agrees decides =
       let valid = decides.0 in
       let here = decides.1 in

@@ -11,7 +11,7 @@ use Rattle.ti_caps.specs.declared.capability.Kind.TheVariants.{Flag, Number, Tex
 use Rattle.ti_layout.specs.declared.layout.Format.{Format}
 use Rattle.ti_layout.specs.declared.layout.Format.TheVariants.{Legacy, Extended}
 use Rattle.ti_layout.specs.Values.{Content, content_true, content_number, content_text, content_cancelled, Contents, AgreesIfSome, HasNoNul}
-use Rattle.ti_layout.specs.Layout.{absent, negative}
+use Rattle.ti_layout.specs.Layout.{absent_mark, first_negative}
 use Rattle.ti_layout.specs.Reading.{AreSound, IsFlagByte, IsNumber, IsOffset, HasEnd, flag_of, number_of, text_of, text_from, says, contents_of}
 use Rattle.ti_layout.specs.Image.{image, is_there, is_wide, format_of, of_kind, written_count, flag_value, number_value, offset_value, texts_below, sections_of, some_below, below}
 use Rattle.ti_layout.specs.Laws.{without_cancel, ImagesAreRead}
@@ -58,7 +58,7 @@ text-in strings offset t rest no_nul e =
 
 -- ---- the format holds each number
 
-wide_or_not : (c : Contents) (k n : ℕ) → k < 39 → c (capability Number k) ≡ Some (content_number n) → n ≤ 2147483647 → (b : Bool) → some_below (λ i. is_wide (of_kind c Number i)) 39 ≡ b → n < negative (cond b Extended Legacy)
+wide_or_not : (c : Contents) (k n : ℕ) → k < 39 → c (capability Number k) ≡ Some (content_number n) → n ≤ 2147483647 → (b : Bool) → some_below (λ i. is_wide (of_kind c Number i)) 39 ≡ b → n < first_negative (cond b Extended Legacy)
 wide_or_not c k n lt e fits true told = omega arith
 wide_or_not c k n lt e fits false told = elim (cases_lt 32767 n) [
   | inl wide ↦
@@ -70,7 +70,7 @@ wide_or_not c k n lt e fits false told = elim (cases_lt 32767 n) [
 ]
 
 -- a number is not negative in the format of its entry
-pub number-plain : (c : Contents) (k n : ℕ) → k < 39 → c (capability Number k) ≡ Some (content_number n) → n ≤ 2147483647 → n < negative (format_of c)
+pub number-plain : (c : Contents) (k n : ℕ) → k < 39 → c (capability Number k) ≡ Some (content_number n) → n ≤ 2147483647 → n < first_negative (format_of c)
 number-plain c k n lt e fits = wide_or_not c k n lt e fits (some_below (λ i. is_wide (of_kind c Number i)) 39) refl
 
 -- ---- the sections are sound
@@ -82,11 +82,11 @@ sound_flag (Some (content_number n)) = inl (omega arith)
 sound_flag (Some (content_text t)) = inl (omega arith)
 sound_flag (Some content_cancelled) = inl (omega arith)
 
-absent_number : (w : Format) → IsNumber w (absent w)
+absent_number : (w : Format) → IsNumber w (absent_mark w)
 absent_number Legacy = inr (omega arith, omega arith)
 absent_number Extended = inr (omega arith, omega arith)
 
-sound_number : (c : Contents) (k : ℕ) → k < 39 → (o : Option Content) → c (capability Number k) ≡ o → AgreesIfSome (capability Number k) o → IsNumber (format_of c) (number_value (absent (format_of c)) o)
+sound_number : (c : Contents) (k : ℕ) → k < 39 → (o : Option Content) → c (capability Number k) ≡ o → AgreesIfSome (capability Number k) o → IsNumber (format_of c) (number_value (absent_mark (format_of c)) o)
 sound_number c k lt None e a = absent_number (format_of c)
 sound_number c k lt (Some content_true) e a = absent_number (format_of c)
 sound_number c k lt (Some (content_number n)) e a = inl (number-plain c k n lt e a.1)
@@ -139,7 +139,7 @@ sections-sound names c h =
     let N = written_count c Number in
     let T = written_count c Text in
     let f = length-below (λ i. flag_value (of_kind c Flag i)) F in
-    let m = length-below (λ i. number_value (absent (format_of c)) (of_kind c Number i)) N in
+    let m = length-below (λ i. number_value (absent_mark (format_of c)) (of_kind c Number i)) N in
     let o = length-below (λ i. offset_value (length (texts_below c i)) (of_kind c Text i)) T in
     record {
       some_names = h.some;
@@ -151,7 +151,7 @@ sections-sound names c h =
       strings_size = h.small;
       gap_size = length-replicate ((suc (length names) + F) % 2) 0 ∙ ap (λ (k : ℕ). (suc (length names) + k) % 2) (sym f);
       flags = all_below (λ i. flag_value (of_kind c Flag i)) F IsFlagByte (λ i lt. sound_flag (of_kind c Flag i));
-      numbers = all_below (λ i. number_value (absent (format_of c)) (of_kind c Number i)) N (IsNumber (format_of c)) (λ i lt.
+      numbers = all_below (λ i. number_value (absent_mark (format_of c)) (of_kind c Number i)) N (IsNumber (format_of c)) (λ i lt.
           let within : i < 39 = omega (arith, n.numbers) in
           sound_number c i within (of_kind c Number i) refl (h.agree (capability Number i) within));
       offsets = all_below (λ i. offset_value (length (texts_below c i)) (of_kind c Text i)) T (IsOffset (texts_below c T)) (λ i lt.
@@ -179,15 +179,15 @@ flag-again i (Some (content_number n)) a = absurd (let e = a.0 in cc)
 flag-again i (Some (content_text t)) a = absurd (let e = a.0 in cc)
 flag-again i (Some content_cancelled) a = refl
 
-absent-says : (w : Format) → number_of w (absent w) ≡ None
+absent-says : (w : Format) → number_of w (absent_mark w) ≡ None
 absent-says Legacy = refl
 absent-says Extended = refl
 
-number-again : (c : Contents) (k : ℕ) → k < 39 → (o : Option Content) → c (capability Number k) ≡ o → AgreesIfSome (capability Number k) o → number_of (format_of c) (number_value (absent (format_of c)) o) ≡ without_cancel o
+number-again : (c : Contents) (k : ℕ) → k < 39 → (o : Option Content) → c (capability Number k) ≡ o → AgreesIfSome (capability Number k) o → number_of (format_of c) (number_value (absent_mark (format_of c)) o) ≡ without_cancel o
 number-again c k lt None e a = absent-says (format_of c)
 number-again c k lt (Some content_true) e a = absurd (let p : Number ≡ Flag = a in cc)
 number-again c k lt (Some (content_number n)) e a =
-    let small : ltb n (negative (format_of c)) ≡ true = lt-ltb _ _ (number-plain c k n lt e a.1) in
+    let small : ltb n (first_negative (format_of c)) ≡ true = lt-ltb _ _ (number-plain c k n lt e a.1) in
     ap (λ b. cond b (Some (content_number n)) None) small
 number-again c k lt (Some (content_text t)) e a = absurd (let p = a.0 in cc)
 number-again c k lt (Some content_cancelled) e a = absent-says (format_of c)
@@ -216,7 +216,7 @@ section_says names c h Flag i lt =
     ]
 section_says names c h Number i lt =
     let w = format_of c in
-    let f : ℕ → ℕ = λ k. number_value (absent w) (of_kind c Number k) in
+    let f : ℕ → ℕ = λ k. number_value (absent_mark w) (of_kind c Number k) in
     let n = written_count c Number in
     elim (cases_lt i n) [
       | inl under ↦ ap (option_and_then (number_of w)) (slice_get-below f n i under) ∙ number-again c i lt (c (capability Number i)) refl (h.agree (capability Number i) lt)

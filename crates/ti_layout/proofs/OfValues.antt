@@ -6,7 +6,7 @@ use Rattle.ti_caps.specs.declared.capability.Kind.TheVariants.{Flag, Number, Tex
 use Rattle.ti_layout.specs.declared.layout.Format.{Format}
 use Rattle.ti_layout.specs.declared.layout.Format.TheVariants.{Legacy, Extended}
 use Rattle.ti_layout.specs.Values.{Content, content_true, content_number, content_text, content_cancelled, Contents}
-use Rattle.ti_layout.specs.Layout.{absent, laid_out, limit}
+use Rattle.ti_layout.specs.Layout.{absent_mark, entry_bytes, limit}
 use Rattle.ti_layout.specs.Image.{image, is_there, is_wide, format_of, of_kind, written_count, flag_value, number_value, offset_value, text_piece, flags_below, numbers_below, offsets_below, texts_below, even_gap}
 use Rattle.ti_layout.specs.Laws.{without_cancel, ShowSame, ImagesAreOfValues, LimitsAreOfValues}
 use Rattle.ti_layout.proofs.Below.{below-same, last_passing-le, last_passing-same, some_below-same}
@@ -63,9 +63,9 @@ offset_value-presence offset (Some content_cancelled) = refl
 
 -- sections whose parts are the same
 alike : (names f f' g g' m m' o o' s s' : List ℕ) → f ≡ f' → g ≡ g' → m ≡ m' → o ≡ o' → s ≡ s' → (w w' : Format) → w ≡ w'
-    → laid_out w (record { names = names; flags = f; gap = g; numbers = m; offsets = o; strings = s; rest = [] }) ≡ laid_out w' (record { names = names; flags = f'; gap = g'; numbers = m'; offsets = o'; strings = s'; rest = [] })
+    → entry_bytes w (record { names = names; flags = f; gap = g; numbers = m; offsets = o; strings = s; rest = [] }) ≡ entry_bytes w' (record { names = names; flags = f'; gap = g'; numbers = m'; offsets = o'; strings = s'; rest = [] })
 alike names f f' g g' m m' o o' s s' a b c d e w w' h =
-    let whole : Format → List ℕ → List ℕ → List ℕ → List ℕ → List ℕ → List ℕ = λ w f g m o s. laid_out w (record { names = names; flags = f; gap = g; numbers = m; offsets = o; strings = s; rest = [] }) in
+    let whole : Format → List ℕ → List ℕ → List ℕ → List ℕ → List ℕ → List ℕ = λ w f g m o s. entry_bytes w (record { names = names; flags = f; gap = g; numbers = m; offsets = o; strings = s; rest = [] }) in
     ap (λ x. whole x f g m o s) h ∙ ap (λ x. whole w' x g m o s) a ∙ ap (λ x. whole w' f' x m o s) b
     ∙ ap (λ x. whole w' f' g' x o s) c ∙ ap (λ x. whole w' f' g' m' x s) d ∙ ap (λ x. whole w' f' g' m' o' x) e
 
@@ -95,7 +95,7 @@ module _ (t u : Contents) (h : ShowSame t u) where
   numbers-same : numbers_below (format_of t) t (written_count t Number) ≡ numbers_below (format_of u) u (written_count u Number)
   numbers-same =
       below-same _ _ (written_count t Number)
-      (λ i l. same_by_presence (number_value (absent (format_of t))) (t (capability Number i)) (u (capability Number i)) (number_value-presence (absent (format_of t))) (h (capability Number i) (let m = count-within Number in omega arith)))
+      (λ i l. same_by_presence (number_value (absent_mark (format_of t))) (t (capability Number i)) (u (capability Number i)) (number_value-presence (absent_mark (format_of t))) (h (capability Number i) (let m = count-within Number in omega arith)))
       ∙ ap (numbers_below (format_of t) u) (count-same Number) ∙ ap (λ w. numbers_below w u (written_count u Number)) format-same
 
   offsets-same : offsets_below t (written_count t Text) ≡ offsets_below u (written_count u Text)

@@ -7,8 +7,8 @@ use Rattle.ti_layout.specs.declared.fault.ReadError.TheVariants.{Short, Magic, C
 use Rattle.ti_layout.specs.Values.{Contents, HasNoNul}
 use Rattle.ti_layout.specs.declared.layout.Format.{Format}
 use Rattle.ti_layout.specs.declared.layout.Format.TheVariants.{Legacy, Extended}
-use Rattle.ti_layout.specs.Layout.{Sections, absent, cancelled, negative, number_section, width}
-use Rattle.ti_layout.specs.Reading.{AreSound, IsNumber, IsOffset, Reads, contents_of, number_at, numbers_in, count_in, format_in, Refused, Holds, HasBadCount, HasBadNames, HasBadFlag, HasBadNumber, HasBadOffset, HasEnd, rank, names_section, flags_section, numbers_section, offsets_section, strings_section}
+use Rattle.ti_layout.specs.Layout.{Sections, absent_mark, cancelled_mark, first_negative, number_section, width}
+use Rattle.ti_layout.specs.Reading.{AreSound, IsNumber, IsOffset, Reads, contents_of, number_at, numbers_in, count_in, format_in, Refused, HasReadFault, HasBadCount, HasBadNames, HasBadFlag, HasBadNumber, HasBadOffset, HasEnd, rank, names_section, flags_section, numbers_section, offsets_section, strings_section}
 use Rattle.ti_layout.proofs.Spelled.{numbers-again, number_read, length-spelled, counted}
 use Rattle.ti_layout.proofs.Parts.{Found, found}
 
@@ -24,16 +24,16 @@ found_of b m c r = subst (λ (x : List ℕ). Found x r.format r.sections) (sym r
 contents_same : (v w : Format) (f f' n n' o o' s s' : List ℕ) → v ≡ w → f ≡ f' → numbers_in w n ≡ n' → o ≡ o' → s ≡ s' → contents_of v f (numbers_in v n) o s ≡ contents_of w f' n' o' s'
 contents_same v w f f' n n' o o' s s' a b c d e = rw (a, b, c, d, e) refl
 
-plain_fits : (w : Format) (n : ℕ) → n < negative w → n ≤ absent w
+plain_fits : (w : Format) (n : ℕ) → n < first_negative w → n ≤ absent_mark w
 plain_fits Legacy n lt = omega arith
 plain_fits Extended n lt = omega arith
 
 -- what may stand in a section fits its bytes
-number_fits : (w : Format) (n : ℕ) → IsNumber w n → n ≤ absent w
+number_fits : (w : Format) (n : ℕ) → IsNumber w n → n ≤ absent_mark w
 number_fits w n (inl plain) = plain_fits w n plain
 number_fits w n (inr void) = void.1
 
-offset_fits : (strings : List ℕ) (n : ℕ) → IsOffset strings n → n ≤ absent Legacy
+offset_fits : (strings : List ℕ) (n : ℕ) → IsOffset strings n → n ≤ absent_mark Legacy
 offset_fits strings n (inl plain) = omega (arith, plain.0)
 offset_fits strings n (inr void) = void.1
 
@@ -123,23 +123,23 @@ good_names names some no_nul h =
     ]
 
 -- a number of a section is none that may not stand there
-good_number : (w : Format) (n : ℕ) → IsNumber w n → negative w ≤ n → n < cancelled w → ⊥
+good_number : (w : Format) (n : ℕ) → IsNumber w n → first_negative w ≤ n → n < cancelled_mark w → ⊥
 good_number w n (inl plain) low high = omega arith
 good_number w n (inr void) low high = omega (arith, void.0)
 
-good_offset : (strings : List ℕ) (n : ℕ) → IsOffset strings n → n < cancelled Legacy → ¬ HasEnd strings n → ⊥
+good_offset : (strings : List ℕ) (n : ℕ) → IsOffset strings n → n < cancelled_mark Legacy → ¬ HasEnd strings n → ⊥
 good_offset strings n (inl plain) high ends = ends plain.1
 good_offset strings n (inr void) high ends = omega (arith, void.0)
 
 -- the number of a place of a section that is spelled
-spelled_number : (w : Format) (ns : List ℕ) (k : ℕ) (P : ℕ → Type 0) → ((n : ℕ) → P n → n ≤ absent w) → All P ns → k < count_in w (number_section w ns) → P (number_at w (width w * k) (number_section w ns))
+spelled_number : (w : Format) (ns : List ℕ) (k : ℕ) (P : ℕ → Type 0) → ((n : ℕ) → P n → n ≤ absent_mark w) → All P ns → k < count_in w (number_section w ns) → P (number_at w (width w * k) (number_section w ns))
 spelled_number w ns k P fits all lt =
     let c : count_in w (number_section w ns) ≡ length ns = ap (λ k. k / width w) (length-spelled w ns) ∙ counted w (length ns) in
     let within : k < length ns = omega arith in
     subst P (sym (number_read w ns k (λ i d l. fits _ (all i d l)) within)) (all k 0 within)
 
 -- an entry meets no refusal
-never_of : (b : List ℕ) (w : Format) (s : Sections) → AreSound w s → Found b w s → (e : ReadError) → ¬ Holds b e
+never_of : (b : List ℕ) (w : Format) (s : Sections) → AreSound w s → Found b w s → (e : ReadError) → ¬ HasReadFault b e
 never_of b w s sound f Short h = omega (arith, h, f.long)
 never_of b Legacy s sound f Magic h = h.0 f.known
 never_of b Extended s sound f Magic h = h.1 f.known
@@ -156,7 +156,7 @@ never_of b w s sound f BadOffset h =
     let p = subst (λ (x : List ℕ). HasBadOffset x s.strings) f.offsets (subst (λ (x : List ℕ). HasBadOffset (offsets_section b) x) f.strings h) in
     good_offset s.strings _ (spelled_number Legacy s.offsets p.0 (IsOffset s.strings) (offset_fits s.strings) sound.offsets p.1) p.2.0 p.2.1
 
-never : (b m : List ℕ) (c : Contents) (e : ReadError) → Reads b m c → Holds b e → ⊥
+never : (b m : List ℕ) (c : Contents) (e : ReadError) → Reads b m c → HasReadFault b e → ⊥
 never b m c e r h = never_of b r.format r.sections r.sound (found_of b m c r) e h
 
 pub not_both : (b m : List ℕ) (c : Contents) (e : ReadError) → Reads b m c → Refused b e → ⊥

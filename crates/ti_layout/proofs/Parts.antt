@@ -3,7 +3,7 @@ use Rattle.std.proofs.Common.{◌≡◌, ℕ, suc, ◌+◌, ◌-◌, ◌*◌, �
 use Rattle.std.proofs.lemmas.List.{take_at, drop_at, length-append}
 use Rattle.ti_layout.specs.declared.layout.Format.{Format}
 use Rattle.ti_layout.specs.declared.layout.Format.TheVariants.{Legacy, Extended}
-use Rattle.ti_layout.specs.Layout.{Sections, header, laid_out, magic, number_section, width}
+use Rattle.ti_layout.specs.Layout.{Sections, header, entry_bytes, magic, number_section, width}
 use Rattle.ti_layout.specs.Reading.{word_at, AreSound, format_in, names_size, flag_count, number_count, text_count, strings_size, end_place, names_section, flags_section, numbers_section, offsets_section, strings_section}
 use Rattle.ti_layout.proofs.Spelled.{length-spelled}
 
@@ -25,7 +25,7 @@ magic-fits : (w : Format) → (magic w % 256) + 256 * (magic w / 256 % 256) ≡ 
 magic-fits Legacy = refl
 magic-fits Extended = refl
 
-numbers-of : (w : Format) (s : Sections) → AreSound w s → Numbers (laid_out w s) w s
+numbers-of : (w : Format) (s : Sections) → AreSound w s → Numbers (entry_bytes w s) w s
 unfolding number_section
 numbers-of w s sound = record {
   known = magic-fits w;
@@ -108,9 +108,9 @@ middles-of s h m o b e =
     e ∙ ap (λ (x : List ℕ). x ++ s.flags ++ s.gap ++ m ++ o ++ s.strings ++ s.rest) (append_assoc h s.names (0 ∷ [])) in
     subst (λ (x : List ℕ). Middles x h n s.flags s.gap m o s.strings s.rest) (sym regrouped) (middles h n s.flags s.gap m o s.strings s.rest)
 
-pub found : (w : Format) (s : Sections) → AreSound w s → Found (laid_out w s) w s
+pub found : (w : Format) (s : Sections) → AreSound w s → Found (entry_bytes w s) w s
 found w s sound =
-    let b = laid_out w s in
+    let b = entry_bytes w s in
     let h = header w (suc (length s.names)) (length s.flags) (length s.numbers) (length s.offsets) (length s.strings) in
     let n = numbers-of w s sound in
     let told = format_told b w n.known in

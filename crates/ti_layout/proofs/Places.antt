@@ -14,11 +14,11 @@ use Rattle.std.proofs.lemmas.List.Elements.{All-set, All-append, All-cons, All-t
 use Rattle.ti_caps.specs.Tables.{Capability, IsCapability}
 use Rattle.ti_layout.specs.declared.values.Value.{Value}
 use Rattle.ti_layout.specs.declared.values.Value.TheVariants.{True}
-use Rattle.ti_layout.specs.Values.{Content, content_true, Entry, Agrees, IsAt, IsGapFor, IsKept, SetsOnly, contents, content_of, entries_of, rank_at, rank_of}
+use Rattle.ti_layout.specs.Values.{Content, content_true, TableEntry, Agrees, IsAt, IsGapFor, IsKept, SetsOnly, contents, content_of, entries_of, rank_at, rank_of}
 use Rattle.ti_layout.proofs.Held.{Elsewhere, Nowhere, Says, one_from_rank, contents_here, contents_nowhere, says-set, says-insert, says-remove, same_from_one, test_from_other}
 
 -- the rank that a place has is that of the capability there
-pub rank_read : (es : List Entry) (i : ℕ) (e : Entry) → i < length es → rank_at es i ≡ rank_of (get_or es i e).0
+pub rank_read : (es : List TableEntry) (i : ℕ) (e : TableEntry) → i < length es → rank_at es i ≡ rank_of (get_or es i e).0
 rank_read es i e within = get_or-map (λ x. rank_of x.0) es i e 0 within
 
 -- ---- where a search ends
@@ -26,7 +26,7 @@ rank_read es i e within = get_or-map (λ x. rank_of x.0) es i e 0 within
 module _ (xs : List (Capability × Value)) (kept : IsKept (entries_of xs)) (c : Capability) (valid : IsCapability c) where
   plain : (i : ℕ) (d : Capability × Value) → i < length xs → rank_at (entries_of xs) i ≡ rank_of (get_or xs i d).0
   plain i d within =
-      let f : Capability × Value → Entry = λ e. (e.0, content_of e.1) in
+      let f : Capability × Value → TableEntry = λ e. (e.0, content_of e.1) in
       rank_read (entries_of xs) i (f d) (rw length-map within) ∙ ap (λ e. rank_of e.0) (get_or-map f xs i d (f d) within)
 
   comparisons_rise : IsNonDecreasingBy (λ e. ordering_index (nat_cmp (rank_of e.0) (rank_of c))) xs
@@ -50,7 +50,7 @@ module _ (xs : List (Capability × Value)) (kept : IsKept (entries_of xs)) (c : 
         in_range = here;
         is_here = λ e.
             let d : Capability × Value = (c, True) in
-            let f : Capability × Value → Entry = λ x. (x.0, content_of x.1) in
+            let f : Capability × Value → TableEntry = λ x. (x.0, content_of x.1) in
             let read : get_or (entries_of xs) i e ≡ f (get_or xs i d) = get_or-map f xs i d e within in
             let one_rank : rank_of (get_or xs i d).0 ≡ rank_of c = ranked _ _ Equal (sym (equal d)) in
             one_from_rank _ c (kept.agree i e here).0 valid (ap (λ x. rank_of x.0) read ∙ one_rank);
@@ -72,9 +72,9 @@ module _ (xs : List (Capability × Value)) (kept : IsKept (entries_of xs)) (c : 
 
 -- ---- what stands there
 
-module _ (es : List Entry) (kept : IsKept es) (c : Capability) where
+module _ (es : List TableEntry) (kept : IsKept es) (c : Capability) where
   rank_here : (i : ℕ) → IsAt es c i → rank_at es i ≡ rank_of c
-  rank_here i at = let e : Entry = (c, content_true) in rank_read es i e at.in_range ∙ ap rank_of (at.is_here e)
+  rank_here i at = let e : TableEntry = (c, content_true) in rank_read es i e at.in_range ∙ ap rank_of (at.is_here e)
 
   pub elsewhere : (i : ℕ) → IsAt es c i → Elsewhere es c i
   elsewhere i at j e apart within same =
@@ -94,7 +94,7 @@ module _ (es : List Entry) (kept : IsKept es) (c : Capability) where
       ]
 
 -- what is said of one capability and of the others
-pub sets_only : (old new : List Entry) (c : Capability) (o : Option Content) → Says old new c o → SetsOnly old new c o
+pub sets_only : (old new : List TableEntry) (c : Capability) (o : Option Content) → Says old new c o → SetsOnly old new c o
 sets_only old new c o says = record {
   this_one = says c ∙ ap (λ b. if b then o else contents old c) (same_from_one c c refl);
   others = λ d other. says d ∙ ap (λ b. if b then o else contents old d) (test_from_other c d (λ e. other (sym e)));
@@ -134,23 +134,23 @@ rise-remove l at rises within i j lt in_range =
     let above : (k : ℕ) → at ≤ k → get_or new k 0 ≡ get_or l (k + 1) 0 = λ k high. get_or-remove_above l at 0 k high within in
     grind (arith, below i, above i, below j, above j, rises i j, rises i (j + 1), rises (i + 1) (j + 1))
 
-abbrev IsGood : Entry → Type 0
+abbrev IsGood : TableEntry → Type 0
 IsGood e = IsCapability e.0 × Agrees e.0 e.1
 
-pub kept-set : (es : List Entry) (c : Capability) (v : Content) (i : ℕ) → IsKept es → IsAt es c i → IsCapability c → Agrees c v → IsKept (set es i (c, v))
+pub kept-set : (es : List TableEntry) (c : Capability) (v : Content) (i : ℕ) → IsKept es → IsAt es c i → IsCapability c → Agrees c v → IsKept (set es i (c, v))
 kept-set es c v i kept at valid agrees =
-    let f : Entry → ℕ = λ e. rank_of e.0 in
-    let e : Entry = (c, v) in
+    let f : TableEntry → ℕ = λ e. rank_of e.0 in
+    let e : TableEntry = (c, v) in
     let same : map f (set es i e) ≡ map f es = map-set_same f es i e e (ap rank_of (sym (at.is_here e))) in
     record {
       rises = λ j k lt within. rw same (kept.rises j k lt (rw length-set at within));
       agree = All-set IsGood es i e (valid, agrees) kept.agree;
     }
 
-pub kept-insert : (es : List Entry) (c : Capability) (v : Content) (i : ℕ) → IsKept es → IsGapFor es c i → IsCapability c → Agrees c v → IsKept (insert es i (c, v))
+pub kept-insert : (es : List TableEntry) (c : Capability) (v : Content) (i : ℕ) → IsKept es → IsGapFor es c i → IsCapability c → Agrees c v → IsKept (insert es i (c, v))
 kept-insert es c v i kept gap valid agrees =
-    let f : Entry → ℕ = λ e. rank_of e.0 in
-    let e : Entry = (c, v) in
+    let f : TableEntry → ℕ = λ e. rank_of e.0 in
+    let e : TableEntry = (c, v) in
     let same : map f (insert es i e) ≡ insert (map f es) i (f e) = map-insert f es i e in
     let long : length (map f es) ≡ length es = length-map es f in
     let risen = rise-insert (map f es) i (f e) (λ j k lt within. kept.rises j k lt (omega arith)) (rw long gap.in_range) gap.before (λ j high within. gap.after j high (omega arith)) in
@@ -159,9 +159,9 @@ kept-insert es c v i kept gap valid agrees =
       agree = All-append IsGood (take i es) (e ∷ drop i es) (All-take IsGood i es kept.agree) (All-cons IsGood e (drop i es) (valid, agrees) (All-drop IsGood i es kept.agree));
     }
 
-pub kept-remove : (es : List Entry) (i : ℕ) → IsKept es → i < length es → IsKept (remove es i)
+pub kept-remove : (es : List TableEntry) (i : ℕ) → IsKept es → i < length es → IsKept (remove es i)
 kept-remove es i kept within =
-    let f : Entry → ℕ = λ e. rank_of e.0 in
+    let f : TableEntry → ℕ = λ e. rank_of e.0 in
     let same : map f (remove es i) ≡ remove (map f es) i = map-remove f es i in
     let long : length (map f es) ≡ length es = length-map es f in
     let risen = rise-remove (map f es) i (λ j k lt l. kept.rises j k lt (omega arith)) (rw long within) in
@@ -172,7 +172,7 @@ kept-remove es i kept within =
 
 -- ---- the same of what the entries were made of
 
-abbrev entry_of : Capability × Value → Entry
+abbrev entry_of : Capability × Value → TableEntry
 entry_of e = (e.0, content_of e.1)
 
 module _ (xs : List (Capability × Value)) (kept : IsKept (entries_of xs)) (c : Capability) where
@@ -200,7 +200,7 @@ module _ (xs : List (Capability × Value)) (kept : IsKept (entries_of xs)) (c : 
 
     pub sets-written : IsAt (entries_of xs) c i → SetsOnly (entries_of xs) (entries_of (set xs i (c, v))) c (Some (content_of v))
     sets-written at =
-        let e : Entry = (c, content_of v) in
+        let e : TableEntry = (c, content_of v) in
         subst (λ es. SetsOnly (entries_of xs) es c (Some (content_of v))) (sym written)
         (sets_only _ _ c _ (says-set (entries_of xs) c (content_of v) i e at.in_range (at.is_here e) (elsewhere (entries_of xs) kept c i at)))
 
@@ -221,7 +221,7 @@ module _ (xs : List (Capability × Value)) (kept : IsKept (entries_of xs)) (c : 
 
     pub sets-taken : SetsOnly (entries_of xs) (entries_of (remove xs i)) c None
     sets-taken =
-        let e : Entry = (c, content_true) in
+        let e : TableEntry = (c, content_true) in
         subst (λ es. SetsOnly (entries_of xs) es c None) (sym taken)
         (sets_only _ _ c _ (says-remove (entries_of xs) c i e at.in_range (at.is_here e) (elsewhere (entries_of xs) kept c i at)))
 

@@ -4,7 +4,7 @@ use Rattle.std.proofs.lemmas.List.{length-append, length-replicate}
 use Rattle.ti_caps.specs.declared.capability.Kind.TheVariants.{Flag, Number, Text}
 use Rattle.ti_layout.specs.declared.layout.Format.{Format}
 use Rattle.ti_layout.specs.declared.layout.Format.TheVariants.{Legacy, Extended}
-use Rattle.ti_layout.specs.Layout.{Sections, header, laid_out, limit, entry_size, number_section, width}
+use Rattle.ti_layout.specs.Layout.{Sections, header, entry_bytes, limit, entry_size, number_section, width}
 use Rattle.ti_layout.specs.Image.{image, even_gap, flags_below, format_of, limit_of, numbers_below, offsets_below, sections_of, texts_below, written_count}
 use Rattle.ti_layout.specs.Values.{Contents}
 use Rattle.ti_layout.proofs.Below.{length-below}
@@ -17,9 +17,9 @@ length-nine h n z f g m o s r = simp length-append
 sums : (h n z f g m o s r x y : ℕ) → h ≡ 12 → m ≡ x → o ≡ y → h + n + 1 + f + g + m + o + s + r ≡ 13 + n + f + g + x + y + s + r
 sums h n z f g m o s r x y a b c = omega arith
 
-pub length-laid_out : (w : Format) (s : Sections)
-    → length (laid_out w s) ≡ 13 + length s.names + length s.flags + length s.gap + width w * length s.numbers + 2 * length s.offsets + length s.strings + length s.rest
-length-laid_out w s =
+pub length-entry_bytes : (w : Format) (s : Sections)
+    → length (entry_bytes w s) ≡ 13 + length s.names + length s.flags + length s.gap + width w * length s.numbers + 2 * length s.offsets + length s.strings + length s.rest
+length-entry_bytes w s =
     let H = header w (suc (length s.names)) (length s.flags) (length s.numbers) (length s.offsets) (length s.strings) in
     let l = length-nine H s.names (0 ∷ []) s.flags s.gap (number_section w s.numbers) (number_section Legacy s.offsets) s.strings s.rest in
     let h : length H ≡ 12 = length-header w (suc (length s.names)) (length s.flags) (length s.numbers) (length s.offsets) (length s.strings) in
@@ -40,7 +40,7 @@ length-image names c =
     let g : length (even_gap names F) ≡ (suc (length names) + F) % 2 = length-replicate ((suc (length names) + F) % 2) 0 in
     let m : length (numbers_below w c (written_count c Number)) ≡ written_count c Number = length-below _ (written_count c Number) in
     let o : length (offsets_below c (written_count c Text)) ≡ written_count c Text = length-below _ (written_count c Text) in
-    length-laid_out w (sections_of w names c) ∙ rw (f, g, m, o) (whole _ _ _ _ _ _)
+    length-entry_bytes w (sections_of w names c) ∙ rw (f, g, m, o) (whole _ _ _ _ _ _)
 
 pub limit-le : (w : Format) → limit w ≤ 32768
 limit-le Legacy = omega arith

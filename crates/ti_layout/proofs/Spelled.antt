@@ -3,7 +3,7 @@ use Rattle.std.proofs.Common.{◌≡◌, ℕ, zero, suc, ◌+◌, ◌*◌, ◌/�
 use Rattle.std.proofs.lemmas.List.{length-append, length-drop, get_or-drop, take_all, same_lists, get_or_default}
 use Rattle.ti_layout.specs.declared.layout.Format.{Format}
 use Rattle.ti_layout.specs.declared.layout.Format.TheVariants.{Legacy, Extended}
-use Rattle.ti_layout.specs.Layout.{width, absent, number_bytes, number_section}
+use Rattle.ti_layout.specs.Layout.{width, absent_mark, number_bytes, number_section}
 use Rattle.ti_layout.specs.Image.{below}
 use Rattle.ti_layout.specs.Reading.{number_at, count_in, numbers_in}
 use Rattle.ti_layout.proofs.Below.{below-none, below-more, length-below, get_or-below}
@@ -58,7 +58,7 @@ length-spelled w (n ∷ ns) =
     omega arith
 
 -- an absent number is spelled by the byte 255 alone
-pub spelled-absent : (w : Format) (k : ℕ) → number_section w (replicate k (absent w)) ≡ replicate (width w * k) 255
+pub spelled-absent : (w : Format) (k : ℕ) → number_section w (replicate k (absent_mark w)) ≡ replicate (width w * k) 255
 unfolding number_section
 spelled-absent w zero = ap (λ n. replicate {A = ℕ} n 255) (sym (place_none w))
 spelled-absent Legacy (suc k) = let e : 2 * suc k ≡ suc (suc (2 * k)) = omega arith in ap (λ t. 255 ∷ 255 ∷ t) (spelled-absent Legacy k) ∙ ap (λ n. replicate {A = ℕ} n 255) (sym e)
@@ -138,7 +138,7 @@ length-numbers_in w b n long = length-below _ (count_in w b) ∙ ap (λ k. k / w
 
 -- ---- spelled, and read again
 
-pub number_at-here : (w : Format) (n : ℕ) (r : List ℕ) → n ≤ absent w → number_at w 0 (number_bytes w n ++ r) ≡ n
+pub number_at-here : (w : Format) (n : ℕ) (r : List ℕ) → n ≤ absent_mark w → number_at w 0 (number_bytes w n ++ r) ≡ n
 number_at-here Legacy n r fits = omega arith
 number_at-here Extended n r fits = omega arith
 
@@ -151,7 +151,7 @@ number_at-behind Extended n at r =
     let e3 : at + 4 + 3 ≡ suc (suc (suc (suc (at + 3)))) = omega arith in
     rw (e1, e2, e3, e0) refl
 
-pub number_read : (w : Format) (ns : List ℕ) (i : ℕ) → All (λ n. n ≤ absent w) ns → i < length ns → number_at w (width w * i) (number_section w ns) ≡ get_or ns i 0
+pub number_read : (w : Format) (ns : List ℕ) (i : ℕ) → All (λ n. n ≤ absent_mark w) ns → i < length ns → number_at w (width w * i) (number_section w ns) ≡ get_or ns i 0
 unfolding number_section
 number_read w [] i fit within = absurd (omega arith)
 number_read w (n ∷ ns) zero fit within = ap (λ k. number_at w k (number_bytes w n ++ number_section w ns)) (place_none w) ∙ number_at-here w n (number_section w ns) (fit 0 0 (omega arith))
@@ -159,7 +159,7 @@ number_read w (n ∷ ns) (suc i) fit within =
     ap (λ k. number_at w k (number_bytes w n ++ number_section w ns)) (place_more w i) ∙ number_at-behind w n (width w * i) (number_section w ns)
     ∙ number_read w ns i (λ k d lt. fit (suc k) d (omega arith)) (omega arith)
 
-pub numbers-again : (w : Format) (ns : List ℕ) → All (λ n. n ≤ absent w) ns → numbers_in w (number_section w ns) ≡ ns
+pub numbers-again : (w : Format) (ns : List ℕ) → All (λ n. n ≤ absent_mark w) ns → numbers_in w (number_section w ns) ≡ ns
 numbers-again w ns fit =
     let f : ℕ → ℕ = λ i. number_at w (width w * i) (number_section w ns) in
     let c : count_in w (number_section w ns) ≡ length ns = ap (λ k. k / width w) (length-spelled w ns) ∙ counted w (length ns) in

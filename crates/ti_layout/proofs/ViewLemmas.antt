@@ -9,9 +9,9 @@ use Rattle.ti_caps.specs.declared.capability.Kind.TheVariants.{Number, Text}
 use Rattle.ti_caps.specs.Tables.{Capability}
 use Rattle.ti_layout.specs.declared.layout.Format.{Format}
 use Rattle.ti_layout.specs.declared.layout.Format.TheVariants.{Legacy}
-use Rattle.ti_layout.specs.Layout.{negative, width}
+use Rattle.ti_layout.specs.Layout.{first_negative, width}
 use Rattle.ti_layout.specs.Reading.{word_at, number_at, count_in, numbers_in, number_of, text_from, text_of, says, contents_of}
-use Rattle.ti_layout.specs.Shown.{shown_number, shown_text}
+use Rattle.ti_layout.specs.View.{shown_number, shown_text}
 use Rattle.ti_layout.proofs.Below.{slice_get-below, slice_get-past_below}
 
 -- the rest of a list, as a slice of it is seen
@@ -46,11 +46,11 @@ module _ (w : Format) (flags numbers offsets strings : List ℕ) (c : Capability
   said : (n : ℕ) → c.index < count_in w numbers → n ≡ number_at w (width w * c.index) numbers → contents_of w flags (numbers_in w numbers) offsets strings c ≡ number_of w n
   said n lt e = says-number w flags (numbers_in w numbers) offsets strings c is_number ∙ ap (option_and_then (number_of w)) (numbers_in-there w numbers c.index lt) ∙ ap (number_of w) (sym e)
 
-  pub number_plain : (n : ℕ) → c.index < count_in w numbers → n ≡ number_at w (width w * c.index) numbers → n < negative w → Some n ≡ shown_number (contents_of w flags (numbers_in w numbers) offsets strings c)
-  number_plain n lt e plain = let a : ltb n (negative w) ≡ true = lt-ltb _ _ plain in rw (said n lt e, a)
+  pub number_plain : (n : ℕ) → c.index < count_in w numbers → n ≡ number_at w (width w * c.index) numbers → n < first_negative w → Some n ≡ shown_number (contents_of w flags (numbers_in w numbers) offsets strings c)
+  number_plain n lt e plain = let a : ltb n (first_negative w) ≡ true = lt-ltb _ _ plain in rw (said n lt e, a)
 
-  pub number_void : (n : ℕ) → c.index < count_in w numbers → n ≡ number_at w (width w * c.index) numbers → negative w ≤ n → None ≡ shown_number (contents_of w flags (numbers_in w numbers) offsets strings c)
-  number_void n lt e void = let a : ltb n (negative w) ≡ false = le-ltb _ _ void in rw (said n lt e, a)
+  pub number_void : (n : ℕ) → c.index < count_in w numbers → n ≡ number_at w (width w * c.index) numbers → first_negative w ≤ n → None ≡ shown_number (contents_of w flags (numbers_in w numbers) offsets strings c)
+  number_void n lt e void = let a : ltb n (first_negative w) ≡ false = le-ltb _ _ void in rw (said n lt e, a)
 
 module _ (w : Format) (flags numbers offsets strings : List ℕ) (c : Capability) (is_text : c.kind ≡ Text) where
   pub text_past : count_in Legacy offsets ≤ c.index → None ≡ shown_text (contents_of w flags numbers (numbers_in Legacy offsets) strings c)

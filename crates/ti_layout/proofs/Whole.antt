@@ -4,10 +4,10 @@ use Rattle.std.proofs.lemmas.List.{take_all, take_more, take-append-drop, length
 use Rattle.std.proofs.lemmas.Bool.{cases_lt}
 use Rattle.ti_layout.specs.declared.layout.Format.{Format}
 use Rattle.ti_layout.specs.declared.layout.Format.TheVariants.{Legacy}
-use Rattle.ti_layout.specs.Layout.{Sections, header, laid_out, magic, number_bytes, number_section, width}
+use Rattle.ti_layout.specs.Layout.{Sections, header, entry_bytes, magic, number_bytes, number_section, width}
 use Rattle.ti_layout.specs.Reading.{word_at, number_at, count_in, numbers_in, AreSound, IsNumber, IsOffset, Reads, contents_of, format_in, names_size, flag_count, number_count, text_count, strings_size, flags_place, numbers_place, offsets_place, strings_place, end_place, names_section, flags_section, numbers_section, offsets_section, strings_section}
-use Rattle.ti_layout.specs.Cutting.{AreNames, AreFlags, AreNumbers, AreOffsets, EachNumber}
-use Rattle.ti_layout.specs.Sound.{OffsetsEnd}
+use Rattle.ti_layout.specs.inside.Cutting.{AreNames, AreFlags, AreNumbers, AreOffsets, EachNumber}
+use Rattle.ti_layout.specs.inside.Sound.{OffsetsEnd}
 use Rattle.ti_layout.proofs.Below.{length-below, get_or-below}
 use Rattle.ti_layout.proofs.Spelled.{IsBytes, part-number, spelled-again, length-numbers_in}
 
@@ -112,7 +112,7 @@ header_of-lengths b l named =
     let strings = l.strings in
     rw (n, flags, numbers, offsets, strings) refl
 
-pub cut_whole : (b : List ℕ) → IsBytes b → 12 ≤ length b → word_at 0 b ≡ magic (format_in b) → end_place b ≤ length b → AreNames (names_section b) → b ≡ laid_out (format_in b) (sections_in b)
+pub cut_whole : (b : List ℕ) → IsBytes b → 12 ≤ length b → word_at 0 b ≡ magic (format_in b) → end_place b ≤ length b → AreNames (names_section b) → b ≡ entry_bytes (format_in b) (sections_in b)
 unfolding sections_in
 cut_whole b fits long known whole named =
     let w = format_in b in

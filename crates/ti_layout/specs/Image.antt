@@ -1,11 +1,12 @@
 -- The bytes of a compiled entry as they are written (term(5)): the layout of a names field and of what the capabilities have.
+use Rattle.ti_text.specs.Limits.{legacy_number_max}
 use Rattle.std.specs.Prelude.{ℕ, zero, suc, ◌+◌, ◌%◌, Bool, true, false, nat_lt, if◌then◌else◌, List, [], ◌∷◌, ◌++◌, length, replicate, Option, Some, None}
 use Rattle.ti_caps.specs.Tables.{capability, count_of}
 use Rattle.ti_caps.specs.declared.capability.Kind.{Kind}
 use Rattle.ti_caps.specs.declared.capability.Kind.TheVariants.{Flag, Number, Text}
 use Rattle.ti_layout.specs.declared.layout.Format.{Format}
 use Rattle.ti_layout.specs.declared.layout.Format.TheVariants.{Legacy, Extended}
-use Rattle.ti_layout.specs.Layout.{Sections, absent, laid_out, limit}
+use Rattle.ti_layout.specs.Layout.{Sections, absent_mark, entry_bytes, limit}
 use Rattle.ti_layout.specs.Values.{Content, content_true, content_number, content_text, content_cancelled, Contents}
 pub use Rattle.ti_layout.specs.Values.{HasNoNul}
 
@@ -82,7 +83,7 @@ offset_value offset (Some content_cancelled) = 65535
 abbrev pub is_wide : Option Content → Bool
 is_wide None = false
 is_wide (Some content_true) = false
-is_wide (Some (content_number n)) = nat_lt 32767 n
+is_wide (Some (content_number n)) = nat_lt legacy_number_max n
 is_wide (Some (content_text t)) = false
 is_wide (Some content_cancelled) = false
 
@@ -106,7 +107,7 @@ flags_below contents n = below (λ i. flag_value (of_kind contents Flag i)) n
 
 -- each number below n
 abbrev pub numbers_below : Format → Contents → ℕ → List ℕ
-numbers_below format contents n = below (λ i. number_value (absent format) (of_kind contents Number i)) n
+numbers_below format contents n = below (λ i. number_value (absent_mark format) (of_kind contents Number i)) n
 
 -- the texts below n, one after the other, each with its NUL
 unfoldable pub texts_below : Contents → ℕ → List ℕ
@@ -135,4 +136,4 @@ sections_of format names contents = record {
 
 -- The compiled entry of a names field and of what the capabilities have.
 unfoldable pub image : List ℕ → Contents → List ℕ
-image names contents = laid_out (format_of contents) (sections_of (format_of contents) names contents)
+image names contents = entry_bytes (format_of contents) (sections_of (format_of contents) names contents)

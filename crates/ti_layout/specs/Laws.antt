@@ -1,4 +1,5 @@
 -- What ties reading to writing (term(5)).
+use Rattle.ti_text.specs.Limits.{names_max}
 use Rattle.std.specs.Prelude.{◌≡◌, ℕ, ◌<◌, ◌≤◌, List, length, Option, Some, None}
 use Rattle.ti_caps.specs.Tables.{Capability, IsCapability}
 use Rattle.ti_layout.specs.Values.{Content, content_cancelled, Contents, AgreesIfSome, HasNoNul}
@@ -15,7 +16,7 @@ without_cancel (Some content) = Some content
 -- is read as those names and those contents, with cancelled as absent.
 abbrev pub ImagesAreRead : Type 0
 ImagesAreRead =
-    (names : List ℕ) (contents : Contents) → 0 < length names → length names ≤ 127 → HasNoNul names
+    (names : List ℕ) (contents : Contents) → 0 < length names → length names ≤ names_max → HasNoNul names
     → ((c : Capability) → IsCapability c → AgreesIfSome c (contents c)) → length (image names contents) ≤ limit_of contents
     → (read : Contents) × Reads (image names contents) names read × ((c : Capability) → IsCapability c → read c ≡ without_cancel (contents c))
 

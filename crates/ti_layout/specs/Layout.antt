@@ -1,5 +1,6 @@
 -- The layout of a compiled entry (term(5), "Legacy storage format" and "Extended number format"): six numbers, and then the
 -- sections that they size. The two formats differ in the first number and in the bytes that the number of a capability takes.
+use Rattle.ti_text.specs.Limits.{entry_max, extended_entry_max}
 use Rattle.std.specs.Prelude.{ℕ, suc, ◌+◌, ◌*◌, ◌/◌, ◌%◌, List, [], ◌∷◌, ◌++◌, length}
 use Rattle.ti_layout.specs.declared.layout.Format.{Format}
 use Rattle.ti_layout.specs.declared.layout.Format.TheVariants.{Legacy, Extended}
@@ -17,24 +18,24 @@ width Legacy = 2
 width Extended = 4
 
 -- the first number that is negative as a signed number
-abbrev pub negative : Format → ℕ
-negative Legacy = 32768
-negative Extended = 2147483648
+abbrev pub first_negative : Format → ℕ
+first_negative Legacy = 32768
+first_negative Extended = 2147483648
 
 -- -2, which stands for cancelled
-abbrev pub cancelled : Format → ℕ
-cancelled Legacy = 65534
-cancelled Extended = 4294967294
+abbrev pub cancelled_mark : Format → ℕ
+cancelled_mark Legacy = 65534
+cancelled_mark Extended = 4294967294
 
 -- -1, which stands for absent
-abbrev pub absent : Format → ℕ
-absent Legacy = 65535
-absent Extended = 4294967295
+abbrev pub absent_mark : Format → ℕ
+absent_mark Legacy = 65535
+absent_mark Extended = 4294967295
 
 -- the most bytes of an entry (own)
 abbrev pub limit : Format → ℕ
-limit Legacy = 4096
-limit Extended = 32768
+limit Legacy = entry_max
+limit Extended = extended_entry_max
 
 -- ---- numbers as bytes, the low one first
 
@@ -67,8 +68,8 @@ abbrev pub header : Format → ℕ → ℕ → ℕ → ℕ → ℕ → List ℕ
 header format names flags numbers offsets strings = number_section Legacy (magic format ∷ names ∷ flags ∷ numbers ∷ offsets ∷ strings ∷ [])
 
 -- the bytes of an entry with these sections: the header with their sizes, and then they in this order
-abbrev pub laid_out : Format → Sections → List ℕ
-laid_out format s =
+abbrev pub entry_bytes : Format → Sections → List ℕ
+entry_bytes format s =
     header format (suc (length s.names)) (length s.flags) (length s.numbers) (length s.offsets) (length s.strings)
     ++ s.names ++ 0 ∷ [] ++ s.flags ++ s.gap ++ number_section format s.numbers ++ number_section Legacy s.offsets ++ s.strings ++ s.rest
 

@@ -2,10 +2,7 @@ pub mod Values
 pub mod Layout
 pub mod Image
 pub mod Reading
-pub mod Cutting
-pub mod Shown
-pub mod Sound
+pub mod inside
+pub mod View
 pub mod Laws
 pub mod Sizes
-pub mod Merging
-pub mod Mentions

@@ -8,7 +8,7 @@ use Rattle.ti_layout.specs.declared.fault.ReadError.TheVariants.{Short, Magic, C
 use Rattle.ti_layout.specs.declared.layout.Format.{Format}
 use Rattle.ti_layout.specs.declared.layout.Format.TheVariants.{Legacy, Extended}
 use Rattle.ti_layout.specs.Image.{below}
-use Rattle.ti_layout.specs.Layout.{Sections, absent, cancelled, laid_out, magic, negative, width}
+use Rattle.ti_layout.specs.Layout.{Sections, absent_mark, cancelled_mark, entry_bytes, magic, first_negative, width}
 use Rattle.ti_layout.specs.Values.{Content, content_true, content_number, content_text, Contents, HasNoNul}
 
 -- ---- the numbers that bytes spell
@@ -39,11 +39,11 @@ IsFlagByte b = (b < 2) ⊎ (254 ≤ b)
 
 -- not negative as a signed number
 abbrev pub IsPlain : Format → ℕ → Type 0
-IsPlain format n = n < negative format
+IsPlain format n = n < first_negative format
 
 -- -1 and -2: absent, cancelled
 abbrev pub IsVoid : Format → ℕ → Type 0
-IsVoid format n = (cancelled format ≤ n) × (n ≤ absent format)
+IsVoid format n = (cancelled_mark format ≤ n) × (n ≤ absent_mark format)
 
 -- a NUL stands at the offset or after it, within the table
 abbrev pub HasEnd : List ℕ → ℕ → Type 0
@@ -79,7 +79,7 @@ flag_of b = if b == 1 then Some content_true else None
 
 -- what the number of a place says: itself, or absent where it is negative
 abbrev pub number_of : Format → ℕ → Option Content
-number_of format n = if nat_lt n (negative format) then Some (content_number n) else None
+number_of format n = if nat_lt n (first_negative format) then Some (content_number n) else None
 
 -- the bytes from an offset to before the first NUL
 abbrev pub text_from : List ℕ → ℕ → List ℕ
@@ -87,7 +87,7 @@ text_from strings offset = before_first (λ b. b == 0) (drop offset strings)
 
 -- what an offset says: the text that begins there, or absent where it is negative
 abbrev pub text_of : List ℕ → ℕ → Option Content
-text_of strings n = if nat_lt n (negative Legacy) then Some (content_text (text_from strings n)) else None
+text_of strings n = if nat_lt n (first_negative Legacy) then Some (content_text (text_from strings n)) else None
 
 -- what the sections say of the capability of a kind and an index, absent past the section's end
 abbrev pub says : Format → List ℕ → List ℕ → List ℕ → List ℕ → Kind → ℕ → Option Content
@@ -104,7 +104,7 @@ pub record Reads (bytes names : List ℕ) (contents : Contents) : Type 0 where
   pub format : Format
   pub sections : Sections
   pub sound : AreSound format sections
-  pub whole : bytes ≡ laid_out format sections
+  pub whole : bytes ≡ entry_bytes format sections
   pub named : names ≡ sections.names
   pub held : contents ≡ contents_of format sections.flags sections.numbers sections.offsets sections.strings
 
@@ -196,23 +196,23 @@ SomeNumber format section P = (k : ℕ) × (k < count_in format section) × P (n
 
 -- below -2 as a signed number
 abbrev pub HasBadNumber : Format → List ℕ → Type 0
-HasBadNumber format numbers = SomeNumber format numbers (λ n. (negative format ≤ n) × (n < cancelled format))
+HasBadNumber format numbers = SomeNumber format numbers (λ n. (first_negative format ≤ n) × (n < cancelled_mark format))
 
 -- Below -2, at or past the table's size, or with no NUL behind it in the table: in each case no NUL
 -- stands at it or after it in the table, whose size is below 32,768.
 abbrev pub HasBadOffset : List ℕ → List ℕ → Type 0
-HasBadOffset offsets strings = SomeNumber Legacy offsets (λ n. (n < cancelled Legacy) × ¬ HasEnd strings n)
+HasBadOffset offsets strings = SomeNumber Legacy offsets (λ n. (n < cancelled_mark Legacy) × ¬ HasEnd strings n)
 
 -- what each refusal says of the bytes
-abbrev pub Holds : List ℕ → ReadError → Type 0
-Holds bytes Short = length bytes < 12
-Holds bytes Magic = (word_at 0 bytes ≢ magic Legacy) × (word_at 0 bytes ≢ magic Extended)
-Holds bytes Counts = HasBadCount bytes
-Holds bytes Truncated = length bytes < end_place bytes
-Holds bytes BadNames = HasBadNames (names_section bytes)
-Holds bytes BadFlag = HasBadFlag (flags_section bytes)
-Holds bytes BadNumber = HasBadNumber (format_in bytes) (numbers_section bytes)
-Holds bytes BadOffset = HasBadOffset (offsets_section bytes) (strings_section bytes)
+abbrev pub HasReadFault : List ℕ → ReadError → Type 0
+HasReadFault bytes Short = length bytes < 12
+HasReadFault bytes Magic = (word_at 0 bytes ≢ magic Legacy) × (word_at 0 bytes ≢ magic Extended)
+HasReadFault bytes Counts = HasBadCount bytes
+HasReadFault bytes Truncated = length bytes < end_place bytes
+HasReadFault bytes BadNames = HasBadNames (names_section bytes)
+HasReadFault bytes BadFlag = HasBadFlag (flags_section bytes)
+HasReadFault bytes BadNumber = HasBadNumber (format_in bytes) (numbers_section bytes)
+HasReadFault bytes BadOffset = HasBadOffset (offsets_section bytes) (strings_section bytes)
 
 -- the order in which they are looked for
 abbrev pub rank : ReadError → ℕ
@@ -227,12 +227,12 @@ rank BadOffset = 8
 
 -- the refusal holds, and none before it does
 pub record Refused (bytes : List ℕ) (error : ReadError) : Type 0 where
-  pub holds : Holds bytes error
-  pub first : (earlier : ReadError) → rank earlier < rank error → ¬ Holds bytes earlier
+  pub holds : HasReadFault bytes error
+  pub first : (earlier : ReadError) → rank earlier < rank error → ¬ HasReadFault bytes earlier
 
 -- Bytes are an entry in one way at most, are refused in one way at most, and never both.
-abbrev pub OneReading : Type 0
-OneReading =
+abbrev pub EntriesHaveOneReading : Type 0
+EntriesHaveOneReading =
     ((bytes m n : List ℕ) (c d : Contents) → Reads bytes m c → Reads bytes n d → (m ≡ n) × (c ≡ d))
     × ((bytes : List ℕ) (e f : ReadError) → Refused bytes e → Refused bytes f → e ≡ f)
     × ((bytes names : List ℕ) (c : Contents) (e : ReadError) → Reads bytes names c → Refused bytes e → ⊥)

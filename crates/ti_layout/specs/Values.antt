@@ -1,4 +1,5 @@
 -- What an entry has of a capability (term(5)), apart from where it lies in memory.
+use Rattle.ti_text.specs.Limits.{number_max}
 use Rattle.std.specs.Prelude.{◌≡◌, ◌≢◌, ℕ, ◌+◌, ◌<◌, ◌≤◌, if◌then◌else◌, List, [], ◌∷◌, map, length, slice_index, slice_index_or, All, Option, Some, None}
 use Rattle.std.specs.Rc.{rc_slice_items}
 pub use Rattle.ti_text.specs.Texts.{HasNoNul}
@@ -27,10 +28,10 @@ content_of (v.Number n) = content_number n
 content_of (v.Text t) = content_text (rc_slice_items t)
 content_of Cancelled = content_cancelled
 
--- the capability may have the content: the kinds agree, a number is at most 2,147,483,647, a text has no NUL
+-- the capability may have the content: the kinds agree, a number is no greater than one may be, a text has no NUL
 abbrev pub Agrees : Capability → Content → Type 0
 Agrees c content_true = c.kind ≡ Flag
-Agrees c (content_number n) = (c.kind ≡ Number) × (n ≤ 2147483647)
+Agrees c (content_number n) = (c.kind ≡ Number) × (n ≤ number_max)
 Agrees c (content_text t) = (c.kind ≡ Text) × HasNoNul t
 Agrees c content_cancelled = Unit {0}
 
@@ -42,15 +43,15 @@ AgreesIfSome c (Some content) = Agrees c content
 -- ---- own: a table as a list of capabilities with what they have
 
 -- a capability, and what it has
-abbrev pub Entry : Type 0
-Entry = Capability × Content
+abbrev pub TableEntry : Type 0
+TableEntry = Capability × Content
 
 -- the entries of a slice of capabilities and values
-abbrev pub entries_of : List (Capability × Value) → List Entry
+abbrev pub entries_of : List (Capability × Value) → List TableEntry
 entries_of held = map (λ e. (e.0, content_of e.1)) held
 
 -- what the entries say of a capability
-unfoldable pub contents : List Entry → Contents
+unfoldable pub contents : List TableEntry → Contents
 contents [] c = None
 contents (e ∷ es) c = if same_capability e.0 c then Some e.1 else contents es c
 
@@ -65,26 +66,26 @@ abbrev pub rank_of : Capability → ℕ
 rank_of c = rank_in c.kind + c.index
 
 -- the place of the entry at i
-abbrev pub rank_at : List Entry → ℕ → ℕ
+abbrev pub rank_at : List TableEntry → ℕ → ℕ
 rank_at es i = slice_index (map (λ e. rank_of e.0) es) i
 
 -- each capability comes after those before it, and may have what it has
-pub record IsKept (es : List Entry) : Type 0 where
+pub record IsKept (es : List TableEntry) : Type 0 where
   pub rises : (i j : ℕ) → i < j → j < length es → rank_at es i < rank_at es j
   pub agree : All (λ e. IsCapability e.0 × Agrees e.0 e.1) es
 
 -- the capability stands at place i
-pub record IsAt (es : List Entry) (c : Capability) (i : ℕ) : Type 0 where
+pub record IsAt (es : List TableEntry) (c : Capability) (i : ℕ) : Type 0 where
   pub in_range : i < length es
-  pub is_here : (e : Entry) → (slice_index_or es i e).0 ≡ c
+  pub is_here : (e : TableEntry) → (slice_index_or es i e).0 ≡ c
 
 -- the capability would stand at place i
-pub record IsGapFor (es : List Entry) (c : Capability) (i : ℕ) : Type 0 where
+pub record IsGapFor (es : List TableEntry) (c : Capability) (i : ℕ) : Type 0 where
   pub in_range : i ≤ length es
   pub before : (j : ℕ) → j < i → rank_at es j < rank_of c
   pub after : (j : ℕ) → i ≤ j → j < length es → rank_of c < rank_at es j
 
 -- the new entries give the capability this content, and say of every other one what the old ones say
-pub record SetsOnly (old new : List Entry) (c : Capability) (content : Option Content) : Type 0 where
+pub record SetsOnly (old new : List TableEntry) (c : Capability) (content : Option Content) : Type 0 where
   pub this_one : contents new c ≡ content
   pub others : (d : Capability) → d ≢ c → contents new d ≡ contents old d

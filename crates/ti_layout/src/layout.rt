@@ -3,6 +3,8 @@ ghost use Rattle.std.specs.Prelude.{◌≡◌, ◌≤◌, ◌<◌};
 ghost use Rattle.ti_layout.specs.Layout as layout;
 ghost use Rattle.ti_layout.specs.Sizes.{at_most_max};
 
+use ti_text::limits::{ENTRY_MAX, EXTENDED_ENTRY_MAX};
+
 /// The bytes of a header.
 pub const HEADER_SIZE: usize = 12;
 
@@ -40,8 +42,8 @@ impl Format {
     }
 
     /// The first number that is negative as a signed number.
-    pub fn negative(self) -> u32
-        ensures { result ≡ layout.negative self }
+    pub fn first_negative(self) -> u32
+        ensures { result ≡ layout.first_negative self }
     {
         match self {
             Format::Legacy => 0x8000,
@@ -50,8 +52,8 @@ impl Format {
     }
 
     /// -2, which stands for a cancelled number; -1 stands for an absent one.
-    pub fn cancelled(self) -> u32
-        ensures { result ≡ layout.cancelled self }
+    pub fn cancelled_mark(self) -> u32
+        ensures { result ≡ layout.cancelled_mark self }
     {
         match self {
             Format::Legacy => 0xfffe,
@@ -64,8 +66,8 @@ impl Format {
         ensures { result ≡ layout.limit self }
     {
         match self {
-            Format::Legacy => 4096,
-            Format::Extended => 32768,
+            Format::Legacy => ENTRY_MAX,
+            Format::Extended => EXTENDED_ENTRY_MAX,
         }
     }
 }

@@ -2,7 +2,7 @@
 ghost use Rattle.std.specs.Prelude.{◌≡◌, ◌<◌, ◌≤◌, [], length, All, Some, None, IfOk, OnOk, if◌then◌else◌};
 ghost use Rattle.std.specs.Option.{option_or};
 ghost use Rattle.ti_caps.specs.Tables.{Capability, IsCapability, same_capability};
-ghost use Rattle.ti_layout.specs.Mentions.{ArePlaces};
+ghost use Rattle.ti_layout.specs.inside.Mentions.{ArePlaces};
 ghost use Rattle.ti_layout.specs.Values.{contents, content_of, entries_of, Agrees, IsKept};
 
 use crate::merging::{copy_of, push_copy};
@@ -110,9 +110,9 @@ pub struct Mentions {
 
 impl Model for Mentions {
     ghost use Rattle.std.specs.Prelude.{◌≤◌, ◌++◌, length, All, List};
-    ghost use Rattle.ti_layout.specs.Values.{Agrees, Entry, entries_of};
+    ghost use Rattle.ti_layout.specs.Values.{Agrees, TableEntry, entries_of};
 
-    ghost Value = { List Entry };
+    ghost Value = { List TableEntry };
 
     ghost view = { λ m. m.table ++ entries_of m.recent.items };
 

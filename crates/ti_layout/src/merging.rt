@@ -3,7 +3,7 @@
 ghost use Rattle.std.specs.Prelude.{◌≡◌, ◌++◌, ◌∷◌, [], IfOk, OnOk, MatchOption};
 ghost use Rattle.std.specs.Option.{option_or};
 ghost use Rattle.ti_caps.specs.Tables.{Capability};
-ghost use Rattle.ti_layout.specs.Merging.{IsPastBoth, TurnIs};
+ghost use Rattle.ti_layout.specs.inside.Merging.{IsPastBoth, TurnIs};
 ghost use Rattle.ti_layout.specs.Values.{contents, content_of, entries_of, IsKept};
 
 use crate::values::{Value, rank};

@@ -2,7 +2,7 @@
 ghost use Rattle.std.specs.Prelude.{◌≡◌, ◌+◌, ◌*◌, ◌<◌, ◌≤◌, length, MatchBool, IfOk, IfErr};
 ghost use Rattle.ti_layout.specs.Layout as layout;
 ghost use Rattle.ti_layout.specs.Reading.{word_at, number_at, Refused, HasBadNames, HasBadFlag, HasBadNumber, HasBadOffset};
-ghost use Rattle.ti_layout.specs.Cutting.{HasHeader, IsCut, AreNames, AreFlags, AreNumbers, AreOffsets};
+ghost use Rattle.ti_layout.specs.inside.Cutting.{HasHeader, IsCutIntoSections, AreNames, AreFlags, AreNumbers, AreOffsets};
 
 use crate::fault::ReadError;
 use crate::layout::{Format, HEADER_SIZE, Header};
@@ -44,7 +44,7 @@ pub fn word(bytes: &[u8], at: usize) -> usize
 pub fn number(bytes: &[u8], at: usize, format: Format) -> u32
     requires { at + layout.width format ≤ length bytes.now }
     ensures value { result ≡ number_at format at bytes.now }
-    ensures fits { result ≤ layout.absent format }
+    ensures fits { result ≤ layout.absent_mark format }
 {
     let rest = &bytes[at..];
     match format {
@@ -87,7 +87,7 @@ fn read_header(bytes: &[u8]) -> Result<Header, ReadError>
 
 /// The sections, or the first of Short, Magic, Counts and Truncated that holds.
 pub fn cut(bytes: &[u8]) -> Result<Sections<'_>, ReadError>
-    ensures found { IfOk result (λ s. IsCut bytes.now s) }
+    ensures found { IfOk result (λ s. IsCutIntoSections bytes.now s) }
     ensures refused { IfErr result (λ e. Refused bytes.now e) }
 {
     let header = read_header(bytes)?;
@@ -134,7 +134,7 @@ pub fn are_numbers(numbers: &[u8], format: Format) -> bool
     let width = format.width();
     for index in 0..numbers.len() / width {
         let number = number(numbers, width * index, format);
-        if number >= format.negative() && number < format.cancelled() {
+        if number >= format.first_negative() && number < format.cancelled_mark() {
             return false;
         }
     }

@@ -31,9 +31,9 @@ pub struct Table {
 
 impl Model for Table {
     ghost use Rattle.std.specs.Prelude.{List};
-    ghost use Rattle.ti_layout.specs.Values.{Entry, IsKept, entries_of};
+    ghost use Rattle.ti_layout.specs.Values.{TableEntry, IsKept, entries_of};
 
-    ghost Value = { List Entry };
+    ghost Value = { List TableEntry };
 
     ghost view = { λ t. entries_of t.entries.items };
 

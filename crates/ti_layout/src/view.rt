@@ -4,7 +4,7 @@ ghost use Rattle.std.specs.List.{before_first};
 ghost use Rattle.std.specs.Option.{option_copied};
 ghost use Rattle.ti_caps.specs.declared.capability.Kind.TheVariants.{Flag, Number, Text};
 ghost use Rattle.ti_layout.specs.Reading.{Reads, Refused};
-ghost use Rattle.ti_layout.specs.Sound.{OffsetsEnd};
+ghost use Rattle.ti_layout.specs.inside.Sound.{OffsetsEnd};
 
 use crate::fault::ReadError;
 use crate::layout::Format;
@@ -34,7 +34,7 @@ pub struct View<'a> {
 
 impl<'a> View<'a> {
     ghost use Rattle.ti_text.specs.Ascii as ascii;
-    ghost use Rattle.ti_layout.specs.Shown.{names_of, view_contents, shown_flag, shown_number, shown_text};
+    ghost use Rattle.ti_layout.specs.View.{names_of, view_contents, shown_flag, shown_number, shown_text};
 
     /// Reads an entry. One pass over the sections and one search of the string table: the time is
     /// linear in the bytes, however many offsets lead into one text.
@@ -103,7 +103,7 @@ impl<'a> View<'a> {
             return None;
         }
         let number = number(self.numbers, width * cap.index(), self.format);
-        if number < self.format.negative() {
+        if number < self.format.first_negative() {
             Some(number)
         } else {
             None

@@ -2,6 +2,7 @@
 // so each section is laid in one walk over them: what is absent before a value is filled up in one
 // step, and what is absent behind the last value is not written.
 ghost use Rattle.std.specs.Prelude.{◌≡◌, ◌≢◌, ◌<◌, ◌≤◌, ◌↔◌, ◌+◌, ◌*◌, ◌++◌, [], length, replicate, Some, IfOk, IsErrOf, OnOk};
+ghost use Rattle.ti_text.specs.Limits.{names_max};
 ghost use Rattle.ti_caps.specs.declared.capability.Kind.TheVariants.{Flag, Number, Text};
 ghost use Rattle.ti_layout.specs.Image.{is_wide as is_wide_content};
 ghost use Rattle.ti_layout.specs.Image.{image, format_of, limit_of, written_count, flags_below, numbers_below, texts_below, offsets_below, HasNoNul};
@@ -17,12 +18,7 @@ use byteorder::{ByteOrder, LittleEndian};
 use std::alloc::{AllocError, Global};
 use thiserror::Error;
 use ti_caps::Cap;
-
-// The most bytes of names.
-const NAMES_MAX: usize = 127;
-
-// The greatest number of the legacy format.
-const SHORT_MAX: u32 = 32767;
+use ti_text::limits::{LEGACY_NUMBER_MAX, NAMES_MAX};
 
 // A number or an offset that is absent has this in each of its bytes.
 const ABSENT: u8 = 0xFF;
@@ -58,12 +54,12 @@ impl From<AllocError> for WriteError {
 pub fn write(alloc: Global, names: &[u8], table: &Table) -> Result<Vec<u8>, WriteError>
     requires present { names.now ≢ [] }
     requires no_nul { HasNoNul names.now }
-    ensures ok { IfOk result (λ v. (v.items ≡ image names.now (contents table.now)) × (length names.now ≤ 127) × (length v.items ≤ limit_of (contents table.now))) }
+    ensures ok { IfOk result (λ v. (v.items ≡ image names.now (contents table.now)) × (length names.now ≤ names_max) × (length v.items ≤ limit_of (contents table.now))) }
 
     // The first that holds, and want of memory only where neither does.
-    ensures names_too_long { IsErrOf result WriteError.NamesTooLong ↔ (127 < length names.now) }
-    ensures too_large { IsErrOf result WriteError.TooLarge ↔ ((length names.now ≤ 127) × (limit_of (contents table.now) < length (image names.now (contents table.now)))) }
-    ensures memory { IsErrOf result WriteError.Memory → (length names.now ≤ 127) × (length (image names.now (contents table.now)) ≤ limit_of (contents table.now)) }
+    ensures names_too_long { IsErrOf result WriteError.NamesTooLong ↔ (names_max < length names.now) }
+    ensures too_large { IsErrOf result WriteError.TooLarge ↔ ((length names.now ≤ names_max) × (limit_of (contents table.now) < length (image names.now (contents table.now)))) }
+    ensures memory { IsErrOf result WriteError.Memory → (length names.now ≤ names_max) × (length (image names.now (contents table.now)) ≤ limit_of (contents table.now)) }
 {
     if names.len() > NAMES_MAX {
         return Err(WriteError::NamesTooLong);
@@ -73,14 +69,14 @@ pub fn write(alloc: Global, names: &[u8], table: &Table) -> Result<Vec<u8>, Writ
     if header.size() > header.format.limit() {
         return Err(WriteError::TooLarge);
     }
-    Ok(laid_out(alloc, names, entries, &header)?)
+    Ok(entry_bytes(alloc, names, entries, &header)?)
 }
 
 // Whether a number is over the greatest of the legacy format.
 fn is_wide(value: &Value) -> bool
     ensures { result ≡ is_wide_content (Some (content_of value.now)) }
 {
-    matches!(value, Value::Number(number) if *number > SHORT_MAX)
+    matches!(value, Value::Number(number) if *number > LEGACY_NUMBER_MAX)
 }
 
 /// The format of the entry with these values, which stand in the order of the entry: the extended one
@@ -99,7 +95,7 @@ pub fn format_wanted(entries: &[(Cap, Value)]) -> Format
 
 // The numbers of the header. A size of the string table that no number holds is the greatest number.
 fn header_of(names: &[u8], entries: &[(Cap, Value)]) -> Header
-    requires names { length names.now ≤ 127 }
+    requires names { length names.now ≤ names_max }
     requires kept { IsKept (entries_of entries.now) }
     ensures { HasSizes names.now (contents (entries_of entries.now)) result }
 {
@@ -127,13 +123,13 @@ fn header_of(names: &[u8], entries: &[(Cap, Value)]) -> Header
 }
 
 // The entry, of sizes that are known.
-fn laid_out(
+fn entry_bytes(
     alloc: Global,
     names: &[u8],
     entries: &[(Cap, Value)],
     header: &Header,
 ) -> Result<Vec<u8>, AllocError>
-    requires names { length names.now ≤ 127 }
+    requires names { length names.now ≤ names_max }
     requires kept { IsKept (entries_of entries.now) }
     requires sizes { HasSizes names.now (contents (entries_of entries.now)) header.now }
     requires small { length (image names.now (contents (entries_of entries.now))) ≤ limit_of (contents (entries_of entries.now)) }

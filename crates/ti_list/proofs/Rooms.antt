@@ -3,9 +3,9 @@ use Rattle.std.proofs.Common.{◌≡◌, ℕ, ◌+◌, ◌≤◌, List, length, 
 use Rattle.std.proofs.lemmas.List.{drop_all}
 use Rattle.ti_caps.specs.Tables.{Capability}
 use Rattle.ti_layout.specs.Values.{Content, Contents}
-use Rattle.ti_list.specs.Contents.{said_for}
+use Rattle.ti_list.specs.inside.Contents.{said_for}
 use Rattle.ti_list.specs.Listing.{items_for}
-use Rattle.ti_list.specs.Room.{item_room, items_room}
+use Rattle.ti_list.specs.inside.Room.{item_room, items_room}
 use Rattle.ti_list.proofs.Steps.{items-some, items-none}
 
 pub room-some : (table : Contents) (caps : List Capability) (place : ℕ) (c : Capability) (x : Content) → slice_get caps place ≡ Some c → table c ≡ Some x

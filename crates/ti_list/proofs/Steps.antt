@@ -5,9 +5,9 @@ use Rattle.std.proofs.lemmas.Option.{slice_get_within, get_or_from_slice_get}
 use Rattle.ti_caps.specs.Tables.{Capability}
 use Rattle.ti_source.specs.Reading.{Said}
 use Rattle.ti_layout.specs.Values.{Content, content_true, content_number, content_text, content_cancelled, Contents}
-use Rattle.ti_list.specs.Contents.{said_for}
+use Rattle.ti_list.specs.inside.Contents.{said_for}
 use Rattle.ti_list.specs.declared.layout.Layout.{Layout}
-use Rattle.ti_list.specs.Flow.{flow}
+use Rattle.ti_list.specs.inside.Flow.{flow}
 use Rattle.ti_list.specs.Listing.{further_items, item_for, items_for}
 
 -- what stands at a place, and then what stands behind it

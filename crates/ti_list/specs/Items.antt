@@ -8,8 +8,7 @@ use Rattle.ti_caps.specs.Tables.{IsCapability, name_of}
 use Rattle.ti_caps.specs.declared.capability.Kind.TheVariants.{Flag, Number, Text}
 use Rattle.ti_spelling.specs.Spelling.{spelling_of, AreBytes, HasNoNul}
 use Rattle.ti_source.specs.Header.{HeaderNames, IsLookupName}
-use Rattle.ti_source.specs.Numbers.{greatest_number}
-use Rattle.ti_source.specs.Parsing.{names_limit}
+use Rattle.ti_text.specs.Limits.{number_max, names_max}
 use Rattle.ti_source.specs.Reading.{Said, said_flag, said_number, said_text, said_cancel, said_import, ReadItem, Reading}
 
 -- an item as it is written, without the comma that ends it: `am`, `cols#80`, `bel=^G`, `cr@`, `use=dumb`
@@ -40,7 +39,7 @@ pub record IsListing (field : List ℕ) (items : List Said) (text : List ℕ) : 
 -- the item has a text that is read as that item
 abbrev pub CanBeListed : Said → Type 0
 CanBeListed (said_flag c) = IsCapability c × (c.kind ≡ Flag)
-CanBeListed (said_number c n) = IsCapability c × (c.kind ≡ Number) × (n ≤ greatest_number)
+CanBeListed (said_number c n) = IsCapability c × (c.kind ≡ Number) × (n ≤ number_max)
 CanBeListed (said_text c t) = IsCapability c × (c.kind ≡ Text) × AreBytes t × HasNoNul t
 CanBeListed (said_cancel c) = IsCapability c
 CanBeListed (said_import name) = IsLookupName name × All (λ byte. byte ≢ ascii.backslash) name
@@ -49,7 +48,7 @@ CanBeListed (said_import name) = IsLookupName name × All (λ byte. byte ≢ asc
 -- comment.
 pub record IsListable (field : List ℕ) (names : List (List ℕ)) : Type 0 where
   pub header : HeaderNames field names
-  pub short : length field ≤ names_limit
+  pub short : length field ≤ names_max
   pub no_comma : list_all (λ byte. not (byte == ascii.comma)) field ≡ true
   pub inline : list_all (λ byte. not (byte == ascii.newline)) field ≡ true
   pub plain : (first : ℕ) (others : List ℕ) → field ≡ first ∷ others → (first == ascii.number_sign) ≡ false

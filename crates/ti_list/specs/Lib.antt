@@ -2,6 +2,4 @@ pub mod Items
 pub mod Listing
 pub mod Relative
 pub mod Comparison
-pub mod Contents
-pub mod Flow
-pub mod Room
+pub mod inside

@@ -7,7 +7,7 @@ use Rattle.std.specs.Str.{bytes_eq}
 use Rattle.ti_text.specs.Ascii as ascii
 use Rattle.ti_source.specs.Reading.{said_import}
 use Rattle.ti_layout.specs.declared.view.View.{View}
-use Rattle.ti_layout.specs.Shown.{names_of, view_contents}
+use Rattle.ti_layout.specs.View.{names_of, view_contents}
 use Rattle.ti_layout.specs.Values.{Content, content_true, content_number, content_text, content_cancelled, Contents}
 use Rattle.ti_list.specs.declared.layout.Layout.{Layout}
 use Rattle.ti_list.specs.Items.{item_text}
@@ -21,6 +21,10 @@ pub record Shown : Type 0 where
 -- an entry in memory, as it is shown
 abbrev pub entry_shown : View → Shown
 entry_shown view = record { field = names_of view; table = view_contents view }
+
+-- entries in memory, as they are shown
+abbrev pub entries_shown : List View → List Shown
+entries_shown views = map (λ view. entry_shown view) views
 
 -- the first name of a names field: all before the first `|`
 abbrev pub first_name : List ℕ → List ℕ

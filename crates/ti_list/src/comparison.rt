@@ -2,7 +2,7 @@
 ghost use Rattle.std.specs.Prelude.{◌≡◌, ◌++◌, option_map, IfOk, OnOk};
 ghost use Rattle.ti_list.specs.Comparison.{value_separator, common_row, compared_kind, comparison, differing_row};
 ghost use Rattle.ti_list.specs.Comparison.{kind_heading, neither_row, row, rows, have_same, value_text};
-ghost use Rattle.ti_list.specs.Contents.{content_of};
+ghost use Rattle.ti_list.specs.inside.Contents.{content_of};
 ghost use Rattle.ti_list.specs.Relative.{entry_shown};
 
 use crate::contents::{Content, same_content, view_content};

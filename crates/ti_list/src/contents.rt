@@ -1,8 +1,8 @@
 // What an entry has of a capability, and how it differs from what others have.
-ghost use Rattle.std.specs.Prelude.{◌≡◌, map, option_map, IfSome};
-ghost use Rattle.ti_layout.specs.Shown.{view_contents};
-ghost use Rattle.ti_list.specs.Contents.{content_of, IsShort};
-ghost use Rattle.ti_list.specs.Relative.{difference, first_of, same_content, entry_shown};
+ghost use Rattle.std.specs.Prelude.{◌≡◌, option_map, IfSome};
+ghost use Rattle.ti_layout.specs.View.{view_contents};
+ghost use Rattle.ti_list.specs.inside.Contents.{content_of, IsShort};
+ghost use Rattle.ti_list.specs.Relative.{difference, first_of, same_content, entries_shown};
 
 use ti_caps::{Cap, Kind};
 use ti_layout::View;
@@ -48,7 +48,7 @@ pub fn view_content<'a>(view: &View<'a>, cap: Cap) -> Option<Content<'a>>
 /// What the first of the entries that has the capability has of it.
 #[inline(always)]
 pub fn first_of<'a>(others: &[View<'a>], cap: Cap) -> Option<Content<'a>>
-    ensures { option_map content_of result ≡ first_of (map (λ o. entry_shown o) others.now) cap }
+    ensures { option_map content_of result ≡ first_of (entries_shown others.now) cap }
 {
     for other in others {
         if let Some(content) = view_content(other, cap) {

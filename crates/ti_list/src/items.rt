@@ -1,9 +1,9 @@
 // An item as it is written in terminfo source, without the comma that ends it.
 ghost use Rattle.std.specs.Prelude.{◌≡◌, ◌+◌, ◌<◌, ◌≤◌, ◌++◌, ◌∷◌, vec_len, vec_capacity};
 ghost use Rattle.std.specs.Fmt.{decimal};
-ghost use Rattle.ti_list.specs.Contents.{content_of, said_for, IsShort};
+ghost use Rattle.ti_list.specs.inside.Contents.{content_of, said_for, IsShort};
 ghost use Rattle.ti_list.specs.Items.{item_text};
-ghost use Rattle.ti_list.specs.Room.{item_room};
+ghost use Rattle.ti_list.specs.inside.Room.{item_room};
 
 use crate::contents::Content;
 use itoa::Buffer;

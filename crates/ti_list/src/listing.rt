@@ -1,13 +1,14 @@
 // An entry as source text: its own items, or those in which it differs from others.
-ghost use Rattle.std.specs.Prelude.{◌≡◌, ℕ, ◌+◌, ◌≤◌, ◌++◌, ◌∷◌, ◌↔◌, [], List, map, option_map, IfOk, IfSome, IsErrOf, ◌<◌, vec_len, vec_capacity};
-ghost use Rattle.ti_layout.specs.Shown.{view_contents, names_of};
+ghost use Rattle.std.specs.Prelude.{◌≡◌, ℕ, ◌+◌, ◌≤◌, ◌++◌, ◌∷◌, ◌↔◌, [], List, option_map, IfOk, IfSome, IsErrOf, ◌<◌, vec_len, vec_capacity};
+ghost use Rattle.ti_text.specs.Ascii as ascii;
+ghost use Rattle.ti_layout.specs.View.{view_contents, names_of};
 ghost use Rattle.ti_source.specs.Reading.{Said};
-ghost use Rattle.ti_list.specs.Contents.{content_of, said_for, IsShort};
-ghost use Rattle.ti_list.specs.Flow.{flow};
+ghost use Rattle.ti_list.specs.inside.Contents.{content_of, said_for, IsShort};
+ghost use Rattle.ti_list.specs.inside.Flow.{flow};
 ghost use Rattle.ti_list.specs.Items.{item_text};
 ghost use Rattle.ti_list.specs.Listing.{size_of, further_items, in_order, items_for, kind_items, lines_of, listing};
-ghost use Rattle.ti_list.specs.Room.{item_room, items_room, source_room, uses_room};
-ghost use Rattle.ti_list.specs.Relative.{differing_contents, relative, entry_shown, use_lines};
+ghost use Rattle.ti_list.specs.inside.Room.{item_room, items_room, source_room, uses_room};
+ghost use Rattle.ti_list.specs.Relative.{differing_contents, relative, entry_shown, use_lines, entries_shown};
 ghost use Rattle.ti_list.specs.declared.listing.ListError.TheVariants.{Memory};
 
 use crate::contents::{Content, difference, first_of, view_content};
@@ -26,7 +27,7 @@ const TAB: usize = 8;
 // What an entry's source says of a capability where it uses the others.
 #[inline(always)]
 fn said_of<'a>(view: &View<'a>, others: &[View<'a>], cap: Cap) -> Option<Content<'a>>
-    ensures is { option_map content_of result ≡ differing_contents (view_contents view.now) (map (λ o. entry_shown o) others.now) cap }
+    ensures is { option_map content_of result ≡ differing_contents (view_contents view.now) (entries_shown others.now) cap }
     ensures short { IfSome result (λ c. IsShort (content_of c)) }
 {
     difference(view_content(view, cap), first_of(others, cap))
@@ -36,7 +37,7 @@ fn said_of<'a>(view: &View<'a>, others: &[View<'a>], cap: Cap) -> Option<Content
 fn write_below(out: &mut Vec<u8>, cap: Cap, content: Content<'_>) -> usize
     requires short { IsShort (content_of content) }
     requires room { vec_len out.old + item_room (said_for cap (content_of content)) ≤ vec_capacity out.old }
-    ensures items { out.new.items ≡ out.old.items ++ 10 ∷ 9 ∷ item_text (said_for cap (content_of content.entry)) ++ 44 ∷ [] }
+    ensures items { out.new.items ≡ out.old.items ++ ascii.newline ∷ ascii.tab ∷ item_text (said_for cap (content_of content.entry)) ++ ascii.comma ∷ [] }
     ensures column { result ≡ 8 + size_of (said_for cap (content_of content.entry)) }
     ensures len { vec_len out.new ≤ vec_len out.old + item_room (said_for cap (content_of content.entry)) }
     ensures capacity { vec_capacity out.old ≤ vec_capacity out.new }
@@ -63,10 +64,10 @@ fn write_further(
     requires room { vec_len out.old + item_room (said_for cap (content_of content)) ≤ vec_capacity out.old }
     ensures fits { taken + 1 + size_of (said_for cap (content_of content.entry)) ≤ width
         → (result ≡ taken + 1 + size_of (said_for cap (content_of content.entry)))
-        × (out.new.items ≡ out.old.items ++ 32 ∷ item_text (said_for cap (content_of content.entry)) ++ 44 ∷ []) }
+        × (out.new.items ≡ out.old.items ++ ascii.space ∷ item_text (said_for cap (content_of content.entry)) ++ ascii.comma ∷ []) }
     ensures breaks { width < taken + 1 + size_of (said_for cap (content_of content.entry))
         → (result ≡ 8 + size_of (said_for cap (content_of content.entry)))
-        × (out.new.items ≡ out.old.items ++ 10 ∷ 9 ∷ item_text (said_for cap (content_of content.entry)) ++ 44 ∷ []) }
+        × (out.new.items ≡ out.old.items ++ ascii.newline ∷ ascii.tab ∷ item_text (said_for cap (content_of content.entry)) ++ ascii.comma ∷ []) }
     ensures len { vec_len out.new ≤ vec_len out.old + item_room (said_for cap (content_of content.entry)) }
     ensures capacity { vec_capacity out.old ≤ vec_capacity out.new }
 {
@@ -117,10 +118,10 @@ fn write_kind<'a>(
     layout: &Layout,
     kind: Kind,
 )
-    requires { vec_len out.old + items_room (kind_items layout.now (differing_contents (view_contents view.now) (map (λ o. entry_shown o) others.now)) kind) ≤ vec_capacity out.old }
+    requires { vec_len out.old + items_room (kind_items layout.now (differing_contents (view_contents view.now) (entries_shown others.now)) kind) ≤ vec_capacity out.old }
     ensures items { (rest : List ℕ) → out.new.items ++ rest ≡ out.old.items
-        ++ lines_of layout.now (kind_items layout.now (differing_contents (view_contents view.now) (map (λ o. entry_shown o) others.now)) kind) rest }
-    ensures len { vec_len out.new ≤ vec_len out.old + items_room (kind_items layout.now (differing_contents (view_contents view.now) (map (λ o. entry_shown o) others.now)) kind) }
+        ++ lines_of layout.now (kind_items layout.now (differing_contents (view_contents view.now) (entries_shown others.now)) kind) rest }
+    ensures len { vec_len out.new ≤ vec_len out.old + items_room (kind_items layout.now (differing_contents (view_contents view.now) (entries_shown others.now)) kind) }
     ensures capacity { vec_capacity out.old ≤ vec_capacity out.new }
 {
     let mut line = None;
@@ -134,9 +135,9 @@ fn write_kind<'a>(
 
 // Appends a use of each of the others, on a line of its own.
 fn write_uses(out: &mut Vec<u8>, others: &[View<'_>])
-    requires { vec_len out.old + uses_room (map (λ o. entry_shown o) others.now) ≤ vec_capacity out.old }
-    ensures items { (rest : List ℕ) → out.new.items ++ rest ≡ out.old.items ++ use_lines (map (λ o. entry_shown o) others.now) rest }
-    ensures len { vec_len out.new ≤ vec_len out.old + uses_room (map (λ o. entry_shown o) others.now) }
+    requires { vec_len out.old + uses_room (entries_shown others.now) ≤ vec_capacity out.old }
+    ensures items { (rest : List ℕ) → out.new.items ++ rest ≡ out.old.items ++ use_lines (entries_shown others.now) rest }
+    ensures len { vec_len out.new ≤ vec_len out.old + uses_room (entries_shown others.now) }
     ensures capacity { vec_capacity out.old ≤ vec_capacity out.new }
 {
     for other in others {
@@ -149,7 +150,7 @@ fn write_uses(out: &mut Vec<u8>, others: &[View<'_>])
 // Enough room for the items of a kind; `None` where no number is so great.
 #[inline(always)]
 fn kind_room<'a>(view: &View<'a>, others: &[View<'a>], order: Order, kind: Kind) -> Option<usize>
-    ensures { IfSome result (λ room. room ≡ items_room (items_for (differing_contents (view_contents view.now) (map (λ o. entry_shown o) others.now)) (in_order order kind))) }
+    ensures { IfSome result (λ room. room ≡ items_room (items_for (differing_contents (view_contents view.now) (entries_shown others.now)) (in_order order kind))) }
 {
     let mut room = 0usize;
     for place in 0..count(kind) {
@@ -163,7 +164,7 @@ fn kind_room<'a>(view: &View<'a>, others: &[View<'a>], order: Order, kind: Kind)
 
 // Enough room for the uses of the others.
 fn uses_room(others: &[View<'_>]) -> Option<usize>
-    ensures { IfSome result (λ room. room ≡ uses_room (map (λ o. entry_shown o) others.now)) }
+    ensures { IfSome result (λ room. room ≡ uses_room (entries_shown others.now)) }
 {
     let mut room = 0usize;
     for other in others {
@@ -175,7 +176,7 @@ fn uses_room(others: &[View<'_>]) -> Option<usize>
 // Enough room for the source of an entry that uses the others.
 #[inline(always)]
 fn source_room<'a>(view: &View<'a>, others: &[View<'a>], order: Order) -> Option<usize>
-    ensures { IfSome result (λ room. room ≡ source_room (entry_shown view.now) (map (λ o. entry_shown o) others.now) order) }
+    ensures { IfSome result (λ room. room ≡ source_room (entry_shown view.now) (entries_shown others.now) order) }
 {
     let flags = kind_room(view, others, order, Kind::Flag)?;
     let numbers = kind_room(view, others, order, Kind::Number)?;
@@ -193,8 +194,8 @@ fn source_room<'a>(view: &View<'a>, others: &[View<'a>], order: Order) -> Option
 // Appends the source of an entry that uses the others, into such room. It takes no memory.
 #[inline(always)]
 fn write_source<'a>(out: &mut Vec<u8>, view: &View<'a>, others: &[View<'a>], layout: &Layout)
-    requires { vec_len out.old + source_room (entry_shown view.now) (map (λ o. entry_shown o) others.now) layout.now.order ≤ vec_capacity out.old }
-    ensures { out.new.items ≡ out.old.items ++ relative (entry_shown view.now) (map (λ o. entry_shown o) others.now) layout.now }
+    requires { vec_len out.old + source_room (entry_shown view.now) (entries_shown others.now) layout.now.order ≤ vec_capacity out.old }
+    ensures { out.new.items ≡ out.old.items ++ relative (entry_shown view.now) (entries_shown others.now) layout.now }
 {
     append_reserved(out, view.names());
     out.push_reserved(b',');
@@ -213,7 +214,7 @@ fn source_of<'a>(
     others: &[View<'a>],
     layout: &Layout,
 ) -> Result<Vec<u8>, AllocError>
-    ensures { IfOk result (λ text. text.items ≡ relative (entry_shown view.now) (map (λ o. entry_shown o) others.now) layout.now) }
+    ensures { IfOk result (λ text. text.items ≡ relative (entry_shown view.now) (entries_shown others.now) layout.now) }
 {
     // where no number is so great, no memory is either, and the growth is refused
     let room = source_room(view, others, layout.order).unwrap_or(usize::MAX);
@@ -264,7 +265,7 @@ pub fn relative(
     others: &[View<'_>],
     layout: &Layout,
 ) -> Result<Vec<u8>, ListError>
-    ensures ok { IfOk result (λ text. text.items ≡ relative (entry_shown view.now) (map (λ o. entry_shown o) others.now) layout.now) }
+    ensures ok { IfOk result (λ text. text.items ≡ relative (entry_shown view.now) (entries_shown others.now) layout.now) }
     ensures no_others { IsErrOf result ListError.NoOthers ↔ (others.now ≡ []) }
 {
     if others.is_empty() {

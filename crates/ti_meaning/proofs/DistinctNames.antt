@@ -6,7 +6,7 @@ use Rattle.std.proofs.lemmas.Option.{same_Some, none-some}
 use Rattle.std.proofs.lemmas.Slice.Eq.{bytes_eq-Decides}
 use Rattle.ti_meaning.specs.Owner.{is_among}
 use Rattle.ti_meaning.specs.Faults.{distinct_after}
-use Rattle.ti_meaning.specs.ItemLaws.{IsFirstPlace, NamesAreDistinct}
+use Rattle.ti_meaning.specs.ItemLaws.{IsFirstPlace, DistinctHasEachOnce}
 use Rattle.ti_meaning.proofs.Exchanging.{list_any-append}
 
 -- ---- which names stand there
@@ -145,7 +145,7 @@ and_true : (a : Bool) → (a && true) ≡ a
 and_true true = refl
 and_true false = refl
 
-pub distinct_names : NamesAreDistinct
+pub distinct_names : DistinctHasEachOnce
 distinct_names = λ names. record {
   members = λ n. let e = among-distinct_after n [] names ∙ and_true (is_among n names) in (λ t. sym e ∙ t, λ t. e ∙ t);
   places = all_places [] names;

@@ -10,7 +10,7 @@ use Rattle.ti_source.specs.Reading.{Reading}
 use Rattle.ti_source.specs.Parsing.{reading_of_text}
 use Rattle.ti_source.specs.Sound.{IsRising}
 use Rattle.ti_meaning.specs.Owner.{is_among, owner, owner_block, readings}
-use Rattle.ti_meaning.specs.Edits.{Change, insertion, replacement, removal, relocation, IsInPlace, after}
+use Rattle.ti_meaning.specs.Edits.{Change, insertion, replacement, removal, relocation, IsInPlace, list_after}
 use Rattle.ti_meaning.specs.Exchange.{PlacedBlock, Exchange, IsExchange, with_block, HasPlace, new_list, block_from, exchange_of, LeadsOn, EditsAreExchanges}
 use Rattle.ti_meaning.specs.Dependents.{names_of, touched_names, IsPutAt, IsDependent, DependentsAreDetermined, UsersOfDependentsDepend, DependentsAreFound, RebuildsAreDetermined, work}
 use Rattle.ti_meaning.specs.Reaching.{Uses, IsWay}
@@ -53,7 +53,7 @@ moved texts from to t e =
 
 pub exchanged : EditsAreExchanges
 exchanged = λ texts change h. by_case texts change h where
-  by_case : (texts : List (List ℕ)) (change : Change) → IsInPlace texts change → LeadsOn (exchange_of texts change) texts (after texts change)
+  by_case : (texts : List (List ℕ)) (change : Change) → IsInPlace texts change → LeadsOn (exchange_of texts change) texts (list_after texts change)
   by_case texts (insertion at text) h = record {
     fits = record { out = tt; put = rw (length-readings texts) h };
     old = refl;
@@ -185,4 +185,4 @@ found_dependents = λ e found h at d. dependent_holds e (λ p. Contains found p)
 pub one_rebuilt : RebuildsAreDetermined
 one_rebuilt = λ texts change ps qs m n h k.
     let same : ps ≡ qs = one_answer (exchange_of texts change) ps qs h.dependents k.dependents in
-    (same, h.work ∙ (ap (λ xs. work (readings (after texts change)) xs) same ∙ sym k.work))
+    (same, h.work ∙ (ap (λ xs. work (readings (list_after texts change)) xs) same ∙ sym k.work))

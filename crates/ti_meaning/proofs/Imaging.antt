@@ -9,7 +9,7 @@ use Rattle.ti_layout.specs.Laws.{without_cancel, ShowSame}
 use Rattle.ti_layout.proofs.OfValues.{images_are_of_values, limits_are_of_values}
 use Rattle.ti_meaning.specs.Expansion.{Mention, leftmost_content, values, is_broken, expansion}
 use Rattle.ti_meaning.specs.Compiled.{image_of, is_too_large, entry_of, EntryState, oversized, written, state_of}
-use Rattle.ti_meaning.specs.ValueTables.{Tells}
+use Rattle.ti_meaning.specs.ValueTables.{IsTableOfMentions}
 
 uncancelled-twice : (o : Option Content) → without_cancel (without_cancel o) ≡ without_cancel o
 uncancelled-twice None = refl
@@ -18,14 +18,14 @@ uncancelled-twice (Some (content_number n)) = refl
 uncancelled-twice (Some (content_text t)) = refl
 uncancelled-twice (Some content_cancelled) = refl
 
-show_same : (t : Contents) (ms : List Mention) → Tells t ms → ShowSame t (values ms)
+show_same : (t : Contents) (ms : List Mention) → IsTableOfMentions t ms → ShowSame t (values ms)
 show_same t ms h c valid = ap without_cancel (h c valid) ∙ sym (uncancelled-twice (leftmost_content ms c))
 
 -- a table that tells what the mentions say has their image, and its limit
-pub image_tells : (names : List ℕ) (t : Contents) (ms : List Mention) → Tells t ms → image names t ≡ image names (values ms)
+pub image_tells : (names : List ℕ) (t : Contents) (ms : List Mention) → IsTableOfMentions t ms → image names t ≡ image names (values ms)
 image_tells names t ms h = images_are_of_values names t (values ms) (show_same t ms h)
 
-pub limit_tells : (t : Contents) (ms : List Mention) → Tells t ms → limit_of t ≡ limit_of (values ms)
+pub limit_tells : (t : Contents) (ms : List Mention) → IsTableOfMentions t ms → limit_of t ≡ limit_of (values ms)
 limit_tells t ms h = limits_are_of_values t (values ms) (show_same t ms h)
 
 pub within_limit : (b : Reading) (ms : List Mention) (bytes : List ℕ) → bytes ≡ image_of b ms → length bytes ≤ limit_of (values ms) → ◌≡◌ {A = Option (List ℕ)} (Some bytes) (entry_of b ms)

@@ -8,7 +8,8 @@ use Rattle.ti_source.specs.declared.code.Code.TheVariants as code
 use Rattle.ti_source.specs.Reading.{Reading, ReadItem, ReadFault}
 use Rattle.ti_meaning.specs.Owner.{is_among, owner_block}
 use Rattle.ti_meaning.specs.Expansion.{expansion, resolves}
-use Rattle.ti_meaning.specs.Reaching.{used_name, Uses, leads_to}
+use Rattle.ti_meaning.specs.Reaching.{used_name, Uses}
+use Rattle.ti_meaning.specs.inside.Reaching.{leads_to}
 use Rattle.ti_meaning.specs.Compiled.{EntryState, unresolved, oversized, written, state_of, entry_of, state_with}
 use Rattle.ti_meaning.specs.Faults.{SourceFault, fault_between, use_fault, local_fault, local_faults, is_kept, name_fault, name_faults, is_owned_before, distinct, fault_of_use, fault_of_item, faults_before, faults_from, item_faults, entry_faults}
 use Rattle.ti_meaning.specs.Exchange.{PlacedBlock, with_block, old_list, new_list, shifted_position}
@@ -111,11 +112,11 @@ module _ (test : List ℕ → Bool) (rest : List Reading) (o p : Option PlacedBl
   use_fault-same n at free =
       let bs = with_block rest o in
       let cs = with_block rest p in
-      let circle : leads_to cs n (shifted_position p at) ≡ leads_to bs n (shifted_position o at) = both_true (leads_to cs n (shifted_position p at)) (leads_to bs n (shifted_position o at))
+      let circular : leads_to cs n (shifted_position p at) ≡ leads_to bs n (shifted_position o at) = both_true (leads_to cs n (shifted_position p at)) (leads_to bs n (shifted_position o at))
       (λ t. LeadsTo-leads_to bs n (shifted_position o at) (circular_in_both test rest p o at_p at_o n at (free_in_both test rest o p at_o at_p n free) (leads_to-LeadsTo cs n (shifted_position p at) t)))
       (λ t. LeadsTo-leads_to cs n (shifted_position p at) (circular_in_both test rest o p at_o at_p n at free (leads_to-LeadsTo bs n (shifted_position o at) t))) in
       ap (λ x. fault_between x (leads_to cs n (shifted_position p at)) (resolves cs)) (owned_in_both test rest o p at_o at_p n free)
-      ∙ (ap (λ l. fault_between (owner_block bs n) l (resolves cs)) circle
+      ∙ (ap (λ l. fault_between (owner_block bs n) l (resolves cs)) circular
       ∙ between-same (owner_block bs n) (leads_to bs n (shifted_position o at)) (resolves cs) (resolves bs)
       (λ b e. ap (λ x. is_some x) (owner_says_same test rest o p at_o at_p n b free e)))
 

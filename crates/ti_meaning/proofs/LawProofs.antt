@@ -5,7 +5,8 @@ use Rattle.std.proofs.lemmas.Option.{same_Some, none-some}
 use Rattle.ti_source.specs.Reading.{Reading}
 use Rattle.ti_meaning.specs.Owner.{is_among, owner, owner_block}
 use Rattle.ti_meaning.specs.Expansion.{Mention, expand, Resolves, expansion}
-use Rattle.ti_meaning.specs.Reaching.{LeadsTo, leads_to}
+use Rattle.ti_meaning.specs.Reaching.{LeadsTo}
+use Rattle.ti_meaning.specs.inside.Reaching.{leads_to}
 use Rattle.ti_meaning.specs.Laws.{IsFirstWith, OwnersAreFirst, ExpansionsStay, ExpansionsAreFound, WaysAreFound, IsUseFault, nobody_owns, leads_back, owner_unresolved, owner_resolved, UseFaultsAreTold}
 use Rattle.ti_meaning.proofs.Owning.{nobody, somebody, owning}
 use Rattle.ti_meaning.proofs.Depth.{expand-le, bounded}
@@ -94,7 +95,7 @@ told_faults = λ bs at name.
     elim (owning bs name) [
       | nobody o _ ↦ subst (IsUseFault bs at name) (use_fault_missing bs at name o) (nobody_owns o)
       | somebody q b own ↦ elim (cases_Bool (leads_to bs name at)) [
-        | inl ring ↦ subst (IsUseFault bs at name) (use_fault_circular bs at name b own.is ring) (leads_back (leads_to-LeadsTo bs name at ring))
+        | inl back ↦ subst (IsUseFault bs at name) (use_fault_circular bs at name b own.is back) (leads_back (leads_to-LeadsTo bs name at back))
         | inr off ↦ elim (unresolved_or_not (expansion bs b)) [
           | inl none ↦ subst (IsUseFault bs at name) (use_fault_open bs at name b own.is off none)
               (owner_unresolved b own.is (no_way bs name at off) (λ r. none_is_some (expansion bs b) none (is_resolved bs q b own.stands r)))

@@ -8,7 +8,7 @@ use Rattle.ti_layout.specs.Values.{Contents, Content}
 use Rattle.ti_meaning.specs.Owner.{owner_block}
 use Rattle.ti_meaning.specs.Expansion.{Mention, leftmost_content, is_broken, both_lists, mentions_of, expand_items}
 use Rattle.ti_meaning.specs.Reaching.{used_name, Uses}
-use Rattle.ti_meaning.specs.ValueTables.{names_at, IsTableOf, IsTableOfItems, IsLaid}
+use Rattle.ti_meaning.specs.inside.ValueTables.{names_at, IsTableOf, IsTableOfItems, AddsSaid}
 use Rattle.ti_meaning.proofs.Depth.{expand_items-more, names_at-le, mentions_of-more}
 
 -- ---- laying
@@ -32,8 +32,8 @@ said-append (m ∷ ms) ns c =
     rw (said-append ms ns c) (sym (if_or (same_capability m.capability c) None (leftmost_content ms c) (leftmost_content ns c) m.says))
 
 -- one mention was laid
-pub laid_one : (bs : List Reading) (item : Said) (m : Mention) (old new : Contents) → mentions_of (names_at (owner_block bs) 0) item ≡ Some (m ∷ []) → ((c : Capability) → IsCapability c → new c ≡ option_or (old c) (cond (same_capability m.capability c) (Some m.says) None)) → IsLaid bs item old new
-laid_one bs item m old new e laid = record { depth = 0; mentions = m ∷ []; expands = e; lays = laid }
+pub laid_one : (bs : List Reading) (item : Said) (m : Mention) (old new : Contents) → mentions_of (names_at (owner_block bs) 0) item ≡ Some (m ∷ []) → ((c : Capability) → IsCapability c → new c ≡ option_or (old c) (cond (same_capability m.capability c) (Some m.says) None)) → AddsSaid bs item old new
+laid_one bs item m old new e laid = record { depth = 0; mentions = m ∷ []; expands = e; adds = laid }
 
 -- ---- the items of a block, one after another
 
@@ -53,10 +53,10 @@ expand_items-append f (i ∷ is) js = rw (expand_items-append f is js) (joined-a
 
 -- a table that mentions nothing is that of no items
 pub table_of_nothing : (bs : List Reading) (f : Contents) → ((c : Capability) → f c ≡ None) → IsTableOfItems bs [] f
-table_of_nothing bs f none = record { depth = 0; mentions = []; expands = refl; tells = λ c _. none c }
+table_of_nothing bs f none = record { depth = 0; mentions = []; expands = refl; is_table = λ c _. none c }
 
 -- one more item was laid
-pub table_of_one_more : (bs : List Reading) (is : List ReadItem) (i : ReadItem) (f g : Contents) → IsTableOfItems bs is f → IsLaid bs i.said f g → IsTableOfItems bs (is ++ i ∷ []) g
+pub table_of_one_more : (bs : List Reading) (is : List ReadItem) (i : ReadItem) (f g : Contents) → IsTableOfItems bs is f → AddsSaid bs i.said f g → IsTableOfItems bs (is ++ i ∷ []) g
 table_of_one_more bs is i f g t h =
     let deep = t.depth + h.depth in
     let env = owner_block bs in
@@ -66,16 +66,16 @@ table_of_one_more bs is i f g t h =
       depth = deep;
       mentions = t.mentions ++ (h.mentions ++ []);
       expands = expand_items-append (names_at env deep) is (i ∷ []) ∙ (rw (front, back) refl);
-      tells = λ c valid.
-          h.lays c valid
-          ∙ (ap (λ o. option_or o (leftmost_content h.mentions c)) (t.tells c valid)
+      is_table = λ c valid.
+          h.adds c valid
+          ∙ (ap (λ o. option_or o (leftmost_content h.mentions c)) (t.is_table c valid)
           ∙ (ap (λ o. option_or (leftmost_content t.mentions c) o) (sym (said-append h.mentions [] c ∙ option_or-none (leftmost_content h.mentions c)))
           ∙ sym (said-append t.mentions (h.mentions ++ []) c)));
     }
 
 -- all items of a sound block were laid
 pub table_of_block : (bs : List Reading) (b : Reading) (f : Contents) → is_broken b ≡ false → IsTableOfItems bs b.items f → IsTableOf bs b f
-table_of_block bs b f sound t = record { depth = suc t.depth; mentions = t.mentions; expands = rw (sound, t.expands) refl; tells = t.tells }
+table_of_block bs b f sound t = record { depth = suc t.depth; mentions = t.mentions; expands = rw (sound, t.expands) refl; is_table = t.is_table }
 
 -- ---- no depth expands what stays open
 

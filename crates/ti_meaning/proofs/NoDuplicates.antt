@@ -15,7 +15,8 @@ use Rattle.ti_source.specs.Items.{Claim, claims_flag, claims_number, claims_text
 use Rattle.ti_source.specs.inside.Items.{statement_of}
 use Rattle.ti_source.specs.inside.Header.{header_names}
 use Rattle.ti_source.specs.Reading.{said_import, ReadFault}
-use Rattle.ti_source.specs.Parsing.{accepted, is_import, code_by, item_fault, names_limit, header_fault, reading_of_text}
+use Rattle.ti_source.specs.Parsing.{accepted, is_import, code_by, item_fault, header_fault, reading_of_text}
+use Rattle.ti_text.specs.Limits.{names_max}
 use Rattle.ti_source.specs.inside.Verdicts.{number_verdict, text_verdict, fitting_verdict, named_verdict, claimed_text, verdict_of}
 use Rattle.ti_source.specs.inside.Parsing.{faults_at, faults_from, header_faults, block_field, block_items}
 use Rattle.ti_meaning.specs.KeptBlocks.{is_duplicate}
@@ -83,7 +84,7 @@ from_other ordinal (item ∷ items) =
 
 header_other : (field : List ℕ) (o : Option (List (List ℕ))) → AreOthers (header_faults field o)
 header_other field None = (refl, tt)
-header_other field (Some names) = by_length (nat_lt names_limit (length field)) where
+header_other field (Some names) = by_length (nat_lt names_max (length field)) where
   by_length : (v : Bool) → AreOthers (cond v (header_fault code.NamesTooLong ∷ []) [])
   by_length true = (refl, tt)
   by_length false = tt

@@ -18,7 +18,8 @@ use Rattle.ti_source.specs.Items.{Claim, claims_flag, claims_number, claims_text
 use Rattle.ti_source.specs.inside.Items.{statement_of}
 use Rattle.ti_source.specs.inside.Header.{header_names}
 use Rattle.ti_source.specs.Reading.{Said, said_import, ReadItem, ReadFault}
-use Rattle.ti_source.specs.Parsing.{accepted, is_import, said_by, code_by, item_fault, names_limit, header_fault, reading_of_text}
+use Rattle.ti_source.specs.Parsing.{accepted, is_import, said_by, code_by, item_fault, header_fault, reading_of_text}
+use Rattle.ti_text.specs.Limits.{names_max}
 use Rattle.ti_source.specs.inside.Verdicts.{number_verdict, text_verdict, fitting_verdict, named_verdict, claimed_text, verdict_of}
 use Rattle.ti_source.specs.inside.Parsing.{items_at, faults_at, items_from, faults_from, header_faults, block_field, block_items}
 use Rattle.ti_meaning.specs.Reaching.{used_name}
@@ -181,7 +182,7 @@ items_climb k (i ∷ is) = front_items_at k (piece_of i).line (statement_of (pie
 no_header_fault : (field : List ℕ) (o : Option (List (List ℕ))) → filter (is_kept false) (header_faults field o) ≡ []
 no_header_fault field None = refl
 no_header_fault field (Some names) =
-    elim (nat_lt names_limit (length field)) as (λ v. filter (is_kept false) (cond v (header_fault code.NamesTooLong ∷ []) []) ≡ []) [ true ↦ refl | false ↦ refl ]
+    elim (nat_lt names_max (length field)) as (λ v. filter (is_kept false) (cond v (header_fault code.NamesTooLong ∷ []) []) ≡ []) [ true ↦ refl | false ↦ refl ]
 
 climbs-filter : (test : ReadFault → Bool) (k : ℕ) (fs : List ReadFault) → Climbs k (map (λ (f : ReadFault). f.ordinal) fs) → Climbs k (map (λ (f : ReadFault). f.ordinal) (filter test fs))
 climbs-filter test k [] c = tt

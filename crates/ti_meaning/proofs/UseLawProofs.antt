@@ -6,9 +6,10 @@ use Rattle.ti_source.specs.declared.code.Code.TheVariants.{Unresolved}
 use Rattle.ti_source.specs.Reading.{Reading, ReadItem, Said, said_flag, said_number, said_text, said_cancel, said_import}
 use Rattle.ti_meaning.specs.Owner.{owner, owner_block}
 use Rattle.ti_meaning.specs.Expansion.{Mention, is_broken, both_lists, mentions_of, expand_items, expand, expansion, resolves}
-use Rattle.ti_meaning.specs.Reaching.{used_name, Uses, IsWay, LeadsTo, leads_to}
+use Rattle.ti_meaning.specs.Reaching.{used_name, Uses, IsWay, LeadsTo}
+use Rattle.ti_meaning.specs.inside.Reaching.{leads_to}
 use Rattle.ti_meaning.specs.Faults.{fault_between, use_fault}
-use Rattle.ti_meaning.specs.ValueTables.{names_at}
+use Rattle.ti_meaning.specs.inside.ValueTables.{names_at}
 use Rattle.ti_meaning.specs.UseLaws.{OwnerReaches, LeadingIsReaching, UsesBlock, IsWalk, Walks, LeadingIsWalking, AreFound, IsGraphOf, AreComponents, HasEdge, HaveOneNumber, CircularUsesShareAComponent, UnresolvedBlocksHaveACause}
 use Rattle.ti_meaning.proofs.Owning.{nobody, somebody, owning, owner_to_owned}
 use Rattle.ti_meaning.proofs.Depth.{bounded}

@@ -6,7 +6,7 @@ use Rattle.ti_source.specs.Sound.{IsRising}
 use Rattle.ti_meaning.specs.Owner.{is_among, owner, owner_block, readings}
 use Rattle.ti_meaning.specs.Expansion.{resolves}
 use Rattle.ti_meaning.specs.Reaching.{Uses, Reaches}
-use Rattle.ti_meaning.specs.Edits.{Change, after}
+use Rattle.ti_meaning.specs.Edits.{Change, list_after}
 use Rattle.ti_meaning.specs.Exchange.{PlacedBlock, Exchange, IsExchange, new_list, exchange_of}
 use Rattle.ti_meaning.specs.UseLaws.{UsesBlock}
 
@@ -77,7 +77,7 @@ DependentsAreFound = (exchange : Exchange) (found : List ℕ) → AreClosed exch
 -- is its work
 pub record Rebuilds (texts : List (List ℕ)) (change : Change) (places : List ℕ) (steps : ℕ) : Type 0 where
   pub dependents : AreDependents (exchange_of texts change) places
-  pub work : steps ≡ work (readings (after texts change)) places
+  pub work : steps ≡ work (readings (list_after texts change)) places
 
 -- an edit has one answer
 abbrev pub RebuildsAreDetermined : Type 0

@@ -1,4 +1,5 @@
 -- Edits of a source (own): which of them are refused, and what the others make of the list of its blocks' texts.
+use Rattle.ti_text.specs.Limits.{block_bytes_max, blocks_max}
 use Rattle.std.specs.Prelude.{ℕ, ◌≡◌, ◌<◌, ◌≤◌, List, [], ◌∷◌, length, insert, remove, slice_get, slice_set, Result, Ok, Err}
 use Rattle.std.specs.Option.{option_map_or}
 use Rattle.ti_source.specs.Blocks.{OneBlock}
@@ -32,10 +33,10 @@ IsInPlace texts (replacement at text) = at < length texts
 IsInPlace texts (removal at) = at < length texts
 IsInPlace texts (relocation from to) = (from < length texts) × (to < length texts)
 
--- the new text, if there is one, has at most 1,048,576 bytes
+-- the new text, if there is one, is no longer than a block may be
 abbrev pub IsShort : Change → Type 0
-IsShort (insertion at text) = length text ≤ 1048576
-IsShort (replacement at text) = length text ≤ 1048576
+IsShort (insertion at text) = length text ≤ block_bytes_max
+IsShort (replacement at text) = length text ≤ block_bytes_max
 IsShort (removal at) = Unit {0}
 IsShort (relocation from to) = Unit {0}
 
@@ -46,9 +47,9 @@ IsBlock (replacement at text) = OneBlock text
 IsBlock (removal at) = Unit {0}
 IsBlock (relocation from to) = Unit {0}
 
--- the list has room for one more block, where the edit brings one: it has at most 65,535
+-- the list has room for one more block, where the edit brings one
 abbrev pub HasRoom : List (List ℕ) → Change → Type 0
-HasRoom texts (insertion at text) = length texts < 65535
+HasRoom texts (insertion at text) = length texts < blocks_max
 HasRoom texts (replacement at text) = Unit {0}
 HasRoom texts (removal at) = Unit {0}
 HasRoom texts (relocation from to) = Unit {0}
@@ -78,15 +79,15 @@ abbrev pub with_item_moved : {X : Type 0} → List X → ℕ → ℕ → List X
 with_item_moved xs from to = option_map_or (λ x. insert (remove xs from) to x) (slice_get xs from) xs
 
 -- the list with the block put in, exchanged, taken out or moved
-abbrev pub after : List (List ℕ) → Change → List (List ℕ)
-after texts (insertion at text) = insert texts at text
-after texts (replacement at text) = slice_set texts at text
-after texts (removal at) = remove texts at
-after texts (relocation from to) = with_item_moved texts from to
+abbrev pub list_after : List (List ℕ) → Change → List (List ℕ)
+list_after texts (insertion at text) = insert texts at text
+list_after texts (replacement at text) = slice_set texts at text
+list_after texts (removal at) = remove texts at
+list_after texts (relocation from to) = with_item_moved texts from to
 
 -- one edit leads from one list to the next: accepted where nothing is wrong with it, and else the list stays
 abbrev pub Step : List (List ℕ) → Change → Outcome → List (List ℕ) → Type 0
-Step texts change Accepted next = IsSoundEdit texts change × (next ≡ after texts change)
+Step texts change Accepted next = IsSoundEdit texts change × (next ≡ list_after texts change)
 Step texts change (Refused error) next = IsRefusal texts change error × (next ≡ texts)
 
 -- edits in their order lead from one list to another, with an outcome each

@@ -4,7 +4,7 @@ use Rattle.std.specs.Prelude.{ℕ, zero, suc, ◌≡◌, ◌≤◌, List, length
 use Rattle.ti_source.specs.Reading.{Reading}
 use Rattle.ti_source.specs.Parsing.{reading_of_text}
 use Rattle.ti_meaning.specs.Owner.{readings}
-use Rattle.ti_meaning.specs.Edits.{Change, insertion, replacement, removal, relocation, IsInPlace, after}
+use Rattle.ti_meaning.specs.Edits.{Change, insertion, replacement, removal, relocation, IsInPlace, list_after}
 
 -- a block and its position
 pub record PlacedBlock : Type 0 where
@@ -72,4 +72,4 @@ pub record LeadsOn (exchange : Exchange) (texts next : List (List ℕ)) : Type 0
 
 -- each edit whose positions are there is an exchange
 abbrev pub EditsAreExchanges : Type 0
-EditsAreExchanges = (texts : List (List ℕ)) (change : Change) → IsInPlace texts change → LeadsOn (exchange_of texts change) texts (after texts change)
+EditsAreExchanges = (texts : List (List ℕ)) (change : Change) → IsInPlace texts change → LeadsOn (exchange_of texts change) texts (list_after texts change)

@@ -3,7 +3,7 @@
 use Rattle.std.specs.Prelude.{ℕ, zero, suc, List, [], ◌∷◌, ◌++◌, length, Option, Some, None, IsSome, is_some, option_and_then, Bool, if◌then◌else◌}
 use Rattle.std.specs.List.{list_any}
 use Rattle.ti_caps.specs.Tables.{Capability, same_capability}
-use Rattle.ti_source.specs.Codes.{is_error}
+use Rattle.ti_source.specs.Code.{is_error}
 use Rattle.ti_source.specs.Reading.{Reading, ReadItem, ReadFault, Said, said_flag, said_number, said_text, said_cancel, said_import}
 use Rattle.ti_layout.specs.Values.{Content, content_true, content_number, content_text, content_cancelled, Contents}
 use Rattle.ti_layout.specs.Laws.{without_cancel}

@@ -66,5 +66,5 @@ pub record IsDistinctOf (names each : List (List ℕ)) : Type 0 where
       → IsFirstPlace names name at → IsFirstPlace names other behind → at < behind
 
 -- so are the names that duplicates are sought for
-abbrev pub NamesAreDistinct : Type 0
-NamesAreDistinct = (names : List (List ℕ)) → IsDistinctOf names (distinct names)
+abbrev pub DistinctHasEachOnce : Type 0
+DistinctHasEachOnce = (names : List (List ℕ)) → IsDistinctOf names (distinct names)

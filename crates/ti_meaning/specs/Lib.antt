@@ -1,6 +1,7 @@
 pub mod Owner
 pub mod Expansion
 pub mod Reaching
+pub mod inside
 pub mod Compiled
 pub mod Faults
 pub mod Report
@@ -8,7 +9,6 @@ pub mod Edits
 pub mod ValueTables
 pub mod Laws
 pub mod Usable
-pub mod Bounds
 pub mod Exchange
 pub mod Dependents
 pub mod KeptBlocks

@@ -6,7 +6,7 @@ use Rattle.std.specs.List.{flat_map}
 use Rattle.ti_text.specs.Ascii as ascii
 use Rattle.ti_text.specs.Texts.{line_count}
 use Rattle.ti_source.specs.declared.code.Code.{Code}
-use Rattle.ti_source.specs.Codes.{code_text}
+use Rattle.ti_source.specs.Code.{code_text}
 use Rattle.ti_meaning.specs.Owner.{readings}
 use Rattle.ti_meaning.specs.Faults.{SourceFault, faults}
 

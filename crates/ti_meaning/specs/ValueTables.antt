@@ -1,53 +1,15 @@
 -- When a table of values is that of a block (own): it has what the block's mentions say, at some depth of expansion.
-use Rattle.std.specs.Prelude.{ℕ, ◌≡◌, List, Option, Some, None, option_and_then}
-use Rattle.std.specs.Option.{option_or}
+use Rattle.std.specs.Prelude.{◌≡◌, List, Option, Some, None}
 use Rattle.ti_caps.specs.Tables.{Capability, IsCapability}
-use Rattle.ti_source.specs.Reading.{Reading, ReadItem, Said}
+use Rattle.ti_source.specs.Reading.{Reading}
 use Rattle.ti_layout.specs.Values.{Contents}
-use Rattle.ti_meaning.specs.Owner.{owner_block}
-use Rattle.ti_meaning.specs.Expansion.{Mention, leftmost_content, mentions_of, expand_items, expand, expansion}
-
--- the mentions of the block that a name belongs to, expanded so deep
-abbrev pub names_at : (List ℕ → Option Reading) → ℕ → List ℕ → Option (List Mention)
-names_at env depth name = option_and_then (expand env depth) (env name)
+use Rattle.ti_meaning.specs.Expansion.{Mention, leftmost_content, expansion}
 
 -- a table has what the mentions say of each capability
-abbrev pub Tells : Contents → List Mention → Type 0
-Tells table mentions = (c : Capability) → IsCapability c → table c ≡ leftmost_content mentions c
-
--- a table behind which the mentions were laid
-abbrev pub LaysBehind : Contents → List Mention → Contents → Type 0
-LaysBehind old mentions new = (c : Capability) → IsCapability c → new c ≡ option_or (old c) (leftmost_content mentions c)
-
--- the table of a block of the list: some depth expands the block, and the table tells what the mentions say
-pub record IsTableOf (blocks : List Reading) (block : Reading) (table : Contents) : Type 0 where
-  pub depth : ℕ
-  pub mentions : List Mention
-  pub expands : expand (owner_block blocks) depth block ≡ Some mentions
-  pub tells : Tells table mentions
-
--- the table that the first of these items make
-pub record IsTableOfItems (blocks : List Reading) (items : List ReadItem) (table : Contents) : Type 0 where
-  pub depth : ℕ
-  pub mentions : List Mention
-  pub expands : expand_items (names_at (owner_block blocks) depth) items ≡ Some mentions
-  pub tells : Tells table mentions
-
--- an item was laid behind a table
-pub record IsLaid (blocks : List Reading) (item : Said) (old new : Contents) : Type 0 where
-  pub depth : ℕ
-  pub mentions : List Mention
-  pub expands : mentions_of (names_at (owner_block blocks) depth) item ≡ Some mentions
-  pub lays : LaysBehind old mentions new
-
--- what the owner of a name says was laid behind a table
-pub record LaysName (blocks : List Reading) (name : List ℕ) (old new : Contents) : Type 0 where
-  pub depth : ℕ
-  pub mentions : List Mention
-  pub expands : names_at (owner_block blocks) depth name ≡ Some mentions
-  pub lays : LaysBehind old mentions new
+abbrev pub IsTableOfMentions : Contents → List Mention → Type 0
+IsTableOfMentions table mentions = (c : Capability) → IsCapability c → table c ≡ leftmost_content mentions c
 
 -- a block has a table exactly where it resolves
 abbrev pub HasTable : {T : Type 0} → (T → Contents) → List Reading → Reading → Option T → Type 0
 HasTable contents blocks block None = expansion blocks block ≡ None
-HasTable contents blocks block (Some table) = (mentions : List Mention) × (expansion blocks block ≡ Some mentions) × Tells (contents table) mentions
+HasTable contents blocks block (Some table) = (mentions : List Mention) × (expansion blocks block ≡ Some mentions) × IsTableOfMentions (contents table) mentions

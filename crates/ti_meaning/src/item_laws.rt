@@ -1,5 +1,5 @@
 // Laws on the faults of a block's items, and on the names that a block has. They compute nothing.
-ghost use Rattle.ti_meaning.specs.ItemLaws.{ItemFaultsGoByOrdinal, NamesAreDistinct, ReadItemsAreOrdered};
+ghost use Rattle.ti_meaning.specs.ItemLaws.{ItemFaultsGoByOrdinal, DistinctHasEachOnce, ReadItemsAreOrdered};
 
 /// The faults of the item with an ordinal are those that reading gave for it, then that of its use,
 /// and no others.
@@ -15,5 +15,5 @@ pub fn read_items_are_ordered()
 
 /// Duplicates are sought for each name of a block once, in the order of their first places.
 pub fn names_are_distinct()
-    ensures { NamesAreDistinct }
+    ensures { DistinctHasEachOnce }
 {}

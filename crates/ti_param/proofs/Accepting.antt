@@ -7,7 +7,7 @@ use Rattle.ti_param.specs.declared.acceptor.Phase.TheVariants.{Testing, Taken}
 use Rattle.ti_param.specs.declared.codes.Token.{Token}
 use Rattle.ti_param.specs.declared.codes.Token.TheVariants.{Literal, Operation, If, Then, Else, EndIf}
 use Rattle.ti_param.specs.declared.lexer.Placed.{Placed}
-use Rattle.ti_param.specs.Formats.{Tree, nothing, byte, code, group, choice, placed_token, Closes, by_mark, by_end, IsSequence, no_piece, byte_piece, code_piece, conditional_piece, IsConditional, test_alone, test_then, test_then_else, Parses}
+use Rattle.ti_param.specs.Formats.{Tree, nothing, byte, code, group, choice, placed_token, Closes, by_mark, by_end, IsSequence, no_piece, byte_piece, code_piece, conditional_piece, IsConditional, test_alone, test_then, test_then_else, AreTokensOf}
 use Rattle.ti_param.specs.inside.Formats.{phases_after, refusal}
 use Rattle.ti_param.proofs.Fronts.{chosen}
 
@@ -93,7 +93,7 @@ mutual
       sequence_accepted tested (Testing ∷ phases) deep
       (sequence_accepted took (Taken ∷ phases) deep (conditional_accepted other phases after deep closes rest))
 
-pub parses_accepted : (tokens : List Placed) (t : Tree) → Parses tokens t → Accepts [] tokens
+pub parses_accepted : (tokens : List Placed) (t : Tree) → AreTokensOf tokens t → Accepts [] tokens
 unfolding advanced_all
 parses_accepted tokens t parses = sequence_accepted parses [] refl ([], refl)
 
@@ -178,5 +178,5 @@ all_left : (tokens : List Placed) (phases : List Phase) → Accepts phases token
 all_left [] phases accepts = nothing_left phases
 all_left (p ∷ tokens) phases accepts = left_before p.place p.token tokens phases accepts (λ opened rest. all_left tokens opened rest)
 
-pub accepted_parses : (tokens : List Placed) → Accepts [] tokens → (t : Tree) × Parses tokens t
+pub accepted_parses : (tokens : List Placed) → Accepts [] tokens → (t : Tree) × AreTokensOf tokens t
 accepted_parses tokens accepts = all_left tokens [] accepts

@@ -6,8 +6,8 @@ use Rattle.ti_param.specs.declared.errors.ParamError.TheVariants.{BadFormat, Sta
 use Rattle.ti_param.specs.Formats.{Tree, IsTree, IsStuck}
 use Rattle.ti_param.specs.inside.Formats.{stuck_place, tree_of}
 use Rattle.ti_param.specs.Meaning.{Argument, State, Outcome, start, meaning}
-use Rattle.ti_param.specs.Expansion.{Expands, Overflows, expanded, expansion_by, unless_stuck, expansion, EndsWith}
-use Rattle.ti_param.specs.inside.Expansion.{HasOutcome, IsStuckError}
+use Rattle.ti_param.specs.Expansion.{Expands, Overflows}
+use Rattle.ti_param.specs.inside.Expansion.{expanded, expansion_by, unless_stuck, expansion, EndsWith, HasOutcome, IsStuckError}
 use Rattle.ti_param.proofs.Laws.{is_computed}
 
 -- the tree of a format that is not stuck

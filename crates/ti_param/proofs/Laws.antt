@@ -9,7 +9,7 @@ use Rattle.ti_param.specs.declared.codes.Token.TheVariants.{Literal}
 use Rattle.ti_param.specs.declared.lexer.Placed.{Placed}
 use Rattle.ti_param.specs.Codes.{IsCode}
 use Rattle.ti_param.specs.inside.Codes.{Front, token_after}
-use Rattle.ti_param.specs.Formats.{Tree, placed_token, IsCut, no_tokens, then_byte, then_code, Parses, IsTree, BeginsFormat, IsStuck, OneReading}
+use Rattle.ti_param.specs.Formats.{Tree, placed_token, IsCutIntoTokens, no_tokens, then_byte, then_code, AreTokensOf, IsTree, BeginsFormat, IsStuck, HasOneTree}
 use Rattle.ti_param.specs.inside.Formats.{Scan, with_token, scan, scan_of, phases_after, refusal, stuck_place, tree_and_marks, tree_of, IsComputed}
 use Rattle.ti_param.specs.Meaning.{State, Outcome, and_then, meaning}
 use Rattle.ti_param.proofs.Reading.{code_read, code_so}
@@ -23,7 +23,7 @@ use Rattle.ti_param.proofs.Running.{executed, sequence_runs}
 abbrev prefixed : List Placed → Scan → Scan
 prefixed tokens s = record { tokens = tokens ++ s.tokens; stop = s.stop }
 
-cut_scanned : {place : ℕ} {text : List ℕ} {tokens : List Placed} → IsCut place text tokens → (more : List ℕ) →
+cut_scanned : {place : ℕ} {text : List ℕ} {tokens : List Placed} → IsCutIntoTokens place text tokens → (more : List ℕ) →
     scan 0 place (text ++ more) ≡ prefixed tokens (scan 0 (place + length text) more)
 cut_scanned (no_tokens {place}) more = ap (λ p. scan 0 p more) (sym (add-zero place))
 cut_scanned (then_byte {place} b {text} {tokens} other cut) more =
@@ -37,7 +37,7 @@ cut_scanned (then_code {place} front {token} {rest} {tokens} is_code cut) more =
     ∙ ap (with_token place token) (cut_scanned cut more)
     ∙ ap (λ p. prefixed (placed_token place token ∷ tokens) (scan 0 p more)) count
 
-cut_whole : {place : ℕ} {text : List ℕ} {tokens : List Placed} → IsCut place text tokens →
+cut_whole : {place : ℕ} {text : List ℕ} {tokens : List Placed} → IsCutIntoTokens place text tokens →
     scan 0 place text ≡ record { tokens = tokens; stop = None }
 unfolding scan
 cut_whole {place} {text} {tokens} cut =
@@ -53,12 +53,12 @@ record IsStuckFrom (place : ℕ) (text : List ℕ) (phases : List Phase) (i : �
   pub opened : List Phase
   pub whole : text ≡ before ++ 37 ∷ after
   pub at : place + length before ≡ i
-  pub cut : IsCut place before tokens
+  pub cut : IsCutIntoTokens place before tokens
   pub accepted : advanced_all phases tokens ≡ Some opened
   pub refused : (front rest : List ℕ) (token : Token) → after ≡ front ++ rest → IsCode front token → phases_after opened token ≡ None
 
 abbrev IsRead : ℕ → List ℕ → List Phase → Option ℕ → Type 0
-IsRead place text phases None = (tokens : List Placed) × (opened : List Phase) × IsCut place text tokens × (advanced_all phases tokens ≡ Some opened)
+IsRead place text phases None = (tokens : List Placed) × (opened : List Phase) × IsCutIntoTokens place text tokens × (advanced_all phases tokens ≡ Some opened)
 IsRead place text phases (Some i) = IsStuckFrom place text phases i
 
 read_byte : (place b : ℕ) (text : List ℕ) (phases : List Phase) (r : Option ℕ) → (b == 37) ≡ false →
@@ -194,7 +194,7 @@ stuck_computed format place stuck =
     not_allowed opened accepted token None step none = step
     not_allowed opened accepted token (Some last) step none =
         let (t, parses) = accepted_parses (stuck.tokens ++ placed_token place token ∷ []) (accepts_end stuck.tokens (placed_token place token) [] opened last accepted step) in
-        absurd (none ([], t, subst (λ ts. Parses ts t) (sym (append-nil (stuck.tokens ++ placed_token place token ∷ []))) parses))
+        absurd (none ([], t, subst (λ ts. AreTokensOf ts t) (sym (append-nil (stuck.tokens ++ placed_token place token ∷ []))) parses))
 
     here : (opened : List Phase) → advanced_all [] stuck.tokens ≡ Some opened → (found : Front Token) → token_after stuck.after ≡ found →
         refused_by opened (scan 0 place (37 ∷ stuck.after)) ≡ Some place
@@ -219,7 +219,7 @@ computed_stuck format place is =
       length_before = omega (arith, from.at);
       tokens = from.tokens;
       cut = from.cut;
-      begins = ([], t, subst (λ ts. Parses ts t) (sym (append-nil from.tokens)) parses);
+      begins = ([], t, subst (λ ts. AreTokensOf ts t) (sym (append-nil from.tokens)) parses);
       none = λ front rest token whole is_code. refuses from token (from.refused front rest token whole is_code);
     }
   where
@@ -239,7 +239,7 @@ is_computed format = record {
   stuck = λ place. (stuck_computed format place, computed_stuck format place);
 }
 
-pub one_reading : (format : List ℕ) → OneReading format
+pub one_reading : (format : List ℕ) → HasOneTree format
 one_reading format = record {
   some = either (stuck_place format) refl;
   one_tree = λ t u tree other. sym (tree_computed format t tree).1 ∙ (tree_computed format u other).1;

@@ -16,12 +16,12 @@ abbrev pub placed_token : ℕ → Token → Placed
 placed_token place token = record { place = place; token = token }
 
 -- the text, which begins at the place, is these tokens: a byte other than `%` stands for itself, a `%` begins a code
-pub data IsCut : ℕ → List ℕ → List Placed → Type 0 where
-  no_tokens : {place : ℕ} → IsCut place [] []
+pub data IsCutIntoTokens : ℕ → List ℕ → List Placed → Type 0 where
+  no_tokens : {place : ℕ} → IsCutIntoTokens place [] []
   then_byte : {place : ℕ} (b : ℕ) {text : List ℕ} {tokens : List Placed} → (b == ascii.percent) ≡ false →
-      IsCut (suc place) text tokens → IsCut place (b ∷ text) (placed_token place (Literal b) ∷ tokens)
+      IsCutIntoTokens (suc place) text tokens → IsCutIntoTokens place (b ∷ text) (placed_token place (Literal b) ∷ tokens)
   then_code : {place : ℕ} (front : List ℕ) {token : Token} {rest : List ℕ} {tokens : List Placed} → IsCode front token →
-      IsCut (suc place + length front) rest tokens → IsCut place (ascii.percent ∷ (front ++ rest)) (placed_token place token ∷ tokens)
+      IsCutIntoTokens (suc place + length front) rest tokens → IsCutIntoTokens place (ascii.percent ∷ (front ++ rest)) (placed_token place token ∷ tokens)
 
 -- ---- trees
 
@@ -66,18 +66,18 @@ mutual
         IsConditional depth others left rest → IsConditional depth tokens left (choice test taken rest)
 
 -- the tree of a list of tokens
-abbrev pub Parses : List Placed → Tree → Type 0
-Parses tokens t = IsSequence 0 tokens [] t
+abbrev pub AreTokensOf : List Placed → Tree → Type 0
+AreTokensOf tokens t = IsSequence 0 tokens [] t
 
 -- the tree of a format
 pub record IsTree (format : List ℕ) (t : Tree) : Type 0 where
   pub tokens : List Placed
-  pub cut : IsCut 0 format tokens
-  pub parses : Parses tokens t
+  pub cut : IsCutIntoTokens 0 format tokens
+  pub parses : AreTokensOf tokens t
 
 -- the tokens begin some list of tokens that has a tree
 abbrev pub BeginsFormat : List Placed → Type 0
-BeginsFormat tokens = (more : List Placed) × (t : Tree) × Parses (tokens ++ more) t
+BeginsFormat tokens = (more : List Placed) × (t : Tree) × AreTokensOf (tokens ++ more) t
 
 -- Own, since the manual says nothing of bad formats: the text before the place is whole tokens that begin some format, a `%`
 -- stands there, and no code that may stand there begins there.
@@ -87,13 +87,13 @@ pub record IsStuck (format : List ℕ) (place : ℕ) : Type 0 where
   pub whole : format ≡ before ++ ascii.percent ∷ after
   pub length_before : length before ≡ place
   pub tokens : List Placed
-  pub cut : IsCut 0 before tokens
+  pub cut : IsCutIntoTokens 0 before tokens
   pub begins : BeginsFormat tokens
   pub none : (front rest : List ℕ) (token : Token) → after ≡ front ++ rest → IsCode front token →
       BeginsFormat (tokens ++ placed_token place token ∷ []) → ⊥
 
 -- the law of formats: each has exactly one tree, or exactly one place where it is stuck
-pub record OneReading (format : List ℕ) : Type 0 where
+pub record HasOneTree (format : List ℕ) : Type 0 where
   pub some : ((t : Tree) × IsTree format t) ⊎ ((place : ℕ) × IsStuck format place)
   pub one_tree : (t u : Tree) → IsTree format t → IsTree format u → t ≡ u
   pub one_place : (i j : ℕ) → IsStuck format i → IsStuck format j → i ≡ j

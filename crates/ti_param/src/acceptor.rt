@@ -2,7 +2,7 @@
 ghost use Rattle.std.specs.Prelude.{◌≡◌, ℕ, ◌≤◌, List, MatchResult, MatchBool, reverse};
 ghost use Rattle.arrayvec.specs.ArrayVec.{array_vec_len};
 ghost use Rattle.ti_param.specs.inside.Expansion.{IsStuckError};
-ghost use Rattle.ti_param.specs.Formats.{OneReading};
+ghost use Rattle.ti_param.specs.Formats.{HasOneTree};
 ghost use Rattle.ti_param.specs.inside.Formats.{stuck_place, phases_after, IsComputed};
 
 use crate::codes::Token;
@@ -69,7 +69,7 @@ fn advance(phases: &mut ArrayVec<Phase, MOST>, token: Token) -> bool
 
 /// The law of formats: each has exactly one tree, or exactly one place where it is stuck.
 pub fn one_reading()
-    ensures { (format : List ℕ) → OneReading format }
+    ensures { (format : List ℕ) → HasOneTree format }
 {}
 
 /// The law of the computing reader: it gives the tree, and the place, that there are.

@@ -3,8 +3,8 @@ ghost use Rattle.std.specs.Prelude.{◌≡◌, ℕ, ◌+◌, ◌^◌, ◌<◌, �
 ghost use Rattle.ti_param.specs.Formats.{Tree, IsTree, IsStuck};
 ghost use Rattle.ti_param.specs.inside.Formats.{after_part, level_after};
 ghost use Rattle.ti_param.specs.Meaning.{argument_of, meaning};
-ghost use Rattle.ti_param.specs.Expansion.{Expands, Overflows, EndsWith, expansion, expanded};
-ghost use Rattle.ti_param.specs.inside.Expansion.{HasOutcome};
+ghost use Rattle.ti_param.specs.Expansion.{Expands, Overflows};
+ghost use Rattle.ti_param.specs.inside.Expansion.{EndsWith, expansion, expanded, HasOutcome};
 
 use crate::acceptor::accept;
 use crate::codes::Token;

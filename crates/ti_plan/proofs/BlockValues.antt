@@ -12,11 +12,12 @@ use Rattle.ti_meaning.specs.Expansion.{Mention, values}
 use Rattle.ti_meaning.specs.Reaching.{used_name}
 use Rattle.ti_meaning.specs.Faults.{use_fault}
 use Rattle.ti_meaning.specs.Compiled.{EntryState, oversized, written, image_of, state_with, state_of}
-use Rattle.ti_meaning.specs.ValueTables.{Tells, IsLaid, IsTableOf, HasTable}
+use Rattle.ti_meaning.specs.ValueTables.{IsTableOfMentions, HasTable}
+use Rattle.ti_meaning.specs.inside.ValueTables.{AddsSaid, IsTableOf}
 use Rattle.ti_layout.specs.Image.{limit_of}
 use Rattle.ti_meaning.proofs.Depth.{bounded}
 use Rattle.ti_meaning.proofs.Laying.{uses_at}
-use Rattle.ti_plan.specs.Settling.{IsUseAt, IsItemAt, AreUsesSound, IsUsedTable}
+use Rattle.ti_plan.specs.inside.Settling.{IsUseAt, IsItemAt, AreUsesSound, IsUsedTable}
 
 -- an item that says a use is one
 pub use_of_item : (blocks : List Reading) (at index : ℕ) (name : List ℕ) → IsItemAt blocks at index (said_import name) → IsUseAt blocks at index name
@@ -29,17 +30,17 @@ no_fault blocks at index name code h sound e =
     none-some code (sym none ∙ sym e)
 
 -- the table of the used name's owner was laid
-pub laid_use : (blocks : List Reading) (name : List ℕ) (used old new : Contents) → IsUsedTable blocks name used → ((c : Capability) → IsCapability c → new c ≡ option_or (old c) (used c)) → IsLaid blocks (said_import name) old new
+pub laid_use : (blocks : List Reading) (name : List ℕ) (used old new : Contents) → IsUsedTable blocks name used → ((c : Capability) → IsCapability c → new c ≡ option_or (old c) (used c)) → AddsSaid blocks (said_import name) old new
 laid_use blocks name used old new u laid = record {
   depth = suc (length blocks);
   mentions = u.2.0;
   expands = rw u.1 u.2.1;
-  lays = λ c valid. rw (← u.2.2 c valid) (laid c valid);
+  adds = λ c valid. rw (← u.2.2 c valid) (laid c valid);
 }
 
 -- a table that says the same
 pub same_table : (blocks : List Reading) (block : Reading) (f g : Contents) → ((c : Capability) → IsCapability c → g c ≡ f c) → IsTableOf blocks block f → IsTableOf blocks block g
-same_table blocks block f g same t = record { depth = t.depth; mentions = t.mentions; expands = t.expands; tells = λ c valid. same c valid ∙ t.tells c valid }
+same_table blocks block f g same t = record { depth = t.depth; mentions = t.mentions; expands = t.expands; is_table = λ c valid. same c valid ∙ t.is_table c valid }
 
 -- ---- the state that a table makes
 
@@ -55,9 +56,9 @@ over b ms l =
 
 -- the table that some depth gives is the block's
 pub has_table : (blocks : List Reading) (at : ℕ) (b : Reading) (t : Table) → slice_get blocks at ≡ Some b → IsTableOf blocks b (contents t) → HasTable contents blocks b (Some t)
-has_table blocks at b t s h = (h.mentions, bounded blocks h.depth at b h.mentions s h.expands, h.tells)
+has_table blocks at b t s h = (h.mentions, bounded blocks h.depth at b h.mentions s h.expands, h.is_table)
 
-pub state_is : (blocks : List Reading) (b : Reading) (t : Table) (seen : EntryState) → HasTable contents blocks b (Some t) → ((ms : List Mention) → Tells (contents t) ms → seen ≡ state_with b (Some ms)) → seen ≡ state_of blocks b
+pub state_is : (blocks : List Reading) (b : Reading) (t : Table) (seen : EntryState) → HasTable contents blocks b (Some t) → ((ms : List Mention) → IsTableOfMentions (contents t) ms → seen ≡ state_with b (Some ms)) → seen ≡ state_of blocks b
 state_is blocks b t seen h f = f h.0 h.2 ∙ ap (state_with b) (sym h.1)
 
 pub table_seen : (blocks : List Reading) (b : Reading) (t : Table) (o : Option Table) → o ≡ Some t → HasTable contents blocks b (Some t) → HasTable contents blocks b o

@@ -11,7 +11,7 @@ use Rattle.ti_slots.specs.declared.slots.Settled.{Settled}
 use Rattle.ti_slots.specs.Slots.{blocks_of}
 use Rattle.ti_slots.specs.Settled.{IsSettled}
 use Rattle.ti_dependents.specs.declared.dependents.Dependents.{Dependents}
-use Rattle.ti_plan.specs.Settling.{AreFoundIn, AreSettled, AreAllSettled, CanBeSettled, HasSettledOwners, place_of}
+use Rattle.ti_plan.specs.inside.Settling.{AreFoundIn, AreSettled, AreAllSettled, CanBeSettled, HasSettledOwners, place_of}
 
 -- those before one place of the order are settled
 pub record IsFollowing (slots : Slots) (d : Dependents) (order : List ℕ) (settled : List (Option Settled)) (end : ℕ) : Type 0 where

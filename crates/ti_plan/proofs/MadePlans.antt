@@ -18,7 +18,7 @@ use Rattle.ti_dependents.specs.Dependents.{AreDependentIds, IsGraphOfUses}
 use Rattle.ti_plan.specs.Plan.{IsPlan, IsReady}
 use Rattle.ti_dependents.specs.declared.dependents.Dependents.{Dependents}
 use Rattle.ti_plan.specs.declared.plans.Plan.{Plan}
-use Rattle.ti_plan.specs.Settling.{AreFoundIn, AreAllSettled, IsPlanOf, place_of}
+use Rattle.ti_plan.specs.inside.Settling.{AreFoundIn, AreAllSettled, IsPlanOf, place_of}
 use Rattle.ti_plan.proofs.Places.{block_of, block_at, node_of_place, node_of_id, one_node}
 use Rattle.ti_plan.proofs.Following.{place_stands}
 

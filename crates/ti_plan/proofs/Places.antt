@@ -16,7 +16,7 @@ use Rattle.ti_slots.specs.declared.slots.Slot.{Slot}
 use Rattle.ti_slots.specs.declared.slots.Slots.{Slots}
 use Rattle.ti_slots.specs.Slots.{blocks_of, reading_at, slot_at, empty_reading, StandsAt, IsOwnerId}
 use Rattle.ti_dependents.specs.declared.dependents.Dependents.{Dependents}
-use Rattle.ti_plan.specs.Settling.{AreFoundIn, IsUseAt, IsEdgeTo}
+use Rattle.ti_plan.specs.inside.Settling.{AreFoundIn, IsUseAt, IsEdgeTo}
 
 -- ---- blocks by their ids and positions
 

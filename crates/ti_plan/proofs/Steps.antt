@@ -11,7 +11,7 @@ use Rattle.ti_components.proofs.Lists.{item_at}
 use Rattle.ti_slots.specs.declared.slots.Slots.{Slots}
 use Rattle.ti_slots.specs.Slots.{blocks_of}
 use Rattle.ti_dependents.specs.declared.dependents.Dependents.{Dependents}
-use Rattle.ti_plan.specs.Settling.{AreFoundIn}
+use Rattle.ti_plan.specs.inside.Settling.{AreFoundIn}
 use Rattle.ti_plan.proofs.Places.{block_of, node_of_place}
 use Rattle.std.proofs.lemmas.Option.{same_Some}
 

@@ -7,7 +7,8 @@ use Rattle.ti_source.specs.declared.code.Code.TheVariants.{Circular}
 use Rattle.ti_source.specs.Reading.{Reading}
 use Rattle.ti_layout.specs.Values.{contents}
 use Rattle.ti_meaning.specs.Owner.{owner}
-use Rattle.ti_meaning.specs.Reaching.{LeadsTo, leads_to}
+use Rattle.ti_meaning.specs.Reaching.{LeadsTo}
+use Rattle.ti_meaning.specs.inside.Reaching.{leads_to}
 use Rattle.ti_meaning.specs.Faults.{use_fault}
 use Rattle.ti_meaning.specs.UseLaws as laws
 use Rattle.ti_meaning.specs.UseLaws.{HaveOneNumber}
@@ -22,7 +23,7 @@ use Rattle.ti_slots.specs.declared.slots.Settled.{Settled}
 use Rattle.ti_slots.specs.Slots.{blocks_of, slot_at, IsOwnerId}
 use Rattle.ti_slots.specs.Settled.{table_of}
 use Rattle.ti_dependents.specs.declared.dependents.Dependents.{Dependents}
-use Rattle.ti_plan.specs.Settling.{IsKnown, IsUseAt, IsEdgeTo, IsOwnerState, HasSettledOwners}
+use Rattle.ti_plan.specs.inside.Settling.{IsKnown, IsUseAt, IsEdgeTo, IsOwnerState, HasSettledOwners}
 use Rattle.ti_plan.proofs.Places.{block_of, block_at, node_of_place, node_of_id, use_of_place, edge_is, row_at, graph_of, components_of}
 
 -- a use among the blocks found

@@ -1,2 +1,2 @@
 pub mod Plan
-pub mod Settling
+pub mod inside

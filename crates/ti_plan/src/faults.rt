@@ -2,38 +2,19 @@
 ghost use Rattle.std.specs.Prelude.{ℕ, ◌≡◌, ◌≤◌, ◌++◌, [], ◌∷◌, drop, filter, map, length, slice_get, Some, is_some, false, option_map, IfOk, OnOk};
 ghost use Rattle.std.specs.Bool.{MatchBool};
 ghost use Rattle.std.specs.Rc.{rc_slice_items};
-ghost use Rattle.ti_source.specs.Codes.{is_of_header};
 ghost use Rattle.ti_source.specs.Reading.{fault_of, reading_of, said_of};
 ghost use Rattle.ti_meaning.specs.Faults.{entry_faults, fault_of_item, fault_of_use, faults_before, faults_from, is_kept, item_faults, local_fault, local_faults, use_fault};
 ghost use Rattle.ti_meaning.specs.KeptBlocks.{is_no_duplicate};
 ghost use Rattle.ti_meaning.specs.Reaching.{used_name};
 ghost use Rattle.ti_meaning.specs.UseLaws.{HasUseAtFault};
 ghost use Rattle.ti_slots.specs.Settled.{fault_at, state_seen};
-ghost use Rattle.ti_slots.specs.Slots.{blocks_of};
-ghost use Rattle.ti_plan.specs.Settling.{AreUsesSound, CanBeSettled, IsItemAt, IsUseAt, is_at_fault};
+ghost use Rattle.ti_plan.specs.inside.Settling.{AreUsesSound, IsReady, IsItemAt, IsUseAt, is_at_fault, blocks_known};
 
 use crate::owners::{Known, used_table};
 use std::alloc::AllocError;
 use std::rc::RcSlice;
-use ti_slots::{KeptFault, State};
+use ti_slots::{KeptFault, State, copy_detail};
 use ti_source::{Code, Item, Local, Parsed, What};
-
-/// Whether a fault of this code is one of the header.
-fn is_of_header(code: Code) -> bool
-    ensures { result ≡ is_of_header code }
-{
-    matches!(code, Code::BadHeader | Code::NamesTooLong)
-}
-
-/// The same detail once more, its bytes shared.
-fn shared(detail: &Option<RcSlice<u8>>) -> Result<Option<RcSlice<u8>>, AllocError>
-    ensures { IfOk result (λ d. option_map rc_slice_items d ≡ option_map rc_slice_items detail.now) }
-{
-    Ok(match detail {
-        Some(bytes) => Some(bytes.clone()?),
-        None => None,
-    })
-}
 
 /// Adds a fault that reading gave. One of a name that an earlier block owns is none of these.
 fn add_local(local: &Local, faults: &mut Vec<KeptFault>) -> Result<(), AllocError>
@@ -45,7 +26,7 @@ fn add_local(local: &Local, faults: &mut Vec<KeptFault>) -> Result<(), AllocErro
         faults.push(KeptFault {
             line: local.line,
             code: local.code,
-            detail: shared(&local.detail)?,
+            detail: copy_detail(&local.detail)?,
         })?;
     }
     Ok(())
@@ -62,7 +43,7 @@ pub(crate) fn add_locals(
         ≡ map (fault_at at) faults.old.items ++ filter is_no_duplicate (local_faults of_header at (map fault_of locals.now))) }
 {
     for local in locals {
-        if is_of_header(local.code) == of_header {
+        if local.code.is_of_header() == of_header {
             add_local(local, faults)?;
         }
     }
@@ -87,7 +68,7 @@ fn add_before(
 {
     for place in next..locals.len() {
         let local = &locals[place];
-        if !is_of_header(local.code) {
+        if !local.code.is_of_header() {
             if local.ordinal >= ordinal {
                 return Ok(place);
             }
@@ -108,11 +89,11 @@ fn add_use_fault(
     faults: &mut Vec<KeptFault>,
 ) -> Result<bool, AllocError>
     ghost at: { ℕ }
-    requires ready { CanBeSettled known.now.slots.now known.now.dependents.now known.now.component_of.now known.now.settled.now node at }
-    requires used { IsUseAt (blocks_of known.now.slots.now) at index (rc_slice_items name.now) }
+    requires ready { IsReady known.now node at }
+    requires used { IsUseAt (blocks_known known.now) at index (rc_slice_items name.now) }
     ensures added { OnOk result (map (fault_at at) faults.new.items ≡ map (fault_at at) faults.old.items
-        ++ fault_of_use at line (rc_slice_items name.now) (use_fault (blocks_of known.now.slots.now) at (rc_slice_items name.now))) }
-    ensures told { IfOk result (λ is_wrong. is_wrong ≡ is_some (use_fault (blocks_of known.now.slots.now) at (rc_slice_items name.now))) }
+        ++ fault_of_use at line (rc_slice_items name.now) (use_fault (blocks_known known.now) at (rc_slice_items name.now))) }
+    ensures told { IfOk result (λ is_wrong. is_wrong ≡ is_some (use_fault (blocks_known known.now) at (rc_slice_items name.now))) }
 {
     let Err(code) = used_table(known, node, index, name.as_slice()) else {
         return Ok(false);
@@ -135,11 +116,11 @@ fn add_item_fault(
     faults: &mut Vec<KeptFault>,
 ) -> Result<bool, AllocError>
     ghost at: { ℕ }
-    requires ready { CanBeSettled known.now.slots.now known.now.dependents.now known.now.component_of.now known.now.settled.now node at }
-    requires item { IsItemAt (blocks_of known.now.slots.now) at index (said_of item.now.what) }
+    requires ready { IsReady known.now node at }
+    requires item { IsItemAt (blocks_known known.now) at index (said_of item.now.what) }
     ensures added { OnOk result (map (fault_at at) faults.new.items ≡ map (fault_at at) faults.old.items
-        ++ fault_of_item (blocks_of known.now.slots.now) at item.now.line (used_name (said_of item.now.what))) }
-    ensures told { IfOk result (λ is_wrong. is_wrong ≡ is_at_fault (blocks_of known.now.slots.now) at (used_name (said_of item.now.what))) }
+        ++ fault_of_item (blocks_known known.now) at item.now.line (used_name (said_of item.now.what))) }
+    ensures told { IfOk result (λ is_wrong. is_wrong ≡ is_at_fault (blocks_known known.now) at (used_name (said_of item.now.what))) }
 {
     match &item.what {
         What::Import(name) => add_use_fault(known, node, index, item.line, name, faults),
@@ -156,12 +137,12 @@ pub(crate) fn add_item_faults(
     faults: &mut Vec<KeptFault>,
 ) -> Result<bool, AllocError>
     ghost at: { ℕ }
-    requires ready { CanBeSettled known.now.slots.now known.now.dependents.now known.now.component_of.now known.now.settled.now node at }
-    requires block { slice_get (blocks_of known.now.slots.now) at ≡ Some (reading_of block.now) }
+    requires ready { IsReady known.now node at }
+    requires block { slice_get (blocks_known known.now) at ≡ Some (reading_of block.now) }
     ensures added { OnOk result (map (fault_at at) faults.new.items ≡ map (fault_at at) faults.old.items
-        ++ filter is_no_duplicate (item_faults (blocks_of known.now.slots.now) at (filter (is_kept false) (reading_of block.now).faults) (reading_of block.now).items)) }
+        ++ filter is_no_duplicate (item_faults (blocks_known known.now) at (filter (is_kept false) (reading_of block.now).faults) (reading_of block.now).items)) }
     ensures told { IfOk result (λ is_wrong. MatchBool is_wrong
-        (HasUseAtFault (blocks_of known.now.slots.now) at (reading_of block.now)) (AreUsesSound (blocks_of known.now.slots.now) at)) }
+        (HasUseAtFault (blocks_known known.now) at (reading_of block.now)) (AreUsesSound (blocks_known known.now) at)) }
 {
     let mut next = 0;
     let mut is_wrong = false;

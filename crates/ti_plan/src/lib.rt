@@ -11,11 +11,11 @@
 #![tactic(auto)]
 
 mod faults;
-mod laying;
 mod owners;
 mod planning;
 mod plans;
 mod settling;
+mod tables;
 
 pub use planning::{plan, plan_all};
 pub use plans::Plan;

@@ -2,8 +2,7 @@
 ghost use Rattle.std.specs.Prelude.{ℕ, ◌≡◌, Some, None, IfOk, IfErr};
 ghost use Rattle.ti_layout.specs.Values.{contents};
 ghost use Rattle.ti_meaning.specs.Faults.{use_fault};
-ghost use Rattle.ti_slots.specs.Slots.{blocks_of};
-ghost use Rattle.ti_plan.specs.Settling.{CanBeSettled, IsOwnerState, IsUseAt, IsUsedTable};
+ghost use Rattle.ti_plan.specs.inside.Settling.{IsReady, IsOwnerState, IsUseAt, IsUsedTable, blocks_known};
 
 use ti_compiled::Table;
 use ti_dependents::Dependents;
@@ -29,10 +28,10 @@ fn owner_state<'a>(
     name: &[u8],
 ) -> Result<&'a State, Code>
     ghost at: { ℕ }
-    requires ready { CanBeSettled known.now.slots.now known.now.dependents.now known.now.component_of.now known.now.settled.now node at }
-    requires used { IsUseAt (blocks_of known.now.slots.now) at index name.now }
-    ensures fault { IfErr result (λ code. Some code ≡ use_fault (blocks_of known.now.slots.now) at name.now) }
-    ensures owner { IfOk result (λ state. IsOwnerState (blocks_of known.now.slots.now) at name.now state.now) }
+    requires ready { IsReady known.now node at }
+    requires used { IsUseAt (blocks_known known.now) at index name.now }
+    ensures fault { IfErr result (λ code. Some code ≡ use_fault (blocks_known known.now) at name.now) }
+    ensures owner { IfOk result (λ state. IsOwnerState (blocks_known known.now) at name.now state.now) }
 {
     match known.dependents.uses.row(node)[index] {
         Some(owner) => {
@@ -60,11 +59,11 @@ pub(crate) fn used_table<'a>(
     name: &[u8],
 ) -> Result<&'a Table, Code>
     ghost at: { ℕ }
-    requires ready { CanBeSettled known.now.slots.now known.now.dependents.now known.now.component_of.now known.now.settled.now node at }
-    requires used { IsUseAt (blocks_of known.now.slots.now) at index name.now }
-    ensures fault { IfErr result (λ code. Some code ≡ use_fault (blocks_of known.now.slots.now) at name.now) }
-    ensures none { IfOk result (λ table. use_fault (blocks_of known.now.slots.now) at name.now ≡ None) }
-    ensures table { IfOk result (λ table. IsUsedTable (blocks_of known.now.slots.now) name.now (contents table.now)) }
+    requires ready { IsReady known.now node at }
+    requires used { IsUseAt (blocks_known known.now) at index name.now }
+    ensures fault { IfErr result (λ code. Some code ≡ use_fault (blocks_known known.now) at name.now) }
+    ensures none { IfOk result (λ table. use_fault (blocks_known known.now) at name.now ≡ None) }
+    ensures table { IfOk result (λ table. IsUsedTable (blocks_known known.now) name.now (contents table.now)) }
 {
     match owner_state(known, node, index, name)? {
         State::Unresolved => Err(Code::Unresolved),

@@ -2,7 +2,7 @@
 ghost use Rattle.std.specs.Prelude.{ℕ, ◌≡◌, ◌+◌, ◌<◌, ◌^◌, map, length, slice_get, Some, IfOk, OnOk};
 ghost use Rattle.std.specs.Bool.{MatchBool};
 ghost use Rattle.std.specs.List.{list_any};
-ghost use Rattle.ti_source.specs.Codes.{is_error};
+ghost use Rattle.ti_source.specs.Code.{is_error};
 ghost use Rattle.ti_source.specs.Reading.{Reading, fault_of, reading_of};
 ghost use Rattle.ti_layout.specs.Values.{contents};
 ghost use Rattle.ti_meaning.specs.Compiled.{state_of};
@@ -10,12 +10,11 @@ ghost use Rattle.ti_meaning.specs.Dependents.{work_of};
 ghost use Rattle.ti_meaning.specs.UseLaws.{HasUseAtFault};
 ghost use Rattle.ti_meaning.specs.ValueTables.{HasTable};
 ghost use Rattle.ti_slots.specs.Settled.{IsSettled, state_seen, table_of};
-ghost use Rattle.ti_slots.specs.Slots.{blocks_of};
-ghost use Rattle.ti_plan.specs.Settling.{AreUsesSound, CanBeSettled};
+ghost use Rattle.ti_plan.specs.inside.Settling.{AreUsesSound, IsReady, blocks_known};
 
 use crate::faults::{add_entry_fault, add_item_faults, add_locals};
-use crate::laying::compile;
 use crate::owners::Known;
+use crate::tables::compile;
 use std::alloc::{AllocError, Global};
 use ti_slots::{Settled, Slot, State};
 use ti_source::Local;
@@ -35,8 +34,8 @@ fn has_error(faults: &[Local]) -> bool
 /// The slot of the block at a node, in which what was found out before is still there.
 fn slot_of<'a>(known: &Known<'a>, node: usize) -> &'a Slot
     ghost at: { ℕ }
-    requires { CanBeSettled known.now.slots.now known.now.dependents.now known.now.component_of.now known.now.settled.now node at }
-    ensures { slice_get (blocks_of known.now.slots.now) at ≡ Some (reading_of result.now.block) }
+    requires { IsReady known.now node at }
+    ensures { slice_get (blocks_known known.now) at ≡ Some (reading_of result.now.block) }
 {
     known.slots.slot(known.dependents.ids[node])
 }
@@ -51,14 +50,14 @@ fn find_state(
     work: &mut u64,
 ) -> Result<State, AllocError>
     ghost at: { ℕ }
-    requires ready { CanBeSettled known.now.slots.now known.now.dependents.now known.now.component_of.now known.now.settled.now node at }
-    requires block { slice_get (blocks_of known.now.slots.now) at ≡ Some (reading_of slot.now.block) }
-    requires uses { MatchBool is_wrong (HasUseAtFault (blocks_of known.now.slots.now) at (reading_of slot.now.block))
-        (AreUsesSound (blocks_of known.now.slots.now) at) }
+    requires ready { IsReady known.now node at }
+    requires block { slice_get (blocks_known known.now) at ≡ Some (reading_of slot.now.block) }
+    requires uses { MatchBool is_wrong (HasUseAtFault (blocks_known known.now) at (reading_of slot.now.block))
+        (AreUsesSound (blocks_known known.now) at) }
     requires room { work.old + length slot.now.block.items.items < 2 ^ 64 }
-    ensures state { IfOk result (λ state. state_seen state ≡ state_of (blocks_of known.now.slots.now) (reading_of slot.now.block)) }
-    ensures table { IfOk result (λ state. HasTable contents (blocks_of known.now.slots.now) (reading_of slot.now.block) (table_of state)) }
-    ensures work { OnOk result (work.new ≡ work.old + work_of (blocks_of known.now.slots.now) (Some (reading_of slot.now.block))) }
+    ensures state { IfOk result (λ state. state_seen state ≡ state_of (blocks_known known.now) (reading_of slot.now.block)) }
+    ensures table { IfOk result (λ state. HasTable contents (blocks_known known.now) (reading_of slot.now.block) (table_of state)) }
+    ensures work { OnOk result (work.new ≡ work.old + work_of (blocks_known known.now) (Some (reading_of slot.now.block))) }
 {
     if is_wrong || has_error(&slot.block.faults) {
         return Ok(State::Unresolved);
@@ -75,11 +74,11 @@ pub(crate) fn settle(
     work: &mut u64,
 ) -> Result<Settled, AllocError>
     ghost at: { ℕ }
-    requires ready { CanBeSettled known.now.slots.now known.now.dependents.now known.now.component_of.now known.now.settled.now node at }
-    requires room { (block : Reading) → slice_get (blocks_of known.now.slots.now) at ≡ Some block → work.old + length block.items < 2 ^ 64 }
-    ensures settled { IfOk result (λ settled. (block : Reading) → slice_get (blocks_of known.now.slots.now) at ≡ Some block
-        → IsSettled (blocks_of known.now.slots.now) at block settled) }
-    ensures work { OnOk result (work.new ≡ work.old + work_of (blocks_of known.now.slots.now) (slice_get (blocks_of known.now.slots.now) at)) }
+    requires ready { IsReady known.now node at }
+    requires room { (block : Reading) → slice_get (blocks_known known.now) at ≡ Some block → work.old + length block.items < 2 ^ 64 }
+    ensures settled { IfOk result (λ settled. (block : Reading) → slice_get (blocks_known known.now) at ≡ Some block
+        → IsSettled (blocks_known known.now) at block settled) }
+    ensures work { OnOk result (work.new ≡ work.old + work_of (blocks_known known.now) (slice_get (blocks_known known.now) at)) }
 {
     let slot = slot_of(known, node);
     let mut faults = Vec::new(alloc);

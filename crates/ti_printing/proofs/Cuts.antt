@@ -5,7 +5,7 @@ use Rattle.std.proofs.Math.Seq.{drop-append_seam}
 use Rattle.ti_printing.specs.declared.padding.Padding.{Padding}
 use Rattle.ti_printing.specs.declared.padding.Part.{Part}
 use Rattle.ti_printing.specs.declared.padding.Part.TheVariants.{Literal, Delay}
-use Rattle.ti_printing.specs.Padding.{BeginsNoPadding, IsPadding, IsCut, cut_nothing, cut_literal, cut_padding, OneCut}
+use Rattle.ti_printing.specs.Padding.{BeginsNoPadding, IsPadding, IsCutIntoParts, cut_nothing, cut_literal, cut_padding, OneCut}
 use Rattle.ti_printing.specs.inside.Padding.{first_part, taken_by, padding_at, parts_after, parts_of}
 use Rattle.ti_printing.proofs.Paddings.{padding_at-some, padding_at-found}
 
@@ -69,7 +69,7 @@ begins_from_none text none = λ front rest padding spelled is.
     let e = ap padding_at spelled in
     cc
 
-parts_of_cut : (text : List ℕ) (parts : List Part) → IsCut text parts → parts ≡ parts_of text
+parts_of_cut : (text : List ℕ) (parts : List Part) → IsCutIntoParts text parts → parts ≡ parts_of text
 unfolding parts_of
 parts_of_cut _ _ cut_nothing = refl
 parts_of_cut _ _ (cut_literal {byte} {rest} {parts} other cut) =
@@ -78,22 +78,22 @@ parts_of_cut _ _ (cut_padding {text} {rest} {padding} {parts} is cut) =
     ap (λ ps. Delay padding ∷ ps) (parts_of_cut rest parts cut) ∙ sym (parts_of-padding text rest padding is)
 
 -- the cut of a text of at most so many bytes
-cut_within : (most : ℕ) (text : List ℕ) → length text ≤ most → IsCut text (parts_of text)
+cut_within : (most : ℕ) (text : List ℕ) → length text ≤ most → IsCutIntoParts text (parts_of text)
 unfolding parts_of
 cut_within most [] within = cut_nothing
 cut_within zero (byte ∷ text) within = absurd (omega arith)
 cut_within (suc most) (byte ∷ text) within =
-    elim (padding_at (byte ∷ text)) as (λ o. padding_at (byte ∷ text) ≡ o → IsCut (byte ∷ text) (parts_of (byte ∷ text))) [
-      | None ↦ λ e. subst (IsCut (byte ∷ text)) (sym (parts_of-none byte text e)) (cut_literal (begins_from_none (byte ∷ text) e) (cut_within most text (omega arith)))
+    elim (padding_at (byte ∷ text)) as (λ o. padding_at (byte ∷ text) ≡ o → IsCutIntoParts (byte ∷ text) (parts_of (byte ∷ text))) [
+      | None ↦ λ e. subst (IsCutIntoParts (byte ∷ text)) (sym (parts_of-none byte text e)) (cut_literal (begins_from_none (byte ∷ text) e) (cut_within most text (omega arith)))
       | Some found ↦ λ e.
           let (front, spelled, is) = padding_at-some (byte ∷ text) found e in
           let (first, others, some) = padding_nonempty front found.0 is in
           let shorter : length found.1 ≤ most = omega (arith, length-append front found.1, ap length spelled, ap length some) in
-          subst (λ t. IsCut t (parts_of t)) (sym spelled) (subst (IsCut (front ++ found.1)) (sym (parts_of-padding front found.1 found.0 is)) (cut_padding is (cut_within most found.1 shorter)))
+          subst (λ t. IsCutIntoParts t (parts_of t)) (sym spelled) (subst (IsCutIntoParts (front ++ found.1)) (sym (parts_of-padding front found.1 found.0 is)) (cut_padding is (cut_within most found.1 shorter)))
     ] refl
 
 pub one_cut : OneCut
-one_cut text parts = (parts_of_cut text parts, λ e. subst (IsCut text) (sym e) (cut_within (length text) text (omega arith)))
+one_cut text parts = (parts_of_cut text parts, λ e. subst (IsCutIntoParts text) (sym e) (cut_within (length text) text (omega arith)))
 
 -- no more parts than bytes
 length-parts_after : (taken : ℕ) (text : List ℕ) → length (parts_after taken text) ≤ length text

@@ -52,15 +52,15 @@ abbrev pub BeginsNoPadding : List ℕ → Type 0
 BeginsNoPadding text = (front rest : List ℕ) (padding : Padding) → text ≡ front ++ rest → IsPadding front padding → ⊥
 
 -- the text, cut from the left into paddings and bytes at which none begins
-pub data IsCut : List ℕ → List Part → Type 0 where
-  cut_nothing : IsCut [] []
-  cut_literal : {byte : ℕ} {rest : List ℕ} {parts : List Part} → BeginsNoPadding (byte ∷ rest) → IsCut rest parts → IsCut (byte ∷ rest) (Literal byte ∷ parts)
-  cut_padding : {text rest : List ℕ} {padding : Padding} {parts : List Part} → IsPadding text padding → IsCut rest parts
-      → IsCut (text ++ rest) (Delay padding ∷ parts)
+pub data IsCutIntoParts : List ℕ → List Part → Type 0 where
+  cut_nothing : IsCutIntoParts [] []
+  cut_literal : {byte : ℕ} {rest : List ℕ} {parts : List Part} → BeginsNoPadding (byte ∷ rest) → IsCutIntoParts rest parts → IsCutIntoParts (byte ∷ rest) (Literal byte ∷ parts)
+  cut_padding : {text rest : List ℕ} {padding : Padding} {parts : List Part} → IsPadding text padding → IsCutIntoParts rest parts
+      → IsCutIntoParts (text ++ rest) (Delay padding ∷ parts)
 
 -- the law of the cut: each text has exactly one, and it is `parts_of`
 abbrev pub OneCut : Type 0
-OneCut = (text : List ℕ) (parts : List Part) → IsCut text parts ↔ (parts ≡ parts_of text)
+OneCut = (text : List ℕ) (parts : List Part) → IsCutIntoParts text parts ↔ (parts ≡ parts_of text)
 
 -- ---- the padded text
 

@@ -1,7 +1,7 @@
 //! The scenarios, and their names.
 use crate::{calls, entries, listings, scripts, strings, tools};
 use std::alloc::Global;
-use ti_tried_edits::blocks::{moves, owners, ring, three};
+use ti_tried_edits::blocks::{circular, moves, owners, three};
 use ti_tried_edits::many::Many;
 use ti_tried_edits::{Tried, Trouble, edits, many, wholes};
 
@@ -9,12 +9,12 @@ use ti_tried_edits::{Tried, Trouble, edits, many, wholes};
 #[derive(Clone, Copy, Debug, PartialEq, Eq)]
 pub enum Scenario {
     Three,
-    Ring,
+    Circular,
     Owners,
     Moves,
     Limit,
     RunThree,
-    RunRing,
+    RunCircular,
     RunOwners,
     RunMoves,
     RunLimit,
@@ -44,12 +44,12 @@ impl Scenario {
     /// All of them, each with the word that names it.
     pub const ALL: [(Scenario, &'static str); 30] = [
         (Scenario::Three, "edits-of-three-blocks"),
-        (Scenario::Ring, "edits-of-a-ring"),
+        (Scenario::Circular, "edits-of-circular-uses"),
         (Scenario::Owners, "edits-of-owners"),
         (Scenario::Moves, "edits-that-move"),
         (Scenario::Limit, "edits-at-the-limit"),
         (Scenario::RunThree, "run-of-three-blocks"),
-        (Scenario::RunRing, "run-of-a-ring"),
+        (Scenario::RunCircular, "run-of-circular-uses"),
         (Scenario::RunOwners, "run-of-owners"),
         (Scenario::RunMoves, "run-that-moves"),
         (Scenario::RunLimit, "run-at-the-limit"),
@@ -82,12 +82,12 @@ impl Scenario {
     pub fn run(self, alloc: Global) -> Result<Tried, Trouble> {
         match self {
             Scenario::Three => edits::apply_all(alloc, &three()),
-            Scenario::Ring => edits::apply_all(alloc, &ring()),
+            Scenario::Circular => edits::apply_all(alloc, &circular()),
             Scenario::Owners => edits::apply_all(alloc, &owners()),
             Scenario::Moves => edits::apply_all(alloc, &moves()),
             Scenario::Limit => edits::apply_at_limit(alloc),
             Scenario::RunThree => wholes::run_all(alloc, &three()),
-            Scenario::RunRing => wholes::run_all(alloc, &ring()),
+            Scenario::RunCircular => wholes::run_all(alloc, &circular()),
             Scenario::RunOwners => wholes::run_all(alloc, &owners()),
             Scenario::RunMoves => wholes::run_all(alloc, &moves()),
             Scenario::RunLimit => wholes::run_at_limit(alloc),

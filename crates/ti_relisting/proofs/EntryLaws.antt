@@ -14,7 +14,7 @@ use Rattle.ti_spelling.specs.Spelling.{AreBytes}
 use Rattle.ti_spelling.specs.inside.Spelling.{UnescapedAgrees, ValuesAreSound}
 use Rattle.ti_layout.specs.Values.{Contents}
 use Rattle.ti_layout.specs.Image.{image, limit_of}
-use Rattle.ti_layout.specs.Reading.{Reads, OneReading}
+use Rattle.ti_layout.specs.Reading.{Reads, EntriesHaveOneReading}
 use Rattle.ti_layout.specs.Laws.{without_cancel, ImagesAreRead, ImagesAreOfValues, LimitsAreOfValues}
 use Rattle.ti_meaning.specs.Owner.{owner_block, readings}
 use Rattle.ti_meaning.specs.Expansion.{Mention, leftmost_content, values, is_broken, expansion}
@@ -43,7 +43,7 @@ pub record AreKnown : Type 0 where
   pub computed : HasReading
   pub well_read : EachIsWellRead
   pub read : ImagesAreRead
-  pub one : OneReading
+  pub one : EntriesHaveOneReading
   pub images : ImagesAreOfValues
   pub limits : LimitsAreOfValues
   pub ordered : EachKindIsInOrder

@@ -6,12 +6,13 @@ use Rattle.std.proofs.lemmas.List.Elements.{All-head, All-from_get_or, All-weake
 use Rattle.std.proofs.lemmas.List.Sums.{list_all-from_AllPass}
 use Rattle.ti_source.specs.WhiteSpace.{is_white_space}
 use Rattle.ti_source.specs.Blocks.{HasOneHead, OneBlock}
-use Rattle.ti_source.specs.Codes.{is_error}
+use Rattle.ti_source.specs.Code.{is_error}
 use Rattle.ti_source.specs.Header.{IsLookupName, lookup_parts, HeaderNames}
 use Rattle.ti_source.specs.Folding.{Placed, folding_of}
 use Rattle.ti_source.specs.Items.{bytes, HasNoComma, Begins, all_field, field_and_rest}
 use Rattle.ti_source.specs.Reading.{ReadFault}
-use Rattle.ti_source.specs.Parsing.{names_limit, ReadsHeader, bad_header, long_header, good_header, Parses, reading_of_text}
+use Rattle.ti_source.specs.Parsing.{ReadsHeader, bad_header, long_header, good_header, Parses, reading_of_text}
+use Rattle.ti_text.specs.Limits.{names_max}
 use Rattle.ti_meaning.specs.Expansion.{is_broken}
 use Rattle.ti_list.specs.Items.{IsListable}
 use Rattle.ti_list.specs.Relative.{first_name}
@@ -32,7 +33,7 @@ no_error-front (f ∷ fs) gs e =
 -- what stands in a names field with no fault
 record IsGoodHeader (field : List ℕ) (names : List (List ℕ)) : Type 0 where
   pub header : HeaderNames field names
-  pub short : length field ≤ names_limit
+  pub short : length field ≤ names_max
 
 good-header : (field : List ℕ) (names : List (List ℕ)) (faults : List ReadFault) → ReadsHeader field names faults → has_error faults ≡ false → IsGoodHeader field names
 good-header _ _ _ (bad_header field bad) e = absurd (true≢false e)

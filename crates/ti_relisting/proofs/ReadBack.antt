@@ -8,7 +8,7 @@ use Rattle.ti_source.specs.WhiteSpace.{is_white_space}
 use Rattle.ti_source.specs.Folding.{Placed, folding_of}
 use Rattle.ti_source.specs.Items.{bytes, HasNoComma, Begins, field_and_rest, AreItems, last_item, piece_of, without_white_front, States, empty_item}
 use Rattle.ti_source.specs.Reading.{Said, said_flag, said_number, said_text, said_cancel, said_import, ReadItem, Reading}
-use Rattle.ti_source.specs.Parsing.{accepted, ReadsItems, reads_nothing, reads_ignored, reads_judged, items_by, good_header, Parses, reading_of_text, HasReading, OneReading}
+use Rattle.ti_source.specs.Parsing.{accepted, ReadsItems, reads_nothing, reads_ignored, reads_judged, items_by, good_header, Parses, reading_of_text, HasReading, BlocksHaveOneReading}
 use Rattle.ti_spelling.specs.Spelling.{WrittenSpells}
 use Rattle.ti_list.specs.Items.{item_text, IsTail, no_more, on_line, new_line, IsListing, CanBeListed, IsListable, IsReadAs}
 use Rattle.ti_relisting.specs.Laws.{PartsAreRead}
@@ -136,7 +136,7 @@ listing-parses found spells field names items text good can is =
       is = record { same_field = refl; same_names = refl; says = read.is; none_wrong = refl };
     }
 
-pub parts_read : EveryNameIsFound → WrittenSpells → HasReading → OneReading → PartsAreRead
+pub parts_read : EveryNameIsFound → WrittenSpells → HasReading → BlocksHaveOneReading → PartsAreRead
 parts_read found spells computed only field names items text good can is =
     let has = listing-parses found spells field names items text good can is in
     subst (λ r. IsReadAs field names items r) (only text has.reading (reading_of_text text) has.parses (computed text)) has.is

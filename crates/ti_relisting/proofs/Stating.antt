@@ -12,7 +12,7 @@ use Rattle.ti_caps.specs.declared.capability.Kind.TheVariants.{Flag, Number, Tex
 use Rattle.ti_source.specs.WhiteSpace.{is_white_space, without_trailing_space}
 use Rattle.ti_source.specs.Blocks.{last_byte}
 use Rattle.ti_source.specs.Header.{IsNameByte, IsLookupName}
-use Rattle.ti_source.specs.Numbers.{greatest_number}
+use Rattle.ti_text.specs.Limits.{number_max}
 use Rattle.ti_source.specs.Items.{Statement, claims_flag, claims_number, claims_text, claims_cancel, is_mark, HasNoMark, IsEnabled, States, number_item, text_item, cancel_item, flag_item, without_outer_space}
 use Rattle.ti_source.specs.Reading.{Said, said_flag, said_number, said_text, said_cancel, said_import}
 use Rattle.ti_source.specs.Parsing.{accepted, Judges, judged_import, judged_flag, judged_cancel, judged_number, judged_text}
@@ -92,7 +92,7 @@ flag-readable found c is kind =
       judges = judged_flag name c (found c is) kind;
     }
 
-pub number-readable : EveryNameIsFound → (c : Capability) (n : ℕ) → IsCapability c → c.kind ≡ Number → n ≤ greatest_number → IsReadable (name_of c ++ 35 ∷ decimal n) (said_number c n)
+pub number-readable : EveryNameIsFound → (c : Capability) (n : ℕ) → IsCapability c → c.kind ≡ Number → n ≤ number_max → IsReadable (name_of c ++ 35 ∷ decimal n) (said_number c n)
 number-readable found c n is kind small =
     let name = name_of c in
     let ds = decimal n in

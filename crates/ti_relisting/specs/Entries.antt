@@ -1,4 +1,5 @@
 -- Compiled entries of sources, as they are shown.
+use Rattle.ti_text.specs.Ascii as ascii
 use Rattle.std.specs.Prelude.{◌≡◌, ◌≢◌, ℕ, List, All, Some}
 use Rattle.ti_spelling.specs.Spelling.{AreBytes}
 use Rattle.ti_source.specs.Blocks.{last_byte, Cut, OneBlock}
@@ -20,10 +21,10 @@ pub record IsEntry (entry : List ℕ) (shown : Shown) : Type 0 where
 pub record IsUsedEntry (shown : Shown) : Type 0 where
   pub bytes : List ℕ
   pub entry : IsEntry bytes shown
-  pub bare : All (λ byte. byte ≢ 92) (first_name shown.field)
+  pub bare : All (λ byte. byte ≢ ascii.backslash) (first_name shown.field)
 
 -- Each entry of a source is such an entry: a source is bytes, and is empty or ends with a newline.
 abbrev pub EntriesOfSources : Type 0
 EntriesOfSources =
-    (source preface : List ℕ) (texts : List (List ℕ)) (at : ℕ) (entry : List ℕ) (shown : Shown) → AreBytes source → last_byte 10 source ≡ 10 → Cut source preface texts
+    (source preface : List ℕ) (texts : List (List ℕ)) (at : ℕ) (entry : List ℕ) (shown : Shown) → AreBytes source → last_byte ascii.newline source ≡ ascii.newline → Cut source preface texts
     → compiled texts at ≡ Some entry → Reads entry shown.field shown.table → IsEntry entry shown

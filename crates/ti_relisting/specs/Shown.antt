@@ -1,4 +1,5 @@
 -- What can be listed so that it compiles to itself (own).
+use Rattle.ti_text.specs.Ascii as ascii
 use Rattle.std.specs.Prelude.{◌≢◌, ◌≤◌, ℕ, List, length, All, Option, Some, None}
 use Rattle.ti_caps.specs.Tables.{Capability, IsCapability}
 use Rattle.ti_spelling.specs.Spelling.{AreBytes}
@@ -33,7 +34,7 @@ pub record CanBeShown (entry : Shown) : Type 0 where
 -- a name that `use=` can give: a lookup name with no backslash
 pub record IsUsableName (name : List ℕ) : Type 0 where
   pub lookup : IsLookupName name
-  pub bare : All (λ byte. byte ≢ 92) name
+  pub bare : All (λ byte. byte ≢ ascii.backslash) name
 
 -- one that another entry can use by its first name
 pub record CanBeUsed (entry : Shown) : Type 0 where

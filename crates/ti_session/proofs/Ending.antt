@@ -13,8 +13,8 @@ use Rattle.ti_devices.specs.declared.line_reader.Next.TheVariants.{Line, LastLin
 use Rattle.ti_devices.specs.declared.tool_error.ToolError.{ToolError}
 use Rattle.ti_devices.specs.declared.tool_error.ToolError.TheVariants.{Usage, NoTerminal, BadEntry, ReadFault, WriteFault, LineTooLong, BlockTooLong, TooManyBlocks, Memory}
 use Rattle.ti_session.specs.declared.editor.Editor.{Editor}
-use Rattle.ti_session.specs.Editor.{ActsOn, Holds}
-use Rattle.ti_session.specs.Script.{Complete, IsShortLine, Session, State, closing_reply, line_max, meaning_in, start}
+use Rattle.ti_session.specs.inside.Editor.{ActsOn, HasState}
+use Rattle.ti_session.specs.Script.{Complete, IsShortLine, Session, State, closing_reply, script_line_max, meaning_in, start}
 use Rattle.ti_session.specs.Streaming.{Ends}
 use Rattle.ti_session.proofs.Running.{Complete-last, Complete-ran, Ran, Ran-line, Ran-none, SoFar-ran, bytes_of, bytes_of-more}
 
@@ -25,13 +25,13 @@ pub record Progress (given left : Observed) (reading : LineReader) (editor : Edi
   pub output : List ℕ
   pub ran : Ran lines state output
   pub gives : Gives given left (bytes_of lines ++ ahead_of reading)
-  pub holds : Holds editor state
+  pub holds : HasState editor state
   pub written : TakesAll before now output
-  pub limit : limit_of reading ≡ line_max
+  pub limit : limit_of reading ≡ script_line_max
   pub reads : reads_left_of reading + left.reads ≡ reads_max + given.reads
 
-pub Progress-start : (given before : Observed) (reading : LineReader) (editor : Editor) → limit_of reading ≡ line_max
-    → ahead_of reading ≡ [] → reads_left_of reading ≡ reads_max → Holds editor start → Progress given given reading editor before before
+pub Progress-start : (given before : Observed) (reading : LineReader) (editor : Editor) → limit_of reading ≡ script_line_max
+    → ahead_of reading ≡ [] → reads_left_of reading ≡ reads_max → HasState editor start → Progress given given reading editor before before
 Progress-start given before reading editor limit ahead reads holds = record {
   lines = [];
   state = start;
@@ -174,7 +174,7 @@ module _ (given left : Observed) (reading : LineReader) (editor : Editor) (befor
     (p : Progress given left reading editor before now) (next : LineReader) (later : Observed) where
   -- the script has ended behind a newline
   pub Ends-end : ReadsLine reading next left later (Ok End) → (now2 : Observed) (result : Result Unit ToolError)
-      → ((s : State) → Holds editor s → Wrote now now2 (closing_reply s.mode) result) → Ends given later before now2 result
+      → ((s : State) → HasState editor s → Wrote now now2 (closing_reply s.mode) result) → Ends given later before now2 result
   Ends-end r now2 result closes =
       let gives : Gives given later (bytes_of p.lines) =
       subst (λ (t : List ℕ). Gives given later t)
@@ -191,7 +191,7 @@ module _ (given left : Observed) (reading : LineReader) (editor : Editor) (befor
 
     module _ (editor2 : Editor) (middle : Observed) where
       pub Ends-last : (acts : ActsOn (meaning_in p.state.mode (line_of next)) p.state editor2 now middle (Ok tt)) (now2 : Observed)
-          (result : Result Unit ToolError) → ((s : State) → Holds editor2 s → Wrote middle now2 (closing_reply s.mode) result)
+          (result : Result Unit ToolError) → ((s : State) → HasState editor2 s → Wrote middle now2 (closing_reply s.mode) result)
           → Ends given later before now2 result
       Ends-last acts now2 result closes =
           let complete = Complete-last p.lines p.state acts.next (line_of next) p.output acts.reply p.ran r.4

@@ -15,13 +15,13 @@ use Rattle.ti_session.specs.declared.editor.Editor.{Editor}
 use Rattle.ti_session.specs.declared.requests.Opened.{Opened}
 use Rattle.ti_session.specs.declared.requests.Opened.TheVariants.{Insert, Replace}
 use Rattle.ti_devices.specs.declared.tool_error.ToolError.{ToolError}
-use Rattle.ti_session.specs.Editor.{Holds, ActsOn, source_of}
+use Rattle.ti_session.specs.inside.Editor.{HasState, ActsOn, source_of}
 use Rattle.ti_session.specs.Places.{places_text}
 use Rattle.ti_devices.specs.Counted.{Observed}
 use Rattle.ti_devices.specs.Lines.{with_newline}
 use Rattle.ti_devices.specs.Writing.{Wrote}
-use Rattle.ti_session.specs.Replies.{CarriesOut, WroteReport}
-use Rattle.ti_session.specs.Requests.{mode_of, opened_change, opened_mode}
+use Rattle.ti_session.specs.inside.Replies.{CarriesOut, WroteReport}
+use Rattle.ti_session.specs.inside.Requests.{mode_of, opened_change, opened_mode}
 use Rattle.ti_session.specs.Script.{Answers, Command, EditsSource, Leads, Meaning, Mode, Shows, Source, State, meaning_outside, asks, edits, goes_on, meaning_in, outcome_text, outside, print_reply, prints, rebuilds, reports, source, state}
 use Rattle.ti_devices.proofs.Written.{TakesAll-none}
 
@@ -74,9 +74,9 @@ EditsSource-of_front opened source next text limit outcome room edited = elim (d
 
 -- ---- holding
 
-pub Holds-outside : (d d2 : Editor) (s : State) → s.mode ≡ outside → Holds d s → d2.block ≡ d.block → d2.opened ≡ d.opened
-    → Holds d2 (state (source_of d2) outside)
-Holds-outside d d2 s is held same_block same_opened = record {
+pub HasState-outside : (d d2 : Editor) (s : State) → s.mode ≡ outside → HasState d s → d2.block ≡ d.block → d2.opened ≡ d.opened
+    → HasState d2 (state (source_of d2) outside)
+HasState-outside d d2 s is held same_block same_opened = record {
   text = held.text;
   source = refl;
   mode = sym is ∙ held.mode ∙ ap (λ (o : Option Opened). mode_of o held.text) (sym same_opened);
@@ -84,9 +84,9 @@ Holds-outside d d2 s is held same_block same_opened = record {
   room = rw same_block held.room;
 }
 
-pub Holds-closed : (d d2 : Editor) (s : State) → Holds d s → d2.block ≡ d.block → d2.opened ≡ None
-    → Holds d2 (state (source_of d2) outside)
-Holds-closed d d2 s held same_block none = record {
+pub HasState-closed : (d d2 : Editor) (s : State) → HasState d s → d2.block ≡ d.block → d2.opened ≡ None
+    → HasState d2 (state (source_of d2) outside)
+HasState-closed d d2 s held same_block none = record {
   text = held.text;
   source = refl;
   mode = ap (λ (o : Option Opened). mode_of o held.text) (sym none);
@@ -94,9 +94,9 @@ Holds-closed d d2 s held same_block none = record {
   room = rw same_block held.room;
 }
 
-pub Holds-opened : (d d2 : Editor) (s : State) (opened : Opened) → Holds d s → source_of d2 ≡ source_of d → d2.block.bytes ≡ []
-    → d2.block.limit ≡ d.block.limit → d2.opened ≡ Some opened → Holds d2 (state s.source (opened_mode opened []))
-Holds-opened d d2 s opened held same_source empty same_limit is = record {
+pub HasState-opened : (d d2 : Editor) (s : State) (opened : Opened) → HasState d s → source_of d2 ≡ source_of d → d2.block.bytes ≡ []
+    → d2.block.limit ≡ d.block.limit → d2.opened ≡ Some opened → HasState d2 (state s.source (opened_mode opened []))
+HasState-opened d d2 s opened held same_source empty same_limit is = record {
   text = [];
   source = same_source ∙ held.source;
   mode = ap (λ (o : Option Opened). mode_of o []) (sym is);
@@ -104,11 +104,11 @@ Holds-opened d d2 s opened held same_source empty same_limit is = record {
   room = rw same_limit held.room;
 }
 
-pub Holds-added : (d d2 : Editor) (s : State) (opened : Opened) (line : List ℕ) (held : Holds d s) → d2.database ≡ d.database
+pub HasState-added : (d d2 : Editor) (s : State) (opened : Opened) (line : List ℕ) (held : HasState d s) → d2.database ≡ d.database
     → d2.rebuilt ≡ d.rebuilt → d.opened ≡ Some opened → d2.opened ≡ d.opened → d2.block.limit ≡ d.block.limit
     → d2.block.bytes ≡ take d.block.limit (take d.block.limit (d.block.bytes ++ line) ++ 10 ∷ [])
-    → Holds d2 (state s.source (opened_mode opened (held.text ++ with_newline line)))
-Holds-added d d2 s opened line held same_texts same_rebuilt is same_opened same_limit added =
+    → HasState d2 (state s.source (opened_mode opened (held.text ++ with_newline line)))
+HasState-added d d2 s opened line held same_texts same_rebuilt is same_opened same_limit added =
     let limit = d.block.limit in
     let text = held.text in record {
       text = text ++ with_newline line;
@@ -147,7 +147,7 @@ meaning_in-meaning_outside mode line is = ap (λ (m : Mode). meaning_in m line) 
 -- ---- what a line leads to
 
 pub ActsOn-on : (meaning : Meaning) (s : State) (d : Editor) (now : Observed) (mode : Mode) → meaning ≡ goes_on mode
-    → Holds d (state s.source mode) → ActsOn meaning s d now now (Ok tt)
+    → HasState d (state s.source mode) → ActsOn meaning s d now now (Ok tt)
 ActsOn-on meaning s d now mode is held = record {
   next = state s.source mode;
   reply = [];
@@ -157,7 +157,7 @@ ActsOn-on meaning s d now mode is held = record {
 }
 
 pub ActsOn-asks : (meaning : Meaning) (s : State) (d : Editor) (before now : Observed) (result : Result Unit ToolError) (command : Command)
-    (reply : List ℕ) → meaning ≡ asks command → Answers s.source command (source_of d) reply → Holds d (state (source_of d) outside)
+    (reply : List ℕ) → meaning ≡ asks command → Answers s.source command (source_of d) reply → HasState d (state (source_of d) outside)
     → Wrote before now reply result → ActsOn meaning s d before now result
 ActsOn-asks meaning s d before now result command reply is answers held wrote = record {
   next = state (source_of d) outside;
@@ -169,14 +169,14 @@ ActsOn-asks meaning s d before now result command reply is answers held wrote = 
 
 pub ActsOn-edits : (meaning : Meaning) (s : State) (d : Editor) (before now : Observed) (result : Result Unit ToolError) (change : Change)
     (source : Source) → meaning ≡ asks (edits change) → source ≡ s.source → CarriesOut source change (source_of d) before now result
-    → Holds d (state (source_of d) outside) → ActsOn meaning s d before now result
+    → HasState d (state (source_of d) outside) → ActsOn meaning s d before now result
 ActsOn-edits meaning s d before now result change source is same carried held =
     ActsOn-asks meaning s d before now result (edits change) (outcome_text carried.outcome) is
     (carried.outcome, subst (λ (x : Source). EditsSource x change carried.outcome (source_of d)) same carried.edited, refl) held carried.wrote
 
 pub ActsOn-reports : (meaning : Meaning) (s : State) (d : Editor) (before now : Observed) (result : Result Unit ToolError)
     (source : Source) → meaning ≡ asks reports → source ≡ s.source → source_of d ≡ source → WroteReport source.texts before now result
-    → Holds d (state (source_of d) outside) → ActsOn meaning s d before now result
+    → HasState d (state (source_of d) outside) → ActsOn meaning s d before now result
 ActsOn-reports meaning s d before now result source is same kept (inl wrote) held =
     ActsOn-asks meaning s d before now result reports _ is (kept ∙ same, inl (rw same refl)) held wrote
 ActsOn-reports meaning s d before now result source is same kept (inr wrote) held =
@@ -189,14 +189,14 @@ ActsOn-same meaning other s d before now result is led =
 
 pub ActsOn-prints : (meaning : Meaning) (s : State) (d : Editor) (before now : Observed) (result : Result Unit ToolError) (at : ℕ)
     (source : Source) → meaning ≡ asks (prints at) → source ≡ s.source → source_of d ≡ source → Wrote before now (print_reply source.texts at) result
-    → Holds d (state (source_of d) outside) → ActsOn meaning s d before now result
+    → HasState d (state (source_of d) outside) → ActsOn meaning s d before now result
 ActsOn-prints meaning s d before now result at source is same kept wrote held =
     ActsOn-asks meaning s d before now result (prints at) (print_reply source.texts at) is
     (kept ∙ same, ap (λ (x : Source). print_reply x.texts at) same) held wrote
 
 pub ActsOn-rebuilds : (meaning : Meaning) (s : State) (d : Editor) (before now : Observed) (result : Result Unit ToolError)
     (source : Source) → meaning ≡ asks rebuilds → source ≡ s.source → source_of d ≡ source → Wrote before now (places_text source.rebuilt) result
-    → Holds d (state (source_of d) outside) → ActsOn meaning s d before now result
+    → HasState d (state (source_of d) outside) → ActsOn meaning s d before now result
 ActsOn-rebuilds meaning s d before now result source is same kept wrote held =
     ActsOn-asks meaning s d before now result rebuilds (places_text source.rebuilt) is
     (kept ∙ same, ap (λ (x : Source). places_text x.rebuilt) same) held wrote

@@ -18,12 +18,12 @@ use Rattle.ti_session.specs.Places.{places_text}
 -- ---- lines
 
 -- the greatest length of a line, without its newline
-abbrev pub line_max : ℕ
-line_max = 65536
+abbrev pub script_line_max : ℕ
+script_line_max = 65536
 
 -- the line is within that limit
 abbrev pub IsShortLine : List ℕ → Type 0
-IsShortLine line = IsWithin line_max line
+IsShortLine line = IsWithin script_line_max line
 
 -- ---- what a line says
 

@@ -7,7 +7,7 @@ use Rattle.ti_devices.specs.Reading.{Gives}
 use Rattle.ti_devices.specs.Writing.{TakesAll, TakesFront}
 use Rattle.ti_devices.specs.declared.tool_error.ToolError.{ToolError}
 use Rattle.ti_devices.specs.declared.tool_error.ToolError.TheVariants.{ReadFault, WriteFault, LineTooLong, Memory}
-use Rattle.ti_session.specs.Script.{IsShortLine, Session, SoFar, State, line_max}
+use Rattle.ti_session.specs.Script.{IsShortLine, Session, SoFar, State, script_line_max}
 
 -- the script was read to its end, and all replies were written
 pub record Completes (given left before now : Observed) : Type 0 where
@@ -39,7 +39,7 @@ pub record FindsLongLine (given left before now : Observed) : Type 0 where
   pub output : List ℕ
   pub gives : Gives given left (taken ++ rest)
   pub so_far : SoFar taken line end output
-  pub long : line_max < length line
+  pub long : script_line_max < length line
   pub written : TakesAll before now output
 
 -- the replies that a session which took these bytes has begun to write: those to the lines that are complete, or, where

@@ -1,7 +1,7 @@
 //! What a line of a session asks for, outside a block.
 ghost use Rattle.std.specs.Prelude.{◌≡◌, ◌==◌, ◌<◌, length, position, IfSome, Some};
 ghost use Rattle.ti_text.specs.Ascii as ascii;
-ghost use Rattle.ti_session.specs.Requests.{meaning_of};
+ghost use Rattle.ti_session.specs.inside.Requests.{meaning_of};
 ghost use Rattle.ti_session.specs.Script.{meaning_alone, meaning_outside, moves, number, meaning_with_number, two_numbers};
 
 /// A block that lines are to follow for, and the position that it is for.

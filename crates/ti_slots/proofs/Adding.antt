@@ -12,12 +12,13 @@ use Rattle.ti_source.specs.Reading.{said_of}
 use Rattle.ti_source.specs.declared.parsing.Item.{Item}
 use Rattle.ti_source.specs.declared.parsing.What.{What}
 use Rattle.ti_source.specs.declared.parsing.What.TheVariants.{Flag, Number, Text, Cancel, Import}
-use Rattle.ti_meaning.specs.Reaching.{used_name, use_passes}
+use Rattle.ti_meaning.specs.Reaching.{used_name}
+use Rattle.ti_meaning.specs.inside.Reaching.{use_passes}
 use Rattle.ti_index.specs.declared.names.NameIndex.{NameIndex}
 use Rattle.ti_index.specs.Listing.{AreAmong, Lists, ListsToo, ListsNoMore}
 use Rattle.ti_index.specs.Names.{holders_at, users_at, mentions_at, holder_capacity, user_capacity, HasHolderRoom, HasUserRoom, IsForgotten, IsSeenSame, KeepsCapacity, KeepsOthers}
 use Rattle.ti_index.proofs.LawProofs.{agreeing_lists, among_all}
-use Rattle.ti_slots.specs.Indexing.{is_name_of, is_used_by, Adds, Forgets, Removes, HasRoomAt, IsGrown, IsPart}
+use Rattle.ti_slots.specs.inside.Indexing.{is_name_of, is_used_by, Adds, Forgets, Removes, HasRoomAt, IsGrown, IsPart}
 
 -- ---- what depends on the entry of a name alone
 

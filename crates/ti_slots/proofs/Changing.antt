@@ -6,14 +6,14 @@ use Rattle.std.proofs.lemmas.Bool.{cases_eq, cases_lt, false≢true}
 use Rattle.std.proofs.lemmas.Option.{slice_get_past, slice_get_read}
 use Rattle.ti_source.specs.Reading.{reading_of}
 use Rattle.ti_meaning.specs.Owner.{is_among}
-use Rattle.ti_meaning.specs.Reaching.{any_use}
+use Rattle.ti_meaning.specs.inside.Reaching.{any_use}
 use Rattle.ti_index.specs.Labels.{Has, IsDistinct}
 use Rattle.ti_index.specs.declared.names.NameIndex.{NameIndex}
 use Rattle.ti_index.specs.Names.{holders_at, users_at, holder_capacity, user_capacity, KeepsCapacity}
 use Rattle.ti_slots.specs.declared.slots.Slot.{Slot}
 use Rattle.ti_slots.specs.declared.slots.Slots.{Slots}
 use Rattle.ti_slots.specs.Slots.{slot_at, reading_at, text_at, has_name, uses_name, empty_reading, StandsAt, IsIndexed}
-use Rattle.ti_slots.specs.Indexing.{is_name_of, is_used_by, Adds, Removes}
+use Rattle.ti_slots.specs.inside.Indexing.{is_name_of, is_used_by, Adds, Removes}
 use Rattle.ti_slots.specs.Changes.{HasRoomFor, KeepsRooms, PutsIn, TakesOut}
 use Rattle.ti_slots.proofs.Adding.{capacity_more}
 use Rattle.ti_slots.proofs.Listings.{list_before, list_with, list_left, list_without, fewer_pass, one_less, and_right, map_put, map_taken, get_set, get_set_other, stood_before, left_before, length-put, length-taken}

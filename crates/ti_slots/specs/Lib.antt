@@ -1,4 +1,4 @@
 pub mod Slots
 pub mod Settled
-pub mod Indexing
+pub mod inside
 pub mod Changes

@@ -3,7 +3,7 @@ ghost use Rattle.std.specs.Prelude.{◌≡◌};
 ghost use Rattle.ti_caps.specs.Tables.{Capability, IsCapability};
 ghost use Rattle.ti_layout.specs.Laws.{without_cancel};
 ghost use Rattle.ti_layout.specs.Values.{contents};
-ghost use Rattle.ti_compiled.specs.Held.{contents_in};
+ghost use Rattle.ti_compiled.specs.Image.{contents_in};
 
 use ti_compiled::{Image, Table};
 

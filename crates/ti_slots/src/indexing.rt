@@ -2,7 +2,7 @@
 ghost use Rattle.std.specs.Prelude.{◌≡◌, ℕ, List, OnOk, true};
 ghost use Rattle.ti_index.specs.Labels.{Has};
 ghost use Rattle.ti_index.specs.Names.{holders_at, users_at, HasHolderRoom, HasUserRoom};
-ghost use Rattle.ti_slots.specs.Indexing.{is_name_of, is_used_by, Adds, Forgets, HasRoomAt, IsGrown, IsPart, Removes};
+ghost use Rattle.ti_slots.specs.inside.Indexing.{is_name_of, is_used_by, Adds, Forgets, HasRoomAt, IsGrown, IsPart, Removes};
 
 use std::alloc::AllocError;
 use std::rc::RcSlice;

@@ -17,4 +17,4 @@ mod slots;
 
 pub use entries::Entry;
 pub use laws::changes_are_undone;
-pub use slots::{KeptFault, Settled, Slot, Slots, State};
+pub use slots::{KeptFault, Settled, Slot, Slots, State, copy_detail};

@@ -1,10 +1,11 @@
 // The blocks of a source, each in a slot under an id that stays with it.
-ghost use Rattle.std.specs.Prelude.{◌≡◌, ℕ, [], None, Some, IsSome, option_map};
+ghost use Rattle.std.specs.Prelude.{◌≡◌, ℕ, [], None, Some, IsSome, IfOk, option_map};
+ghost use Rattle.std.specs.Rc.{rc_slice_items};
 ghost use Rattle.ti_meaning.specs.Owner.{owner};
 ghost use Rattle.ti_slots.specs.Slots.{blocks_of, slot_at, IsIndexed, IsOwnerId};
 
 use crate::entries::Entry;
-use std::alloc::Global;
+use std::alloc::{AllocError, Global};
 use std::rc::RcSlice;
 use ti_compiled::Table;
 use ti_index::{NameIndex, Order};
@@ -20,6 +21,16 @@ pub struct KeptFault {
     pub code: Code,
     /// The name that it is about, where it is about one.
     pub detail: Option<RcSlice<u8>>,
+}
+
+/// The same detail once more, its bytes shared.
+pub fn copy_detail(detail: &Option<RcSlice<u8>>) -> Result<Option<RcSlice<u8>>, AllocError>
+    ensures { IfOk result (λ d. option_map rc_slice_items d ≡ option_map rc_slice_items detail.now) }
+{
+    Ok(match detail {
+        Some(bytes) => Some(bytes.clone()?),
+        None => None,
+    })
 }
 
 /// What becomes of a block.

@@ -7,7 +7,7 @@ use Rattle.ti_source.specs.WhiteSpace.{is_white_space}
 use Rattle.ti_source.specs.Folding.{Placed, bytes_on_lines, in_comment, without_comments, without_breaks, folding_of}
 use Rattle.ti_source.specs.declared.items.Taken.{Taken}
 use Rattle.ti_source.specs.inside.Folding.{after_line, SkipsWhiteSpace, skips_byte}
-use Rattle.ti_source.specs.inside.Items.{after_field, on_line, GoesOn, goes_nowhere, goes_over, IsWholeItem, TakesWholeItem}
+use Rattle.ti_source.specs.inside.Items.{after_field, on_line, PassesRun, takes_no_byte, takes_byte, IsWholeItem, TakesWholeItem}
 use Rattle.ti_source.proofs.ItemLemmas.{on_line-append}
 
 length-placed : (line : ℕ) (s : List ℕ) → length (bytes_on_lines line s) ≡ length s
@@ -58,22 +58,22 @@ straight line before s = without_breaks false (without_comments false before (by
 straight-byte : (line before x : ℕ) (rest : List ℕ) → (before == 10) ≡ false → (x == 10) ≡ false → straight line before (x ∷ rest) ≡ (x, line) ∷ straight line before rest
 straight-byte line before x rest e f = rw (e, f) (ap (λ (s : List Placed). (x, line) ∷ without_breaks false s) (before_any x before (bytes_on_lines line rest) f e))
 
-straight-run : {by next : Taken} {before last : ℕ} {run : List ℕ} (line at : ℕ) (rest : List ℕ) → (at == 10) ≡ false → GoesOn by before run next last
+straight-run : {by next : Taken} {before last : ℕ} {run : List ℕ} (line at : ℕ) (rest : List ℕ) → (at == 10) ≡ false → PassesRun by before run next last
     → straight line at (run ++ rest) ≡ on_line line run ++ straight line at rest
-straight-run line at rest e goes_nowhere = refl
-straight-run line at rest e (goes_over {run = run} x goes plain inner) =
+straight-run line at rest e takes_no_byte = refl
+straight-run line at rest e (takes_byte {run = run} x goes plain inner) =
     rw (append_assoc run (x ∷ []) rest, on_line-append line run (x ∷ []), append_assoc (on_line line run) ((x, line) ∷ []) (straight line at rest))
     (straight-run line at (x ∷ rest) e goes ∙ ap (λ (s : List Placed). on_line line run ++ s) (straight-byte line at x rest e plain))
 
 -- the view of a folded text, of which a run is taken
 pub run_taken : {by next : Taken} {before last : ℕ} {run : List ℕ} (joining : Bool) (at line : ℕ) (text rest : List ℕ)
-    → joining ≡ false → (at == 10) ≡ false → text ≡ run ++ rest → GoesOn by before run next last
+    → joining ≡ false → (at == 10) ≡ false → text ≡ run ++ rest → PassesRun by before run next last
     → without_breaks joining (without_comments false at (bytes_on_lines line text)) ≡ on_line line run ++ without_breaks joining (without_comments false at (bytes_on_lines line rest))
 run_taken joining at line text rest ej e whole goes = rw (ej, whole) (straight-run line at rest e goes)
 
 -- and one of which an item is taken, with its comma
 item_taken : {by next : Taken} {before last : ℕ} {item : List ℕ} (joining : Bool) (at line : ℕ) (text rest : List ℕ)
-    → joining ≡ false → (at == 10) ≡ false → text ≡ item ++ 44 ∷ rest → GoesOn by before item next last
+    → joining ≡ false → (at == 10) ≡ false → text ≡ item ++ 44 ∷ rest → PassesRun by before item next last
     → without_breaks joining (without_comments false at (bytes_on_lines line text)) ≡ on_line line item ++ (44, line) ∷ without_breaks joining (without_comments false at (bytes_on_lines line rest))
 item_taken {item = item} joining at line text rest ej e whole goes =
     rw (ej, whole) (straight-run line at (44 ∷ rest) e goes ∙ ap (λ (s : List Placed). on_line line item ++ s) (straight-byte line at 44 rest e refl))
@@ -195,6 +195,6 @@ behind_comma text size =
 pub takes_item : (joining : Bool) (at line : ℕ) (text : List ℕ) (size : ℕ) → joining ≡ false → (at == 10) ≡ false → IsWholeItem text size
     → TakesWholeItem (folded joining at line text) (take size text) line (folded joining at line (drop (suc size) text))
 takes_item joining at line text size ej e whole = record {
-  whole = item_taken joining at line text (drop (suc size) text) ej e (parts_at_comma text size whole.within whole.comma) whole.item.goes_on;
+  whole = item_taken joining at line text (drop (suc size) text) ej e (parts_at_comma text size whole.within whole.comma) whole.item.passes_run;
   item = whole.item;
 }

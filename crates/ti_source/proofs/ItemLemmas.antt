@@ -11,7 +11,7 @@ use Rattle.ti_source.specs.WhiteSpace.{is_white_space}
 use Rattle.ti_source.specs.Folding.{Placed}
 use Rattle.ti_source.specs.Items.{bytes, Piece, piece, without_front, line_of, piece_of}
 use Rattle.ti_source.specs.inside.Folding.{SkipsWhiteSpace, skips_nothing, skips_byte}
-use Rattle.ti_source.specs.inside.Items.{taken_after, cuts, with_first, with_front, items_of, with_byte, on_line, GoesOn, goes_nowhere, goes_over, begins_visible, IsWholeItem, TakesWholeItem, ReadsSoFar, TakesItem}
+use Rattle.ti_source.specs.inside.Items.{taken_after, cuts, with_first, with_front, items_of, with_byte, on_line, PassesRun, takes_no_byte, takes_byte, begins_visible, IsWholeItem, TakesWholeItem, ReadsSoFar, TakesItem}
 
 pub items_of-plain : (by : Taken) (before : ℕ) (x : Placed) (xs : List Placed) → cuts by x.0 ≡ false → items_of by before (x ∷ xs) ≡ with_first x (items_of (taken_after by before x.0) x.0 xs)
 items_of-plain by before x xs f = rw f
@@ -85,10 +85,10 @@ on_line-append line (b ∷ bs) more = ap (λ (s : List Placed). (b, line) ∷ s)
 
 -- an item whose text has a byte, read over a run
 pub so_far-run : (start : List Placed) {by next : Taken} {before last : ℕ} {run : List ℕ} (line at : ℕ) (source : List Placed) (text : List ℕ)
-    → GoesOn by before run next last → 0 < length text → ReadsSoFar start by before (on_line at run ++ source) (piece text line)
+    → PassesRun by before run next last → 0 < length text → ReadsSoFar start by before (on_line at run ++ source) (piece text line)
     → ReadsSoFar start next last source (piece (text ++ run) line)
-so_far-run start line at source text goes_nowhere some r = rw append-nil r
-so_far-run start {run = all} line at source text (goes_over {by = by} {next = next} {before = before} {last = last} {run = run} x goes plain inner) some r =
+so_far-run start line at source text takes_no_byte some r = rw append-nil r
+so_far-run start {run = all} line at source text (takes_byte {by = by} {next = next} {before = before} {last = last} {run = run} x goes plain inner) some r =
     let regrouped : on_line at (run ++ x ∷ []) ++ source ≡ on_line at run ++ ((x, at) ∷ source) =
     rw on_line-append (append_assoc (on_line at run) ((x, at) ∷ []) source) in
     let earlier = so_far-run start line at ((x, at) ∷ source) text goes some (subst (λ (s : List Placed). ReadsSoFar start by before s (piece text line)) regrouped r) in
@@ -174,10 +174,10 @@ visible_more line x (y ∷ ys) v = refl
 
 -- an item of which nothing shows, read over a run that begins with no white space
 so_far-item : (start : List Placed) {by next : Taken} {before last : ℕ} {run : List ℕ} (line : ℕ) (source : List Placed)
-    → GoesOn by before run next last → begins_visible run ≡ true → ReadsSoFar start by before (on_line line run ++ source) (piece [] 0)
+    → PassesRun by before run next last → begins_visible run ≡ true → ReadsSoFar start by before (on_line line run ++ source) (piece [] 0)
     → ReadsSoFar start next last source (piece run (line_at line run))
-so_far-item start line source goes_nowhere v r = r
-so_far-item start line source (goes_over {by = by} {next = next} {before = before} {last = last} {run = run} x goes plain inner) v r =
+so_far-item start line source takes_no_byte v r = r
+so_far-item start line source (takes_byte {by = by} {next = next} {before = before} {last = last} {run = run} x goes plain inner) v r =
     let regrouped : on_line line (run ++ x ∷ []) ++ source ≡ on_line line run ++ ((x, line) ∷ source) =
     rw on_line-append (append_assoc (on_line line run) ((x, line) ∷ []) source) in
     let earlier = so_far-item start line ((x, line) ∷ source) goes (begins_earlier run x v) (subst (λ (s : List Placed). ReadsSoFar start by before s (piece [] 0)) regrouped r) in
@@ -192,7 +192,7 @@ pub takes-whole : (start old : List Placed) (text : List ℕ) (line : ℕ) (new 
     → ReadsSoFar start taken.Nothing 44 old (piece [] 0) → TakesWholeItem old text line new → TakesItem start (piece text line) false new
 takes-whole start old text line new r whole =
     let from_item = subst (λ (s : List Placed). ReadsSoFar start taken.Nothing 44 s (piece [] 0)) whole.whole r in
-    let read = so_far-item start line ((44, line) ∷ new) whole.item.goes_on whole.item.visible from_item in
+    let read = so_far-item start line ((44, line) ∷ new) whole.item.passes_run whole.item.visible from_item in
     subst (λ (n : ℕ). TakesItem start (piece text n) false new) (line_at-some line text whole.item.some)
     (takes-cut start whole.item.next whole.item.last (44, line) new (piece text (line_at line text)) read whole.item.ends)
 
@@ -221,16 +221,16 @@ neither false false never = (refl, refl)
 
 -- an item goes on over bytes that are no comma and no newline, and a comma after them ends it where no backslash stands just before it
 goes_to : (text : List ℕ) (n : ℕ) → n ≤ length text → ((k : ℕ) → k < n → is_byte2 44 10 (get_or text k 0) ≡ true → ⊥)
-    → (next : Taken) × GoesOn taken.Nothing 44 (take n text) next (byte_before text n) × ((byte_before text n == 92) ≡ false → cuts next 44 ≡ true)
-goes_to text zero h none = (taken.Nothing, goes_nowhere, λ f. refl)
+    → (next : Taken) × PassesRun taken.Nothing 44 (take n text) next (byte_before text n) × ((byte_before text n == 92) ≡ false → cuts next 44 ≡ true)
+goes_to text zero h none = (taken.Nothing, takes_no_byte, λ f. refl)
 goes_to text (suc n) h none =
     let (next, goes, ends) = goes_to text n (omega arith) (λ k i. none k (omega arith)) in
     let byte = get_or text n 0 in
     let (no_comma, no_newline) = neither (byte == 44) (byte == 10) (none n (omega arith)) in
-    let more = goes_over byte goes no_newline (no_cut next byte no_comma) in
+    let more = takes_byte byte goes no_newline (no_cut next byte no_comma) in
     let longer = take-suc text n 0 (omega arith) in (
       taken_after next (byte_before text n) byte,
-      subst (λ (s : List ℕ). GoesOn taken.Nothing 44 s (taken_after next (byte_before text n) byte) byte) (sym longer) more,
+      subst (λ (s : List ℕ). PassesRun taken.Nothing 44 s (taken_after next (byte_before text n) byte) byte) (sym longer) more,
       comma_ends next (byte_before text n) byte,
     )
 
@@ -257,7 +257,7 @@ whole_item text (suc n) none t some ended plain visible =
         last = get_or text n 0;
         some = omega (arith, length-take-le (suc n) text (omega arith));
         visible = begins-take text n (omega arith) visible;
-        goes_on = goes;
+        passes_run = goes;
         ends = ends (ne_eqb (get_or text n 0) 92 last);
       };
     }

@@ -9,7 +9,8 @@ use Rattle.std.proofs.lemmas.List.Sums.{AllPass-from_list_all, list_all-from_All
 use Rattle.ti_source.specs.declared.numbers.NumberError.{NumberError}
 use Rattle.ti_source.specs.declared.numbers.NumberError.TheVariants.{Bad, TooLarge}
 use Rattle.ti_source.specs.WhiteSpace.{is_white_space, without_trailing_space}
-use Rattle.ti_source.specs.Numbers.{digit_value, IsDigit, value_in, IsNumber, octal, hexadecimal, decimal, IsNumeral, greatest_number, ReadsAs, NumeralsHaveOneValue}
+use Rattle.ti_source.specs.Numbers.{digit_value, IsDigit, value_in, IsNumber, octal, hexadecimal, decimal, IsNumeral, ReadsAs, NumeralsHaveOneValue}
+use Rattle.ti_text.specs.Limits.{number_max}
 use Rattle.ti_source.specs.inside.Numbers.{digits_read, after_zero_read, value_read, within_limit, number_read, EachTextIsRead, NumbersHaveOneReading}
 
 -- ---- digits
@@ -143,9 +144,9 @@ one_value text v w n m = let same = sym (numeral_is_read text v n) ∙ numeral_i
 reads_within : (text : List ℕ) (o : Option ℕ) → value_read (without_trailing_space text) ≡ o → ReadsAs text (within_limit o)
 reads_within text None e = λ v n. (let clash = sym e ∙ numeral_is_read text v n in cc)
 reads_within text (Some v) e =
-    elim (cases_Bool (nat_le v greatest_number)) [
-      | inl t ↦ rw t (read_is_numeral text v e, leb-true v greatest_number t)
-      | inr f ↦ rw f (v, read_is_numeral text v e, leb-false v greatest_number f)
+    elim (cases_Bool (nat_le v number_max)) [
+      | inl t ↦ rw t (read_is_numeral text v e, leb-true v number_max t)
+      | inr f ↦ rw f (v, read_is_numeral text v e, leb-false v number_max f)
     ]
 
 pub each_text : EachTextIsRead
@@ -161,9 +162,9 @@ no_numeral text (Some v) e n = absurd (n v (read_is_numeral text v e))
 
 pub one_reading : NumbersHaveOneReading
 one_reading text (Ok v) h =
-    let t = le-leb v greatest_number h.1 in
+    let t = le-leb v number_max h.1 in
     ap within_limit (numeral_is_read text v h.0) ∙ rw t refl
 one_reading text (Err TooLarge) h =
-    let f = lt-leb h.0 greatest_number h.2 in
+    let f = lt-leb h.0 number_max h.2 in
     ap within_limit (numeral_is_read text h.0 h.1) ∙ rw f refl
 one_reading text (Err Bad) h = no_numeral text (value_read (without_trailing_space text)) refl h

@@ -18,10 +18,10 @@ use Rattle.ti_source.specs.Folding.{Placed, folding_of}
 use Rattle.ti_source.specs.Items.{Claim, claims_flag, claims_number, claims_text, claims_cancel, Statement, States, bytes, piece_of}
 use Rattle.ti_source.specs.inside.Items.{field_of, after_field, items_of, statement_of}
 use Rattle.ti_source.specs.Reading.{ReadItem, ReadFault, Reading}
-use Rattle.ti_source.specs.Parsing.{ReadsItems, reads_nothing, reads_ignored, reads_judged, ReadsHeader, bad_header, long_header, good_header, Parses, HasReading, OneReading}
+use Rattle.ti_source.specs.Parsing.{ReadsItems, reads_nothing, reads_ignored, reads_judged, ReadsHeader, bad_header, long_header, good_header, Parses, HasReading, BlocksHaveOneReading}
 use Rattle.ti_source.specs.inside.Parsing.{items_at, faults_at, items_from, faults_from, names_found, header_faults, ReadsField, AddsItems, block_field, block_items, reading_of_text}
 use Rattle.ti_source.specs.inside.Verdicts.{number_verdict, text_verdict, fitting_verdict, named_verdict, verdict_of}
-use Rattle.ti_source.specs.Header.{names_limit}
+use Rattle.ti_text.specs.Limits.{names_max}
 use Rattle.ti_source.specs.Verdicts.{Verdict, refused, fits, is_import, Judges, judged_import, judged_unknown, judged_wrong_kind, judged_flag, judged_cancel, judged_number, judged_bad_number, judged_large_number, judged_text, judged_odd_text, judged_bad_text, items_by, faults_by, header_fault}
 use Rattle.ti_source.specs.Header.{IsBadHeader, HeaderNames}
 use Rattle.ti_source.proofs.NumberLemmas.{each_text, one_reading as one_number}
@@ -139,9 +139,9 @@ one_read agrees _ _ _ _ (reads_judged n item items found faults s v states judge
 has_header_by : (field : List ℕ) (o : Option (List (List ℕ))) → MatchOption o (IsBadHeader field) (HeaderNames field) → ReadsHeader field (names_found o) (header_faults field o)
 has_header_by field None e = bad_header field e
 has_header_by field (Some names) e =
-    elim (cases_Bool (nat_lt names_limit (length field))) [
-      | inl long ↦ rw long (long_header field names e (ltb-true names_limit (length field) long))
-      | inr short ↦ rw short (good_header field names e (ltb-false names_limit (length field) short))
+    elim (cases_Bool (nat_lt names_max (length field))) [
+      | inl long ↦ rw long (long_header field names e (ltb-true names_max (length field) long))
+      | inr short ↦ rw short (good_header field names e (ltb-false names_max (length field) short))
     ]
 
 by_names : (field : List ℕ) (o : Option (List (List ℕ))) → header_names field ≡ o → (names_found o ≡ names_found (header_names field)) × (header_faults field o ≡ header_faults field (header_names field))
@@ -152,10 +152,10 @@ pub one_header : (field : List ℕ) (names : List (List ℕ)) (faults : List Rea
 one_header _ _ _ (bad_header field bad) = by_names field None (headers_law.bad field bad)
 one_header _ _ _ (long_header field names found long) =
     let by = by_names field (Some names) (headers_law.names field names found) in
-    (by.0, ap (λ b. cond b (header_fault code.NamesTooLong ∷ []) []) (sym (lt-ltb names_limit (length field) long)) ∙ by.1)
+    (by.0, ap (λ b. cond b (header_fault code.NamesTooLong ∷ []) []) (sym (lt-ltb names_max (length field) long)) ∙ by.1)
 one_header _ _ _ (good_header field names found short) =
     let by = by_names field (Some names) (headers_law.names field names found) in
-    (by.0, ap (λ b. cond b (header_fault code.NamesTooLong ∷ []) []) (sym (le-ltb names_limit (length field) short)) ∙ by.1)
+    (by.0, ap (λ b. cond b (header_fault code.NamesTooLong ∷ []) []) (sym (le-ltb names_max (length field) short)) ∙ by.1)
 
 -- ---- a block
 
@@ -196,7 +196,7 @@ is_parsed agrees block reading p =
     (p.faults ∙ ap (λ f. f ++ p.of_items) (header.1 ∙ ap (λ f. header_faults f (header_names f)) same_field)
     ∙ ap (λ f. header_faults (block_field block) (header_names (block_field block)) ++ f) (read.1 ∙ ap (faults_from 0) items))
 
-pub one_reading : UnescapedAgrees → OneReading
+pub one_reading : UnescapedAgrees → BlocksHaveOneReading
 one_reading agrees block one other p q = is_parsed agrees block one p ∙ sym (is_parsed agrees block other q)
 
 -- a block that is read part by part

@@ -18,7 +18,7 @@ use Rattle.ti_spelling.specs.declared.spelling.UnescapeError.{UnescapeError}
 use Rattle.ti_source.specs.WhiteSpace.{is_white_space}
 use Rattle.ti_source.specs.Blocks.{last_byte}
 use Rattle.ti_source.specs.Lines.{line_count}
-use Rattle.ti_source.specs.Codes.{is_error, is_of_header}
+use Rattle.ti_source.specs.Code.{is_error, is_of_header}
 use Rattle.ti_source.specs.Header.{IsBadHeader, HeaderNames, IsLookupName}
 use Rattle.ti_source.specs.inside.Header.{header_names}
 use Rattle.ti_source.specs.Numbers.{ReadsAs}
@@ -30,7 +30,7 @@ use Rattle.ti_source.specs.inside.Items.{after_field, taken_after, cuts, with_fi
 use Rattle.ti_source.specs.Reading.{ReadItem, ReadFault}
 use Rattle.ti_source.specs.inside.Parsing.{items_at, faults_at, items_from, faults_from, names_found, header_faults, block_field, block_items, reading_of_text}
 use Rattle.ti_source.specs.inside.Verdicts.{number_verdict, text_verdict, fitting_verdict, named_verdict, verdict_of}
-use Rattle.ti_source.specs.Header.{names_limit}
+use Rattle.ti_text.specs.Limits.{names_max}
 use Rattle.ti_source.specs.Verdicts.{Verdict, accepted, accepted_odd, refused, is_import, items_by, faults_by, header_fault}
 use Rattle.ti_source.specs.Sound.{SetsItsKind, IsLineOf, IsWritable, IsRising, EachIsWellRead}
 use Rattle.ti_source.proofs.CutLemmas.{lines_add}
@@ -222,7 +222,7 @@ AllByRecursion-weaker P Q w (x ∷ xs) all = (w x all.0, AllByRecursion-weaker P
 header_faults-lines : (Q : ℕ → Type 0) → Q 1 → (field : List ℕ) (o : Option (List (List ℕ))) → AllByRecursion (λ (f : ReadFault). Q f.line) (header_faults field o)
 header_faults-lines Q q field None = (q, tt)
 header_faults-lines Q q field (Some names) =
-    elim (nat_lt names_limit (length field)) as (λ b. AllByRecursion (λ (f : ReadFault). Q f.line) (cond b (header_fault code.NamesTooLong ∷ []) [])) [ true ↦ (q, tt) | false ↦ tt ]
+    elim (nat_lt names_max (length field)) as (λ b. AllByRecursion (λ (f : ReadFault). Q f.line) (cond b (header_fault code.NamesTooLong ∷ []) [])) [ true ↦ (q, tt) | false ↦ tt ]
 
 names-sound : (field : List ℕ) (o : Option (List (List ℕ))) → MatchOption o (IsBadHeader field) (HeaderNames field) → All IsLookupName (names_found o)
 names-sound field None read = All-nil IsLookupName
@@ -232,11 +232,11 @@ named-sound : (field : List ℕ) (o : Option (List (List ℕ))) → header_names
     → list_any (λ (f : ReadFault). is_error f.code) (header_faults field o) ≡ false → IsWritable field
 named-sound field None is read e = absurd cc
 named-sound field (Some names) is read e =
-    elim (cases_Bool (nat_lt names_limit (length field))) [
+    elim (cases_Bool (nat_lt names_max (length field))) [
       | inl long ↦ let h : true ≡ false = rw long at e in absurd cc
       | inr short ↦
           let some : field ≢ [] = λ none. let h : header_names [] ≡ Some names = rw none at is in absurd cc in
-          record { some = some; no_nul = λ k d h at. read.no_nul (k, h, get_or_default field k 0 d h ∙ at); short = ltb-false names_limit (length field) short }
+          record { some = some; no_nul = λ k d h at. read.no_nul (k, h, get_or_default field k 0 d h ∙ at); short = ltb-false names_max (length field) short }
     ]
 
 any-front : (p : ReadFault → Bool) (xs ys : List ReadFault) → list_any p (xs ++ ys) ≡ false → list_any p xs ≡ false
@@ -326,7 +326,7 @@ faults_from-item valid sound n (item ∷ items) =
 header_faults-one : (field : List ℕ) (o : Option (List (List ℕ))) → (length (header_faults field o) ≤ 1) × AllByRecursion (λ (f : ReadFault). is_of_header f.code ≡ true) (header_faults field o)
 header_faults-one field None = (omega arith, (refl, tt))
 header_faults-one field (Some names) =
-    elim (nat_lt names_limit (length field)) as (λ b. (length (cond b (header_fault code.NamesTooLong ∷ []) []) ≤ 1) × AllByRecursion (λ (f : ReadFault). is_of_header f.code ≡ true) (cond b (header_fault code.NamesTooLong ∷ []) [])) [
+    elim (nat_lt names_max (length field)) as (λ b. (length (cond b (header_fault code.NamesTooLong ∷ []) []) ≤ 1) × AllByRecursion (λ (f : ReadFault). is_of_header f.code ≡ true) (cond b (header_fault code.NamesTooLong ∷ []) [])) [
       | true ↦ (omega arith, (refl, tt))
       | false ↦ (omega arith, tt)
     ]

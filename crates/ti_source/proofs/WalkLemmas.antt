@@ -210,7 +210,7 @@ pub ends_of_block : (s : List ℕ) → OneBlock s → (last_byte 0 s == 10) ≡ 
 ends_of_block s o = eq-eqb (last_byte 0 s) 10 (one_block_parts s o).ends
 
 -- a call of `next` that gave the first of the blocks left
-pub goes_on : {S A : Type 0} (can : S → Type 0) (left : S → List (List ℕ)) (s t : S) (x : A) (block : List ℕ) → can t → left s ≡ block ∷ left t
+pub takes_run : {S A : Type 0} (can : S → Type 0) (left : S → List (List ℕ)) (s t : S) (x : A) (block : List ℕ) → can t → left s ≡ block ∷ left t
     → MakesProgress can (item_count left) s (Some x) t
-goes_on can left s t x block always e =
+takes_run can left s t x block always e =
     record { on = λ _. (always, tt, omega (arith, ap length e)); keeps = always; rests = λ _. tt }

@@ -1,6 +1,5 @@
 -- The names field, which opens a block: the names of the terminal and a description, parted by `|` (X/Open Curses Issue 7, "Terminfo Source
 -- Format"). Which names can be looked up is own: they name files, so they are printable and no path.
-use Rattle.ti_text.specs.Limits.{names_max}
 use Rattle.ti_text.specs.Ascii as ascii
 use Rattle.std.specs.Prelude.{◌≡◌, ◌≢◌, ℕ, ◌-◌, ◌≤◌, ◌==◌, if◌then◌else◌, List, [], ◌∷◌, length, take, All, Any, Contains, ◌⊎◌}
 use Rattle.std.specs.List.{join_with_byte}
@@ -40,7 +39,3 @@ pub record IsBadHeader (field : List ℕ) : Type 0 where
   pub parts : List (List ℕ)
   pub cut : PartsOf field parts
   pub fault : Any (λ part. part ≡ []) parts ⊎ (Contains field ascii.nul ⊎ Any (λ name. ¬ IsLookupName name) (lookup_parts parts))
-
--- the most bytes that a names field may have (term(5) has room for 128 with a NUL)
-abbrev pub names_limit : ℕ
-names_limit = names_max

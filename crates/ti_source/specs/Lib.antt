@@ -7,7 +7,7 @@ pub mod Numbers
 pub use Rattle.ti_spelling.specs.Spelling
 pub mod Folding
 pub mod Items
-pub mod Codes
+pub mod Code
 pub mod Reading
 pub mod Verdicts
 pub mod Parsing

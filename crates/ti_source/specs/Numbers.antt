@@ -39,14 +39,10 @@ pub record IsNumeral (text : List ℕ) (value : ℕ) : Type 0 where
   pub blank : AllPass is_white_space space
   pub written : IsNumber number value
 
--- the greatest value that a number of a source may have
-abbrev pub greatest_number : ℕ
-greatest_number = number_max
-
 -- what a reading of a text says: the value, within the limit; that there is one beyond it; or that there is none
 abbrev pub ReadsAs : List ℕ → Result ℕ NumberError → Type 0
-ReadsAs text (Ok value) = IsNumeral text value × (value ≤ greatest_number)
-ReadsAs text (Err TooLarge) = (value : ℕ) × IsNumeral text value × (greatest_number < value)
+ReadsAs text (Ok value) = IsNumeral text value × (value ≤ number_max)
+ReadsAs text (Err TooLarge) = (value : ℕ) × IsNumeral text value × (number_max < value)
 ReadsAs text (Err Bad) = (value : ℕ) → IsNumeral text value → ⊥
 
 -- a text has one value at most

@@ -1,6 +1,6 @@
 -- What a block says (terminfo(5); X/Open Curses Issue 7, "Terminfo Source Format"), as a relation by cases. `inside/Parsing` computes the same, `reading_of_text`.
 pub use Rattle.ti_source.specs.Verdicts.{Verdict, accepted, accepted_odd, refused, fits, is_import, Judges, judged_import, judged_unknown, judged_wrong_kind, judged_flag, judged_cancel, judged_number, judged_bad_number, judged_large_number, judged_text, judged_odd_text, judged_bad_text, said_by, code_by, item_fault, items_by, faults_by, header_fault}
-pub use Rattle.ti_source.specs.Header.{names_limit}
+pub use Rattle.ti_text.specs.Limits.{names_max}
 unfoldable pub use Rattle.ti_source.specs.inside.Parsing.{reading_of_text}
 use Rattle.ti_text.specs.Ascii as ascii
 use Rattle.std.specs.Prelude.{◌≡◌, ℕ, ◌+◌, ◌<◌, ◌≤◌, List, [], ◌∷◌, ◌++◌, length, Some, None}
@@ -27,9 +27,9 @@ pub data ReadsItems : (ordinal : ℕ) (items : List (List Placed)) → List Read
 -- the lookup names of a names field, and its fault
 pub data ReadsHeader : (field : List ℕ) (names : List (List ℕ)) (faults : List ReadFault) → Type 0 where
   bad_header : (field : List ℕ) → IsBadHeader field → ReadsHeader field [] (header_fault code.BadHeader ∷ [])
-  long_header : (field : List ℕ) (names : List (List ℕ)) → HeaderNames field names → names_limit < length field
+  long_header : (field : List ℕ) (names : List (List ℕ)) → HeaderNames field names → names_max < length field
       → ReadsHeader field names (header_fault code.NamesTooLong ∷ [])
-  good_header : (field : List ℕ) (names : List (List ℕ)) → HeaderNames field names → length field ≤ names_limit → ReadsHeader field names []
+  good_header : (field : List ℕ) (names : List (List ℕ)) → HeaderNames field names → length field ≤ names_max → ReadsHeader field names []
 
 -- ---- a block
 
@@ -53,5 +53,5 @@ abbrev pub HasReading : Type 0
 HasReading = (block : List ℕ) → Parses block (reading_of_text block)
 
 -- a block has no two readings
-abbrev pub OneReading : Type 0
-OneReading = (block : List ℕ) (one other : Reading) → Parses block one → Parses block other → one ≡ other
+abbrev pub BlocksHaveOneReading : Type 0
+BlocksHaveOneReading = (block : List ℕ) (one other : Reading) → Parses block one → Parses block other → one ≡ other

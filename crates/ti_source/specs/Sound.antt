@@ -5,18 +5,17 @@ use Rattle.ti_caps.specs.Tables.{IsCapability}
 use Rattle.ti_caps.specs.declared.capability.Kind.TheVariants.{Flag, Number, Text}
 use Rattle.ti_source.specs.Blocks.{OneBlock}
 use Rattle.ti_source.specs.Lines.{line_count}
-use Rattle.ti_source.specs.Codes.{is_error, is_of_header}
+use Rattle.ti_source.specs.Code.{is_error, is_of_header}
 use Rattle.ti_source.specs.Header.{IsLookupName}
-use Rattle.ti_source.specs.Numbers.{greatest_number}
+use Rattle.ti_text.specs.Limits.{number_max, names_max}
 use Rattle.ti_spelling.specs.Spelling.{HasNoNul}
 use Rattle.ti_source.specs.Reading.{Reading, ReadItem, ReadFault, Said, said_flag, said_number, said_text, said_cancel, said_import}
 use Rattle.ti_source.specs.inside.Parsing.{reading_of_text}
-use Rattle.ti_source.specs.Header.{names_limit}
 
 -- what an item says of a capability fits it: its kind, a number within the limit, a text without NUL
 abbrev pub SetsItsKind : Said → Type 0
 SetsItsKind (said_flag c) = IsCapability c × (c.kind ≡ Flag)
-SetsItsKind (said_number c n) = IsCapability c × (c.kind ≡ Number) × (n ≤ greatest_number)
+SetsItsKind (said_number c n) = IsCapability c × (c.kind ≡ Number) × (n ≤ number_max)
 SetsItsKind (said_text c text) = IsCapability c × (c.kind ≡ Text) × HasNoNul text
 SetsItsKind (said_cancel c) = IsCapability c
 SetsItsKind (said_import name) = Unit {0}
@@ -29,7 +28,7 @@ IsLineOf block line = (1 ≤ line) × (line ≤ line_count block)
 pub record IsWritable (field : List ℕ) : Type 0 where
   pub some : field ≢ []
   pub no_nul : HasNoNul field
-  pub short : length field ≤ names_limit
+  pub short : length field ≤ names_max
 
 -- numbers that rise, each over the one before
 abbrev pub IsRising : List ℕ → Type 0

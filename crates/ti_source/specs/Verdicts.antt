@@ -8,7 +8,8 @@ use Rattle.ti_source.specs.declared.code.Code.{Code}
 use Rattle.ti_source.specs.declared.code.Code.TheVariants as code
 use Rattle.ti_spelling.specs.declared.spelling.UnescapeError.{UnescapeError}
 use Rattle.ti_spelling.specs.Spelling.{Spells, Fails}
-use Rattle.ti_source.specs.Numbers.{IsNumeral, greatest_number}
+use Rattle.ti_source.specs.Numbers.{IsNumeral}
+use Rattle.ti_text.specs.Limits.{number_max}
 use Rattle.ti_source.specs.Items.{Claim, claims_flag, claims_number, claims_text, claims_cancel, without_outer_space}
 use Rattle.ti_source.specs.Reading.{Said, said_flag, said_number, said_text, said_cancel, said_import, ReadItem, ReadFault}
 
@@ -44,12 +45,12 @@ pub data Judges : (name : List ℕ) (claim : Claim) → Verdict → Type 0 where
       → Judges name claims_flag (accepted (said_flag c))
   judged_cancel : (name : List ℕ) (c : Capability) → capability_named name ≡ Some c
       → Judges name claims_cancel (accepted (said_cancel c))
-  judged_number : (name text : List ℕ) (c : Capability) (n : ℕ) → capability_named name ≡ Some c → c.kind ≡ kind.Number → IsNumeral text n → n ≤ greatest_number
+  judged_number : (name text : List ℕ) (c : Capability) (n : ℕ) → capability_named name ≡ Some c → c.kind ≡ kind.Number → IsNumeral text n → n ≤ number_max
       → Judges name (claims_number text) (accepted (said_number c n))
   judged_bad_number : (name text : List ℕ) (c : Capability) → capability_named name ≡ Some c → c.kind ≡ kind.Number → ((n : ℕ) → IsNumeral text n → ⊥)
       → Judges name (claims_number text) (refused code.BadNumber)
   judged_large_number : (name text : List ℕ) (c : Capability) (n : ℕ) → capability_named name ≡ Some c → c.kind ≡ kind.Number → IsNumeral text n
-      → greatest_number < n
+      → number_max < n
       → Judges name (claims_number text) (refused code.NumberTooLarge)
   judged_text : (name value text : List ℕ) (c : Capability) → is_import name (claims_text value) ≡ false → capability_named name ≡ Some c → c.kind ≡ kind.Text
       → Spells value text false → Judges name (claims_text value) (accepted (said_text c text))

@@ -1,6 +1,6 @@
 // The codes of the faults of a description.
 ghost use Rattle.std.specs.Prelude.{◌≡◌, Some};
-ghost use Rattle.ti_source.specs.Codes.{label_of, code_name, code_text, is_error};
+ghost use Rattle.ti_source.specs.Code.{label_of, code_name, code_text, is_error, is_of_header};
 
 use std::fmt;
 
@@ -88,6 +88,13 @@ impl Code {
             self,
             Code::UnknownCapability | Code::WrongKind | Code::UnknownEscape | Code::DuplicateName
         )
+    }
+
+    /// Whether the code is of a names field and not of an item or of the entry.
+    pub fn is_of_header(self) -> bool
+        ensures { result ≡ is_of_header self }
+    {
+        matches!(self, Code::BadHeader | Code::NamesTooLong)
     }
 }
 

@@ -3,7 +3,7 @@ ghost use Rattle.std.specs.Prelude.{◌≡◌, ◌+◌, ◌<◌, ◌≤◌, IfOk
 ghost use Rattle.memchr.specs.Find.{IsFirstByte};
 ghost use Rattle.std.specs.Option.{option_map_or};
 ghost use Rattle.ti_source.specs.Items.{bytes, is_mark, piece, without_outer_space};
-ghost use Rattle.ti_source.specs.inside.Items.{taken_after, cuts, field_of, after_field, GoesOn, ReadsOn, TakesItem, EndsItem, IsWholeItem, with_byte, statement_in_memory, statement_of, statement_with_value, plain_statement};
+ghost use Rattle.ti_source.specs.inside.Items.{taken_after, cuts, field_of, after_field, PassesRun, ReadsOn, TakesItem, EndsItem, IsWholeItem, with_byte, statement_in_memory, statement_of, statement_with_value, plain_statement};
 
 use crate::folding::Folded;
 use crate::white_space::{is_white_space, trim_end};
@@ -53,7 +53,7 @@ pub(crate) struct Run<'a> {
 /// just after `before`.
 pub(crate) fn front_run(text: &[u8], taken: Taken, before: u8) -> Run<'_>
     ensures front { result.bytes.now ≡ take (length result.bytes.now) text.now }
-    ensures goes_on { GoesOn taken before result.bytes.now result.taken result.last }
+    ensures passes_run { PassesRun taken before result.bytes.now result.taken result.last }
 {
     let mut size = 0;
     let mut next = taken;

@@ -1,6 +1,7 @@
 //! The numbers of a source.
 ghost use Rattle.std.specs.Prelude.{◌≡◌, ◌≤◌, ◌+◌, min, IfSome};
 ghost use Rattle.std.specs.Option.{option_map, option_and_then};
+ghost use Rattle.ti_text.specs.Limits.{number_max};
 ghost use Rattle.ti_source.specs.Numbers as spec;
 ghost use Rattle.ti_source.specs.inside.Numbers as computed;
 
@@ -49,7 +50,7 @@ fn base_and_digits(number: &[u8]) -> Option<(u32, &[u8])>
 // The value of digits in a base; one that is over the limit stops just above it.
 fn digits_value(base: u32, digits: &[u8]) -> Option<u32>
     requires { base ≤ 16 }
-    ensures { result ≡ option_map (λ value. min value (spec.greatest_number + 1)) (computed.digits_read base digits.now) }
+    ensures { result ≡ option_map (λ value. min value (number_max + 1)) (computed.digits_read base digits.now) }
 {
     let mut value = 0;
     for byte in digits {
@@ -64,7 +65,7 @@ fn digits_value(base: u32, digits: &[u8]) -> Option<u32>
 }
 
 fn value(number: &[u8]) -> Option<u32>
-    ensures { result ≡ option_map (λ value. min value (spec.greatest_number + 1)) (computed.value_read number.now) }
+    ensures { result ≡ option_map (λ value. min value (number_max + 1)) (computed.value_read number.now) }
 {
     let (base, digits) = base_and_digits(number)?;
     digits_value(base, digits)

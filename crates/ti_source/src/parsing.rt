@@ -2,7 +2,7 @@
 ghost use Rattle.std.specs.Prelude.{◌≡◌, ◌<◌, ◌+◌, ◌^◌, IfOk, OnOk, length};
 ghost use Rattle.ti_source.specs.Blocks.{OneBlock};
 ghost use Rattle.ti_source.specs.Items.{piece};
-ghost use Rattle.ti_source.specs.Parsing.{Parses, HasReading, OneReading};
+ghost use Rattle.ti_source.specs.Parsing.{Parses, HasReading, BlocksHaveOneReading};
 ghost use Rattle.ti_source.specs.inside.Parsing.{reading_of_text, AddsItem, AddsItems, ReadsField};
 ghost use Rattle.ti_source.specs.Verdicts.{header_fault, item_fault};
 ghost use Rattle.ti_source.specs.Reading.{fault_of, reading_of};
@@ -242,7 +242,7 @@ pub fn each_is_well_read()
 /// Each block has one reading, which `parse` gives.
 pub fn one_reading()
     ensures computed { HasReading }
-    ensures only { OneReading }
+    ensures only { BlocksHaveOneReading }
 {
     one_outcome();
 }

@@ -1,6 +1,6 @@
 // Names fields, and the lookup names that they have.
 use std::test::Fail;
-use ti_source::{is_lookup_name, lookup_names};
+use ti_source::{Code, is_lookup_name, lookup_names};
 
 #[test]
 fn reads_headers(rt: HostRuntime) -> Result<(), Fail> {
@@ -56,5 +56,15 @@ fn tells_lookup_names(rt: HostRuntime) {
         b"\x80".as_slice(),
     ] {
         assert!(rt; !is_lookup_name(name));
+    }
+}
+
+#[test]
+fn two_codes_are_of_a_names_field(rt: HostRuntime) {
+    for code in [Code::BadHeader, Code::NamesTooLong] {
+        assert!(rt; code.is_of_header());
+    }
+    for code in [Code::BadNumber, Code::TooLarge, Code::DuplicateName] {
+        assert!(rt; !code.is_of_header());
     }
 }

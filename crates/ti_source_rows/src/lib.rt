@@ -7,7 +7,7 @@
 //! - `names`: the names of the capabilities
 //! - `numbers`: numbers
 //! - `parsing`: blocks as they are read
-//! - `room`: text that grows in room made before
+//! - `room`: text that grows in room made before, and its lines
 //! - `spelling`: texts and the bytes that they spell
 //! - `writing`: bytes and the texts that spell them
 #![tactic(auto)]

@@ -1,5 +1,6 @@
-// Text that grows in room made before.
+// Text that grows in room made before, and its lines.
 use std::test::Fail;
+use ti_text::count_lines;
 use ti_text::room::{append_reserved, fill_reserved, insert_reserved};
 
 #[test]
@@ -10,5 +11,13 @@ fn grows_in_room_made_before(rt: HostRuntime) -> Result<(), Fail> {
     append_reserved(&mut text, b"c");
     insert_reserved(&mut text, 1, b'|');
     assert_eq!(rt; text.as_slice(), b"a|b---c".as_slice());
+    Ok(())
+}
+
+#[test]
+fn lines_end_with_a_newline(rt: HostRuntime) -> Result<(), Fail> {
+    assert_eq!(rt; count_lines(b""), 0);
+    assert_eq!(rt; count_lines(b"a\r\n\nb"), 2);
+    assert_eq!(rt; count_lines(b"a\nb\n"), 2);
     Ok(())
 }

@@ -3,7 +3,7 @@
 //! - `specs/Ascii.antt` names the bytes that terminfo gives a meaning, `specs/Texts.antt` says what is known of a text by
 //!   its bytes alone, `specs/Digits.antt` what decimal digits write, `specs/Limits.antt` the limits of the product.
 //! - `limits`: the same limits for the code
-//! - `lines`: the law of counting lines
+//! - `lines`: counting lines, and the law of it
 //! - `room`: growth of a vector in room that was made before
 #![tactic(auto)]
 
@@ -11,4 +11,4 @@ pub mod limits;
 mod lines;
 pub mod room;
 
-pub use lines::lines_add;
+pub use lines::{count_lines, lines_add};

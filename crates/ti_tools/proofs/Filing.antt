@@ -10,19 +10,19 @@ use Rattle.ti_source.specs.Parsing.{HasReading, Parses, ReadsHeader, bad_header,
 use Rattle.ti_source.specs.Reading.{ReadFault, Reading}
 use Rattle.ti_meaning.specs.Compiled.{compiled}
 use Rattle.ti_meaning.specs.Owner.{is_among, readings}
-use Rattle.ti_meaning.specs.Reaching.{is_owner}
+use Rattle.ti_meaning.specs.inside.Reaching.{is_owner}
 use Rattle.ti_meaning.specs.Faults.{distinct_after}
-use Rattle.ti_devices.specs.Tree.{Entry}
+use Rattle.ti_devices.specs.Tree.{FileAt}
 use Rattle.ti_tools.specs.EntryFiles.{IsAsciiName, files_at, files_for, files_from, files_of, own_names}
 use Rattle.ti_devices.specs.Paths.{path_of}
 
 -- the files for names that stand behind others
-abbrev pub files_behind : List ℕ → List ℕ → List Reading → ℕ → List (List ℕ) → List (List ℕ) → List Entry
+abbrev pub files_behind : List ℕ → List ℕ → List Reading → ℕ → List (List ℕ) → List (List ℕ) → List FileAt
 files_behind dir image blocks at before rest =
     files_for dir image (filter (λ name. is_owner blocks name at) (distinct_after before rest))
 
 -- the files for the names from that place on
-abbrev pub files_left : List ℕ → List ℕ → List Reading → ℕ → List (List ℕ) → ℕ → List Entry
+abbrev pub files_left : List ℕ → List ℕ → List Reading → ℕ → List (List ℕ) → ℕ → List FileAt
 files_left dir image blocks at names index = files_behind dir image blocks at (take index names) (drop index names)
 
 files_behind-known : (dir image : List ℕ) (blocks : List Reading) (at : ℕ) (before : List (List ℕ)) (name : List ℕ) (rest : List (List ℕ))
@@ -120,20 +120,20 @@ pub All-at : {A : Type 0} (f : A → List ℕ) (items : List A) (index : ℕ) (n
     → All IsAsciiName (map f items) → IsAsciiName name
 All-at f items index name place all = subst IsAsciiName (sym place.is) (All-get_or IsAsciiName (map f items) index name place.within all)
 
-pub files_joined : (old new : List Entry) (file : Entry) (left next wanted : List Entry) → new ≡ old ++ file ∷ [] → left ≡ file ∷ next
+pub files_joined : (old new : List FileAt) (file : FileAt) (left next wanted : List FileAt) → new ≡ old ++ file ∷ [] → left ≡ file ∷ next
     → old ++ left ≡ wanted → new ++ next ≡ wanted
 files_joined old new file left next wanted is_new is_left whole =
     rw is_new (append_assoc old (file ∷ []) next ∙ ap (λ files. old ++ files) (sym is_left) ∙ whole)
 
 -- the files of the blocks before `at` were made
-abbrev pub IsFiledTo : List ℕ → List (List ℕ) → List Entry → ℕ → Type 0
+abbrev pub IsFiledTo : List ℕ → List (List ℕ) → List FileAt → ℕ → Type 0
 IsFiledTo dir texts files at = files ++ files_from dir texts at (drop at texts) ≡ files_of dir texts
 
 pub filed_to_start : (dir : List ℕ) (texts : List (List ℕ)) → IsFiledTo dir texts [] 0
 unfolding files_of
 filed_to_start dir texts = refl
 
-pub filed_to_next : (dir : List ℕ) (texts : List (List ℕ)) (old new : List Entry) (at : ℕ) → at < length texts
+pub filed_to_next : (dir : List ℕ) (texts : List (List ℕ)) (old new : List FileAt) (at : ℕ) → at < length texts
     → ((text : List ℕ) → slice_get texts at ≡ Some text → new ≡ old ++ files_at dir texts at text)
     → IsFiledTo dir texts old at → IsFiledTo dir texts new (at + 1)
 filed_to_next dir texts old new at within added filed =
@@ -147,7 +147,7 @@ filed_to_next dir texts old new at within added filed =
     ∙ ap (λ texts_left. old ++ files_from dir texts at texts_left) (sym rest) ∙ filed
 
 -- the files of a block with an entry
-pub files_at-some : (dir : List ℕ) (texts : List (List ℕ)) (at : ℕ) (text image : List ℕ) (names : List (List ℕ)) (old new : List Entry)
+pub files_at-some : (dir : List ℕ) (texts : List (List ℕ)) (at : ℕ) (text image : List ℕ) (names : List (List ℕ)) (old new : List FileAt)
     → compiled texts at ≡ Some image → names ≡ (reading_of_text text).names → new ≡ old ++ files_for dir image (own_names (readings texts) at names)
     → new ≡ old ++ files_at dir texts at text
 files_at-some dir texts at text image names old new some is_names is_new =

@@ -8,12 +8,12 @@ use Rattle.std.proofs.lemmas.List.Elements.{All-head, All-tail}
 use Rattle.std.proofs.Math.Seq.{drop-length, take-length}
 use Rattle.ti_source.specs.Blocks.{OneBlock, blocks_of, front_of, last_byte}
 use Rattle.ti_source.specs.Lines.{line_count}
-use Rattle.ti_meaning.specs.Edits.{IsRefusal, IsSoundEdit, after, insertion}
+use Rattle.ti_meaning.specs.Edits.{IsRefusal, IsSoundEdit, list_after, insertion}
 use Rattle.ti_meaning.specs.declared.edits.EditError.{EditError}
 use Rattle.ti_meaning.specs.declared.edits.EditError.TheVariants.{Position, TooLong, NotOneBlock, TooMany, Memory}
 use Rattle.ti_base.specs.Loading.{AreTaken, IsLoadRefusal}
 use Rattle.ti_tools.specs.Sources.{preface_of, refusal_after, refusal_within, source_refusal, with_last_newline}
-use Rattle.ti_tools.specs.Tic.{compilation, refusal_or, tic_result}
+use Rattle.ti_tools.specs.Compiling.{compilation, refusal_or, tic_result}
 use Rattle.ti_tools.proofs.Ending.{ended-of_newline, last_byte-newline}
 
 insert-end : (texts : List (List ℕ)) (text : List ℕ) → insert texts (length texts) text ≡ texts ++ text ∷ []
@@ -37,7 +37,7 @@ put_to_start source is_ended single = record {
 
 -- the next text is put in
 pub put_to_next : (source : List ℕ) (texts next : List (List ℕ)) (text : List ℕ) (rest : List (List ℕ)) → IsPutTo source texts (text ∷ rest)
-    → IsSoundEdit texts (insertion (length texts) text) → next ≡ after texts (insertion (length texts) text) → IsPutTo source next rest
+    → IsSoundEdit texts (insertion (length texts) text) → next ≡ list_after texts (insertion (length texts) text) → IsPutTo source next rest
 put_to_next source texts next text rest put sound is_next =
     let short : length text ≤ 1048576 = sound.short in
     let room : length texts < 65535 = sound.room in

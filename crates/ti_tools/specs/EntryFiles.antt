@@ -8,31 +8,31 @@ use denote.Ref.{Bor}
 use Rattle.ti_source.specs.Reading.{Reading}
 use Rattle.ti_source.specs.Parsing.{reading_of_text}
 use Rattle.ti_meaning.specs.Owner.{readings}
-use Rattle.ti_meaning.specs.Reaching.{is_owner}
+use Rattle.ti_meaning.specs.inside.Reaching.{is_owner}
 use Rattle.ti_meaning.specs.Faults.{distinct}
 use Rattle.ti_meaning.specs.Compiled.{compiled}
 use Rattle.ti_devices.specs.Paths.{path_of}
-use Rattle.ti_devices.specs.Tree.{Entry}
+use Rattle.ti_devices.specs.Tree.{FileAt}
 
 -- those of the names that belong to the block at that position, each once
 abbrev pub own_names : List Reading → ℕ → List (List ℕ) → List (List ℕ)
 own_names blocks at names = filter (λ name. is_owner blocks name at) (distinct names)
 
 -- a file of an entry for each of the names
-abbrev pub files_for : List ℕ → List ℕ → List (List ℕ) → List Entry
+abbrev pub files_for : List ℕ → List ℕ → List (List ℕ) → List FileAt
 files_for dir image names = map (λ name. (path_of dir name, image)) names
 
 -- the files of a block's entry, if it has one
-abbrev pub files_of_entry : List ℕ → List (List ℕ) → Option (List ℕ) → List Entry
+abbrev pub files_of_entry : List ℕ → List (List ℕ) → Option (List ℕ) → List FileAt
 files_of_entry dir names None = []
 files_of_entry dir names (Some image) = files_for dir image names
 
 -- the files of the block of this text at that position of a source, given by the texts of its blocks
-abbrev pub files_at : List ℕ → List (List ℕ) → ℕ → List ℕ → List Entry
+abbrev pub files_at : List ℕ → List (List ℕ) → ℕ → List ℕ → List FileAt
 files_at dir texts at text = files_of_entry dir (own_names (readings texts) at (reading_of_text text).names) (compiled texts at)
 
 -- those of these blocks, of which the first stands at that position
-abbrev pub files_from : List ℕ → List (List ℕ) → ℕ → List (List ℕ) → List Entry
+abbrev pub files_from : List ℕ → List (List ℕ) → ℕ → List (List ℕ) → List FileAt
 files_from dir texts at [] = []
 files_from dir texts at (text ∷ rest) = files_at dir texts at text ++ files_from dir texts (suc at) rest
 
@@ -45,5 +45,5 @@ abbrev pub is_seen : BTreeSet (Bor (List ℕ)) → List ℕ → Bool
 is_seen seen name = contains_by (λ key. slice_cmp nat_cmp name key.now) seen
 
 -- the files of a source
-unfoldable pub files_of : List ℕ → List (List ℕ) → List Entry
+unfoldable pub files_of : List ℕ → List (List ℕ) → List FileAt
 files_of dir texts = files_from dir texts 0 texts

@@ -2,5 +2,5 @@
 pub mod Stopping
 pub mod EntryFiles
 pub mod Sources
-pub mod Tic
-pub mod Infocmp
+pub mod Compiling
+pub mod Listings

@@ -4,26 +4,27 @@ ghost use Rattle.std.specs.List.{list_any};
 ghost use Rattle.std.specs.String.{string_bytes};
 ghost use Rattle.ti_text.specs.Ascii as ascii;
 ghost use Rattle.ti_source.specs.Blocks.{front_of, last_byte};
-ghost use Rattle.ti_source.specs.Codes.{is_error};
+ghost use Rattle.ti_source.specs.Code.{is_error};
 ghost use Rattle.ti_source.specs.Lines.{line_count};
 ghost use Rattle.ti_meaning.specs.Faults.{fault_seen};
-ghost use Rattle.ti_tools.specs.Tic.{IsTicAnswer, compilation, compilation_of, status_of, tic_result};
+ghost use Rattle.ti_tools.specs.Compiling.{IsTicAnswer, compilation, compilation_of, status_of, tic_result};
 
 use crate::entry_files::entry_files;
 use crate::loading::database_of;
 use crate::outcome::{TicOptions, TicOutcome};
-use crate::sources::{check, is_ended, lines};
+use crate::sources::{check, is_ended};
 use std::alloc::{AllocError, Global};
 use ti_base::{Database, EditError, Fault};
 use ti_devices::ToolError;
 use ti_source::blocks;
+use ti_text::count_lines;
 
 // The number of the line on which the first block of a source begins.
 fn first_number(source: &[u8]) -> u64
     ensures number { result ≡ line_count (front_of ascii.newline source.now) + 1 }
     ensures bound { result ≤ 2 ^ 63 }
 {
-    lines(blocks(source).preface()) as u64 + 1
+    count_lines(blocks(source).preface()) as u64 + 1
 }
 
 // Whether one of the faults is an error.

@@ -1,9 +1,9 @@
 //! What `infocmp` prints of entries.
-ghost use Rattle.std.specs.Prelude.{◌≡◌, ◌≢◌, ◌⊎◌, ◌↔◌, [], IfErr, IfOk, IsErrOf, None, Some, map};
+ghost use Rattle.std.specs.Prelude.{◌≡◌, ◌≢◌, ◌⊎◌, ◌↔◌, [], IfErr, IfOk, IsErrOf, None, Some};
 ghost use Rattle.std.specs.List.{flat_map};
 ghost use Rattle.ti_list.specs.Comparison.{comparison};
-ghost use Rattle.ti_list.specs.Relative.{relative, entry_shown};
-ghost use Rattle.ti_tools.specs.Infocmp.{infocmp_result, listings};
+ghost use Rattle.ti_list.specs.Relative.{relative, entry_shown, entries_shown};
+ghost use Rattle.ti_tools.specs.Listings.{infocmp_result, listings};
 
 use std::alloc::{AllocError, Global};
 use ti_commands::InfocmpMode;
@@ -22,7 +22,7 @@ pub struct InfocmpOptions {
 
 // The listing of each entry in turn.
 fn listings(alloc: Global, views: &[View<'_>], layout: &Layout) -> Result<Vec<u8>, AllocError>
-    ensures { IfOk result (λ text. text.items ≡ listings (map (λ view. entry_shown view) views.now) layout.now) }
+    ensures { IfOk result (λ text. text.items ≡ listings (entries_shown views.now) layout.now) }
 {
     let Some((first, others)) = views.split_first() else {
         return Ok(Vec::new(alloc));
@@ -44,7 +44,7 @@ fn comparisons(
     order: Order,
 ) -> Result<Vec<u8>, AllocError>
     ensures { IfOk result (λ text. text.items
-        ≡ flat_map (λ other. comparison (entry_shown first.now) other mode order) (map (λ view. entry_shown view) others.now)) }
+        ≡ flat_map (λ other. comparison (entry_shown first.now) other mode order) (entries_shown others.now)) }
 {
     let mut text = Vec::new(alloc);
     for other in others {
@@ -62,7 +62,7 @@ fn relation(
     layout: &Layout,
 ) -> Result<Vec<u8>, AllocError>
     requires { others.now ≢ [] }
-    ensures { IfOk result (λ text. text.items ≡ relative (entry_shown first.now) (map (λ view. entry_shown view) others.now) layout.now) }
+    ensures { IfOk result (λ text. text.items ≡ relative (entry_shown first.now) (entries_shown others.now) layout.now) }
 {
     match relative(alloc, first, others, layout) {
         Ok(text) => Ok(text),
@@ -80,8 +80,8 @@ pub fn infocmp(
     views: &[View<'_>],
     options: &InfocmpOptions,
 ) -> Result<Vec<u8>, ToolError>
-    ensures ok { IfOk result (λ text. infocmp_result (map (λ view. entry_shown view) views.now) options.now ≡ Some text.items) }
-    ensures usage { IsErrOf result ToolError.Usage ↔ (infocmp_result (map (λ view. entry_shown view) views.now) options.now ≡ None) }
+    ensures ok { IfOk result (λ text. infocmp_result (entries_shown views.now) options.now ≡ Some text.items) }
+    ensures usage { IsErrOf result ToolError.Usage ↔ (infocmp_result (entries_shown views.now) options.now ≡ None) }
     ensures only { IfErr result (λ e. (e ≡ ToolError.Usage) ⊎ (e ≡ ToolError.Memory)) }
 {
     let layout = &options.layout;

@@ -2,11 +2,11 @@
 ghost use Rattle.std.specs.Prelude.{◌≡◌, ◌+◌, ◌==◌, ◌≤◌, length, MatchResult, None, Some};
 ghost use Rattle.ti_text.specs.Ascii as ascii;
 ghost use Rattle.ti_source.specs.Blocks.{last_byte};
-ghost use Rattle.ti_source.specs.Lines.{line_count};
 ghost use Rattle.ti_tools.specs.Sources.{source_refusal, with_last_newline};
 
 use ti_devices::ToolError;
 use ti_source::blocks;
+use ti_text::count_lines;
 use ti_text::limits::{BLOCK_BYTES_MAX, BLOCKS_MAX};
 
 /// Whether the last line of a text has its newline.
@@ -17,14 +17,6 @@ pub fn is_ended(text: &[u8]) -> bool
         Some(byte) => *byte == b'\n',
         None => true,
     }
-}
-
-/// How many lines of the text end.
-pub fn lines(text: &[u8]) -> usize
-    ensures count { result ≡ line_count text.now }
-    ensures bound { result ≤ length text.now }
-{
-    text.iter().filter(|byte| **byte == b'\n').count()
 }
 
 // The bytes of a text once its last line is ended.
@@ -51,7 +43,7 @@ pub fn check(source: &[u8]) -> Result<(), ToolError>
     let mut count = 0;
     while let Some(text) = cut.next() {
         if ended_len(text) > BLOCK_BYTES_MAX {
-            return Err(ToolError::BlockTooLong(lines(&source[..offset]) + 1));
+            return Err(ToolError::BlockTooLong(count_lines(&source[..offset]) + 1));
         }
         if count >= BLOCKS_MAX {
             return Err(ToolError::TooManyBlocks);

@@ -17,8 +17,8 @@ use Rattle.ti_devices.specs.declared.tool_error.ToolError.{ToolError}
 use Rattle.ti_devices.specs.declared.tool_error.ToolError.TheVariants.{Usage, NoTerminal, BadEntry, ReadFault, WriteFault, LineTooLong, BlockTooLong, TooManyBlocks, Memory}
 use Rattle.ti_tput.specs.Entries.{Entry}
 use Rattle.ti_tput.specs.Runs.{Course, Step, line_step, run_status, start, steps, tput_run}
-use Rattle.ti_tput.specs.Streaming.{Ends, HasLines, IsShortLine, line_max}
-use Rattle.ti_tput.specs.Terminal.{Holds, Took}
+use Rattle.ti_tput.specs.Streaming.{Ends, HasLines, IsShortLine, command_line_max}
+use Rattle.ti_tput.specs.inside.Terminal.{HasCourse, Took}
 use Rattle.ti_tput.specs.declared.terminal.Terminal.{Terminal}
 
 -- what came of a line that is another line
@@ -90,13 +90,13 @@ module _ (entry : Entry) (rate : ℕ) where
     pub lines : List (List ℕ)
     pub are : AreLines lines
     pub gives : Gives given left (bytes_of lines ++ ahead_of reading)
-    pub holds : Holds entry rate terminal (after_lines lines)
+    pub holds : HasCourse entry rate terminal (after_lines lines)
     pub written : TakesAll before now (written_by lines)
-    pub limit : limit_of reading ≡ line_max
+    pub limit : limit_of reading ≡ command_line_max
     pub reads : reads_left_of reading + left.reads ≡ reads_max + given.reads
 
-  pub Progress-start : (given before : Observed) (reading : LineReader) (terminal : Terminal) → limit_of reading ≡ line_max
-      → ahead_of reading ≡ [] → reads_left_of reading ≡ reads_max → Holds entry rate terminal start
+  pub Progress-start : (given before : Observed) (reading : LineReader) (terminal : Terminal) → limit_of reading ≡ command_line_max
+      → ahead_of reading ≡ [] → reads_left_of reading ≡ reads_max → HasCourse entry rate terminal start
       → Progress given given reading terminal before before
   unfolding steps
   Progress-start given before reading terminal limit ahead reads holds = record {
@@ -159,7 +159,7 @@ module _ (entry : Entry) (rate : ℕ) where
           lines = p.lines ++ line_of next ∷ [];
           are = are-lines;
           gives = gives-lines;
-          holds = subst (λ (c : Course). Holds entry rate terminal2 c) (after_more p.lines (line_of next)) took.0;
+          holds = subst (λ (c : Course). HasCourse entry rate terminal2 c) (after_more p.lines (line_of next)) took.0;
           written = subst (λ (t : List ℕ). TakesAll before now2 t) (written_more p.lines (line_of next))
               (TakesAll-then before now now2 (written_by p.lines) _ p.written took.1);
           limit = s.limit ∙ p.limit;
@@ -240,7 +240,7 @@ module _ (entry : Entry) (rate : ℕ) where
 
       -- the input has ended behind a newline
       pub Ends-end : ReadsLine reading next left later (Ok End) → (status : ℕ)
-          → ((c : Course) → Holds entry rate terminal c → status ≡ run_status c.bad) → Ends entry rate given later before now (Ok status)
+          → ((c : Course) → HasCourse entry rate terminal c → status ≡ run_status c.bad) → Ends entry rate given later before now (Ok status)
       Ends-end r status is = record {
         input = bytes_of p.lines;
         lines = p.lines;
@@ -267,7 +267,7 @@ module _ (entry : Entry) (rate : ℕ) where
 
         pub Ends-last : (terminal2 : Terminal) (now2 : Observed) (status : ℕ)
             → Took entry rate (line_step entry rate (after_lines p.lines) (line_of next)) terminal2 now now2 (Ok tt)
-            → ((c : Course) → Holds entry rate terminal2 c → status ≡ run_status c.bad) → Ends entry rate given later before now2 (Ok status)
+            → ((c : Course) → HasCourse entry rate terminal2 c → status ≡ run_status c.bad) → Ends entry rate given later before now2 (Ok status)
         Ends-last terminal2 now2 status took is = record {
           input = bytes_of p.lines ++ line_of next;
           lines = p.lines;

@@ -3,7 +3,7 @@ use Rattle.std.proofs.Common.{◌≡◌, ◌≢◌, ℕ, suc, ◌<◌, ◌≤◌
 use Rattle.std.specs.Prelude.{codes, ℤ}
 use Rattle.std.proofs.lemmas.Bool.{lt-ltb, ne_eqb, ltb-true, ltb-false}
 use Rattle.std.proofs.lemmas.List.{take_all, length-take, nil_from_length}
-use Rattle.ti_param.specs.Expansion.{Expansion, expanded, bad_format, stack_full, expansion}
+use Rattle.ti_param.specs.inside.Expansion.{Expansion, expanded, bad_format, stack_full, expansion}
 use Rattle.ti_printing.specs.declared.padding.Line.{Line}
 use Rattle.ti_tput.specs.Entries.{Entry, Holding, flag_held, number_held, text_held, holding_of, line_of}
 use Rattle.ti_tput.specs.Parameters.{parameters}

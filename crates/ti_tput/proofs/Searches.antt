@@ -3,7 +3,7 @@ use Rattle.std.proofs.Common.{◌≡◌, ℕ, ◌+◌, ◌<◌, List, [], ◌∷
 use Rattle.std.specs.Prelude.{option_map}
 use Rattle.std.proofs.lemmas.List.{drop_more}
 use Rattle.ti_devices.specs.Paths.{path_of}
-use Rattle.ti_devices.specs.Tree.{Files, Reads}
+use Rattle.ti_devices.specs.Tree.{Files, FindsFile}
 use Rattle.ti_tput.specs.Searching.{Finds, first_file, found_or}
 
 at_some : (count : ℕ) (o later : Option (List ℕ)) (b : List ℕ) → Some b ≡ option_map (take count) o → Some b ≡ option_map (take count) (found_or o later)
@@ -16,7 +16,7 @@ at_none count None later r e is = is
 at_none count (Some x) later r e is = absurd (cc)
 
 -- a place that has the file
-pub Finds-here : (count : ℕ) (files : Option Files) (name place : List ℕ) (places : List (List ℕ)) (b : List ℕ) → Reads (path_of place name) count files (Some b)
+pub Finds-here : (count : ℕ) (files : Option Files) (name place : List ℕ) (places : List (List ℕ)) (b : List ℕ) → FindsFile (path_of place name) count files (Some b)
     → Finds count files name (place ∷ places) (Some b)
 unfolding first_file
 Finds-here count None name place places b e = tt
@@ -24,7 +24,7 @@ Finds-here count (Some files) name place places b e = at_some count (files (path
 
 -- a place that has not
 pub Finds-later : (count : ℕ) (files : Option Files) (name place : List ℕ) (places : List (List ℕ)) (found : Option (List ℕ))
-    → Reads (path_of place name) count files None → Finds count files name places found → Finds count files name (place ∷ places) found
+    → FindsFile (path_of place name) count files None → Finds count files name places found → Finds count files name (place ∷ places) found
 unfolding first_file
 Finds-later count None name place places found e is = tt
 Finds-later count (Some files) name place places found e is =

@@ -4,7 +4,7 @@ use Rattle.ti_caps.specs.Tables.{capability_named}
 use Rattle.ti_caps.specs.declared.capability.Kind.{Kind}
 use Rattle.ti_caps.specs.declared.capability.Kind.TheVariants.{Flag, Number, Text}
 use Rattle.ti_layout.specs.Values.{Content, Contents}
-use Rattle.ti_layout.specs.Shown.{names_of, view_contents, shown_flag, shown_number, shown_text}
+use Rattle.ti_layout.specs.View.{names_of, view_contents, shown_flag, shown_number, shown_text}
 use Rattle.ti_layout.specs.declared.view.View.{View}
 use Rattle.ti_printing.specs.declared.padding.Line.{Line}
 use Rattle.ti_tput.specs.declared.entries.CapabilityValue.{CapabilityValue}

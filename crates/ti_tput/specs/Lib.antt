@@ -4,6 +4,6 @@ pub mod Results
 pub mod Replies
 pub mod Commands
 pub mod Runs
-pub mod Terminal
+pub mod inside
 pub mod Streaming
 pub mod Searching

@@ -4,7 +4,7 @@ use Rattle.std.specs.Prelude.{List, [], ◌∷◌, ◌++◌, length, codes, byte
 use Rattle.std.specs.Fmt.{decimal}
 use Rattle.std.specs.List.{after_last}
 use Rattle.ti_text.specs.Ascii as ascii
-use Rattle.ti_param.specs.Expansion.{Expansion, expanded, bad_format, stack_full, expansion}
+use Rattle.ti_param.specs.inside.Expansion.{Expansion, expanded, bad_format, stack_full, expansion}
 use Rattle.ti_printing.specs.declared.padding.Line.{Line}
 use Rattle.ti_printing.specs.Padding.{with_pad_bytes, padding_of}
 use Rattle.ti_tput.specs.Entries.{Entry, Holding, flag_held, number_held, text_held, holding_of, text_value, line_of}

@@ -5,7 +5,7 @@ use Rattle.std.specs.List.{slice_split}
 use Rattle.std.specs.Global.{Vec}
 use Rattle.ti_text.specs.Ascii as ascii
 use Rattle.ti_layout.specs.Reading.{Reads, Refused}
-use Rattle.ti_layout.specs.Shown.{names_of, view_contents}
+use Rattle.ti_layout.specs.View.{names_of, view_contents}
 use Rattle.ti_layout.specs.Values.{Contents}
 use Rattle.ti_layout.specs.declared.fault.ReadError.{ReadError}
 use Rattle.ti_layout.specs.declared.fault.ReadError.TheVariants.{Counts}

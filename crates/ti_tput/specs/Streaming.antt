@@ -13,12 +13,12 @@ use Rattle.ti_tput.specs.Entries.{Entry}
 use Rattle.ti_tput.specs.Runs.{tput_run}
 
 -- the greatest length of a line, without its newline
-abbrev pub line_max : ℕ
-line_max = 4096
+abbrev pub command_line_max : ℕ
+command_line_max = 4096
 
 -- the line is within that limit
 abbrev pub IsShortLine : List ℕ → Type 0
-IsShortLine line = IsWithin line_max line
+IsShortLine line = IsWithin command_line_max line
 
 -- of the bytes these lines are complete, each within the limit, and of a further line this front has come
 pub record HasLines (taken : List ℕ) (lines : List (List ℕ)) (line : List ℕ) : Type 0 where
@@ -56,7 +56,7 @@ pub record FindsLongLine (entry : Entry) (rate : ℕ) (given left before now : O
   pub line : List ℕ
   pub gives : Gives given left (taken ++ rest)
   pub has_lines : HasLines taken lines line
-  pub long : line_max < length line
+  pub long : command_line_max < length line
   pub written : TakesAll before now (tput_run entry rate lines).bytes
 
 -- memory was wanting for a line: what the lines before it write was written, and some bytes more were read

@@ -1,5 +1,5 @@
 //! What a command is answered: bytes for the terminal, and an exit status.
-ghost use Rattle.std.specs.Prelude.{◌≡◌, ℕ, ℤ, List, [], IfOk, OnErr, map, option_map};
+ghost use Rattle.std.specs.Prelude.{◌≡◌, ℕ, ℤ, List, [], IfOk, OnErr, Some, map};
 ghost use Rattle.ti_tput.specs.Entries.{entry_of, line_of, meaning_of};
 ghost use Rattle.ti_tput.specs.Results.{holding_reply, init_strings, long_name, named_reply, number_text};
 ghost use Rattle.ti_tput.specs.Results.{padded_texts, padded_text, reply, reset_strings, sent_reply, string_reply};
@@ -140,28 +140,27 @@ fn number_text(alloc: Global, number: Option<u32>) -> Result<Vec<u8>, AllocError
     }
 }
 
-// What is answered of a capability.
+// What is answered of a capability that has this value.
 fn answer_value(
     alloc: Global,
-    value: Option<CapabilityValue<'_>>,
+    value: CapabilityValue<'_>,
     cap: &[u8],
     words: &[&[u8]],
     line: &Line,
     statics: &mut Statics,
 ) -> Result<TputOutcome, AllocError>
     ensures answer { IfOk result (λ outcome. reply_of outcome statics.new
-        ≡ holding_reply line.now cap.now (map (λ word. word.now) words.now) statics.old (option_map meaning_of value.entry)) }
+        ≡ holding_reply line.now cap.now (map (λ word. word.now) words.now) statics.old (Some (meaning_of value.entry))) }
     ensures err { OnErr result (statics.new ≡ statics.old) }
 {
     match value {
-        None => Ok(status_alone(alloc, BAD_COMMAND)),
-        Some(CapabilityValue::Flag(set)) => Ok(status_alone(alloc, if set { 0 } else { 1 })),
-        Some(CapabilityValue::Number(number)) => Ok(TputOutcome {
+        CapabilityValue::Flag(set) => Ok(status_alone(alloc, if set { 0 } else { 1 })),
+        CapabilityValue::Number(number) => Ok(TputOutcome {
             bytes: number_text(alloc, number)?,
             status: 0,
         }),
-        Some(CapabilityValue::Text(None)) => Ok(status_alone(alloc, 1)),
-        Some(CapabilityValue::Text(Some(text))) => {
+        CapabilityValue::Text(None) => Ok(status_alone(alloc, 1)),
+        CapabilityValue::Text(Some(text)) => {
             let made = string(alloc, cap, words, text, line, statics)?;
             Ok(outcome_of(alloc, made))
         }
@@ -230,5 +229,8 @@ pub(crate) fn answer_name(
     if cap == b"reset".as_slice() {
         return answer_strings(alloc, &reset_strings(view), line);
     }
-    answer_value(alloc, value_of(view, cap), cap, words, line, statics)
+    match value_of(view, cap) {
+        Some(value) => answer_value(alloc, value, cap, words, line, statics),
+        None => Ok(status_alone(alloc, BAD_COMMAND)),
+    }
 }

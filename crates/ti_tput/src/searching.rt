@@ -2,6 +2,7 @@
 ghost use Rattle.std.specs.Prelude.{◌≡◌, ◌+◌, ◌^◌, ◌<◌, ◌≤◌, ◌==◌, ◌++◌, ◌∷◌, ◌⊎◌, [], All, IfErr, IfOk, IsErrOf, OnOk, Some, map, length, option_map};
 ghost use Rattle.std.specs.List.{slice_split};
 ghost use Rattle.std.specs.String.{string_bytes};
+ghost use Rattle.ti_text.specs.Ascii as ascii;
 ghost use Rattle.ti_devices.specs.declared.tool_error.ToolError.TheVariants.{Memory, ReadFault};
 ghost use Rattle.ti_tput.specs.Searching.{Finds, Locates, Opens, listed_places, place_of_part, places_of};
 
@@ -36,7 +37,7 @@ fn add_part(alloc: Global, places: &mut Vec<String>, part: &str) -> Result<(), A
 
 // The parts of TERMINFO_DIRS.
 fn parts(alloc: Global, dirs: &str) -> Result<Vec<&str>, AllocError>
-    ensures { IfOk result (λ parts. map (λ part. part.now) parts.items ≡ slice_split (λ byte. byte == 58) dirs.now) }
+    ensures { IfOk result (λ parts. map (λ part. part.now) parts.items ≡ slice_split (λ byte. byte == ascii.colon) dirs.now) }
 {
     dirs.split(':').collect(alloc)
 }

@@ -32,11 +32,11 @@ fn is_bad(status: u8) -> bool
 }
 
 impl<'a> Terminal<'a> {
-    ghost use Rattle.ti_tput.specs.Terminal.{Holds, Took};
+    ghost use Rattle.ti_tput.specs.inside.Terminal.{HasCourse, Took};
 
     /// The terminal of an entry at a rate, before any command.
     pub fn new(alloc: Global, view: &View<'a>, rate: u32) -> Terminal<'a>
-        ensures { Holds (entry_of view.now) rate result start }
+        ensures { HasCourse (entry_of view.now) rate result start }
     {
         Terminal {
             alloc,
@@ -49,8 +49,8 @@ impl<'a> Terminal<'a> {
 
     // What a line writes. A bad one is counted, and writes nothing.
     fn bytes_of(&mut self, line: &[u8]) -> Result<Vec<u8>, AllocError>
-        ensures { (entry : Entry) (rate : ℕ) (course : Course) → Holds entry rate self.old course
-            → IfOk result (λ bytes. Holds entry rate self.new (line_step entry rate course line.now).after
+        ensures { (entry : Entry) (rate : ℕ) (course : Course) → HasCourse entry rate self.old course
+            → IfOk result (λ bytes. HasCourse entry rate self.new (line_step entry rate course line.now).after
             × (bytes.items ≡ (line_step entry rate course line.now).bytes)) }
     {
         let words = split_words(line);
@@ -87,7 +87,7 @@ impl<'a> Terminal<'a> {
         line: &[u8],
         writer: &mut Counted<W>,
     ) -> Result<(), ToolError>
-        ensures { (entry : Entry) (rate : ℕ) (course : Course) → Holds entry rate self.old course
+        ensures { (entry : Entry) (rate : ℕ) (course : Course) → HasCourse entry rate self.old course
             → Took entry rate (line_step entry rate course line.now) self.new
             (observation W.contents writer.old) (observation W.contents writer.new) result }
     {
@@ -97,7 +97,7 @@ impl<'a> Terminal<'a> {
 
     /// The exit status after these commands: 0 where none was bad, else 4 and how many were bad, at most 255.
     pub fn status(&self) -> u8
-        ensures { (entry : Entry) (rate : ℕ) (course : Course) → Holds entry rate self.now course → result ≡ run_status course.bad }
+        ensures { (entry : Entry) (rate : ℕ) (course : Course) → HasCourse entry rate self.now course → result ≡ run_status course.bad }
     {
         if self.bad == 0 {
             return 0;

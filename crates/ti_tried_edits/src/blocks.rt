@@ -13,8 +13,8 @@ pub fn three() -> [Edit<'static>; 5] {
     ]
 }
 
-/// A ring of uses, made and undone.
-pub fn ring() -> [Edit<'static>; 5] {
+/// Circular uses, made and undone.
+pub fn circular() -> [Edit<'static>; 5] {
     [
         insertion(0, b"p,use=q,\n"),
         insertion(1, b"q,use=r,\n"),

@@ -117,7 +117,7 @@ pub fn run_at_limit(alloc: Global) -> Result<Tried, Trouble> {
     run_all(alloc, &blocks.edits())
 }
 
-/// Blocks that are loaded: texts that they share, uses, a ring, and faults.
+/// Blocks that are loaded: texts that they share, uses, circular ones, and faults.
 const LOADED: [&[u8]; 6] = [
     b"a,cols#1,bel=^G,cr=\\r,\n",
     b"b,cols#2,bel=^G,cr=\\n,\n",

@@ -116,10 +116,10 @@ pub record ReadsSoFar (start : List Placed) (by : Taken) (before : ℕ) (source 
 
 -- An item goes on over a run of bytes: none of them is a newline or ends the item. `by` takes the first of them, which stands just after `before`, and
 -- `next` the byte after the run, which stands just after `last`.
-pub data GoesOn : (by : Taken) (before : ℕ) (run : List ℕ) (next : Taken) (last : ℕ) → Type 0 where
-  goes_nowhere : {by : Taken} {before : ℕ} → GoesOn by before [] by before
-  goes_over : {by next : Taken} {before last : ℕ} {run : List ℕ} (x : ℕ) → GoesOn by before run next last → (x == ascii.newline) ≡ false → cuts next x ≡ false
-      → GoesOn by before (run ++ x ∷ []) (taken_after next last x) x
+pub data PassesRun : (by : Taken) (before : ℕ) (run : List ℕ) (next : Taken) (last : ℕ) → Type 0 where
+  takes_no_byte : {by : Taken} {before : ℕ} → PassesRun by before [] by before
+  takes_byte : {by next : Taken} {before last : ℕ} {run : List ℕ} (x : ℕ) → PassesRun by before run next last → (x == ascii.newline) ≡ false → cuts next x ≡ false
+      → PassesRun by before (run ++ x ∷ []) (taken_after next last x) x
 
 -- the bytes of a run, all on one line
 abbrev pub on_line : ℕ → List ℕ → List Placed
@@ -129,7 +129,7 @@ on_line line run = map (λ b. (b, line)) run
 pub record TakesRun (old : List Placed) (by : Taken) (before : ℕ) (run : Run) (new : List Placed) : Type 0 where
   pub line : ℕ
   pub whole : old ≡ on_line line run.bytes.now ++ new
-  pub goes_on : GoesOn by before run.bytes.now run.taken run.last
+  pub passes_run : PassesRun by before run.bytes.now run.taken run.last
 
 -- However an item with this text was read up to `old`, it is read up to `new` with this longer text.
 abbrev pub ReadsOn : (old : List Placed) (by : Taken) (before : ℕ) (text : List ℕ) (new : List Placed) (next : Taken) (last : ℕ) (longer : List ℕ) → Type 0
@@ -147,7 +147,7 @@ pub record IsItemText (text : List ℕ) : Type 0 where
   pub last : ℕ
   pub some : 0 < length text
   pub visible : begins_visible text ≡ true
-  pub goes_on : GoesOn taken.Nothing ascii.comma text next last
+  pub passes_run : PassesRun taken.Nothing ascii.comma text next last
   pub ends : cuts next ascii.comma ≡ true
 
 -- The first bytes of a text, so many, are an item, and the next is the comma that ends it.

@@ -6,7 +6,8 @@ use Rattle.std.specs.List.{list_all}
 use Rattle.ti_source.specs.declared.numbers.NumberError.{NumberError}
 use Rattle.ti_source.specs.declared.numbers.NumberError.TheVariants.{Bad, TooLarge}
 use Rattle.ti_source.specs.WhiteSpace.{without_trailing_space}
-use Rattle.ti_source.specs.Numbers.{ReadsAs, digit_value, greatest_number, value_in}
+use Rattle.ti_source.specs.Numbers.{ReadsAs, digit_value, value_in}
+use Rattle.ti_text.specs.Limits.{number_max}
 
 -- the value of digits in a base, or none where a byte is no digit of it
 abbrev pub digits_read : ℕ → List ℕ → Option ℕ
@@ -26,7 +27,7 @@ value_read (d ∷ ds) = if d == ascii.digit_0 then after_zero_read ds else digit
 -- a value within the limit
 abbrev pub within_limit : Option ℕ → Result ℕ NumberError
 within_limit None = Err Bad
-within_limit (Some value) = if nat_le value greatest_number then Ok value else Err TooLarge
+within_limit (Some value) = if nat_le value number_max then Ok value else Err TooLarge
 
 -- what a text reads as: a number, or why it is none
 abbrev pub number_read : List ℕ → Result ℕ NumberError

@@ -1,6 +1,6 @@
 -- What a block says, computed, and what the parts of its reader do (own).
 use Rattle.ti_source.specs.Verdicts.{items_by, faults_by, header_fault}
-use Rattle.ti_source.specs.Header.{names_limit}
+use Rattle.ti_text.specs.Limits.{names_max}
 use Rattle.ti_source.specs.inside.Verdicts.{verdict_of}
 use Rattle.ti_text.specs.Ascii as ascii
 use Rattle.std.specs.Prelude.{◌≡◌, ℕ, ◌+◌, nat_lt, if◌then◌else◌, List, [], ◌∷◌, ◌++◌, length, Option, Some, None}
@@ -40,7 +40,7 @@ names_found (Some names) = names
 -- the fault of a names field, given its lookup names: it has none, or is over the limit
 abbrev pub header_faults : List ℕ → Option (List (List ℕ)) → List ReadFault
 header_faults field None = header_fault code.BadHeader ∷ []
-header_faults field (Some names) = if nat_lt names_limit (length field) then header_fault code.NamesTooLong ∷ [] else []
+header_faults field (Some names) = if nat_lt names_max (length field) then header_fault code.NamesTooLong ∷ [] else []
 
 -- the names field of a block
 abbrev pub block_field : List ℕ → List ℕ

@@ -1,6 +1,6 @@
 use Rattle.std.proofs.Common.{◌≡◌, map, take}
 use Rattle.ti_slots.specs.Slots.{texts_of}
-use Rattle.ti_base.specs.KeptSlots.{AreRead}
+use Rattle.ti_base.specs.inside.KeptSlots.{AreRead}
 use Rattle.ti_base.specs.Loading.{AreTaken}
 use Rattle.ti_base.proofs.loading.read_slots.Given as goal
 

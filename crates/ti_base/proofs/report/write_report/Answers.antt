@@ -1,5 +1,5 @@
 use Rattle.std.proofs.Common.{rules, ◌+◌, ◌<◌, ◌≤◌, length, map, take, arith}
-use Rattle.ti_meaning.specs.Bounds.{IsPlaced}
+use Rattle.ti_meaning.specs.inside.Bounds.{IsPlaced}
 use Rattle.ti_meaning.specs.Faults.{fault_seen}
 use Rattle.ti_slots.specs.Slots.{texts_of}
 use Rattle.ti_plan.proofs.ItemLists.{All-map_item, map-take_item}

@@ -1,5 +1,5 @@
 use Rattle.std.proofs.Common.{◌≡◌, ◌∙◌, ap, arith}
-use Rattle.ti_caps.specs.Keys.{key_up_to, key_of}
+use Rattle.ti_caps.specs.inside.Keys.{key_up_to, key_of}
 use Rattle.ti_caps.proofs.keys.key_of.Goals as goal
 
 pub returns : goal.returns

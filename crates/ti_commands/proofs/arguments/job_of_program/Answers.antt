@@ -4,7 +4,7 @@ use Rattle.clap.proofs.BuiltLemmas.{on_ok_always}
 use Rattle.clap.specs.Simple.{App}
 use Rattle.clap.specs.Takes.{takes}
 use Rattle.ti_commands.specs.Jobs.{refusal_of}
-use Rattle.ti_commands.proofs.Asked.{IsRefusal-no_job, IsRefusal-of_fault, no_faults, task_in-matches}
+use Rattle.ti_commands.proofs.Asked.{IsUsageRefusal-no_job, IsUsageRefusal-of_fault, no_faults, task_in-matches}
 use Rattle.ti_commands.proofs.arguments.job_of_program.Goals as goal
 
 pub returns-in-Ok-clause-right : goal.returns-in-Ok-clause-right
@@ -28,7 +28,7 @@ pub returns-in-Ok-clause-refused : goal.returns-in-Ok-clause-refused
 returns-in-Ok-clause-refused c =
     let same = task_in-matches _ _ c.in-Ok.matches c.in_ok-command.ensures.app c.in-Ok.ensures.matches in
     let no_fault = no_faults _ _ c.in-Ok.matches c.in_ok-command.ensures.app c.in-Ok.ensures.kinds in
-    IfErr-weaker c.used_job.result _ _ (λ e refused. IsRefusal-no_job _ _ e no_fault same refused) c.used_job.ensures.refused
+    IfErr-weaker c.used_job.result _ _ (λ e refused. IsUsageRefusal-no_job _ _ e no_fault same refused) c.used_job.ensures.refused
 
 pub returns-in-Err-clause-answered : goal.returns-in-Err-clause-answered
 returns-in-Err-clause-answered c = λ task is takes_words.
@@ -37,4 +37,4 @@ returns-in-Err-clause-answered c = λ task is takes_words.
 
 pub returns-in-Err-clause-refused : goal.returns-in-Err-clause-refused
 returns-in-Err-clause-refused c =
-    IsRefusal-of_fault _ _ _ c.in-Err.error _ c.in_ok-command.ensures.app c.in-Err.ensures.kinds (c.refusal.ensures ∙ ap refusal_of c.kind.ensures)
+    IsUsageRefusal-of_fault _ _ _ c.in-Err.error _ c.in_ok-command.ensures.app c.in-Err.ensures.kinds (c.refusal.ensures ∙ ap refusal_of c.kind.ensures)

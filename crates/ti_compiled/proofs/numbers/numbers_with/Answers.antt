@@ -1,6 +1,6 @@
 use Rattle.std.proofs.Common.{◌≡◌, ℕ, Option, Some, None, refl, ◌∙◌, unwrap_or}
 use Rattle.ti_layout.specs.Image.{number_value}
-use Rattle.ti_compiled.specs.Changes.{number_content}
+use Rattle.ti_compiled.specs.inside.Changes.{number_content}
 use Rattle.ti_compiled.proofs.NumberChange.{number_put}
 use Rattle.ti_compiled.proofs.numbers.numbers_with.Goals as goal
 

@@ -1,7 +1,7 @@
 use Rattle.std.proofs.Common.{◌∙◌, arith}
 use Rattle.ti_compiled.proofs.NumberPlaces.{read_start, read_end, read_plain, read_void, width_under}
 use Rattle.ti_compiled.proofs.numbers.read_numbers.Goals as goal
-use Rattle.ti_compiled.proofs.numbers.read_numbers.Goals.{then-number-negative, else-number-negative}
+use Rattle.ti_compiled.proofs.numbers.read_numbers.Goals.{then-number-first_negative, else-number-first_negative}
 
 pub loop-at-init : goal.loop-at-init
 loop-at-init c = read_start c.args.bytes.now c.requires.image c.args.header.now c.requires.sizes
@@ -14,9 +14,9 @@ pub loop-at-preserved : goal.loop-at-preserved
 loop-at-preserved c =
     let b = c.args.bytes.now in
     let h = c.args.header.now in
-    elim c.if-number-negative.branch [
-      | then-number-negative w ↦ w.values-is ∙ read_plain b c.requires.image h c.requires.sizes c.loop-at.values c.numbers_place-place.result c.width-width.result c.loop-at.at c.number-number.result c.numbers_place-place.ensures c.width-width.ensures.value c.loop-at-test.true c.number-number.ensures.value c.loop-at.invariant (let n = c.negative.ensures in let t = w.if-number-negative.true in omega arith)
-      | else-number-negative w ↦ w.values-is ∙ read_void b c.requires.image h c.requires.sizes c.loop-at.values c.numbers_place-place.result c.width-width.result c.loop-at.at c.number-number.result c.numbers_place-place.ensures c.width-width.ensures.value c.loop-at-test.true c.number-number.ensures.value c.loop-at.invariant (let n = c.negative.ensures in let t = w.if-number-negative.false in omega arith)
+    elim c.if-number-first_negative.branch [
+      | then-number-first_negative w ↦ w.values-is ∙ read_plain b c.requires.image h c.requires.sizes c.loop-at.values c.numbers_place-place.result c.width-width.result c.loop-at.at c.number-number.result c.numbers_place-place.ensures c.width-width.ensures.value c.loop-at-test.true c.number-number.ensures.value c.loop-at.invariant (let n = c.first_negative.ensures in let t = w.if-number-first_negative.true in omega arith)
+      | else-number-first_negative w ↦ w.values-is ∙ read_void b c.requires.image h c.requires.sizes c.loop-at.values c.numbers_place-place.result c.width-width.result c.loop-at.at c.number-number.result c.numbers_place-place.ensures c.width-width.ensures.value c.loop-at-test.true c.number-number.ensures.value c.loop-at.invariant (let n = c.first_negative.ensures in let t = w.if-number-first_negative.false in omega arith)
     ]
 
 pub returns : goal.returns

@@ -1,4 +1,4 @@
-use Rattle.ti_compiled.specs.Changes.{with_number}
+use Rattle.ti_compiled.specs.inside.Changes.{with_number}
 use Rattle.ti_compiled.proofs.NumberChange.{has_numbers, sizes_numbered}
 use Rattle.ti_compiled.proofs.numbers.sizes_with_numbers.Goals as goal
 

@@ -1,6 +1,6 @@
 use Rattle.std.proofs.Common.{◌≡◌}
 use Rattle.ti_layout.specs.Values.{contents, entries_of}
-use Rattle.ti_compiled.specs.Held.{names_in, contents_in}
+use Rattle.ti_compiled.specs.Image.{names_in, contents_in}
 use Rattle.ti_compiled.proofs.TableWalk.{Walks, from, says, leaves}
 use Rattle.ti_compiled.proofs.patching.give_all_changed.Given as goal
 

@@ -1,6 +1,6 @@
 use Rattle.std.proofs.Common.{◌≡◌, ◌≤◌, length}
 use Rattle.ti_layout.specs.Values.{contents, entries_of}
-use Rattle.ti_compiled.specs.Held.{names_in, contents_in}
+use Rattle.ti_compiled.specs.Image.{names_in, contents_in}
 use Rattle.ti_compiled.proofs.TableWalk.{Walks, below, says, leaves}
 use Rattle.ti_compiled.proofs.patching.take_all_changed_away.Given as goal
 

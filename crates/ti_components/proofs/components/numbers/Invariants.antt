@@ -1,5 +1,5 @@
 use Rattle.std.proofs.Common.{take}
-use Rattle.ti_components.specs.Walk.{AreNumbers}
+use Rattle.ti_components.specs.inside.Walk.{AreNumbers}
 use Rattle.ti_components.proofs.components.numbers.Given as goal
 
 abbrev pub invariant-loop-node : goal.invariant-loop-node

@@ -1,6 +1,6 @@
 use Rattle.std.proofs.Common.{take}
 use Rattle.ti_index.specs.Labels.{Has}
-use Rattle.ti_dependents.specs.Search.{Adds}
+use Rattle.ti_dependents.specs.inside.Search.{Adds}
 use Rattle.ti_dependents.proofs.search.add_users.Given as goal
 
 abbrev pub invariant-loop-id : goal.invariant-loop-id

@@ -1,6 +1,6 @@
 use Rattle.std.proofs.Common.{take, map}
 use Rattle.std.specs.Rc.{rc_slice_items}
-use Rattle.ti_dependents.specs.Search.{Adds, IsUserOfOwned}
+use Rattle.ti_dependents.specs.inside.Search.{Adds, IsUserOfOwned}
 use Rattle.ti_dependents.proofs.search.add_users_of_owned.Given as goal
 
 abbrev pub invariant-loop-name : goal.invariant-loop-name

@@ -1,6 +1,6 @@
 use Rattle.std.proofs.Common.{◌-◌, length, map}
 use Rattle.std.specs.Rc.{rc_slice_items}
-use Rattle.ti_dependents.specs.Search.{IsSearch}
+use Rattle.ti_dependents.specs.inside.Search.{IsSearch}
 use Rattle.ti_dependents.proofs.search.search.Given as goal
 
 abbrev pub invariant-loop-next : goal.invariant-loop-next

@@ -1,6 +1,6 @@
 use Rattle.std.proofs.Common.{take, map}
 use Rattle.ti_source.specs.Reading.{item_of}
-use Rattle.ti_dependents.specs.Uses.{AddsRow}
+use Rattle.ti_dependents.specs.inside.Uses.{AddsRow}
 use Rattle.ti_dependents.proofs.uses.add_row.Given as goal
 
 abbrev pub invariant-loop-item : goal.invariant-loop-item

@@ -1,5 +1,5 @@
 use Rattle.std.proofs.Common.{take}
-use Rattle.ti_dependents.specs.Uses.{AreRowsOf}
+use Rattle.ti_dependents.specs.inside.Uses.{AreRowsOf}
 use Rattle.ti_dependents.proofs.uses.graph_of_uses.Given as goal
 
 abbrev pub invariant-loop-id : goal.invariant-loop-id

@@ -2,7 +2,7 @@ use Rattle.std.proofs.Common.{◌≡◌, ℕ, inl, inr, List, [], ◌∷◌, ◌
 use Rattle.std.proofs.lemmas.List.{length-append, take_all, take_more}
 use Rattle.std.proofs.lemmas.Option.{slice_get_within, slice_get-get_or}
 use Rattle.ti_components.proofs.Lists.{push_cases}
-use Rattle.ti_dependents.specs.Uses.{ArePlaces}
+use Rattle.ti_dependents.specs.inside.Uses.{ArePlaces}
 use Rattle.ti_dependents.proofs.uses.places_of.Goals as goal
 
 -- one more id stands there

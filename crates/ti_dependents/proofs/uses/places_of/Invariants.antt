@@ -1,5 +1,5 @@
 use Rattle.std.proofs.Common.{take}
-use Rattle.ti_dependents.specs.Uses.{ArePlaces}
+use Rattle.ti_dependents.specs.inside.Uses.{ArePlaces}
 use Rattle.ti_dependents.proofs.uses.places_of.Given as goal
 
 abbrev pub invariant-loop-id : goal.invariant-loop-id

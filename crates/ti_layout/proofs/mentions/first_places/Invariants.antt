@@ -1,5 +1,5 @@
 use Rattle.std.proofs.Common.{take}
-use Rattle.ti_layout.specs.Mentions.{ArePlaces}
+use Rattle.ti_layout.specs.inside.Mentions.{ArePlaces}
 use Rattle.ti_layout.specs.Values.{entries_of}
 use Rattle.ti_layout.proofs.mentions.first_places.Given as goal
 

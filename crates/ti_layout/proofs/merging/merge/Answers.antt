@@ -1,6 +1,6 @@
 use Rattle.std.proofs.Common.{◌+◌, ◌<◌, length, sym, subst, rules, arith}
 use Rattle.std.proofs.lemmas.List.{length-map}
-use Rattle.ti_layout.specs.Merging.{TurnIs}
+use Rattle.ti_layout.specs.inside.Merging.{TurnIs}
 use Rattle.ti_layout.specs.Values.{content_of, entries_of}
 use Rattle.ti_layout.proofs.Walked.{item_read}
 use Rattle.ti_layout.proofs.Fronts.{Merges, takes_first, takes_second, takes_both}

@@ -16,17 +16,17 @@ returns-then-size-limit-clause-too_large c =
     let over = subst (λ t. limit_of (contents t) < length (image names (contents t))) c.entries-entries.ensures.entries (over_limit names _ _ c.header_of-header.ensures _ _ c.size.ensures c.limit.ensures c.if-size-limit.true) in
     ((λ e. (omega arith, over)), (λ p. search rules))
 
-pub laid_out-requires-clause-small : goal.laid_out-requires-clause-small
-laid_out-requires-clause-small c = within_limit c.args.names.now _ _ c.header_of-header.ensures _ _ c.size.ensures c.limit.ensures c.if-size-limit.false
+pub entry_bytes-requires-clause-small : goal.entry_bytes-requires-clause-small
+entry_bytes-requires-clause-small c = within_limit c.args.names.now _ _ c.header_of-header.ensures _ _ c.size.ensures c.limit.ensures c.if-size-limit.false
 
-pub returns-in_err-laid_out-clause-too_large : goal.returns-in_err-laid_out-clause-too_large
-returns-in_err-laid_out-clause-too_large c =
+pub returns-in_err-entry_bytes-clause-too_large : goal.returns-in_err-entry_bytes-clause-too_large
+returns-in_err-entry_bytes-clause-too_large c =
     let names = c.args.names.now in
     let small = subst (λ t. length (image names (contents t)) ≤ limit_of (contents t)) c.entries-entries.ensures.entries (within_limit names _ _ c.header_of-header.ensures _ _ c.size.ensures c.limit.ensures c.if-size-limit.false) in
     ((λ e. absurd (memory_only _ e c.from_residual.ensures.1)), (λ p. absurd (omega (arith, p.1, small))))
 
-pub returns-in_err-laid_out-clause-memory : goal.returns-in_err-laid_out-clause-memory
-returns-in_err-laid_out-clause-memory c =
+pub returns-in_err-entry_bytes-clause-memory : goal.returns-in_err-entry_bytes-clause-memory
+returns-in_err-entry_bytes-clause-memory c =
     let names = c.args.names.now in
     let small = subst (λ t. length (image names (contents t)) ≤ limit_of (contents t)) c.entries-entries.ensures.entries (within_limit names _ _ c.header_of-header.ensures _ _ c.size.ensures c.limit.ensures c.if-size-limit.false) in
     λ e. (omega arith, small)
@@ -35,7 +35,7 @@ pub returns-clause-ok : goal.returns-clause-ok
 returns-clause-ok c =
     let names = c.args.names.now in
     let small = subst (λ t. length (image names (contents t)) ≤ limit_of (contents t)) c.entries-entries.ensures.entries (within_limit names _ _ c.header_of-header.ensures _ _ c.size.ensures c.limit.ensures c.if-size-limit.false) in
-    let made = subst (λ t. c.in_ok-laid_out.field-0.items ≡ image names (contents t)) c.entries-entries.ensures.entries c.in_ok-laid_out.ensures in
+    let made = subst (λ t. c.in_ok-entry_bytes.field-0.items ≡ image names (contents t)) c.entries-entries.ensures.entries c.in_ok-entry_bytes.ensures in
     (made, omega arith, subst (λ x. length x ≤ limit_of (contents c.args.table.now)) (sym made) small)
 
 pub returns-clause-too_large : goal.returns-clause-too_large

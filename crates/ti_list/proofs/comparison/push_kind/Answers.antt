@@ -1,6 +1,6 @@
 -- each step writes the row of one capability
 use Rattle.std.proofs.Common.{◌≡◌, ◌≤◌, ◌++◌, length, arith}
-use Rattle.ti_layout.specs.Shown.{view_contents}
+use Rattle.ti_layout.specs.View.{view_contents}
 use Rattle.ti_list.specs.Comparison.{kind_heading}
 use Rattle.ti_list.specs.Listing.{in_order}
 use Rattle.ti_list.proofs.Orders.{length-in_order}

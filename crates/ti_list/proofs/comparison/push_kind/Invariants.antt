@@ -1,5 +1,5 @@
 use Rattle.std.proofs.Common.{◌≡◌, ◌++◌, drop}
-use Rattle.ti_layout.specs.Shown.{view_contents}
+use Rattle.ti_layout.specs.View.{view_contents}
 use Rattle.ti_list.specs.Comparison.{rows}
 use Rattle.ti_list.specs.Listing.{in_order}
 use Rattle.ti_list.proofs.comparison.push_kind.Given as goal

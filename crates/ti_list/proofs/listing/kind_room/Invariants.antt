@@ -1,8 +1,8 @@
 use Rattle.std.proofs.Common.{◌≡◌, ◌+◌, map, drop}
-use Rattle.ti_layout.specs.Shown.{view_contents}
+use Rattle.ti_layout.specs.View.{view_contents}
 use Rattle.ti_list.specs.Listing.{in_order, items_for}
 use Rattle.ti_list.specs.Relative.{differing_contents, entry_shown}
-use Rattle.ti_list.specs.Room.{items_room}
+use Rattle.ti_list.specs.inside.Room.{items_room}
 use Rattle.ti_list.proofs.listing.kind_room.Given as goal
 
 abbrev pub invariant-loop-place : goal.invariant-loop-place

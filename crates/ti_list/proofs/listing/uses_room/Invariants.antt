@@ -1,6 +1,6 @@
 use Rattle.std.proofs.Common.{◌≡◌, ◌+◌, map, drop}
 use Rattle.ti_list.specs.Relative.{entry_shown}
-use Rattle.ti_list.specs.Room.{uses_room}
+use Rattle.ti_list.specs.inside.Room.{uses_room}
 use Rattle.ti_list.proofs.listing.uses_room.Given as goal
 
 abbrev pub invariant-loop-other : goal.invariant-loop-other

@@ -1,9 +1,9 @@
 -- each step writes the item of one capability, or there is none
 use Rattle.std.proofs.Common.{◌≡◌, ◌≤◌, ◌++◌, map, option_map, Some, None, length, refl, sym, ◌∙◌, ap, arith}
 use Rattle.std.proofs.lemmas.List.{drop_all}
-use Rattle.ti_layout.specs.Shown.{view_contents}
-use Rattle.ti_list.specs.Contents.{content_of}
-use Rattle.ti_list.specs.Flow.{flow}
+use Rattle.ti_layout.specs.View.{view_contents}
+use Rattle.ti_list.specs.inside.Contents.{content_of}
+use Rattle.ti_list.specs.inside.Flow.{flow}
 use Rattle.ti_list.specs.Listing.{in_order, items_for}
 use Rattle.ti_list.specs.Relative.{differing_contents, entry_shown}
 use Rattle.ti_list.proofs.Orders.{length-in_order}

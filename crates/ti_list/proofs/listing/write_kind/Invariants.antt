@@ -1,9 +1,9 @@
 use Rattle.std.proofs.Common.{◌≡◌, ℕ, ◌+◌, ◌≤◌, ◌++◌, List, map, drop, vec_len, vec_capacity}
-use Rattle.ti_layout.specs.Shown.{view_contents}
-use Rattle.ti_list.specs.Flow.{flow}
+use Rattle.ti_layout.specs.View.{view_contents}
+use Rattle.ti_list.specs.inside.Flow.{flow}
 use Rattle.ti_list.specs.Listing.{in_order, items_for, lines_of}
 use Rattle.ti_list.specs.Relative.{differing_contents, entry_shown}
-use Rattle.ti_list.specs.Room.{items_room}
+use Rattle.ti_list.specs.inside.Room.{items_room}
 use Rattle.ti_list.proofs.listing.write_kind.Given as goal
 
 abbrev pub invariant-loop-place : goal.invariant-loop-place

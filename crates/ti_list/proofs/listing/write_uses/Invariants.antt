@@ -1,6 +1,6 @@
 use Rattle.std.proofs.Common.{◌≡◌, ℕ, ◌+◌, ◌≤◌, ◌++◌, List, map, drop, vec_len, vec_capacity}
 use Rattle.ti_list.specs.Relative.{entry_shown, use_lines}
-use Rattle.ti_list.specs.Room.{uses_room}
+use Rattle.ti_list.specs.inside.Room.{uses_room}
 use Rattle.ti_list.proofs.listing.write_uses.Given as goal
 
 abbrev pub invariant-loop-other : goal.invariant-loop-other

@@ -3,7 +3,7 @@ use Rattle.std.proofs.lemmas.List.Elements.{filter-append}
 use Rattle.std.proofs.Math.Seq.{drop-length}
 use Rattle.std.proofs.lemmas.Grind.{common_steps}
 use Rattle.ti_slots.specs.Settled.{fault_at}
-use Rattle.ti_source.specs.Codes.{is_of_header}
+use Rattle.ti_source.specs.Code.{is_of_header}
 use Rattle.ti_source.specs.Reading.{ReadFault, fault_of}
 use Rattle.ti_meaning.specs.Faults.{SourceFault, faults_before, faults_from, is_kept, local_fault}
 use Rattle.ti_meaning.specs.KeptBlocks.{is_no_duplicate}

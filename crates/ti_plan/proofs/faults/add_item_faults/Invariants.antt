@@ -6,7 +6,7 @@ use Rattle.ti_meaning.specs.Reaching.{used_name}
 use Rattle.ti_meaning.specs.UseLaws.{HasUseAtFault}
 use Rattle.ti_slots.specs.Settled.{fault_at}
 use Rattle.ti_slots.specs.Slots.{blocks_of}
-use Rattle.ti_plan.specs.Settling.{is_at_fault}
+use Rattle.ti_plan.specs.inside.Settling.{is_at_fault}
 use Rattle.ti_plan.proofs.faults.add_item_faults.Given as goal
 
 abbrev pub ghost-add_before : goal.ghost-add_before

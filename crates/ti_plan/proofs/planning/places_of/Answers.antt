@@ -1,7 +1,7 @@
 use Rattle.std.proofs.Common.{◌≡◌, ◌∷◌, [], ◌++◌, get_or, map, take, ap, ◌∙◌}
 use Rattle.std.proofs.lemmas.Grind.{get_or_default_zero}
 use Rattle.std.proofs.lemmas.List.{take_more, map-append}
-use Rattle.ti_plan.specs.Settling.{place_of}
+use Rattle.ti_plan.specs.inside.Settling.{place_of}
 use Rattle.ti_plan.proofs.planning.places_of.Goals as goal
 
 pub loop-node-preserved : goal.loop-node-preserved

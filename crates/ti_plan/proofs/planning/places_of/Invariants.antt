@@ -1,5 +1,5 @@
 use Rattle.std.proofs.Common.{◌≡◌, map, take}
-use Rattle.ti_plan.specs.Settling.{place_of}
+use Rattle.ti_plan.specs.inside.Settling.{place_of}
 use Rattle.ti_plan.proofs.planning.places_of.Given as goal
 
 abbrev pub invariant-loop-node : goal.invariant-loop-node

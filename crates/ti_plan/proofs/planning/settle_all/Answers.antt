@@ -2,7 +2,7 @@ use Rattle.std.proofs.Common.{ℕ, ◌≡◌, ◌+◌, ◌<◌, ◌≤◌, ◌++
 use Rattle.std.proofs.lemmas.List.{take_more, map-append}
 use Rattle.std.proofs.lemmas.Option.{slice_get-get_or}
 use Rattle.ti_slots.specs.Slots.{blocks_of}
-use Rattle.ti_plan.specs.Settling.{place_of}
+use Rattle.ti_plan.specs.inside.Settling.{place_of}
 use Rattle.ti_plan.proofs.Following.{following_begun, following_more, following_ended, next_can, place_stands, right_at}
 use Rattle.ti_plan.proofs.Places.{block_of, node_of_place}
 use Rattle.ti_plan.proofs.Steps.{next_room, steps_more, bound_more}

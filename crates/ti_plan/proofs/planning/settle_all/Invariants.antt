@@ -1,7 +1,7 @@
 use Rattle.std.proofs.Common.{◌≡◌, ◌≤◌, ◌+◌, length, map, take, sum_by, slice_index_or, []}
 use Rattle.ti_meaning.specs.Dependents.{work}
 use Rattle.ti_slots.specs.Slots.{blocks_of}
-use Rattle.ti_plan.specs.Settling.{place_of}
+use Rattle.ti_plan.specs.inside.Settling.{place_of}
 use Rattle.ti_plan.proofs.Following.{IsFollowing}
 use Rattle.ti_plan.proofs.planning.settle_all.Given as goal
 

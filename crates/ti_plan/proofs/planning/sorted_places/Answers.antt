@@ -1,6 +1,6 @@
 use Rattle.std.proofs.Common.{map}
 use Rattle.std.proofs.lemmas.List.Sorted.{IsNonDecreasingBy-from_sort}
-use Rattle.ti_plan.specs.Settling.{place_of}
+use Rattle.ti_plan.specs.inside.Settling.{place_of}
 use Rattle.ti_plan.proofs.Rising.{sorted_rises}
 use Rattle.ti_plan.proofs.planning.sorted_places.Goals as goal
 

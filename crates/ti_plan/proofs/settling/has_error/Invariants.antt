@@ -1,6 +1,6 @@
 use Rattle.std.proofs.Common.{◌≡◌, map, drop}
 use Rattle.std.specs.List.{list_any}
-use Rattle.ti_source.specs.Codes.{is_error}
+use Rattle.ti_source.specs.Code.{is_error}
 use Rattle.ti_source.specs.Reading.{fault_of}
 use Rattle.ti_plan.proofs.settling.has_error.Given as goal
 

@@ -1,6 +1,6 @@
 use Rattle.std.proofs.Common.{◌+◌, sym, take}
 use Rattle.ti_index.specs.Names.{holders_at, users_at, holder_capacity}
-use Rattle.ti_slots.specs.Indexing.{is_name_of}
+use Rattle.ti_slots.specs.inside.Indexing.{is_name_of}
 use Rattle.ti_slots.proofs.Adding.{holders_by, users_by, holder_capacity_by, adds_more, place_for, added_among, named_more, named_here}
 use Rattle.ti_slots.proofs.indexing.add_holders.Goals as goal
 

@@ -1,6 +1,6 @@
 use Rattle.std.proofs.Common.{◌+◌, sym, take}
 use Rattle.ti_index.specs.Names.{holders_at, users_at, user_capacity}
-use Rattle.ti_slots.specs.Indexing.{is_used_by}
+use Rattle.ti_slots.specs.inside.Indexing.{is_used_by}
 use Rattle.ti_slots.proofs.Adding.{holders_by, users_by, user_capacity_by, adds_more, adds_same, place_for, added_among, used_more, used_same, used_here}
 use Rattle.ti_slots.proofs.indexing.add_users.Goals as goal
 use Rattle.ti_slots.proofs.indexing.add_users.Goals.{in-Import, in_default}

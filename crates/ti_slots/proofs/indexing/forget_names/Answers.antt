@@ -1,5 +1,5 @@
 use Rattle.std.proofs.Common.{◌+◌, sym, take}
-use Rattle.ti_slots.specs.Indexing.{is_name_of}
+use Rattle.ti_slots.specs.inside.Indexing.{is_name_of}
 use Rattle.ti_slots.proofs.Adding.{forgets_more, named_more}
 use Rattle.ti_slots.proofs.indexing.forget_names.Goals as goal
 

@@ -1,5 +1,5 @@
 use Rattle.std.proofs.Common.{◌+◌, sym, ◌∙◌, take}
-use Rattle.ti_slots.specs.Indexing.{is_used_by}
+use Rattle.ti_slots.specs.inside.Indexing.{is_used_by}
 use Rattle.ti_slots.proofs.Adding.{forgets_more, used_more, used_same}
 use Rattle.ti_slots.proofs.indexing.forget_uses.Goals as goal
 use Rattle.ti_slots.proofs.indexing.forget_uses.Goals.{in-Import, in_default}

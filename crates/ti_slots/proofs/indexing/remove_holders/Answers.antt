@@ -1,6 +1,6 @@
 use Rattle.std.proofs.Common.{◌+◌, sym, take}
 use Rattle.ti_index.specs.Names.{holders_at, users_at}
-use Rattle.ti_slots.specs.Indexing.{is_name_of}
+use Rattle.ti_slots.specs.inside.Indexing.{is_name_of}
 use Rattle.ti_slots.proofs.Adding.{holders_by, users_by, removes_more, removed_among, named_more}
 use Rattle.ti_slots.proofs.indexing.remove_holders.Goals as goal
 

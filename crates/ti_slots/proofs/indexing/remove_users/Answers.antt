@@ -1,6 +1,6 @@
 use Rattle.std.proofs.Common.{◌+◌, sym, take}
 use Rattle.ti_index.specs.Names.{holders_at, users_at}
-use Rattle.ti_slots.specs.Indexing.{is_used_by}
+use Rattle.ti_slots.specs.inside.Indexing.{is_used_by}
 use Rattle.ti_slots.proofs.Adding.{holders_by, users_by, removes_more, removes_same, removed_among, used_more, used_same}
 use Rattle.ti_slots.proofs.indexing.remove_users.Goals as goal
 use Rattle.ti_slots.proofs.indexing.remove_users.Goals.{in-Import, in_default}

@@ -1,6 +1,6 @@
 use Rattle.std.proofs.Common.{take}
 use Rattle.ti_index.specs.Names.{holders_at, users_at}
-use Rattle.ti_slots.specs.Indexing.{is_used_by, Removes}
+use Rattle.ti_slots.specs.inside.Indexing.{is_used_by, Removes}
 use Rattle.ti_slots.proofs.indexing.remove_users.Given as goal
 
 abbrev pub invariant-loop-item : goal.invariant-loop-item

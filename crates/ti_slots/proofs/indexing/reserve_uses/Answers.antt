@@ -1,5 +1,5 @@
 use Rattle.std.proofs.Common.{◌+◌, sym, ◌∙◌, take}
-use Rattle.ti_slots.specs.Indexing.{is_used_by, IsGrown}
+use Rattle.ti_slots.specs.inside.Indexing.{is_used_by, IsGrown}
 use Rattle.ti_slots.proofs.Adding.{grown_more, room_more, used_more, used_same}
 use Rattle.ti_slots.proofs.indexing.reserve_uses.Goals as goal
 use Rattle.ti_slots.proofs.indexing.reserve_uses.Goals.{in-Import+in_ok-reserve, in_default}

@@ -1,11 +1,11 @@
 use Rattle.std.proofs.Common.{◌≡◌, ◌==◌, false, get_or, refl, sym, ◌∙◌, arith}
 use Rattle.std.proofs.lemmas.Bool.{ne_eqb}
 use Rattle.std.proofs.lemmas.List.{take_more}
-use Rattle.ti_source.specs.inside.Items.{cuts, goes_nowhere, goes_over}
+use Rattle.ti_source.specs.inside.Items.{cuts, takes_no_byte, takes_byte}
 use Rattle.ti_source.proofs.items.front_run.Goals as goal
 
 pub loop-byte-init : goal.loop-byte-init
-loop-byte-init c = record { counted = refl; goes_on = goes_nowhere }
+loop-byte-init c = record { counted = refl; passes_run = takes_no_byte }
 
 pub loop-byte-preserved : goal.loop-byte-preserved
 loop-byte-preserved c =
@@ -16,5 +16,5 @@ loop-byte-preserved c =
     let inner : cuts c.loop-byte.next byte ≡ false = sym c.cuts.ensures ∙ c.if-cuts.false in
     record {
       counted = omega (arith, c.loop-byte.invariant.counted);
-      goes_on = rw (take_more text at 0 c.loop-byte-test.true, c.after-next.ensures) (goes_over byte c.loop-byte.invariant.goes_on plain inner);
+      passes_run = rw (take_more text at 0 c.loop-byte-test.true, c.after-next.ensures) (takes_byte byte c.loop-byte.invariant.passes_run plain inner);
     }

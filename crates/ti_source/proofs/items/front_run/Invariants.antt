@@ -1,9 +1,9 @@
 use Rattle.std.proofs.Common.{◌≡◌, take}
-use Rattle.ti_source.specs.inside.Items.{GoesOn}
+use Rattle.ti_source.specs.inside.Items.{PassesRun}
 use Rattle.ti_source.proofs.items.front_run.Given as goal
 
 abbrev pub invariant-loop-byte : goal.invariant-loop-byte
 invariant-loop-byte l = record {
   counted : l.size ≡ l.byte-index;
-  goes_on : GoesOn l.fn.taken l.fn.before (take l.byte-index l.text) l.next l.last;
+  passes_run : PassesRun l.fn.taken l.fn.before (take l.byte-index l.text) l.next l.last;
 }

@@ -12,4 +12,4 @@ returns-clause-reads c = λ start line reads.
     let taken = c.take_run-run.ensures in
     let some : 0 < length text = omega (arith, eqb-false _ _ (sym c.is_empty.ensures ∙ c.if-is_empty.false), c.args.text.now.ok.0) in
     let from_run = subst (λ (s : List Placed). ReadsSoFar start c.args.taken c.args.before s (piece text line)) taken.whole reads in
-    rw c.in_ok-extend_from_slice.ensures.items (so_far-run start line taken.line c.take_run-run.new.self text taken.goes_on some from_run)
+    rw c.in_ok-extend_from_slice.ensures.items (so_far-run start line taken.line c.take_run-run.new.self text taken.passes_run some from_run)

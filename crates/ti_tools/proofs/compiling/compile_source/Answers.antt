@@ -1,7 +1,7 @@
 use Rattle.std.proofs.Common.{◌≡◌, IfOk, List, ℕ, Ok, Result, ap, subst, sym, ◌∙◌}
 use Rattle.std.specs.String.{string_bytes}
 use Rattle.ti_devices.specs.declared.tool_error.ToolError.{ToolError}
-use Rattle.ti_tools.specs.Tic.{Compilation, compilation_of, tic_result}
+use Rattle.ti_tools.specs.Compiling.{Compilation, compilation_of, tic_result}
 use Rattle.ti_tools.proofs.Ending.{last_byte-newline}
 use Rattle.ti_tools.proofs.Inserting.{result-newline}
 use Rattle.ti_tools.proofs.compiling.compile_source.Goals as goal

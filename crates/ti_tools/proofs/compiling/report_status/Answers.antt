@@ -1,6 +1,6 @@
 use Rattle.std.proofs.Common.{◌∙◌, sym}
 use Rattle.ti_tools.proofs.Reporting.{list_any-map}
-use Rattle.ti_source.specs.Codes.{is_error}
+use Rattle.ti_source.specs.Code.{is_error}
 use Rattle.ti_meaning.specs.Faults.{SourceFault, fault_seen}
 use Rattle.ti_tools.proofs.compiling.report_status.Goals as goal
 

@@ -1,7 +1,7 @@
 use Rattle.std.proofs.Common.{◌≡◌, ◌++◌, List, ℕ, map, take}
 use Rattle.std.specs.Rc.{rc_slice_items}
 use Rattle.ti_meaning.specs.Owner.{readings}
-use Rattle.ti_meaning.specs.Reaching.{is_owner}
+use Rattle.ti_meaning.specs.inside.Reaching.{is_owner}
 use Rattle.ti_tools.proofs.Filing.{files_left}
 use Rattle.ti_tools.proofs.Seeing.{AreSeen}
 use Rattle.ti_tools.specs.EntryFiles.{files_for, is_seen, own_names}

@@ -1,6 +1,6 @@
 use Rattle.std.proofs.Common.{◌≡◌, ◌++◌, map, drop}
 use Rattle.ti_list.specs.Relative.{entry_shown}
-use Rattle.ti_tools.specs.Infocmp.{listings}
+use Rattle.ti_tools.specs.Listings.{listings}
 use Rattle.ti_tools.proofs.listings.listings.Given as goal
 
 abbrev pub invariant-loop-view : goal.invariant-loop-view

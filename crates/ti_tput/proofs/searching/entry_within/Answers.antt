@@ -1,7 +1,7 @@
 use Rattle.std.proofs.Common.{◌+◌, ◌<◌, ◌≤◌, ℕ, List, length, take, add-one, inl, inr, refl, sym, subst, arith}
 use Rattle.std.proofs.lemmas.List.{length-take-le}
 use Rattle.ti_layout.specs.Reading.{Reads, Refused}
-use Rattle.ti_layout.specs.Shown.{names_of, view_contents}
+use Rattle.ti_layout.specs.View.{names_of, view_contents}
 use Rattle.ti_layout.specs.Values.{Contents}
 use Rattle.ti_layout.specs.declared.fault.ReadError.{ReadError}
 use Rattle.ti_layout.specs.declared.fault.ReadError.TheVariants.{Counts}

@@ -2,14 +2,14 @@ use Rattle.std.proofs.Common.{◌+◌, Some, None, rules, ◌∙◌}
 use Rattle.std.specs.String.{string_bytes}
 use Rattle.std.proofs.lemmas.List.{drop_all}
 use Rattle.ti_devices.specs.Paths.{path_of}
-use Rattle.ti_devices.specs.Tree.{Reads}
+use Rattle.ti_devices.specs.Tree.{FindsFile}
 use Rattle.ti_tput.proofs.Searches.{Finds-here, Finds-later, Finds-none, places-from}
 use Rattle.ti_tput.proofs.searching.search.Goals as goal
 
 pub returns-in-Ok-Some-clause-found : goal.returns-in-Ok-Some-clause-found
 returns-in-Ok-Some-clause-found g c =
     let files = g.T.Tree.files c.args.tree.now in
-    let at : Reads (path_of (string_bytes c.place-item.result) c.args.name.now) (c.args.limit + 1) files (Some c.in-Ok-Some.bytes.items) =
+    let at : FindsFile (path_of (string_bytes c.place-item.result) c.args.name.now) (c.args.limit + 1) files (Some c.in-Ok-Some.bytes.items) =
     rw (c.as_str-in-loop-place.ensures.value, c.in_ok-path.ensures, c.as_str.ensures.value, c.loop-place.invariant.kept, c.in-Ok-Some.field-0-is) at c.in-Ok-Some.ensures.found in
     c.loop-place.invariant.rest (Some c.in-Ok-Some.bytes.items)
     (rw (places-from string_bytes c.args.places.now c.loop-place.place-index c.place-item.result (search rules) c.place-item.is)
@@ -18,7 +18,7 @@ returns-in-Ok-Some-clause-found g c =
 pub loop-place-preserved : goal.loop-place-preserved
 loop-place-preserved g c =
     let files = g.T.Tree.files c.args.tree.now in
-    let at : Reads (path_of (string_bytes c.place-item.result) c.args.name.now) (c.args.limit + 1) files None =
+    let at : FindsFile (path_of (string_bytes c.place-item.result) c.args.name.now) (c.args.limit + 1) files None =
     rw (c.as_str-in-loop-place.ensures.value, c.in_ok-path.ensures, c.as_str.ensures.value, c.loop-place.invariant.kept, c.in-Ok-None.field-0-is) at c.in-Ok-None.ensures.found in record {
       rest = λ found later. c.loop-place.invariant.rest found
           (rw (places-from string_bytes c.args.places.now c.loop-place.place-index c.place-item.result (search rules) c.place-item.is)

@@ -1,6 +1,6 @@
 use Rattle.std.proofs.Common.{arith}
 use Rattle.ti_layout.specs.Values.{contents}
-use Rattle.ti_compiled.specs.Held.{names_in}
+use Rattle.ti_compiled.specs.Image.{names_in}
 use Rattle.ti_compiled.proofs.Kept.{LaidAs, laid_as}
 use Rattle.ti_compiled.proofs.image.Image.patch.Goals as goal
 use Rattle.ti_compiled.proofs.image.Image.patch.Goals.{After-is_laid}

@@ -3,7 +3,7 @@ use Rattle.ti_caps.specs.Tables.{capability}
 use Rattle.ti_caps.specs.declared.capability.Kind.TheVariants.{Flag}
 use Rattle.ti_layout.specs.Laws.{without_cancel}
 use Rattle.ti_layout.specs.Values.{AgreesIfSome}
-use Rattle.ti_compiled.specs.Changes.{flag_content}
+use Rattle.ti_compiled.specs.inside.Changes.{flag_content}
 use Rattle.ti_compiled.proofs.Kept.{after_giving}
 use Rattle.ti_compiled.proofs.image.Image.set_flag.Goals as goal
 

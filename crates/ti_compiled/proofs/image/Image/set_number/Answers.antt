@@ -1,7 +1,7 @@
 use Rattle.std.proofs.Common.{◌≡◌, ℕ, Option, Some, None, refl}
 use Rattle.ti_caps.specs.declared.capability.Kind.TheVariants.{Number}
 use Rattle.ti_layout.specs.Laws.{without_cancel}
-use Rattle.ti_compiled.specs.Changes.{number_content}
+use Rattle.ti_compiled.specs.inside.Changes.{number_content}
 use Rattle.ti_compiled.proofs.Kept.{after_giving}
 use Rattle.ti_compiled.proofs.NumberChange.{number_agrees}
 use Rattle.ti_compiled.proofs.image.Image.set_number.Goals as goal

@@ -3,7 +3,7 @@ use Rattle.ti_caps.specs.Tables.{capability}
 use Rattle.ti_caps.specs.declared.capability.Kind.TheVariants.{Text}
 use Rattle.ti_layout.specs.Laws.{without_cancel}
 use Rattle.ti_layout.specs.Values.{AgreesIfSome, HasNoNul}
-use Rattle.ti_compiled.specs.Changes.{text_lent}
+use Rattle.ti_compiled.specs.inside.Changes.{text_lent}
 use Rattle.ti_compiled.proofs.Kept.{after_giving}
 use Rattle.ti_compiled.proofs.image.Image.set_text.Goals as goal
 

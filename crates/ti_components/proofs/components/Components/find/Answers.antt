@@ -1,5 +1,5 @@
 use Rattle.std.proofs.Common.{ap, length, arith}
-use Rattle.ti_components.specs.Walk.{AreNumbers, IsSearched}
+use Rattle.ti_components.specs.inside.Walk.{AreNumbers, IsSearched}
 use Rattle.ti_components.proofs.Ending.{components_found, order_found, closed_all}
 use Rattle.ti_components.proofs.components.Components.find.Goals as goal
 

@@ -1,8 +1,8 @@
 use Rattle.std.proofs.Common.{◌≡◌, ℕ, List, ap, sym, ◌∙◌, refl}
 use Rattle.ti_meaning.specs.Edits.{change_of, insertion, replacement}
 use Rattle.ti_session.specs.declared.requests.Opened.{Opened}
-use Rattle.ti_session.specs.Requests.{opened_change}
-use Rattle.ti_session.proofs.Leading.{CarriesOut-of_front, Holds-closed, ActsOn-edits}
+use Rattle.ti_session.specs.inside.Requests.{opened_change}
+use Rattle.ti_session.proofs.Leading.{CarriesOut-of_front, HasState-closed, ActsOn-edits}
 use Rattle.ti_session.proofs.editor.Editor.end_block.Goals as goal
 use Rattle.ti_session.proofs.editor.Editor.end_block.Goals.{in-Insert, in-Replace}
 
@@ -16,4 +16,4 @@ returns g c = λ s held.
     let whole : change_of c.match-opened.edit ≡ opened_change c.args.opened _ = same ∙ ap (opened_change c.args.opened) held.block in
     ActsOn-edits _ s _ _ _ c.carry_out.result _ _ refl held.source
     (CarriesOut-of_front c.args.opened _ _ _ _ _ _ _ c.carry_out.result held.room whole c.carry_out.ensures)
-    (Holds-closed c.args.self.now _ s held refl refl)
+    (HasState-closed c.args.self.now _ s held refl refl)

@@ -1,5 +1,5 @@
 use Rattle.std.proofs.Common.{refl, rules}
-use Rattle.ti_session.proofs.Leading.{Holds-added, ActsOn-on, ActsOn-same, meaning_in-at_end, meaning_in-in_block}
+use Rattle.ti_session.proofs.Leading.{HasState-added, ActsOn-on, ActsOn-same, meaning_in-at_end, meaning_in-in_block}
 use Rattle.ti_session.proofs.editor.Editor.take_line.Goals as goal
 
 pub returns-then-eq : goal.returns-then-eq
@@ -9,4 +9,4 @@ returns-then-eq g c = λ s held.
 pub returns : goal.returns
 returns g c = λ s held.
     ActsOn-on _ s _ _ _ (meaning_in-in_block s.mode _ c.in-Some.opened held.text c.args.line.now held.mode c.in-Some.is (search rules))
-    (Holds-added c.args.self.now _ s c.in-Some.opened c.args.line.now held refl refl c.in-Some.is refl (search rules) (search rules))
+    (HasState-added c.args.self.now _ s c.in-Some.opened c.args.line.now held refl refl c.in-Some.is refl (search rules) (search rules))

@@ -1,6 +1,6 @@
 use Rattle.std.proofs.Common.{◌<◌, length, refl, ap, ◌∙◌, rules}
 use Rattle.ti_source.specs.inside.Blocks.{front_of}
-use Rattle.ti_source.proofs.WalkLemmas.{takes_block, goes_on}
+use Rattle.ti_source.proofs.WalkLemmas.{takes_block, takes_run}
 use Rattle.ti_source.proofs.walk.BlocksIterator.next.Goals as goal
 
 pub split_at-requires : goal.split_at-requires
@@ -20,4 +20,4 @@ returns-clause-steps c =
     rw (← c.self.view_is, c.split_at.ensures.front, c.split_at.ensures.back) (taken.left, refl)
 
 pub returns-clause-goes : goal.returns-clause-goes
-returns-clause-goes c = goes_on _ _ _ _ _ _ tt (returns-clause-steps c).0
+returns-clause-goes c = takes_run _ _ _ _ _ _ tt (returns-clause-steps c).0

@@ -1,0 +1,16 @@
+-- What a look-up by name finds at a place (own).
+use Rattle.std.specs.Prelude.{◌≢◌, ℕ, List, slice_index_or, All, Contains}
+use Rattle.ti_caps.specs.declared.capability.Kind.{Kind}
+use Rattle.ti_caps.specs.ByName.{Row}
+
+-- the table has this row
+abbrev pub IsRowOf : List Row → List ℕ → Kind → ℕ → Type 0
+IsRowOf rows name kind index = Contains rows (name, kind, index)
+
+-- the row at the place has another name
+abbrev pub IsOfAnother : List Row → ℕ → List ℕ → Type 0
+IsOfAnother rows place name = (d : Row) → (slice_index_or rows place d).0 ≢ name
+
+-- no row has this name
+abbrev pub HasNoRow : List Row → List ℕ → Type 0
+HasNoRow rows name = All (λ r. r.0 ≢ name) rows

@@ -1,0 +1,55 @@
+-- A change of one capability, for the functions that make it (own).
+use Rattle.std.specs.Prelude.{◌≡◌, ◌≢◌, ℕ, ◌<◌, Bool, true, false, List, Option, Some, None, option_map}
+use Rattle.std.specs.Borrow.{Bor}
+use Rattle.ti_caps.specs.Tables.{Capability, IsCapability, capability}
+use Rattle.ti_caps.specs.declared.capability.Kind.TheVariants.{Number}
+use Rattle.ti_layout.specs.Image.{limit_of, number_value, of_kind}
+use Rattle.ti_compiled.specs.Image.{contents_in, with_content}
+use Rattle.ti_layout.specs.Laws.{without_cancel}
+use Rattle.ti_layout.specs.Values.{Content, content_true, content_number, content_text, content_of, Contents, AgreesIfSome}
+use Rattle.ti_layout.specs.declared.values.Value.{Value}
+
+-- a flag that is set or is not
+abbrev pub flag_content : Bool → Option Content
+flag_content true = Some content_true
+flag_content false = None
+
+-- a number, or none
+abbrev pub number_content : Option ℕ → Option Content
+number_content number = option_map content_number number
+
+-- a text, or none
+abbrev pub text_content : Option (List ℕ) → Option Content
+text_content text = option_map content_text text
+
+-- what a value that is lent says
+abbrev pub content_lent : Option (Bor Value) → Option Content
+content_lent value = option_map (λ (v : Bor Value). content_of v.now) value
+
+-- a text that is lent, or none
+abbrev pub text_lent : Option (Bor (List ℕ)) → Option Content
+text_lent text = text_content (option_map (λ (t : Bor (List ℕ)). t.now) text)
+
+-- new bytes hold what the old ones do, but for a capability
+pub record IsSameBut (old new : List ℕ) (cap : Capability) : Type 0 where
+  pub says : (c : Capability) → IsCapability c → c ≢ cap → contents_in new c ≡ contents_in old c
+
+-- what is held of a capability once all that changes is taken away: what the old and the new values both say, and else nothing
+pub record IsLeft (old new held : Option Content) : Type 0 where
+  pub same : old ≡ new → held ≡ without_cancel new
+  pub gone : old ≢ new → held ≡ None
+
+abbrev pub limit_with : List ℕ → Capability → Option Content → ℕ
+limit_with bytes cap content = limit_of (with_content (contents_in bytes) cap content)
+
+-- what the bytes hold, with a number given or taken away
+abbrev pub with_number : List ℕ → ℕ → Option ℕ → Contents
+with_number bytes index number = with_content (contents_in bytes) (capability Number index) (number_content number)
+
+-- the number of a place, and what stands for one that is absent
+abbrev pub wide_value : Contents → ℕ → ℕ
+wide_value contents index = number_value 4294967295 (of_kind contents Number index)
+
+-- what the places of numbers have, they may have
+abbrev pub HasNumbers : Contents → Type 0
+HasNumbers contents = (index : ℕ) → index < 39 → AgreesIfSome (capability Number index) (contents (capability Number index))

@@ -1,0 +1,58 @@
+-- What the steps of reading know of an entry (term(5)): the header's numbers, and the sections that they cut.
+use Rattle.std.specs.Prelude.{◌≡◌, ◌≢◌, ℕ, suc, ◌*◌, ◌<◌, ◌≤◌, List, length, slice_index}
+use Rattle.ti_layout.specs.declared.layout.Format.{Format}
+use Rattle.ti_layout.specs.declared.layout.Format.TheVariants.{Legacy}
+use Rattle.ti_layout.specs.declared.layout.Header.{Header}
+use Rattle.ti_layout.specs.declared.sections.Sections.{Sections}
+use Rattle.ti_layout.specs.Layout.{magic, width}
+use Rattle.ti_layout.specs.Reading.{word_at, number_at, count_in, format_in, names_size, flag_count, number_count, text_count, strings_size, end_place, names_section, flags_section, numbers_section, offsets_section, strings_section, IsFlagByte, IsNumber, IsOffset}
+
+-- the bytes begin with a header that has these sizes and counts, each of them within its limit
+pub record HasHeader (bytes : List ℕ) (h : Header) : Type 0 where
+  pub long : 12 ≤ length bytes
+  pub known : word_at 0 bytes ≡ magic (format_in bytes)
+  pub format : h.format ≡ format_in bytes
+  pub names : h.names ≡ names_size bytes
+  pub flags : h.flags ≡ flag_count bytes
+  pub numbers : h.numbers ≡ number_count bytes
+  pub texts : h.texts ≡ text_count bytes
+  pub strings : h.strings ≡ strings_size bytes
+  pub names_fit : names_size bytes < 32768
+  pub flags_fit : flag_count bytes ≤ 44
+  pub numbers_fit : number_count bytes ≤ 39
+  pub texts_fit : text_count bytes ≤ 414
+  pub strings_fit : strings_size bytes < 32768
+
+-- the bytes are as long as their header says, and are cut into these sections
+pub record IsCutIntoSections (bytes : List ℕ) (s : Sections) : Type 0 where
+  pub sizes : Header
+  pub header : HasHeader bytes sizes
+  pub whole : end_place bytes ≤ length bytes
+  pub format : s.format ≡ format_in bytes
+  pub names : s.names.now ≡ names_section bytes
+  pub flags : s.flags.now ≡ flags_section bytes
+  pub numbers : s.numbers.now ≡ numbers_section bytes
+  pub offsets : s.offsets.now ≡ offsets_section bytes
+  pub strings : s.strings.now ≡ strings_section bytes
+
+-- at least one byte and the NUL that ends the names, and no other NUL
+pub record AreNames (names : List ℕ) : Type 0 where
+  pub some : 2 ≤ length names
+  pub no_nul : (k : ℕ) → suc k < length names → slice_index names k ≢ 0
+  pub ended : (k : ℕ) → suc k ≡ length names → slice_index names k ≡ 0
+
+-- each byte of the section may stand for a flag
+abbrev pub AreFlags : List ℕ → Type 0
+AreFlags flags = (k : ℕ) → k < length flags → IsFlagByte (slice_index flags k)
+
+-- each number of a section
+abbrev pub EachNumber : Format → List ℕ → (ℕ → Type 0) → Type 0
+EachNumber format section P = (k : ℕ) → k < count_in format section → P (number_at format (width format * k) section)
+
+-- each number of the section is not negative, or stands for absent or cancelled
+abbrev pub AreNumbers : Format → List ℕ → Type 0
+AreNumbers format numbers = EachNumber format numbers (IsNumber format)
+
+-- each offset leads to a text that a NUL ends in the string table, or stands for absent or cancelled
+abbrev pub AreOffsets : List ℕ → List ℕ → Type 0
+AreOffsets offsets strings = EachNumber Legacy offsets (IsOffset strings)

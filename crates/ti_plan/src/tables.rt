@@ -1,0 +1,167 @@
+// The values of a block and its entry: items are laid into a table, the leftmost mention of a capability first, and the
+// entry that the block had before is patched to have these values.
+ghost use Rattle.std.specs.Prelude.{ℕ, ◌≡◌, ◌+◌, ◌<◌, ◌^◌, ◌↔◌, if◌then◌else◌, length, false, List, Some, None, slice_get, IfOk, IsErrOf, OnOk};
+ghost use Rattle.std.specs.Option.{option_or};
+ghost use Rattle.ti_caps.specs.Tables.{Capability, IsCapability, same_capability};
+ghost use Rattle.ti_source.specs.Reading.{reading_of, said_of};
+ghost use Rattle.ti_layout.specs.Image.{image, limit_of};
+ghost use Rattle.ti_layout.specs.Laws.{without_cancel};
+ghost use Rattle.ti_layout.specs.Values.{contents, content_of, Agrees};
+ghost use Rattle.ti_compiled.specs.Image.{contents_in};
+ghost use Rattle.ti_meaning.specs.Expansion.{Mention, is_broken};
+ghost use Rattle.ti_meaning.specs.Compiled.{state_of, state_with};
+ghost use Rattle.ti_meaning.specs.Dependents.{work_of};
+ghost use Rattle.ti_meaning.specs.Usable.{IsUsable, SetsWell};
+ghost use Rattle.ti_meaning.specs.ValueTables.{HasTable, IsTableOfMentions};
+ghost use Rattle.ti_meaning.specs.inside.ValueTables.{AddsSaid, IsTableOf};
+ghost use Rattle.ti_slots.specs.Settled.{state_seen, table_of};
+ghost use Rattle.ti_plan.specs.inside.Settling.{AreUsesSound, IsReady, IsItemAt, blocks_known};
+
+use crate::owners::{Known, used_table};
+use std::alloc::{AllocError, Global};
+use ti_caps::Cap;
+use ti_compiled::{Image, Mentions, Table, Value, WriteError};
+use ti_slots::{Entry, Slot, State};
+use ti_source::{Parsed, What};
+
+/// Lays a value behind the mentions: a value or a cancel of the capability that is there stays.
+fn add_value(
+    mentions: &mut Mentions,
+    cap: Cap,
+    value: Value,
+    work: &mut u64,
+) -> Result<(), AllocError>
+    requires agrees { Agrees cap (content_of value) }
+    requires room { work.old + 1 < 2 ^ 64 }
+    ensures laid { OnOk result ((c : Capability) → IsCapability c → contents mentions.new c
+        ≡ option_or (contents mentions.old c) (if same_capability cap c then Some (content_of value) else None)) }
+    ensures work { OnOk result (work.new ≡ work.old + 1) }
+{
+    *work += 1;
+    mentions.push(cap, value)
+}
+
+/// Lays all values of a table behind the mentions.
+fn merge(mentions: &mut Mentions, used: &Table, work: &mut u64) -> Result<(), AllocError>
+    requires { work.old + 1 < 2 ^ 64 }
+    ensures merged { OnOk result ((c : Capability) → IsCapability c → contents mentions.new c
+        ≡ option_or (contents mentions.old c) (contents used.now c)) }
+    ensures work { OnOk result (work.new ≡ work.old + 1) }
+{
+    *work += 1;
+    mentions.merge(used)
+}
+
+/// Lays what an item of the block at a node stands for.
+fn add_item(
+    known: &Known,
+    node: usize,
+    index: usize,
+    what: &What,
+    mentions: &mut Mentions,
+    work: &mut u64,
+) -> Result<(), AllocError>
+    ghost at: { ℕ }
+    requires ready { IsReady known.now node at }
+    requires item { IsItemAt (blocks_known known.now) at index (said_of what.now) }
+    requires sets { SetsWell (said_of what.now) }
+    requires sound { AreUsesSound (blocks_known known.now) at }
+    requires room { work.old + 1 < 2 ^ 64 }
+    ensures laid { OnOk result (AddsSaid (blocks_known known.now) (said_of what.now) (contents mentions.old) (contents mentions.new)) }
+    ensures work { OnOk result (work.new ≡ work.old + 1) }
+{
+    match what {
+        What::Flag(cap) => add_value(mentions, *cap, Value::True, work)?,
+        What::Number(cap, number) => add_value(mentions, *cap, Value::Number(*number), work)?,
+        What::Text(cap, text) => add_value(mentions, *cap, Value::Text(text.clone()?), work)?,
+        What::Cancel(cap) => add_value(mentions, *cap, Value::Cancelled, work)?,
+        What::Import(name) => {
+            let Ok(used) = used_table(known, node, index, name.as_slice()) else {
+                unreachable!()
+            };
+            merge(mentions, used, work)?;
+        }
+    }
+    Ok(())
+}
+
+/// The table of the block at a node, which is sound, as are its uses.
+fn make_table(
+    alloc: Global,
+    known: &Known,
+    node: usize,
+    block: &Parsed,
+    work: &mut u64,
+) -> Result<Table, AllocError>
+    ghost at: { ℕ }
+    requires ready { IsReady known.now node at }
+    requires block { slice_get (blocks_known known.now) at ≡ Some (reading_of block.now) }
+    requires whole { is_broken (reading_of block.now) ≡ false }
+    requires sound { AreUsesSound (blocks_known known.now) at }
+    requires room { work.old + length block.now.items.items < 2 ^ 64 }
+    ensures table { IfOk result (λ table. IsTableOf (blocks_known known.now) (reading_of block.now) (contents table)) }
+    ensures work { OnOk result (work.new ≡ work.old + length block.now.items.items) }
+{
+    let mut mentions = Mentions::new(alloc, block.items.len())?;
+    for (index, item) in block.items.iter().enumerate() {
+        add_item(known, node, index, &item.what, &mut mentions, work)?;
+    }
+    Ok(mentions.into_table()?)
+}
+
+/// The image of a sound block that has this table. Where the entry that the block had before has the
+/// same names, a copy of it is patched; else the image is laid anew.
+fn make_image(alloc: Global, slot: &Slot, table: &Table) -> Result<Image, WriteError>
+    requires whole { is_broken (reading_of slot.now.block) ≡ false }
+    requires usable { IsUsable (reading_of slot.now.block) }
+    ensures image { IfOk result (λ i. i ≡ image slot.now.block.field.items (contents table.now)) }
+    ensures contents { IfOk result (λ i. (c : Capability) → IsCapability c → contents_in i c ≡ without_cancel (contents table.now c)) }
+    ensures too_large { IsErrOf result WriteError.TooLarge ↔ (limit_of (contents table.now) < length (image slot.now.block.field.items (contents table.now))) }
+    ensures names_fit { IsErrOf result WriteError.NamesTooLong → ⊥ }
+{
+    let names = &slot.block.field;
+    match slot.settled.state.entry() {
+        Some(before) if before.image.names() == names.as_slice() => {
+            before.image.patch(alloc, &before.table, table)
+        }
+        _ => Image::new(alloc, names, table),
+    }
+}
+
+/// What becomes of a sound block that has this table.
+fn make_state(alloc: Global, slot: &Slot, table: Table) -> Result<State, AllocError>
+    requires whole { is_broken (reading_of slot.now.block) ≡ false }
+    requires usable { IsUsable (reading_of slot.now.block) }
+    ensures table { IfOk result (λ state. table_of state ≡ Some table) }
+    ensures state { IfOk result (λ state. (mentions : List Mention) → IsTableOfMentions (contents table) mentions
+        → state_seen state ≡ state_with (reading_of slot.now.block) (Some mentions)) }
+{
+    match make_image(alloc, slot, &table) {
+        Ok(image) => Ok(State::Compiled(Entry { table, image })),
+        Err(WriteError::TooLarge) => Ok(State::TooLarge(table)),
+        Err(WriteError::Memory) => Err(AllocError),
+        Err(WriteError::NamesTooLong) => unreachable!(),
+    }
+}
+
+/// What becomes of the block at a node, which is sound, as are its uses.
+pub(crate) fn compile(
+    alloc: Global,
+    known: &Known,
+    node: usize,
+    slot: &Slot,
+    work: &mut u64,
+) -> Result<State, AllocError>
+    ghost at: { ℕ }
+    requires ready { IsReady known.now node at }
+    requires block { slice_get (blocks_known known.now) at ≡ Some (reading_of slot.now.block) }
+    requires whole { is_broken (reading_of slot.now.block) ≡ false }
+    requires sound { AreUsesSound (blocks_known known.now) at }
+    requires room { work.old + length slot.now.block.items.items < 2 ^ 64 }
+    ensures state { IfOk result (λ state. state_seen state ≡ state_of (blocks_known known.now) (reading_of slot.now.block)) }
+    ensures table { IfOk result (λ state. HasTable contents (blocks_known known.now) (reading_of slot.now.block) (table_of state)) }
+    ensures work { OnOk result (work.new ≡ work.old + work_of (blocks_known known.now) (Some (reading_of slot.now.block))) }
+{
+    let table = make_table(alloc, known, node, &slot.block, work)?;
+    Ok(make_state(alloc, slot, table)?)
+}
