@@ -8,7 +8,8 @@ entries   sources of many entries, compiled into files: 1,800 of 1.1 KB each, th
           use one before them
 tools     `ti tput` and `ti infocmp` on the system's own entry, where it is there; both read the same
           file, and a run that fails or writes something else is not timed
-edits     edits of a database of 1,000 and of 65,535 blocks, a chain of uses and circular ones, in microseconds and MB
+edits     edits of a database of 1,000 and of 65,535 blocks, a chain of uses and circular ones: medians of five runs in
+          microseconds, and MB
 rates     MB/s (10^6 bytes a second) of `ti tic -c` on one-block sources of 64 KiB,
           256 KiB and 1 MiB, and of ncurses's `tic -c` on the last: the best of
           several runs
@@ -22,6 +23,7 @@ A tool that is not installed, or not built yet, is left out, and that is said. T
 import os
 import re
 import shutil
+import statistics
 import subprocess
 import sys
 import tempfile
@@ -45,6 +47,8 @@ KEYS = "".join(
 )
 SMALL = "\tam, cols#80, lines#24, bel=^G, cr=\\r, cud1=\\n, ind=\\n, cub1=^H,\n"
 RUNS = 40
+# runs of which edits are given by the median
+EDIT_RUNS = 5
 SECONDS = 600
 LONG = 2.0
 TERMINAL = "xterm-256color"
@@ -213,12 +217,17 @@ def edits(path):
         print("edits: left out (ti_bench is not built)")
         return
     for count, what in ((1000, "edits"), (65535, "edits"), (65535, "chain"), (1000, "circular"), (65535, "circular")):
-        with subprocess.Popen([MACHINE, str(count), what], stdout=subprocess.PIPE) as run:
-            printed = run.stdout.read().decode()
-            _, _, used = os.wait4(run.pid, 0)
-            run.returncode = 0
-        for edit, took in re.findall(r"^(.*): (\d+) ns each", printed, re.M):
-            print(f"| {count:,} | {edit} | {int(took) / 1000:,.1f} | {used.ru_maxrss / 1024:.0f} |")
+        times, most = {}, 0
+        for _ in range(EDIT_RUNS):
+            with subprocess.Popen([MACHINE, str(count), what], stdout=subprocess.PIPE) as run:
+                printed = run.stdout.read().decode()
+                _, _, used = os.wait4(run.pid, 0)
+                run.returncode = 0
+            most = max(most, used.ru_maxrss)
+            for edit, took in re.findall(r"^(.*): (\d+) ns each", printed, re.M):
+                times.setdefault(edit, []).append(int(took))
+        for edit, took in times.items():
+            print(f"| {count:,} | {edit} | {statistics.median(took) / 1000:,.1f} | {most / 1024:.0f} |")
 
 
 PARTS = {"entries": entries, "tools": tools, "edits": edits, "rates": rates, "machine": machine}

@@ -13,6 +13,8 @@ Each folder below cases/ is one run of `ti`, in a folder of its own:
               what it makes must still be there afterwards, unchanged
     needs     programs that the case wants, one a line; where one is not
               installed the case is skipped, and said to be
+    when      a command that sh runs before all else; where it fails the case is
+              skipped, and what it prints says why
     as-nobody that the case is run without root's rights, which let it read and
               write everything: where root runs the cases, the user nobody runs
               this one, on a copy of the program
@@ -94,6 +96,14 @@ def text_fault(what, got, case):
     return None if got == wanted else f"{what} is {got[:400]!r}, wanted {wanted[:400]!r}"
 
 
+def why_skipped(when):
+    """What the command of a case says where the case cannot be run here, or None."""
+    if not os.path.isfile(when):
+        return None
+    done = subprocess.run(["sh", when], stdin=subprocess.DEVNULL, stdout=subprocess.PIPE, stderr=subprocess.DEVNULL)
+    return None if done.returncode == 0 else done.stdout.decode(errors="replace").strip()
+
+
 def without_rights(room):
     """The words in front of a command that have nobody run it, who owns all below the room then; for root alone."""
     if os.geteuid() != 0:
@@ -170,6 +180,10 @@ def main():
         lacking = [it for it in lines_of(os.path.join(case, "needs")) if not shutil.which(it)]
         if lacking:
             print(f"{name}: skipped, since {lacking[0]} is not installed")
+            continue
+        reason = why_skipped(os.path.join(case, "when"))
+        if reason is not None:
+            print(f"{name}: skipped, since {reason}")
             continue
         try:
             faults = run(case)

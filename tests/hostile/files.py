@@ -2,11 +2,13 @@
 
 import itertools
 import os
+import resource
 import shutil
 import struct
+import subprocess
 import tempfile
 
-from limits import PROBE, ROOM
+from limits import PROBE, PROGRAM, ROOM
 from model.base import compile_source
 from model.caps import FLAG, FIND, NAMES_OF, NUMBER, TEXT, name
 from model.entry import read, read_file
@@ -215,6 +217,33 @@ def one_text(take):
             ["infocmp", "-d", "same", "last"], b"", 0, compared(entries["same"], entries["last"], "d"), env=env)
         return fault or take.fault(
             ["infocmp", "-u", "same"] + ["last"] * 20, b"", 0, relative(entries["same"], [entries["last"]] * 20), env=env)
+
+
+def reading_time(place, name, runs=60, batches=3):
+    """The least time of the processor that so many runs take which read an entry and print nothing of it."""
+    used = []
+    for _ in range(batches):
+        before = resource.getrusage(resource.RUSAGE_CHILDREN)
+        for _ in range(runs):
+            done = subprocess.run(
+                [PROGRAM, "tput", "-T", name, "am"], env={"TERMINFO": place},
+                stdin=subprocess.DEVNULL, stdout=subprocess.PIPE, stderr=subprocess.PIPE, check=False)
+            if (done.returncode, done.stdout, done.stderr) != (1, b"", b""):
+                raise ValueError(f"{name}: {done}")
+        after = resource.getrusage(resource.RUSAGE_CHILDREN)
+        used.append(after.ru_utime + after.ru_stime - before.ru_utime - before.ru_stime)
+    return min(used)
+
+
+@case("414 offsets into one text of 32,000 bytes: read in the time of one offset")
+def one_text_is_read_once(take):
+    del take
+    with Room() as room:
+        room.put("one", of_one_text(b"A" * 32_000, [0]))
+        room.put("many", of_one_text(b"A" * 32_000, [0] * 414))
+        one, many = reading_time(room.path, "one"), reading_time(room.path, "many")
+    # one search for each offset would be 13 million steps a run, ten times what a run takes
+    return None if many < 2 * one + 0.05 else f"{many:.3f} s beside {one:.3f} s"
 
 
 @case("65,535 blocks of four names each, written as files", long=True)

@@ -312,7 +312,7 @@ def copies():
         own.update({name: os.path.join(folder, name) for name in os.listdir(os.path.join(TOP, folder)) if name != "README.md"})
     for path in files_below(os.path.join(TOP, "tests", "cli", "cases")):
         case, _, name = path.partition(os.sep + "data" + os.sep)
-        if not case.startswith("package-") and (case, name) != ("infocmp-of-the-examples-compiles-back", "comet.ti"):
+        if not case.startswith("package-") and case != "infocmp-of-the-examples-compiles-back":
             continue
         if name.startswith("examples" + os.sep) or (case, name) == ("package-walk-through-the-examples", "README.md"):
             yield path, os.path.join("examples", os.path.basename(name))

@@ -1,5 +1,5 @@
-/* Refuses one growth of memory. Preloaded into a program, it counts the calls of malloc, calloc and realloc, has
-   the one whose number the variable REFUSE says answer that no memory is left, and at the end of the program
+/* Refuses one growth of memory. Preloaded into a program, it counts the calls of malloc, calloc, realloc, memalign,
+   aligned_alloc and posix_memalign, has the one whose number the variable REFUSE says answer that no memory is left, and at the end of the program
    writes the line "growths N refused M" to standard error. It needs no header and no library but the C library. */
 
 typedef __SIZE_TYPE__ size;
@@ -7,6 +7,7 @@ typedef __SIZE_TYPE__ size;
 extern void *__libc_malloc(size bytes);
 extern void *__libc_calloc(size count, size bytes);
 extern void *__libc_realloc(void *old, size bytes);
+extern void *__libc_memalign(size to, size bytes);
 extern char *getenv(const char *name);
 extern long write(int to, const void *bytes, size count);
 
@@ -25,6 +26,17 @@ void *malloc(size bytes) { return refuses() ? 0 : __libc_malloc(bytes); }
 void *calloc(size count, size bytes) { return refuses() ? 0 : __libc_calloc(count, bytes); }
 
 void *realloc(void *old, size bytes) { return refuses() ? 0 : __libc_realloc(old, bytes); }
+
+void *memalign(size to, size bytes) { return refuses() ? 0 : __libc_memalign(to, bytes); }
+
+void *aligned_alloc(size to, size bytes) { return refuses() ? 0 : __libc_memalign(to, bytes); }
+
+int posix_memalign(void **at, size to, size bytes) {
+    void *found = refuses() ? 0 : __libc_memalign(to, bytes);
+    if (found)
+        *at = found;
+    return found ? 0 : 12;
+}
 
 static void start(void) __attribute__((constructor));
 

@@ -9,7 +9,7 @@ refusal. Each of these runs must print the same line and end well; at most one c
 may have answered want of memory, and none where nothing was refused.
 
 Growths are refused by `refuse.c`, which is preloaded into the program and counts the
-calls of malloc, calloc and realloc; it is compiled by the clang of the toolchain, else by
+calls of malloc and of all that stands beside it; it is compiled by the clang of the toolchain, else by
 `cc`. (`rt try --fail-alloc N` refuses the same growths, and builds the program anew for
 each N, some twenty seconds each.)
 

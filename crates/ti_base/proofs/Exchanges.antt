@@ -22,7 +22,7 @@ use Rattle.ti_slots.specs.Slots.{IsIndexed, StandsAt, slot_at, blocks_of, texts_
 use Rattle.ti_slots.specs.Changes.{HasRoomFor, PutsIn, TakesOut, ShowsSame, ChangesAreUndone}
 use Rattle.ti_slots.specs.Settled.{IsSettled}
 use Rattle.ti_dependents.specs.Dependents.{IsExchangeOf}
-use Rattle.ti_plan.specs.Plan.{OthersAreSettled, IsReady}
+use Rattle.ti_plan.specs.Plans.{OthersAreSettled, IsReady}
 use Rattle.ti_base.specs.inside.KeptSlots.{AreKept, AreSettled, AreSound, IsSoundSlot, PlacedSlot, slots_of, reading_seen, text_seen, with_slot, block_seen, exchange_with, HasId, with_settled}
 use Rattle.ti_base.proofs.SlotLists.{blocks_seen, texts_seen, length_slots, length_texts, slot_there, blocks_read, readings_with}
 use Rattle.ti_base.proofs.Untouched.{others_settled, settled_in}

@@ -19,8 +19,8 @@ use Rattle.ti_slots.specs.declared.slots.Slots.{Slots}
 use Rattle.ti_slots.specs.Slots.{IsIndexed, StandsAt, slot_at, reading_at, text_at, has_name, uses_name, blocks_of, texts_of}
 use Rattle.ti_slots.specs.Settled.{IsSettled}
 use Rattle.ti_plan.specs.declared.plans.Plan.{Plan}
-use Rattle.ti_plan.specs.Plan.{IsReady, IsPlan, IsPlanOfAll}
-use Rattle.ti_base.specs.inside.Kept.{IsBlockText}
+use Rattle.ti_plan.specs.Plans.{IsReady, IsPlan, IsPlanOfAll}
+use Rattle.ti_base.specs.inside.Texts.{IsBlockText}
 use Rattle.ti_base.specs.inside.KeptSlots.{AreKept, AreRead, AreSettled, AreSound, slots_of, reading_seen, text_seen, with_settled, settled_at, settled_all}
 use Rattle.ti_index.proofs.Lists.{item_at}
 use Rattle.ti_plan.proofs.ItemLists.{drop_item}

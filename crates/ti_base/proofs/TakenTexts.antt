@@ -12,7 +12,7 @@ use Rattle.ti_slots.specs.declared.slots.Slot.{Slot}
 use Rattle.ti_slots.specs.declared.slots.Slots.{Slots}
 use Rattle.ti_slots.specs.Slots.{IsIndexed, texts_of}
 use Rattle.ti_slots.specs.Changes.{ShowsSame}
-use Rattle.ti_base.specs.inside.Kept.{IsBlockText, IsTextRefusal}
+use Rattle.ti_base.specs.inside.Texts.{IsBlockText, IsTextRefusal}
 use Rattle.ti_base.specs.inside.KeptSlots.{AreRead, AreSound, IsSoundSlot, slots_of}
 use Rattle.ti_base.specs.Loading.{AreTaken, IsLoadRefusal}
 use Rattle.ti_index.proofs.Lists.{get-take, take_get}

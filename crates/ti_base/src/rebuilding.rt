@@ -7,7 +7,7 @@ ghost use Rattle.ti_meaning.specs.Exchange.{Exchange};
 ghost use Rattle.ti_meaning.specs.Dependents.{AreDependents, work};
 ghost use Rattle.ti_slots.specs.Slots.{IsIndexed, StandsAt, slot_at, blocks_of, texts_of};
 ghost use Rattle.ti_dependents.specs.Dependents.{IsExchangeOf};
-ghost use Rattle.ti_plan.specs.Plan.{IsReady};
+ghost use Rattle.ti_plan.specs.Plans.{IsReady};
 ghost use Rattle.ti_base.specs.inside.KeptSlots.{AreKept, AreRead, AreSound, slots_of, settled_at, settled_all};
 
 use std::alloc::{AllocError, Global};

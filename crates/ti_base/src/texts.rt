@@ -3,7 +3,7 @@ ghost use Rattle.std.specs.Prelude.{◌≡◌, IfOk, IfErr, OnOk};
 ghost use Rattle.ti_source.specs.Reading.{reading_of};
 ghost use Rattle.ti_source.specs.Sound.{IsWellRead};
 ghost use Rattle.ti_source.specs.Parsing.{reading_of_text};
-ghost use Rattle.ti_base.specs.inside.Kept.{IsBlockText, IsTextRefusal};
+ghost use Rattle.ti_base.specs.inside.Texts.{IsBlockText, IsTextRefusal};
 ghost use Rattle.ti_base.specs.inside.KeptSlots.{IsSoundSlot};
 
 use std::alloc::{AllocError, Global};

@@ -9,7 +9,7 @@ use Rattle.ti_slots.specs.declared.slots.Slots.{Slots}
 use Rattle.ti_slots.specs.Slots.{blocks_of, StandsAt}
 use Rattle.ti_slots.specs.Changes.{PutsIn}
 use Rattle.ti_dependents.specs.Dependents.{IsExchangeOf, AreDependentIds}
-use Rattle.ti_plan.specs.Plan.{IsReady}
+use Rattle.ti_plan.specs.Plans.{IsReady}
 
 pub stands_first : (old new : Slots) (slot : Slot) (id : ℕ) → PutsIn old new 0 slot id → StandsAt new 0 id
 stands_first old new slot id h = ap (λ xs. slice_get xs 0) h.listed

@@ -10,22 +10,22 @@ const NONE_OF_TWO: [Entry; 2] = [Absent, Absent];
 const NONE_OF_THREE: [Entry; 3] = [Absent, Absent, Absent];
 
 /// What is said of `a,cols#x,use=b,` before `b,use=a,`.
-const FAULTY_RING: &str = "1: E3 BadNumber cols\n1: E7 Circular b\n2: E7 Circular a\n";
+const CIRCULAR_AND_FAULTY: &str = "1: E3 BadNumber cols\n1: E7 Circular b\n2: E7 Circular a\n";
 
 #[rattlefmt::skip]
 const FAULTY_FIRST: [Step<'static>; 9] = [
     Step { edit: Edit::Insert { at: 0, text: b"a,cols#x,use=b,\n" }, outcome: Ok((&[0], 0)), entries: &[Absent],
         report: "1: E3 BadNumber cols\n1: E6 MissingUse b\n" },
-    Step { edit: Edit::Insert { at: 1, text: b"b,use=a,\n" }, outcome: Ok((&[0, 1], 0)), entries: &NONE_OF_TWO, report: FAULTY_RING },
+    Step { edit: Edit::Insert { at: 1, text: b"b,use=a,\n" }, outcome: Ok((&[0, 1], 0)), entries: &NONE_OF_TWO, report: CIRCULAR_AND_FAULTY },
     Step { edit: Edit::Replace { at: 1, text: b"b,cols#1,\n" }, outcome: Ok((&[0, 1], 1)), entries: &[Absent, Cols(b'b', 1)],
         report: "1: E3 BadNumber cols\n" },
-    Step { edit: Edit::Replace { at: 1, text: b"b,use=a,\n" }, outcome: Ok((&[0, 1], 0)), entries: &NONE_OF_TWO, report: FAULTY_RING },
+    Step { edit: Edit::Replace { at: 1, text: b"b,use=a,\n" }, outcome: Ok((&[0, 1], 0)), entries: &NONE_OF_TWO, report: CIRCULAR_AND_FAULTY },
     Step { edit: Edit::Remove { at: 1 }, outcome: Ok((&[0], 0)), entries: &[Absent],
         report: "1: E3 BadNumber cols\n1: E6 MissingUse b\n" },
-    Step { edit: Edit::Insert { at: 1, text: b"b,use=a,\n" }, outcome: Ok((&[0, 1], 0)), entries: &NONE_OF_TWO, report: FAULTY_RING },
+    Step { edit: Edit::Insert { at: 1, text: b"b,use=a,\n" }, outcome: Ok((&[0, 1], 0)), entries: &NONE_OF_TWO, report: CIRCULAR_AND_FAULTY },
     Step { edit: Edit::Relocate { from: 0, to: 1 }, outcome: Ok((&[0, 1], 0)), entries: &NONE_OF_TWO,
         report: "1: E7 Circular a\n2: E3 BadNumber cols\n2: E7 Circular b\n" },
-    Step { edit: Edit::Relocate { from: 0, to: 1 }, outcome: Ok((&[0, 1], 0)), entries: &NONE_OF_TWO, report: FAULTY_RING },
+    Step { edit: Edit::Relocate { from: 0, to: 1 }, outcome: Ok((&[0, 1], 0)), entries: &NONE_OF_TWO, report: CIRCULAR_AND_FAULTY },
     Step { edit: Edit::Replace { at: 0, text: b"a,cols#1,\n" }, outcome: Ok((&[0, 1], 2)),
         entries: &[Cols(b'a', 1), Cols(b'b', 1)], report: "" },
 ];
@@ -34,14 +34,14 @@ const FAULTY_FIRST: [Step<'static>; 9] = [
 const FAULTY_LAST: [Step<'static>; 4] = [
     Step { edit: Edit::Insert { at: 0, text: b"b,use=a,\n" }, outcome: Ok((&[0], 0)), entries: &[Absent], report: "1: E6 MissingUse a\n" },
     Step { edit: Edit::Insert { at: 0, text: b"a,cols#x,use=b,\n" }, outcome: Ok((&[0, 1], 0)), entries: &NONE_OF_TWO,
-        report: FAULTY_RING },
+        report: CIRCULAR_AND_FAULTY },
     Step { edit: Edit::Remove { at: 0 }, outcome: Ok((&[0], 0)), entries: &[Absent], report: "1: E6 MissingUse a\n" },
     Step { edit: Edit::Insert { at: 0, text: b"a,cols#x,use=b,\n" }, outcome: Ok((&[0, 1], 0)), entries: &NONE_OF_TWO,
-        report: FAULTY_RING },
+        report: CIRCULAR_AND_FAULTY },
 ];
 
 #[test]
-fn a_ring_with_a_faulty_block(rt: HostRuntime) -> Result<(), AllocError> {
+fn circular_uses_with_a_faulty_block(rt: HostRuntime) -> Result<(), AllocError> {
     expect_source(&rt, rt.alloc(), &FAULTY_FIRST)?;
     expect_source(&rt, rt.alloc(), &FAULTY_LAST)
 }
@@ -69,7 +69,7 @@ fn a_block_that_uses_its_own_name(rt: HostRuntime) -> Result<(), AllocError> {
 }
 
 /// What is said of `a,use=b,` before `b,use=a,` before `a,use=b,`: the last is not circular, since the first owns its name.
-const RING_AND_USER: &str =
+const CIRCULAR_AND_USER: &str =
     "1: E7 Circular b\n2: E7 Circular a\n3: W4 DuplicateName a\n3: E8 Unresolved b\n";
 
 // The same three blocks, put in one after the other in each order.
@@ -78,7 +78,7 @@ const FIRST_SECOND_THIRD: [Step<'static>; 3] = [
     Step { edit: Edit::Insert { at: 0, text: b"a,use=b,\n" }, outcome: Ok((&[0], 0)), entries: &[Absent], report: "1: E6 MissingUse b\n" },
     Step { edit: Edit::Insert { at: 1, text: b"b,use=a,\n" }, outcome: Ok((&[0, 1], 0)), entries: &NONE_OF_TWO,
         report: "1: E7 Circular b\n2: E7 Circular a\n" },
-    Step { edit: Edit::Insert { at: 2, text: b"a,use=b,\n" }, outcome: Ok((&[0, 1, 2], 0)), entries: &NONE_OF_THREE, report: RING_AND_USER },
+    Step { edit: Edit::Insert { at: 2, text: b"a,use=b,\n" }, outcome: Ok((&[0, 1, 2], 0)), entries: &NONE_OF_THREE, report: CIRCULAR_AND_USER },
 ];
 
 #[rattlefmt::skip]
@@ -86,7 +86,7 @@ const FIRST_THIRD_SECOND: [Step<'static>; 3] = [
     Step { edit: Edit::Insert { at: 0, text: b"a,use=b,\n" }, outcome: Ok((&[0], 0)), entries: &[Absent], report: "1: E6 MissingUse b\n" },
     Step { edit: Edit::Insert { at: 1, text: b"a,use=b,\n" }, outcome: Ok((&[1], 0)), entries: &NONE_OF_TWO,
         report: "1: E6 MissingUse b\n2: W4 DuplicateName a\n2: E6 MissingUse b\n" },
-    Step { edit: Edit::Insert { at: 1, text: b"b,use=a,\n" }, outcome: Ok((&[0, 1, 2], 0)), entries: &NONE_OF_THREE, report: RING_AND_USER },
+    Step { edit: Edit::Insert { at: 1, text: b"b,use=a,\n" }, outcome: Ok((&[0, 1, 2], 0)), entries: &NONE_OF_THREE, report: CIRCULAR_AND_USER },
 ];
 
 #[rattlefmt::skip]
@@ -94,7 +94,7 @@ const THIRD_FIRST_SECOND: [Step<'static>; 3] = [
     Step { edit: Edit::Insert { at: 0, text: b"a,use=b,\n" }, outcome: Ok((&[0], 0)), entries: &[Absent], report: "1: E6 MissingUse b\n" },
     Step { edit: Edit::Insert { at: 0, text: b"a,use=b,\n" }, outcome: Ok((&[0], 0)), entries: &NONE_OF_TWO,
         report: "1: E6 MissingUse b\n2: W4 DuplicateName a\n2: E6 MissingUse b\n" },
-    Step { edit: Edit::Insert { at: 1, text: b"b,use=a,\n" }, outcome: Ok((&[0, 1, 2], 0)), entries: &NONE_OF_THREE, report: RING_AND_USER },
+    Step { edit: Edit::Insert { at: 1, text: b"b,use=a,\n" }, outcome: Ok((&[0, 1, 2], 0)), entries: &NONE_OF_THREE, report: CIRCULAR_AND_USER },
 ];
 
 #[rattlefmt::skip]
@@ -102,7 +102,7 @@ const SECOND_FIRST_THIRD: [Step<'static>; 3] = [
     Step { edit: Edit::Insert { at: 0, text: b"b,use=a,\n" }, outcome: Ok((&[0], 0)), entries: &[Absent], report: "1: E6 MissingUse a\n" },
     Step { edit: Edit::Insert { at: 0, text: b"a,use=b,\n" }, outcome: Ok((&[0, 1], 0)), entries: &NONE_OF_TWO,
         report: "1: E7 Circular b\n2: E7 Circular a\n" },
-    Step { edit: Edit::Insert { at: 2, text: b"a,use=b,\n" }, outcome: Ok((&[0, 1, 2], 0)), entries: &NONE_OF_THREE, report: RING_AND_USER },
+    Step { edit: Edit::Insert { at: 2, text: b"a,use=b,\n" }, outcome: Ok((&[0, 1, 2], 0)), entries: &NONE_OF_THREE, report: CIRCULAR_AND_USER },
 ];
 
 #[rattlefmt::skip]
@@ -110,7 +110,7 @@ const SECOND_THIRD_FIRST: [Step<'static>; 3] = [
     Step { edit: Edit::Insert { at: 0, text: b"b,use=a,\n" }, outcome: Ok((&[0], 0)), entries: &[Absent], report: "1: E6 MissingUse a\n" },
     Step { edit: Edit::Insert { at: 1, text: b"a,use=b,\n" }, outcome: Ok((&[0, 1], 0)), entries: &NONE_OF_TWO,
         report: "1: E7 Circular a\n2: E7 Circular b\n" },
-    Step { edit: Edit::Insert { at: 0, text: b"a,use=b,\n" }, outcome: Ok((&[0, 1, 2], 0)), entries: &NONE_OF_THREE, report: RING_AND_USER },
+    Step { edit: Edit::Insert { at: 0, text: b"a,use=b,\n" }, outcome: Ok((&[0, 1, 2], 0)), entries: &NONE_OF_THREE, report: CIRCULAR_AND_USER },
 ];
 
 #[rattlefmt::skip]
@@ -118,7 +118,7 @@ const THIRD_SECOND_FIRST: [Step<'static>; 3] = [
     Step { edit: Edit::Insert { at: 0, text: b"a,use=b,\n" }, outcome: Ok((&[0], 0)), entries: &[Absent], report: "1: E6 MissingUse b\n" },
     Step { edit: Edit::Insert { at: 0, text: b"b,use=a,\n" }, outcome: Ok((&[0, 1], 0)), entries: &NONE_OF_TWO,
         report: "1: E7 Circular a\n2: E7 Circular b\n" },
-    Step { edit: Edit::Insert { at: 0, text: b"a,use=b,\n" }, outcome: Ok((&[0, 1, 2], 0)), entries: &NONE_OF_THREE, report: RING_AND_USER },
+    Step { edit: Edit::Insert { at: 0, text: b"a,use=b,\n" }, outcome: Ok((&[0, 1, 2], 0)), entries: &NONE_OF_THREE, report: CIRCULAR_AND_USER },
 ];
 
 /// Each block replaced by one that uses none, and put back.
@@ -126,10 +126,10 @@ const THIRD_SECOND_FIRST: [Step<'static>; 3] = [
 const BROKEN_BY_REPLACEMENTS: [Step<'static>; 4] = [
     Step { edit: Edit::Replace { at: 1, text: b"b,cols#1,\n" }, outcome: Ok((&[0, 1, 2], 3)),
         entries: &[Cols(b'a', 1), Cols(b'b', 1), Cols(b'a', 1)], report: "3: W4 DuplicateName a\n" },
-    Step { edit: Edit::Replace { at: 1, text: b"b,use=a,\n" }, outcome: Ok((&[0, 1, 2], 0)), entries: &NONE_OF_THREE, report: RING_AND_USER },
+    Step { edit: Edit::Replace { at: 1, text: b"b,use=a,\n" }, outcome: Ok((&[0, 1, 2], 0)), entries: &NONE_OF_THREE, report: CIRCULAR_AND_USER },
     Step { edit: Edit::Replace { at: 0, text: b"a,cols#1,\n" }, outcome: Ok((&[0, 1, 2], 3)),
         entries: &[Cols(b'a', 1), Cols(b'b', 1), Cols(b'a', 1)], report: "3: W4 DuplicateName a\n" },
-    Step { edit: Edit::Replace { at: 0, text: b"a,use=b,\n" }, outcome: Ok((&[0, 1, 2], 0)), entries: &NONE_OF_THREE, report: RING_AND_USER },
+    Step { edit: Edit::Replace { at: 0, text: b"a,use=b,\n" }, outcome: Ok((&[0, 1, 2], 0)), entries: &NONE_OF_THREE, report: CIRCULAR_AND_USER },
 ];
 
 /// Each block taken out, and put back.
@@ -137,13 +137,13 @@ const BROKEN_BY_REPLACEMENTS: [Step<'static>; 4] = [
 const BROKEN_BY_REMOVALS: [Step<'static>; 6] = [
     Step { edit: Edit::Remove { at: 0 }, outcome: Ok((&[0, 1], 0)), entries: &NONE_OF_TWO,
         report: "1: E7 Circular a\n2: E7 Circular b\n" },
-    Step { edit: Edit::Insert { at: 0, text: b"a,use=b,\n" }, outcome: Ok((&[0, 1, 2], 0)), entries: &NONE_OF_THREE, report: RING_AND_USER },
+    Step { edit: Edit::Insert { at: 0, text: b"a,use=b,\n" }, outcome: Ok((&[0, 1, 2], 0)), entries: &NONE_OF_THREE, report: CIRCULAR_AND_USER },
     Step { edit: Edit::Remove { at: 1 }, outcome: Ok((&[0, 1], 0)), entries: &NONE_OF_TWO,
         report: "1: E6 MissingUse b\n2: W4 DuplicateName a\n2: E6 MissingUse b\n" },
-    Step { edit: Edit::Insert { at: 1, text: b"b,use=a,\n" }, outcome: Ok((&[0, 1, 2], 0)), entries: &NONE_OF_THREE, report: RING_AND_USER },
+    Step { edit: Edit::Insert { at: 1, text: b"b,use=a,\n" }, outcome: Ok((&[0, 1, 2], 0)), entries: &NONE_OF_THREE, report: CIRCULAR_AND_USER },
     Step { edit: Edit::Remove { at: 2 }, outcome: Ok((&[0, 1], 0)), entries: &NONE_OF_TWO,
         report: "1: E7 Circular b\n2: E7 Circular a\n" },
-    Step { edit: Edit::Insert { at: 2, text: b"a,use=b,\n" }, outcome: Ok((&[0, 1, 2], 0)), entries: &NONE_OF_THREE, report: RING_AND_USER },
+    Step { edit: Edit::Insert { at: 2, text: b"a,use=b,\n" }, outcome: Ok((&[0, 1, 2], 0)), entries: &NONE_OF_THREE, report: CIRCULAR_AND_USER },
 ];
 
 /// Blocks moved, and back.
@@ -151,25 +151,25 @@ const BROKEN_BY_REMOVALS: [Step<'static>; 6] = [
 const MOVES: [Step<'static>; 4] = [
     Step { edit: Edit::Relocate { from: 0, to: 2 }, outcome: Ok((&[0, 1, 2], 0)), entries: &NONE_OF_THREE,
         report: "1: E7 Circular a\n2: E7 Circular b\n3: W4 DuplicateName a\n3: E8 Unresolved b\n" },
-    Step { edit: Edit::Relocate { from: 2, to: 0 }, outcome: Ok((&[0, 1, 2], 0)), entries: &NONE_OF_THREE, report: RING_AND_USER },
+    Step { edit: Edit::Relocate { from: 2, to: 0 }, outcome: Ok((&[0, 1, 2], 0)), entries: &NONE_OF_THREE, report: CIRCULAR_AND_USER },
     Step { edit: Edit::Relocate { from: 1, to: 2 }, outcome: Ok((&[0, 1, 2], 0)), entries: &NONE_OF_THREE,
         report: "1: E7 Circular b\n2: W4 DuplicateName a\n2: E8 Unresolved b\n3: E7 Circular a\n" },
-    Step { edit: Edit::Relocate { from: 2, to: 1 }, outcome: Ok((&[0, 1, 2], 0)), entries: &NONE_OF_THREE, report: RING_AND_USER },
+    Step { edit: Edit::Relocate { from: 2, to: 1 }, outcome: Ok((&[0, 1, 2], 0)), entries: &NONE_OF_THREE, report: CIRCULAR_AND_USER },
 ];
 
 /// The blocks put in by these steps, then the circular uses broken and made again in each way.
-fn expect_ring_and_user(
+fn expect_circular_and_user(
     rt: &impl Abort,
     alloc: Global,
     steps: &[Step<'_>],
 ) -> Result<(), AllocError> {
     let mut database = Database::new(alloc);
     expect_steps(rt, &mut database, steps)?;
-    expect_broken_rings(rt, &mut database)
+    expect_mended(rt, &mut database)
 }
 
 /// The circular uses broken and made again in each way.
-fn expect_broken_rings(rt: &impl Abort, database: &mut Database) -> Result<(), AllocError> {
+fn expect_mended(rt: &impl Abort, database: &mut Database) -> Result<(), AllocError> {
     expect_broken_by_replacements(rt, database)?;
     expect_broken_by_removals(rt, database)?;
     expect_steps(rt, database, &MOVES)
@@ -188,19 +188,19 @@ fn expect_broken_by_removals(rt: &impl Abort, database: &mut Database) -> Result
 }
 
 #[test]
-fn a_ring_and_a_user_of_it_in_order(rt: HostRuntime) -> Result<(), AllocError> {
-    expect_ring_and_user(&rt, rt.alloc(), &FIRST_SECOND_THIRD)?;
-    expect_ring_and_user(&rt, rt.alloc(), &THIRD_SECOND_FIRST)
+fn circular_uses_and_a_user_in_order(rt: HostRuntime) -> Result<(), AllocError> {
+    expect_circular_and_user(&rt, rt.alloc(), &FIRST_SECOND_THIRD)?;
+    expect_circular_and_user(&rt, rt.alloc(), &THIRD_SECOND_FIRST)
 }
 
 #[test]
-fn a_ring_and_a_user_of_it_with_the_middle_first(rt: HostRuntime) -> Result<(), AllocError> {
-    expect_ring_and_user(&rt, rt.alloc(), &SECOND_FIRST_THIRD)?;
-    expect_ring_and_user(&rt, rt.alloc(), &SECOND_THIRD_FIRST)
+fn circular_uses_and_a_user_with_the_middle_first(rt: HostRuntime) -> Result<(), AllocError> {
+    expect_circular_and_user(&rt, rt.alloc(), &SECOND_FIRST_THIRD)?;
+    expect_circular_and_user(&rt, rt.alloc(), &SECOND_THIRD_FIRST)
 }
 
 #[test]
-fn a_ring_and_a_user_of_it_with_the_middle_last(rt: HostRuntime) -> Result<(), AllocError> {
-    expect_ring_and_user(&rt, rt.alloc(), &FIRST_THIRD_SECOND)?;
-    expect_ring_and_user(&rt, rt.alloc(), &THIRD_FIRST_SECOND)
+fn circular_uses_and_a_user_with_the_middle_last(rt: HostRuntime) -> Result<(), AllocError> {
+    expect_circular_and_user(&rt, rt.alloc(), &FIRST_THIRD_SECOND)?;
+    expect_circular_and_user(&rt, rt.alloc(), &THIRD_FIRST_SECOND)
 }

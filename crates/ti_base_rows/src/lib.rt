@@ -11,6 +11,7 @@
 //! - `runs`: a run of edits
 //! - `loading`: sources taken in one go
 //! - `plans`: the plans of small lists
+//! - `random`: edits made at random beside a database made afresh
 #![tactic(auto)]
 
 #[cfg(test)]
@@ -25,6 +26,8 @@ mod loading;
 mod owners;
 #[cfg(test)]
 mod plans;
+#[cfg(test)]
+mod random;
 #[cfg(test)]
 mod reports;
 #[cfg(test)]

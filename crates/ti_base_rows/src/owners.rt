@@ -48,7 +48,9 @@ const LATER_OWNERS: [Step<'static>; 5] = [
 ];
 
 #[test]
-fn owners_may_come_later_and_rings_may_come_and_go(rt: HostRuntime) -> Result<(), AllocError> {
+fn owners_may_come_later_and_circular_uses_may_come_and_go(
+    rt: HostRuntime,
+) -> Result<(), AllocError> {
     expect_source(&rt, rt.alloc(), &LATER_OWNERS)
 }
 

@@ -220,7 +220,7 @@ fn a_chain(rt: HostRuntime) -> Result<(), Fail> {
 
 /// The list is `a`, `b`. A broken block with a missing name is circular all the same.
 #[rattlefmt::skip]
-const PLAN_OF_RING: Wanted<'static> = Wanted {
+const PLAN_OF_CIRCULAR: Wanted<'static> = Wanted {
     rebuilt: &[0, 1],
     work: 0,
     found: &[
@@ -239,7 +239,7 @@ fn circular(rt: HostRuntime) -> Result<(), Fail> {
         alloc,
         &mut slots,
         b"a,cols#x,use=zz,use=b,\n",
-        &PLAN_OF_RING,
+        &PLAN_OF_CIRCULAR,
     )
 }
 

@@ -80,7 +80,7 @@ pub fn replace_root(database: &mut Database) -> Result<(), EditError> {
 }
 
 /// Makes a chain of so many blocks circular: its first then uses its last.
-pub fn close_ring(alloc: Global, database: &mut Database, count: u32) -> Result<(), EditError> {
+pub fn close_chain(alloc: Global, database: &mut Database, count: u32) -> Result<(), EditError> {
     let text = block(alloc, 0, "use=b", count.saturating_sub(1))?;
     database.replace(0, &text)?;
     Ok(())

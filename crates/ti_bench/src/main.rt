@@ -9,7 +9,7 @@
 mod edits;
 mod writing;
 
-use edits::{close_ring, fill, fill_chain, move_middle, replace_many, replace_root};
+use edits::{close_chain, fill, fill_chain, move_middle, replace_many, replace_root};
 use std::rt::{Clock, Env};
 use std::time::Instant;
 use std::{env, io};
@@ -142,7 +142,7 @@ fn time_circular<R: Clock + Print + AllocGlobal>(rt: &R, count: u32) -> io::Resu
         return println!(rt; "circular: {error}");
     }
     let start = Instant::now(rt)?;
-    let done = close_ring(rt.alloc(), &mut database, count);
+    let done = close_chain(rt.alloc(), &mut database, count);
     let report = database.report(1);
     print_edits(rt, "make a chain circular and report", start, 1, done)?;
     match report {

@@ -9,7 +9,7 @@ ghost use Rattle.ti_commands.specs.Matches.{matched_rows};
 use crate::commands::{command, tool_named};
 use crate::infocmp_words::infocmp_job;
 use crate::jobs::Job;
-use crate::matches::{on, text, texts, value, values};
+use crate::matches::{is_on, text, texts, value, values};
 use clap::ArgMatches;
 use clap::error::ErrorKind;
 use std::alloc::{AllocError, Global};
@@ -51,7 +51,7 @@ fn refusal(kind: ErrorKind) -> UsageError
 fn tic_job(alloc: Global, matches: &ArgMatches<'_>) -> Result<Job, AllocError>
     ensures { IfOk result (λ job. task_of job ≡ tic_task (matched_rows matches.now)) }
 {
-    let check = on(matches, "check");
+    let check = is_on(matches, "check");
     let dir = text(alloc, matches, "dir")?;
     let file = text(alloc, matches, "file")?;
     Ok(Job::Tic { check, dir, file })
@@ -85,7 +85,7 @@ fn tput_of(alloc: Global, matches: &ArgMatches<'_>, words: &[&str]) -> Result<Jo
     ensures refused { IfErr result (λ error. (error ≡ UsageError.Memory)
         ⊎ ((error ≡ UsageError.Usage) × (tput_with (matched_rows matches.now) (map (λ word. word.now) words.now) ≡ None))) }
 {
-    let lines = on(matches, "lines");
+    let lines = is_on(matches, "lines");
     let Some(rate) = rate(matches) else {
         return Err(UsageError::Usage);
     };

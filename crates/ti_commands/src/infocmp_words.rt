@@ -9,7 +9,7 @@ ghost use Rattle.ti_commands.specs.Matches.{matched_rows};
 use crate::arguments::UsageError;
 use crate::commands::Tool;
 use crate::jobs::{InfocmpMode, Job};
-use crate::matches::{on, text, texts, value, values};
+use crate::matches::{is_on, text, texts, value, values};
 use crate::rules::{Argument, Form};
 use clap::ArgMatches;
 use std::alloc::{AllocError, Global};
@@ -110,7 +110,7 @@ pub(crate) enum Choice {
 
 impl Choice {
     // The choice once one more option is looked at.
-    fn with(self, on: bool, mode: InfocmpMode) -> Choice
+    fn choose_if(self, on: bool, mode: InfocmpMode) -> Choice
         ensures { result ≡ choice_with self on mode }
     {
         if !on {
@@ -128,11 +128,11 @@ fn choice_of(matches: &ArgMatches<'_>) -> Choice
     ensures { result ≡ choice_in (matched_rows matches.now) }
 {
     Choice::Nothing
-        .with(on(matches, "list"), InfocmpMode::List)
-        .with(on(matches, "differ"), InfocmpMode::Differ)
-        .with(on(matches, "common"), InfocmpMode::Common)
-        .with(on(matches, "neither"), InfocmpMode::Neither)
-        .with(on(matches, "relative"), InfocmpMode::Relative)
+        .choose_if(is_on(matches, "list"), InfocmpMode::List)
+        .choose_if(is_on(matches, "differ"), InfocmpMode::Differ)
+        .choose_if(is_on(matches, "common"), InfocmpMode::Common)
+        .choose_if(is_on(matches, "neither"), InfocmpMode::Neither)
+        .choose_if(is_on(matches, "relative"), InfocmpMode::Relative)
 }
 
 // Whether a mode can have so many names.
@@ -207,7 +207,7 @@ fn infocmp_of(alloc: Global, matches: &ArgMatches<'_>, names: &[&str]) -> Result
     let other_dir = text(alloc, matches, "other")?;
     let layout = Layout {
         width,
-        one_per_line: on(matches, "one"),
+        one_per_line: is_on(matches, "one"),
         order,
     };
     Ok(Job::Infocmp {

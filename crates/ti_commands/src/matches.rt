@@ -27,7 +27,7 @@ pub fn text(alloc: Global, matches: &ArgMatches<'_>, id: &str) -> Result<Option<
 }
 
 /// Whether an option that is on or off is on.
-pub fn on(matches: &ArgMatches<'_>, id: &str) -> bool
+pub fn is_on(matches: &ArgMatches<'_>, id: &str) -> bool
     ensures { result ≡ is_on id.now (matched_rows matches.now) }
 {
     match value(matches, id) {

@@ -71,7 +71,7 @@ fn chain(alloc: Global, nodes: usize, first: Option<usize>) -> Result<Graph, All
 }
 
 #[test]
-fn long_chain_and_ring(rt: HostRuntime) -> Result<(), Fail> {
+fn long_chain_and_cycle(rt: HostRuntime) -> Result<(), Fail> {
     let graph = chain(rt.alloc(), 65_535, None)?;
     let components = components_of(rt.alloc(), &graph)?.ok_or("not whole")?;
     assert_eq!(rt; components.component_of.last().copied(), Some(65_534));

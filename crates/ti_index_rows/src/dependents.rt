@@ -110,7 +110,7 @@ fn users_and_their_users(rt: HostRuntime) -> Result<(), Fail> {
 }
 
 #[test]
-fn a_ring(rt: HostRuntime) -> Result<(), Fail> {
+fn circular_uses(rt: HostRuntime) -> Result<(), Fail> {
     let alloc = rt.alloc();
     let mut slots = Slots::new(alloc);
     put(&mut slots, alloc, &[b"z"], &[])?;

@@ -1,6 +1,7 @@
 // An item as it is written in terminfo source, without the comma that ends it.
 ghost use Rattle.std.specs.Prelude.{◌≡◌, ◌+◌, ◌<◌, ◌≤◌, ◌++◌, ◌∷◌, vec_len, vec_capacity};
 ghost use Rattle.std.specs.Fmt.{decimal};
+ghost use Rattle.ti_text.specs.Ascii as ascii;
 ghost use Rattle.ti_list.specs.inside.Contents.{content_of, said_for, IsShort};
 ghost use Rattle.ti_list.specs.Items.{item_text};
 ghost use Rattle.ti_list.specs.inside.Room.{item_room};
@@ -47,7 +48,7 @@ pub fn write_item(out: &mut Vec<u8>, cap: Cap, content: Content<'_>)
 // Appends a number, behind its sign.
 fn write_number(out: &mut Vec<u8>, number: u32)
     requires { vec_len out.old + 11 ≤ vec_capacity out.old }
-    ensures items { out.new.items ≡ out.old.items ++ 35 ∷ decimal number }
+    ensures items { out.new.items ≡ out.old.items ++ ascii.number_sign ∷ decimal number }
     ensures len { vec_len out.new ≤ vec_len out.old + 11 }
     ensures capacity { vec_capacity out.old ≤ vec_capacity out.new }
 {

@@ -10,7 +10,7 @@ use Rattle.ti_slots.specs.Slots.{blocks_of, reading_at, StandsAt, IsIndexed}
 use Rattle.ti_dependents.specs.declared.dependents.Dependents.{Dependents}
 use Rattle.ti_dependents.specs.Dependents.{AreAllIds, IsGraphOfUses}
 use Rattle.ti_plan.specs.declared.plans.Plan.{Plan}
-use Rattle.ti_plan.specs.Plan.{IsPlanOfAll}
+use Rattle.ti_plan.specs.Plans.{IsPlanOfAll}
 use Rattle.ti_plan.specs.inside.Settling.{AreFoundIn, IsPlanOf}
 use Rattle.ti_plan.proofs.Places.{block_of, block_at}
 use Rattle.ti_plan.proofs.MadePlans.{contains_at, at_contains}

@@ -1,4 +1,4 @@
--- What laying the items of a block makes of its table, and what its table makes of the block.
+-- What the items of a block make of its table, one by one, and what its table makes of the block.
 use Rattle.std.proofs.Common.{◌≡◌, ℕ, suc, ◌<◌, ◌≤◌, true, false, List, length, nat_lt, Option, Some, slice_get, refl, sym, ◌∙◌, ap, subst}
 use Rattle.std.specs.Option.{option_or}
 use Rattle.std.proofs.lemmas.Bool.{lt-ltb, le-ltb}

@@ -15,7 +15,7 @@ use Rattle.ti_index.specs.Labels.{IsDistinct}
 use Rattle.ti_components.specs.Graph.{IsGraph}
 use Rattle.ti_meaning.specs.Usable.{IsUsable}
 use Rattle.ti_dependents.specs.Dependents.{AreDependentIds, IsGraphOfUses}
-use Rattle.ti_plan.specs.Plan.{IsPlan, IsReady}
+use Rattle.ti_plan.specs.Plans.{IsPlan, IsReady}
 use Rattle.ti_dependents.specs.declared.dependents.Dependents.{Dependents}
 use Rattle.ti_plan.specs.declared.plans.Plan.{Plan}
 use Rattle.ti_plan.specs.inside.Settling.{AreFoundIn, AreAllSettled, IsPlanOf, place_of}

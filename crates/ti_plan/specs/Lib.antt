@@ -1,2 +1,2 @@
-pub mod Plan
+pub mod Plans
 pub mod inside

@@ -8,7 +8,7 @@ ghost use Rattle.ti_meaning.specs.KeptBlocks.{is_no_duplicate};
 ghost use Rattle.ti_meaning.specs.Reaching.{used_name};
 ghost use Rattle.ti_meaning.specs.UseLaws.{HasUseAtFault};
 ghost use Rattle.ti_slots.specs.Settled.{fault_at, state_seen};
-ghost use Rattle.ti_plan.specs.inside.Settling.{AreUsesSound, IsReady, IsItemAt, IsUseAt, is_at_fault, blocks_known};
+ghost use Rattle.ti_plan.specs.inside.Settling.{AreUsesSound, CanSettle, IsItemAt, IsUseAt, is_at_fault, blocks_known};
 
 use crate::owners::{Known, used_table};
 use std::alloc::AllocError;
@@ -89,7 +89,7 @@ fn add_use_fault(
     faults: &mut Vec<KeptFault>,
 ) -> Result<bool, AllocError>
     ghost at: { ℕ }
-    requires ready { IsReady known.now node at }
+    requires ready { CanSettle known.now node at }
     requires used { IsUseAt (blocks_known known.now) at index (rc_slice_items name.now) }
     ensures added { OnOk result (map (fault_at at) faults.new.items ≡ map (fault_at at) faults.old.items
         ++ fault_of_use at line (rc_slice_items name.now) (use_fault (blocks_known known.now) at (rc_slice_items name.now))) }
@@ -116,7 +116,7 @@ fn add_item_fault(
     faults: &mut Vec<KeptFault>,
 ) -> Result<bool, AllocError>
     ghost at: { ℕ }
-    requires ready { IsReady known.now node at }
+    requires ready { CanSettle known.now node at }
     requires item { IsItemAt (blocks_known known.now) at index (said_of item.now.what) }
     ensures added { OnOk result (map (fault_at at) faults.new.items ≡ map (fault_at at) faults.old.items
         ++ fault_of_item (blocks_known known.now) at item.now.line (used_name (said_of item.now.what))) }
@@ -137,7 +137,7 @@ pub(crate) fn add_item_faults(
     faults: &mut Vec<KeptFault>,
 ) -> Result<bool, AllocError>
     ghost at: { ℕ }
-    requires ready { IsReady known.now node at }
+    requires ready { CanSettle known.now node at }
     requires block { slice_get (blocks_known known.now) at ≡ Some (reading_of block.now) }
     ensures added { OnOk result (map (fault_at at) faults.new.items ≡ map (fault_at at) faults.old.items
         ++ filter is_no_duplicate (item_faults (blocks_known known.now) at (filter (is_kept false) (reading_of block.now).faults) (reading_of block.now).items)) }

@@ -5,7 +5,7 @@
 //! - `plans`: the plan of an edit
 //! - `planning`: how it is made
 //! - `faults`: the faults of a block
-//! - `laying`: the values of a block, laid item by item
+//! - `tables`: the values of a block, item by item, and its entry
 //! - `settling`: what is found out about one block
 //! - `owners`: what becomes of the owners of used names
 #![tactic(auto)]

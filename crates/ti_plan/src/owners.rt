@@ -2,7 +2,7 @@
 ghost use Rattle.std.specs.Prelude.{ℕ, ◌≡◌, Some, None, IfOk, IfErr};
 ghost use Rattle.ti_layout.specs.Values.{contents};
 ghost use Rattle.ti_meaning.specs.Faults.{use_fault};
-ghost use Rattle.ti_plan.specs.inside.Settling.{IsReady, IsOwnerState, IsUseAt, IsUsedTable, blocks_known};
+ghost use Rattle.ti_plan.specs.inside.Settling.{CanSettle, IsOwnerState, IsUseAt, IsUsedTable, blocks_known};
 
 use ti_compiled::Table;
 use ti_dependents::Dependents;
@@ -28,7 +28,7 @@ fn owner_state<'a>(
     name: &[u8],
 ) -> Result<&'a State, Code>
     ghost at: { ℕ }
-    requires ready { IsReady known.now node at }
+    requires ready { CanSettle known.now node at }
     requires used { IsUseAt (blocks_known known.now) at index name.now }
     ensures fault { IfErr result (λ code. Some code ≡ use_fault (blocks_known known.now) at name.now) }
     ensures owner { IfOk result (λ state. IsOwnerState (blocks_known known.now) at name.now state.now) }
@@ -59,7 +59,7 @@ pub(crate) fn used_table<'a>(
     name: &[u8],
 ) -> Result<&'a Table, Code>
     ghost at: { ℕ }
-    requires ready { IsReady known.now node at }
+    requires ready { CanSettle known.now node at }
     requires used { IsUseAt (blocks_known known.now) at index name.now }
     ensures fault { IfErr result (λ code. Some code ≡ use_fault (blocks_known known.now) at name.now) }
     ensures none { IfOk result (λ table. use_fault (blocks_known known.now) at name.now ≡ None) }

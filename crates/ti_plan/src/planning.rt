@@ -7,7 +7,7 @@ ghost use Rattle.ti_meaning.specs.Dependents.{work};
 ghost use Rattle.std.specs.Rc.{rc_slice_items};
 ghost use Rattle.ti_meaning.specs.Usable.{IsUsable};
 ghost use Rattle.ti_slots.specs.Slots.{blocks_of, IsIndexed, StandsAt};
-ghost use Rattle.ti_plan.specs.Plan.{IsPlan, IsPlanOfAll, IsReady};
+ghost use Rattle.ti_plan.specs.Plans.{IsPlan, IsPlanOfAll, IsReady};
 ghost use Rattle.ti_plan.specs.inside.Settling.{AreAllSettled, AreFoundIn, IsPlanOf, place_of};
 
 use crate::owners::Known;

@@ -10,7 +10,7 @@ ghost use Rattle.ti_meaning.specs.Dependents.{work_of};
 ghost use Rattle.ti_meaning.specs.UseLaws.{HasUseAtFault};
 ghost use Rattle.ti_meaning.specs.ValueTables.{HasTable};
 ghost use Rattle.ti_slots.specs.Settled.{IsSettled, state_seen, table_of};
-ghost use Rattle.ti_plan.specs.inside.Settling.{AreUsesSound, IsReady, blocks_known};
+ghost use Rattle.ti_plan.specs.inside.Settling.{AreUsesSound, CanSettle, blocks_known};
 
 use crate::faults::{add_entry_fault, add_item_faults, add_locals};
 use crate::owners::Known;
@@ -34,7 +34,7 @@ fn has_error(faults: &[Local]) -> bool
 /// The slot of the block at a node, in which what was found out before is still there.
 fn slot_of<'a>(known: &Known<'a>, node: usize) -> &'a Slot
     ghost at: { ℕ }
-    requires { IsReady known.now node at }
+    requires { CanSettle known.now node at }
     ensures { slice_get (blocks_known known.now) at ≡ Some (reading_of result.now.block) }
 {
     known.slots.slot(known.dependents.ids[node])
@@ -50,7 +50,7 @@ fn find_state(
     work: &mut u64,
 ) -> Result<State, AllocError>
     ghost at: { ℕ }
-    requires ready { IsReady known.now node at }
+    requires ready { CanSettle known.now node at }
     requires block { slice_get (blocks_known known.now) at ≡ Some (reading_of slot.now.block) }
     requires uses { MatchBool is_wrong (HasUseAtFault (blocks_known known.now) at (reading_of slot.now.block))
         (AreUsesSound (blocks_known known.now) at) }
@@ -74,7 +74,7 @@ pub(crate) fn settle(
     work: &mut u64,
 ) -> Result<Settled, AllocError>
     ghost at: { ℕ }
-    requires ready { IsReady known.now node at }
+    requires ready { CanSettle known.now node at }
     requires room { (block : Reading) → slice_get (blocks_known known.now) at ≡ Some block → work.old + length block.items < 2 ^ 64 }
     ensures settled { IfOk result (λ settled. (block : Reading) → slice_get (blocks_known known.now) at ≡ Some block
         → IsSettled (blocks_known known.now) at block settled) }

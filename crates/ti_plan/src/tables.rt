@@ -1,4 +1,4 @@
-// The values of a block and its entry: items are laid into a table, the leftmost mention of a capability first, and the
+// The values of a block and its entry: items are added to a table, the leftmost mention of a capability first, and the
 // entry that the block had before is patched to have these values.
 ghost use Rattle.std.specs.Prelude.{ℕ, ◌≡◌, ◌+◌, ◌<◌, ◌^◌, ◌↔◌, if◌then◌else◌, length, false, List, Some, None, slice_get, IfOk, IsErrOf, OnOk};
 ghost use Rattle.std.specs.Option.{option_or};
@@ -15,7 +15,7 @@ ghost use Rattle.ti_meaning.specs.Usable.{IsUsable, SetsWell};
 ghost use Rattle.ti_meaning.specs.ValueTables.{HasTable, IsTableOfMentions};
 ghost use Rattle.ti_meaning.specs.inside.ValueTables.{AddsSaid, IsTableOf};
 ghost use Rattle.ti_slots.specs.Settled.{state_seen, table_of};
-ghost use Rattle.ti_plan.specs.inside.Settling.{AreUsesSound, IsReady, IsItemAt, blocks_known};
+ghost use Rattle.ti_plan.specs.inside.Settling.{AreUsesSound, CanSettle, IsItemAt, blocks_known};
 
 use crate::owners::{Known, used_table};
 use std::alloc::{AllocError, Global};
@@ -24,7 +24,7 @@ use ti_compiled::{Image, Mentions, Table, Value, WriteError};
 use ti_slots::{Entry, Slot, State};
 use ti_source::{Parsed, What};
 
-/// Lays a value behind the mentions: a value or a cancel of the capability that is there stays.
+/// Adds a value behind the mentions: a value or a cancel of the capability that is there stays.
 fn add_value(
     mentions: &mut Mentions,
     cap: Cap,
@@ -33,7 +33,7 @@ fn add_value(
 ) -> Result<(), AllocError>
     requires agrees { Agrees cap (content_of value) }
     requires room { work.old + 1 < 2 ^ 64 }
-    ensures laid { OnOk result ((c : Capability) → IsCapability c → contents mentions.new c
+    ensures added { OnOk result ((c : Capability) → IsCapability c → contents mentions.new c
         ≡ option_or (contents mentions.old c) (if same_capability cap c then Some (content_of value) else None)) }
     ensures work { OnOk result (work.new ≡ work.old + 1) }
 {
@@ -41,7 +41,7 @@ fn add_value(
     mentions.push(cap, value)
 }
 
-/// Lays all values of a table behind the mentions.
+/// Adds all values of a table behind the mentions.
 fn merge(mentions: &mut Mentions, used: &Table, work: &mut u64) -> Result<(), AllocError>
     requires { work.old + 1 < 2 ^ 64 }
     ensures merged { OnOk result ((c : Capability) → IsCapability c → contents mentions.new c
@@ -52,7 +52,7 @@ fn merge(mentions: &mut Mentions, used: &Table, work: &mut u64) -> Result<(), Al
     mentions.merge(used)
 }
 
-/// Lays what an item of the block at a node stands for.
+/// Adds what an item of the block at a node stands for.
 fn add_item(
     known: &Known,
     node: usize,
@@ -62,12 +62,12 @@ fn add_item(
     work: &mut u64,
 ) -> Result<(), AllocError>
     ghost at: { ℕ }
-    requires ready { IsReady known.now node at }
+    requires ready { CanSettle known.now node at }
     requires item { IsItemAt (blocks_known known.now) at index (said_of what.now) }
     requires sets { SetsWell (said_of what.now) }
     requires sound { AreUsesSound (blocks_known known.now) at }
     requires room { work.old + 1 < 2 ^ 64 }
-    ensures laid { OnOk result (AddsSaid (blocks_known known.now) (said_of what.now) (contents mentions.old) (contents mentions.new)) }
+    ensures added { OnOk result (AddsSaid (blocks_known known.now) (said_of what.now) (contents mentions.old) (contents mentions.new)) }
     ensures work { OnOk result (work.new ≡ work.old + 1) }
 {
     match what {
@@ -94,7 +94,7 @@ fn make_table(
     work: &mut u64,
 ) -> Result<Table, AllocError>
     ghost at: { ℕ }
-    requires ready { IsReady known.now node at }
+    requires ready { CanSettle known.now node at }
     requires block { slice_get (blocks_known known.now) at ≡ Some (reading_of block.now) }
     requires whole { is_broken (reading_of block.now) ≡ false }
     requires sound { AreUsesSound (blocks_known known.now) at }
@@ -153,7 +153,7 @@ pub(crate) fn compile(
     work: &mut u64,
 ) -> Result<State, AllocError>
     ghost at: { ℕ }
-    requires ready { IsReady known.now node at }
+    requires ready { CanSettle known.now node at }
     requires block { slice_get (blocks_known known.now) at ≡ Some (reading_of slot.now.block) }
     requires whole { is_broken (reading_of slot.now.block) ≡ false }
     requires sound { AreUsesSound (blocks_known known.now) at }

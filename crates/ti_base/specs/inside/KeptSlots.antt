@@ -12,7 +12,7 @@ use Rattle.ti_slots.specs.declared.slots.Settled.{Settled}
 use Rattle.ti_slots.specs.declared.slots.Slots.{Slots}
 use Rattle.ti_slots.specs.Slots.{IsIndexed, StandsAt, empty_reading, slot_at}
 use Rattle.ti_slots.specs.Settled.{IsSettled}
-use Rattle.ti_base.specs.inside.Kept.{IsBlockText}
+use Rattle.ti_base.specs.inside.Texts.{IsBlockText}
 
 -- the slots of a list of blocks, in its order
 abbrev pub slots_of : Slots → List (Option Slot)

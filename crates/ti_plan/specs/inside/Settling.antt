@@ -24,7 +24,7 @@ use Rattle.ti_dependents.specs.declared.dependents.Dependents.{Dependents}
 use Rattle.ti_dependents.specs.Dependents.{IsGraphOfUses}
 use Rattle.ti_plan.specs.declared.owners.Known.{Known}
 use Rattle.ti_plan.specs.declared.plans.Plan.{Plan}
-use Rattle.ti_plan.specs.Plan.{HoldsSettled}
+use Rattle.ti_plan.specs.Plans.{HoldsSettled}
 
 -- blocks of a list with all that use them, and their uses of each other; what the slots hold of all other blocks is right
 pub record AreFoundIn (slots : Slots) (dependents : Dependents) : Type 0 where
@@ -83,8 +83,8 @@ pub record CanBeSettled (slots : Slots) (dependents : Dependents) (component_of 
   pub owners : HasSettledOwners dependents.uses component_of settled node
 
 -- all that is read to settle it is known
-abbrev pub IsReady : Known → ℕ → ℕ → Type 0
-IsReady known node at = CanBeSettled known.slots.now known.dependents.now known.component_of.now known.settled.now node at
+abbrev pub CanSettle : Known → ℕ → ℕ → Type 0
+CanSettle known node at = CanBeSettled known.slots.now known.dependents.now known.component_of.now known.settled.now node at
 
 -- the blocks of the list
 abbrev pub blocks_known : Known → List Reading

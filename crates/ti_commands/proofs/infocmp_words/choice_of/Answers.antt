@@ -4,4 +4,4 @@ use Rattle.ti_commands.proofs.infocmp_words.choice_of.Goals as goal
 
 pub returns : goal.returns
 returns c =
-    rw (c.with-5.ensures, c.on-5.ensures, c.with-4.ensures, c.on-4.ensures, c.with-3.ensures, c.on-3.ensures, c.with-2.ensures, c.on-2.ensures, c.with.ensures, c.on.ensures) refl
+    rw (c.choose_if-5.ensures, c.is_on-5.ensures, c.choose_if-4.ensures, c.is_on-4.ensures, c.choose_if-3.ensures, c.is_on-3.ensures, c.choose_if-2.ensures, c.is_on-2.ensures, c.choose_if.ensures, c.is_on.ensures) refl

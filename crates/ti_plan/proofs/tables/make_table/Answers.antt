@@ -42,15 +42,15 @@ loop-index-preserved g c =
     let steps = c.loop-index.invariant.steps in
     let more = c.in_ok-add_item.ensures.work in
     record {
-      laid = rw (map-take_item item_of items c.loop-index.index c.item-item.result within here)
+      added = rw (map-take_item item_of items c.loop-index.index c.item-item.result within here)
           (table_of_one_more (blocks_of c.args.known.now.slots.now) (map item_of (take c.loop-index.index items)) (item_of c.item-item.result) (contents c.loop-index.mentions) (contents c.add_item.new.mentions)
-          c.loop-index.invariant.laid c.in_ok-add_item.ensures.laid);
+          c.loop-index.invariant.added c.in_ok-add_item.ensures.added);
       steps = omega arith;
     }
 
 pub returns-clause-table : goal.returns-clause-table
 returns-clause-table g c =
     let past : length c.args.block.now.items.items ≤ c.loop-index.index = rw c.deref-item-items.ensures.value at c.loop-index-test.false in
-    let items = rw (take_all c.loop-index.index c.args.block.now.items.items past) at c.loop-index.invariant.laid in
+    let items = rw (take_all c.loop-index.index c.args.block.now.items.items past) at c.loop-index.invariant.added in
     same_table (blocks_of c.args.known.now.slots.now) (reading_of c.args.block.now) (contents c.loop-index.mentions) _ c.in_ok-into_table.ensures
     (table_of_block (blocks_of c.args.known.now.slots.now) (reading_of c.args.block.now) (contents c.loop-index.mentions) c.requires.1.1.0 items)
