@@ -3,10 +3,8 @@ use std::alloc::Global;
 use std::fs;
 use std::io::{self, ErrorKind, Read};
 use std::rt::Files;
+use ti_devices::line_reader::READS_MAX;
 use ti_tools::ToolError;
-
-/// How often a file is read from before it is given up.
-const READS_MAX: u64 = 4_294_967_296;
 
 /// How many bytes of a source are asked for at a time.
 const PIECE: usize = 16_384;

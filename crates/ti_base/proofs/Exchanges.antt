@@ -9,7 +9,7 @@ use Rattle.ti_source.specs.Parsing.{reading_of_text}
 use Rattle.ti_meaning.specs.Owner.{is_among, readings}
 use Rattle.ti_meaning.specs.Edits.{Change, IsInPlace, list_after, insertion, replacement, removal, relocation, with_item_moved}
 use Rattle.ti_meaning.specs.Exchange.{position_behind, Exchange, IsExchange, exchange_of, block_from}
-use Rattle.ti_meaning.specs.Dependents.{AreDependents, IsDependent, Rebuilds, names_of, work}
+use Rattle.ti_meaning.specs.Dependents.{AreDependents, IsDependent, Rebuilds, lookup_names_of, work}
 use Rattle.ti_meaning.proofs.EditedLists.{map-insert, map-remove, insert-remove, remove-insert}
 use Rattle.ti_meaning.proofs.Exchanging.{list_any-append}
 use Rattle.ti_meaning.proofs.ExchangeLaws.{exchanged}
@@ -18,21 +18,21 @@ use Rattle.ti_index.specs.Labels.{IsDistinct}
 use Rattle.ti_slots.specs.declared.slots.Settled.{Settled}
 use Rattle.ti_slots.specs.declared.slots.Slot.{Slot}
 use Rattle.ti_slots.specs.declared.slots.Slots.{Slots}
-use Rattle.ti_slots.specs.Slots.{IsIndexed, StandsAt, slot_at, blocks_of, texts_of}
+use Rattle.ti_slots.specs.Slots.{IsIndexed, StandsAt, slot_at, blocks_of, slot_texts}
 use Rattle.ti_slots.specs.Changes.{HasRoomFor, PutsIn, TakesOut, ShowsSame, ChangesAreUndone}
 use Rattle.ti_slots.specs.Settled.{IsSettled}
 use Rattle.ti_dependents.specs.Dependents.{IsExchangeOf}
 use Rattle.ti_plan.specs.Plans.{OthersAreSettled, IsReady}
-use Rattle.ti_base.specs.inside.KeptSlots.{AreKept, AreSettled, AreSound, IsSoundSlot, PlacedSlot, slots_of, reading_seen, text_seen, with_slot, block_seen, exchange_with, HasId, with_settled}
+use Rattle.ti_base.specs.inside.KeptSlots.{AreKept, SlotsAreSettled, SlotsAreSound, IsSoundSlot, PlacedSlot, slots_of, reading_seen, text_seen, with_slot, block_seen, exchange_with, HasId, with_settled}
 use Rattle.ti_base.proofs.SlotLists.{blocks_seen, texts_seen, length_slots, length_texts, slot_there, blocks_read, readings_with}
 use Rattle.ti_base.proofs.Untouched.{others_settled, settled_in}
 
 -- ---- sound slots
 
-sound_rest : (rest : List (Option Slot)) (at : ℕ) (x : Option Slot) → at ≤ length rest → AreSound (insert rest at x) → AreSound rest
+sound_rest : (rest : List (Option Slot)) (at : ℕ) (x : Option Slot) → at ≤ length rest → SlotsAreSound (insert rest at x) → SlotsAreSound rest
 sound_rest rest at x l h k slot e = h (position_behind at k) slot (get-insert rest at x k l ∙ e)
 
-pub sound_with : (rest : List (Option Slot)) (at : ℕ) (new : Slot) → at ≤ length rest → IsSoundSlot new → AreSound rest → AreSound (insert rest at (Some new))
+pub sound_with : (rest : List (Option Slot)) (at : ℕ) (new : Slot) → at ≤ length rest → IsSoundSlot new → SlotsAreSound rest → SlotsAreSound (insert rest at (Some new))
 sound_with rest at new l s h k slot e =
     elim (split-insert at k) [
       | inl here ↦ subst IsSoundSlot (same_Some new slot (same_Some (Some new) (Some slot) (sym (get-insert_at rest at (Some new) l) ∙ (ap (slice_get (insert rest at (Some new))) here ∙ e)))) s
@@ -47,16 +47,16 @@ sound_settled slot settled h = record { text = h.text; read = h.read; usable = h
 
 -- what an edit makes of the slots: those that stay, the one taken out and the one put in
 pub record IsEdit (old new : Slots) (change : Change) (rest : List (Option Slot)) (out put : Option PlacedSlot) : Type 0 where
-  pub in_place : IsInPlace (texts_of old) change
-  pub exchange : exchange_of (texts_of old) change ≡ exchange_with rest out put
+  pub in_place : IsInPlace (slot_texts old) change
+  pub exchange : exchange_of (slot_texts old) change ≡ exchange_with rest out put
   pub was : slots_of old ≡ with_slot rest out
   pub is : slots_of new ≡ with_slot rest put
-  pub texts : texts_of new ≡ list_after (texts_of old) change
+  pub texts : slot_texts new ≡ list_after (slot_texts old) change
 
 pub edit_fits : (old new : Slots) (change : Change) (rest : List (Option Slot)) (out put : Option PlacedSlot) → IsEdit old new change rest out put → IsExchange (exchange_with rest out put)
-edit_fits old new change rest out put h = subst IsExchange h.exchange (exchanged (texts_of old) change h.in_place).fits
+edit_fits old new change rest out put h = subst IsExchange h.exchange (exchanged (slot_texts old) change h.in_place).fits
 
-pub is_exchange : (old new : Slots) (change : Change) (rest : List (Option Slot)) (out put : Option PlacedSlot) (id : Option ℕ) (names : List (List ℕ)) → names_of (option_map block_seen out) ≡ names → IsEdit old new change rest out put → HasId new put id → IsExchangeOf new id names (exchange_with rest out put)
+pub is_exchange : (old new : Slots) (change : Change) (rest : List (Option Slot)) (out put : Option PlacedSlot) (id : Option ℕ) (names : List (List ℕ)) → lookup_names_of (option_map block_seen out) ≡ names → IsEdit old new change rest out put → HasId new put id → IsExchangeOf new id names (exchange_with rest out put)
 is_exchange old new change rest out put id names same h has = record {
   fits = edit_fits old new change rest out put h;
   new = sym (readings_with rest put) ∙ (ap (map reading_seen) (sym h.is) ∙ sym (blocks_seen new));
@@ -64,19 +64,19 @@ is_exchange old new change rest out put id names same h has = record {
   put_id = has;
 }
 
-others_ready : (old new : Slots) (change : Change) (rest : List (Option Slot)) (out put : Option PlacedSlot) → IsEdit old new change rest out put → AreSettled (slots_of old) → OthersAreSettled new (exchange_with rest out put)
+others_ready : (old new : Slots) (change : Change) (rest : List (Option Slot)) (out put : Option PlacedSlot) → IsEdit old new change rest out put → SlotsAreSettled (slots_of old) → OthersAreSettled new (exchange_with rest out put)
 others_ready old new change rest out put h settled at other stands free slot e =
     let there : slice_get (with_slot rest put) at ≡ Some (Some slot) = ap (λ xs. slice_get xs at) (sym h.is) ∙ slot_there new at other slot stands e in
-    let before : AreSettled (with_slot rest out) = subst AreSettled h.was settled in
+    let before : SlotsAreSettled (with_slot rest out) = subst SlotsAreSettled h.was settled in
     let now = others_settled rest out put (edit_fits old new change rest out put h) before at slot there free in
     let blocks : map reading_seen (with_slot rest put) ≡ blocks_of new = ap (map reading_seen) (sym h.is) ∙ sym (blocks_seen new) in
     subst (λ r. IsSettled (blocks_of new) at r slot.settled) (sym (ap reading_seen e)) (settled_in (map reading_seen (with_slot rest put)) (blocks_of new) at (reading_of slot.block) slot.settled blocks now)
 
-pub edit_ready : (old new : Slots) (change : Change) (rest : List (Option Slot)) (out put : Option PlacedSlot) (id : Option ℕ) (names : List (List ℕ)) → names_of (option_map block_seen out) ≡ names → IsEdit old new change rest out put → AreSettled (slots_of old) → HasId new put id → IsReady new id names
+pub edit_ready : (old new : Slots) (change : Change) (rest : List (Option Slot)) (out put : Option PlacedSlot) (id : Option ℕ) (names : List (List ℕ)) → lookup_names_of (option_map block_seen out) ≡ names → IsEdit old new change rest out put → SlotsAreSettled (slots_of old) → HasId new put id → IsReady new id names
 edit_ready old new change rest out put id names same h settled has =
     (exchange_with rest out put, is_exchange old new change rest out put id names same h has, others_ready old new change rest out put h settled)
 
-pub edit_rebuilds : (old new : Slots) (change : Change) (rest : List (Option Slot)) (out put : Option PlacedSlot) (id : Option ℕ) (names : List (List ℕ)) (places : List ℕ) (steps : ℕ) → names_of (option_map block_seen out) ≡ names → IsEdit old new change rest out put → HasId new put id → IsIndexed new → AreSound (slots_of new) → ((e : Exchange) → IsExchangeOf new id names e → AreDependents e places) → steps ≡ work (blocks_of new) places → Rebuilds (texts_of old) change places steps
+pub edit_rebuilds : (old new : Slots) (change : Change) (rest : List (Option Slot)) (out put : Option PlacedSlot) (id : Option ℕ) (names : List (List ℕ)) (places : List ℕ) (steps : ℕ) → lookup_names_of (option_map block_seen out) ≡ names → IsEdit old new change rest out put → HasId new put id → IsIndexed new → SlotsAreSound (slots_of new) → ((e : Exchange) → IsExchangeOf new id names e → AreDependents e places) → steps ≡ work (blocks_of new) places → Rebuilds (slot_texts old) change places steps
 edit_rebuilds old new change rest out put id names places steps same h has indexed sound dependents w = record {
   dependents = subst (λ e. AreDependents e places) (sym h.exchange) (dependents (exchange_with rest out put) (is_exchange old new change rest out put id names same h has));
   work = w ∙ ap (λ bs. work bs places) (blocks_read new indexed sound ∙ ap readings h.texts);
@@ -88,11 +88,11 @@ pub kept_back : (old new : Slots) → AreKept old → IsIndexed new → slots_of
 kept_back old new h indexed e = record {
   indexed = indexed;
   few = (let n : length (slots_of new) ≡ length (slots_of old) = ap (λ xs. length xs) e in let k = h.few in omega (arith, length_slots new, length_slots old));
-  sound = subst AreSound (sym e) h.sound;
-  settled = subst AreSettled (sym e) h.settled;
+  sound = subst SlotsAreSound (sym e) h.sound;
+  settled = subst SlotsAreSettled (sym e) h.settled;
 }
 
-pub texts_back : (old new : Slots) → slots_of new ≡ slots_of old → texts_of new ≡ texts_of old
+pub texts_back : (old new : Slots) → slots_of new ≡ slots_of old → slot_texts new ≡ slot_texts old
 texts_back old new e = texts_seen new ∙ (ap (map text_seen) e ∙ sym (texts_seen old))
 
 -- ---- a slot is put in or taken out
@@ -145,14 +145,14 @@ slots_same old new l h = ap (map (slot_at new.slots.items)) l ∙ map-agree (slo
 
 -- ---- sound slots in an edited list
 
-pub sound_put : (old new : Slots) (at : ℕ) (slot : Slot) → at ≤ length old.order.listed → IsSoundSlot slot → AreSound (slots_of old) → slots_of new ≡ insert (slots_of old) at (Some slot) → AreSound (slots_of new)
-sound_put old new at slot l s h e = subst AreSound (sym e) (sound_with (slots_of old) at slot (let w : at ≤ length (slots_of old) = omega (arith, length_slots old) in w) s h)
+pub sound_put : (old new : Slots) (at : ℕ) (slot : Slot) → at ≤ length old.order.listed → IsSoundSlot slot → SlotsAreSound (slots_of old) → slots_of new ≡ insert (slots_of old) at (Some slot) → SlotsAreSound (slots_of new)
+sound_put old new at slot l s h e = subst SlotsAreSound (sym e) (sound_with (slots_of old) at slot (let w : at ≤ length (slots_of old) = omega (arith, length_slots old) in w) s h)
 
-pub sound_taken : (old new : Slots) (at : ℕ) (slot : Slot) → at < length old.order.listed → AreSound (slots_of old) → slice_get (slots_of old) at ≡ Some (Some slot) → slots_of new ≡ remove (slots_of old) at → AreSound (slots_of new)
+pub sound_taken : (old new : Slots) (at : ℕ) (slot : Slot) → at < length old.order.listed → SlotsAreSound (slots_of old) → slice_get (slots_of old) at ≡ Some (Some slot) → slots_of new ≡ remove (slots_of old) at → SlotsAreSound (slots_of new)
 sound_taken old new at slot l h s e =
     let w : at < length (slots_of old) = omega (arith, length_slots old) in
     let n = length-remove (slots_of old) at w in
-    subst AreSound (sym e) (sound_rest (remove (slots_of old) at) at (Some slot) (let k : at ≤ length (remove (slots_of old) at) = omega arith in k) (subst AreSound (sym (insert-remove (slots_of old) at (Some slot) s)) h))
+    subst SlotsAreSound (sym e) (sound_rest (remove (slots_of old) at) at (Some slot) (let k : at ≤ length (remove (slots_of old) at) = omega arith in k) (subst SlotsAreSound (sym (insert-remove (slots_of old) at (Some slot) s)) h))
 
 -- ---- the way back
 
@@ -202,7 +202,7 @@ room_again law taken put tried out at slot gone id block indexed l room p e t =
 
 -- ---- the four edits
 
-readings_seen : (slots : Slots) → AreKept slots → readings (texts_of slots) ≡ map reading_seen (slots_of slots)
+readings_seen : (slots : Slots) → AreKept slots → readings (slot_texts slots) ≡ map reading_seen (slots_of slots)
 readings_seen slots h = sym (blocks_read slots h.indexed h.sound) ∙ blocks_seen slots
 
 -- an exchange is given by its parts
@@ -219,8 +219,8 @@ put_read at slot h = ap (λ b. Some (record { at = at; block = b })) (sym h.read
 
 pub inserted : (old new : Slots) (at : ℕ) (slot : Slot) → AreKept old → IsSoundSlot slot → at ≤ length old.order.listed → slots_of new ≡ insert (slots_of old) at (Some slot) → IsEdit old new (insertion at slot.text.items) (slots_of old) None (Some (record { at = at; slot = slot }))
 inserted old new at slot h sound l e = record {
-  in_place = (let w : at ≤ length (texts_of old) = omega (arith, length_texts old) in w);
-  exchange = exchange_same (exchange_of (texts_of old) (insertion at slot.text.items)) (slots_of old) None (Some (record { at = at; slot = slot })) (readings_seen old h) refl (put_read at slot sound);
+  in_place = (let w : at ≤ length (slot_texts old) = omega (arith, length_texts old) in w);
+  exchange = exchange_same (exchange_of (slot_texts old) (insertion at slot.text.items)) (slots_of old) None (Some (record { at = at; slot = slot })) (readings_seen old h) refl (put_read at slot sound);
   was = refl;
   is = e;
   texts = texts_seen new ∙ (ap (map text_seen) e ∙ (map-insert text_seen (slots_of old) at (Some slot) ∙ ap (λ ts. insert ts at slot.text.items) (sym (texts_seen old))));
@@ -235,10 +235,10 @@ pub replaced : (old new : Slots) (at : ℕ) (slot before : Slot) → AreKept old
 replaced old new at slot before h sound l s e =
     let within : at < length (slots_of old) = omega (arith, length_slots old) in
     record {
-      in_place = (let w : at < length (texts_of old) = omega (arith, length_texts old) in w);
-      exchange = exchange_same (exchange_of (texts_of old) (replacement at slot.text.items)) (remove (slots_of old) at) (Some (record { at = at; slot = before })) (Some (record { at = at; slot = slot }))
+      in_place = (let w : at < length (slot_texts old) = omega (arith, length_texts old) in w);
+      exchange = exchange_same (exchange_of (slot_texts old) (replacement at slot.text.items)) (remove (slots_of old) at) (Some (record { at = at; slot = before })) (Some (record { at = at; slot = slot }))
           (ap (λ bs. remove bs at) (readings_seen old h) ∙ sym (map-remove reading_seen (slots_of old) at))
-          (block_there (readings (texts_of old)) (slots_of old) at at before (readings_seen old h) s)
+          (block_there (readings (slot_texts old)) (slots_of old) at at before (readings_seen old h) s)
           (put_read at slot sound);
       was = sym (insert-remove (slots_of old) at (Some before) s);
       is = e;
@@ -247,10 +247,10 @@ replaced old new at slot before h sound l s e =
 
 pub removed : (old new : Slots) (at : ℕ) (before : Slot) → AreKept old → at < length old.order.listed → slice_get (slots_of old) at ≡ Some (Some before) → slots_of new ≡ remove (slots_of old) at → IsEdit old new (removal at) (remove (slots_of old) at) (Some (record { at = at; slot = before })) None
 removed old new at before h l s e = record {
-  in_place = (let w : at < length (texts_of old) = omega (arith, length_texts old) in w);
-  exchange = exchange_same (exchange_of (texts_of old) (removal at)) (remove (slots_of old) at) (Some (record { at = at; slot = before })) None
+  in_place = (let w : at < length (slot_texts old) = omega (arith, length_texts old) in w);
+  exchange = exchange_same (exchange_of (slot_texts old) (removal at)) (remove (slots_of old) at) (Some (record { at = at; slot = before })) None
       (ap (λ bs. remove bs at) (readings_seen old h) ∙ sym (map-remove reading_seen (slots_of old) at))
-      (block_there (readings (texts_of old)) (slots_of old) at at before (readings_seen old h) s)
+      (block_there (readings (slot_texts old)) (slots_of old) at at before (readings_seen old h) s)
       refl;
   was = sym (insert-remove (slots_of old) at (Some before) s);
   is = e;
@@ -259,14 +259,14 @@ removed old new at before h l s e = record {
 
 pub moved : (old new : Slots) (from to : ℕ) (before : Slot) → AreKept old → from < length old.order.listed → to < length old.order.listed → slice_get (slots_of old) from ≡ Some (Some before) → slots_of new ≡ insert (remove (slots_of old) from) to (Some before) → IsEdit old new (relocation from to) (remove (slots_of old) from) (Some (record { at = from; slot = before })) (Some (record { at = to; slot = before }))
 moved old new from to before h l m s e =
-    let text : slice_get (texts_of old) from ≡ Some before.text.items = ap (λ ts. slice_get ts from) (texts_seen old) ∙ (rw (slice_get-map text_seen (slots_of old) from, s) refl) in
-    let placed : with_item_moved (texts_of old) from to ≡ insert (remove (texts_of old) from) to before.text.items = rw text refl in
+    let text : slice_get (slot_texts old) from ≡ Some before.text.items = ap (λ ts. slice_get ts from) (texts_seen old) ∙ (rw (slice_get-map text_seen (slots_of old) from, s) refl) in
+    let placed : with_item_moved (slot_texts old) from to ≡ insert (remove (slot_texts old) from) to before.text.items = rw text refl in
     record {
-      in_place = ((let w : from < length (texts_of old) = omega (arith, length_texts old) in w), (let w : to < length (texts_of old) = omega (arith, length_texts old) in w));
-      exchange = exchange_same (exchange_of (texts_of old) (relocation from to)) (remove (slots_of old) from) (Some (record { at = from; slot = before })) (Some (record { at = to; slot = before }))
+      in_place = ((let w : from < length (slot_texts old) = omega (arith, length_texts old) in w), (let w : to < length (slot_texts old) = omega (arith, length_texts old) in w));
+      exchange = exchange_same (exchange_of (slot_texts old) (relocation from to)) (remove (slots_of old) from) (Some (record { at = from; slot = before })) (Some (record { at = to; slot = before }))
           (ap (λ bs. remove bs from) (readings_seen old h) ∙ sym (map-remove reading_seen (slots_of old) from))
-          (block_there (readings (texts_of old)) (slots_of old) from from before (readings_seen old h) s)
-          (block_there (readings (texts_of old)) (slots_of old) from to before (readings_seen old h) s);
+          (block_there (readings (slot_texts old)) (slots_of old) from from before (readings_seen old h) s)
+          (block_there (readings (slot_texts old)) (slots_of old) from to before (readings_seen old h) s);
       was = sym (insert-remove (slots_of old) from (Some before) s);
       is = e;
       texts = texts_seen new ∙ (ap (map text_seen) e ∙ (map-insert text_seen (remove (slots_of old) from) to (Some before)
@@ -288,22 +288,22 @@ dependent_moved rest from to slot at =
       λ d. (d.0, d.1, elim d.2 [ inl put ↦ inl put | inr r ↦ inr (r.0, among_twice r.0 names ∙ r.1, r.2) ]),
     )
 
-pub moved_ready : (old new : Slots) (from to : ℕ) (slot : Slot) (rest : List (Option Slot)) (id : Option ℕ) → IsEdit old new (relocation from to) rest (Some (record { at = from; slot = slot })) (Some (record { at = to; slot = slot })) → AreSettled (slots_of old) → HasId new (Some (record { at = to; slot = slot })) id → IsReady new id []
+pub moved_ready : (old new : Slots) (from to : ℕ) (slot : Slot) (rest : List (Option Slot)) (id : Option ℕ) → IsEdit old new (relocation from to) rest (Some (record { at = from; slot = slot })) (Some (record { at = to; slot = slot })) → SlotsAreSettled (slots_of old) → HasId new (Some (record { at = to; slot = slot })) id → IsReady new id []
 moved_ready old new from to slot rest id h settled has =
     let out : Option PlacedSlot = Some (record { at = from; slot = slot }) in
     let put : Option PlacedSlot = Some (record { at = to; slot = slot }) in
     let r = others_ready old new (relocation from to) rest out put h settled in
-    let x = is_exchange old new (relocation from to) rest out put id (names_of (option_map block_seen out)) refl h has in (
+    let x = is_exchange old new (relocation from to) rest out put id (lookup_names_of (option_map block_seen out)) refl h has in (
       exchange_with rest None put,
       record { fits = record { out = tt; put = x.fits.put }; new = x.new; out_names = refl; put_id = x.put_id },
       λ at other stands free. r at other stands (λ d. free ((dependent_moved rest from to slot at).0 d)),
     )
 
-pub moved_rebuilds : (old new : Slots) (from to : ℕ) (slot : Slot) (rest : List (Option Slot)) (id : Option ℕ) (places : List ℕ) (steps : ℕ) → IsEdit old new (relocation from to) rest (Some (record { at = from; slot = slot })) (Some (record { at = to; slot = slot })) → HasId new (Some (record { at = to; slot = slot })) id → IsIndexed new → AreSound (slots_of new) → ((e : Exchange) → IsExchangeOf new id [] e → AreDependents e places) → steps ≡ work (blocks_of new) places → Rebuilds (texts_of old) (relocation from to) places steps
+pub moved_rebuilds : (old new : Slots) (from to : ℕ) (slot : Slot) (rest : List (Option Slot)) (id : Option ℕ) (places : List ℕ) (steps : ℕ) → IsEdit old new (relocation from to) rest (Some (record { at = from; slot = slot })) (Some (record { at = to; slot = slot })) → HasId new (Some (record { at = to; slot = slot })) id → IsIndexed new → SlotsAreSound (slots_of new) → ((e : Exchange) → IsExchangeOf new id [] e → AreDependents e places) → steps ≡ work (blocks_of new) places → Rebuilds (slot_texts old) (relocation from to) places steps
 moved_rebuilds old new from to slot rest id places steps h has indexed sound dependents w =
     let out : Option PlacedSlot = Some (record { at = from; slot = slot }) in
     let put : Option PlacedSlot = Some (record { at = to; slot = slot }) in
-    let x = is_exchange old new (relocation from to) rest out put id (names_of (option_map block_seen out)) refl h has in
+    let x = is_exchange old new (relocation from to) rest out put id (lookup_names_of (option_map block_seen out)) refl h has in
     let d = dependents (exchange_with rest None put) (record { fits = record { out = tt; put = x.fits.put }; new = x.new; out_names = refl; put_id = x.put_id }) in
     let moved_places : AreDependents (exchange_with rest out put) places = record {
       rising = d.rising;
@@ -314,10 +314,10 @@ moved_rebuilds old new from to slot rest id places steps h has indexed sound dep
       work = w ∙ ap (λ bs. work bs places) (blocks_read new indexed sound ∙ ap readings h.texts);
     }
 
-pub sound_moved : (old taken new : Slots) (from to : ℕ) (slot : Slot) → from < length old.order.listed → to ≤ length taken.order.listed → AreSound (slots_of old) → slice_get (slots_of old) from ≡ Some (Some slot) → slots_of taken ≡ remove (slots_of old) from → slots_of new ≡ insert (slots_of taken) to (Some slot) → AreSound (slots_of new)
+pub sound_moved : (old taken new : Slots) (from to : ℕ) (slot : Slot) → from < length old.order.listed → to ≤ length taken.order.listed → SlotsAreSound (slots_of old) → slice_get (slots_of old) from ≡ Some (Some slot) → slots_of taken ≡ remove (slots_of old) from → slots_of new ≡ insert (slots_of taken) to (Some slot) → SlotsAreSound (slots_of new)
 sound_moved old taken new from to slot l m h s e f = sound_put taken new to slot m (h from slot s) (sound_taken old taken from slot l h s e) f
 
-pub sound_replaced : (old taken new : Slots) (at : ℕ) (slot before : Slot) → at < length old.order.listed → IsSoundSlot slot → AreSound (slots_of old) → slice_get (slots_of old) at ≡ Some (Some before) → slots_of taken ≡ remove (slots_of old) at → slots_of new ≡ insert (slots_of taken) at (Some slot) → AreSound (slots_of new)
+pub sound_replaced : (old taken new : Slots) (at : ℕ) (slot before : Slot) → at < length old.order.listed → IsSoundSlot slot → SlotsAreSound (slots_of old) → slice_get (slots_of old) at ≡ Some (Some before) → slots_of taken ≡ remove (slots_of old) at → slots_of new ≡ insert (slots_of taken) at (Some slot) → SlotsAreSound (slots_of new)
 sound_replaced old taken new at slot before l sound h s e f =
     let w : at < length (slots_of old) = omega (arith, length_slots old) in
     let n = length-remove (slots_of old) at w in

@@ -16,12 +16,12 @@ use Rattle.ti_index.specs.Names.{holders_at, users_at}
 use Rattle.ti_slots.specs.declared.slots.Slot.{Slot}
 use Rattle.ti_slots.specs.declared.slots.Settled.{Settled}
 use Rattle.ti_slots.specs.declared.slots.Slots.{Slots}
-use Rattle.ti_slots.specs.Slots.{IsIndexed, StandsAt, slot_at, reading_at, text_at, has_name, uses_name, blocks_of, texts_of}
+use Rattle.ti_slots.specs.Slots.{IsIndexed, StandsAt, slot_at, reading_at, text_at, has_name, uses_name, blocks_of, slot_texts}
 use Rattle.ti_slots.specs.Settled.{IsSettled}
 use Rattle.ti_plan.specs.declared.plans.Plan.{Plan}
 use Rattle.ti_plan.specs.Plans.{IsReady, IsPlan, IsPlanOfAll}
 use Rattle.ti_base.specs.inside.Texts.{IsBlockText}
-use Rattle.ti_base.specs.inside.KeptSlots.{AreKept, AreRead, AreSettled, AreSound, slots_of, reading_seen, text_seen, with_settled, settled_at, settled_all}
+use Rattle.ti_base.specs.inside.KeptSlots.{AreKept, AreRead, SlotsAreSettled, SlotsAreSound, slots_of, reading_seen, text_seen, with_settled, settled_at, settled_all}
 use Rattle.ti_index.proofs.Lists.{item_at}
 use Rattle.ti_plan.proofs.ItemLists.{drop_item}
 use Rattle.ti_base.proofs.SlotLists.{blocks_seen, length_slots, slot_there, id_there, are_filled}
@@ -164,7 +164,7 @@ text_blind : (o : Option Slot) (s : Settled) → text_seen (option_map (with_set
 text_blind None s = refl
 text_blind (Some slot) s = refl
 
-pub texts_stay : (old new : Slots) (ids : List ℕ) (settled : List Settled) → AreInstalled old new ids settled → texts_of new ≡ texts_of old
+pub texts_stay : (old new : Slots) (ids : List ℕ) (settled : List Settled) → AreInstalled old new ids settled → slot_texts new ≡ slot_texts old
 texts_stay old new ids settled h =
     ap (λ o. map (text_at new.slots.items) o.listed) h.order ∙ map-same (text_at new.slots.items) (text_at old.slots.items) old.order.listed (seen_same text_seen text_blind old new ids settled h)
 
@@ -192,7 +192,7 @@ index_stays old new ids settled h k =
 slot_was : (old new : Slots) (ids : List ℕ) (settled : List Settled) (id : ℕ) (slot : Slot) → length settled ≡ length ids → AreInstalled old new ids settled → slot_at new.slots.items id ≡ Some slot → IsInstalled old.slots.items ids settled id slot
 slot_was old new ids settled id slot l h e = installed old.slots.items ids settled id slot l (ap (λ xs. slot_at xs id) (sym h.slots) ∙ e)
 
-pub sound_stays : (old new : Slots) (ids : List ℕ) (settled : List Settled) → length settled ≡ length ids → AreInstalled old new ids settled → AreSound (slots_of old) → AreSound (slots_of new)
+pub sound_stays : (old new : Slots) (ids : List ℕ) (settled : List Settled) → length settled ≡ length ids → AreInstalled old new ids settled → SlotsAreSound (slots_of old) → SlotsAreSound (slots_of new)
 sound_stays old new ids settled l h k at slot e =
     let t = id_there new at slot e in
     let w = slot_was old new ids settled t.0 slot l h t.2 in
@@ -203,7 +203,7 @@ sound_stays old new ids settled l h k at slot e =
       usable = subst (λ b. IsUsable (reading_of b)) (sym w.block) s.usable;
     }
 
-pub all_settled : (old new : Slots) (put : Option ℕ) (out : List (List ℕ)) (plan : Plan) → IsReady old put out → IsPlan old put out plan → AreInstalled old new plan.ids.items plan.settled.items → AreSettled (slots_of new)
+pub all_settled : (old new : Slots) (put : Option ℕ) (out : List (List ℕ)) (plan : Plan) → IsReady old put out → IsPlan old put out plan → AreInstalled old new plan.ids.items plan.settled.items → SlotsAreSettled (slots_of new)
 all_settled old new put out plan ready is h at slot e =
     let t = id_there new at slot e in
     let w = slot_was old new plan.ids.items plan.settled.items t.0 slot is.as_many h t.2 in
@@ -221,7 +221,7 @@ all_settled old new put out plan ready is h at slot e =
     ] in
     settled_in (blocks_of old) (map reading_seen (slots_of new)) at (reading_of slot.block) slot.settled blocks (subst (λ r. IsSettled (blocks_of old) at r slot.settled) read here)
 
-pub kept_installed : (old new : Slots) (put : Option ℕ) (out : List (List ℕ)) (plan : Plan) → IsIndexed old → length old.order.listed ≤ blocks_max → AreSound (slots_of old) → IsReady old put out → IsPlan old put out plan → AreInstalled old new plan.ids.items plan.settled.items → AreKept new
+pub kept_installed : (old new : Slots) (put : Option ℕ) (out : List (List ℕ)) (plan : Plan) → IsIndexed old → length old.order.listed ≤ blocks_max → SlotsAreSound (slots_of old) → IsReady old put out → IsPlan old put out plan → AreInstalled old new plan.ids.items plan.settled.items → AreKept new
 kept_installed old new put out plan indexed few sound ready is h = record {
   indexed = index_stays old new plan.ids.items plan.settled.items h indexed;
   few = (let n : length new.order.listed ≡ length old.order.listed = ap (λ o. length o.listed) h.order in omega arith);
@@ -235,7 +235,7 @@ kept_installed old new put out plan indexed few sound ready is h = record {
 listed_there : (slots : Slots) (plan : Plan) → IsPlanOfAll slots plan → (at id : ℕ) → StandsAt slots at id → slice_get plan.ids.items at ≡ Some id
 listed_there slots plan is at id s = ap (λ xs. slice_get xs at) is.listed ∙ s
 
-all_settled_once : (old new : Slots) (plan : Plan) → IsPlanOfAll old plan → AreInstalled old new plan.ids.items plan.settled.items → AreSettled (slots_of new)
+all_settled_once : (old new : Slots) (plan : Plan) → IsPlanOfAll old plan → AreInstalled old new plan.ids.items plan.settled.items → SlotsAreSettled (slots_of new)
 all_settled_once old new plan is h at slot e =
     let t = id_there new at slot e in
     let w = slot_was old new plan.ids.items plan.settled.items t.0 slot is.as_many h t.2 in
@@ -258,7 +258,7 @@ kept_once old new plan read is h = record {
 
 -- ---- what planning and installing ask
 
-pub all_usable : (slots : Slots) → IsIndexed slots → AreSound (slots_of slots) → All IsUsable (blocks_of slots)
+pub all_usable : (slots : Slots) → IsIndexed slots → SlotsAreSound (slots_of slots) → All IsUsable (blocks_of slots)
 all_usable slots h sound = λ k d l.
     let within : k < length (slots_of slots) = omega (arith, length_slots slots, length-map slots.order.listed (reading_at slots.slots.items)) in
     let s = are_filled slots h k within in

@@ -6,17 +6,11 @@ use Rattle.std.specs.Cmp.Lexicographic.{slice_cmp, bytes_decides}
 use Rattle.std.specs.Str.{bytes_eq}
 use Rattle.std.specs.List.{list_any}
 use Rattle.std.specs.BTreeSet.{insert_key}
-use Rattle.std.specs.declared.vec.Vec.{Vec}
-use Rattle.std.specs.declared.alloc.Global.{Global}
 use Rattle.std.proofs.lemmas.Bool.{cases_Bool, false≢true}
 use Rattle.std.proofs.lemmas.Map.Text.{is_eq-slice_cmp}
 use Rattle.ti_meaning.specs.Owner.{is_among}
 use Rattle.ti_meaning.specs.Faults.{SourceFault, distinct_after, name_fault}
 use Rattle.ti_meaning.proofs.Exchanging.{list_any-append}
-
--- whether the name is among these keys
-abbrev has_key : List ℕ → List (Vec ℕ Global) → Bool
-has_key name keys = list_any (λ (key : Vec ℕ Global). is_eq (slice_cmp nat_cmp name key.items)) keys
 
 or_twice : (a b : Bool) → (a || b) ≡ (a || (a || b))
 or_twice true b = refl
@@ -27,22 +21,36 @@ or_swap true true c = refl
 or_swap true false c = refl
 or_swap false b c = refl
 
-same_key : (name : List ℕ) (k x : Vec ℕ Global) → is_eq (slice_cmp nat_cmp k.items x.items) ≡ true → is_eq (slice_cmp nat_cmp name x.items) ≡ bytes_eq name k.items
-same_key name k x e =
-    let same : k.items ≡ x.items = (bytes_decides k.items x.items).0 (sym (is_eq-slice_cmp k.items x.items) ∙ e) in
-    is_eq-slice_cmp name x.items ∙ ap (bytes_eq name) (sym same)
+-- ---- keys in their order, each with its bytes
 
--- the name put in is among the keys, and each other as before
-pub key_put : (name : List ℕ) (keys : List (Vec ℕ Global)) (k : Vec ℕ Global) → has_key name (insert_key (λ (x y : Vec ℕ Global). slice_cmp nat_cmp x.items y.items) keys k) ≡ (bytes_eq name k.items || has_key name keys)
-key_put name [] k = ap (λ b. b || false) (is_eq-slice_cmp name k.items)
-key_put name (x ∷ keys) k =
-    by_order (slice_cmp nat_cmp k.items x.items) (same_key name k x) (key_put name keys k)
-  where
-    by_order : (o : Ordering) → (is_eq o ≡ true → is_eq (slice_cmp nat_cmp name x.items) ≡ bytes_eq name k.items) → has_key name (insert_key (λ (x y : Vec ℕ Global). slice_cmp nat_cmp x.items y.items) keys k) ≡ (bytes_eq name k.items || has_key name keys)
-        → has_key name (match_ordering o (k ∷ x ∷ keys) (x ∷ keys) (x ∷ insert_key (λ (x y : Vec ℕ Global). slice_cmp nat_cmp x.items y.items) keys k)) ≡ (bytes_eq name k.items || has_key name (x ∷ keys))
-    by_order Less same more = ap (λ b. b || has_key name (x ∷ keys)) (is_eq-slice_cmp name k.items)
-    by_order Equal same more = ap (λ b. b || has_key name keys) (same refl) ∙ (or_twice (bytes_eq name k.items) (has_key name keys) ∙ ap (λ b. bytes_eq name k.items || (b || has_key name keys)) (sym (same refl)))
-    by_order Greater same more = ap (λ b. is_eq (slice_cmp nat_cmp name x.items) || b) more ∙ or_swap (is_eq (slice_cmp nat_cmp name x.items)) (bytes_eq name k.items) (has_key name keys)
+module _ {K : Type 0} (bytes : K → List ℕ) where
+  -- whether one of the keys has the name
+  abbrev pub has_key : List ℕ → List K → Bool
+  has_key name keys = list_any (λ key. is_eq (slice_cmp nat_cmp name (bytes key))) keys
+
+  abbrev by_bytes : K → K → Ordering
+  by_bytes x y = slice_cmp nat_cmp (bytes x) (bytes y)
+
+  same_key : (name : List ℕ) (k x : K) → is_eq (by_bytes k x) ≡ true → is_eq (slice_cmp nat_cmp name (bytes x)) ≡ bytes_eq name (bytes k)
+  same_key name k x e =
+      let same : bytes k ≡ bytes x = (bytes_decides (bytes k) (bytes x)).0 (sym (is_eq-slice_cmp (bytes k) (bytes x)) ∙ e) in
+      is_eq-slice_cmp name (bytes x) ∙ ap (bytes_eq name) (sym same)
+
+  -- the name put in is among the keys, and each other as before
+  pub key_put : (name : List ℕ) (keys : List K) (k : K) → has_key name (insert_key by_bytes keys k) ≡ (bytes_eq name (bytes k) || has_key name keys)
+  key_put name [] k = ap (λ b. b || false) (is_eq-slice_cmp name (bytes k))
+  key_put name (x ∷ keys) k =
+      by_order (by_bytes k x) (same_key name k x) (key_put name keys k)
+    where
+      by_order : (o : Ordering) → (is_eq o ≡ true → is_eq (slice_cmp nat_cmp name (bytes x)) ≡ bytes_eq name (bytes k))
+          → has_key name (insert_key by_bytes keys k) ≡ (bytes_eq name (bytes k) || has_key name keys)
+          → has_key name (match_ordering o (k ∷ x ∷ keys) (x ∷ keys) (x ∷ insert_key by_bytes keys k)) ≡ (bytes_eq name (bytes k) || has_key name (x ∷ keys))
+      by_order Less same more = ap (λ b. b || has_key name (x ∷ keys)) (is_eq-slice_cmp name (bytes k))
+      by_order Equal same more =
+          ap (λ b. b || has_key name keys) (same refl)
+          ∙ (or_twice (bytes_eq name (bytes k)) (has_key name keys) ∙ ap (λ b. bytes_eq name (bytes k) || (b || has_key name keys)) (sym (same refl)))
+      by_order Greater same more =
+          ap (λ b. is_eq (slice_cmp nat_cmp name (bytes x)) || b) more ∙ or_swap (is_eq (slice_cmp nat_cmp name (bytes x))) (bytes_eq name (bytes k)) (has_key name keys)
 
 -- ---- the faults of one name more
 

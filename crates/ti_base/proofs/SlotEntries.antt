@@ -10,7 +10,7 @@ use Rattle.ti_slots.specs.declared.slots.Slot.{Slot}
 use Rattle.ti_slots.specs.declared.slots.Slots.{Slots}
 use Rattle.ti_slots.specs.declared.slots.State.{State}
 use Rattle.ti_slots.specs.declared.slots.State.TheVariants as s
-use Rattle.ti_slots.specs.Slots.{texts_of}
+use Rattle.ti_slots.specs.Slots.{slot_texts}
 use Rattle.ti_slots.specs.Settled.{state_seen}
 use Rattle.ti_base.specs.inside.KeptSlots.{AreKept, slots_of, text_seen}
 use Rattle.ti_base.proofs.SlotLists.{blocks_seen, texts_seen, blocks_read}
@@ -30,17 +30,17 @@ shown_with : (b : Reading) (o : Option (List Mention)) → shown_entry (state_wi
 shown_with b None = refl
 shown_with b (Some ms) = shown_if (is_too_large b ms) (image_of b ms)
 
-pub text_of_slot : (slots : Slots) (at : ℕ) (slot : Slot) → slice_get (slots_of slots) at ≡ Some (Some slot) → slice_get (texts_of slots) at ≡ Some slot.text.items
+pub text_of_slot : (slots : Slots) (at : ℕ) (slot : Slot) → slice_get (slots_of slots) at ≡ Some (Some slot) → slice_get (slot_texts slots) at ≡ Some slot.text.items
 text_of_slot slots at slot e = ap (λ ts. slice_get ts at) (texts_seen slots) ∙ (rw (slice_get-map text_seen (slots_of slots) at, e) refl)
 
 -- the entry that a slot holds is the compiled one
-pub entry_of_slot : (slots : Slots) (at : ℕ) (slot : Slot) → AreKept slots → slice_get (slots_of slots) at ≡ Some (Some slot) → shown_entry (state_seen slot.settled.state) ≡ compiled (texts_of slots) at
+pub entry_of_slot : (slots : Slots) (at : ℕ) (slot : Slot) → AreKept slots → slice_get (slots_of slots) at ≡ Some (Some slot) → shown_entry (state_seen slot.settled.state) ≡ compiled (slot_texts slots) at
 entry_of_slot slots at slot h e =
     let block = reading_of slot.block in
-    let read : slice_get (readings (texts_of slots)) at ≡ Some block = ap (λ bs. slice_get bs at) (sym (blocks_read slots h.indexed h.sound)) ∙ block_of_slot slots at slot e in
-    let state : state_seen slot.settled.state ≡ state_of (readings (texts_of slots)) block = (h.settled at slot e).state ∙ ap (λ bs. state_of bs block) (sym (blocks_seen slots) ∙ blocks_read slots h.indexed h.sound) in
-    let there : compiled (texts_of slots) at ≡ entry (readings (texts_of slots)) block = rw read refl in
-    ap shown_entry state ∙ (shown_with block (expansion (readings (texts_of slots)) block) ∙ sym there)
+    let read : slice_get (readings (slot_texts slots)) at ≡ Some block = ap (λ bs. slice_get bs at) (sym (blocks_read slots h.indexed h.sound)) ∙ block_of_slot slots at slot e in
+    let state : state_seen slot.settled.state ≡ state_of (readings (slot_texts slots)) block = (h.settled at slot e).state ∙ ap (λ bs. state_of bs block) (sym (blocks_seen slots) ∙ blocks_read slots h.indexed h.sound) in
+    let there : compiled (slot_texts slots) at ≡ entry (readings (slot_texts slots)) block = rw read refl in
+    ap shown_entry state ∙ (shown_with block (expansion (readings (slot_texts slots)) block) ∙ sym there)
 
 -- what is no entry shows none
 pub shown_other : (e : State) → ((entry : Entry) → e ≡ s.Compiled entry → ⊥) → None ≡ shown_entry (state_seen e)

@@ -11,8 +11,8 @@ use Rattle.ti_meaning.proofs.Placing.{get-insert}
 use Rattle.ti_index.proofs.Lists.{item_at}
 use Rattle.ti_slots.specs.declared.slots.Slot.{Slot}
 use Rattle.ti_slots.specs.declared.slots.Slots.{Slots}
-use Rattle.ti_slots.specs.Slots.{IsIndexed, StandsAt, slot_at, reading_at, text_at, blocks_of, texts_of}
-use Rattle.ti_base.specs.inside.KeptSlots.{slots_of, reading_seen, text_seen, AreSound, PlacedSlot, with_slot, block_seen}
+use Rattle.ti_slots.specs.Slots.{IsIndexed, StandsAt, slot_at, reading_at, text_at, blocks_of, slot_texts}
+use Rattle.ti_base.specs.inside.KeptSlots.{slots_of, reading_seen, text_seen, SlotsAreSound, PlacedSlot, with_slot, block_seen}
 
 map-map : {X Y Z : Type 0} (f : Y → Z) (g : X → Y) (xs : List X) → map (λ x. f (g x)) xs ≡ map f (map g xs)
 map-map f g [] = refl
@@ -22,7 +22,7 @@ map-map f g (x ∷ xs) = ap (λ zs. f (g x) ∷ zs) (map-map f g xs)
 pub blocks_seen : (slots : Slots) → blocks_of slots ≡ map reading_seen (slots_of slots)
 blocks_seen slots = map-map reading_seen (slot_at slots.slots.items) slots.order.listed
 
-pub texts_seen : (slots : Slots) → texts_of slots ≡ map text_seen (slots_of slots)
+pub texts_seen : (slots : Slots) → slot_texts slots ≡ map text_seen (slots_of slots)
 texts_seen slots = map-map text_seen (slot_at slots.slots.items) slots.order.listed
 
 pub length_slots : (slots : Slots) → length (slots_of slots) ≡ length slots.order.listed
@@ -31,14 +31,14 @@ length_slots slots = length-map slots.order.listed (slot_at slots.slots.items)
 pub length_blocks : (slots : Slots) → length (blocks_of slots) ≡ length slots.order.listed
 length_blocks slots = length-map slots.order.listed (reading_at slots.slots.items)
 
-pub length_texts : (slots : Slots) → length (texts_of slots) ≡ length slots.order.listed
+pub length_texts : (slots : Slots) → length (slot_texts slots) ≡ length slots.order.listed
 length_texts slots = length-map slots.order.listed (text_at slots.slots.items)
 
 -- there are as many as texts
-pub as_many_listed : (slots : Slots) (texts : List (List ℕ)) (count : ℕ) → texts_of slots ≡ texts → count ≡ length texts → length slots.order.listed ≡ count
+pub as_many_listed : (slots : Slots) (texts : List (List ℕ)) (count : ℕ) → slot_texts slots ≡ texts → count ≡ length texts → length slots.order.listed ≡ count
 as_many_listed slots texts count e n = sym (length_texts slots) ∙ (ap (λ xs. length xs) e ∙ sym n)
 
-pub within_list : (slots : Slots) (texts : List (List ℕ)) (at count : ℕ) → texts_of slots ≡ texts → count ≡ length texts → at < count → at < length slots.order.listed
+pub within_list : (slots : Slots) (texts : List (List ℕ)) (at count : ℕ) → slot_texts slots ≡ texts → count ≡ length texts → at < count → at < length slots.order.listed
 within_list slots texts at count e n l = rw (as_many_listed slots texts count e n) l
 
 -- ---- the slot at a position
@@ -70,14 +70,14 @@ are_filled slots h at l =
 
 -- ---- blocks are read from their texts
 
-pub read_from_texts : (listed : List (Option Slot)) → AreFilled listed → AreSound listed → map reading_seen listed ≡ readings (map text_seen listed)
+pub read_from_texts : (listed : List (Option Slot)) → AreFilled listed → SlotsAreSound listed → map reading_seen listed ≡ readings (map text_seen listed)
 read_from_texts [] f h = refl
 read_from_texts (None ∷ listed) f h = let s = f 0 (omega arith) in absurd (none-some s.0 (same_Some None (Some s.0) s.1))
 read_from_texts (Some slot ∷ listed) f h =
     let more : AreFilled listed = λ at l. f (suc at) (omega arith) in
     rw ((h 0 slot refl).read, read_from_texts listed more (λ at s e. h (suc at) s e)) refl
 
-pub blocks_read : (slots : Slots) → IsIndexed slots → AreSound (slots_of slots) → blocks_of slots ≡ readings (texts_of slots)
+pub blocks_read : (slots : Slots) → IsIndexed slots → SlotsAreSound (slots_of slots) → blocks_of slots ≡ readings (slot_texts slots)
 blocks_read slots h sound = blocks_seen slots ∙ (read_from_texts (slots_of slots) (are_filled slots h) sound ∙ ap readings (sym (texts_seen slots)))
 
 -- ---- a slot put in

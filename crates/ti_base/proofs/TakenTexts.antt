@@ -10,10 +10,10 @@ use Rattle.ti_meaning.specs.declared.edits.EditError.TheVariants.{Position, TooL
 use Rattle.ti_text.specs.Limits.{blocks_max}
 use Rattle.ti_slots.specs.declared.slots.Slot.{Slot}
 use Rattle.ti_slots.specs.declared.slots.Slots.{Slots}
-use Rattle.ti_slots.specs.Slots.{IsIndexed, texts_of}
+use Rattle.ti_slots.specs.Slots.{IsIndexed, slot_texts}
 use Rattle.ti_slots.specs.Changes.{ShowsSame}
 use Rattle.ti_base.specs.inside.Texts.{IsBlockText, IsTextRefusal}
-use Rattle.ti_base.specs.inside.KeptSlots.{AreRead, AreSound, IsSoundSlot, slots_of}
+use Rattle.ti_base.specs.inside.KeptSlots.{AreRead, SlotsAreSound, IsSoundSlot, slots_of}
 use Rattle.ti_base.specs.Loading.{AreTaken, IsLoadRefusal}
 use Rattle.ti_index.proofs.Lists.{get-take, take_get}
 use Rattle.ti_base.proofs.Exchanges.{slots_same, sound_put}
@@ -35,12 +35,12 @@ read_more old room new end slot h few sound same at_end indexed put count =
     record {
       indexed = indexed;
       few = omega arith;
-      sound = sound_put room new end slot within sound (subst AreSound (sym (slots_same old room same.listed same.slots)) h.sound) put;
+      sound = sound_put room new end slot within sound (subst SlotsAreSound (sym (slots_same old room same.listed same.slots)) h.sound) put;
     }
 
-pub texts_more : (old room new : Slots) (end : ℕ) (text : List ℕ) → ShowsSame old room → end ≡ length room.order.listed → texts_of new ≡ insert (texts_of room) end text → texts_of new ≡ texts_of old ++ text ∷ []
+pub texts_more : (old room new : Slots) (end : ℕ) (text : List ℕ) → ShowsSame old room → end ≡ length room.order.listed → slot_texts new ≡ insert (slot_texts room) end text → slot_texts new ≡ slot_texts old ++ text ∷ []
 texts_more old room new end text same at_end put =
-    put ∙ (append_insert (texts_of room) text end (at_end ∙ sym (length_texts room)) ∙ ap (λ ts. ts ++ text ∷ []) same.texts)
+    put ∙ (append_insert (slot_texts room) text end (at_end ∙ sym (length_texts room)) ∙ ap (λ ts. ts ++ text ∷ []) same.texts)
 
 -- ---- the texts taken
 
@@ -100,13 +100,13 @@ pub text_at : (texts : List (Bor (List ℕ))) (at : ℕ) → at < length texts �
 text_at texts at l = rw (slice_get-map (λ (text : Bor (List ℕ)). text.now) texts at, slice_get-get_or texts at no_text l) refl
 
 -- so many stand in the list as were taken
-pub as_many_taken : (texts : List (List ℕ)) (at : ℕ) (text : List ℕ) (old : Slots) → slice_get texts at ≡ Some text → texts_of old ≡ take at texts → length old.order.listed ≡ at
+pub as_many_taken : (texts : List (List ℕ)) (at : ℕ) (text : List ℕ) (old : Slots) → slice_get texts at ≡ Some text → slot_texts old ≡ take at texts → length old.order.listed ≡ at
 as_many_taken texts at text old e same =
     let within = slice_get_within texts at text e in
     sym (length_texts old) ∙ (ap (λ ts. length ts) same ∙ length-take-le at texts (omega arith))
 
-pub next_taken : (texts : List (List ℕ)) (at : ℕ) (text : List ℕ) (old new : Slots) → slice_get texts at ≡ Some text → IsBlockText text → length old.order.listed < blocks_max → texts_of old ≡ take at texts → AreTaken (take at texts)
-    → texts_of new ≡ texts_of old ++ text ∷ [] → (texts_of new ≡ take (at + 1) texts) × AreTaken (take (at + 1) texts)
+pub next_taken : (texts : List (List ℕ)) (at : ℕ) (text : List ℕ) (old new : Slots) → slice_get texts at ≡ Some text → IsBlockText text → length old.order.listed < blocks_max → slot_texts old ≡ take at texts → AreTaken (take at texts)
+    → slot_texts new ≡ slot_texts old ++ text ∷ [] → (slot_texts new ≡ take (at + 1) texts) × AreTaken (take (at + 1) texts)
 next_taken texts at text old new e block room same taken grown =
     let many = as_many_taken texts at text old e same in
     let below : at < blocks_max = omega arith in

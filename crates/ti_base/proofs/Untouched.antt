@@ -16,7 +16,7 @@ use Rattle.ti_slots.specs.declared.slots.KeptFault.{KeptFault}
 use Rattle.ti_slots.specs.declared.slots.Settled.{Settled}
 use Rattle.ti_slots.specs.declared.slots.Slot.{Slot}
 use Rattle.ti_slots.specs.Settled.{IsSettled, fault_at, table_of}
-use Rattle.ti_base.specs.inside.KeptSlots.{reading_seen, AreSettled, PlacedSlot, with_slot, exchange_with}
+use Rattle.ti_base.specs.inside.KeptSlots.{reading_seen, SlotsAreSettled, PlacedSlot, with_slot, exchange_with}
 use Rattle.ti_base.proofs.SlotLists.{readings_with, get-with_slot}
 
 table_stays : (bs cs : List Reading) (b : Reading) (o : Option Table) → expansion cs b ≡ expansion bs b → HasTable contents bs b o → HasTable contents cs b o
@@ -38,7 +38,7 @@ settled_moved bs cs p q b settled e s f h = record {
 pub settled_in : (bs cs : List Reading) (at : ℕ) (b : Reading) (settled : Settled) → bs ≡ cs → IsSettled bs at b settled → IsSettled cs at b settled
 settled_in bs cs at b settled e h = subst (λ xs. IsSettled xs at b settled) e h
 
-pub others_settled : (rest : List (Option Slot)) (out put : Option PlacedSlot) → IsExchange (exchange_with rest out put) → AreSettled (with_slot rest out)
+pub others_settled : (rest : List (Option Slot)) (out put : Option PlacedSlot) → IsExchange (exchange_with rest out put) → SlotsAreSettled (with_slot rest out)
     → (at : ℕ) (slot : Slot) → slice_get (with_slot rest put) at ≡ Some (Some slot) → (IsDependent (exchange_with rest out put) at → ⊥)
     → IsSettled (map reading_seen (with_slot rest put)) at (reading_of slot.block) slot.settled
 others_settled rest out put fits settled at slot s other =

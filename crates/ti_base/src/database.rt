@@ -32,10 +32,10 @@ impl Model for Database {
 
     ghost Value = { List (List ℕ) };
 
-    ghost use Rattle.ti_slots.specs.Slots.{texts_of};
+    ghost use Rattle.ti_slots.specs.Slots.{slot_texts};
     ghost use Rattle.ti_base.specs.inside.KeptSlots.{AreKept};
 
-    ghost view = { λ d. texts_of d.slots };
+    ghost view = { λ d. slot_texts d.slots };
 
     ghost invariant = { λ d. AreKept d.slots };
 }

@@ -3,7 +3,7 @@
 ghost use Rattle.std.specs.Prelude.{◌≡◌, ◌<◌, ◌⊎◌, ◌++◌, ◌∷◌, [], length, map, IfErr, IfOk, OnOk};
 ghost use Rattle.ti_text.specs.Limits.{blocks_max};
 ghost use Rattle.ti_meaning.specs.declared.edits.EditError.TheVariants.{Memory};
-ghost use Rattle.ti_slots.specs.Slots.{texts_of};
+ghost use Rattle.ti_slots.specs.Slots.{slot_texts};
 ghost use Rattle.ti_base.specs.inside.KeptSlots.{AreKept, AreRead, IsSoundSlot};
 ghost use Rattle.ti_base.specs.Loading.{AreTaken, IsLoadRefusal};
 
@@ -22,7 +22,7 @@ fn append_slot(slots: &mut Slots, slot: Slot) -> Result<(), AllocError>
     requires few { length slots.old.order.listed < blocks_max }
     requires sound { IsSoundSlot slot }
     ensures read { OnOk result (AreRead slots.new) }
-    ensures texts { OnOk result (texts_of slots.new ≡ texts_of slots.old ++ slot.text.items ∷ []) }
+    ensures texts { OnOk result (slot_texts slots.new ≡ slot_texts slots.old ++ slot.text.items ∷ []) }
 {
     slots.make_room(&slot.block)?;
     let end = slots.order.ids().len();
@@ -33,7 +33,7 @@ fn append_slot(slots: &mut Slots, slot: Slot) -> Result<(), AllocError>
 /// A slot for each of the texts, in their order; nothing is found out about a block yet.
 fn read_slots(alloc: Global, texts: &[&[u8]]) -> Result<Slots, EditError>
     ensures read { IfOk result AreRead }
-    ensures texts { IfOk result (λ slots. texts_of slots ≡ map (λ text. text.now) texts.now) }
+    ensures texts { IfOk result (λ slots. slot_texts slots ≡ map (λ text. text.now) texts.now) }
     ensures taken { OnOk result (AreTaken (map (λ text. text.now) texts.now)) }
     ensures refused { IfErr result (λ error. (error ≡ Memory) ⊎ IsLoadRefusal (map (λ text. text.now) texts.now) error) }
 {
@@ -53,7 +53,7 @@ fn read_slots(alloc: Global, texts: &[&[u8]]) -> Result<Slots, EditError>
 /// The slots of a source of these blocks.
 pub(crate) fn load_slots(alloc: Global, texts: &[&[u8]]) -> Result<Slots, EditError>
     ensures kept { IfOk result AreKept }
-    ensures texts { IfOk result (λ slots. texts_of slots ≡ map (λ text. text.now) texts.now) }
+    ensures texts { IfOk result (λ slots. slot_texts slots ≡ map (λ text. text.now) texts.now) }
     ensures taken { OnOk result (AreTaken (map (λ text. text.now) texts.now)) }
     ensures refused { IfErr result (λ error. (error ≡ Memory) ⊎ IsLoadRefusal (map (λ text. text.now) texts.now) error) }
 {

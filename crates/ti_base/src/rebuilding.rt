@@ -5,10 +5,10 @@ ghost use Rattle.std.specs.Rc.{rc_slice_items};
 ghost use Rattle.ti_text.specs.Limits.{blocks_max};
 ghost use Rattle.ti_meaning.specs.Exchange.{Exchange};
 ghost use Rattle.ti_meaning.specs.Dependents.{AreDependents, work};
-ghost use Rattle.ti_slots.specs.Slots.{IsIndexed, StandsAt, slot_at, blocks_of, texts_of};
+ghost use Rattle.ti_slots.specs.Slots.{IsIndexed, StandsAt, slot_at, blocks_of, slot_texts};
 ghost use Rattle.ti_dependents.specs.Dependents.{IsExchangeOf};
 ghost use Rattle.ti_plan.specs.Plans.{IsReady};
-ghost use Rattle.ti_base.specs.inside.KeptSlots.{AreKept, AreRead, AreSound, slots_of, settled_at, settled_all};
+ghost use Rattle.ti_base.specs.inside.KeptSlots.{AreKept, AreRead, SlotsAreSound, slots_of, settled_at, settled_all};
 
 use std::alloc::{AllocError, Global};
 use std::mem;
@@ -56,11 +56,11 @@ pub(crate) fn rebuild(
 ) -> Result<Edited, AllocError>
     requires indexed { IsIndexed slots.old }
     requires few { length slots.old.order.listed ≤ blocks_max }
-    requires sound { AreSound (slots_of slots.old) }
+    requires sound { SlotsAreSound (slots_of slots.old) }
     requires put { (id : ℕ) → put ≡ Some id → (at : ℕ) × StandsAt slots.old at id }
     requires ready { IsReady slots.old put (map rc_slice_items out.now) }
     ensures kept { OnOk result (AreKept slots.new) }
-    ensures texts { OnOk result (texts_of slots.new ≡ texts_of slots.old) }
+    ensures texts { OnOk result (slot_texts slots.new ≡ slot_texts slots.old) }
     ensures dependents { IfOk result (λ e. (exchange : Exchange) → IsExchangeOf slots.old put (map rc_slice_items out.now) exchange
         → AreDependents exchange e.rebuilt.items) }
     ensures steps { IfOk result (λ e. e.work ≡ work (blocks_of slots.old) e.rebuilt.items) }
@@ -75,7 +75,7 @@ pub(crate) fn rebuild(
 pub(crate) fn rebuild_all(alloc: Global, slots: &mut Slots) -> Result<(), AllocError>
     requires { AreRead slots.old }
     ensures kept { OnOk result (AreKept slots.new) }
-    ensures texts { OnOk result (texts_of slots.new ≡ texts_of slots.old) }
+    ensures texts { OnOk result (slot_texts slots.new ≡ slot_texts slots.old) }
     ensures err { OnErr result (slots.new ≡ slots.old) }
 {
     let plan = plan_all(alloc, slots)?;

@@ -6,7 +6,7 @@ ghost use Rattle.ti_source.specs.Code.{code_text};
 ghost use Rattle.ti_meaning.specs.Report.{shown_byte, shown_detail, fault_line, lines_before, report_line};
 ghost use Rattle.ti_meaning.specs.Faults.{fault_seen};
 ghost use Rattle.ti_meaning.specs.inside.Bounds.{IsPlaced};
-ghost use Rattle.ti_slots.specs.Slots.{texts_of};
+ghost use Rattle.ti_slots.specs.Slots.{slot_texts};
 ghost use Rattle.ti_base.specs.inside.KeptSlots.{AreKept};
 
 use crate::owners::slot_of;
@@ -79,7 +79,7 @@ pub fn write_fault(
 fn line_starts(alloc: Global, slots: &Slots) -> Result<Vec<u64>, AllocError>
     requires { AreKept slots.now }
     ensures starts { IfOk result (λ starts. starts.items
-        ≡ map (lines_before (texts_of slots.now)) (range_with_len 0 (length (texts_of slots.now)))) }
+        ≡ map (lines_before (slot_texts slots.now)) (range_with_len 0 (length (slot_texts slots.now)))) }
     ensures small { IfOk result (λ starts. All (λ start. start ≤ 68719476736) starts.items) }
 {
     let count = slots.order.ids().len();
@@ -100,9 +100,9 @@ pub(crate) fn write_report(
     first_line: u64,
 ) -> Result<Vec<u8>, AllocError>
     requires kept { AreKept slots.now }
-    requires placed { All (IsPlaced (length (texts_of slots.now))) (map fault_seen faults.now) }
+    requires placed { All (IsPlaced (length (slot_texts slots.now))) (map fault_seen faults.now) }
     requires first { first_line ≤ 9223372036854775808 }
-    ensures { IfOk result (λ out. out.items ≡ flat_map (report_line (texts_of slots.now) first_line) (map fault_seen faults.now)) }
+    ensures { IfOk result (λ out. out.items ≡ flat_map (report_line (slot_texts slots.now) first_line) (map fault_seen faults.now)) }
 {
     let mut out = Vec::new(alloc);
     // Where there is nothing to report, no lines are counted.

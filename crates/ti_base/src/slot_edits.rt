@@ -5,7 +5,7 @@ ghost use Rattle.ti_text.specs.Limits.{blocks_max};
 ghost use Rattle.ti_source.specs.Reading.{reading_of};
 ghost use Rattle.ti_meaning.specs.Edits.{insertion, removal, relocation, with_item_moved, replacement};
 ghost use Rattle.ti_meaning.specs.Dependents.{Rebuilds};
-ghost use Rattle.ti_slots.specs.Slots.{IsIndexed, StandsAt, texts_of};
+ghost use Rattle.ti_slots.specs.Slots.{IsIndexed, StandsAt, slot_texts};
 ghost use Rattle.ti_slots.specs.Changes.{HasForgotten, HasRoomFor, PutsIn, TakesOut};
 ghost use Rattle.ti_base.specs.inside.KeptSlots.{AreKept, IsSoundSlot, HasId, slots_of, with_settled};
 
@@ -16,16 +16,23 @@ use ti_meaning::Edited;
 use ti_slots::{Slot, Slots, changes_are_undone};
 use ti_source::Parsed;
 
-/// Makes room for a block. All stays as it is, also at an error.
+/// Makes room for a block. All stays as it is; at an error the index lets go of the names that nobody has or uses.
 fn reserve(slots: &mut Slots, block: &Parsed) -> Result<(), AllocError>
     requires { AreKept slots.old }
     ensures kept { AreKept slots.new }
     ensures slots { slots_of slots.new ≡ slots_of slots.old }
     ensures listed { slots.new.order.listed ≡ slots.old.order.listed }
-    ensures texts { texts_of slots.new ≡ texts_of slots.old }
+    ensures texts { slot_texts slots.new ≡ slot_texts slots.old }
     ensures room { OnOk result (HasRoomFor slots.new (reading_of block.now)) }
+    ensures forgotten { OnErr result (HasForgotten slots.new (reading_of block.now)) }
 {
-    slots.make_room(block)
+    match slots.make_room(block) {
+        Ok(()) => Ok(()),
+        Err(error) => {
+            forget(slots, block);
+            Err(error)
+        }
+    }
 }
 
 /// Lets go of what the index keeps of names of a block that nobody has or uses any more.
@@ -33,7 +40,9 @@ fn forget(slots: &mut Slots, block: &Parsed)
     requires { AreKept slots.old }
     ensures forgotten { HasForgotten slots.new (reading_of block.now) }
     ensures kept { AreKept slots.new }
-    ensures texts { texts_of slots.new ≡ texts_of slots.old }
+    ensures slots { slots_of slots.new ≡ slots_of slots.old }
+    ensures listed { slots.new.order.listed ≡ slots.old.order.listed }
+    ensures texts { slot_texts slots.new ≡ slot_texts slots.old }
 {
     slots.forget_unused(block);
 }
@@ -93,9 +102,9 @@ pub(crate) fn insert_slot(
     requires few { length slots.old.order.listed < blocks_max }
     requires sound { IsSoundSlot slot }
     ensures kept { AreKept slots.new }
-    ensures texts { OnOk result (texts_of slots.new ≡ insert (texts_of slots.old) at slot.text.items) }
-    ensures rebuilds { IfOk result (λ e. Rebuilds (texts_of slots.old) (insertion at slot.text.items) e.rebuilt.items e.work) }
-    ensures err { OnErr result (texts_of slots.new ≡ texts_of slots.old) }
+    ensures texts { OnOk result (slot_texts slots.new ≡ insert (slot_texts slots.old) at slot.text.items) }
+    ensures rebuilds { IfOk result (λ e. Rebuilds (slot_texts slots.old) (insertion at slot.text.items) e.rebuilt.items e.work) }
+    ensures err { OnErr result (slot_texts slots.new ≡ slot_texts slots.old) }
 {
     reserve(slots, &slot.block)?;
     let id = put_slot(slots, at, slot);
@@ -120,9 +129,9 @@ pub(crate) fn replace_slot(
     requires within { at < length slots.old.order.listed }
     requires sound { IsSoundSlot slot }
     ensures kept { AreKept slots.new }
-    ensures texts { OnOk result (texts_of slots.new ≡ slice_set (texts_of slots.old) at slot.text.items) }
-    ensures rebuilds { IfOk result (λ e. Rebuilds (texts_of slots.old) (replacement at slot.text.items) e.rebuilt.items e.work) }
-    ensures err { OnErr result (texts_of slots.new ≡ texts_of slots.old) }
+    ensures texts { OnOk result (slot_texts slots.new ≡ slice_set (slot_texts slots.old) at slot.text.items) }
+    ensures rebuilds { IfOk result (λ e. Rebuilds (slot_texts slots.old) (replacement at slot.text.items) e.rebuilt.items e.work) }
+    ensures err { OnErr result (slot_texts slots.new ≡ slot_texts slots.old) }
 {
     reserve(slots, &slot.block)?;
     let mut old = take_slot(slots, at);
@@ -147,9 +156,9 @@ pub(crate) fn remove_slot(alloc: Global, slots: &mut Slots, at: usize) -> Result
     requires kept { AreKept slots.old }
     requires within { at < length slots.old.order.listed }
     ensures kept { AreKept slots.new }
-    ensures texts { OnOk result (texts_of slots.new ≡ remove (texts_of slots.old) at) }
-    ensures rebuilds { IfOk result (λ e. Rebuilds (texts_of slots.old) (removal at) e.rebuilt.items e.work) }
-    ensures err { OnErr result (texts_of slots.new ≡ texts_of slots.old) }
+    ensures texts { OnOk result (slot_texts slots.new ≡ remove (slot_texts slots.old) at) }
+    ensures rebuilds { IfOk result (λ e. Rebuilds (slot_texts slots.old) (removal at) e.rebuilt.items e.work) }
+    ensures err { OnErr result (slot_texts slots.new ≡ slot_texts slots.old) }
 {
     let old = take_slot(slots, at);
     match rebuild(alloc, slots, None, &old.block.names) {
@@ -175,9 +184,9 @@ pub(crate) fn move_slot(
     requires from { from < length slots.old.order.listed }
     requires to { to < length slots.old.order.listed }
     ensures kept { AreKept slots.new }
-    ensures texts { OnOk result (texts_of slots.new ≡ with_item_moved (texts_of slots.old) from to) }
-    ensures rebuilds { IfOk result (λ e. Rebuilds (texts_of slots.old) (relocation from to) e.rebuilt.items e.work) }
-    ensures err { OnErr result (texts_of slots.new ≡ texts_of slots.old) }
+    ensures texts { OnOk result (slot_texts slots.new ≡ with_item_moved (slot_texts slots.old) from to) }
+    ensures rebuilds { IfOk result (λ e. Rebuilds (slot_texts slots.old) (relocation from to) e.rebuilt.items e.work) }
+    ensures err { OnErr result (slot_texts slots.new ≡ slot_texts slots.old) }
 {
     let slot = take_slot(slots, from);
     let id = put_slot(slots, to, slot);

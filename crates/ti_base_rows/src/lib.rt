@@ -11,7 +11,6 @@
 //! - `runs`: a run of edits
 //! - `loading`: sources taken in one go
 //! - `plans`: the plans of small lists
-//! - `random`: edits made at random beside a database made afresh
 #![tactic(auto)]
 
 #[cfg(test)]
@@ -26,8 +25,6 @@ mod loading;
 mod owners;
 #[cfg(test)]
 mod plans;
-#[cfg(test)]
-mod random;
 #[cfg(test)]
 mod reports;
 #[cfg(test)]

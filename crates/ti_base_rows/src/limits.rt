@@ -44,7 +44,7 @@ fn each_refusal_of_no_blocks(rt: HostRuntime) -> Result<(), AllocError> {
 }
 
 /// These bytes, so many times `middle`, and these bytes.
-fn repeated(
+fn text_with_run(
     alloc: Global,
     front: &[u8],
     middle: u8,
@@ -78,7 +78,7 @@ fn expect_too_long(rt: &impl Abort, database: &mut Database, text: &[u8]) {
 
 /// A source of one block, as long as a block may be.
 fn longest_block(rt: &impl Abort, alloc: Global) -> Result<Database, EditError> {
-    let text = repeated(alloc, b"x,\n#", b'a', 1_048_571, b"\n")?;
+    let text = text_with_run(alloc, b"x,\n#", b'a', 1_048_571, b"\n")?;
     assert!(rt; text.len() == 1_048_576);
     source_of(alloc, &[text.as_slice()])
 }
@@ -86,7 +86,7 @@ fn longest_block(rt: &impl Abort, alloc: Global) -> Result<Database, EditError> 
 #[test]
 fn the_longest_block(rt: HostRuntime) -> Result<(), EditError> {
     let mut database = longest_block(&rt, rt.alloc())?;
-    let longer = repeated(rt.alloc(), b"x,\n#", b'a', 1_048_572, b"\n")?;
+    let longer = text_with_run(rt.alloc(), b"x,\n#", b'a', 1_048_572, b"\n")?;
     expect_too_long(&rt, &mut database, &longer);
     Ok(())
 }
@@ -101,7 +101,7 @@ struct Large<'a> {
 }
 
 fn text_of(alloc: Global, block: &Large<'_>) -> Result<Vec<u8>, AllocError> {
-    repeated(alloc, block.front, b'A', block.count, block.back)
+    text_with_run(alloc, block.front, b'A', block.count, block.back)
 }
 
 /// The report of a source whose only block is `x` or `xy` with a `cbt`.
@@ -207,7 +207,7 @@ const ENTRY_WITH_CBT: [u8; 18] = [
 
 /// A block whose entry is too large, and one that uses it.
 fn large_and_user(alloc: Global) -> Result<Database, EditError> {
-    let large = repeated(alloc, b"x,cbt=", b'A', 4080, b",\n")?;
+    let large = text_with_run(alloc, b"x,cbt=", b'A', 4080, b",\n")?;
     source_of(alloc, &[large.as_slice(), b"v,cbt=B,use=x,\n"])
 }
 

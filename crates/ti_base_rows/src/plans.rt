@@ -230,7 +230,7 @@ const PLAN_OF_CIRCULAR: Wanted<'static> = Wanted {
 };
 
 #[test]
-fn circular(rt: HostRuntime) -> Result<(), Fail> {
+fn broken_block_is_circular(rt: HostRuntime) -> Result<(), Fail> {
     let alloc = rt.alloc();
     let mut slots = Slots::new(alloc);
     put(alloc, &mut slots, b"b,use=a,\n")?;

@@ -7,7 +7,7 @@ use Rattle.ti_caps.specs.declared.tables.TheConstants.{BY_NAME}
 use Rattle.ti_caps.specs.Names.{flag_names, number_names, text_names}
 use Rattle.ti_caps.specs.Tables.{Capability, IsCapability, name_of, names}
 use Rattle.ti_caps.specs.ByName.{Row, capability_numbered, row_of, by_name}
-use Rattle.ti_caps.specs.inside.ByName.{IsRowOf, IsOfAnother, HasNoRow}
+use Rattle.ti_caps.specs.inside.ByName.{IsTableRow, IsOfAnother, HasNoRow}
 use Rattle.ti_caps.specs.inside.Keys.{key_of}
 use Rattle.ti_caps.proofs.Table.{row_names}
 
@@ -104,7 +104,7 @@ module _ (i n : ℕ) (c : Capability) (within : i < length by_name) (at : n ≡ 
   is_there = rw is (row_names (row_of (capability_numbered n)) (i, within, row_at_place i n (row_of (capability_numbered n)) within at)).0
 
   -- a row whose name is that one is a row of the name
-  pub row_here : (x : List ℕ) → name_of c ≡ x → IsRowOf by_name x c.kind c.index
+  pub row_here : (x : List ℕ) → name_of c ≡ x → IsTableRow by_name x c.kind c.index
   row_here x same = (i, within, row_at_place i n (x, c.kind, c.index) within at ∙ ap row_of (sym is) ∙ ap (λ (m : List ℕ). (m, c.kind, c.index)) same)
 
   -- and one whose name isn't is of another

@@ -5,7 +5,7 @@ use Rattle.ti_caps.specs.declared.capability.Kind.{Kind}
 use Rattle.ti_caps.specs.declared.capability.Kind.TheVariants.{Flag, Number, Text}
 use Rattle.ti_caps.specs.Tables.{Capability, IsCapability, capability, count_of, name_of, names, EveryNameIsFound, place_of, named_in, first_of_two, capability_named}
 use Rattle.ti_caps.specs.ByName.{by_name}
-use Rattle.ti_caps.specs.inside.ByName.{IsRowOf}
+use Rattle.ti_caps.specs.inside.ByName.{IsTableRow}
 use Rattle.ti_caps.proofs.Table.{length-names, row_names, distinct_names}
 
 -- a place of a name, or that there is none
@@ -87,6 +87,6 @@ pub record IsFound (x : List ℕ) (k : Kind) (i : ℕ) (r : Option Capability) :
   pub within : i < count_of k
   pub named : name_of (capability k i) ≡ x
 
-pub found_at : (x : List ℕ) (k : Kind) (i : ℕ) (r : Option Capability) → IsRowOf by_name x k i → IsSome r ↔ (i < count_of k) → IfSome r (λ c. c ≡ capability k i) → IsFound x k i r
+pub found_at : (x : List ℕ) (k : Kind) (i : ℕ) (r : Option Capability) → IsTableRow by_name x k i → IsSome r ↔ (i < count_of k) → IfSome r (λ c. c ≡ capability k i) → IsFound x k i r
 found_at x k i None row there value = let says = row_names (x, k, i) row in let some : IsSome {T = Capability} None = there.1 says.0 in cc
 found_at x k i (Some c) row there value = let says = row_names (x, k, i) row in record { is = ap (λ e. Some e) value; within = says.0; named = says.1 }

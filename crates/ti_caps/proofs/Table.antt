@@ -10,7 +10,7 @@ use Rattle.ti_caps.specs.declared.capability.Kind.TheVariants.{Flag, Number, Tex
 use Rattle.ti_caps.specs.Tables.{same_kind, Capability, IsCapability, capability, count_of, name_of, names, CapabilityNamesAreDistinct}
 use Rattle.ti_caps.specs.Names.{flag_names, number_names, text_names}
 use Rattle.ti_caps.specs.ByName.{Row, by_name, IsInNameOrder}
-use Rattle.ti_caps.specs.inside.ByName.{IsRowOf, HasNoRow}
+use Rattle.ti_caps.specs.inside.ByName.{IsTableRow, HasNoRow}
 use Rattle.ti_caps.proofs.Same.{same_kind-true}
 use Rattle.ti_caps.proofs.Order.{order_from_rising, names_apart}
 
@@ -79,7 +79,7 @@ covered_at k i (n ∷ ns) h (suc j) l =
     subst (λ m. has_row k m by_name ≡ true) further (covered_at k (i + 1) ns (and_parts _ _ h).1 j (omega arith))
 
 -- each capability has a row, with its name
-pub row_of_capability : (c : Capability) → IsCapability c → IsRowOf by_name (name_of c) c.kind c.index
+pub row_of_capability : (c : Capability) → IsCapability c → IsTableRow by_name (name_of c) c.kind c.index
 row_of_capability c within =
     let test = covered_at c.kind 0 (names c.kind) (all_covered c.kind) c.index (rw length-names within) in
     let (n, among) = row_from_test c.kind c.index by_name (subst (λ m. has_row c.kind m by_name ≡ true) (zero-add c.index) test) in

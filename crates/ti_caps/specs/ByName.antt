@@ -7,7 +7,7 @@ use Rattle.std.specs.Borrow.{Bor}
 use Rattle.ti_caps.specs.declared.capability.Kind.{Kind}
 use Rattle.ti_caps.specs.declared.capability.Kind.TheVariants.{Flag, Number, Text}
 use Rattle.ti_caps.specs.declared.tables.TheConstants.{BY_NAME}
-use Rattle.ti_caps.specs.Tables.{Capability, capability, name_of}
+use Rattle.ti_caps.specs.Tables.{Capability, capability, name_of, rank_in}
 
 -- the texts of a slice of texts
 abbrev pub texts_of : List (Bor (List ℕ)) → List (List ℕ)
@@ -19,7 +19,7 @@ Row = List ℕ × Kind × ℕ
 
 -- the capability that has a number: all are counted from 0, the flags first, then the numbers, then the texts, each in the order of its list
 abbrev pub capability_numbered : ℕ → Capability
-capability_numbered n = if nat_lt n 44 then capability Flag n else (if nat_lt n 83 then capability Number (n - 44) else capability Text (n - 83))
+capability_numbered n = if nat_lt n (rank_in Number) then capability Flag n else (if nat_lt n (rank_in Text) then capability Number (n - rank_in Number) else capability Text (n - rank_in Text))
 
 -- the row of a capability
 abbrev pub row_of : Capability → Row

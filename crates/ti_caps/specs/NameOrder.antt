@@ -8,12 +8,12 @@ use Rattle.ti_caps.specs.Tables.{same_kind, Capability, IsCapability, capability
 use Rattle.ti_caps.specs.ByName.{Row, by_name}
 
 -- the capabilities of a kind that have a row, in the order of the rows
-abbrev pub of_kind : Kind → List Row → List Capability
-of_kind kind rows = map (λ row. capability row.1 row.2) (filter (λ row. same_kind row.1 kind) rows)
+abbrev pub rows_of_kind : Kind → List Row → List Capability
+rows_of_kind kind rows = map (λ row. capability row.1 row.2) (filter (λ row. same_kind row.1 kind) rows)
 
 -- the capabilities of a kind by the bytes of their names
 abbrev pub in_name_order : Kind → List Capability
-in_name_order kind = of_kind kind by_name
+in_name_order kind = rows_of_kind kind by_name
 
 -- the list has each capability of the kind, and each name comes before the next, byte by byte
 pub record IsNameOrder (kind : Kind) (caps : List Capability) : Type 0 where

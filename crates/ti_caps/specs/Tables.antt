@@ -1,5 +1,5 @@
 -- The capabilities and their names, and the capability of a name (own, over the lists of the names).
-use Rattle.std.specs.Prelude.{◌≡◌, ℕ, ◌<◌, Bool, true, false, ◌&&◌, nat_eq, List, [], ◌∷◌, map, slice_index_or, Option, Some, None, option_map, if◌then◌else◌, bytes_eq, suc, codes}
+use Rattle.std.specs.Prelude.{◌≡◌, ℕ, ◌<◌, Bool, true, false, ◌&&◌, nat_eq, List, [], ◌∷◌, map, slice_index_or, Option, Some, None, option_map, if◌then◌else◌, bytes_eq, suc, codes, ◌+◌}
 use Rattle.ti_caps.specs.declared.capability.Kind.{Kind}
 use Rattle.ti_caps.specs.declared.capability.Kind.TheVariants.{Flag, Number, Text}
 use Rattle.ti_caps.specs.Names.{flag_names, number_names, text_names}
@@ -35,6 +35,16 @@ abbrev pub count_of : Kind → ℕ
 count_of Flag = 44
 count_of Number = 39
 count_of Text = 414
+
+-- where a kind begins among all capabilities, in the order of the compiled entry
+abbrev pub rank_in : Kind → ℕ
+rank_in Flag = 0
+rank_in Number = count_of Flag
+rank_in Text = count_of Flag + count_of Number
+
+-- how many capabilities there are
+abbrev pub capability_count : ℕ
+capability_count = rank_in Text + count_of Text
 
 -- the place is within the list of the kind
 abbrev pub IsCapability : Capability → Type 0

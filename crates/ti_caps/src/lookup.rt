@@ -3,7 +3,7 @@ ghost use Rattle.std.specs.Prelude.{◌≡◌, ◌≢◌, ◌<◌, length, [], I
 ghost use Rattle.std.specs.List.{slice_index_or};
 ghost use Rattle.ti_caps.specs.Tables.{Capability, IsCapability, capability, capability_named, count_of, name_of, names, EveryNameIsFound, CapabilityNamesAreDistinct};
 ghost use Rattle.ti_caps.specs.ByName.{by_name, capability_numbered, texts_of};
-ghost use Rattle.ti_caps.specs.inside.ByName.{IsRowOf, IsOfAnother, HasNoRow};
+ghost use Rattle.ti_caps.specs.inside.ByName.{IsTableRow, IsOfAnother, HasNoRow};
 
 use crate::capability::{Cap, Kind};
 use crate::keys::{KEYS, key_of};
@@ -40,7 +40,7 @@ pub fn find(name: &[u8]) -> Option<Cap>
 
 // The kind and the index that the table gives to a name, by a binary search of its key.
 fn kind_and_index(name: &[u8]) -> Option<(Kind, usize)>
-    ensures found { IfSome result (λ r. IsRowOf by_name name.now r.0 r.1) }
+    ensures found { IfSome result (λ r. IsTableRow by_name name.now r.0 r.1) }
     ensures none { IfNone result (HasNoRow by_name name.now) }
 {
     match KEYS.binary_search(&key_of(name)) {
@@ -82,7 +82,7 @@ fn text_at(names: &'static [&'static str], index: usize) -> &'static str
 // The kind and the index of the capability at a place of the order by names, where it has that name.
 fn row_at(place: usize, name: &[u8]) -> Option<(Kind, usize)>
     requires { place < length by_name }
-    ensures found { IfSome result (λ r. IsRowOf by_name name.now r.0 r.1) }
+    ensures found { IfSome result (λ r. IsTableRow by_name name.now r.0 r.1) }
     ensures none { IfNone result (IsOfAnother by_name place name.now) }
 {
     let (kind, index) = capability_numbered(number_at(&BY_NAME, place));

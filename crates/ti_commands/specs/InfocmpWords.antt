@@ -117,8 +117,8 @@ pub record InfocmpTask : Type 0 where
   pub other_dir : Option Text
 
 -- the names
-abbrev pub names_in : List Row → List Text
-names_in rows = unwrap_or (all_of (codes "name") rows) []
+abbrev pub name_words : List Row → List Text
+name_words rows = unwrap_or (all_of (codes "name") rows) []
 
 -- the job, where a mode, a width and an order are there
 abbrev pub task_with : Option InfocmpMode → Option ℕ → Option Order → List Row → List Text → Option InfocmpTask
@@ -140,4 +140,4 @@ infocmp_with rows names =
 
 -- the job of `infocmp` with these matches
 abbrev pub infocmp_task : List Row → Option InfocmpTask
-infocmp_task rows = infocmp_with rows (names_in rows)
+infocmp_task rows = infocmp_with rows (name_words rows)

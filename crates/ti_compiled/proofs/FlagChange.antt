@@ -5,7 +5,7 @@ use Rattle.ti_caps.specs.Tables.{capability}
 use Rattle.ti_caps.specs.declared.capability.Kind.TheVariants.{Flag, Number, Text}
 use Rattle.ti_layout.specs.declared.layout.Format.TheVariants.{Legacy}
 use Rattle.ti_layout.specs.declared.layout.Header.{Header}
-use Rattle.ti_layout.specs.Image.{image, below, even_gap, flag_value, flags_below, format_of, limit_of, numbers_below, of_kind, offsets_below, texts_below, written_count}
+use Rattle.ti_layout.specs.Image.{image, below, even_gap, flag_value, flags_below, format_of, image_limit, numbers_below, of_kind, offsets_below, texts_below, written_count}
 use Rattle.ti_layout.specs.Layout.{header, number_section, entry_size, width}
 use Rattle.ti_layout.specs.Laws.{without_cancel}
 use Rattle.ti_layout.specs.Sizes.{HasSizes}
@@ -124,7 +124,7 @@ module _ (names : List ℕ) (c : Contents) (past : HoldsNoOther c) (index : ℕ)
     pub flag_cut : n ≤ index → With b1
     flag_cut le = flags_resized ∙ ap (λ t. (head names c ++ (names ++ 0 ∷ [])) ++ (t ++ behind c)) (below-same (bytes_of c) (bytes_of g) n (λ j lt. sym (others j (λ same. omega arith))))
 
-    pub flag_changed : (b2 b3 : List ℕ) (k : Header) → With b2 → HasSizes names g k → length (image names g) ≤ limit_of g → n ≡ k.flags + (k.names + k.flags) % 2
+    pub flag_changed : (b2 b3 : List ℕ) (k : Header) → With b2 → HasSizes names g k → length (image names g) ≤ image_limit g → n ≡ k.flags + (k.names + k.flags) % 2
         → Replaces b2 b3 0 12 (λ _. header k.format k.names k.flags k.numbers k.texts k.strings) → b3 ≡ image names g
     flag_changed b2 b3 k so_far has small e replaces =
         let rest = (names ++ 0 ∷ []) ++ (below (bytes_of g) n ++ behind c) in

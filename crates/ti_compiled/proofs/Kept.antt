@@ -10,15 +10,15 @@ use Rattle.ti_caps.proofs.Same.{same_capability-true}
 use Rattle.ti_caps.specs.declared.capability.Kind.{Kind}
 use Rattle.ti_caps.specs.declared.capability.Kind.TheVariants.{Flag, Number, Text}
 use Rattle.ti_layout.specs.declared.layout.Format.{Format}
-use Rattle.ti_layout.specs.Image.{image, limit_of}
+use Rattle.ti_layout.specs.Image.{image, image_limit}
 use Rattle.ti_layout.specs.Laws.{without_cancel}
-use Rattle.ti_layout.specs.Reading.{Reads, says, flag_of, number_of, text_of}
+use Rattle.ti_layout.specs.Reading.{Reads, says, stored_flag, stored_number, stored_text}
 use Rattle.ti_layout.specs.Values.{Content, content_true, content_number, content_text, content_cancelled, Contents, AgreesIfSome, HasNoNul}
 use Rattle.ti_layout.proofs.OneReading.{read_names, read_contents}
 use Rattle.ti_layout.proofs.ImageReading.{images_are_read}
 use Rattle.ti_layout.proofs.OfValues.{images_are_of_values, limits_are_of_values}
 use Rattle.ti_layout.specs.declared.writing.WriteError.TheVariants.{TooLarge}
-use Rattle.ti_compiled.specs.Changes.{HoldsGiven, IsWithin, IsOver}
+use Rattle.ti_compiled.specs.Changes.{HoldsGiven, ImageFits, IsOver}
 use Rattle.ti_compiled.specs.Image.{names_in, contents_in, with_content, IsImage}
 use Rattle.ti_compiled.proofs.Carried.{carried}
 
@@ -39,9 +39,9 @@ uncancelled-agrees c (Some content_cancelled) a = tt
 -- the sections say nothing of what is no capability
 says_past : (w : Format) (flags numbers offsets strings : List ℕ) → length flags ≤ 44 → length numbers ≤ 39 → length offsets ≤ 414
     → (kind : Kind) (index : ℕ) → count_of kind ≤ index → says w flags numbers offsets strings kind index ≡ None
-says_past w flags numbers offsets strings f n o Flag index past = ap flag_of (get_or_past flags index 0 (omega arith))
-says_past w flags numbers offsets strings f n o Number index past = ap (option_and_then (number_of w)) (slice_get_past numbers index (omega arith))
-says_past w flags numbers offsets strings f n o Text index past = ap (option_and_then (text_of strings)) (slice_get_past offsets index (omega arith))
+says_past w flags numbers offsets strings f n o Flag index past = ap stored_flag (get_or_past flags index 0 (omega arith))
+says_past w flags numbers offsets strings f n o Number index past = ap (option_and_then (stored_number w)) (slice_get_past numbers index (omega arith))
+says_past w flags numbers offsets strings f n o Text index past = ap (option_and_then (stored_text strings)) (slice_get_past offsets index (omega arith))
 
 -- what the bytes of an image hold
 pub record Again (bytes names : List ℕ) (contents : Contents) : Type 0 where
@@ -50,9 +50,9 @@ pub record Again (bytes names : List ℕ) (contents : Contents) : Type 0 where
   pub kept : IsImage bytes
 
 pub read_again : (bytes names : List ℕ) (contents : Contents) → 0 < length names → length names ≤ 127 → HasNoNul names
-    → ((c : Capability) → IsCapability c → AgreesIfSome c (contents c)) → length bytes ≤ limit_of contents → bytes ≡ image names contents → Again bytes names contents
+    → ((c : Capability) → IsCapability c → AgreesIfSome c (contents c)) → length bytes ≤ image_limit contents → bytes ≡ image names contents → Again bytes names contents
 read_again bytes names contents some short no_nul agree within whole =
-    let r = images_are_read names contents some short no_nul agree (subst (λ (b : List ℕ). length b ≤ limit_of contents) whole within) in
+    let r = images_are_read names contents some short no_nul agree (subst (λ (b : List ℕ). length b ≤ image_limit contents) whole within) in
     let reads = subst (λ b. Reads b names r.0) (sym whole) r.1 in
     let n = read_names bytes names r.0 reads in
     let d = read_contents bytes names r.0 reads in
@@ -74,7 +74,7 @@ read_again bytes names contents some short no_nul agree within whole =
           past = λ kind index past.
               ap (λ (f : Contents). f (capability kind index)) (sym d ∙ reads.held)
               ∙ says_past reads.format reads.sections.flags reads.sections.numbers reads.sections.offsets reads.sections.strings reads.sound.flag_count reads.sound.number_count reads.sound.text_count kind index past;
-          within = subst (λ (b : List ℕ). length b ≤ limit_of (contents_in bytes)) (whole ∙ again) (subst (λ n. length bytes ≤ n) limits within);
+          within = subst (λ (b : List ℕ). length b ≤ image_limit (contents_in bytes)) (whole ∙ again) (subst (λ n. length bytes ≤ n) limits within);
         };
         whole = whole ∙ again;
       };
@@ -92,15 +92,15 @@ given_agrees d k v agrees x old = elim (same_capability k x) as (λ b. same_capa
 
 -- what is given leaves an image
 pub given_again : (b bytes : List ℕ) → IsImage b → (k : Capability) (v : Option Content) → AgreesIfSome k v
-    → length (image (names_in b) (with_content (contents_in b) k v)) ≤ limit_of (with_content (contents_in b) k v) → bytes ≡ image (names_in b) (with_content (contents_in b) k v) → Again bytes (names_in b) (with_content (contents_in b) k v)
+    → length (image (names_in b) (with_content (contents_in b) k v)) ≤ image_limit (with_content (contents_in b) k v) → bytes ≡ image (names_in b) (with_content (contents_in b) k v) → Again bytes (names_in b) (with_content (contents_in b) k v)
 given_again b bytes is k v agrees within whole =
     let d = contents_in b in
     read_again bytes (names_in b) (with_content d k v) is.imaged.some is.imaged.short is.imaged.no_nul
     (λ x valid. given_agrees d k v agrees x (is.imaged.agree x valid))
-    (subst (λ (y : List ℕ). length y ≤ limit_of (with_content d k v)) (sym whole) within) whole
+    (subst (λ (y : List ℕ). length y ≤ image_limit (with_content d k v)) (sym whole) within) whole
 
 kept_after : (r : Result (Unit {0}) WriteError) (b new : List ℕ) → IsImage b → (k : Capability) (v : Option Content) → AgreesIfSome k v → OnOk r (new ≡ image (names_in b) (with_content (contents_in b) k v))
-    → OnOk r (length (image (names_in b) (with_content (contents_in b) k v)) ≤ limit_of (with_content (contents_in b) k v)) → OnErr r (new ≡ b) → IsImage new
+    → OnOk r (length (image (names_in b) (with_content (contents_in b) k v)) ≤ image_limit (with_content (contents_in b) k v)) → OnErr r (new ≡ b) → IsImage new
 kept_after (Ok x) b new is k v agrees made within same = (given_again b new is k v agrees within made).kept
 kept_after (Err x) b new is k v agrees made within same = subst IsImage (sym same) is
 
@@ -108,12 +108,12 @@ given_present : (d : Contents) (k : Capability) (v : Option Content) → without
 given_present d k v present x old = elim (same_capability k x) as (λ b. without_cancel (cond b v (d x)) ≡ cond b v (d x)) [ true ↦ present | false ↦ old ]
 
 given_names : (r : Result (Unit {0}) WriteError) (b new : List ℕ) → IsImage b → (k : Capability) (v : Option Content) → AgreesIfSome k v → OnOk r (new ≡ image (names_in b) (with_content (contents_in b) k v))
-    → OnOk r (length (image (names_in b) (with_content (contents_in b) k v)) ≤ limit_of (with_content (contents_in b) k v)) → OnOk r (names_in new ≡ names_in b)
+    → OnOk r (length (image (names_in b) (with_content (contents_in b) k v)) ≤ image_limit (with_content (contents_in b) k v)) → OnOk r (names_in new ≡ names_in b)
 given_names (Ok x) b new is k v agrees made within = (given_again b new is k v agrees within made).names_read
 given_names (Err x) b new is k v agrees made within = tt
 
 given_contents : (r : Result (Unit {0}) WriteError) (b new : List ℕ) → IsImage b → (k : Capability) (v : Option Content) → AgreesIfSome k v → without_cancel v ≡ v → OnOk r (new ≡ image (names_in b) (with_content (contents_in b) k v))
-    → OnOk r (length (image (names_in b) (with_content (contents_in b) k v)) ≤ limit_of (with_content (contents_in b) k v)) → OnOk r (HoldsGiven b new k v)
+    → OnOk r (length (image (names_in b) (with_content (contents_in b) k v)) ≤ image_limit (with_content (contents_in b) k v)) → OnOk r (HoldsGiven b new k v)
 given_contents (Ok x) b new is k v agrees present made within = record {
   says = λ c valid. (given_again b new is k v agrees within made).contents_read c valid ∙ given_present (contents_in b) k v present c (is.imaged.present c valid);
 }
@@ -122,14 +122,14 @@ given_contents (Err x) b new is k v agrees present made within = tt
 -- what is so where a value was given by its kind and place, or was refused
 pub record AfterGiving (r : Result (Unit {0}) WriteError) (b new : List ℕ) (k : Capability) (v : Option Content) : Type 0 where
   pub kept : IsImage new
-  pub within : OnOk r (IsWithin (names_in b) (with_content (contents_in b) k v))
+  pub within : OnOk r (ImageFits (names_in b) (with_content (contents_in b) k v))
   pub too_large : IsErrOf r TooLarge ↔ IsOver (names_in b) (with_content (contents_in b) k v)
   pub names : OnOk r (names_in new ≡ names_in b)
   pub contents : OnOk r (HoldsGiven b new k v)
 
 pub after_giving : (r : Result (Unit {0}) WriteError) (x b new : List ℕ) (k : Capability) (kind : Kind) (i : ℕ) (v : Option Content) → x ≡ b → k.kind ≡ kind → i ≡ k.index
     → IsImage x → AgreesIfSome (capability kind i) v → without_cancel v ≡ v → OnOk r (new ≡ image (names_in x) (with_content (contents_in x) (capability kind i) v))
-    → OnOk r (IsWithin (names_in x) (with_content (contents_in x) (capability kind i) v)) → (IsErrOf r TooLarge ↔ IsOver (names_in x) (with_content (contents_in x) (capability kind i) v)) → OnErr r (new ≡ x)
+    → OnOk r (ImageFits (names_in x) (with_content (contents_in x) (capability kind i) v)) → (IsErrOf r TooLarge ↔ IsOver (names_in x) (with_content (contents_in x) (capability kind i) v)) → OnErr r (new ≡ x)
     → AfterGiving r b new k v
 after_giving r x b new k kind i v same e f is agrees present made within over left =
     carried (λ y d. AfterGiving r y new d v) x b k kind i same e f (record {
@@ -143,9 +143,9 @@ after_giving r x b new k kind i v same e f is agrees present made within over le
 -- an image of the same names and values is the image of any contents that say them
 pub record LaidAs (i names : List ℕ) (t : Contents) : Type 0 where
   pub whole : i ≡ image names t
-  pub within : IsWithin names t
+  pub within : ImageFits names t
 
-pub laid_as : (i names : List ℕ) (t : Contents) → i ≡ image (names_in i) (contents_in i) → IsWithin (names_in i) (contents_in i) → names_in i ≡ names
+pub laid_as : (i names : List ℕ) (t : Contents) → i ≡ image (names_in i) (contents_in i) → ImageFits (names_in i) (contents_in i) → names_in i ≡ names
     → ((c : Capability) → IsCapability c → contents_in i c ≡ without_cancel (t c)) → LaidAs i names t
 laid_as i names t whole within named said =
     let same : (c : Capability) → IsCapability c → without_cancel (contents_in i c) ≡ without_cancel (t c) = λ c valid. ap without_cancel (said c valid) ∙ uncancelled-twice (t c) in
@@ -153,5 +153,5 @@ laid_as i names t whole within named said =
     let limits = limits_are_of_values (contents_in i) t same in
     record {
       whole = whole ∙ again;
-      within = subst (λ n. length (image names t) ≤ n) limits (subst (λ (b : List ℕ). length b ≤ limit_of (contents_in i)) again within);
+      within = subst (λ n. length (image names t) ≤ n) limits (subst (λ (b : List ℕ). length b ≤ image_limit (contents_in i)) again within);
     }

@@ -12,7 +12,7 @@ pub mod Moving
 pub mod TextPlaces
 pub mod TextChange
 pub mod TextSizes
-pub mod TextLaid
+pub mod TextSteps
 pub mod TextFits
 pub mod Rooms
 pub mod NumberPlaces

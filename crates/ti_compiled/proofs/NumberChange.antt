@@ -5,7 +5,7 @@ use Rattle.ti_caps.specs.declared.capability.Kind.TheVariants.{Number, Text}
 use Rattle.ti_layout.specs.declared.layout.Format.{Format}
 use Rattle.ti_layout.specs.declared.layout.Format.TheVariants.{Legacy, Extended}
 use Rattle.ti_layout.specs.declared.layout.Header.{Header}
-use Rattle.ti_layout.specs.Image.{image, below, format_of, is_there, limit_of, number_value, of_kind, offsets_below, texts_below, written_count}
+use Rattle.ti_layout.specs.Image.{image, below, format_of, is_there, image_limit, number_value, of_kind, offsets_below, texts_below, written_count}
 use Rattle.ti_layout.specs.Layout.{absent_mark, header, number_bytes, number_section, width}
 use Rattle.ti_layout.specs.Sizes.{HasSizes, at_most_max}
 use Rattle.ti_layout.specs.Values.{Content, content_true, content_number, content_text, content_cancelled, Contents, AgreesIfSome}
@@ -122,7 +122,7 @@ module _ (b : List ℕ) (is : IsImage b) (h : Header) (has : HasSizes (names_in 
         ∙ ap (λ w. number_section w (below (wide_value g) k.numbers)) has_g.format ∙ ap (λ m. number_section (format_of g) (below (wide_value g) m)) has_g.numbers ∙ narrow_spelled (format_of g) g (written_count g Number)
 
     pub numbers_changed : (b1 b2 b3 values : List ℕ) (place size wanted fill : ℕ) → place ≡ numbers_from h → size ≡ width h.format * h.numbers → wanted ≡ width k.format * k.numbers
-        → values ≡ below (wide_value (with_number b index n)) 39 → length (image (names_in b) (with_number b index n)) ≤ limit_of (with_number b index n)
+        → values ≡ below (wide_value (with_number b index n)) 39 → length (image (names_in b) (with_number b index n)) ≤ image_limit (with_number b index n)
         → Replaces b b1 place size (λ m. with_length m wanted fill) → Replaces b1 b2 place (width k.format * k.numbers) (λ _. number_section k.format (take k.numbers values))
         → Replaces b2 b3 0 12 (λ _. header k.format k.names k.flags k.numbers k.texts k.strings) → b3 ≡ image (names_in b) (with_number b index n)
     numbers_changed b1 b2 b3 values place size wanted fill ep es ew all small resizes puts heads =

@@ -7,7 +7,7 @@ use Rattle.ti_caps.proofs.Same.{same_capability-true}
 use Rattle.ti_layout.specs.Laws.{without_cancel}
 use Rattle.ti_layout.specs.Values.{Content, Contents, TableEntry, Agrees, IsKept, contents, content_of, entries_of}
 use Rattle.ti_layout.specs.declared.values.Value.{Value}
-use Rattle.ti_layout.proofs.Held.{contents_nowhere, other_from_test}
+use Rattle.ti_layout.proofs.KeptEntries.{contents_nowhere, other_from_test}
 use Rattle.ti_layout.proofs.Places.{elsewhere}
 use Rattle.ti_layout.proofs.Walked.{contents_read, item_read}
 use Rattle.ti_compiled.specs.Changes.{HoldsGiven}

@@ -7,9 +7,9 @@ use Rattle.ti_layout.specs.Image.{of_kind, text_piece, texts_below}
 use Rattle.ti_layout.specs.Values.{Contents}
 use Rattle.ti_layout.proofs.Texts.{texts-more, texts-same}
 use Rattle.ti_compiled.specs.inside.Changes.{text_content}
-use Rattle.ti_compiled.specs.inside.Parts.{piece}
+use Rattle.ti_compiled.specs.inside.Parts.{ended_text}
 
-pub piece_of : (t : Option (List ℕ)) → text_piece (text_content t) ≡ piece t
+pub piece_of : (t : Option (List ℕ)) → text_piece (text_content t) ≡ ended_text t
 piece_of None = refl
 piece_of (Some t) = refl
 

@@ -4,13 +4,13 @@ use Rattle.ti_caps.specs.Tables.{capability}
 use Rattle.ti_caps.specs.declared.capability.Kind.TheVariants.{Text}
 use Rattle.ti_layout.specs.declared.layout.Format.{Format}
 use Rattle.ti_layout.specs.declared.layout.Header.{Header}
-use Rattle.ti_layout.specs.Image.{image, format_of, is_there, limit_of, of_kind, text_piece, texts_below, written_count}
+use Rattle.ti_layout.specs.Image.{image, format_of, is_there, image_limit, of_kind, text_piece, texts_below, written_count}
 use Rattle.ti_layout.specs.Layout.{width}
 use Rattle.ti_layout.specs.Sizes.{HasSizes}
 use Rattle.ti_layout.proofs.Sizes.{limit-le}
 use Rattle.ti_compiled.specs.inside.Changes.{text_content}
 use Rattle.ti_compiled.specs.Image.{names_in, contents_in, with_content, IsImage}
-use Rattle.ti_compiled.specs.inside.Parts.{piece}
+use Rattle.ti_compiled.specs.inside.Parts.{ended_text}
 use Rattle.ti_compiled.proofs.Counted.{count-put}
 use Rattle.ti_compiled.proofs.FlagPlaces.{length_sized}
 use Rattle.ti_compiled.proofs.TextPlaces.{offsets_from, texts_within}
@@ -48,9 +48,9 @@ plain start end place removed room added len from T U s u x m e r i l p w t q le
 
 module _ (b : List ℕ) (is : IsImage b) (h : Header) (has : HasSizes (names_in b) (contents_in b) h) (index : ℕ) (within : index < 414) (t : Option (List ℕ)) (k : Header)
     (sizes : HasSizes (names_in b) (with_content (contents_in b) (capability Text index) (text_content t)) k)
-    (small : length (image (names_in b) (with_content (contents_in b) (capability Text index) (text_content t))) ≤ limit_of (with_content (contents_in b) (capability Text index) (text_content t))) where
+    (small : length (image (names_in b) (with_content (contents_in b) (capability Text index) (text_content t))) ≤ image_limit (with_content (contents_in b) (capability Text index) (text_content t))) where
   pub lengths : (start end place removed room added : ℕ) → start ≡ length (texts_below (contents_in b) index) → end ≡ length (texts_below (contents_in b) (index + 1)) → place ≡ offsets_from h → removed ≡ end - start
-      → added ≡ length (piece t) → length (image (names_in b) (with_content (contents_in b) (capability Text index) (text_content t))) ≤ room → Lengths (length b) start end place removed added h.texts k.texts room
+      → added ≡ length (ended_text t) → length (image (names_in b) (with_content (contents_in b) (capability Text index) (text_content t))) ≤ room → Lengths (length b) start end place removed added h.texts k.texts room
   lengths start end place removed room added es ee ep er ea le =
       let c = contents_in b in
       let g = with_content (contents_in b) (capability Text index) (text_content t) in
@@ -74,7 +74,7 @@ module _ (b : List ℕ) (is : IsImage b) (h : Header) (has : HasSizes (names_in 
 
   -- the same of what calls that are given the bytes answer
   pub lengths_of : (x y : List ℕ) (start end place room added : ℕ) → x ≡ b → y ≡ b → start ≡ length (texts_below (contents_in x) index) → end ≡ length (texts_below (contents_in y) (index + 1)) → place ≡ offsets_from h
-      → added ≡ length (piece t) → length (image (names_in b) (with_content (contents_in b) (capability Text index) (text_content t))) ≤ room → Lengths (length b) start end place (end - start) added h.texts k.texts room
+      → added ≡ length (ended_text t) → length (image (names_in b) (with_content (contents_in b) (capability Text index) (text_content t))) ≤ room → Lengths (length b) start end place (end - start) added h.texts k.texts room
   lengths_of x y start end place room added ex ey es ee ep ea le =
       lengths start end place (end - start) room added (es ∙ ap (λ z. length (texts_below (contents_in z) index)) ex) (ee ∙ ap (λ z. length (texts_below (contents_in z) (index + 1))) ey) ep refl ea le
 
@@ -86,9 +86,9 @@ module _ (b : List ℕ) (is : IsImage b) (h : Header) (has : HasSizes (names_in 
       omega arith
 
   -- nothing is put in, or no offset is taken away
-  pub gone_or_more : (length (piece t) ≡ 0) ⊎ (h.texts ≤ k.texts)
-  gone_or_more = elim t as (λ u. t ≡ u → (length (piece t) ≡ 0) ⊎ (h.texts ≤ k.texts)) [
-    | None ↦ λ e. inl (ap (λ u. length (piece u)) e)
+  pub gone_or_more : (length (ended_text t) ≡ 0) ⊎ (h.texts ≤ k.texts)
+  gone_or_more = elim t as (λ u. t ≡ u → (length (ended_text t) ≡ 0) ⊎ (h.texts ≤ k.texts)) [
+    | None ↦ λ e. inl (ap (λ u. length (ended_text u)) e)
     | Some x ↦ λ e.
         let c = contents_in b in
         let g = with_content c (capability Text index) (text_content t) in

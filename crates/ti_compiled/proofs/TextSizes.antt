@@ -12,7 +12,7 @@ use Rattle.ti_layout.proofs.Below.{last_passing-le}
 use Rattle.ti_layout.proofs.Texts.{texts-more, length-texts-le}
 use Rattle.ti_compiled.specs.inside.Changes.{text_content}
 use Rattle.ti_compiled.specs.Image.{names_in, contents_in, with_content, IsImage}
-use Rattle.ti_compiled.specs.inside.Parts.{piece}
+use Rattle.ti_compiled.specs.inside.Parts.{ended_text}
 use Rattle.ti_compiled.proofs.Counted.{count-put, count-kept, count-down}
 use Rattle.ti_compiled.proofs.Given.{HoldsNoOther, given_here, given_place, given_past}
 use Rattle.ti_compiled.proofs.TextChange.{piece_of, lengths_about}
@@ -48,10 +48,10 @@ module _ (b : List ℕ) (is : IsImage b) (h : Header) (has : HasSizes (names_in 
       omega arith
 
   pub table_length : length (texts_below (with_content (contents_in b) (capability Text index) (text_content t)) (written_count (with_content (contents_in b) (capability Text index) (text_content t)) Text)) + length (text_piece (of_kind (contents_in b) Text index))
-      ≡ length (texts_below (contents_in b) (written_count (contents_in b) Text)) + length (piece t)
+      ≡ length (texts_below (contents_in b) (written_count (contents_in b) Text)) + length (ended_text t)
   table_length =
       let l = lengths_about c g index others 414 within in
-      let p : length (text_piece (of_kind g Text index)) ≡ length (piece t) = ap (λ o. length (text_piece o)) here ∙ ap (λ (x : List ℕ). length x) (piece_of t) in
+      let p : length (text_piece (of_kind g Text index)) ≡ length (ended_text t) = ap (λ o. length (text_piece o)) here ∙ ap (λ (x : List ℕ). length x) (piece_of t) in
       let e = ap (λ (x : List ℕ). length x) (texts_past (names_in b) c is.imaged 414 (count_le c)) in
       let f = ap (λ (x : List ℕ). length x) (texts_end g past_g 414 (count_le g)) in
       omega arith
@@ -78,7 +78,7 @@ module _ (b : List ℕ) (is : IsImage b) (h : Header) (has : HasSizes (names_in 
     removed_le = let l = text_within in let x = strings_exact b is h has in omega arith
 
     -- the table with the others alone
-    pub others_sum : length (texts_below (with_content (contents_in b) (capability Text index) (text_content t)) (written_count (with_content (contents_in b) (capability Text index) (text_content t)) Text)) ≡ h.strings - (end - start) + length (piece t)
+    pub others_sum : length (texts_below (with_content (contents_in b) (capability Text index) (text_content t)) (written_count (with_content (contents_in b) (capability Text index) (text_content t)) Text)) ≡ h.strings - (end - start) + length (ended_text t)
     others_sum =
         let l = text_ends in
         let w = text_within in
@@ -86,7 +86,7 @@ module _ (b : List ℕ) (is : IsImage b) (h : Header) (has : HasSizes (names_in 
         let y = table_length in
         omega arith
 
-    pub sizes_given : (m n k : ℕ) → is_there (text_content t) ≡ true → m ≡ max h.texts (index + 1) → n ≡ min (h.strings - (end - start) + k) (2 ^ 64 - 1) → length (piece t) ≡ k + 1 → (z : ℕ) → z ≡ min (n + 1) (2 ^ 64 - 1)
+    pub sizes_given : (m n k : ℕ) → is_there (text_content t) ≡ true → m ≡ max h.texts (index + 1) → n ≡ min (h.strings - (end - start) + k) (2 ^ 64 - 1) → length (ended_text t) ≡ k + 1 → (z : ℕ) → z ≡ min (n + 1) (2 ^ 64 - 1)
         → HasSizes (names_in b) (with_content (contents_in b) (capability Text index) (text_content t)) (record { format = h.format; names = h.names; flags = h.flags; numbers = h.numbers; texts = m; strings = z })
     sizes_given m n k there em en lk z ez =
         let T = has.texts in
@@ -101,7 +101,7 @@ module _ (b : List ℕ) (is : IsImage b) (h : Header) (has : HasSizes (names_in 
       sum : h.strings - (end - start) ≡ at_most_max (length (texts_below g (written_count g Text)))
       sum =
           let o = others_sum in
-          let z : length (piece t) ≡ 0 = ap (λ x. length (piece x)) none in
+          let z : length (ended_text t) ≡ 0 = ap (λ x. length (ended_text x)) none in
           let x = strings_exact b is h has in
           let small = table_small (names_in b) c is.imaged in
           omega arith

@@ -4,7 +4,7 @@ use Rattle.std.specs.Prelude.{◌≡◌, ℕ, ◌-◌, ◌<◌, ◌≤◌, if◌
 use Rattle.ti_caps.specs.Tables.{Capability, IsCapability, capability, count_of, same_capability}
 use Rattle.ti_caps.specs.declared.capability.Kind.{Kind}
 use Rattle.ti_layout.specs.declared.layout.Format.TheVariants.{Legacy}
-use Rattle.ti_layout.specs.Image.{image, limit_of}
+use Rattle.ti_layout.specs.Image.{image, image_limit}
 use Rattle.ti_layout.specs.Laws.{without_cancel}
 use Rattle.ti_layout.specs.Reading.{contents_of, format_in, numbers_in, names_section, flags_section, numbers_section, offsets_section, strings_section}
 use Rattle.ti_layout.specs.Values.{Content, Contents, AgreesIfSome, HasNoNul}
@@ -27,7 +27,7 @@ pub record IsImaged (names : List ℕ) (contents : Contents) : Type 0 where
   pub agree : (c : Capability) → IsCapability c → AgreesIfSome c (contents c)
   pub present : (c : Capability) → IsCapability c → without_cancel (contents c) ≡ contents c
   pub past : (kind : Kind) (index : ℕ) → count_of kind ≤ index → contents (capability kind index) ≡ None
-  pub within : length (image names contents) ≤ limit_of contents
+  pub within : length (image names contents) ≤ image_limit contents
 
 -- the bytes are the image of what they are read as
 pub record IsImage (bytes : List ℕ) : Type 0 where

@@ -1,7 +1,7 @@
 // A flag of an image set or taken away: a byte for each flag up to the last that is set, and then
 // the zero byte where the names and the flags are an odd number of bytes.
 ghost use Rattle.std.specs.Prelude.{◌≡◌, ◌≢◌, ℕ, suc, ◌<◌, ◌≤◌, ◌↔◌, length, slice_index, vec_capacity, IsErrOf, OnOk, OnErr};
-ghost use Rattle.ti_caps.specs.Tables.{capability};
+ghost use Rattle.ti_caps.specs.Tables.{capability, count_of};
 ghost use Rattle.ti_caps.specs.declared.capability.Kind.TheVariants.{Flag};
 ghost use Rattle.ti_layout.specs.Image.{image, flag_value};
 ghost use Rattle.ti_layout.specs.Sizes.{HasSizes};
@@ -30,7 +30,7 @@ fn last_set(flags: &[u8]) -> usize
 fn sizes_with_flag(bytes: &[u8], old: &Header, index: usize, on: bool) -> Header
     requires image { IsImage bytes.now }
     requires old { HasSizes (names_in bytes.now) (contents_in bytes.now) old.now }
-    requires index { index < 44 }
+    requires index { index < count_of Flag }
     ensures { HasSizes (names_in bytes.now) (with_content (contents_in bytes.now) (capability Flag index) (flag_content on)) result }
 {
     let start = HEADER_SIZE + old.names;
@@ -53,7 +53,7 @@ fn flag_byte(on: bool) -> u8
 // Sets the flag or takes it away, where the sizes are known and there is room.
 fn change_flag(bytes: &mut Vec<u8>, old: &Header, new: &Header, index: usize, on: bool)
     requires image { IsImage bytes.old.items }
-    requires index { index < 44 }
+    requires index { index < count_of Flag }
     requires old { HasSizes (names_in bytes.old.items) (contents_in bytes.old.items) old.now }
     requires new { HasSizes (names_in bytes.old.items) (with_content (contents_in bytes.old.items) (capability Flag index) (flag_content on)) new.now }
     requires small { FitsWith bytes.old.items (capability Flag index) (flag_content on) }
@@ -73,7 +73,7 @@ fn change_flag(bytes: &mut Vec<u8>, old: &Header, new: &Header, index: usize, on
 /// Sets a flag or takes it away. A refused change leaves the image.
 pub fn set_flag(bytes: &mut Vec<u8>, index: usize, on: bool) -> Result<(), WriteError>
     requires image { IsImage bytes.old.items }
-    requires index { index < 44 }
+    requires index { index < count_of Flag }
     ensures ok { OnOk result (bytes.new.items ≡ image_with bytes.old.items (capability Flag index) (flag_content on)) }
     ensures within { OnOk result (FitsWith bytes.old.items (capability Flag index) (flag_content on)) }
     ensures too_large { IsErrOf result WriteError.TooLarge ↔ IsOverWith bytes.old.items (capability Flag index) (flag_content on) }

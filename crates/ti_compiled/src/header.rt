@@ -1,14 +1,14 @@
 // The header of an image: the sizes of its sections.
-ghost use Rattle.std.specs.Prelude.{◌≡◌, ◌≢◌, ℕ, ◌+◌, ◌≤◌, ◌<◌, ◌↔◌, List, [], length, vec_len, vec_capacity, IsErrOf, OnOk};
+ghost use Rattle.std.specs.Prelude.{◌≡◌, ◌≢◌, ℕ, suc, ◌+◌, ◌≤◌, ◌<◌, ◌↔◌, List, [], length, vec_len, vec_capacity, IsErrOf, OnOk};
 ghost use Rattle.ti_text.specs.Limits.{names_max};
 ghost use Rattle.ti_caps.specs.declared.capability.Kind.TheVariants.{Text};
-ghost use Rattle.ti_layout.specs.Image.{image, limit_of, texts_below, written_count};
+ghost use Rattle.ti_layout.specs.Image.{image, image_limit, texts_below, written_count};
 ghost use Rattle.ti_layout.specs.Layout as layout;
 ghost use Rattle.ti_layout.specs.Layout.{number_bytes};
 ghost use Rattle.ti_layout.specs.Sizes.{HasSizes};
 ghost use Rattle.ti_layout.specs.Values.{Contents, HasNoNul};
 ghost use Rattle.ti_compiled.specs.Image.{names_in, contents_in, IsImage};
-ghost use Rattle.ti_compiled.specs.inside.Header.{IsHeaderAt};
+ghost use Rattle.ti_layout.specs.inside.Sections.{IsHeaderAt};
 ghost use Rattle.ti_compiled.specs.inside.Parts.{Replaces};
 
 use crate::bytes::overwrite;
@@ -16,7 +16,7 @@ use ti_layout::{Format, HEADER_SIZE, Header, WriteError, word};
 
 /// The numbers that a header spells.
 fn read_header(bytes: &[u8]) -> Header
-    requires { 12 ≤ length bytes.now }
+    requires { layout.header_size ≤ length bytes.now }
     ensures { IsHeaderAt bytes.now result }
 {
     let format = if word(bytes, 0) == Format::Extended.magic() as usize {
@@ -38,9 +38,9 @@ fn read_header(bytes: &[u8]) -> Header
 pub fn header_of(bytes: &[u8]) -> Header
     requires { IsImage bytes.now }
     ensures sizes { HasSizes (names_in bytes.now) (contents_in bytes.now) result }
-    ensures names { result.names ≤ 128 }
+    ensures names { result.names ≤ suc names_max }
     ensures strings { result.strings ≡ length (texts_below (contents_in bytes.now) (written_count (contents_in bytes.now) Text)) }
-    ensures strings_fit { result.strings < 32768 }
+    ensures strings_fit { result.strings < layout.first_negative Format.Legacy }
 {
     read_header(bytes)
 }
@@ -64,9 +64,11 @@ pub fn make_room(bytes: &mut Vec<u8>, header: &Header) -> Result<(), WriteError>
     requires texts { header.now.texts < 65536 }
     ensures items { bytes.new.items ≡ bytes.old.items }
     ensures room { (names : List ℕ) (c : Contents) → HasSizes names c header.now → OnOk result (length (image names c) ≤ vec_capacity bytes.new) }
-    ensures within { (names : List ℕ) (c : Contents) → HasSizes names c header.now → OnOk result (length (image names c) ≤ limit_of c) }
-    ensures too_large { (names : List ℕ) (c : Contents) → HasSizes names c header.now → IsErrOf result WriteError.TooLarge ↔ (limit_of c < length (image names c)) }
-    ensures memory { (names : List ℕ) (c : Contents) → HasSizes names c header.now → IsErrOf result WriteError.Memory → length (image names c) ≤ limit_of c }
+    ensures within { (names : List ℕ) (c : Contents) → HasSizes names c header.now → OnOk result (length (image names c) ≤ image_limit c) }
+    ensures too_large { (names : List ℕ) (c : Contents) → HasSizes names c header.now
+        → IsErrOf result WriteError.TooLarge ↔ (image_limit c < length (image names c)) }
+    ensures memory { (names : List ℕ) (c : Contents) → HasSizes names c header.now
+        → IsErrOf result WriteError.Memory → length (image names c) ≤ image_limit c }
     ensures names_fit { IsErrOf result WriteError.NamesTooLong → ⊥ }
 {
     let size = header.size();
@@ -102,8 +104,9 @@ fn header_bytes(header: &Header) -> [u8; HEADER_SIZE]
 
 /// Writes a header over the one that the bytes begin with.
 pub fn write_header(bytes: &mut Vec<u8>, header: &Header)
-    requires { 12 ≤ vec_len bytes.old }
-    ensures header { Replaces bytes.old.items bytes.new.items 0 12 (λ _. layout.header header.now.format header.now.names header.now.flags header.now.numbers header.now.texts header.now.strings) }
+    requires { layout.header_size ≤ vec_len bytes.old }
+    ensures header { Replaces bytes.old.items bytes.new.items 0 layout.header_size
+        (λ _. layout.header header.now.format header.now.names header.now.flags header.now.numbers header.now.texts header.now.strings) }
     ensures len { vec_len bytes.new ≡ vec_len bytes.old }
 {
     let spelled = header_bytes(header);

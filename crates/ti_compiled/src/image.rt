@@ -3,10 +3,10 @@ ghost use Rattle.std.specs.Prelude.{None, ◌≡◌, ◌≢◌, ◌<◌, ◌≤�
 ghost use Rattle.ti_text.specs.Limits.{names_max, number_max};
 ghost use Rattle.ti_caps.specs.Tables.{Capability, IsCapability};
 ghost use Rattle.ti_caps.specs.declared.capability.Kind.TheVariants.{Flag, Number, Text};
-ghost use Rattle.ti_layout.specs.Image.{image, limit_of, HasNoNul};
+ghost use Rattle.ti_layout.specs.Image.{image, image_limit, HasNoNul};
 ghost use Rattle.ti_layout.specs.Laws.{without_cancel};
 ghost use Rattle.ti_layout.specs.Values.{content_of, contents, AgreesIfSome};
-ghost use Rattle.ti_compiled.specs.Changes.{image_with, FitsWith, HoldsGiven, IsOverWith, IsWithin};
+ghost use Rattle.ti_compiled.specs.Changes.{image_with, FitsWith, HoldsGiven, IsOverWith, ImageFits};
 ghost use Rattle.ti_compiled.specs.inside.Changes.{flag_content, number_content, text_lent, content_lent};
 ghost use Rattle.ti_compiled.specs.Image.{names_in, contents_in};
 
@@ -51,8 +51,10 @@ impl Image {
         ensures names { IfOk result (λ i. names_in i ≡ names.now) }
         ensures contents { IfOk result (λ i. (c : Capability) → IsCapability c → contents_in i c ≡ without_cancel (contents table.now c)) }
         ensures names_too_long { IsErrOf result WriteError.NamesTooLong ↔ (names_max < length names.now) }
-        ensures too_large { IsErrOf result WriteError.TooLarge ↔ ((length names.now ≤ names_max) × (limit_of (contents table.now) < length (image names.now (contents table.now)))) }
-        ensures memory { IsErrOf result WriteError.Memory → (length names.now ≤ names_max) × (length (image names.now (contents table.now)) ≤ limit_of (contents table.now)) }
+        ensures too_large { IsErrOf result WriteError.TooLarge
+            ↔ ((length names.now ≤ names_max) × (image_limit (contents table.now) < length (image names.now (contents table.now)))) }
+        ensures memory { IsErrOf result WriteError.Memory → (length names.now ≤ names_max)
+            × (length (image names.now (contents table.now)) ≤ image_limit (contents table.now)) }
     {
         table.values_agree();
         let bytes = write(alloc, names, table)?;
@@ -63,7 +65,7 @@ impl Image {
     pub fn bytes(&self) -> &[u8]
         ensures bytes { result.now ≡ self.now }
         ensures image { result.now ≡ image (names_in self.now) (contents_in self.now) }
-        ensures within { length result.now ≤ limit_of (contents_in self.now) }
+        ensures within { length result.now ≤ image_limit (contents_in self.now) }
     {
         self.bytes.as_slice()
     }
@@ -86,8 +88,8 @@ impl Image {
         ensures image { IfOk result (λ i. i ≡ image (names_in self.now) (contents new.now)) }
         ensures names { IfOk result (λ i. names_in i ≡ names_in self.now) }
         ensures contents { IfOk result (λ i. (c : Capability) → IsCapability c → contents_in i c ≡ without_cancel (contents new.now c)) }
-        ensures too_large { IsErrOf result WriteError.TooLarge ↔ (limit_of (contents new.now) < length (image (names_in self.now) (contents new.now))) }
-        ensures memory { IsErrOf result WriteError.Memory → length (image (names_in self.now) (contents new.now)) ≤ limit_of (contents new.now) }
+        ensures too_large { IsErrOf result WriteError.TooLarge ↔ (image_limit (contents new.now) < length (image (names_in self.now) (contents new.now))) }
+        ensures memory { IsErrOf result WriteError.Memory → length (image (names_in self.now) (contents new.now)) ≤ image_limit (contents new.now) }
         ensures names_fit { IsErrOf result WriteError.NamesTooLong → ⊥ }
     {
         match changed_copy(self, alloc, old, new) {
@@ -102,7 +104,7 @@ impl Image {
     // What is so of every image. It computes nothing.
     fn is_laid(&self)
         ensures whole { self.now ≡ image (names_in self.now) (contents_in self.now) }
-        ensures within { IsWithin (names_in self.now) (contents_in self.now) }
+        ensures within { ImageFits (names_in self.now) (contents_in self.now) }
     {
         let _ = &self.bytes;
     }

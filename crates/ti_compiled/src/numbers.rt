@@ -2,7 +2,7 @@
 // read and spelled again, wider or narrower where the format changes.
 ghost use Rattle.std.specs.Prelude.{◌≡◌, ◌≢◌, ℕ, suc, ◌+◌, ◌*◌, ◌%◌, ◌<◌, ◌≤◌, List, length, take, slice_index, vec_len, vec_capacity, Option, IfSome, ◌↔◌, IsErrOf, OnOk, OnErr};
 ghost use Rattle.ti_text.specs.Limits.{number_max};
-ghost use Rattle.ti_caps.specs.Tables.{capability};
+ghost use Rattle.ti_caps.specs.Tables.{capability, count_of};
 ghost use Rattle.ti_caps.specs.declared.capability.Kind.TheVariants.{Number};
 ghost use Rattle.ti_layout.specs.Image.{image, below, format_of};
 ghost use Rattle.ti_layout.specs.Layout as layout;
@@ -19,6 +19,9 @@ use crate::header::{header_of, make_room, write_header};
 use ti_layout::{Format, HEADER_SIZE, Header, WriteError, number};
 use ti_text::limits::LEGACY_NUMBER_MAX;
 
+// How many numbers there are.
+const NUMBERS: usize = 39;
+
 // What stands for a number that is absent, of either format.
 const ABSENT: u32 = u32::MAX;
 
@@ -26,18 +29,18 @@ const ABSENT: u32 = u32::MAX;
 fn numbers_place(header: &Header) -> usize
     requires names { header.now.names < 65536 }
     requires flags { header.now.flags < 65536 }
-    ensures { result ≡ 12 + header.now.names + header.now.flags + (header.now.names + header.now.flags) % 2 }
+    ensures { result ≡ layout.header_size + header.now.names + header.now.flags + (header.now.names + header.now.flags) % 2 }
 {
     HEADER_SIZE + header.names + header.flags + (header.names + header.flags) % 2
 }
 
 // The numbers of an image, each with what stands for it.
-fn read_numbers(bytes: &[u8], header: &Header) -> [u32; 39]
+fn read_numbers(bytes: &[u8], header: &Header) -> [u32; NUMBERS]
     requires image { IsImage bytes.now }
     requires sizes { HasSizes (names_in bytes.now) (contents_in bytes.now) header.now }
-    ensures { result ≡ below (wide_value (contents_in bytes.now)) 39 }
+    ensures { result ≡ below (wide_value (contents_in bytes.now)) (count_of Number) }
 {
-    let mut values = [ABSENT; 39];
+    let mut values = [ABSENT; NUMBERS];
     let place = numbers_place(header);
     let width = header.format.width();
     for at in 0..header.numbers {
@@ -51,7 +54,7 @@ fn read_numbers(bytes: &[u8], header: &Header) -> [u32; 39]
 
 // The format that numbers want.
 fn format_for(values: &[u32]) -> Format
-    ensures { (c : Contents) → values.now ≡ below (wide_value c) 39 → HasNumbers c → result ≡ format_of c }
+    ensures { (c : Contents) → values.now ≡ below (wide_value c) (count_of Number) → HasNumbers c → result ≡ format_of c }
 {
     for value in values {
         if *value > LEGACY_NUMBER_MAX && *value != ABSENT {
@@ -64,8 +67,8 @@ fn format_for(values: &[u32]) -> Format
 // One more than the last number that is there, and 0 where none is.
 fn last_number(values: &[u32]) -> usize
     ensures within { result ≤ length values.now }
-    ensures last { (j : ℕ) → suc j ≡ result → slice_index values.now j ≢ 4294967295 }
-    ensures past { (j : ℕ) → result ≤ j → j < length values.now → slice_index values.now j ≡ 4294967295 }
+    ensures last { (j : ℕ) → suc j ≡ result → slice_index values.now j ≢ layout.absent_mark Format.Extended }
+    ensures past { (j : ℕ) → result ≤ j → j < length values.now → slice_index values.now j ≡ layout.absent_mark Format.Extended }
 {
     let mut end = values.len();
     while end > 0 && values[end - 1] == ABSENT {
@@ -96,7 +99,7 @@ fn put_number(bytes: &mut Vec<u8>, at: usize, format: Format, number: u32)
 // Writes as many of the numbers one after the other.
 fn put_numbers(bytes: &mut Vec<u8>, place: usize, format: Format, values: &[u32], count: usize)
     requires count { count ≤ length values.now }
-    requires few { count ≤ 39 }
+    requires few { count ≤ count_of Number }
     requires within { place + layout.width format * count ≤ vec_len bytes.old }
     ensures part { Replaces bytes.old.items bytes.new.items place (layout.width format * count) (λ _. number_section format (take count values.now)) }
     ensures len { vec_len bytes.new ≡ vec_len bytes.old }
@@ -108,11 +111,11 @@ fn put_numbers(bytes: &mut Vec<u8>, place: usize, format: Format, values: &[u32]
 }
 
 // The numbers of the image when one is given or taken away.
-fn numbers_with(bytes: &[u8], old: &Header, index: usize, number: Option<u32>) -> [u32; 39]
+fn numbers_with(bytes: &[u8], old: &Header, index: usize, number: Option<u32>) -> [u32; NUMBERS]
     requires image { IsImage bytes.now }
     requires old { HasSizes (names_in bytes.now) (contents_in bytes.now) old.now }
-    requires index { index < 39 }
-    ensures { result ≡ below (wide_value (with_number bytes.now index number)) 39 }
+    requires index { index < count_of Number }
+    ensures { result ≡ below (wide_value (with_number bytes.now index number)) (count_of Number) }
 {
     let mut values = read_numbers(bytes, old);
     values[index] = number.unwrap_or(ABSENT);
@@ -121,8 +124,9 @@ fn numbers_with(bytes: &[u8], old: &Header, index: usize, number: Option<u32>) -
 
 // The sizes of the image when it has these numbers.
 fn sizes_with_numbers(old: &Header, values: &[u32]) -> Header
-    ensures sizes { (b : List ℕ) (i : ℕ) (n : Option ℕ) → IsImage b → HasSizes (names_in b) (contents_in b) old.now → i < 39 → IfSome n (λ n. n ≤ 2147483647)
-        → values.now ≡ below (wide_value (with_number b i n)) 39 → HasSizes (names_in b) (with_number b i n) result }
+    ensures sizes { (b : List ℕ) (i : ℕ) (n : Option ℕ) → IsImage b → HasSizes (names_in b) (contents_in b) old.now
+        → i < count_of Number → IfSome n (λ n. n ≤ number_max)
+        → values.now ≡ below (wide_value (with_number b i n)) (count_of Number) → HasSizes (names_in b) (with_number b i n) result }
     ensures names { result.names ≡ old.now.names }
     ensures flags { result.flags ≡ old.now.flags }
     ensures numbers { result.numbers ≤ length values.now }
@@ -140,10 +144,13 @@ fn change_numbers(bytes: &mut Vec<u8>, old: &Header, new: &Header, values: &[u32
     requires image { IsImage bytes.old.items }
     requires old { HasSizes (names_in bytes.old.items) (contents_in bytes.old.items) old.now }
     requires count { new.now.numbers ≤ length values.now }
-    requires few { new.now.numbers ≤ 39 }
-    requires room { vec_len bytes.old + layout.width new.now.format * new.now.numbers ≤ vec_capacity bytes.old + layout.width old.now.format * old.now.numbers }
-    ensures { (i : ℕ) (n : Option ℕ) → i < 39 → HasSizes (names_in bytes.old.items) (with_number bytes.old.items i n) new.now → values.now ≡ below (wide_value (with_number bytes.old.items i n)) 39
-        → FitsWith bytes.old.items (capability Number i) (number_content n) → bytes.new.items ≡ image_with bytes.old.items (capability Number i) (number_content n) }
+    requires few { new.now.numbers ≤ count_of Number }
+    requires room { vec_len bytes.old + layout.width new.now.format * new.now.numbers
+        ≤ vec_capacity bytes.old + layout.width old.now.format * old.now.numbers }
+    ensures { (i : ℕ) (n : Option ℕ) → i < count_of Number → HasSizes (names_in bytes.old.items) (with_number bytes.old.items i n) new.now
+        → values.now ≡ below (wide_value (with_number bytes.old.items i n)) (count_of Number)
+        → FitsWith bytes.old.items (capability Number i) (number_content n)
+        → bytes.new.items ≡ image_with bytes.old.items (capability Number i) (number_content n) }
 {
     let place = numbers_place(old);
     let size = old.format.width() * old.numbers;
@@ -156,7 +163,7 @@ fn change_numbers(bytes: &mut Vec<u8>, old: &Header, new: &Header, values: &[u32
 /// Gives a number or takes it away. A refused change leaves the image.
 pub fn set_number(bytes: &mut Vec<u8>, index: usize, number: Option<u32>) -> Result<(), WriteError>
     requires image { IsImage bytes.old.items }
-    requires index { index < 39 }
+    requires index { index < count_of Number }
     requires fits { IfSome number (λ n. n ≤ number_max) }
     ensures ok { OnOk result (bytes.new.items ≡ image_with bytes.old.items (capability Number index) (number_content number)) }
     ensures within { OnOk result (FitsWith bytes.old.items (capability Number index) (number_content number)) }

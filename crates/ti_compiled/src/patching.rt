@@ -68,7 +68,8 @@ fn take_all_changed_away(image: &mut Image, old: &[(Cap, Value)], new: &Table) -
     requires kept { IsKept (entries_of old.now) }
     requires held { (c : Capability) → IsCapability c → contents_in image.old c ≡ without_cancel (contents (entries_of old.now) c) }
     ensures names { IfSome result (λ _. names_in image.new ≡ names_in image.old) }
-    ensures left { IfSome result (λ _. (c : Capability) → IsCapability c → IsLeft (contents (entries_of old.now) c) (contents new.now c) (contents_in image.new c)) }
+    ensures left { IfSome result (λ _. (c : Capability) → IsCapability c
+        → IsLeft (contents (entries_of old.now) c) (contents new.now c) (contents_in image.new c)) }
 {
     let mut left = old.len();
     while left > 0 {
@@ -98,7 +99,8 @@ fn give_all_changed(image: &mut Image, old: &Table, new: &[(Cap, Value)]) -> Opt
     requires kept { IsKept (entries_of new.now) }
     requires left { (c : Capability) → IsCapability c → IsLeft (contents old.now c) (contents (entries_of new.now) c) (contents_in image.old c) }
     ensures names { IfSome result (λ _. names_in image.new ≡ names_in image.old) }
-    ensures contents { IfSome result (λ _. (c : Capability) → IsCapability c → contents_in image.new c ≡ without_cancel (contents (entries_of new.now) c)) }
+    ensures contents { IfSome result (λ _. (c : Capability) → IsCapability c
+        → contents_in image.new c ≡ without_cancel (contents (entries_of new.now) c)) }
 {
     for entry in new {
         give_changed(image, old, entry)?;

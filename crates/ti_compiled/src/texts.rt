@@ -1,7 +1,7 @@
 // A text of an image given, replaced or taken away: the string table holds the texts one after the
 // other, and an offset for each text up to the last that is there leads into it.
 ghost use Rattle.std.specs.Prelude.{◌≡◌, ◌≢◌, ℕ, suc, ◌+◌, ◌-◌, ◌*◌, ◌%◌, ◌<◌, ◌≤◌, List, ◌++◌, length, vec_len, vec_capacity, Option, option_map, ◌↔◌, IsErrOf, OnOk, OnErr};
-ghost use Rattle.ti_caps.specs.Tables.{capability};
+ghost use Rattle.ti_caps.specs.Tables.{capability, count_of};
 ghost use Rattle.ti_caps.specs.declared.capability.Kind.TheVariants.{Text};
 ghost use Rattle.ti_layout.specs.Image.{image, below, texts_below};
 ghost use Rattle.ti_layout.specs.Layout as layout;
@@ -11,7 +11,7 @@ ghost use Rattle.ti_layout.specs.Sizes.{HasSizes};
 ghost use Rattle.ti_compiled.specs.Changes.{image_with, FitsWith, IsOverWith};
 ghost use Rattle.ti_compiled.specs.inside.Changes.{text_lent};
 ghost use Rattle.ti_compiled.specs.Image.{names_in, contents_in, with_content, IsImage};
-ghost use Rattle.ti_compiled.specs.inside.Parts.{Replaces, moved_later, piece};
+ghost use Rattle.ti_compiled.specs.inside.Parts.{Replaces, moved_later, ended_text};
 
 use crate::bytes::{overwrite, resize_part};
 use crate::header::{header_of, make_room, word_bytes, write_header};
@@ -25,7 +25,8 @@ fn offsets_place(header: &Header) -> usize
     requires names { header.now.names < 65536 }
     requires flags { header.now.flags < 65536 }
     requires numbers { header.now.numbers < 65536 }
-    ensures { result ≡ 12 + header.now.names + header.now.flags + (header.now.names + header.now.flags) % 2 + layout.width header.now.format * header.now.numbers }
+    ensures { result ≡ layout.header_size + header.now.names + header.now.flags
+        + (header.now.names + header.now.flags) % 2 + layout.width header.now.format * header.now.numbers }
 {
     let gap = (header.names + header.flags) % 2;
     HEADER_SIZE + header.names + header.flags + gap + header.format.width() * header.numbers
@@ -36,7 +37,7 @@ fn offsets_place(header: &Header) -> usize
 fn start_of(bytes: &[u8], header: &Header, index: usize) -> usize
     requires image { IsImage bytes.now }
     requires sizes { HasSizes (names_in bytes.now) (contents_in bytes.now) header.now }
-    requires index { index ≤ 414 }
+    requires index { index ≤ count_of Text }
     ensures { result ≡ length (texts_below (contents_in bytes.now) index) }
 {
     let place = offsets_place(header);
@@ -53,8 +54,8 @@ fn start_of(bytes: &[u8], header: &Header, index: usize) -> usize
 fn last_there(bytes: &[u8], place: usize, count: usize) -> usize
     requires { place + 2 * count ≤ length bytes.now }
     ensures within { result ≤ count }
-    ensures last { (j : ℕ) → suc j ≡ result → word_at (place + 2 * j) bytes.now ≢ 65535 }
-    ensures past { (j : ℕ) → result ≤ j → j < count → word_at (place + 2 * j) bytes.now ≡ 65535 }
+    ensures last { (j : ℕ) → suc j ≡ result → word_at (place + 2 * j) bytes.now ≢ layout.absent_mark Format.Legacy }
+    ensures past { (j : ℕ) → result ≤ j → j < count → word_at (place + 2 * j) bytes.now ≡ layout.absent_mark Format.Legacy }
 {
     let mut end = count;
     while end > 0 && word(bytes, place + 2 * (end - 1)) == ABSENT {
@@ -66,9 +67,9 @@ fn last_there(bytes: &[u8], place: usize, count: usize) -> usize
 // Puts a text with its NUL, or nothing, in the place of another.
 fn replace_text(bytes: &mut Vec<u8>, at: usize, size: usize, text: Option<&[u8]>)
     requires within { at + size ≤ vec_len bytes.old }
-    requires room { vec_len bytes.old + length (piece (option_map (λ t. t.now) text)) ≤ vec_capacity bytes.old + size }
-    ensures part { Replaces bytes.old.items bytes.new.items at size (λ _. piece (option_map (λ t. t.now) text.entry)) }
-    ensures len { vec_len bytes.new + size ≡ vec_len bytes.old + length (piece (option_map (λ t. t.now) text.entry)) }
+    requires room { vec_len bytes.old + length (ended_text (option_map (λ t. t.now) text)) ≤ vec_capacity bytes.old + size }
+    ensures part { Replaces bytes.old.items bytes.new.items at size (λ _. ended_text (option_map (λ t. t.now) text.entry)) }
+    ensures len { vec_len bytes.new + size ≡ vec_len bytes.old + length (ended_text (option_map (λ t. t.now) text.entry)) }
     ensures capacity { vec_capacity bytes.old ≤ vec_capacity bytes.new }
 {
     match text {
@@ -92,7 +93,8 @@ fn move_later(
 )
     requires within { place + 2 * to ≤ vec_len bytes.old }
     requires added { added ≤ 65536 }
-    ensures moved { (p r : List ℕ) (f : ℕ → ℕ) → bytes.old.items ≡ p ++ (number_section Format.Legacy (below f to) ++ r) → length p ≡ place → ((j : ℕ) → f j ≤ 65535)
+    ensures moved { (p r : List ℕ) (f : ℕ → ℕ) → bytes.old.items ≡ p ++ (number_section Format.Legacy (below f to) ++ r)
+        → length p ≡ place → ((j : ℕ) → f j ≤ layout.absent_mark Format.Legacy)
         → bytes.new.items ≡ p ++ (number_section Format.Legacy (below (moved_later f from removed added) to) ++ r) }
     ensures len { vec_len bytes.new ≡ vec_len bytes.old }
 {
@@ -107,8 +109,8 @@ fn move_later(
 
 // How many bytes a text takes in the table.
 fn piece_len(text: Option<&[u8]>) -> usize
-    requires { length (piece (option_map (λ t. t.now) text)) ≤ 65536 }
-    ensures { result ≡ length (piece (option_map (λ t. t.now) text.entry)) }
+    requires { length (ended_text (option_map (λ t. t.now) text)) ≤ 65536 }
+    ensures { result ≡ length (ended_text (option_map (λ t. t.now) text.entry)) }
 {
     match text {
         Some(text) => text.len() + 1,
@@ -120,7 +122,7 @@ fn piece_len(text: Option<&[u8]>) -> usize
 fn sizes_with_text(bytes: &[u8], old: &Header, index: usize, text: Option<&[u8]>) -> Header
     requires image { IsImage bytes.now }
     requires old { HasSizes (names_in bytes.now) (contents_in bytes.now) old.now }
-    requires index { index < 414 }
+    requires index { index < count_of Text }
     ensures { HasSizes (names_in bytes.now) (with_content (contents_in bytes.now) (capability Text index) (text_lent text.entry)) result }
 {
     let start = start_of(bytes, old, index);
@@ -147,7 +149,8 @@ fn sizes_with_text(bytes: &[u8], old: &Header, index: usize, text: Option<&[u8]>
 // Gives the text an offset, where it is among those that are written.
 fn put_offset(bytes: &mut Vec<u8>, place: usize, count: usize, index: usize, offset: usize)
     requires within { place + 2 * count ≤ vec_len bytes.old }
-    ensures put { (p r : List ℕ) (f g : ℕ → ℕ) → bytes.old.items ≡ p ++ (number_section Format.Legacy (below f count) ++ r) → length p ≡ place → (index < count → g index ≡ offset)
+    ensures put { (p r : List ℕ) (f g : ℕ → ℕ) → bytes.old.items ≡ p ++ (number_section Format.Legacy (below f count) ++ r)
+        → length p ≡ place → (index < count → g index ≡ offset)
         → ((j : ℕ) → j ≢ index → g j ≡ f j) → bytes.new.items ≡ p ++ (number_section Format.Legacy (below g count) ++ r) }
     ensures len { vec_len bytes.new ≡ vec_len bytes.old }
 {
@@ -159,7 +162,7 @@ fn put_offset(bytes: &mut Vec<u8>, place: usize, count: usize, index: usize, off
 // Gives the text or takes it away, where the sizes are known and there is room.
 fn change_text(bytes: &mut Vec<u8>, old: &Header, new: &Header, index: usize, text: Option<&[u8]>)
     requires image { IsImage bytes.old.items }
-    requires index { index < 414 }
+    requires index { index < count_of Text }
     requires old { HasSizes (names_in bytes.old.items) (contents_in bytes.old.items) old.now }
     requires new { HasSizes (names_in bytes.old.items) (with_content (contents_in bytes.old.items) (capability Text index) (text_lent text)) new.now }
     requires small { FitsWith bytes.old.items (capability Text index) (text_lent text) }
@@ -184,7 +187,7 @@ fn change_text(bytes: &mut Vec<u8>, old: &Header, new: &Header, index: usize, te
 /// Gives a text or takes it away. A refused change leaves the image.
 pub fn set_text(bytes: &mut Vec<u8>, index: usize, text: Option<&[u8]>) -> Result<(), WriteError>
     requires image { IsImage bytes.old.items }
-    requires index { index < 414 }
+    requires index { index < count_of Text }
     ensures ok { OnOk result (bytes.new.items ≡ image_with bytes.old.items (capability Text index) (text_lent text.entry)) }
     ensures within { OnOk result (FitsWith bytes.old.items (capability Text index) (text_lent text.entry)) }
     ensures too_large { IsErrOf result WriteError.TooLarge ↔ IsOverWith bytes.old.items (capability Text index) (text_lent text.entry) }

@@ -4,7 +4,7 @@ use Rattle.std.proofs.lemmas.Bool.{cases_lt, cases_eq}
 use Rattle.std.proofs.lemmas.Option.{slice_get_within}
 use Rattle.ti_components.specs.Graph.{Rows, HasEdge}
 use Rattle.ti_components.specs.Components.{Has}
-use Rattle.ti_components.specs.inside.Walk.{IsPath, AreGroups, IsOrder, IsWalk, IsMarked}
+use Rattle.ti_components.specs.inside.Search.{IsPath, AreGroups, IsOrderSoFar, IsWalk, IsMarked}
 use Rattle.ti_components.specs.declared.search.Progress.{Progress}
 use Rattle.ti_components.specs.declared.search.Progress.TheVariants.{Unseen, OnPath, Closed}
 use Rattle.ti_components.proofs.Lists.{get_front, get_back, get_cases, get-take, take_get, get-drop, drop_get, Rises_take, rising_last, but_last, take_last_lacks, item_at}
@@ -164,7 +164,7 @@ module _ (g : Rows) (p q : List Progress) (cursors path starts active order : Li
         ];
       }
 
-  order_closed : IsOrder q (order ++ drop k path)
+  order_closed : IsOrderSoFar q (order ++ drop k path)
   order_closed =
       let w = h.walk.going in
       let o = h.walk.listing in

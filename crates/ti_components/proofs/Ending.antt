@@ -6,7 +6,7 @@ use Rattle.std.proofs.lemmas.Option.{same_Some, slice_get_within, get_or_from_sl
 use Rattle.ti_components.specs.Graph.{Rows}
 use Rattle.ti_components.specs.Leading.{IsWay}
 use Rattle.ti_components.specs.Components.{AreComponents, IsClosingOrder}
-use Rattle.ti_components.specs.inside.Walk.{AreGroups, AreNumbers, IsSearched}
+use Rattle.ti_components.specs.inside.Search.{AreGroups, AreClosedNumbers, IsSearched}
 use Rattle.ti_components.specs.declared.search.Progress.{Progress}
 use Rattle.ti_components.specs.declared.search.Progress.TheVariants.{Unseen, OnPath, Closed}
 use Rattle.ti_components.specs.declared.search.Search.{Search}
@@ -16,7 +16,7 @@ use Rattle.ti_components.proofs.Searching.{no_path}
 
 -- ---- numbers
 
-pub numbers_more : (p : List Progress) (numbers : List ℕ) (i number : ℕ) → AreNumbers (take i p) numbers → slice_get p i ≡ Some (Closed number) → AreNumbers (take (i + 1) p) (numbers ++ number ∷ [])
+pub numbers_more : (p : List Progress) (numbers : List ℕ) (i number : ℕ) → AreClosedNumbers (take i p) numbers → slice_get p i ≡ Some (Closed number) → AreClosedNumbers (take (i + 1) p) (numbers ++ number ∷ [])
 numbers_more p numbers i number h e =
     let l = slice_get_within p i (Closed number) e in
     rw (take_more p i (Closed number) l, get_or_from_slice_get p i (Closed number) (Closed number) e) (record {
@@ -49,7 +49,7 @@ falls_along g p n h (x ∷ way) u w c d walk e f =
     let rest = falls_along g p n h way x w next.0 d walk.1 next.1 f in
     let l = next.2 in omega arith
 
-module _ (g : Rows) (s : Search) (numbers : List ℕ) (h : IsSearched g s) (m : AreNumbers s.progress.items numbers) where
+module _ (g : Rows) (s : Search) (numbers : List ℕ) (h : IsSearched g s) (m : AreClosedNumbers s.progress.items numbers) where
   -- a node's number is that of its closed component
   closed_of : (u c : ℕ) → slice_get numbers u ≡ Some c → slice_get s.progress.items u ≡ Some (Closed c)
   closed_of u c e =

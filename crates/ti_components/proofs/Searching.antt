@@ -6,7 +6,7 @@ use Rattle.std.proofs.lemmas.Option.{same_Some, none-some, slice_get_within, sli
 use Rattle.ti_components.specs.Graph.{Rows}
 use Rattle.ti_components.specs.Leading.{Leads}
 use Rattle.ti_components.specs.Components.{Has}
-use Rattle.ti_components.specs.inside.Walk.{AreNodes, Closes, Enters, Follows, IsCutOffAt, IsFresh, IsIdle, IsMarked, IsSearched, IsTop, IsWalkOf, KeepsMet, Leaves, Rises, Steps, Walks, edges_left}
+use Rattle.ti_components.specs.inside.Search.{AreNodes, ClosesPath, Enters, Follows, IsCutOffAt, IsFresh, IsIdle, IsMarked, IsSearched, IsTop, IsWalkOf, KeepsMet, Leaves, Rises, Steps, WalksFrom, edges_left}
 use Rattle.ti_components.specs.declared.search.Progress.{Progress}
 use Rattle.ti_components.specs.declared.search.Progress.TheVariants.{Unseen, OnPath, Closed}
 use Rattle.ti_components.specs.declared.search.Search.{Search}
@@ -196,7 +196,7 @@ leave_only old new top last place start n a m b other p c path starts active ord
       });
 }
 
-pub leave_closed : (old mid new : Search) (top last place : ℕ) → length old.active.items ≡ suc top → slice_get old.active.items top ≡ Some place → length old.starts.items ≡ suc last → slice_get old.starts.items last ≡ Some place → mid.progress.items ≡ old.progress.items → mid.cursors.items ≡ old.cursors.items → mid.path.items ≡ old.path.items → mid.starts.items ≡ take last old.starts.items → mid.active.items ≡ take top old.active.items → mid.order.items ≡ old.order.items → Closes mid new place → Leaves old new
+pub leave_closed : (old mid new : Search) (top last place : ℕ) → length old.active.items ≡ suc top → slice_get old.active.items top ≡ Some place → length old.starts.items ≡ suc last → slice_get old.starts.items last ≡ Some place → mid.progress.items ≡ old.progress.items → mid.cursors.items ≡ old.cursors.items → mid.path.items ≡ old.path.items → mid.starts.items ≡ take last old.starts.items → mid.active.items ≡ take top old.active.items → mid.order.items ≡ old.order.items → ClosesPath mid new place → Leaves old new
 leave_closed old mid new top last place n a m b p c path starts active order closes =
     let marked : IsMarked old.progress.items new.progress.items (drop place old.path.items) (length old.order.items) = rw (p, path, order) at closes.progress in
     record {
@@ -345,7 +345,7 @@ met_none g s h =
       met = λ v l. absurd (omega arith);
     }
 
-pub met_more : (g : Rows) (old new : Search) (count : ℕ) → HasMet g old count → Walks g old new count → HasMet g new (count + 1)
+pub met_more : (g : Rows) (old new : Search) (count : ℕ) → HasMet g old count → WalksFrom g old new count → HasMet g new (count + 1)
 met_more g old new count h w = record {
   idle = w.idle;
   met = λ v l e. elim (cases_eq v count) [

@@ -5,7 +5,7 @@ use Rattle.std.proofs.lemmas.Option.{same_Some, slice_get_within}
 use Rattle.ti_components.specs.Graph.{Rows, HasEdge}
 use Rattle.ti_components.specs.Leading.{Leads}
 use Rattle.ti_components.specs.Components.{Has}
-use Rattle.ti_components.specs.inside.Walk.{Rises, IsExplored, IsPath, AreGroups, IsOrder, IsWalk, IsCutOffAt}
+use Rattle.ti_components.specs.inside.Search.{Rises, IsExplored, IsPath, AreGroups, IsOrderSoFar, IsWalk, IsCutOffAt}
 use Rattle.ti_components.specs.declared.search.Progress.{Progress}
 use Rattle.ti_components.specs.declared.search.Progress.TheVariants.{Unseen, OnPath, Closed}
 use Rattle.ti_components.proofs.Lists.{get_front, get_last, push_cases, get-set_same, get-set_other, Has_front, Has_last, Has_push, Rises_push, Rises_take, rising_last, but_last, take_last_lacks}
@@ -40,7 +40,7 @@ groups_kept g p q n s h = record {
   below = λ u c e. h.below u c ((s u c).1 e);
 }
 
-order_kept : (p q : List Progress) (order : List ℕ) → SameClosed p q → IsOrder p order → IsOrder q order
+order_kept : (p q : List Progress) (order : List ℕ) → SameClosed p q → IsOrderSoFar p order → IsOrderSoFar q order
 order_kept p q order s h = record {
   listed = λ u c e. h.listed u c ((s u c).1 e);
   closed = λ i u e. let t = h.closed i u e in (t.0, (s u t.0).0 t.1, t.2);

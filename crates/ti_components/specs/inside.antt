@@ -1,2 +1,2 @@
 -- Computed forms of what the other files define by relations, and words that only private functions and proofs use.
-pub mod Walk
+pub mod Search

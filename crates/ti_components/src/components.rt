@@ -2,7 +2,7 @@
 ghost use Rattle.std.specs.Prelude.{ℕ, ◌<◌, length, IfOk};
 ghost use Rattle.ti_components.specs.Graph.{IsGraph};
 ghost use Rattle.ti_components.specs.Components.{AreComponents, IsClosingOrder};
-ghost use Rattle.ti_components.specs.inside.Walk.{AreNumbers, IsClosed};
+ghost use Rattle.ti_components.specs.inside.Search.{AreClosedNumbers, IsClosed};
 
 use crate::graph::Graph;
 use crate::search::{Progress, Search, search_graph};
@@ -46,7 +46,7 @@ impl Components {
 /// The numbers of closed components.
 fn numbers(alloc: Global, progress: &[Progress]) -> Result<Vec<usize>, AllocError>
     requires { (v : ℕ) → v < length progress.now → IsClosed progress.now v }
-    ensures { IfOk result (λ numbers. AreNumbers progress.now numbers.items) }
+    ensures { IfOk result (λ numbers. AreClosedNumbers progress.now numbers.items) }
 {
     let mut numbers = Vec::with_capacity(alloc, progress.len())?;
     for node in progress {

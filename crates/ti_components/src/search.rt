@@ -2,7 +2,7 @@
 // node, and with the nodes of open components on one path.
 ghost use Rattle.std.specs.Prelude.{◌≡◌, ◌<◌, ◌≤◌, ℕ, Some, slice_get, vec_len, OnOk, IfOk};
 ghost use Rattle.ti_components.specs.Graph.{IsGraph};
-ghost use Rattle.ti_components.specs.inside.Walk.{AreNodes, Closes, Enters, Follows, IsCutOffAt, IsFresh, IsIdle, IsMarked, IsSearched, IsWalkOf, Leaves, Rises, Steps, Walks};
+ghost use Rattle.ti_components.specs.inside.Search.{AreNodes, ClosesPath, Enters, Follows, IsCutOffAt, IsFresh, IsIdle, IsMarked, IsSearched, IsWalkOf, Leaves, Rises, Steps, WalksFrom};
 ghost use Rattle.ti_components.specs.declared.search.Progress.TheVariants.{Unseen};
 
 use crate::graph::Graph;
@@ -92,7 +92,7 @@ impl Search {
     fn close(&mut self, start: usize) -> Result<(), AllocError>
         requires within { start ≤ vec_len self.old.path }
         requires nodes { AreNodes self.old.path.items (vec_len self.old.progress) }
-        ensures { OnOk result (Closes self.old self.new start) }
+        ensures { OnOk result (ClosesPath self.old self.new start) }
     {
         let number = self.order.len();
         let nodes = &self.path[start..];
@@ -147,7 +147,7 @@ impl Search {
         requires graph { IsGraph graph.now }
         requires idle { IsIdle graph.now self.old }
         requires unseen { slice_get self.old.progress.items root ≡ Some Unseen }
-        ensures { OnOk result (Walks graph.now self.old self.new root) }
+        ensures { OnOk result (WalksFrom graph.now self.old self.new root) }
     {
         self.enter(root)?;
         while !self.active.is_empty() {

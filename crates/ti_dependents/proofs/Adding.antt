@@ -8,10 +8,10 @@ use Rattle.ti_index.specs.Names.{users_at}
 use Rattle.ti_index.proofs.Lists.{get_front, push_cases, get_last}
 use Rattle.ti_slots.specs.declared.slots.Slots.{Slots}
 use Rattle.ti_slots.specs.Slots.{reading_at, IsOwnerId}
-use Rattle.ti_dependents.specs.inside.Search.{Adds, IsUserOf, IsUserOfOne, IsUserOfOwned, IsPutOrUser}
+use Rattle.ti_dependents.specs.inside.Search.{AddsPassing, IsUserOf, IsUserOfOne, IsUserOfOwned, IsPutOrUser}
 use Rattle.ti_dependents.proofs.Lists.{Has_front, Has_last, Has_split, Has_one, Has_none, Has_from_any}
 
-pub adds_none : (A : ℕ → Type 0) (xs : List ℕ) → ((id : ℕ) → A id → ⊥) → Adds A xs xs
+pub adds_none : (A : ℕ → Type 0) (xs : List ℕ) → ((id : ℕ) → A id → ⊥) → AddsPassing A xs xs
 adds_none A xs none = record {
   added = [];
   behind = sym (append-nil xs);
@@ -19,7 +19,7 @@ adds_none A xs none = record {
   all = λ id a. absurd (none id a);
 }
 
-pub adds_same : (A B : ℕ → Type 0) (xs ys : List ℕ) → Adds A xs ys → ((id : ℕ) → A id → B id) → ((id : ℕ) → B id → A id) → Adds B xs ys
+pub adds_same : (A B : ℕ → Type 0) (xs ys : List ℕ) → AddsPassing A xs ys → ((id : ℕ) → A id → B id) → ((id : ℕ) → B id → A id) → AddsPassing B xs ys
 adds_same A B xs ys h to from = record {
   added = h.added;
   behind = h.behind;
@@ -28,7 +28,7 @@ adds_same A B xs ys h to from = record {
 }
 
 -- what is added in two steps
-pub adds_more : (A B C : ℕ → Type 0) (xs ys zs : List ℕ) → Adds A xs ys → Adds B ys zs → ((id : ℕ) → A id → C id) → ((id : ℕ) → B id → C id) → ((id : ℕ) → C id → A id ⊎ B id) → Adds C xs zs
+pub adds_more : (A B C : ℕ → Type 0) (xs ys zs : List ℕ) → AddsPassing A xs ys → AddsPassing B ys zs → ((id : ℕ) → A id → C id) → ((id : ℕ) → B id → C id) → ((id : ℕ) → C id → A id ⊎ B id) → AddsPassing C xs zs
 adds_more A B C xs ys zs h k one two either = record {
   added = h.added ++ k.added;
   behind = k.behind ∙ (ap (λ us. us ++ k.added) h.behind ∙ append_assoc xs h.added k.added);
@@ -40,7 +40,7 @@ adds_more A B C xs ys zs h k one two either = record {
 }
 
 -- one id, if it is not there yet
-pub adds_one : (xs ys : List ℕ) (q : ℕ) → ys ≡ cond (list_any (nat_eq q) xs) xs (xs ++ q ∷ []) → Adds (λ id. id ≡ q) xs ys
+pub adds_one : (xs ys : List ℕ) (q : ℕ) → ys ≡ cond (list_any (nat_eq q) xs) xs (xs ++ q ∷ []) → AddsPassing (λ id. id ≡ q) xs ys
 adds_one xs ys q e =
     elim (cases_Bool (list_any (nat_eq q) xs)) [
       | inl there ↦
@@ -63,7 +63,7 @@ adds_one xs ys q e =
 
 -- ---- one more of a list of ids
 
-pub adds_item : (users : List ℕ) (user : ℕ) (xs ys zs : List ℕ) → Adds (Has users) xs ys → zs ≡ cond (list_any (nat_eq user) ys) ys (ys ++ user ∷ []) → Adds (Has (users ++ user ∷ [])) xs zs
+pub adds_item : (users : List ℕ) (user : ℕ) (xs ys zs : List ℕ) → AddsPassing (Has users) xs ys → zs ≡ cond (list_any (nat_eq user) ys) ys (ys ++ user ∷ []) → AddsPassing (Has (users ++ user ∷ [])) xs zs
 adds_item users user xs ys zs h e =
     adds_more (Has users) (λ id. id ≡ user) (Has (users ++ user ∷ [])) xs ys zs h (adds_one ys zs user e)
     (Has_front users (user ∷ []))
@@ -71,16 +71,16 @@ adds_item users user xs ys zs h e =
     (λ id a. elim (Has_split users (user ∷ []) id a) [ inl before ↦ inl before | inr here ↦ inr (Has_one user id here) ])
 
 -- all of them
-pub adds_all : (slots : Slots) (name users : List ℕ) (k : ℕ) (xs ys : List ℕ) → users ≡ users_at slots.names name → length users ≤ k → Adds (Has (take k users)) xs ys → Adds (IsUserOf slots name) xs ys
+pub adds_all : (slots : Slots) (name users : List ℕ) (k : ℕ) (xs ys : List ℕ) → users ≡ users_at slots.names name → length users ≤ k → AddsPassing (Has (take k users)) xs ys → AddsPassing (IsUserOf slots name) xs ys
 adds_all slots name users k xs ys e l h =
-    let P : List ℕ → Type 0 = λ us. Adds (Has us) xs ys in subst P (take_all k users l ∙ e) h
+    let P : List ℕ → Type 0 = λ us. AddsPassing (Has us) xs ys in subst P (take_all k users l ∙ e) h
 
 -- ---- one more of a list of names
 
 one_front : (slots : Slots) (names : List (List ℕ)) (name : List ℕ) (id : ℕ) → IsUserOfOne slots names id → IsUserOfOne slots (names ++ name ∷ []) id
 one_front slots names name id h = (h.0, h.1, get_front names (name ∷ []) h.0 h.1 h.2, h.3)
 
-pub adds_users : (slots : Slots) (names : List (List ℕ)) (name : List ℕ) (xs ys zs : List ℕ) → Adds (IsUserOfOne slots names) xs ys → Adds (IsUserOf slots name) ys zs → Adds (IsUserOfOne slots (names ++ name ∷ [])) xs zs
+pub adds_users : (slots : Slots) (names : List (List ℕ)) (name : List ℕ) (xs ys zs : List ℕ) → AddsPassing (IsUserOfOne slots names) xs ys → AddsPassing (IsUserOf slots name) ys zs → AddsPassing (IsUserOfOne slots (names ++ name ∷ [])) xs zs
 adds_users slots names name xs ys zs h k =
     adds_more (IsUserOfOne slots names) (IsUserOf slots name) (IsUserOfOne slots (names ++ name ∷ [])) xs ys zs h k
     (one_front slots names name)
@@ -90,7 +90,7 @@ adds_users slots names name xs ys zs h k =
       | inr last ↦ inr (rw (← last.1) a.3)
     ])
 
-pub adds_owned : (slots : Slots) (holder : ℕ) (names : List (List ℕ)) (name : List ℕ) (xs ys zs : List ℕ) → Adds (IsUserOfOwned slots holder names) xs ys → IsOwnerId slots name holder → Adds (IsUserOf slots name) ys zs → Adds (IsUserOfOwned slots holder (names ++ name ∷ [])) xs zs
+pub adds_owned : (slots : Slots) (holder : ℕ) (names : List (List ℕ)) (name : List ℕ) (xs ys zs : List ℕ) → AddsPassing (IsUserOfOwned slots holder names) xs ys → IsOwnerId slots name holder → AddsPassing (IsUserOf slots name) ys zs → AddsPassing (IsUserOfOwned slots holder (names ++ name ∷ [])) xs zs
 adds_owned slots holder names name xs ys zs h first k =
     adds_more (IsUserOfOwned slots holder names) (IsUserOf slots name) (IsUserOfOwned slots holder (names ++ name ∷ [])) xs ys zs h k
     (λ id a. (a.0, a.1, get_front names (name ∷ []) a.0 a.1 a.2, a.3, a.4))
@@ -101,7 +101,7 @@ adds_owned slots holder names name xs ys zs h first k =
     ])
 
 -- a name that another block owns adds nothing
-pub adds_not_owned : (slots : Slots) (holder : ℕ) (names : List (List ℕ)) (name : List ℕ) (xs ys : List ℕ) → Adds (IsUserOfOwned slots holder names) xs ys → (IsOwnerId slots name holder → ⊥) → Adds (IsUserOfOwned slots holder (names ++ name ∷ [])) xs ys
+pub adds_not_owned : (slots : Slots) (holder : ℕ) (names : List (List ℕ)) (name : List ℕ) (xs ys : List ℕ) → AddsPassing (IsUserOfOwned slots holder names) xs ys → (IsOwnerId slots name holder → ⊥) → AddsPassing (IsUserOfOwned slots holder (names ++ name ∷ [])) xs ys
 adds_not_owned slots holder names name xs ys h other =
     adds_same (IsUserOfOwned slots holder names) (IsUserOfOwned slots holder (names ++ name ∷ [])) xs ys h
     (λ id a. (a.0, a.1, get_front names (name ∷ []) a.0 a.1 a.2, a.3, a.4))
@@ -112,23 +112,23 @@ adds_not_owned slots holder names name xs ys h other =
 
 -- ---- a name in two spellings
 
-pub adds_users_of : (slots : Slots) (names : List (List ℕ)) (name other : List ℕ) (xs ys zs : List ℕ) → Adds (IsUserOfOne slots names) xs ys → other ≡ name → Adds (IsUserOf slots other) ys zs → Adds (IsUserOfOne slots (names ++ name ∷ [])) xs zs
+pub adds_users_of : (slots : Slots) (names : List (List ℕ)) (name other : List ℕ) (xs ys zs : List ℕ) → AddsPassing (IsUserOfOne slots names) xs ys → other ≡ name → AddsPassing (IsUserOf slots other) ys zs → AddsPassing (IsUserOfOne slots (names ++ name ∷ [])) xs zs
 adds_users_of slots names name other xs ys zs h same k =
-    adds_users slots names name xs ys zs h (let P : List ℕ → Type 0 = λ n. Adds (IsUserOf slots n) ys zs in subst P same k)
+    adds_users slots names name xs ys zs h (let P : List ℕ → Type 0 = λ n. AddsPassing (IsUserOf slots n) ys zs in subst P same k)
 
-pub adds_owned_of : (slots : Slots) (holder : ℕ) (names : List (List ℕ)) (name one other : List ℕ) (xs ys zs : List ℕ) → Adds (IsUserOfOwned slots holder names) xs ys → one ≡ name → IsOwnerId slots one holder → other ≡ name → Adds (IsUserOf slots other) ys zs → Adds (IsUserOfOwned slots holder (names ++ name ∷ [])) xs zs
+pub adds_owned_of : (slots : Slots) (holder : ℕ) (names : List (List ℕ)) (name one other : List ℕ) (xs ys zs : List ℕ) → AddsPassing (IsUserOfOwned slots holder names) xs ys → one ≡ name → IsOwnerId slots one holder → other ≡ name → AddsPassing (IsUserOf slots other) ys zs → AddsPassing (IsUserOfOwned slots holder (names ++ name ∷ [])) xs zs
 adds_owned_of slots holder names name one other xs ys zs h same first also k =
     adds_owned slots holder names name xs ys zs h
     (let P : List ℕ → Type 0 = λ n. IsOwnerId slots n holder in subst P same first)
-    (let P : List ℕ → Type 0 = λ n. Adds (IsUserOf slots n) ys zs in subst P also k)
+    (let P : List ℕ → Type 0 = λ n. AddsPassing (IsUserOf slots n) ys zs in subst P also k)
 
-pub adds_not_owned_of : (slots : Slots) (holder : ℕ) (names : List (List ℕ)) (name one : List ℕ) (xs ys : List ℕ) → Adds (IsUserOfOwned slots holder names) xs ys → one ≡ name → (IsOwnerId slots one holder → ⊥) → Adds (IsUserOfOwned slots holder (names ++ name ∷ [])) xs ys
+pub adds_not_owned_of : (slots : Slots) (holder : ℕ) (names : List (List ℕ)) (name one : List ℕ) (xs ys : List ℕ) → AddsPassing (IsUserOfOwned slots holder names) xs ys → one ≡ name → (IsOwnerId slots one holder → ⊥) → AddsPassing (IsUserOfOwned slots holder (names ++ name ∷ [])) xs ys
 adds_not_owned_of slots holder names name one xs ys h same other =
     adds_not_owned slots holder names name xs ys h (let P : List ℕ → Type 0 = λ n. IsOwnerId slots n holder → ⊥ in subst P same other)
 
 -- ---- a block and the users of its names
 
-pub adds_with_users : (slots : Slots) (put : ℕ) (names : List (List ℕ)) (xs ys zs : List ℕ) → ys ≡ cond (list_any (nat_eq put) xs) xs (xs ++ put ∷ []) → Adds (IsUserOfOne slots names) ys zs → names ≡ (reading_at slots.slots.items put).names → Adds (IsPutOrUser slots put) xs zs
+pub adds_with_users : (slots : Slots) (put : ℕ) (names : List (List ℕ)) (xs ys zs : List ℕ) → ys ≡ cond (list_any (nat_eq put) xs) xs (xs ++ put ∷ []) → AddsPassing (IsUserOfOne slots names) ys zs → names ≡ (reading_at slots.slots.items put).names → AddsPassing (IsPutOrUser slots put) xs zs
 adds_with_users slots put names xs ys zs e h same =
     adds_more (λ id. id ≡ put) (IsUserOfOne slots names) (IsPutOrUser slots put) xs ys zs (adds_one xs ys put e) h
     (λ id one. inl one)

@@ -9,7 +9,7 @@ use Rattle.ti_source.specs.Reading.{Reading}
 use Rattle.ti_meaning.specs.Owner.{is_among}
 use Rattle.ti_meaning.specs.Reaching.{Uses}
 use Rattle.ti_meaning.specs.Exchange.{PlacedBlock, Exchange, with_block, HasPlace, new_list}
-use Rattle.ti_meaning.specs.Dependents.{names_of, touched_names, IsPutAt, AreClosed}
+use Rattle.ti_meaning.specs.Dependents.{lookup_names_of, touched_names, IsPutAt, AreClosed}
 use Rattle.ti_meaning.specs.UseLaws.{UsesBlock, AreFound}
 use Rattle.ti_meaning.proofs.Exchanging.{list_any-append}
 use Rattle.ti_meaning.proofs.ExchangeLaws.{found_dependents}
@@ -22,7 +22,7 @@ use Rattle.ti_slots.specs.Slots.{blocks_of, reading_at, StandsAt, IsIndexed}
 use Rattle.ti_slots.proofs.Owners.{uses_user}
 use Rattle.ti_dependents.specs.Dependents.{IsExchangeOf, AreDependentIds}
 use Rattle.ti_dependents.specs.inside.Search.{IsPutOrUser, IsPutOrUserIn, IsSearch}
-use Rattle.ti_dependents.specs.inside.Uses.{ArePlaces}
+use Rattle.ti_dependents.specs.inside.Uses.{ArePositions}
 use Rattle.ti_dependents.proofs.Lists.{once}
 use Rattle.ti_dependents.proofs.Owners.{HasId, id_at}
 
@@ -38,11 +38,11 @@ among_place (n ∷ names) name e =
 
 -- ---- the block put in
 
-put_within : (rest : List Reading) (o : Option PlacedBlock) (at : ℕ) → HasPlace rest o → IsPutAt o at → (block : Reading) × (slice_get (with_block rest o) at ≡ Some block) × (names_of o ≡ block.names)
+put_within : (rest : List Reading) (o : Option PlacedBlock) (at : ℕ) → HasPlace rest o → IsPutAt o at → (block : Reading) × (slice_get (with_block rest o) at ≡ Some block) × (lookup_names_of o ≡ block.names)
 put_within rest None at l p = absurd p
 put_within rest (Some placed) at l p = (placed.block, subst (λ (k : ℕ). slice_get (with_block rest (Some placed)) k ≡ Some placed.block) p (get-with_put rest placed l), refl)
 
-put_somewhere : (o : Option PlacedBlock) (name : List ℕ) → is_among name (names_of o) ≡ true → (at : ℕ) × IsPutAt o at
+put_somewhere : (o : Option PlacedBlock) (name : List ℕ) → is_among name (lookup_names_of o) ≡ true → (at : ℕ) × IsPutAt o at
 put_somewhere None name e = absurd (false≢true e)
 put_somewhere (Some placed) name e = (placed.at, refl)
 
@@ -62,7 +62,7 @@ pub record IsEnded (s : Slots) (put : Option ℕ) (out : List (List ℕ)) (ids p
   pub distinct : AreDistinct s.order.listed
   pub unique : IsDistinct nat_eq ids
   pub ended : IsSearch s put out ids (length ids)
-  pub places_are : ArePlaces s.order.listed ids places
+  pub places_are : ArePositions s.order.listed ids places
 
 module _ (s : Slots) (put : Option ℕ) (out : List (List ℕ)) (ids places : List ℕ) (h : IsEnded s put out ids places) where
   -- a block that was found has its place
@@ -101,7 +101,7 @@ module _ (s : Slots) (put : Option ℕ) (out : List (List ℕ)) (ids places : Li
     new_id at block f = id_at s at block (ap (λ bs. slice_get bs at) (sym x.new) ∙ f)
 
     -- the block put in has the id, and its names are those that the edit touches
-    put_found : (at : ℕ) → IsPutAt e.put at → (id : ℕ) × StandsAt s at id × (put ≡ Some id) × (names_of e.put ≡ (reading_at s.slots.items id).names)
+    put_found : (at : ℕ) → IsPutAt e.put at → (id : ℕ) × StandsAt s at id × (put ≡ Some id) × (lookup_names_of e.put ≡ (reading_at s.slots.items id).names)
     put_found at p =
         let w = put_within e.rest e.put at x.fits.put p in
         let me = new_id at w.0 w.1 in
@@ -116,7 +116,7 @@ module _ (s : Slots) (put : Option ℕ) (out : List (List ℕ)) (ids places : Li
         let me = new_id user block f in
         let uses = uses_user s name user me.id h.indexed me.stands (subst (λ (b : Reading). Uses b.items name) (sym me.is) u) in
         place_of user me.id me.stands
-        (elim (or_cases (is_among name (names_of e.out)) (is_among name (names_of e.put)) (sym (list_any-append name (names_of e.out) (names_of e.put)) ∙ t)) [
+        (elim (or_cases (is_among name (lookup_names_of e.out)) (is_among name (lookup_names_of e.put)) (sym (list_any-append name (lookup_names_of e.out) (lookup_names_of e.put)) ∙ t)) [
           | inl old ↦ (let w = among_place out name (ap (is_among name) (sym x.out_names) ∙ old) in h.ended.has_out me.id (w.0, name, w.1, uses))
           | inr new ↦
               let where_put = put_somewhere e.put name new in
@@ -151,8 +151,8 @@ module _ (s : Slots) (put : Option ℕ) (out : List (List ℕ)) (ids places : Li
 
 -- ---- the answer, in lists that were copied
 
-pub copied_ids : (s : Slots) (put : Option ℕ) (out : List (List ℕ)) (found seen ids places : List ℕ) → IsIndexed s → AreDistinct s.order.listed → IsDistinct nat_eq found → IsSearch s put out found (length found) → seen ≡ found → ids ≡ found → ArePlaces s.order.listed seen places → AreDependentIds s put out ids places
+pub copied_ids : (s : Slots) (put : Option ℕ) (out : List (List ℕ)) (found seen ids places : List ℕ) → IsIndexed s → AreDistinct s.order.listed → IsDistinct nat_eq found → IsSearch s put out found (length found) → seen ≡ found → ids ≡ found → ArePositions s.order.listed seen places → AreDependentIds s put out ids places
 copied_ids s put out found seen ids places x d u h e f p =
-    let P : List ℕ → Type 0 = λ xs. ArePlaces s.order.listed xs places in
+    let P : List ℕ → Type 0 = λ xs. ArePositions s.order.listed xs places in
     let Q : List ℕ → Type 0 = λ xs. AreDependentIds s put out xs places in
     subst Q (sym f) (dependent_ids s put out found places (record { indexed = x; distinct = d; unique = u; ended = h; places_are = subst P e p }))

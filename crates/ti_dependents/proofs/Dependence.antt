@@ -8,7 +8,7 @@ use Rattle.std.specs.Cmp.Lexicographic.{bytes_decides}
 use Rattle.ti_source.specs.Reading.{Reading}
 use Rattle.ti_meaning.specs.Owner.{is_among, owner}
 use Rattle.ti_meaning.specs.Exchange.{PlacedBlock, Exchange, with_block, HasPlace, new_list}
-use Rattle.ti_meaning.specs.Dependents.{names_of, touched_names, IsPutAt, IsDependent}
+use Rattle.ti_meaning.specs.Dependents.{lookup_names_of, touched_names, IsPutAt, IsDependent}
 use Rattle.ti_meaning.proofs.Exchanging.{list_any-append}
 use Rattle.ti_meaning.proofs.ExchangeLaws.{users_depend}
 use Rattle.ti_meaning.proofs.Placing.{get-with_put}
@@ -31,7 +31,7 @@ among_behind : (name : List ℕ) (xs ys : List (List ℕ)) → is_among name ys 
 among_behind name xs ys t = list_any-append name xs ys ∙ or_right (is_among name xs) (is_among name ys) t
 
 -- the names of the block put in are those of the block that stands there
-pub names_put : (rest : List Reading) (o : Option PlacedBlock) (at : ℕ) (block : Reading) → HasPlace rest o → IsPutAt o at → slice_get (with_block rest o) at ≡ Some block → names_of o ≡ block.names
+pub names_put : (rest : List Reading) (o : Option PlacedBlock) (at : ℕ) (block : Reading) → HasPlace rest o → IsPutAt o at → slice_get (with_block rest o) at ≡ Some block → lookup_names_of o ≡ block.names
 names_put rest None at block l put e = absurd put
 names_put rest (Some placed) at block l put e =
     let here : slice_get (with_block rest (Some placed)) at ≡ Some placed.block = subst (λ (p : ℕ). slice_get (with_block rest (Some placed)) p ≡ Some placed.block) put (get-with_put rest placed l) in
@@ -51,14 +51,14 @@ module _ (s : Slots) (put : Option ℕ) (out : List (List ℕ)) (e : Exchange) (
 
   out_user : (at id : ℕ) → IsIndexed s → StandsAt s at id → IsUserOfOne s out id → IsDependent e at
   out_user at id x st u =
-      let there : is_among u.1 (names_of e.out) ≡ true = ap (is_among u.1) h.out_names ∙ among_at out u.0 u.1 u.2 in
-      touched_user at id u.1 x st u.3 (among_front u.1 (names_of e.out) (names_of e.put) there)
+      let there : is_among u.1 (lookup_names_of e.out) ≡ true = ap (is_among u.1) h.out_names ∙ among_at out u.0 u.1 u.2 in
+      touched_user at id u.1 x st u.3 (among_front u.1 (lookup_names_of e.out) (lookup_names_of e.put) there)
 
   put_user : (at id p place : ℕ) → IsIndexed s → StandsAt s at id → put ≡ Some p → StandsAt s place p → IsUserOfOne s (reading_at s.slots.items p).names id → IsDependent e at
   put_user at id p place x st is ps u =
       let same = names_put e.rest e.put place (reading_at s.slots.items p) h.fits.put ((h.put_id place p ps).1 is) (new_block place p ps) in
-      let there : is_among u.1 (names_of e.put) ≡ true = ap (is_among u.1) same ∙ among_at (reading_at s.slots.items p).names u.0 u.1 u.2 in
-      touched_user at id u.1 x st u.3 (among_behind u.1 (names_of e.out) (names_of e.put) there)
+      let there : is_among u.1 (lookup_names_of e.put) ≡ true = ap (is_among u.1) same ∙ among_at (reading_at s.slots.items p).names u.0 u.1 u.2 in
+      touched_user at id u.1 x st u.3 (among_behind u.1 (lookup_names_of e.out) (lookup_names_of e.put) there)
 
   owned_user : (at id p : ℕ) → IsIndexed s → StandsAt s at id → ((place : ℕ) → StandsAt s place p → IsDependent e place) → IsUserOfOwned s p (reading_at s.slots.items p).names id → IsDependent e at
   owned_user at id p x st d u =

@@ -9,7 +9,7 @@ use Rattle.ti_components.specs.Graph.{Rows, AddsEdge, IsGraph}
 use Rattle.ti_index.proofs.Lists.{push_cases, item_at}
 use Rattle.ti_slots.specs.declared.slots.Slots.{Slots}
 use Rattle.ti_slots.specs.Slots.{reading_at, IsOwnerId}
-use Rattle.ti_dependents.specs.Dependents.{IsEdgeOf, IsRowOf, IsGraphOfUses}
+use Rattle.ti_dependents.specs.Dependents.{IsEdgeOf, IsEdgeRowOf, IsGraphOfUses}
 use Rattle.ti_dependents.specs.inside.Uses.{AddsRow, AreRowsOf}
 use Rattle.ti_dependents.proofs.Lists.{place_given, place_found}
 use Rattle.ti_dependents.proofs.Owners.{owner_one}
@@ -34,7 +34,7 @@ row_begun s ids old new e = record {
   behind = e;
 }
 
-row_of_more : (s : Slots) (ids : List ℕ) (items : List ReadItem) (row : List (Option ℕ)) (item : ReadItem) (edge : Option ℕ) → IsRowOf s ids items row → IsEdgeOf s ids item edge → IsRowOf s ids (items ++ item ∷ []) (row ++ edge ∷ [])
+row_of_more : (s : Slots) (ids : List ℕ) (items : List ReadItem) (row : List (Option ℕ)) (item : ReadItem) (edge : Option ℕ) → IsEdgeRowOf s ids items row → IsEdgeOf s ids item edge → IsEdgeRowOf s ids (items ++ item ∷ []) (row ++ edge ∷ [])
 row_of_more s ids items row item edge h k = record {
   as_many = (let n = h.as_many in omega (arith, length-append row (edge ∷ []), length-append items (item ∷ [])));
   edges = λ at i e f g.
@@ -76,7 +76,7 @@ rows_more s ids done id items old new h same adds = rw adds.behind (record {
         ]
         | inr late ↦ elim (push_cases old adds.row at row g) [
           | inl early ↦ (let n = h.as_many in let l = slice_get_within old at row early in let m : at ≡ length done = late.0 in absurd (omega arith))
-          | inr last ↦ rw (late.1, last.1) (let P : List ReadItem → Type 0 = λ is. IsRowOf s ids is adds.row in subst P same adds.of_items)
+          | inr last ↦ rw (late.1, last.1) (let P : List ReadItem → Type 0 = λ is. IsEdgeRowOf s ids is adds.row in subst P same adds.of_items)
         ]
       ];
 })

@@ -4,21 +4,21 @@ use Rattle.std.proofs.lemmas.Option.{same_Some, none-some, slice_get_within}
 use Rattle.ti_source.specs.Reading.{Reading, ReadItem}
 use Rattle.ti_meaning.specs.Owner.{owner}
 use Rattle.ti_meaning.specs.Reaching.{used_name, Uses}
-use Rattle.ti_meaning.specs.UseLaws.{UsesBlock, IsGraphOf, HasEdge}
+use Rattle.ti_meaning.specs.UseLaws.{UsesBlock, IsGraphOf, HasOptionalEdge}
 use Rattle.ti_components.specs.Graph.{Rows, HasEdge as LeadsTo}
 use Rattle.ti_index.specs.Labels.{IsDistinct as AreDistinct}
 use Rattle.ti_index.proofs.Lists.{item_at}
 use Rattle.ti_slots.specs.declared.slots.Slots.{Slots}
 use Rattle.ti_slots.specs.Slots.{blocks_of, reading_at, StandsAt, IsOwnerId}
-use Rattle.ti_dependents.specs.Dependents.{AreDependentIds, IsGraphOfUses, IsRowOf}
+use Rattle.ti_dependents.specs.Dependents.{AreDependentIds, IsGraphOfUses, IsEdgeRowOf}
 use Rattle.ti_dependents.proofs.Owners.{block_at}
 
 -- ---- edges, in the words of either crate
 
-pub edge_to : (graph : Rows) (i j : ℕ) → HasEdge graph i j → LeadsTo graph i j
+pub edge_to : (graph : Rows) (i j : ℕ) → HasOptionalEdge graph i j → LeadsTo graph i j
 edge_to graph i j (row, stands, (place, leads)) = record { row = row; place = place; stands = stands; leads = leads }
 
-pub edge_from : (graph : Rows) (i j : ℕ) → LeadsTo graph i j → HasEdge graph i j
+pub edge_from : (graph : Rows) (i j : ℕ) → LeadsTo graph i j → HasOptionalEdge graph i j
 edge_from graph i j h = (h.row, h.stands, (h.place, h.leads))
 
 -- ---- used names by the places of their items
@@ -53,14 +53,14 @@ module _ (s : Slots) (ids places : List ℕ) (graph : Rows) (many : length place
       let there = item_at places i (let m : i < length places = omega arith in m) in
       (there.0, there.1, stands i id there.0 e there.1)
 
-  row_of : (i id : ℕ) → slice_get ids i ≡ Some id → (row : List (Option ℕ)) × (slice_get graph i ≡ Some row) × IsRowOf s ids (reading_at s.slots.items id).items row
+  row_of : (i id : ℕ) → slice_get ids i ≡ Some id → (row : List (Option ℕ)) × (slice_get graph i ≡ Some row) × IsEdgeRowOf s ids (reading_at s.slots.items id).items row
   row_of i id e =
       let n = h.as_many in
       let l = slice_get_within ids i id e in
       let there = item_at graph i (omega arith) in
       (there.0, there.1, h.rows i id there.0 e there.1)
 
-  edge_uses : (i j : ℕ) → HasEdge graph i j → (at used : ℕ) × (slice_get places i ≡ Some at) × (slice_get places j ≡ Some used) × UsesBlock (blocks_of s) at used
+  edge_uses : (i j : ℕ) → HasOptionalEdge graph i j → (at used : ℕ) × (slice_get places i ≡ Some at) × (slice_get places j ≡ Some used) × UsesBlock (blocks_of s) at used
   edge_uses i j (row, stands_row, (place, leads)) =
       let n = h.as_many in
       let l = slice_get_within graph i row stands_row in
@@ -75,7 +75,7 @@ module _ (s : Slots) (ids places : List ℕ) (graph : Rows) (many : length place
       let own = owner_place s w.0 w.1 you.0 once w.3 you.2 in
       (me.0, you.0, me.1, you.1, (reading_at s.slots.items id.0, block_at s me.0 id.0 me.2, (w.0, place_uses (reading_at s.slots.items id.0).items place item.0 w.0 item.1 w.2, own)))
 
-  uses_edge : (i j at used : ℕ) → slice_get places i ≡ Some at → slice_get places j ≡ Some used → UsesBlock (blocks_of s) at used → HasEdge graph i j
+  uses_edge : (i j at used : ℕ) → slice_get places i ≡ Some at → slice_get places j ≡ Some used → UsesBlock (blocks_of s) at used → HasOptionalEdge graph i j
   uses_edge i j at used e f u =
       let me = id_of i at e in
       let you = id_of j used f in
@@ -88,9 +88,9 @@ module _ (s : Slots) (ids places : List ℕ) (graph : Rows) (many : length place
       let leads = (row.2.edges k.0 k.1 edge.0 k.2 edge.1 j).1 (u.2.0, you.0, k.3, (used, u.2.2, you.2), you.1) in
       (row.0, row.1, (k.0, edge.1 ∙ ap (λ o. Some o) leads))
 
-  pub graph_of_places : IsGraphOf (blocks_of s) places (HasEdge graph)
+  pub graph_of_places : IsGraphOf (blocks_of s) places (HasOptionalEdge graph)
   graph_of_places i j = ((λ e. edge_uses i j e), λ w. uses_edge i j w.0 w.1 w.2 w.3 w.4)
 
 -- no id stands twice in an order (`Order::ids`)
-pub placed_uses : (s : Slots) (put : Option ℕ) (out : List (List ℕ)) (ids places : List ℕ) (graph : Rows) → AreDependentIds s put out ids places → AreDistinct s.order.listed → IsGraphOfUses s ids graph → IsGraphOf (blocks_of s) places (HasEdge graph)
+pub placed_uses : (s : Slots) (put : Option ℕ) (out : List (List ℕ)) (ids places : List ℕ) (graph : Rows) → AreDependentIds s put out ids places → AreDistinct s.order.listed → IsGraphOfUses s ids graph → IsGraphOf (blocks_of s) places (HasOptionalEdge graph)
 placed_uses s put out ids places graph d once h = graph_of_places s ids places graph d.as_many d.stands once h

@@ -9,7 +9,7 @@ use Rattle.ti_slots.specs.declared.slots.Slot.{Slot}
 use Rattle.ti_slots.specs.declared.slots.Slots.{Slots}
 use Rattle.ti_slots.specs.Slots.{slot_at, reading_at, StandsAt, IsIndexed}
 use Rattle.ti_slots.proofs.Owners.{user_uses}
-use Rattle.ti_dependents.specs.inside.Search.{Adds, IsUserOf, IsUserOfOne, IsUserOfOwned, IsPutOrUser, IsPutOrUserIn, Depends, IsSearch}
+use Rattle.ti_dependents.specs.inside.Search.{AddsPassing, IsUserOf, IsUserOfOne, IsUserOfOwned, IsPutOrUser, IsPutOrUserIn, Depends, IsSearch}
 use Rattle.ti_dependents.proofs.Adding.{adds_none}
 use Rattle.ti_dependents.proofs.Lists.{Has_front, Has_split, Has_none, Has_from_any}
 use Rattle.ti_dependents.proofs.Dependence.{put_depends, out_depends, names_depend, owned_depends}
@@ -32,7 +32,7 @@ put_sound s (Some p) out id x there (inl same) = put_depends s (Some p) out id (
 put_sound s (Some p) out id x there (inr u) = let w = there p refl in names_depend s (Some p) out p w.0 id x refl w.1 u
 
 -- the block put in and the users of touched names were added to nothing
-pub search_begun : (s : Slots) (put : Option ℕ) (out : List (List ℕ)) (first found : List ℕ) → IsIndexed s → StandsPut s put → Adds (IsPutOrUserIn s put) [] first → Adds (IsUserOfOne s out) first found → IsSearch s put out found 0
+pub search_begun : (s : Slots) (put : Option ℕ) (out : List (List ℕ)) (first found : List ℕ) → IsIndexed s → StandsPut s put → AddsPassing (IsPutOrUserIn s put) [] first → AddsPassing (IsUserOfOne s out) first found → IsSearch s put out found 0
 search_begun s put out first found x there h k = record {
   within = λ id f. elim (origin id f) [ inl a ↦ put_stands s put id x there a | inr u ↦ user_stands s u.1 id x u.3 ];
   sound = λ id f. elim (origin id f) [ inl a ↦ put_sound s put out id x there a | inr u ↦ out_depends s put out id x u ];
@@ -57,7 +57,7 @@ get_old (z ∷ zs) ys (suc i) zero x y l e f = absurd (omega arith)
 get_old (z ∷ zs) ys (suc i) (suc k) x y l e f = get_old zs ys i k x y (omega arith) e f
 
 -- the users of the names of one more block were added
-pub search_more : (s : Slots) (put : Option ℕ) (out : List (List ℕ)) (found new : List ℕ) (next p : ℕ) → IsIndexed s → IsSearch s put out found next → slice_get found next ≡ Some p → Adds (IsUserOfOwned s p (reading_at s.slots.items p).names) found new → IsSearch s put out new (next + 1)
+pub search_more : (s : Slots) (put : Option ℕ) (out : List (List ℕ)) (found new : List ℕ) (next p : ℕ) → IsIndexed s → IsSearch s put out found next → slice_get found next ≡ Some p → AddsPassing (IsUserOfOwned s p (reading_at s.slots.items p).names) found new → IsSearch s put out new (next + 1)
 search_more s put out found new next p x h here adds = rw adds.behind (record {
   within = λ id f. elim (Has_split found adds.added id f) [
     | inl before ↦ h.within id before
@@ -84,16 +84,16 @@ search_more s put out found new next p x h here adds = rw adds.behind (record {
 
 -- ---- the beginning, whether a block was put in or not
 
-pub first_put : (s : Slots) (put : Option ℕ) (p : ℕ) (none first : List ℕ) → none ≡ [] → put ≡ Some p → Adds (IsPutOrUser s p) none first → Adds (IsPutOrUserIn s put) [] first
+pub first_put : (s : Slots) (put : Option ℕ) (p : ℕ) (none first : List ℕ) → none ≡ [] → put ≡ Some p → AddsPassing (IsPutOrUser s p) none first → AddsPassing (IsPutOrUserIn s put) [] first
 first_put s put p none first empty is h =
-    let P : Option ℕ → Type 0 = λ o. Adds (IsPutOrUserIn s o) [] first in
-    let Q : List ℕ → Type 0 = λ xs. Adds (IsPutOrUser s p) xs first in
+    let P : Option ℕ → Type 0 = λ o. AddsPassing (IsPutOrUserIn s o) [] first in
+    let Q : List ℕ → Type 0 = λ xs. AddsPassing (IsPutOrUser s p) xs first in
     subst P (sym is) (subst Q empty h)
 
-pub first_none : (s : Slots) (put : Option ℕ) (none : List ℕ) → none ≡ [] → put ≡ None → Adds (IsPutOrUserIn s put) [] none
+pub first_none : (s : Slots) (put : Option ℕ) (none : List ℕ) → none ≡ [] → put ≡ None → AddsPassing (IsPutOrUserIn s put) [] none
 first_none s put none empty is =
-    let P : Option ℕ → Type 0 = λ o. Adds (IsPutOrUserIn s o) [] none in
-    let Q : List ℕ → Type 0 = λ xs. Adds (IsPutOrUserIn s None) [] xs in
+    let P : Option ℕ → Type 0 = λ o. AddsPassing (IsPutOrUserIn s o) [] none in
+    let Q : List ℕ → Type 0 = λ xs. AddsPassing (IsPutOrUserIn s None) [] xs in
     subst P (sym is) (subst Q (sym empty) (adds_none (IsPutOrUserIn s None) [] (λ id a. a)))
 
 -- ---- on the way, and at the end
@@ -124,7 +124,7 @@ search_ended s put out found next h l = record {
 }
 
 -- the names in memory are those of the block
-pub search_step : (s : Slots) (put : Option ℕ) (out : List (List ℕ)) (found new : List ℕ) (next p : ℕ) (names : List (List ℕ)) → IsIndexed s → IsSearch s put out found next → slice_get found next ≡ Some p → names ≡ (reading_at s.slots.items p).names → Adds (IsUserOfOwned s p names) found new → IsSearch s put out new (next + 1)
+pub search_step : (s : Slots) (put : Option ℕ) (out : List (List ℕ)) (found new : List ℕ) (next p : ℕ) (names : List (List ℕ)) → IsIndexed s → IsSearch s put out found next → slice_get found next ≡ Some p → names ≡ (reading_at s.slots.items p).names → AddsPassing (IsUserOfOwned s p names) found new → IsSearch s put out new (next + 1)
 search_step s put out found new next p names x h here same adds =
-    let P : List (List ℕ) → Type 0 = λ ns. Adds (IsUserOfOwned s p ns) found new in
+    let P : List (List ℕ) → Type 0 = λ ns. AddsPassing (IsUserOfOwned s p ns) found new in
     search_more s put out found new next p x h here (subst P same adds)

@@ -3,7 +3,7 @@ use Rattle.std.specs.Prelude.{ℕ, ◌≡◌, ◌<◌, ◌↔◌, List, length, 
 use Rattle.ti_source.specs.Reading.{ReadItem}
 use Rattle.ti_meaning.specs.Reaching.{used_name}
 use Rattle.ti_meaning.specs.Exchange.{Exchange, IsExchange, new_list}
-use Rattle.ti_meaning.specs.Dependents.{names_of, IsPutAt, IsDependent}
+use Rattle.ti_meaning.specs.Dependents.{lookup_names_of, IsPutAt, IsDependent}
 use Rattle.ti_meaning.specs.UseLaws.{AreFound}
 use Rattle.ti_components.specs.Graph.{Rows}
 use Rattle.ti_slots.specs.declared.slots.Slots.{Slots}
@@ -14,7 +14,7 @@ pub use Rattle.ti_slots.specs.Slots.{IsOwnerId}
 pub record IsExchangeOf (slots : Slots) (put : Option ℕ) (out : List (List ℕ)) (exchange : Exchange) : Type 0 where
   pub fits : IsExchange exchange
   pub new : new_list exchange ≡ blocks_of slots
-  pub out_names : names_of exchange.out ≡ out
+  pub out_names : lookup_names_of exchange.out ≡ out
   pub put_id : (at id : ℕ) → StandsAt slots at id → IsPutAt exchange.put at ↔ (put ≡ Some id)
 
 -- these are the blocks that depend on it, each once, by their ids and their positions; with each block they have its users
@@ -38,11 +38,11 @@ IsEdgeOf slots ids item edge =
     ↔ ((name : List ℕ) × (id : ℕ) × (used_name item.said ≡ Some name) × IsOwnerId slots name id × (slice_get ids place ≡ Some id))
 
 -- a row has an edge for each item of its block
-pub record IsRowOf (slots : Slots) (ids : List ℕ) (items : List ReadItem) (row : List (Option ℕ)) : Type 0 where
+pub record IsEdgeRowOf (slots : Slots) (ids : List ℕ) (items : List ReadItem) (row : List (Option ℕ)) : Type 0 where
   pub as_many : length row ≡ length items
   pub edges : (k : ℕ) (item : ReadItem) (edge : Option ℕ) → slice_get items k ≡ Some item → slice_get row k ≡ Some edge → IsEdgeOf slots ids item edge
 
 -- a row for each of the ids
 pub record IsGraphOfUses (slots : Slots) (ids : List ℕ) (graph : Rows) : Type 0 where
   pub as_many : length graph ≡ length ids
-  pub rows : (i id : ℕ) (row : List (Option ℕ)) → slice_get ids i ≡ Some id → slice_get graph i ≡ Some row → IsRowOf slots ids (reading_at slots.slots.items id).items row
+  pub rows : (i id : ℕ) (row : List (Option ℕ)) → slice_get ids i ≡ Some id → slice_get graph i ≡ Some row → IsEdgeRowOf slots ids (reading_at slots.slots.items id).items row

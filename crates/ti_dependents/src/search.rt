@@ -2,7 +2,7 @@
 ghost use Rattle.std.specs.Prelude.{◌≡◌, ◌↔◌, ℕ, Some, IsSome, IsTrue, length, map, OnOk, IfOk};
 ghost use Rattle.std.specs.Rc.{rc_slice_items};
 ghost use Rattle.ti_slots.specs.Slots.{slot_at, IsIndexed, IsOwnerId, StandsAt};
-ghost use Rattle.ti_dependents.specs.inside.Search.{Adds, IsUserOf, IsUserOfOne, IsUserOfOwned, IsPutOrUser, IsSearch};
+ghost use Rattle.ti_dependents.specs.inside.Search.{AddsPassing, IsUserOf, IsUserOfOne, IsUserOfOwned, IsPutOrUser, IsSearch};
 
 use crate::blocks::block_of;
 use indexmap::IndexSet;
@@ -12,7 +12,7 @@ use ti_slots::Slots;
 
 /// Adds the users of a name.
 fn add_users(slots: &Slots, name: &[u8], found: &mut IndexSet<u32>) -> Result<(), AllocError>
-    ensures { OnOk result (Adds (IsUserOf slots.now name.now) found.old.keys found.new.keys) }
+    ensures { OnOk result (AddsPassing (IsUserOf slots.now name.now) found.old.keys found.new.keys) }
 {
     for id in slots.names.users(name) {
         found.insert(*id)?;
@@ -26,7 +26,7 @@ fn add_users_of_names(
     names: &[RcSlice<u8>],
     found: &mut IndexSet<u32>,
 ) -> Result<(), AllocError>
-    ensures { OnOk result (Adds (IsUserOfOne slots.now (map rc_slice_items names.now)) found.old.keys found.new.keys) }
+    ensures { OnOk result (AddsPassing (IsUserOfOne slots.now (map rc_slice_items names.now)) found.old.keys found.new.keys) }
 {
     for name in names {
         add_users(slots, name.as_slice(), found)?;
@@ -50,7 +50,7 @@ fn add_users_of_owned(
     found: &mut IndexSet<u32>,
 ) -> Result<(), AllocError>
     requires { IsIndexed slots.now }
-    ensures { OnOk result (Adds (IsUserOfOwned slots.now id (map rc_slice_items names.now)) found.old.keys found.new.keys) }
+    ensures { OnOk result (AddsPassing (IsUserOfOwned slots.now id (map rc_slice_items names.now)) found.old.keys found.new.keys) }
 {
     for name in names {
         if owns(slots, name.as_slice(), id) {
@@ -63,7 +63,7 @@ fn add_users_of_owned(
 /// Adds a block and the users of its names.
 fn add_with_users(slots: &Slots, id: u32, found: &mut IndexSet<u32>) -> Result<(), AllocError>
     requires { IsSome (slot_at slots.now.slots.items id) }
-    ensures { OnOk result (Adds (IsPutOrUser slots.now id) found.old.keys found.new.keys) }
+    ensures { OnOk result (AddsPassing (IsPutOrUser slots.now id) found.old.keys found.new.keys) }
 {
     found.insert(id)?;
     add_users_of_names(slots, &block_of(slots, id).names, found)?;

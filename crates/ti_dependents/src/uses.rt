@@ -6,7 +6,7 @@ ghost use Rattle.ti_index.specs.Labels.{Has, IsDistinct as AreDistinct};
 ghost use Rattle.ti_slots.specs.Slots.{slot_at, IsIndexed};
 ghost use Rattle.ti_components.specs.Graph.{IsGraph};
 ghost use Rattle.ti_dependents.specs.Dependents.{IsEdgeOf, IsGraphOfUses};
-ghost use Rattle.ti_dependents.specs.inside.Uses.{AddsRow, ArePlaces};
+ghost use Rattle.ti_dependents.specs.inside.Uses.{AddsRow, ArePositions};
 
 use crate::blocks::block_of;
 use indexmap::IndexSet;
@@ -19,7 +19,7 @@ use ti_source::{Item, What};
 /// Where each of the ids stands in the list, in which no id stands twice.
 pub(crate) fn places_of(alloc: Global, order: &Order, ids: &[u32]) -> Result<Vec<usize>, AllocError>
     requires { (i id : ℕ) → slice_get ids.now i ≡ Some id → Has order.now.listed id }
-    ensures places { IfOk result (λ places. ArePlaces order.now.listed ids.now places.items) }
+    ensures places { IfOk result (λ places. ArePositions order.now.listed ids.now places.items) }
     ensures distinct { AreDistinct order.now.listed }
 {
     // What the call says of the list is all that is wanted of it.

@@ -9,7 +9,7 @@ use Rattle.std.specs.List.{AllByRecursion}
 use Rattle.ti_devices.specs.Counted.{Observed}
 use Rattle.std.specs.Io.KnownBytes.{IsAtEnd}
 use Rattle.ti_devices.proofs.Written.{Consumes-then, Gives-then}
-use Rattle.ti_devices.specs.LineReader.{ReadsLine, Refills, SpendsReads, TakesLine, ahead_of, bytes_left, limit_of, line_of, reads_left_of}
+use Rattle.ti_devices.specs.LineReader.{ReadsLine, Refills, SpendsReads, TakesLine, ahead_of, bytes_left, line_limit_of, last_line_of, reads_left_of}
 use Rattle.ti_devices.specs.Lines.{IsOneLine, IsWithin, with_newline}
 use Rattle.ti_devices.specs.Reading.{Gives}
 use Rattle.ti_devices.specs.declared.line_reader.LineReader.{LineReader}
@@ -68,22 +68,22 @@ skip_front piece from to count low within =
 pub record Filled (before now : LineReader) (given left : Observed) : Type 0 where
   pub taken : List ℕ
   pub gives : Gives given left taken
-  pub whole : ahead_of before ++ taken ≡ line_of now ++ ahead_of now
-  pub one : IsOneLine (line_of now)
-  pub within : IsWithin (limit_of before) (line_of now)
+  pub whole : ahead_of before ++ taken ≡ last_line_of now ++ ahead_of now
+  pub one : IsOneLine (last_line_of now)
+  pub within : IsWithin (line_limit_of before) (last_line_of now)
   pub spends : SpendsReads before now given left
-  pub fewer : length (line_of now) + bytes_left now ≤ bytes_left before
+  pub fewer : length (last_line_of now) + bytes_left now ≤ bytes_left before
 
 -- the same with another line before
 pub Filled-same : (before cleared mid : LineReader) (given left : Observed) → ahead_of cleared ≡ ahead_of before
-    → reads_left_of cleared ≡ reads_left_of before → limit_of cleared ≡ limit_of before → Filled cleared mid given left
+    → reads_left_of cleared ≡ reads_left_of before → line_limit_of cleared ≡ line_limit_of before → Filled cleared mid given left
     → Filled before mid given left
 Filled-same before cleared mid given left ahead reads limit f = record {
   taken = f.taken;
   gives = f.gives;
   whole = ap (λ (t : List ℕ). t ++ f.taken) (sym ahead) ∙ f.whole;
   one = f.one;
-  within = subst (λ (n : ℕ). length (line_of mid) ≤ n) limit f.within;
+  within = subst (λ (n : ℕ). length (last_line_of mid) ≤ n) limit f.within;
   spends = record { limit = f.spends.limit ∙ limit; reads = f.spends.reads ∙ ap (λ (n : ℕ). n + given.reads) reads };
   fewer = rw (reads, ahead) at f.fewer;
 }
@@ -91,49 +91,49 @@ Filled-same before cleared mid given left ahead reads limit f = record {
 module _ (before mid : LineReader) (given left : Observed) (f : Filled before mid given left) where
   pub Filled-over : (now : LineReader) (e : ToolError) → TakesLine mid now (Err e) → ReadsLine before now given left (Err e)
   Filled-over now e over =
-      let same : limit_of mid ≡ limit_of before = f.spends.limit in
-      let whole = f.whole ∙ ap (λ (t : List ℕ). line_of mid ++ t) over.3 ∙ sym (append_assoc (line_of mid) over.1 over.2) in
+      let same : line_limit_of mid ≡ line_limit_of before = f.spends.limit in
+      let whole = f.whole ∙ ap (λ (t : List ℕ). last_line_of mid ++ t) over.3 ∙ sym (append_assoc (last_line_of mid) over.1 over.2) in
       subst (λ (x : ToolError). ReadsLine before now given left (Err x)) (sym over.0) (
         f.taken,
-        line_of mid ++ over.1,
+        last_line_of mid ++ over.1,
         over.2,
         f.gives,
         whole,
         IsOneLine-append _ _ f.one over.4,
-        subst (λ (n : ℕ). n < length (line_of mid ++ over.1)) same over.5,
+        subst (λ (n : ℕ). n < length (last_line_of mid ++ over.1)) same over.5,
       )
 
   pub Filled-line : (now : LineReader) → TakesLine mid now (Ok true) → ReadsLine before now given left (Ok Line)
   Filled-line now t =
-      let same : limit_of mid ≡ limit_of before = f.spends.limit in
-      let whole : ahead_of before ++ f.taken ≡ with_newline (line_of mid ++ t.0) ++ ahead_of now =
-      f.whole ∙ ap (λ (r : List ℕ). line_of mid ++ r) t.1 ∙ sym (append_assoc (line_of mid) (with_newline t.0) (ahead_of now))
-      ∙ ap (λ (r : List ℕ). r ++ ahead_of now) (sym (append_assoc (line_of mid) t.0 (10 ∷ []))) in
-      (f.taken, f.gives, rw t.3 whole, rw t.3 (IsOneLine-append _ _ f.one t.2), subst (λ (n : ℕ). length (line_of now) ≤ n) same t.4)
+      let same : line_limit_of mid ≡ line_limit_of before = f.spends.limit in
+      let whole : ahead_of before ++ f.taken ≡ with_newline (last_line_of mid ++ t.0) ++ ahead_of now =
+      f.whole ∙ ap (λ (r : List ℕ). last_line_of mid ++ r) t.1 ∙ sym (append_assoc (last_line_of mid) (with_newline t.0) (ahead_of now))
+      ∙ ap (λ (r : List ℕ). r ++ ahead_of now) (sym (append_assoc (last_line_of mid) t.0 (10 ∷ []))) in
+      (f.taken, f.gives, rw t.3 whole, rw t.3 (IsOneLine-append _ _ f.one t.2), subst (λ (n : ℕ). length (last_line_of now) ≤ n) same t.4)
 
   -- all that was ahead is behind the line's front
-  module _ (next : LineReader) (t : TakesLine mid next (Ok false)) (same_limit : limit_of next ≡ limit_of mid)
+  module _ (next : LineReader) (t : TakesLine mid next (Ok false)) (same_limit : line_limit_of next ≡ line_limit_of mid)
       (same_reads : reads_left_of next ≡ reads_left_of mid) where
-    line_whole : ahead_of before ++ f.taken ≡ line_of next
+    line_whole : ahead_of before ++ f.taken ≡ last_line_of next
     line_whole = f.whole ∙ sym t.2
 
-    line_one : IsOneLine (line_of next)
+    line_one : IsOneLine (last_line_of next)
     line_one = rw t.2 (IsOneLine-append _ _ f.one t.0)
 
-    line_within : IsWithin (limit_of before) (line_of next)
+    line_within : IsWithin (line_limit_of before) (last_line_of next)
     line_within =
-        let same : limit_of mid ≡ limit_of before = f.spends.limit in
-        subst (λ (n : ℕ). length (line_of next) ≤ n) same t.3
+        let same : line_limit_of mid ≡ line_limit_of before = f.spends.limit in
+        subst (λ (n : ℕ). length (last_line_of next) ≤ n) same t.3
 
-    pub Filled-more : (now : LineReader) (later : Observed) → Refills next now left later (Ok true) → line_of now ≡ line_of next
+    pub Filled-more : (now : LineReader) (later : Observed) → Refills next now left later (Ok true) → last_line_of now ≡ last_line_of next
         → SpendsReads next now left later → Filled before now given later
     Filled-more now later r kept s =
-        let limits : limit_of mid ≡ limit_of before = f.spends.limit in
+        let limits : line_limit_of mid ≡ line_limit_of before = f.spends.limit in
         let spent : reads_left_of mid + left.reads ≡ reads_left_of before + given.reads = f.spends.reads in
         let spends : reads_left_of now + later.reads ≡ reads_left_of next + left.reads = s.reads in
-        let low : length (line_of mid) + bytes_left mid ≤ bytes_left before = f.fewer in
+        let low : length (last_line_of mid) + bytes_left mid ≤ bytes_left before = f.fewer in
         let none : length (ahead_of next) ≡ 0 = ap length t.1 in
-        let long : length (line_of next) ≡ length (line_of mid) + length (ahead_of mid) = ap length t.2 ∙ length-append (line_of mid) (ahead_of mid) in
+        let long : length (last_line_of next) ≡ length (last_line_of mid) + length (ahead_of mid) = ap length t.2 ∙ length-append (last_line_of mid) (ahead_of mid) in
         let fewer : bytes_left now ≤ bytes_left next = r.2 in record {
           taken = f.taken ++ ahead_of now;
           gives = Gives-then given left later f.taken (ahead_of now) f.gives r.0;
@@ -156,9 +156,9 @@ module _ (before mid : LineReader) (given left : Observed) (f : Filled before mi
           subst (λ (n : ℕ). (later.failures ≡ n + 1) ⊎ ((later.failures ≡ n) × (reads_left_of now ≡ 0))) failures r.2,
         )
 
-    pub Filled-end : (now : LineReader) (later : Observed) → Refills next now left later (Ok false) → line_of now ≡ line_of next
-        → (taken : List ℕ) × Gives given later taken × (ahead_of before ++ taken ≡ line_of now) × IsAtEnd later.bytes
-        × IsOneLine (line_of now) × IsWithin (limit_of before) (line_of now)
+    pub Filled-end : (now : LineReader) (later : Observed) → Refills next now left later (Ok false) → last_line_of now ≡ last_line_of next
+        → (taken : List ℕ) × Gives given later taken × (ahead_of before ++ taken ≡ last_line_of now) × IsAtEnd later.bytes
+        × IsOneLine (last_line_of now) × IsWithin (line_limit_of before) (last_line_of now)
     Filled-end now later r kept = (
       f.taken,
       rw append-nil at (Gives-then given left later f.taken [] f.gives r.0),

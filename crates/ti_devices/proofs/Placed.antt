@@ -2,7 +2,7 @@
 use Rattle.std.proofs.Common.{◌≡◌, ℕ, ◌+◌, ◌<◌, List, [], ◌∷◌, ◌++◌, Option, length, map, suc, take, drop, get_or, refl, subst}
 use Rattle.std.proofs.Math.Seq.{drop-cons}
 use Rattle.std.proofs.lemmas.List.{drop-map, map_more, take-map}
-use Rattle.ti_devices.specs.Placing.{entries, entry_of}
+use Rattle.ti_devices.specs.Placing.{entries, placed_entry}
 use Rattle.ti_devices.specs.Tree.{ChangesOnly, FileAt, Files, Sets, Writes, WritesUpTo}
 use Rattle.ti_devices.specs.declared.placing.File.{File}
 
@@ -15,18 +15,18 @@ Writes-push (e ∷ before) entry old mid new written sets =
 
 pub Writes-next : (files : List File) (count : ℕ) (file : File) (old mid new : Option Files)
     → count < length files → file ≡ get_or files count file
-    → Writes (take count (entries files)) old mid → Sets (entry_of file) mid new
+    → Writes (take count (entries files)) old mid → Sets (placed_entry file) mid new
     → Writes (take (count + 1) (entries files)) old new
 Writes-next files count file old mid new within is_file written sets =
-    let front : take (count + 1) (entries files) ≡ take count (entries files) ++ entry_of file ∷ [] =
-    rw (take-map entry_of (count + 1) files, map_more entry_of files count file within, ← is_file, take-map entry_of count files) in
-    rw front (Writes-push _ (entry_of file) old mid new written sets)
+    let front : take (count + 1) (entries files) ≡ take count (entries files) ++ placed_entry file ∷ [] =
+    rw (take-map placed_entry (count + 1) files, map_more placed_entry files count file within, ← is_file, take-map placed_entry count files) in
+    rw front (Writes-push _ (placed_entry file) old mid new written sets)
 
 pub Writes-stop : (files : List File) (count : ℕ) (file : File) (old mid new : Option Files)
     → count < length files → file ≡ get_or files count file
-    → Writes (take count (entries files)) old mid → ChangesOnly (entry_of file).0 mid new
+    → Writes (take count (entries files)) old mid → ChangesOnly (placed_entry file).0 mid new
     → WritesUpTo count (entries files) old new
 Writes-stop files count file old mid new within is_file written changes =
-    let rest : drop count (entries files) ≡ entry_of file ∷ map entry_of (drop (suc count) files) =
-    rw (drop-map entry_of count files, drop-cons files count file within, ← is_file) in
-    (mid, entry_of file, _, rest, written, changes)
+    let rest : drop count (entries files) ≡ placed_entry file ∷ map placed_entry (drop (suc count) files) =
+    rw (drop-map placed_entry count files, drop-cons files count file within, ← is_file) in
+    (mid, placed_entry file, _, rest, written, changes)

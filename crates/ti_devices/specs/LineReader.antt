@@ -11,12 +11,12 @@ use Rattle.ti_devices.specs.declared.tool_error.ToolError.{ToolError}
 use Rattle.ti_devices.specs.declared.tool_error.ToolError.TheVariants.{ReadFault, LineTooLong}
 
 -- the line that was read last
-abbrev pub line_of : LineReader → List ℕ
-line_of lines = lines.line.bytes
+abbrev pub last_line_of : LineReader → List ℕ
+last_line_of lines = lines.line.bytes
 
 -- the greatest length of a line, without its newline
-abbrev pub limit_of : LineReader → ℕ
-limit_of lines = lines.line.limit
+abbrev pub line_limit_of : LineReader → ℕ
+line_limit_of lines = lines.line.limit
 
 -- the bytes that were read and belong to later lines
 abbrev pub ahead_of : LineReader → List ℕ
@@ -48,23 +48,23 @@ CannotReadOn given left =
 -- input a last line without one, or none; or a fault, behind the front of a line.
 abbrev pub ReadsLine : LineReader → LineReader → Observed → Observed → Result Next ToolError → Type 0
 ReadsLine before now given left (Ok Line) =
-    (taken : List ℕ) × Gives given left taken × (ahead_of before ++ taken ≡ with_newline (line_of now) ++ ahead_of now)
-    × IsOneLine (line_of now) × IsWithin (limit_of before) (line_of now)
+    (taken : List ℕ) × Gives given left taken × (ahead_of before ++ taken ≡ with_newline (last_line_of now) ++ ahead_of now)
+    × IsOneLine (last_line_of now) × IsWithin (line_limit_of before) (last_line_of now)
 ReadsLine before now given left (Ok LastLine) =
-    (taken : List ℕ) × Gives given left taken × (ahead_of before ++ taken ≡ line_of now) × IsAtEnd left.bytes
-    × IsOneLine (line_of now) × IsWithin (limit_of before) (line_of now) × (0 < length (line_of now))
+    (taken : List ℕ) × Gives given left taken × (ahead_of before ++ taken ≡ last_line_of now) × IsAtEnd left.bytes
+    × IsOneLine (last_line_of now) × IsWithin (line_limit_of before) (last_line_of now) × (0 < length (last_line_of now))
 ReadsLine before now given left (Ok End) = Gives given left [] × (ahead_of before ≡ []) × IsAtEnd left.bytes
 ReadsLine before now given left (Err ReadFault) =
     (taken : List ℕ) × Consumes given.bytes left.bytes taken × IsOneLine (ahead_of before ++ taken)
-    × IsWithin (limit_of before) (ahead_of before ++ taken) × CannotRead now given left
+    × IsWithin (line_limit_of before) (ahead_of before ++ taken) × CannotRead now given left
 ReadsLine before now given left (Err LineTooLong) =
     (taken : List ℕ) × (line : List ℕ) × (rest : List ℕ) × Gives given left taken × (ahead_of before ++ taken ≡ line ++ rest)
-    × IsOneLine line × (limit_of before < length line)
+    × IsOneLine line × (line_limit_of before < length line)
 ReadsLine before now given left (Err _) = ⊥
 
 -- the limit stays, and each read takes one of those that are left
 pub record SpendsReads (before now : LineReader) (given left : Observed) : Type 0 where
-  pub limit : limit_of now ≡ limit_of before
+  pub limit : line_limit_of now ≡ line_limit_of before
   pub reads : reads_left_of now + left.reads ≡ reads_left_of before + given.reads
 
 -- a line was read, so fewer bytes are left to be used
@@ -77,14 +77,14 @@ Advances before now _ = Unit {0}
 -- what stands before the first newline of the bytes ahead was put behind the line, or all of them where there is none
 abbrev pub TakesLine : LineReader → LineReader → Result Bool ToolError → Type 0
 TakesLine before now (Ok true) =
-    (front : List ℕ) × (ahead_of before ≡ with_newline front ++ ahead_of now) × IsOneLine front × (line_of now ≡ line_of before ++ front)
-    × IsWithin (limit_of before) (line_of now)
+    (front : List ℕ) × (ahead_of before ≡ with_newline front ++ ahead_of now) × IsOneLine front × (last_line_of now ≡ last_line_of before ++ front)
+    × IsWithin (line_limit_of before) (last_line_of now)
 TakesLine before now (Ok false) =
-    IsOneLine (ahead_of before) × (ahead_of now ≡ []) × (line_of now ≡ line_of before ++ ahead_of before)
-    × IsWithin (limit_of before) (line_of now)
+    IsOneLine (ahead_of before) × (ahead_of now ≡ []) × (last_line_of now ≡ last_line_of before ++ ahead_of before)
+    × IsWithin (line_limit_of before) (last_line_of now)
 TakesLine before now (Err error) =
     (error ≡ LineTooLong) × (front : List ℕ) × (rest : List ℕ) × (ahead_of before ≡ front ++ rest) × IsOneLine front
-    × (limit_of before < length (line_of before ++ front))
+    × (line_limit_of before < length (last_line_of before ++ front))
 
 -- one more read: the bytes ahead are those that came; none came only at the end; or no read was left, or it failed
 abbrev pub Refills : LineReader → LineReader → Observed → Observed → Result Bool ToolError → Type 0

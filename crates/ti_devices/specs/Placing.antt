@@ -5,9 +5,9 @@ use Rattle.ti_devices.specs.Tree.{FileAt}
 use Rattle.ti_devices.specs.declared.placing.File.{File}
 
 -- a file that holds its path and its bytes in memory, as plain data
-abbrev pub entry_of : File → FileAt
-entry_of file = (string_bytes file.path, file.bytes.items)
+abbrev pub placed_entry : File → FileAt
+placed_entry file = (string_bytes file.path, file.bytes.items)
 
 -- the files in their order, as plain data
 abbrev pub entries : List File → List FileAt
-entries files = map entry_of files
+entries files = map placed_entry files

@@ -10,7 +10,7 @@ pub record TakesAll (before now : Observed) (output : List ℕ) : Type 0 where
   pub bytes : Appends before.bytes now.bytes output
   pub failures : now.failures ≡ before.failures
 
--- the writer took a front part of the output, and then it failed, once
+-- the writer took the output up to some byte, and then it failed, once
 pub record TakesFront (before now : Observed) (output : List ℕ) : Type 0 where
   pub front : List ℕ
   pub back : List ℕ
@@ -18,7 +18,7 @@ pub record TakesFront (before now : Observed) (output : List ℕ) : Type 0 where
   pub bytes : Appends before.bytes now.bytes front
   pub failures : now.failures ≡ before.failures + 1
 
--- an output was written, or a write failed behind a front part of it
+-- an output was written, or up to some byte, where a write failed
 abbrev pub Wrote : Observed → Observed → List ℕ → Result Unit ToolError → Type 0
 Wrote before now output (Ok _) = TakesAll before now output
 Wrote before now output (Err error) = (error ≡ WriteFault) × TakesFront before now output

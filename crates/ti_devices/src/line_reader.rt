@@ -60,16 +60,16 @@ fn extend(line: &mut Buffer, more: &[u8]) -> Result<(), ToolError>
 }
 
 impl LineReader {
-    ghost use Rattle.ti_devices.specs.LineReader.{Advances, ReadsLine, Refills, SpendsReads, TakesLine, ahead_of, limit_of, line_of, reads_left_of};
+    ghost use Rattle.ti_devices.specs.LineReader.{Advances, ReadsLine, Refills, SpendsReads, TakesLine, ahead_of, line_limit_of, last_line_of, reads_left_of, reads_max};
 
     /// A reader of lines of at most `limit` bytes, counted without their newline. Nothing is read yet.
     ///
     /// # Errors
     /// Want of memory.
     pub fn new(alloc: Global, limit: usize) -> Result<LineReader, AllocError>
-        ensures limit { IfOk result (λ lines. limit_of lines ≡ limit) }
+        ensures limit { IfOk result (λ lines. line_limit_of lines ≡ limit) }
         ensures ahead { IfOk result (λ lines. ahead_of lines ≡ []) }
-        ensures reads { IfOk result (λ lines. reads_left_of lines ≡ 4294967296) }
+        ensures reads { IfOk result (λ lines. reads_left_of lines ≡ reads_max) }
     {
         let line = Buffer::new(alloc, limit)?;
         Ok(LineReader {
@@ -81,7 +81,7 @@ impl LineReader {
 
     /// The line that was read last, without its newline.
     pub fn line(&self) -> &[u8]
-        ensures { result.now ≡ line_of self.now }
+        ensures { result.now ≡ last_line_of self.now }
     {
         self.line.as_slice()
     }
@@ -90,7 +90,7 @@ impl LineReader {
     // no newline. The answer is whether there is one.
     fn take_line(&mut self) -> Result<bool, ToolError>
         ensures taken { TakesLine self.old self.new result }
-        ensures limit { limit_of self.new ≡ limit_of self.old }
+        ensures limit { line_limit_of self.new ≡ line_limit_of self.old }
         ensures reads { reads_left_of self.new ≡ reads_left_of self.old }
     {
         let ahead = self.ahead.as_slice();
@@ -114,7 +114,7 @@ impl LineReader {
         requires { ahead_of self.old ≡ [] }
         ensures came { Refills self.old self.new (observation R.remaining reader.old)
             (observation R.remaining reader.new) result }
-        ensures line { line_of self.new ≡ line_of self.old }
+        ensures line { last_line_of self.new ≡ last_line_of self.old }
         ensures spends { SpendsReads self.old self.new (observation R.remaining reader.old)
             (observation R.remaining reader.new) }
     {

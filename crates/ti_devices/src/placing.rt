@@ -1,6 +1,6 @@
 //! Writing the files that a tool made.
 ghost use Rattle.std.specs.Prelude.{◌≡◌, ◌<◌, ◌≤◌, IfErr, IsErrOf, OnErr, OnOk};
-ghost use Rattle.ti_devices.specs.Placing.{entries, entry_of};
+ghost use Rattle.ti_devices.specs.Placing.{entries, placed_entry};
 ghost use Rattle.ti_devices.specs.Tree.{ChangesOnly, Sets, Writes, WritesUpTo};
 
 use crate::tree::{Tree, TreeFault};
@@ -16,8 +16,8 @@ pub struct File {
 
 // Writes one file.
 fn place_one<T: Tree>(tree: &mut T, file: &File) -> Result<(), TreeFault>
-    ensures written { OnOk result (Sets (entry_of file.now) (T.files tree.old) (T.files tree.new)) }
-    ensures others { OnErr result (ChangesOnly (entry_of file.now).0 (T.files tree.old)
+    ensures written { OnOk result (Sets (placed_entry file.now) (T.files tree.old) (T.files tree.new)) }
+    ensures others { OnErr result (ChangesOnly (placed_entry file.now).0 (T.files tree.old)
         (T.files tree.new)) }
     ensures later { T.failures tree.old ≤ T.failures tree.new }
     ensures failed { IsErrOf result TreeFault.Failed

@@ -7,7 +7,7 @@ use ti_compiled::Image;
 use ti_layout::{Table, Value, WriteError};
 
 // The image of these names with an empty table.
-fn empty(alloc: Global, names: &[u8]) -> Result<Image, WriteError> {
+fn empty_image(alloc: Global, names: &[u8]) -> Result<Image, WriteError> {
     if names.is_empty() || !has_no_nul(names) {
         return Err(WriteError::NamesTooLong);
     }
@@ -113,7 +113,7 @@ const TEXT_GOES: [Step<'static>; 1] = [
 
 #[test]
 fn texts_come_and_go(rt: HostRuntime) -> Result<(), WriteError> {
-    let mut image = empty(rt.alloc(), b"x")?;
+    let mut image = empty_image(rt.alloc(), b"x")?;
     expect_steps(&rt, rt.alloc(), &mut image, &TEXTS_COME);
     expect_bytes(&rt, &image, 14, b"\0\0\x03\0");
     expect_bytes(&rt, &image, 272, b"\x05\0");
@@ -141,7 +141,7 @@ fn expect_too_large(rt: &impl Abort, alloc: Global, image: &mut Image) -> Result
 
 #[test]
 fn a_flag_changes_the_parity(rt: HostRuntime) -> Result<(), WriteError> {
-    let mut image = empty(rt.alloc(), b"xy")?;
+    let mut image = empty_image(rt.alloc(), b"xy")?;
     assert_eq!(rt; image.bytes().len(), 16);
     expect_steps(&rt, rt.alloc(), &mut image, &FLAG_AND_TEXT);
     expect_too_large(&rt, rt.alloc(), &mut image)?;
@@ -158,7 +158,7 @@ const NUMBERS: [Step<'static>; 4] = [
 
 #[test]
 fn numbers_change_the_format(rt: HostRuntime) -> Result<(), WriteError> {
-    let mut image = empty(rt.alloc(), b"x")?;
+    let mut image = empty_image(rt.alloc(), b"x")?;
     expect_steps(&rt, rt.alloc(), &mut image, &NUMBERS);
     Ok(())
 }

@@ -31,7 +31,7 @@ fn refusal(bytes: &[u8]) -> Option<ReadError> {
 }
 
 /// The capability of a name, and of that kind.
-fn named(name: &str, kind: Kind) -> Option<Cap>
+fn cap_of_name(name: &str, kind: Kind) -> Option<Cap>
     ensures { IfSome result (λ c. c.kind ≡ kind) }
 {
     let cap = find(name.as_bytes())?;
@@ -39,18 +39,18 @@ fn named(name: &str, kind: Kind) -> Option<Cap>
 }
 
 fn flag(view: &View<'_>, name: &str) -> bool {
-    named(name, Kind::Flag).is_some_and(|cap| view.flag(cap))
+    cap_of_name(name, Kind::Flag).is_some_and(|cap| view.flag(cap))
 }
 
 fn number(view: &View<'_>, name: &str) -> Option<u32> {
-    match named(name, Kind::Number) {
+    match cap_of_name(name, Kind::Number) {
         Some(cap) => view.number(cap),
         None => None,
     }
 }
 
 fn text<'a>(view: &View<'a>, name: &str) -> Option<&'a [u8]> {
-    match named(name, Kind::Text) {
+    match cap_of_name(name, Kind::Text) {
         Some(cap) => view.text(cap),
         None => None,
     }

@@ -8,7 +8,7 @@ use ti_caps::{Cap, Kind, find};
 use ti_layout::{Mentions, Table, Value, WriteError, write};
 
 // The entry, or why there is none; `None` where `write` may not be called.
-fn written(alloc: Global, names: &[u8], table: &Table) -> Option<Result<Vec<u8>, WriteError>> {
+fn write_result(alloc: Global, names: &[u8], table: &Table) -> Option<Result<Vec<u8>, WriteError>> {
     if names.is_empty() || !has_no_nul(names) {
         return None;
     }
@@ -16,7 +16,7 @@ fn written(alloc: Global, names: &[u8], table: &Table) -> Option<Result<Vec<u8>,
 }
 
 fn is_written(alloc: Global, names: &[u8], table: &Table, want: &[u8]) -> bool {
-    match written(alloc, names, table) {
+    match write_result(alloc, names, table) {
         Some(Ok(bytes)) => bytes.as_slice() == want,
         _ => false,
     }
@@ -24,7 +24,7 @@ fn is_written(alloc: Global, names: &[u8], table: &Table, want: &[u8]) -> bool {
 
 // How long the entry is, or why there is none.
 fn outcome(alloc: Global, names: &[u8], table: &Table) -> Option<Result<usize, WriteError>> {
-    match written(alloc, names, table)? {
+    match write_result(alloc, names, table)? {
         Ok(bytes) => Some(Ok(bytes.len())),
         Err(error) => Some(Err(error)),
     }
@@ -276,7 +276,7 @@ fn push_text(
 
 // A table of mentions: of `lines` a cancel and then a value, of `cols` so many values upward from 80, of text 1 "B", and
 // then those of another table, and a last one.
-fn mentioned(alloc: Global, used: &Table, values: u32) -> Result<Table, AllocError>
+fn table_of_mentions(alloc: Global, used: &Table, values: u32) -> Result<Table, AllocError>
     requires { values ≤ 2000 }
 {
     let mut mentions = Mentions::new(alloc, values as usize)?;
@@ -302,7 +302,7 @@ fn the_first_mention_decides(rt: HostRuntime) -> Result<(), AllocError> {
     let want = b"\x1a\x01\x02\0\x02\0\x01\0\x02\0\x04\0x\0\0\x01\x50\0\0\0\x02\0A\0B\0";
     // few, so many that they are brought into order first, and more than are kept at once
     for values in [1, 30, 1200] {
-        let table = mentioned(alloc, &used, values)?;
+        let table = table_of_mentions(alloc, &used, values)?;
         assert!(rt; is_written(alloc, b"x", &table, want));
     }
     Ok(())

@@ -113,7 +113,7 @@ fn numbers(first: &[i32; 3]) -> [Value<'static>; 9] {
 }
 
 /// The piece, so many times.
-fn repeated(alloc: Global, piece: &[u8], count: usize) -> Result<Vec<u8>, AllocError> {
+fn repeat_piece(alloc: Global, piece: &[u8], count: usize) -> Result<Vec<u8>, AllocError> {
     let mut text = Vec::new(alloc);
     for _ in 0..count {
         text.extend_from_slice(piece)?;
@@ -152,7 +152,7 @@ fn takes_a_width_with_many_zeros(rt: HostRuntime) -> Result<(), Fail> {
     let mut statics = Statics::new();
     let one = numbers(&[1, 0, 0]);
     let bytes = expand(rt.alloc(), b"%p1%0000000999d", &one, &mut statics)?;
-    let mut wanted = repeated(rt.alloc(), b"0", 998)?;
+    let mut wanted = repeat_piece(rt.alloc(), b"0", 998)?;
     wanted.push(b'1')?;
     assert_eq!(rt; bytes.as_slice(), wanted.as_slice());
     Ok(())
@@ -198,8 +198,8 @@ fn takes_texts_as_parameters(rt: HostRuntime) -> Result<(), Fail> {
 fn keeps_static_variables_but_after_an_error(rt: HostRuntime) -> Result<(), Fail> {
     let mut statics = Statics::new();
     expand(rt.alloc(), b"%p1%PA", &numbers(&[6, 0, 0]), &mut statics)?;
-    let mut full = repeated(rt.alloc(), b"%p1%PA", 1)?;
-    full.extend_from_slice(repeated(rt.alloc(), b"%p1", 21)?.as_slice())?;
+    let mut full = repeat_piece(rt.alloc(), b"%p1%PA", 1)?;
+    full.extend_from_slice(repeat_piece(rt.alloc(), b"%p1", 21)?.as_slice())?;
     let nine = numbers(&[9, 0, 0]);
     assert_eq!(rt;
         expand(rt.alloc(), full.as_slice(), &nine, &mut statics).err(),
@@ -223,17 +223,17 @@ fn bounds_the_stack_and_the_conditionals(rt: HostRuntime) -> Result<(), Fail> {
         ("%?", 65, Some(ParamError::BadFormat(128))),
         ("%?", 1_000_000, Some(ParamError::BadFormat(128))),
     ] {
-        let format = repeated(rt.alloc(), piece.as_bytes(), count)?;
+        let format = repeat_piece(rt.alloc(), piece.as_bytes(), count)?;
         let mut statics = Statics::new();
         let expansion = expand(rt.alloc(), format.as_slice(), &none, &mut statics);
         assert_eq!(rt; expansion.err(), wanted, "at {count} times {piece}");
     }
-    let opened = repeated(rt.alloc(), b"%?", 64)?;
+    let opened = repeat_piece(rt.alloc(), b"%?", 64)?;
     let mut statics = Statics::new();
     let bytes = expand(rt.alloc(), opened.as_slice(), &none, &mut statics)?;
     assert_eq!(rt; bytes.len(), 0);
-    let mut skipped = repeated(rt.alloc(), b"%?%p1%t", 1)?;
-    skipped.extend_from_slice(repeated(rt.alloc(), b"%%", 100_000)?.as_slice())?;
+    let mut skipped = repeat_piece(rt.alloc(), b"%?%p1%t", 1)?;
+    skipped.extend_from_slice(repeat_piece(rt.alloc(), b"%%", 100_000)?.as_slice())?;
     let bytes = expand(rt.alloc(), skipped.as_slice(), &none, &mut statics)?;
     assert_eq!(rt; bytes.len(), 0);
     Ok(())

@@ -5,7 +5,7 @@ use Rattle.ti_layout.specs.declared.layout.Format.{Format}
 use Rattle.ti_layout.specs.declared.layout.Format.TheVariants.{Legacy}
 use Rattle.ti_layout.specs.declared.layout.Header.{Header}
 use Rattle.ti_layout.specs.Layout.{entry_size, header, limit, magic, number_bytes, number_section}
-use Rattle.ti_layout.specs.Image.{image, even_gap, flags_below, format_of, limit_of, numbers_below, offsets_below, texts_below, written_count}
+use Rattle.ti_layout.specs.Image.{image, even_gap, flags_below, format_of, image_limit, numbers_below, offsets_below, texts_below, written_count}
 use Rattle.ti_layout.specs.Sizes.{HasSizes, at_most_max}
 use Rattle.ti_layout.specs.Values.{Contents}
 use Rattle.ti_layout.proofs.Below.{length-below}
@@ -46,20 +46,20 @@ module _ (field : List ℕ) (c : Contents) (h : Header) (has : HasSizes field c 
       e ∙ ap at_most_max size_of_header ∙ counted_size _ (length (texts_below c (written_count c Text))) ∙ ap at_most_max (sym (length-image field c))
 
   -- the limit is of the entry's format
-  pub over_limit : (size most : ℕ) → size ≡ at_most_max (entry_size h.format h.names h.flags h.numbers h.texts h.strings) → most ≡ limit h.format → most < size → limit_of c < length (image field c)
+  pub over_limit : (size most : ℕ) → size ≡ at_most_max (entry_size h.format h.names h.flags h.numbers h.texts h.strings) → most ≡ limit h.format → most < size → image_limit c < length (image field c)
   over_limit size most e l over =
       let s = size_counted size e in
-      let m : most ≡ limit_of c = l ∙ ap limit has.format in
+      let m : most ≡ image_limit c = l ∙ ap limit has.format in
       omega arith
 
-  pub within_limit : (size most : ℕ) → size ≡ at_most_max (entry_size h.format h.names h.flags h.numbers h.texts h.strings) → most ≡ limit h.format → size ≤ most → length (image field c) ≤ limit_of c
+  pub within_limit : (size most : ℕ) → size ≡ at_most_max (entry_size h.format h.names h.flags h.numbers h.texts h.strings) → most ≡ limit h.format → size ≤ most → length (image field c) ≤ image_limit c
   within_limit size most e l within =
       let s = size_counted size e in
-      let m : most ≡ limit_of c = l ∙ ap limit has.format in
+      let m : most ≡ image_limit c = l ∙ ap limit has.format in
       let k = limit-le (format_of c) in
       omega arith
 
-  module _ (small : length (image field c) ≤ limit_of c) where
+  module _ (small : length (image field c) ≤ image_limit c) where
     -- an entry that is small has a small string table, whose size is counted
     pub table_small : length (texts_below c (written_count c Text)) < 32768
     table_small = strings_small field c small
@@ -74,11 +74,11 @@ module _ (field : List ℕ) (c : Contents) (h : Header) (has : HasSizes field c 
         (has.texts ∙ sym (length-below _ (written_count c Text))) strings_counted
 
     -- what is added in turn is the entry
-    pub laid : (v0 v1 v2 v3 v4 v5 v6 v7 v8 : List ℕ) → v0 ≡ [] → v1 ≡ v0 ++ header h.format h.names h.flags h.numbers h.texts h.strings → v2 ≡ v1 ++ field → v3 ≡ v2 ++ 0 ∷ []
+    pub assembled : (v0 v1 v2 v3 v4 v5 v6 v7 v8 : List ℕ) → v0 ≡ [] → v1 ≡ v0 ++ header h.format h.names h.flags h.numbers h.texts h.strings → v2 ≡ v1 ++ field → v3 ≡ v2 ++ 0 ∷ []
         → v4 ≡ v3 ++ flags_below c (written_count c Flag) → v5 ≡ v4 ++ replicate ((h.names + h.flags) % 2) 0 → v6 ≡ v5 ++ number_section h.format (numbers_below h.format c (written_count c Number))
         → v7 ≡ v6 ++ number_section Legacy (offsets_below c (written_count c Text)) → v8 ≡ v7 ++ texts_below c (written_count c Text) → v8 ≡ image field c
     unfolding image
-    laid v0 v1 v2 v3 v4 v5 v6 v7 v8 e0 e1 e2 e3 e4 e5 e6 e7 e8 =
+    assembled v0 v1 v2 v3 v4 v5 v6 v7 v8 e0 e1 e2 e3 e4 e5 e6 e7 e8 =
         let w = format_of c in
         let numbers : number_section h.format (numbers_below h.format c (written_count c Number)) ≡ number_section w (numbers_below w c (written_count c Number)) = ap (λ f. number_section f (numbers_below f c (written_count c Number))) has.format in
         let gap : replicate {A = ℕ} ((h.names + h.flags) % 2) 0 ≡ even_gap field (written_count c Flag) = ap (λ n. replicate {A = ℕ} (n % 2) 0) (ap (λ n. n + h.flags) has.names ∙ ap (λ n. suc (length field) + n) has.flags) in

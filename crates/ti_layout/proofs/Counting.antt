@@ -16,7 +16,7 @@ use Rattle.ti_layout.specs.Sizes.{HasSizes, at_most_max}
 use Rattle.ti_layout.proofs.Below.{some_below-true, some_below-false}
 use Rattle.ti_layout.proofs.Texts.{texts-none}
 use Rattle.ti_layout.proofs.Walked.{Walked, is_of, stands, contents_read, kind_at, walked-start, walked-end, next_text, item_read}
-use Rattle.ti_layout.proofs.Laying.{passed, stepped, all_past}
+use Rattle.ti_layout.proofs.WrittenSections.{passed, stepped, all_past}
 
 -- ---- the format
 

@@ -3,13 +3,13 @@ use Rattle.std.proofs.Common.{◌≡◌, ◌≢◌, ℕ, suc, ◌+◌, ◌<◌, 
 use Rattle.std.specs.Option.{option_or}
 use Rattle.std.proofs.lemmas.Bool.{cases_eq, cases_lt}
 use Rattle.std.proofs.lemmas.List.{length-append, length-map, length-take-le, map-append, take_more, length-replicate, get_or_append_left, get_or_at, get_or-replicate, get_or-set_same, get_or-set_other, get_or_past}
-use Rattle.ti_caps.specs.Tables.{Capability, IsCapability, count_of, same_capability}
+use Rattle.ti_caps.specs.Tables.{Capability, IsCapability, count_of, same_capability, rank_in}
 use Rattle.ti_caps.specs.declared.capability.Kind.{Kind}
 use Rattle.ti_caps.specs.declared.capability.Kind.TheVariants.{Flag, Number, Text}
-use Rattle.ti_layout.specs.inside.Mentions.{ArePlaces, Decides}
+use Rattle.ti_layout.specs.inside.Mentions.{AreMentionPlaces, Decides}
 use Rattle.ti_layout.specs.declared.values.Value.{Value}
-use Rattle.ti_layout.specs.Values.{Content, TableEntry, Agrees, IsKept, contents, content_of, entries_of, rank_in, rank_of}
-use Rattle.ti_layout.proofs.Held.{one_from_rank, same_from_one, test_from_other}
+use Rattle.ti_layout.specs.Values.{Content, TableEntry, Agrees, IsKept, contents, content_of, entries_of, rank_of}
+use Rattle.ti_layout.proofs.KeptEntries.{one_from_rank, same_from_one, test_from_other}
 use Rattle.ti_layout.proofs.Fronts.{AllBefore, absent_behind, contents-append, contents-none, contents-one, kept-push, rank-push}
 
 -- ---- one more mention
@@ -70,7 +70,7 @@ laid_all table xs c none = contents-append table (entries_of xs) c ∙ sym (noth
 
 -- ---- the places of first mentions
 
-pub places_of_none : (n : ℕ) → n ≡ 497 → ArePlaces [] (replicate n 0)
+pub places_of_none : (n : ℕ) → n ≡ 497 → AreMentionPlaces [] (replicate n 0)
 places_of_none n is = record {
   all = length-replicate n 0 ∙ is;
   none = λ c valid at. contents-none c;
@@ -102,7 +102,7 @@ front_more xs i x within here c =
 pub entries_count : (xs : List (Capability × Value)) (i : ℕ) → i ≤ length xs → length (entries_of (take i xs)) ≡ i
 entries_count xs i within = rw length-map (length-take-le i xs within)
 
-module _ (es : List TableEntry) (x : TableEntry) (places : List ℕ) (known : ArePlaces es places) where
+module _ (es : List TableEntry) (x : TableEntry) (places : List ℕ) (known : AreMentionPlaces es places) where
   longer : length (es ++ x ∷ []) ≡ length es + 1
   longer = length-append es (x ∷ [])
 
@@ -120,7 +120,7 @@ module _ (es : List TableEntry) (x : TableEntry) (places : List ℕ) (known : Ar
       )
 
   -- a capability of which there was a mention has its first one still
-  pub places_kept : get_or places (rank_of x.0) 0 ≢ 0 → ArePlaces (es ++ x ∷ []) places
+  pub places_kept : get_or places (rank_of x.0) 0 ≢ 0 → AreMentionPlaces (es ++ x ∷ []) places
   places_kept there = record {
     all = known.all;
     none = λ c valid at. none_more es x c (known.none c valid at) (λ same. there (subst (λ d. get_or places (rank_of d) 0 ≡ 0) (sym same) at));
@@ -128,7 +128,7 @@ module _ (es : List TableEntry) (x : TableEntry) (places : List ℕ) (known : Ar
   }
 
   -- the first mention of a capability
-  pub places_more : IsCapability x.0 → rank_of x.0 < 497 → get_or places (rank_of x.0) 0 ≡ 0 → ArePlaces (es ++ x ∷ []) (set places (rank_of x.0) (suc (length es)))
+  pub places_more : IsCapability x.0 → rank_of x.0 < 497 → get_or places (rank_of x.0) 0 ≡ 0 → AreMentionPlaces (es ++ x ∷ []) (set places (rank_of x.0) (suc (length es)))
   places_more valid within free =
       let here : rank_of x.0 < length places = omega (arith, known.all) in
       let new = get_or-set_same places (rank_of x.0) (suc (length es)) 0 here in
@@ -169,7 +169,7 @@ gathers_none es = record {
   said = λ c valid below. absurd (omega arith);
 }
 
-module _ (es out : List TableEntry) (rank : ℕ) (so_far : Gathers es out rank) (places : List ℕ) (known : ArePlaces es places) where
+module _ (es out : List TableEntry) (rank : ℕ) (so_far : Gathers es out rank) (places : List ℕ) (known : AreMentionPlaces es places) where
   later : AllBefore out (rank + 1)
   later k within = let b = so_far.before k within in omega arith
 

@@ -10,7 +10,7 @@ use Rattle.ti_caps.proofs.Same.{same_capability-true}
 use Rattle.ti_layout.specs.declared.values.Value.{Value}
 use Rattle.ti_layout.specs.Values.{Content, TableEntry, Agrees, IsGapFor, IsKept, contents, content_of, entries_of, rank_at, rank_of}
 use Rattle.ti_layout.specs.inside.Merging.{IsPastBoth}
-use Rattle.ti_layout.proofs.Held.{contents_nowhere, one_from_rank}
+use Rattle.ti_layout.proofs.KeptEntries.{contents_nowhere, one_from_rank}
 use Rattle.ti_layout.proofs.Places.{nowhere, kept-insert, rank_read}
 use Rattle.ti_layout.proofs.Walked.{item_read}
 

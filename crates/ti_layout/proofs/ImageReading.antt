@@ -12,7 +12,7 @@ use Rattle.ti_layout.specs.declared.layout.Format.{Format}
 use Rattle.ti_layout.specs.declared.layout.Format.TheVariants.{Legacy, Extended}
 use Rattle.ti_layout.specs.Values.{Content, content_true, content_number, content_text, content_cancelled, Contents, AgreesIfSome, HasNoNul}
 use Rattle.ti_layout.specs.Layout.{absent_mark, first_negative}
-use Rattle.ti_layout.specs.Reading.{AreSound, IsFlagByte, IsNumber, IsOffset, HasEnd, flag_of, number_of, text_of, text_from, says, contents_of}
+use Rattle.ti_layout.specs.Reading.{AreSound, IsFlagByte, IsStoredNumber, IsOffset, HasEnd, stored_flag, stored_number, stored_text, text_from, says, contents_of}
 use Rattle.ti_layout.specs.Image.{image, is_there, is_wide, format_of, of_kind, written_count, flag_value, number_value, offset_value, texts_below, sections_of, some_below, below}
 use Rattle.ti_layout.specs.Laws.{without_cancel, ImagesAreRead}
 use Rattle.ti_layout.proofs.Below.{length-below, get_or-below, slice_get-below, slice_get-past_below, last_passing-le, last_passing-past, some_below-true}
@@ -82,11 +82,11 @@ sound_flag (Some (content_number n)) = inl (omega arith)
 sound_flag (Some (content_text t)) = inl (omega arith)
 sound_flag (Some content_cancelled) = inl (omega arith)
 
-absent_number : (w : Format) → IsNumber w (absent_mark w)
+absent_number : (w : Format) → IsStoredNumber w (absent_mark w)
 absent_number Legacy = inr (omega arith, omega arith)
 absent_number Extended = inr (omega arith, omega arith)
 
-sound_number : (c : Contents) (k : ℕ) → k < 39 → (o : Option Content) → c (capability Number k) ≡ o → AgreesIfSome (capability Number k) o → IsNumber (format_of c) (number_value (absent_mark (format_of c)) o)
+sound_number : (c : Contents) (k : ℕ) → k < 39 → (o : Option Content) → c (capability Number k) ≡ o → AgreesIfSome (capability Number k) o → IsStoredNumber (format_of c) (number_value (absent_mark (format_of c)) o)
 sound_number c k lt None e a = absent_number (format_of c)
 sound_number c k lt (Some content_true) e a = absent_number (format_of c)
 sound_number c k lt (Some (content_number n)) e a = inl (number-plain c k n lt e a.1)
@@ -151,7 +151,7 @@ sections-sound names c h =
       strings_size = h.small;
       gap_size = length-replicate ((suc (length names) + F) % 2) 0 ∙ ap (λ (k : ℕ). (suc (length names) + k) % 2) (sym f);
       flags = all_below (λ i. flag_value (of_kind c Flag i)) F IsFlagByte (λ i lt. sound_flag (of_kind c Flag i));
-      numbers = all_below (λ i. number_value (absent_mark (format_of c)) (of_kind c Number i)) N (IsNumber (format_of c)) (λ i lt.
+      numbers = all_below (λ i. number_value (absent_mark (format_of c)) (of_kind c Number i)) N (IsStoredNumber (format_of c)) (λ i lt.
           let within : i < 39 = omega (arith, n.numbers) in
           sound_number c i within (of_kind c Number i) refl (h.agree (capability Number i) within));
       offsets = all_below (λ i. offset_value (length (texts_below c i)) (of_kind c Text i)) T (IsOffset (texts_below c T)) (λ i lt.
@@ -172,18 +172,18 @@ not_there (Some content_cancelled) e = refl
 pub past-written : (c : Contents) (kind : Kind) (i : ℕ) → written_count c kind ≤ i → i < count_of kind → without_cancel (c (capability kind i)) ≡ None
 past-written c kind i le lt = not_there (c (capability kind i)) (last_passing-past (λ k. is_there (of_kind c kind k)) (count_of kind) i le lt)
 
-flag-again : (i : ℕ) (o : Option Content) → AgreesIfSome (capability Flag i) o → flag_of (flag_value o) ≡ without_cancel o
+flag-again : (i : ℕ) (o : Option Content) → AgreesIfSome (capability Flag i) o → stored_flag (flag_value o) ≡ without_cancel o
 flag-again i None a = refl
 flag-again i (Some content_true) a = refl
 flag-again i (Some (content_number n)) a = absurd (let e = a.0 in cc)
 flag-again i (Some (content_text t)) a = absurd (let e = a.0 in cc)
 flag-again i (Some content_cancelled) a = refl
 
-absent-says : (w : Format) → number_of w (absent_mark w) ≡ None
+absent-says : (w : Format) → stored_number w (absent_mark w) ≡ None
 absent-says Legacy = refl
 absent-says Extended = refl
 
-number-again : (c : Contents) (k : ℕ) → k < 39 → (o : Option Content) → c (capability Number k) ≡ o → AgreesIfSome (capability Number k) o → number_of (format_of c) (number_value (absent_mark (format_of c)) o) ≡ without_cancel o
+number-again : (c : Contents) (k : ℕ) → k < 39 → (o : Option Content) → c (capability Number k) ≡ o → AgreesIfSome (capability Number k) o → stored_number (format_of c) (number_value (absent_mark (format_of c)) o) ≡ without_cancel o
 number-again c k lt None e a = absent-says (format_of c)
 number-again c k lt (Some content_true) e a = absurd (let p : Number ≡ Flag = a in cc)
 number-again c k lt (Some (content_number n)) e a =
@@ -193,7 +193,7 @@ number-again c k lt (Some (content_text t)) e a = absurd (let p = a.0 in cc)
 number-again c k lt (Some content_cancelled) e a = absent-says (format_of c)
 
 text-again : (c : Contents) (n i : ℕ) → i < n → length (texts_below c n) < 32768 → (o : Option Content) → c (capability Text i) ≡ o
-    → AgreesIfSome (capability Text i) o → text_of (texts_below c n) (offset_value (length (texts_below c i)) o) ≡ without_cancel o
+    → AgreesIfSome (capability Text i) o → stored_text (texts_below c n) (offset_value (length (texts_below c i)) o) ≡ without_cancel o
 text-again c n i lt small None e a = refl
 text-again c n i lt small (Some content_true) e a = absurd (let p : Text ≡ Flag = a in cc)
 text-again c n i lt small (Some (content_number m)) e a = absurd (let p = a.0 in cc)
@@ -211,23 +211,23 @@ section_says names c h Flag i lt =
     let f : ℕ → ℕ = λ k. flag_value (of_kind c Flag k) in
     let n = written_count c Flag in
     elim (cases_lt i n) [
-      | inl under ↦ ap flag_of (get_or-below f n i 0 under) ∙ flag-again i (c (capability Flag i)) (h.agree (capability Flag i) lt)
-      | inr le ↦ ap flag_of (get_or_past (below f n) i 0 (omega (arith, length-below f n, le))) ∙ sym (past-written c Flag i le lt)
+      | inl under ↦ ap stored_flag (get_or-below f n i 0 under) ∙ flag-again i (c (capability Flag i)) (h.agree (capability Flag i) lt)
+      | inr le ↦ ap stored_flag (get_or_past (below f n) i 0 (omega (arith, length-below f n, le))) ∙ sym (past-written c Flag i le lt)
     ]
 section_says names c h Number i lt =
     let w = format_of c in
     let f : ℕ → ℕ = λ k. number_value (absent_mark w) (of_kind c Number k) in
     let n = written_count c Number in
     elim (cases_lt i n) [
-      | inl under ↦ ap (option_and_then (number_of w)) (slice_get-below f n i under) ∙ number-again c i lt (c (capability Number i)) refl (h.agree (capability Number i) lt)
-      | inr le ↦ ap (option_and_then (number_of w)) (slice_get-past_below f n i le) ∙ sym (past-written c Number i le lt)
+      | inl under ↦ ap (option_and_then (stored_number w)) (slice_get-below f n i under) ∙ number-again c i lt (c (capability Number i)) refl (h.agree (capability Number i) lt)
+      | inr le ↦ ap (option_and_then (stored_number w)) (slice_get-past_below f n i le) ∙ sym (past-written c Number i le lt)
     ]
 section_says names c h Text i lt =
     let n = written_count c Text in
     let f : ℕ → ℕ = λ k. offset_value (length (texts_below c k)) (of_kind c Text k) in
     elim (cases_lt i n) [
-      | inl under ↦ ap (option_and_then (text_of (texts_below c n))) (slice_get-below f n i under) ∙ text-again c n i under h.small (c (capability Text i)) refl (h.agree (capability Text i) lt)
-      | inr le ↦ ap (option_and_then (text_of (texts_below c n))) (slice_get-past_below f n i le) ∙ sym (past-written c Text i le lt)
+      | inl under ↦ ap (option_and_then (stored_text (texts_below c n))) (slice_get-below f n i under) ∙ text-again c n i under h.small (c (capability Text i)) refl (h.agree (capability Text i) lt)
+      | inr le ↦ ap (option_and_then (stored_text (texts_below c n))) (slice_get-past_below f n i le) ∙ sym (past-written c Text i le lt)
     ]
 
 pub images_are_read : ImagesAreRead

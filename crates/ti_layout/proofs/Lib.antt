@@ -4,14 +4,14 @@ pub mod Whole
 pub mod Refusing
 pub mod Parts
 pub mod OneReading
-pub mod Held
+pub mod KeptEntries
 pub mod Places
 pub mod Below
 pub mod Spelled
 pub mod Texts
 pub mod Sizes
 pub mod Walked
-pub mod Laying
+pub mod WrittenSections
 pub mod Counting
 pub mod Assembling
 pub mod Fronts

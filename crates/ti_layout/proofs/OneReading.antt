@@ -8,7 +8,7 @@ use Rattle.ti_layout.specs.Values.{Contents, HasNoNul}
 use Rattle.ti_layout.specs.declared.layout.Format.{Format}
 use Rattle.ti_layout.specs.declared.layout.Format.TheVariants.{Legacy, Extended}
 use Rattle.ti_layout.specs.Layout.{Sections, absent_mark, cancelled_mark, first_negative, number_section, width}
-use Rattle.ti_layout.specs.Reading.{AreSound, IsNumber, IsOffset, Reads, contents_of, number_at, numbers_in, count_in, format_in, Refused, HasReadFault, HasBadCount, HasBadNames, HasBadFlag, HasBadNumber, HasBadOffset, HasEnd, rank, names_section, flags_section, numbers_section, offsets_section, strings_section}
+use Rattle.ti_layout.specs.Reading.{AreSound, IsStoredNumber, IsOffset, Reads, contents_of, number_at, numbers_in, count_in, format_in, Refused, HasReadFault, HasBadCount, HasBadNames, HasBadFlag, HasBadNumber, HasBadOffset, HasEnd, rank, names_section, flags_section, numbers_section, offsets_section, strings_section}
 use Rattle.ti_layout.proofs.Spelled.{numbers-again, number_read, length-spelled, counted}
 use Rattle.ti_layout.proofs.Parts.{Found, found}
 
@@ -29,7 +29,7 @@ plain_fits Legacy n lt = omega arith
 plain_fits Extended n lt = omega arith
 
 -- what may stand in a section fits its bytes
-number_fits : (w : Format) (n : ℕ) → IsNumber w n → n ≤ absent_mark w
+number_fits : (w : Format) (n : ℕ) → IsStoredNumber w n → n ≤ absent_mark w
 number_fits w n (inl plain) = plain_fits w n plain
 number_fits w n (inr void) = void.1
 
@@ -123,7 +123,7 @@ good_names names some no_nul h =
     ]
 
 -- a number of a section is none that may not stand there
-good_number : (w : Format) (n : ℕ) → IsNumber w n → first_negative w ≤ n → n < cancelled_mark w → ⊥
+good_number : (w : Format) (n : ℕ) → IsStoredNumber w n → first_negative w ≤ n → n < cancelled_mark w → ⊥
 good_number w n (inl plain) low high = omega arith
 good_number w n (inr void) low high = omega (arith, void.0)
 
@@ -151,7 +151,7 @@ never_of b w s sound f BadFlag h =
     elim (sound.flags p.0 0 p.1) [ inl low ↦ omega (arith, low, p.2) | inr high ↦ omega (arith, high, p.3) ]
 never_of b w s sound f BadNumber h =
     let p = subst (HasBadNumber w) f.numbers (subst (λ (x : Format). HasBadNumber x (numbers_section b)) f.told h) in
-    good_number w _ (spelled_number w s.numbers p.0 (IsNumber w) (number_fits w) sound.numbers p.1) p.2.0 p.2.1
+    good_number w _ (spelled_number w s.numbers p.0 (IsStoredNumber w) (number_fits w) sound.numbers p.1) p.2.0 p.2.1
 never_of b w s sound f BadOffset h =
     let p = subst (λ (x : List ℕ). HasBadOffset x s.strings) f.offsets (subst (λ (x : List ℕ). HasBadOffset (offsets_section b) x) f.strings h) in
     good_offset s.strings _ (spelled_number Legacy s.offsets p.0 (IsOffset s.strings) (offset_fits s.strings) sound.offsets p.1) p.2.0 p.2.1

@@ -15,7 +15,7 @@ use Rattle.ti_caps.specs.Tables.{Capability, IsCapability}
 use Rattle.ti_layout.specs.declared.values.Value.{Value}
 use Rattle.ti_layout.specs.declared.values.Value.TheVariants.{True}
 use Rattle.ti_layout.specs.Values.{Content, content_true, TableEntry, Agrees, IsAt, IsGapFor, IsKept, SetsOnly, contents, content_of, entries_of, rank_at, rank_of}
-use Rattle.ti_layout.proofs.Held.{Elsewhere, Nowhere, Says, one_from_rank, contents_here, contents_nowhere, says-set, says-insert, says-remove, same_from_one, test_from_other}
+use Rattle.ti_layout.proofs.KeptEntries.{Elsewhere, Nowhere, Says, one_from_rank, contents_here, contents_nowhere, says-set, says-insert, says-remove, same_from_one, test_from_other}
 
 -- the rank that a place has is that of the capability there
 pub rank_read : (es : List TableEntry) (i : ℕ) (e : TableEntry) → i < length es → rank_at es i ≡ rank_of (get_or es i e).0

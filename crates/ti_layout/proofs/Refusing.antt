@@ -6,8 +6,8 @@ use Rattle.ti_layout.specs.declared.fault.ReadError.{ReadError}
 use Rattle.ti_layout.specs.declared.fault.ReadError.TheVariants.{Short, Magic, Counts, Truncated, BadNames, BadFlag, BadNumber, BadOffset}
 use Rattle.ti_layout.specs.declared.sections.Sections.{Sections}
 use Rattle.ti_layout.specs.Layout.{cancelled_mark, magic, first_negative}
-use Rattle.ti_layout.specs.Reading.{IsNumber, format_in, names_section, flags_section, numbers_section, strings_section, HasBadCount, HasBadNames, HasBadFlag, HasBadNumber, HasBadOffset, HasReadFault, Refused, rank}
-use Rattle.ti_layout.specs.inside.Cutting.{AreNames, AreFlags, AreNumbers, IsCutIntoSections}
+use Rattle.ti_layout.specs.Reading.{IsStoredNumber, format_in, names_section, flags_section, numbers_section, strings_section, HasBadCount, HasBadNames, HasBadFlag, HasBadNumber, HasBadOffset, HasReadFault, Refused, rank}
+use Rattle.ti_layout.specs.inside.Sections.{AreNames, AreFlags, AreStoredNumbers, IsCutIntoSections}
 
 known_magic : (w : Format) (n : ℕ) → n ≡ magic w → n ≢ magic Legacy → n ≢ magic Extended → ⊥
 known_magic Legacy n e f g = f e
@@ -39,13 +39,13 @@ good_names names are h = elim h [
   ]
 ]
 
-good_number : (w : Format) (n : ℕ) → IsNumber w n → first_negative w ≤ n → n < cancelled_mark w → ⊥
+good_number : (w : Format) (n : ℕ) → IsStoredNumber w n → first_negative w ≤ n → n < cancelled_mark w → ⊥
 good_number w n (inl plain) low high = omega arith
 good_number w n (inr void) low high = omega (arith, void.0)
 
 -- nothing is wrong before the refusal of a rank, where each section that is looked through before it is good
 none_before : (b : List ℕ) (s : Sections) → IsCutIntoSections b s → (n : ℕ) → n ≤ 8 → (5 < n → AreNames (names_section b)) → (6 < n → AreFlags (flags_section b))
-    → (7 < n → AreNumbers (format_in b) (numbers_section b)) → (e : ReadError) → rank e < n → ¬ HasReadFault b e
+    → (7 < n → AreStoredNumbers (format_in b) (numbers_section b)) → (e : ReadError) → rank e < n → ¬ HasReadFault b e
 none_before b s cut n most names flags numbers Short lt h = omega (arith, h, cut.header.long)
 none_before b s cut n most names flags numbers Magic lt h = known_magic (format_in b) _ cut.header.known h.0 h.1
 none_before b s cut n most names flags numbers Counts lt h = good_counts b s cut h
@@ -56,8 +56,8 @@ none_before b s cut n most names flags numbers BadNumber lt h = good_number (for
 none_before b s cut n most names flags numbers BadOffset lt h = omega (arith, lt, most)
 
 -- what is known of a section that was cut is known of the bytes
-numbers_of : (b : List ℕ) (s : Sections) → IsCutIntoSections b s → AreNumbers s.format s.numbers.now → AreNumbers (format_in b) (numbers_section b)
-numbers_of b s cut numbers = subst (λ (x : Format). AreNumbers x (numbers_section b)) cut.format (subst (λ (x : List ℕ). AreNumbers s.format x) cut.numbers numbers)
+numbers_of : (b : List ℕ) (s : Sections) → IsCutIntoSections b s → AreStoredNumbers s.format s.numbers.now → AreStoredNumbers (format_in b) (numbers_section b)
+numbers_of b s cut numbers = subst (λ (x : Format). AreStoredNumbers x (numbers_section b)) cut.format (subst (λ (x : List ℕ). AreStoredNumbers s.format x) cut.numbers numbers)
 
 pub refused_names : (b : List ℕ) (s : Sections) → IsCutIntoSections b s → HasBadNames s.names.now → Refused b BadNames
 refused_names b s cut bad = record {
@@ -78,7 +78,7 @@ refused_numbers b s cut names flags bad = record {
 }
 
 -- the offsets are looked through last
-pub refused_offsets : (b : List ℕ) (s : Sections) → IsCutIntoSections b s → AreNames s.names.now → AreFlags s.flags.now → AreNumbers s.format s.numbers.now → HasBadOffset s.offsets.now s.strings.now → Refused b BadOffset
+pub refused_offsets : (b : List ℕ) (s : Sections) → IsCutIntoSections b s → AreNames s.names.now → AreFlags s.flags.now → AreStoredNumbers s.format s.numbers.now → HasBadOffset s.offsets.now s.strings.now → Refused b BadOffset
 refused_offsets b s cut names flags numbers bad = record {
   holds = subst (λ (x : List ℕ). HasBadOffset x (strings_section b)) cut.offsets (subst (λ (x : List ℕ). HasBadOffset s.offsets.now x) cut.strings bad);
   first = none_before b s cut 8 (omega arith) (λ (_ : 5 < 8). subst AreNames cut.names names) (λ (_ : 6 < 8). subst AreFlags cut.flags flags) (λ (_ : 7 < 8). numbers_of b s cut numbers);

@@ -5,7 +5,7 @@ use Rattle.ti_caps.specs.declared.capability.Kind.TheVariants.{Flag, Number, Tex
 use Rattle.ti_layout.specs.declared.layout.Format.{Format}
 use Rattle.ti_layout.specs.declared.layout.Format.TheVariants.{Legacy, Extended}
 use Rattle.ti_layout.specs.Layout.{Sections, header, entry_bytes, limit, entry_size, number_section, width}
-use Rattle.ti_layout.specs.Image.{image, even_gap, flags_below, format_of, limit_of, numbers_below, offsets_below, sections_of, texts_below, written_count}
+use Rattle.ti_layout.specs.Image.{image, even_gap, flags_below, format_of, image_limit, numbers_below, offsets_below, sections_of, texts_below, written_count}
 use Rattle.ti_layout.specs.Values.{Contents}
 use Rattle.ti_layout.proofs.Below.{length-below}
 use Rattle.ti_layout.proofs.Parts.{length-header}
@@ -50,7 +50,7 @@ bounded : (l n f g x o s k : ℕ) → l ≡ 12 + suc n + f + g + x + 2 * o + s �
 bounded l n f g x o s k e le m = omega arith
 
 -- the string table of an entry within its limit
-pub strings_small : (names : List ℕ) (c : Contents) → length (image names c) ≤ limit_of c → length (texts_below c (written_count c Text)) < 32768
+pub strings_small : (names : List ℕ) (c : Contents) → length (image names c) ≤ image_limit c → length (texts_below c (written_count c Text)) < 32768
 strings_small names c within =
     let l = length-image names c in
     let m = limit-le (format_of c) in

@@ -10,7 +10,7 @@ use Rattle.ti_caps.specs.Tables.{Capability}
 use Rattle.ti_layout.specs.declared.layout.Format.{Format}
 use Rattle.ti_layout.specs.declared.layout.Format.TheVariants.{Legacy}
 use Rattle.ti_layout.specs.Layout.{first_negative, width}
-use Rattle.ti_layout.specs.Reading.{word_at, number_at, count_in, numbers_in, number_of, text_from, text_of, says, contents_of}
+use Rattle.ti_layout.specs.Reading.{word_at, number_at, count_in, numbers_in, stored_number, text_from, stored_text, says, contents_of}
 use Rattle.ti_layout.specs.View.{shown_number, shown_text}
 use Rattle.ti_layout.proofs.Below.{slice_get-below, slice_get-past_below}
 
@@ -33,18 +33,18 @@ number_place w section size k i j n e f lt g v =
     (omega arith, v ∙ ap (λ (x : ℕ). number_at w (x * j) section) e ∙ ap (λ (x : ℕ). number_at w (width w * x) section) g)
 
 module _ (w : Format) (flags numbers offsets strings : List ℕ) (c : Capability) where
-  says-number : c.kind ≡ Number → contents_of w flags numbers offsets strings c ≡ option_and_then (number_of w) (slice_get numbers c.index)
+  says-number : c.kind ≡ Number → contents_of w flags numbers offsets strings c ≡ option_and_then (stored_number w) (slice_get numbers c.index)
   says-number e = ap (λ (kind : Kind). says w flags numbers offsets strings kind c.index) e
 
-  says-text : c.kind ≡ Text → contents_of w flags numbers offsets strings c ≡ option_and_then (text_of strings) (slice_get offsets c.index)
+  says-text : c.kind ≡ Text → contents_of w flags numbers offsets strings c ≡ option_and_then (stored_text strings) (slice_get offsets c.index)
   says-text e = ap (λ (kind : Kind). says w flags numbers offsets strings kind c.index) e
 
 module _ (w : Format) (flags numbers offsets strings : List ℕ) (c : Capability) (is_number : c.kind ≡ Number) where
   pub number_past : count_in w numbers ≤ c.index → None ≡ shown_number (contents_of w flags (numbers_in w numbers) offsets strings c)
-  number_past le = sym (ap shown_number (says-number w flags (numbers_in w numbers) offsets strings c is_number ∙ ap (option_and_then (number_of w)) (numbers_in-past w numbers c.index le)))
+  number_past le = sym (ap shown_number (says-number w flags (numbers_in w numbers) offsets strings c is_number ∙ ap (option_and_then (stored_number w)) (numbers_in-past w numbers c.index le)))
 
-  said : (n : ℕ) → c.index < count_in w numbers → n ≡ number_at w (width w * c.index) numbers → contents_of w flags (numbers_in w numbers) offsets strings c ≡ number_of w n
-  said n lt e = says-number w flags (numbers_in w numbers) offsets strings c is_number ∙ ap (option_and_then (number_of w)) (numbers_in-there w numbers c.index lt) ∙ ap (number_of w) (sym e)
+  said : (n : ℕ) → c.index < count_in w numbers → n ≡ number_at w (width w * c.index) numbers → contents_of w flags (numbers_in w numbers) offsets strings c ≡ stored_number w n
+  said n lt e = says-number w flags (numbers_in w numbers) offsets strings c is_number ∙ ap (option_and_then (stored_number w)) (numbers_in-there w numbers c.index lt) ∙ ap (stored_number w) (sym e)
 
   pub number_plain : (n : ℕ) → c.index < count_in w numbers → n ≡ number_at w (width w * c.index) numbers → n < first_negative w → Some n ≡ shown_number (contents_of w flags (numbers_in w numbers) offsets strings c)
   number_plain n lt e plain = let a : ltb n (first_negative w) ≡ true = lt-ltb _ _ plain in rw (said n lt e, a)
@@ -54,10 +54,10 @@ module _ (w : Format) (flags numbers offsets strings : List ℕ) (c : Capability
 
 module _ (w : Format) (flags numbers offsets strings : List ℕ) (c : Capability) (is_text : c.kind ≡ Text) where
   pub text_past : count_in Legacy offsets ≤ c.index → None ≡ shown_text (contents_of w flags numbers (numbers_in Legacy offsets) strings c)
-  text_past le = sym (ap shown_text (says-text w flags numbers (numbers_in Legacy offsets) strings c is_text ∙ ap (option_and_then (text_of strings)) (numbers_in-past Legacy offsets c.index le)))
+  text_past le = sym (ap shown_text (says-text w flags numbers (numbers_in Legacy offsets) strings c is_text ∙ ap (option_and_then (stored_text strings)) (numbers_in-past Legacy offsets c.index le)))
 
-  text_said : (n : ℕ) → c.index < count_in Legacy offsets → n ≡ word_at (2 * c.index) offsets → contents_of w flags numbers (numbers_in Legacy offsets) strings c ≡ text_of strings n
-  text_said n lt e = says-text w flags numbers (numbers_in Legacy offsets) strings c is_text ∙ ap (option_and_then (text_of strings)) (numbers_in-there Legacy offsets c.index lt) ∙ ap (text_of strings) (sym e)
+  text_said : (n : ℕ) → c.index < count_in Legacy offsets → n ≡ word_at (2 * c.index) offsets → contents_of w flags numbers (numbers_in Legacy offsets) strings c ≡ stored_text strings n
+  text_said n lt e = says-text w flags numbers (numbers_in Legacy offsets) strings c is_text ∙ ap (option_and_then (stored_text strings)) (numbers_in-there Legacy offsets c.index lt) ∙ ap (stored_text strings) (sym e)
 
   pub text_void : (n : ℕ) → c.index < count_in Legacy offsets → n ≡ word_at (2 * c.index) offsets → 32768 ≤ n → None ≡ shown_text (contents_of w flags numbers (numbers_in Legacy offsets) strings c)
   text_void n lt e void = let a : ltb n 32768 ≡ false = le-ltb _ _ void in rw (text_said n lt e, a)

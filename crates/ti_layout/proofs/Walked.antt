@@ -3,17 +3,17 @@ use Rattle.std.proofs.Common.{◌≡◌, ℕ, zero, suc, ◌+◌, ◌-◌, ◌*�
 use Rattle.std.proofs.lemmas.Bool.{cases_lt, cases_Bool}
 use Rattle.std.proofs.lemmas.List.{get_or_default, get_or-map, length-append}
 use Rattle.std.proofs.lemmas.Option.{same_Some, none-some}
-use Rattle.ti_caps.specs.Tables.{Capability, IsCapability, capability, count_of, same_capability}
+use Rattle.ti_caps.specs.Tables.{Capability, IsCapability, capability, count_of, same_capability, rank_in}
 use Rattle.ti_caps.proofs.Same.{same_capability-true}
 use Rattle.ti_caps.specs.declared.capability.Kind.{Kind}
 use Rattle.ti_caps.specs.declared.capability.Kind.TheVariants.{Flag, Number, Text}
 use Rattle.ti_layout.specs.declared.layout.Format.{Format}
 use Rattle.ti_layout.specs.declared.layout.Format.TheVariants.{Legacy}
 use Rattle.ti_layout.specs.declared.values.Value.{Value}
-use Rattle.ti_layout.specs.Values.{Content, content_true, content_number, content_text, content_cancelled, TableEntry, Agrees, IsAt, IsKept, contents, content_of, entries_of, rank_in}
+use Rattle.ti_layout.specs.Values.{Content, content_true, content_number, content_text, content_cancelled, TableEntry, Agrees, IsAt, IsKept, contents, content_of, entries_of}
 use Rattle.ti_layout.specs.Layout.{absent_mark, number_bytes, number_section, width}
 use Rattle.ti_layout.specs.Image.{is_there, of_kind, written_count, flag_value, number_value, offset_value, text_piece, flags_below, numbers_below, offsets_below, texts_below, below}
-use Rattle.ti_layout.proofs.Held.{contents_here}
+use Rattle.ti_layout.proofs.KeptEntries.{contents_here}
 use Rattle.ti_layout.proofs.Places.{elsewhere, rank_read}
 use Rattle.ti_layout.proofs.Below.{below-more, below-filled, last_passing-is, last_passing-over}
 use Rattle.ti_layout.proofs.Spelled.{spelled-append, spelled-one, spelled-absent}

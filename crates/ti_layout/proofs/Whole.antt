@@ -5,8 +5,8 @@ use Rattle.std.proofs.lemmas.Bool.{cases_lt}
 use Rattle.ti_layout.specs.declared.layout.Format.{Format}
 use Rattle.ti_layout.specs.declared.layout.Format.TheVariants.{Legacy}
 use Rattle.ti_layout.specs.Layout.{Sections, header, entry_bytes, magic, number_bytes, number_section, width}
-use Rattle.ti_layout.specs.Reading.{word_at, number_at, count_in, numbers_in, AreSound, IsNumber, IsOffset, Reads, contents_of, format_in, names_size, flag_count, number_count, text_count, strings_size, flags_place, numbers_place, offsets_place, strings_place, end_place, names_section, flags_section, numbers_section, offsets_section, strings_section}
-use Rattle.ti_layout.specs.inside.Cutting.{AreNames, AreFlags, AreNumbers, AreOffsets, EachNumber}
+use Rattle.ti_layout.specs.Reading.{word_at, number_at, count_in, numbers_in, AreSound, IsStoredNumber, IsOffset, Reads, contents_of, format_in, names_size, flag_count, number_count, text_count, strings_size, flags_place, numbers_place, offsets_place, strings_place, end_place, names_section, flags_section, numbers_section, offsets_section, strings_section}
+use Rattle.ti_layout.specs.inside.Sections.{AreNames, AreFlags, AreStoredNumbers, AreOffsets, EachNumber}
 use Rattle.ti_layout.specs.inside.Sound.{OffsetsEnd}
 use Rattle.ti_layout.proofs.Below.{length-below, get_or-below}
 use Rattle.ti_layout.proofs.Spelled.{IsBytes, part-number, spelled-again, length-numbers_in}
@@ -148,7 +148,7 @@ pub record IsRead (b : List ℕ) : Type 0 where
   pub whole : end_place b ≤ length b
   pub names : AreNames (names_section b)
   pub flags : AreFlags (flags_section b)
-  pub numbers : AreNumbers (format_in b) (numbers_section b)
+  pub numbers : AreStoredNumbers (format_in b) (numbers_section b)
   pub offsets : AreOffsets (offsets_section b) (strings_section b)
 
 -- what is so of each number of a section
@@ -178,14 +178,14 @@ sections-sound b r =
       strings_size = omega (arith, l.strings, r.strings_fit);
       gap_size = l.gap ∙ ap (λ (x : ℕ). x % 2) (omega (arith, n, l.names, l.flags, r.names.some));
       flags = λ k d lt. rw (get_or_default (flags_section b) k d 0 lt) (r.flags k lt);
-      numbers = each_number (format_in b) (numbers_section b) (IsNumber (format_in b)) r.numbers;
+      numbers = each_number (format_in b) (numbers_section b) (IsStoredNumber (format_in b)) r.numbers;
       offsets = each_number Legacy (offsets_section b) (IsOffset (strings_section b)) r.offsets;
     }
 
 pub is_read : (b : List ℕ) (w : Format) (names flags numbers offsets strings : List ℕ) → IsBytes b → 12 ≤ length b → word_at 0 b ≡ magic (format_in b)
     → names_size b < 32768 → flag_count b ≤ 44 → number_count b ≤ 39 → text_count b ≤ 414 → strings_size b < 32768 → end_place b ≤ length b
     → w ≡ format_in b → names ≡ names_section b → flags ≡ flags_section b → numbers ≡ numbers_section b → offsets ≡ offsets_section b → strings ≡ strings_section b
-    → AreNames names → AreFlags flags → AreNumbers w numbers → AreOffsets offsets strings → IsRead b
+    → AreNames names → AreFlags flags → AreStoredNumbers w numbers → AreOffsets offsets strings → IsRead b
 is_read b w names flags numbers offsets strings fits long known a1 a2 a3 a4 a5 whole e n f m o s named flagged numbered placed =
     record {
       fits = fits;
@@ -199,7 +199,7 @@ is_read b w names flags numbers offsets strings fits long known a1 a2 a3 a4 a5 w
       whole = whole;
       names = subst AreNames n named;
       flags = subst AreFlags f flagged;
-      numbers = subst (λ (x : Format). AreNumbers x (numbers_section b)) e (subst (λ (x : List ℕ). AreNumbers w x) m numbered);
+      numbers = subst (λ (x : Format). AreStoredNumbers x (numbers_section b)) e (subst (λ (x : List ℕ). AreStoredNumbers w x) m numbered);
       offsets = subst (λ (x : List ℕ). AreOffsets x (strings_section b)) o (subst (λ (x : List ℕ). AreOffsets offsets x) s placed);
     }
 

@@ -1,4 +1,5 @@
 -- The bytes of a compiled entry as they are written (term(5)): the layout of a names field and of what the capabilities have.
+use Rattle.ti_text.specs.Ascii as ascii
 use Rattle.ti_text.specs.Limits.{legacy_number_max}
 use Rattle.std.specs.Prelude.{ℕ, zero, suc, ◌+◌, ◌%◌, Bool, true, false, nat_lt, if◌then◌else◌, List, [], ◌∷◌, ◌++◌, length, replicate, Option, Some, None}
 use Rattle.ti_caps.specs.Tables.{capability, count_of}
@@ -66,16 +67,16 @@ abbrev pub text_piece : Option Content → List ℕ
 text_piece None = []
 text_piece (Some content_true) = []
 text_piece (Some (content_number n)) = []
-text_piece (Some (content_text t)) = t ++ 0 ∷ []
+text_piece (Some (content_text t)) = t ++ ascii.nul ∷ []
 text_piece (Some content_cancelled) = []
 
 -- the offset of a text that is there, else what stands for one that is absent
 abbrev pub offset_value : ℕ → Option Content → ℕ
-offset_value offset None = 65535
-offset_value offset (Some content_true) = 65535
-offset_value offset (Some (content_number n)) = 65535
+offset_value offset None = absent_mark Legacy
+offset_value offset (Some content_true) = absent_mark Legacy
+offset_value offset (Some (content_number n)) = absent_mark Legacy
 offset_value offset (Some (content_text t)) = offset
-offset_value offset (Some content_cancelled) = 65535
+offset_value offset (Some content_cancelled) = absent_mark Legacy
 
 -- ---- the format
 
@@ -89,11 +90,11 @@ is_wide (Some content_cancelled) = false
 
 -- numbers of 32 bits are written only where there is such a number
 abbrev pub format_of : Contents → Format
-format_of contents = if some_below (λ i. is_wide (of_kind contents Number i)) 39 then Extended else Legacy
+format_of contents = if some_below (λ i. is_wide (of_kind contents Number i)) (count_of Number) then Extended else Legacy
 
 -- the most bytes that the entry of these contents may have
-abbrev pub limit_of : Contents → ℕ
-limit_of contents = limit (format_of contents)
+abbrev pub image_limit : Contents → ℕ
+image_limit contents = limit (format_of contents)
 
 -- ---- the sections
 

@@ -4,7 +4,7 @@ use Rattle.std.specs.Prelude.{◌≡◌, ℕ, ◌<◌, ◌≤◌, List, length, 
 use Rattle.ti_caps.specs.Tables.{Capability, IsCapability}
 use Rattle.ti_layout.specs.Values.{Content, content_cancelled, Contents, AgreesIfSome, HasNoNul}
 use Rattle.ti_layout.specs.Reading.{Reads}
-use Rattle.ti_layout.specs.Image.{image, limit_of}
+use Rattle.ti_layout.specs.Image.{image, image_limit}
 
 -- a cancelled value is absent
 abbrev pub without_cancel : Option Content → Option Content
@@ -17,7 +17,7 @@ without_cancel (Some content) = Some content
 abbrev pub ImagesAreRead : Type 0
 ImagesAreRead =
     (names : List ℕ) (contents : Contents) → 0 < length names → length names ≤ names_max → HasNoNul names
-    → ((c : Capability) → IsCapability c → AgreesIfSome c (contents c)) → length (image names contents) ≤ limit_of contents
+    → ((c : Capability) → IsCapability c → AgreesIfSome c (contents c)) → length (image names contents) ≤ image_limit contents
     → (read : Contents) × Reads (image names contents) names read × ((c : Capability) → IsCapability c → read c ≡ without_cancel (contents c))
 
 -- the capabilities have the same values, a cancelled one being absent
@@ -30,4 +30,4 @@ ImagesAreOfValues = (names : List ℕ) (t u : Contents) → ShowSame t u → ima
 
 -- So does its limit.
 abbrev pub LimitsAreOfValues : Type 0
-LimitsAreOfValues = (t u : Contents) → ShowSame t u → limit_of t ≡ limit_of u
+LimitsAreOfValues = (t u : Contents) → ShowSame t u → image_limit t ≡ image_limit u

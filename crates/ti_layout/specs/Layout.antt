@@ -1,5 +1,6 @@
 -- The layout of a compiled entry (term(5), "Legacy storage format" and "Extended number format"): six numbers, and then the
 -- sections that they size. The two formats differ in the first number and in the bytes that the number of a capability takes.
+use Rattle.ti_text.specs.Ascii as ascii
 use Rattle.ti_text.specs.Limits.{entry_max, extended_entry_max}
 use Rattle.std.specs.Prelude.{ℕ, suc, ◌+◌, ◌*◌, ◌/◌, ◌%◌, List, [], ◌∷◌, ◌++◌, length}
 use Rattle.ti_layout.specs.declared.layout.Format.{Format}
@@ -67,13 +68,17 @@ pub record Sections : Type 0 where
 abbrev pub header : Format → ℕ → ℕ → ℕ → ℕ → ℕ → List ℕ
 header format names flags numbers offsets strings = number_section Legacy (magic format ∷ names ∷ flags ∷ numbers ∷ offsets ∷ strings ∷ [])
 
+-- the bytes of the header: six numbers of two bytes
+abbrev pub header_size : ℕ
+header_size = 12
+
 -- the bytes of an entry with these sections: the header with their sizes, and then they in this order
 abbrev pub entry_bytes : Format → Sections → List ℕ
 entry_bytes format s =
     header format (suc (length s.names)) (length s.flags) (length s.numbers) (length s.offsets) (length s.strings)
-    ++ s.names ++ 0 ∷ [] ++ s.flags ++ s.gap ++ number_section format s.numbers ++ number_section Legacy s.offsets ++ s.strings ++ s.rest
+    ++ s.names ++ ascii.nul ∷ [] ++ s.flags ++ s.gap ++ number_section format s.numbers ++ number_section Legacy s.offsets ++ s.strings ++ s.rest
 
 -- how many bytes that is, without what follows: the names have this size with their NUL, and the numbers begin at an even place
 abbrev pub entry_size : Format → ℕ → ℕ → ℕ → ℕ → ℕ → ℕ
 entry_size format names flags numbers offsets strings =
-    12 + names + flags + (names + flags) % 2 + width format * numbers + 2 * offsets + strings
+    header_size + names + flags + (names + flags) % 2 + width format * numbers + 2 * offsets + strings

@@ -1,6 +1,8 @@
 -- What the bytes of a compiled entry say (term(5), "Legacy storage format" and "Extended number format"), and why bytes are refused.
+use Rattle.ti_text.specs.Ascii as ascii
 use Rattle.std.specs.Prelude.{◌≡◌, ◌≢◌, ℕ, suc, ◌+◌, ◌*◌, ◌-◌, ◌/◌, ◌%◌, ◌<◌, ◌≤◌, ◌==◌, nat_lt, if◌then◌else◌, List, length, drop, slice_index, slice_range, slice_get, All, Option, Some, None, option_and_then, ◌⊎◌}
 use Rattle.std.specs.List.{before_first}
+use Rattle.ti_caps.specs.Tables.{count_of}
 use Rattle.ti_caps.specs.declared.capability.Kind.{Kind}
 use Rattle.ti_caps.specs.declared.capability.Kind.TheVariants.{Flag, Number, Text}
 use Rattle.ti_layout.specs.declared.fault.ReadError.{ReadError}
@@ -8,7 +10,7 @@ use Rattle.ti_layout.specs.declared.fault.ReadError.TheVariants.{Short, Magic, C
 use Rattle.ti_layout.specs.declared.layout.Format.{Format}
 use Rattle.ti_layout.specs.declared.layout.Format.TheVariants.{Legacy, Extended}
 use Rattle.ti_layout.specs.Image.{below}
-use Rattle.ti_layout.specs.Layout.{Sections, absent_mark, cancelled_mark, entry_bytes, magic, first_negative, width}
+use Rattle.ti_layout.specs.Layout.{Sections, absent_mark, cancelled_mark, entry_bytes, header_size, magic, first_negative, width}
 use Rattle.ti_layout.specs.Values.{Content, content_true, content_number, content_text, Contents, HasNoNul}
 
 -- ---- the numbers that bytes spell
@@ -47,11 +49,11 @@ IsVoid format n = (cancelled_mark format ≤ n) × (n ≤ absent_mark format)
 
 -- a NUL stands at the offset or after it, within the table
 abbrev pub HasEnd : List ℕ → ℕ → Type 0
-HasEnd strings offset = (i : ℕ) × (offset ≤ i) × (i < length strings) × (slice_index strings i ≡ 0)
+HasEnd strings offset = (i : ℕ) × (offset ≤ i) × (i < length strings) × (slice_index strings i ≡ ascii.nul)
 
 -- a number that is not negative, or stands for absent or cancelled
-abbrev pub IsNumber : Format → ℕ → Type 0
-IsNumber format n = IsPlain format n ⊎ IsVoid format n
+abbrev pub IsStoredNumber : Format → ℕ → Type 0
+IsStoredNumber format n = IsPlain format n ⊎ IsVoid format n
 
 -- an offset that leads to a text with its NUL, or stands for absent or cancelled
 abbrev pub IsOffset : List ℕ → ℕ → Type 0
@@ -60,40 +62,40 @@ IsOffset strings n = (IsPlain Legacy n × HasEnd strings n) ⊎ IsVoid Legacy n
 -- the sizes of the sections are within the limits, and each flag, number and offset may stand there
 pub record AreSound (format : Format) (s : Sections) : Type 0 where
   pub some_names : 0 < length s.names
-  pub names_size : length s.names < 32767
+  pub names_size : suc (length s.names) < first_negative Legacy
   pub no_nul : HasNoNul s.names
-  pub flag_count : length s.flags ≤ 44
-  pub number_count : length s.numbers ≤ 39
-  pub text_count : length s.offsets ≤ 414
-  pub strings_size : length s.strings < 32768
+  pub flag_count : length s.flags ≤ count_of Flag
+  pub number_count : length s.numbers ≤ count_of Number
+  pub text_count : length s.offsets ≤ count_of Text
+  pub strings_size : length s.strings < first_negative Legacy
   pub gap_size : length s.gap ≡ (suc (length s.names) + length s.flags) % 2
   pub flags : All IsFlagByte s.flags
-  pub numbers : All (IsNumber format) s.numbers
+  pub numbers : All (IsStoredNumber format) s.numbers
   pub offsets : All (IsOffset s.strings) s.offsets
 
 -- ---- what the sections say
 
 -- what a flag's byte says: 1 is true, and any other absent
-abbrev pub flag_of : ℕ → Option Content
-flag_of b = if b == 1 then Some content_true else None
+abbrev pub stored_flag : ℕ → Option Content
+stored_flag b = if b == 1 then Some content_true else None
 
 -- what the number of a place says: itself, or absent where it is negative
-abbrev pub number_of : Format → ℕ → Option Content
-number_of format n = if nat_lt n (first_negative format) then Some (content_number n) else None
+abbrev pub stored_number : Format → ℕ → Option Content
+stored_number format n = if nat_lt n (first_negative format) then Some (content_number n) else None
 
 -- the bytes from an offset to before the first NUL
 abbrev pub text_from : List ℕ → ℕ → List ℕ
-text_from strings offset = before_first (λ b. b == 0) (drop offset strings)
+text_from strings offset = before_first (λ b. b == ascii.nul) (drop offset strings)
 
 -- what an offset says: the text that begins there, or absent where it is negative
-abbrev pub text_of : List ℕ → ℕ → Option Content
-text_of strings n = if nat_lt n (first_negative Legacy) then Some (content_text (text_from strings n)) else None
+abbrev pub stored_text : List ℕ → ℕ → Option Content
+stored_text strings n = if nat_lt n (first_negative Legacy) then Some (content_text (text_from strings n)) else None
 
 -- what the sections say of the capability of a kind and an index, absent past the section's end
 abbrev pub says : Format → List ℕ → List ℕ → List ℕ → List ℕ → Kind → ℕ → Option Content
-says format flags numbers offsets strings Flag index = flag_of (slice_index flags index)
-says format flags numbers offsets strings Number index = option_and_then (number_of format) (slice_get numbers index)
-says format flags numbers offsets strings Text index = option_and_then (text_of strings) (slice_get offsets index)
+says format flags numbers offsets strings Flag index = stored_flag (slice_index flags index)
+says format flags numbers offsets strings Number index = option_and_then (stored_number format) (slice_get numbers index)
+says format flags numbers offsets strings Text index = option_and_then (stored_text strings) (slice_get offsets index)
 
 -- what the sections say of each capability
 abbrev pub contents_of : Format → List ℕ → List ℕ → List ℕ → List ℕ → Contents
@@ -136,7 +138,7 @@ strings_size bytes = word_at 10 bytes
 
 -- where the flags begin: behind the header and the names
 abbrev pub flags_place : List ℕ → ℕ
-flags_place bytes = 12 + names_size bytes
+flags_place bytes = header_size + names_size bytes
 
 -- where the numbers begin: behind the flags, at an even place
 abbrev pub numbers_place : List ℕ → ℕ
@@ -156,7 +158,7 @@ end_place bytes = strings_place bytes + strings_size bytes
 
 -- the sections, where the bytes are that long: the names with their NUL
 abbrev pub names_section : List ℕ → List ℕ
-names_section bytes = slice_range bytes 12 (flags_place bytes)
+names_section bytes = slice_range bytes header_size (flags_place bytes)
 
 -- the flags, a byte each
 abbrev pub flags_section : List ℕ → List ℕ
@@ -177,14 +179,14 @@ strings_section bytes = slice_range bytes (strings_place bytes) (end_place bytes
 -- a size is negative, or a count is negative or over its table
 abbrev pub HasBadCount : List ℕ → Type 0
 HasBadCount bytes =
-    (32768 ≤ names_size bytes) ⊎ (44 < flag_count bytes) ⊎ (39 < number_count bytes)
-    ⊎ (414 < text_count bytes) ⊎ (32768 ≤ strings_size bytes)
+    (first_negative Legacy ≤ names_size bytes) ⊎ (count_of Flag < flag_count bytes) ⊎ (count_of Number < number_count bytes)
+    ⊎ (count_of Text < text_count bytes) ⊎ (first_negative Legacy ≤ strings_size bytes)
 
 -- below two bytes, a NUL before the last byte, or none there
 abbrev pub HasBadNames : List ℕ → Type 0
 HasBadNames names =
-    (length names < 2) ⊎ ((k : ℕ) × (suc k < length names) × (slice_index names k ≡ 0))
-    ⊎ (slice_index names (length names - 1) ≢ 0)
+    (length names < 2) ⊎ ((k : ℕ) × (suc k < length names) × (slice_index names k ≡ ascii.nul))
+    ⊎ (slice_index names (length names - 1) ≢ ascii.nul)
 
 -- a byte that is neither 0 nor 1, nor the absent or cancelled of old writers
 abbrev pub HasBadFlag : List ℕ → Type 0
@@ -205,7 +207,7 @@ HasBadOffset offsets strings = SomeNumber Legacy offsets (λ n. (n < cancelled_m
 
 -- what each refusal says of the bytes
 abbrev pub HasReadFault : List ℕ → ReadError → Type 0
-HasReadFault bytes Short = length bytes < 12
+HasReadFault bytes Short = length bytes < header_size
 HasReadFault bytes Magic = (word_at 0 bytes ≢ magic Legacy) × (word_at 0 bytes ≢ magic Extended)
 HasReadFault bytes Counts = HasBadCount bytes
 HasReadFault bytes Truncated = length bytes < end_place bytes

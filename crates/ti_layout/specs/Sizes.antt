@@ -1,5 +1,6 @@
 -- What the writer knows of an entry before it asks for memory (own).
 use Rattle.std.specs.Prelude.{◌≡◌, ◌^◌, ◌-◌, ◌≤◌, ℕ, suc, List, length, min}
+use Rattle.ti_caps.specs.Tables.{count_of}
 use Rattle.ti_caps.specs.declared.capability.Kind.TheVariants.{Flag, Number, Text}
 use Rattle.ti_layout.specs.declared.layout.Header.{Header}
 use Rattle.ti_layout.specs.Values.{Contents}
@@ -17,6 +18,6 @@ pub record HasSizes (field : List ℕ) (contents : Contents) (h : Header) : Type
   pub numbers : h.numbers ≡ written_count contents Number
   pub texts : h.texts ≡ written_count contents Text
   pub strings : h.strings ≡ at_most_max (length (texts_below contents (written_count contents Text)))
-  pub flags_fit : h.flags ≤ 44
-  pub numbers_fit : h.numbers ≤ 39
-  pub texts_fit : h.texts ≤ 414
+  pub flags_fit : h.flags ≤ count_of Flag
+  pub numbers_fit : h.numbers ≤ count_of Number
+  pub texts_fit : h.texts ≤ count_of Text

@@ -3,7 +3,7 @@ use Rattle.ti_text.specs.Limits.{number_max}
 use Rattle.std.specs.Prelude.{◌≡◌, ◌≢◌, ℕ, ◌+◌, ◌<◌, ◌≤◌, if◌then◌else◌, List, [], ◌∷◌, map, length, slice_index, slice_index_or, All, Option, Some, None}
 use Rattle.std.specs.Rc.{rc_slice_items}
 pub use Rattle.ti_text.specs.Texts.{HasNoNul}
-use Rattle.ti_caps.specs.Tables.{Capability, IsCapability, same_capability}
+use Rattle.ti_caps.specs.Tables.{Capability, IsCapability, rank_in, same_capability}
 use Rattle.ti_caps.specs.declared.capability.Kind.{Kind}
 use Rattle.ti_caps.specs.declared.capability.Kind.TheVariants.{Flag, Number, Text}
 use Rattle.ti_layout.specs.declared.values.Value.{Value}
@@ -55,13 +55,7 @@ unfoldable pub contents : List TableEntry → Contents
 contents [] c = None
 contents (e ∷ es) c = if same_capability e.0 c then Some e.1 else contents es c
 
--- where a kind begins among all 497 capabilities, in the order of the compiled entry
-abbrev pub rank_in : Kind → ℕ
-rank_in Flag = 0
-rank_in Number = 44
-rank_in Text = 83
-
--- the place of a capability among them
+-- the place of a capability among all, in the order of the compiled entry
 abbrev pub rank_of : Capability → ℕ
 rank_of c = rank_in c.kind + c.index
 

@@ -2,7 +2,7 @@
 ghost use Rattle.std.specs.Prelude.{◌≡◌, ◌<◌, ◌≤◌, [], length, All, Some, None, IfOk, OnOk, if◌then◌else◌};
 ghost use Rattle.std.specs.Option.{option_or};
 ghost use Rattle.ti_caps.specs.Tables.{Capability, IsCapability, same_capability};
-ghost use Rattle.ti_layout.specs.inside.Mentions.{ArePlaces};
+ghost use Rattle.ti_layout.specs.inside.Mentions.{AreMentionPlaces};
 ghost use Rattle.ti_layout.specs.Values.{contents, content_of, entries_of, Agrees, IsKept};
 
 use crate::merging::{copy_of, push_copy};
@@ -21,7 +21,7 @@ const MANY: usize = 24;
 // is none.
 fn first_places(mentions: &[(Cap, Value)]) -> [u16; CAPABILITIES]
     requires few { length mentions.now < 65536 }
-    ensures { ArePlaces (entries_of mentions.now) result }
+    ensures { AreMentionPlaces (entries_of mentions.now) result }
 {
     let mut places = [0; CAPABILITIES];
     for (index, mention) in mentions.iter().enumerate() {
@@ -72,12 +72,12 @@ fn merge_all(alloc: Global, table: &mut Table, mentions: &[(Cap, Value)]) -> Res
     ensures { OnOk result ((c : Capability) → IsCapability c → contents table.new c
         ≡ option_or (contents table.old c) (contents (entries_of mentions.now) c)) }
 {
-    let laid = Table::of_entries(first_mentions(alloc, mentions)?);
+    let added = Table::of_entries(first_mentions(alloc, mentions)?);
     if table.entries().is_empty() {
-        *table = laid;
+        *table = added;
         return Ok(());
     }
-    table.merge(&laid)
+    table.merge(&added)
 }
 
 // Adds what a table does not have yet, whichever way is shorter, and leaves no mention.
@@ -87,7 +87,7 @@ fn settle(table: &mut Table, recent: &mut Vec<(Cap, Value)>) -> Result<(), Alloc
     ensures none { OnOk result (recent.new.items ≡ []) }
     ensures few { length recent.new.items ≤ 1000 }
     ensures agree { All (λ e. Agrees e.0 e.1) (entries_of recent.new.items) }
-    ensures laid { OnOk result ((c : Capability) → IsCapability c → contents table.new c
+    ensures merged { OnOk result ((c : Capability) → IsCapability c → contents table.new c
         ≡ option_or (contents table.old c) (contents (entries_of recent.old.items) c)) }
 {
     if recent.len() < MANY {

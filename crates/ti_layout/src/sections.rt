@@ -2,7 +2,7 @@
 ghost use Rattle.std.specs.Prelude.{◌≡◌, ◌+◌, ◌*◌, ◌<◌, ◌≤◌, length, MatchBool, IfOk, IfErr};
 ghost use Rattle.ti_layout.specs.Layout as layout;
 ghost use Rattle.ti_layout.specs.Reading.{word_at, number_at, Refused, HasBadNames, HasBadFlag, HasBadNumber, HasBadOffset};
-ghost use Rattle.ti_layout.specs.inside.Cutting.{HasHeader, IsCutIntoSections, AreNames, AreFlags, AreNumbers, AreOffsets};
+ghost use Rattle.ti_layout.specs.inside.Sections.{HasHeader, IsCutIntoSections, AreNames, AreFlags, AreStoredNumbers, AreOffsets};
 
 use crate::fault::ReadError;
 use crate::layout::{Format, HEADER_SIZE, Header};
@@ -129,7 +129,7 @@ pub fn are_flags(flags: &[u8]) -> bool
 }
 
 pub fn are_numbers(numbers: &[u8], format: Format) -> bool
-    ensures { MatchBool result (AreNumbers format numbers.now) (HasBadNumber format numbers.now) }
+    ensures { MatchBool result (AreStoredNumbers format numbers.now) (HasBadNumber format numbers.now) }
 {
     let width = format.width();
     for index in 0..numbers.len() / width {
@@ -144,7 +144,7 @@ pub fn are_numbers(numbers: &[u8], format: Format) -> bool
 /// Whether each offset is void or leads to a text with its NUL. One search serves them all: an
 /// offset does so exactly where it is not past the table's last NUL.
 pub fn are_offsets(offsets: &[u8], strings: &[u8]) -> bool
-    requires { length strings.now < 32768 }
+    requires { length strings.now < layout.first_negative Format.Legacy }
     ensures { MatchBool result (AreOffsets offsets.now strings.now) (HasBadOffset offsets.now strings.now) }
 {
     let ends = memrchr(0, strings).map_or(0, |last| last + 1);

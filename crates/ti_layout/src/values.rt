@@ -94,7 +94,7 @@ impl Table {
     /// it was, and only a capability that has no value needs memory.
     pub fn set_if_absent(&mut self, cap: Cap, value: Value) -> Result<(), AllocError>
         requires { Agrees cap (content_of value) }
-        ensures laid { OnOk result ((c : Capability) → contents self.new c
+        ensures given { OnOk result ((c : Capability) → contents self.new c
             ≡ option_or (contents self.old c) (if same_capability cap c then Some (content_of value) else None)) }
         ensures err { OnErr result (self.new ≡ self.old) }
         ensures in_place { IsSome (contents self.old cap) → IsOk result }

@@ -3,6 +3,8 @@ ghost use Rattle.std.specs.Prelude.{◌≡◌, ◌==◌, ◌<◌, length, IfOk, 
 ghost use Rattle.std.specs.List.{before_first};
 ghost use Rattle.std.specs.Option.{option_copied};
 ghost use Rattle.ti_caps.specs.declared.capability.Kind.TheVariants.{Flag, Number, Text};
+ghost use Rattle.ti_layout.specs.Layout.{first_negative};
+ghost use Rattle.ti_layout.specs.declared.layout.Format.TheVariants.{Legacy};
 ghost use Rattle.ti_layout.specs.Reading.{Reads, Refused};
 ghost use Rattle.ti_layout.specs.inside.Sound.{OffsetsEnd};
 
@@ -29,7 +31,7 @@ pub struct View<'a> {
     // each plain offset leads into the string table
     ghost ends: { OffsetsEnd offsets.now strings.now },
     // which is no longer than a header can tell
-    pub ghost short: { length strings.now < 32768 },
+    pub ghost short: { length strings.now < first_negative Legacy },
 }
 
 impl<'a> View<'a> {

@@ -5,7 +5,7 @@ ghost use Rattle.std.specs.Prelude.{◌≡◌, ◌≢◌, ◌<◌, ◌≤◌, �
 ghost use Rattle.ti_text.specs.Limits.{names_max};
 ghost use Rattle.ti_caps.specs.declared.capability.Kind.TheVariants.{Flag, Number, Text};
 ghost use Rattle.ti_layout.specs.Image.{is_wide as is_wide_content};
-ghost use Rattle.ti_layout.specs.Image.{image, format_of, limit_of, written_count, flags_below, numbers_below, texts_below, offsets_below, HasNoNul};
+ghost use Rattle.ti_layout.specs.Image.{image, format_of, image_limit, written_count, flags_below, numbers_below, texts_below, offsets_below, HasNoNul};
 ghost use Rattle.ti_layout.specs.Layout as layout;
 ghost use Rattle.ti_layout.specs.Layout.{number_section, number_bytes};
 ghost use Rattle.ti_layout.specs.Sizes.{HasSizes};
@@ -54,12 +54,15 @@ impl From<AllocError> for WriteError {
 pub fn write(alloc: Global, names: &[u8], table: &Table) -> Result<Vec<u8>, WriteError>
     requires present { names.now ≢ [] }
     requires no_nul { HasNoNul names.now }
-    ensures ok { IfOk result (λ v. (v.items ≡ image names.now (contents table.now)) × (length names.now ≤ names_max) × (length v.items ≤ limit_of (contents table.now))) }
+    ensures ok { IfOk result (λ v. (v.items ≡ image names.now (contents table.now))
+        × (length names.now ≤ names_max) × (length v.items ≤ image_limit (contents table.now))) }
 
     // The first that holds, and want of memory only where neither does.
     ensures names_too_long { IsErrOf result WriteError.NamesTooLong ↔ (names_max < length names.now) }
-    ensures too_large { IsErrOf result WriteError.TooLarge ↔ ((length names.now ≤ names_max) × (limit_of (contents table.now) < length (image names.now (contents table.now)))) }
-    ensures memory { IsErrOf result WriteError.Memory → (length names.now ≤ names_max) × (length (image names.now (contents table.now)) ≤ limit_of (contents table.now)) }
+    ensures too_large { IsErrOf result WriteError.TooLarge
+        ↔ ((length names.now ≤ names_max) × (image_limit (contents table.now) < length (image names.now (contents table.now)))) }
+    ensures memory { IsErrOf result WriteError.Memory → (length names.now ≤ names_max)
+        × (length (image names.now (contents table.now)) ≤ image_limit (contents table.now)) }
 {
     if names.len() > NAMES_MAX {
         return Err(WriteError::NamesTooLong);
@@ -132,7 +135,7 @@ fn entry_bytes(
     requires names { length names.now ≤ names_max }
     requires kept { IsKept (entries_of entries.now) }
     requires sizes { HasSizes names.now (contents (entries_of entries.now)) header.now }
-    requires small { length (image names.now (contents (entries_of entries.now))) ≤ limit_of (contents (entries_of entries.now)) }
+    requires small { length (image names.now (contents (entries_of entries.now))) ≤ image_limit (contents (entries_of entries.now)) }
     ensures { IfOk result (λ v. v.items ≡ image names.now (contents (entries_of entries.now))) }
 {
     let mut image = Vec::with_capacity(alloc, header.size())?;
@@ -171,7 +174,9 @@ fn push_header(image: &mut Vec<u8>, header: &Header) -> Result<(), AllocError>
     requires numbers { header.now.numbers < 65536 }
     requires texts { header.now.texts < 65536 }
     requires strings { header.now.strings < 65536 }
-    ensures { OnOk result (image.new.items ≡ image.old.items ++ layout.header header.now.format header.now.names header.now.flags header.now.numbers header.now.texts header.now.strings) }
+    ensures { OnOk result (image.new.items
+        ≡ image.old.items
+        ++ layout.header header.now.format header.now.names header.now.flags header.now.numbers header.now.texts header.now.strings) }
 {
     push_number(image, u32::from(header.format.magic()), Format::Legacy)?;
     push_number(image, header.names as u32, Format::Legacy)?;
@@ -185,7 +190,8 @@ fn push_header(image: &mut Vec<u8>, header: &Header) -> Result<(), AllocError>
 // Adds a byte for each flag up to the last that is there.
 fn push_flags(image: &mut Vec<u8>, entries: &[(Cap, Value)]) -> Result<(), AllocError>
     requires { IsKept (entries_of entries.now) }
-    ensures { OnOk result (image.new.items ≡ image.old.items ++ flags_below (contents (entries_of entries.now)) (written_count (contents (entries_of entries.now)) Flag)) }
+    ensures { OnOk result (image.new.items
+        ≡ image.old.items ++ flags_below (contents (entries_of entries.now)) (written_count (contents (entries_of entries.now)) Flag)) }
 {
     let mut places = 0;
     for entry in entries {
@@ -205,7 +211,9 @@ fn push_numbers(
     format: Format,
 ) -> Result<(), AllocError>
     requires { IsKept (entries_of entries.now) }
-    ensures { OnOk result (image.new.items ≡ image.old.items ++ number_section format (numbers_below format (contents (entries_of entries.now)) (written_count (contents (entries_of entries.now)) Number))) }
+    ensures { OnOk result (image.new.items
+        ≡ image.old.items
+        ++ number_section format (numbers_below format (contents (entries_of entries.now)) (written_count (contents (entries_of entries.now)) Number))) }
 {
     let mut places = 0;
     for entry in entries {
@@ -222,7 +230,9 @@ fn push_numbers(
 fn push_offsets(image: &mut Vec<u8>, entries: &[(Cap, Value)]) -> Result<(), AllocError>
     requires kept { IsKept (entries_of entries.now) }
     requires fits { length (texts_below (contents (entries_of entries.now)) (written_count (contents (entries_of entries.now)) Text)) < 65536 }
-    ensures { OnOk result (image.new.items ≡ image.old.items ++ number_section Format.Legacy (offsets_below (contents (entries_of entries.now)) (written_count (contents (entries_of entries.now)) Text))) }
+    ensures { OnOk result (image.new.items
+        ≡ image.old.items
+        ++ number_section Format.Legacy (offsets_below (contents (entries_of entries.now)) (written_count (contents (entries_of entries.now)) Text))) }
 {
     let mut places = 0;
     let mut offset = 0;
@@ -240,7 +250,8 @@ fn push_offsets(image: &mut Vec<u8>, entries: &[(Cap, Value)]) -> Result<(), All
 // Adds the string table: each text with the NUL that ends it.
 fn push_texts(image: &mut Vec<u8>, entries: &[(Cap, Value)]) -> Result<(), AllocError>
     requires { IsKept (entries_of entries.now) }
-    ensures { OnOk result (image.new.items ≡ image.old.items ++ texts_below (contents (entries_of entries.now)) (written_count (contents (entries_of entries.now)) Text)) }
+    ensures { OnOk result (image.new.items
+        ≡ image.old.items ++ texts_below (contents (entries_of entries.now)) (written_count (contents (entries_of entries.now)) Text)) }
 {
     for entry in entries {
         if let Value::Text(text) = &entry.1 {

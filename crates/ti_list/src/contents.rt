@@ -1,7 +1,7 @@
 // What an entry has of a capability, and how it differs from what others have.
 ghost use Rattle.std.specs.Prelude.{◌≡◌, option_map, IfSome};
 ghost use Rattle.ti_layout.specs.View.{view_contents};
-ghost use Rattle.ti_list.specs.inside.Contents.{content_of, IsShort};
+ghost use Rattle.ti_list.specs.inside.Contents.{content_of, FitsStringTable};
 ghost use Rattle.ti_list.specs.Relative.{difference, first_of, same_content, entries_shown};
 
 use ti_caps::{Cap, Kind};
@@ -24,7 +24,7 @@ pub enum Content<'a> {
 #[inline(always)]
 pub fn view_content<'a>(view: &View<'a>, cap: Cap) -> Option<Content<'a>>
     ensures is { option_map content_of result ≡ view_contents view.now cap }
-    ensures short { IfSome result (λ c. IsShort (content_of c)) }
+    ensures short { IfSome result (λ c. FitsStringTable (content_of c)) }
 {
     match cap.kind() {
         Kind::Flag => {

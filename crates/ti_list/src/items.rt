@@ -2,7 +2,7 @@
 ghost use Rattle.std.specs.Prelude.{◌≡◌, ◌+◌, ◌<◌, ◌≤◌, ◌++◌, ◌∷◌, vec_len, vec_capacity};
 ghost use Rattle.std.specs.Fmt.{decimal};
 ghost use Rattle.ti_text.specs.Ascii as ascii;
-ghost use Rattle.ti_list.specs.inside.Contents.{content_of, said_for, IsShort};
+ghost use Rattle.ti_list.specs.inside.Contents.{content_of, said_for, FitsStringTable};
 ghost use Rattle.ti_list.specs.Items.{item_text};
 ghost use Rattle.ti_list.specs.inside.Room.{item_room};
 
@@ -14,7 +14,7 @@ use ti_text::room::append_reserved;
 
 /// Enough room for the item, with its comma and what stands before it.
 pub fn item_room(cap: Cap, content: Content<'_>) -> usize
-    requires { IsShort (content_of content) }
+    requires { FitsStringTable (content_of content) }
     ensures { result ≡ item_room (said_for cap (content_of content.entry)) }
 {
     let name = name(cap).len();

@@ -3,7 +3,7 @@ ghost use Rattle.std.specs.Prelude.{◌≡◌, ℕ, ◌+◌, ◌≤◌, ◌++◌
 ghost use Rattle.ti_text.specs.Ascii as ascii;
 ghost use Rattle.ti_layout.specs.View.{view_contents, names_of};
 ghost use Rattle.ti_source.specs.Reading.{Said};
-ghost use Rattle.ti_list.specs.inside.Contents.{content_of, said_for, IsShort};
+ghost use Rattle.ti_list.specs.inside.Contents.{content_of, said_for, FitsStringTable};
 ghost use Rattle.ti_list.specs.inside.Flow.{flow};
 ghost use Rattle.ti_list.specs.Items.{item_text};
 ghost use Rattle.ti_list.specs.Listing.{size_of, further_items, in_order, items_for, kind_items, lines_of, listing};
@@ -28,16 +28,17 @@ const TAB: usize = 8;
 #[inline(always)]
 fn said_of<'a>(view: &View<'a>, others: &[View<'a>], cap: Cap) -> Option<Content<'a>>
     ensures is { option_map content_of result ≡ differing_contents (view_contents view.now) (entries_shown others.now) cap }
-    ensures short { IfSome result (λ c. IsShort (content_of c)) }
+    ensures short { IfSome result (λ c. FitsStringTable (content_of c)) }
 {
     difference(view_content(view, cap), first_of(others, cap))
 }
 
 // Appends an item with its comma on a new line, behind a tab. Gives the columns that are then taken.
 fn write_below(out: &mut Vec<u8>, cap: Cap, content: Content<'_>) -> usize
-    requires short { IsShort (content_of content) }
+    requires short { FitsStringTable (content_of content) }
     requires room { vec_len out.old + item_room (said_for cap (content_of content)) ≤ vec_capacity out.old }
-    ensures items { out.new.items ≡ out.old.items ++ ascii.newline ∷ ascii.tab ∷ item_text (said_for cap (content_of content.entry)) ++ ascii.comma ∷ [] }
+    ensures items { out.new.items ≡ out.old.items
+        ++ ascii.newline ∷ ascii.tab ∷ item_text (said_for cap (content_of content.entry)) ++ ascii.comma ∷ [] }
     ensures column { result ≡ 8 + size_of (said_for cap (content_of content.entry)) }
     ensures len { vec_len out.new ≤ vec_len out.old + item_room (said_for cap (content_of content.entry)) }
     ensures capacity { vec_capacity out.old ≤ vec_capacity out.new }
@@ -60,7 +61,7 @@ fn write_further(
     cap: Cap,
     content: Content<'_>,
 ) -> usize
-    requires short { IsShort (content_of content) }
+    requires short { FitsStringTable (content_of content) }
     requires room { vec_len out.old + item_room (said_for cap (content_of content)) ≤ vec_capacity out.old }
     ensures fits { taken + 1 + size_of (said_for cap (content_of content.entry)) ≤ width
         → (result ≡ taken + 1 + size_of (said_for cap (content_of content.entry)))
@@ -93,7 +94,7 @@ fn write_placed(
     cap: Cap,
     content: Content<'_>,
 ) -> usize
-    requires short { IsShort (content_of content) }
+    requires short { FitsStringTable (content_of content) }
     requires room { vec_len out.old + item_room (said_for cap (content_of content)) ≤ vec_capacity out.old }
     ensures items { (items : List Said) (rest : List ℕ)
         → out.new.items ++ further_items layout.now result items rest
@@ -118,10 +119,12 @@ fn write_kind<'a>(
     layout: &Layout,
     kind: Kind,
 )
-    requires { vec_len out.old + items_room (kind_items layout.now (differing_contents (view_contents view.now) (entries_shown others.now)) kind) ≤ vec_capacity out.old }
+    requires { vec_len out.old + items_room (kind_items layout.now (differing_contents (view_contents view.now) (entries_shown others.now)) kind)
+        ≤ vec_capacity out.old }
     ensures items { (rest : List ℕ) → out.new.items ++ rest ≡ out.old.items
         ++ lines_of layout.now (kind_items layout.now (differing_contents (view_contents view.now) (entries_shown others.now)) kind) rest }
-    ensures len { vec_len out.new ≤ vec_len out.old + items_room (kind_items layout.now (differing_contents (view_contents view.now) (entries_shown others.now)) kind) }
+    ensures len { vec_len out.new ≤ vec_len out.old
+        + items_room (kind_items layout.now (differing_contents (view_contents view.now) (entries_shown others.now)) kind) }
     ensures capacity { vec_capacity out.old ≤ vec_capacity out.new }
 {
     let mut line = None;
@@ -150,7 +153,8 @@ fn write_uses(out: &mut Vec<u8>, others: &[View<'_>])
 // Enough room for the items of a kind; `None` where no number is so great.
 #[inline(always)]
 fn kind_room<'a>(view: &View<'a>, others: &[View<'a>], order: Order, kind: Kind) -> Option<usize>
-    ensures { IfSome result (λ room. room ≡ items_room (items_for (differing_contents (view_contents view.now) (entries_shown others.now)) (in_order order kind))) }
+    ensures { IfSome result (λ room. room
+        ≡ items_room (items_for (differing_contents (view_contents view.now) (entries_shown others.now)) (in_order order kind))) }
 {
     let mut room = 0usize;
     for place in 0..count(kind) {

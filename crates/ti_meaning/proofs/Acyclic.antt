@@ -5,12 +5,12 @@ use Rattle.std.proofs.lemmas.Option.{none-some}
 use Rattle.ti_source.specs.Reading.{Reading, ReadItem}
 use Rattle.ti_meaning.specs.Owner.{owner_block}
 use Rattle.ti_meaning.specs.Expansion.{Mention, is_broken, mentions_of, expand_items, expand, expansion}
-use Rattle.ti_meaning.specs.Reaching.{Uses, IsWay}
+use Rattle.ti_meaning.specs.Reaching.{Uses, IsUseWay}
 use Rattle.ti_meaning.specs.inside.Reaching.{leads_to}
 use Rattle.ti_meaning.specs.inside.ValueTables.{names_at}
 use Rattle.ti_meaning.proofs.Owning.{owner_to_owned}
 use Rattle.ti_meaning.proofs.Depth.{joined_parts, names_at-le}
-use Rattle.ti_meaning.proofs.Laying.{mentions_of-used}
+use Rattle.ti_meaning.proofs.MentionMerging.{mentions_of-used}
 use Rattle.ti_meaning.proofs.Leading.{leads_to-LeadsTo}
 
 -- the name has an expansion at that depth
@@ -36,7 +36,7 @@ step_down env k name next b d e u =
     let whole : expand env (suc k) b ≡ Some d.0 = rw e at d.1 in
     used_is_there (names_at env k) b.items next d.0 u (if_there (is_broken b) (expand_items (names_at env k) b.items) d.0 whole)
 
-along : (env : List ℕ → Option Reading) (way : List (List ℕ)) (k : ℕ) (name to : List ℕ) → IsDeep env (length way + k) name → IsWay env name way to → IsDeep env k to
+along : (env : List ℕ → Option Reading) (way : List (List ℕ)) (k : ℕ) (name to : List ℕ) → IsDeep env (length way + k) name → IsUseWay env name way to → IsDeep env k to
 along env [] k name to d w = let z : 0 + k ≡ k = omega arith in rw (w, z) at d
 along env (x ∷ way) k name to d w =
     let z : suc (length way) + k ≡ suc (length way + k) = omega arith in
@@ -56,7 +56,7 @@ never_shallow : (env : List ℕ → Option Reading) (name : List ℕ) → IsDeep
 never_shallow env name d =
     elim (env name) as (λ o. option_and_then (expand env 0) o ≡ Some d.0 → ⊥) [ None ↦ λ e. none-some d.0 e | Some b ↦ λ e. none-some d.0 e ] d.1
 
-module _ (env : List ℕ → Option Reading) (name to : List ℕ) (way : List (List ℕ)) (b : Reading) (w : IsWay env name way to) (e : env to ≡ Some b) (u : Uses b.items name) where
+module _ (env : List ℕ → Option Reading) (name to : List ℕ) (way : List (List ℕ)) (b : Reading) (w : IsUseWay env name way to) (e : env to ≡ Some b) (u : Uses b.items name) where
   around : (k : ℕ) → IsDeep env (suc (length way) + k) name → IsDeep env k name
   around k d =
       let z : suc (length way) + k ≡ length way + suc k = omega arith in

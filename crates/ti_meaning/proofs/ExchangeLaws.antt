@@ -12,8 +12,8 @@ use Rattle.ti_source.specs.Sound.{IsRising}
 use Rattle.ti_meaning.specs.Owner.{is_among, owner, owner_block, readings}
 use Rattle.ti_meaning.specs.Edits.{Change, insertion, replacement, removal, relocation, IsInPlace, list_after}
 use Rattle.ti_meaning.specs.Exchange.{PlacedBlock, Exchange, IsExchange, with_block, HasPlace, new_list, block_from, exchange_of, LeadsOn, EditsAreExchanges}
-use Rattle.ti_meaning.specs.Dependents.{names_of, touched_names, IsPutAt, IsDependent, DependentsAreDetermined, UsersOfDependentsDepend, DependentsAreFound, RebuildsAreDetermined, work}
-use Rattle.ti_meaning.specs.Reaching.{Uses, IsWay}
+use Rattle.ti_meaning.specs.Dependents.{lookup_names_of, touched_names, IsPutAt, IsDependent, DependentsAreDetermined, UsersOfDependentsDepend, DependentsAreFound, RebuildsAreDetermined, work}
+use Rattle.ti_meaning.specs.Reaching.{Uses, IsUseWay}
 use Rattle.ti_meaning.specs.UseLaws.{UsesBlock}
 use Rattle.ti_meaning.proofs.UseLawProofs.{has_owner}
 use Rattle.ti_meaning.proofs.EditedLists.{map-insert, map-remove, insert-remove}
@@ -142,8 +142,8 @@ among_right n xs ys t = list_any-append n xs ys ∙ or_right (is_among n xs) (is
 
 -- the block put in has the touched names that it owns
 put_touches : (e : Exchange) → IsExchange e → (at : ℕ) (name : List ℕ) → IsPutAt e.put at → owner (new_list e) name ≡ Some at → is_among name (touched_names e) ≡ true
-put_touches e h at name put own = put_names (names_of e.out) e.rest e.put h.put at name put own where
-  put_names : (outs : List (List ℕ)) (rest : List Reading) (o : Option PlacedBlock) → HasPlace rest o → (at : ℕ) (name : List ℕ) → IsPutAt o at → owner (with_block rest o) name ≡ Some at → is_among name (outs ++ names_of o) ≡ true
+put_touches e h at name put own = put_names (lookup_names_of e.out) e.rest e.put h.put at name put own where
+  put_names : (outs : List (List ℕ)) (rest : List Reading) (o : Option PlacedBlock) → HasPlace rest o → (at : ℕ) (name : List ℕ) → IsPutAt o at → owner (with_block rest o) name ≡ Some at → is_among name (outs ++ lookup_names_of o) ≡ true
   put_names outs rest None l at name put own = absurd put
   put_names outs rest (Some p) l at name put own =
       among_right name outs p.block.names (owned_by (with_block rest (Some p)) name p.at p.block (own ∙ ap (λ k. Some k) (sym put)) (get-with_put rest p l))
@@ -171,7 +171,7 @@ dependent_holds e P put touching using at d =
       | inr reach ↦ along reach.2.1 reach.2.0 reach.0 at d.0 d.1 reach.2.2 reach.2.3 reach.1
     ]
   where
-    along : (way : List (List ℕ)) (from to : List ℕ) (user : ℕ) (b : Reading) → slice_get (new_list e) user ≡ Some b → Uses b.items from → IsWay (owner_block (new_list e)) from way to → is_among to (touched_names e) ≡ true → P user
+    along : (way : List (List ℕ)) (from to : List ℕ) (user : ℕ) (b : Reading) → slice_get (new_list e) user ≡ Some b → Uses b.items from → IsUseWay (owner_block (new_list e)) from way to → is_among to (touched_names e) ≡ true → P user
     along [] from to user b s u w t = touching user b from s u (ap (λ n. is_among n (touched_names e)) w ∙ t)
     along (x ∷ way) from to user b s u w t =
         let own = has_owner (new_list e) from w.0.0 w.0.1 in

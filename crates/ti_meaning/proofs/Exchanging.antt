@@ -7,9 +7,9 @@ use Rattle.std.proofs.lemmas.Option.{same_Some, none-some}
 use Rattle.ti_source.specs.Reading.{Reading, ReadItem}
 use Rattle.ti_meaning.specs.Owner.{is_among, owner, owner_block}
 use Rattle.ti_meaning.specs.Expansion.{Mention, expand, expansion}
-use Rattle.ti_meaning.specs.Reaching.{Uses, IsWay, LeadsTo}
+use Rattle.ti_meaning.specs.Reaching.{Uses, IsUseWay, LeadsTo}
 use Rattle.ti_meaning.specs.Exchange.{PlacedBlock, Exchange, IsExchange, with_block, HasPlace, shifted_position}
-use Rattle.ti_meaning.specs.Dependents.{names_of, touched_names}
+use Rattle.ti_meaning.specs.Dependents.{lookup_names_of, touched_names}
 use Rattle.ti_meaning.proofs.Owning.{nobody, somebody, owning}
 use Rattle.ti_meaning.proofs.Depth.{bounded}
 use Rattle.ti_meaning.proofs.Placing.{owned-with, owner-with, shifted-same}
@@ -30,13 +30,13 @@ not_among n xs ys e = or_parts (is_among n xs) (is_among n ys) (sym (list_any-ap
 -- the list with a block put in, whose names all pass the test
 pub record IsOff (test : List ℕ → Bool) (rest : List Reading) (o : Option PlacedBlock) : Type 0 where
   pub place : HasPlace rest o
-  pub off : (n : List ℕ) → test n ≡ false → is_among n (names_of o) ≡ false
+  pub off : (n : List ℕ) → test n ≡ false → is_among n (lookup_names_of o) ≡ false
 
 pub off_old : (e : Exchange) → IsExchange e → IsOff (λ n. is_among n (touched_names e)) e.rest e.out
-off_old e h = record { place = h.out; off = λ n f. (not_among n (names_of e.out) (names_of e.put) f).0 }
+off_old e h = record { place = h.out; off = λ n f. (not_among n (lookup_names_of e.out) (lookup_names_of e.put) f).0 }
 
 pub off_new : (e : Exchange) → IsExchange e → IsOff (λ n. is_among n (touched_names e)) e.rest e.put
-off_new e h = record { place = h.put; off = λ n f. (not_among n (names_of e.out) (names_of e.put) f).1 }
+off_new e h = record { place = h.put; off = λ n f. (not_among n (lookup_names_of e.out) (lookup_names_of e.put) f).1 }
 
 -- ---- expansions at every depth give the expansion
 
@@ -69,7 +69,7 @@ module _ (test : List ℕ → Bool) (rest : List Reading) (o p : Option PlacedBl
   pub owned_in_both : (n : List ℕ) → IsFree (owner_block (with_block rest o)) test n → owner_block (with_block rest p) n ≡ owner_block (with_block rest o) n
   owned_in_both n free = sym (agree n (free [] n refl))
 
-  pub reaches_in_both : (items : List ReadItem) (n : List ℕ) (way : List (List ℕ)) (to : List ℕ) → Uses items n → IsWay (owner_block (with_block rest o)) n way to → test to ≡ true → (m : List ℕ) × (test m ≡ true) × ((from : List ℕ) × (way : List (List ℕ)) × Uses items from × IsWay (owner_block (with_block rest p)) from way m)
+  pub reaches_in_both : (items : List ReadItem) (n : List ℕ) (way : List (List ℕ)) (to : List ℕ) → Uses items n → IsUseWay (owner_block (with_block rest o)) n way to → test to ≡ true → (m : List ℕ) × (test m ≡ true) × ((from : List ℕ) × (way : List (List ℕ)) × Uses items from × IsUseWay (owner_block (with_block rest p)) from way m)
   reaches_in_both items n way to u w t =
       let v = way-both test (owner_block (with_block rest o)) (owner_block (with_block rest p)) agree way n to w t in
       (v.1, v.3, (n, v.0, u, v.2))

@@ -4,7 +4,7 @@ use Rattle.std.proofs.lemmas.Bool.{lt-ltb, le-ltb}
 use Rattle.std.proofs.lemmas.Option.{same_Some, none-some}
 use Rattle.ti_source.specs.Reading.{Reading}
 use Rattle.ti_layout.specs.Values.{Content, content_true, content_number, content_text, content_cancelled, Contents}
-use Rattle.ti_layout.specs.Image.{image, limit_of}
+use Rattle.ti_layout.specs.Image.{image, image_limit}
 use Rattle.ti_layout.specs.Laws.{without_cancel, ShowSame}
 use Rattle.ti_layout.proofs.OfValues.{images_are_of_values, limits_are_of_values}
 use Rattle.ti_meaning.specs.Expansion.{Mention, leftmost_content, values, is_broken, expansion}
@@ -25,17 +25,17 @@ show_same t ms h c valid = ap without_cancel (h c valid) ∙ sym (uncancelled-tw
 pub image_tells : (names : List ℕ) (t : Contents) (ms : List Mention) → IsTableOfMentions t ms → image names t ≡ image names (values ms)
 image_tells names t ms h = images_are_of_values names t (values ms) (show_same t ms h)
 
-pub limit_tells : (t : Contents) (ms : List Mention) → IsTableOfMentions t ms → limit_of t ≡ limit_of (values ms)
+pub limit_tells : (t : Contents) (ms : List Mention) → IsTableOfMentions t ms → image_limit t ≡ image_limit (values ms)
 limit_tells t ms h = limits_are_of_values t (values ms) (show_same t ms h)
 
-pub within_limit : (b : Reading) (ms : List Mention) (bytes : List ℕ) → bytes ≡ image_of b ms → length bytes ≤ limit_of (values ms) → ◌≡◌ {A = Option (List ℕ)} (Some bytes) (entry_of b ms)
+pub within_limit : (b : Reading) (ms : List Mention) (bytes : List ℕ) → bytes ≡ image_of b ms → length bytes ≤ image_limit (values ms) → ◌≡◌ {A = Option (List ℕ)} (Some bytes) (entry_of b ms)
 within_limit b ms bytes e l =
-    let small : nat_lt (limit_of (values ms)) (length (image_of b ms)) ≡ false = le-ltb (limit_of (values ms)) (length (image_of b ms)) (rw (← e) l) in
+    let small : nat_lt (image_limit (values ms)) (length (image_of b ms)) ≡ false = le-ltb (image_limit (values ms)) (length (image_of b ms)) (rw (← e) l) in
     rw (small, e) refl
 
-pub over_limit : (b : Reading) (ms : List Mention) → limit_of (values ms) < length (image_of b ms) → ◌≡◌ {A = Option (List ℕ)} None (entry_of b ms)
+pub over_limit : (b : Reading) (ms : List Mention) → image_limit (values ms) < length (image_of b ms) → ◌≡◌ {A = Option (List ℕ)} None (entry_of b ms)
 over_limit b ms l =
-    let large : nat_lt (limit_of (values ms)) (length (image_of b ms)) ≡ true = lt-ltb (limit_of (values ms)) (length (image_of b ms)) l in
+    let large : nat_lt (image_limit (values ms)) (length (image_of b ms)) ≡ true = lt-ltb (image_limit (values ms)) (length (image_of b ms)) l in
     rw large refl
 
 if_within : (large : Bool) (i bytes : List ℕ) → Some bytes ≡ cond large None (Some i) → written bytes ≡ cond large oversized (written i)

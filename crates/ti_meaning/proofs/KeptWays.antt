@@ -3,7 +3,7 @@ use Rattle.std.proofs.Common.{◌≡◌, ℕ, zero, suc, inl, inr, Bool, true, f
 use Rattle.std.proofs.lemmas.Bool.{cases_Bool}
 use Rattle.ti_source.specs.Reading.{Reading, ReadItem, Said, said_flag, said_number, said_text, said_cancel, said_import}
 use Rattle.ti_meaning.specs.Expansion.{Mention, is_broken, mentions_of, expand_items, expand}
-use Rattle.ti_meaning.specs.Reaching.{used_name, Uses, IsWay}
+use Rattle.ti_meaning.specs.Reaching.{used_name, Uses, IsUseWay}
 use Rattle.ti_meaning.specs.inside.ValueTables.{names_at}
 
 abbrev pub Env : Type 0
@@ -15,7 +15,7 @@ AgreeOff test e f = (name : List ℕ) → test name ≡ false → e name ≡ f n
 
 -- no way from the name leads to one that passes the test
 abbrev pub IsFree : Env → (List ℕ → Bool) → List ℕ → Type 0
-IsFree env test name = (way : List (List ℕ)) (to : List ℕ) → IsWay env name way to → test to ≡ false
+IsFree env test name = (way : List (List ℕ)) (to : List ℕ) → IsUseWay env name way to → test to ≡ false
 
 -- ---- one item and all items
 
@@ -48,14 +48,14 @@ expand-kept test e f agree (suc k) b free =
 -- ---- ways
 
 -- a way from a free name is one of the other too
-pub way-kept : (test : List ℕ → Bool) (e f : Env) → AgreeOff test e f → (way : List (List ℕ)) (from to : List ℕ) → IsFree e test from → IsWay e from way to → IsWay f from way to
+pub way-kept : (test : List ℕ → Bool) (e f : Env) → AgreeOff test e f → (way : List (List ℕ)) (from to : List ℕ) → IsFree e test from → IsUseWay e from way to → IsUseWay f from way to
 way-kept test e f agree [] from to free w = w
 way-kept test e f agree (x ∷ way) from to free w =
     let same : e from ≡ f from = agree from (free [] from refl) in
     ((w.0.0, sym same ∙ w.0.1, w.0.2), way-kept test e f agree way x to (λ rest last v. free (x ∷ rest) last (w.0, v)) w.1)
 
 -- and each way of the other from it is one of the first
-pub way-back : (test : List ℕ → Bool) (e f : Env) → AgreeOff test e f → (way : List (List ℕ)) (from to : List ℕ) → IsFree e test from → IsWay f from way to → IsWay e from way to
+pub way-back : (test : List ℕ → Bool) (e f : Env) → AgreeOff test e f → (way : List (List ℕ)) (from to : List ℕ) → IsFree e test from → IsUseWay f from way to → IsUseWay e from way to
 way-back test e f agree [] from to free w = w
 way-back test e f agree (x ∷ way) from to free w =
     let same : e from ≡ f from = agree from (free [] from refl) in
@@ -68,10 +68,10 @@ way-free test e f agree from free = λ way to w. free way to (way-back test e f 
 
 -- some way leads from the name to one that passes the test
 abbrev pub LeadsIn : Env → (List ℕ → Bool) → List ℕ → Type 0
-LeadsIn env test from = (way : List (List ℕ)) × (to : List ℕ) × IsWay env from way to × (test to ≡ true)
+LeadsIn env test from = (way : List (List ℕ)) × (to : List ℕ) × IsUseWay env from way to × (test to ≡ true)
 
 -- where such a way is in the one, there is one in the other
-pub way-both : (test : List ℕ → Bool) (e f : Env) → AgreeOff test e f → (way : List (List ℕ)) (from to : List ℕ) → IsWay e from way to → test to ≡ true → LeadsIn f test from
+pub way-both : (test : List ℕ → Bool) (e f : Env) → AgreeOff test e f → (way : List (List ℕ)) (from to : List ℕ) → IsUseWay e from way to → test to ≡ true → LeadsIn f test from
 way-both test e f agree [] from to w t = ([], to, w, t)
 way-both test e f agree (x ∷ way) from to w t =
     elim (cases_Bool (test from)) [

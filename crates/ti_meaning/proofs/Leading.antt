@@ -5,7 +5,7 @@ use Rattle.std.proofs.lemmas.Bool.{false≢true, or_cases, eqb-true, eq-eqb}
 use Rattle.std.proofs.lemmas.Option.{slice_get_within}
 use Rattle.ti_source.specs.Reading.{Reading, ReadItem}
 use Rattle.ti_meaning.specs.Owner.{owner, owner_block}
-use Rattle.ti_meaning.specs.Reaching.{used_name, Uses, IsWay, LeadsTo}
+use Rattle.ti_meaning.specs.Reaching.{used_name, Uses, IsUseWay, LeadsTo}
 use Rattle.ti_meaning.specs.inside.Reaching.{use_passes, any_use, block_passes, is_owner, leads, leads_to}
 use Rattle.ti_meaning.proofs.Owning.{nobody, somebody, owning}
 use Rattle.ti_meaning.proofs.Settling.{IsGrowing, settles}
@@ -142,7 +142,7 @@ is_owner-is bs n at e =
       | Some p ↦ λ h. ap (λ x. Some x) (eqb-true p at h)
     ] e
 
-way_leads : (bs : List Reading) (at : ℕ) (way : List (List ℕ)) (from to : List ℕ) → IsWay (owner_block bs) from way to → owner bs to ≡ Some at → leads bs (suc (length way)) from at ≡ true
+way_leads : (bs : List Reading) (at : ℕ) (way : List (List ℕ)) (from to : List ℕ) → IsUseWay (owner_block bs) from way to → owner bs to ≡ Some at → leads bs (suc (length way)) from at ≡ true
 way_leads bs at [] from to w e =
     or_left (is_owner bs from at) (block_passes (after_step bs at 0) (owner_block bs from)) (is_owner-from bs from at (rw w e))
 way_leads bs at (next ∷ way) from to w e =

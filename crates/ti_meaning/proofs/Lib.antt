@@ -2,7 +2,7 @@ pub mod Settling
 pub mod Owning
 pub mod Depth
 pub mod Leading
-pub mod Laying
+pub mod MentionMerging
 pub mod Imaging
 pub mod Acyclic
 pub mod UseFaults

@@ -18,7 +18,7 @@ use Rattle.ti_source.specs.Reading.{said_import, ReadFault}
 use Rattle.ti_source.specs.Parsing.{accepted, is_import, code_by, item_fault, header_fault, reading_of_text}
 use Rattle.ti_text.specs.Limits.{names_max}
 use Rattle.ti_source.specs.inside.Verdicts.{number_verdict, text_verdict, fitting_verdict, named_verdict, claimed_text, verdict_of}
-use Rattle.ti_source.specs.inside.Parsing.{faults_at, faults_from, header_faults, block_field, block_items}
+use Rattle.ti_source.specs.inside.Parsing.{faults_at, faults_from_ordinal, header_faults, block_field, block_items}
 use Rattle.ti_meaning.specs.KeptBlocks.{is_duplicate}
 
 -- none of the faults is of such a name
@@ -76,10 +76,10 @@ statement_other ordinal line None = tt
 statement_other ordinal line (Some s) =
     faults_other ordinal line s.name (code_by (verdict_of s.name s.claim)) (verdict_other (is_import s.name s.claim) s.claim (capability_named s.name))
 
-from_other : (ordinal : ℕ) (items : List (List Placed)) → AreOthers (faults_from ordinal items)
+from_other : (ordinal : ℕ) (items : List (List Placed)) → AreOthers (faults_from_ordinal ordinal items)
 from_other ordinal [] = tt
 from_other ordinal (item ∷ items) =
-    others-append (faults_at ordinal (piece_of item).line (statement_of (piece_of item).text)) (faults_from (ordinal + 1) items)
+    others-append (faults_at ordinal (piece_of item).line (statement_of (piece_of item).text)) (faults_from_ordinal (ordinal + 1) items)
     (statement_other ordinal (piece_of item).line (statement_of (piece_of item).text)) (from_other (ordinal + 1) items)
 
 header_other : (field : List ℕ) (o : Option (List (List ℕ))) → AreOthers (header_faults field o)
@@ -92,4 +92,4 @@ header_other field (Some names) = by_length (nat_lt names_max (length field)) wh
 pub read_others : (text : List ℕ) → AreOthers (reading_of_text text).faults
 unfolding reading_of_text
 read_others text =
-    others-append (header_faults (block_field text) (header_names (block_field text))) (faults_from 0 (block_items text)) (header_other (block_field text) (header_names (block_field text))) (from_other 0 (block_items text))
+    others-append (header_faults (block_field text) (header_names (block_field text))) (faults_from_ordinal 0 (block_items text)) (header_other (block_field text) (header_names (block_field text))) (from_other 0 (block_items text))

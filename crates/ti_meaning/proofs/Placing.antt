@@ -4,7 +4,7 @@ use Rattle.std.specs.List.{insert}
 use Rattle.ti_source.specs.Reading.{Reading}
 use Rattle.ti_meaning.specs.Owner.{is_among, owner, owner_block}
 use Rattle.ti_meaning.specs.Exchange.{PlacedBlock, with_block, HasPlace, position_behind, shifted_position}
-use Rattle.ti_meaning.specs.Dependents.{names_of, IsPutAt}
+use Rattle.ti_meaning.specs.Dependents.{lookup_names_of, IsPutAt}
 
 -- ---- positions
 
@@ -97,7 +97,7 @@ owner-insert [] (suc at) b n l e = absurd (omega arith)
 owner-insert (c ∷ bs) (suc at) b n l e = owner_split (is_among n c.names) at (owner (insert bs at b) n) (owner bs n) (owner-insert bs at b n (omega arith) e)
 
 -- a name that the block put in lacks belongs to the block that it belonged to
-pub owned-with : (rest : List Reading) (o : Option PlacedBlock) (n : List ℕ) → HasPlace rest o → is_among n (names_of o) ≡ false → owner_block (with_block rest o) n ≡ owner_block rest n
+pub owned-with : (rest : List Reading) (o : Option PlacedBlock) (n : List ℕ) → HasPlace rest o → is_among n (lookup_names_of o) ≡ false → owner_block (with_block rest o) n ≡ owner_block rest n
 owned-with rest None n l e = refl
 owned-with rest (Some p) n l e = owned-insert rest p.at p.block n l e
 
@@ -105,7 +105,7 @@ option_map-same : (o : Option ℕ) → o ≡ option_map (λ k. k) o
 option_map-same None = refl
 option_map-same (Some k) = refl
 
-pub owner-with : (rest : List Reading) (o : Option PlacedBlock) (n : List ℕ) → HasPlace rest o → is_among n (names_of o) ≡ false → owner (with_block rest o) n ≡ option_map (shifted_position o) (owner rest n)
+pub owner-with : (rest : List Reading) (o : Option PlacedBlock) (n : List ℕ) → HasPlace rest o → is_among n (lookup_names_of o) ≡ false → owner (with_block rest o) n ≡ option_map (shifted_position o) (owner rest n)
 owner-with rest None n l e = option_map-same (owner rest n)
 owner-with rest (Some p) n l e = owner-insert rest p.at p.block n l e
 

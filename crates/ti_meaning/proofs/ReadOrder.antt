@@ -21,7 +21,7 @@ use Rattle.ti_source.specs.Reading.{Said, said_import, ReadItem, ReadFault}
 use Rattle.ti_source.specs.Parsing.{accepted, is_import, said_by, code_by, item_fault, header_fault, reading_of_text}
 use Rattle.ti_text.specs.Limits.{names_max}
 use Rattle.ti_source.specs.inside.Verdicts.{number_verdict, text_verdict, fitting_verdict, named_verdict, claimed_text, verdict_of}
-use Rattle.ti_source.specs.inside.Parsing.{items_at, faults_at, items_from, faults_from, header_faults, block_field, block_items}
+use Rattle.ti_source.specs.inside.Parsing.{items_at, faults_at, items_from, faults_from_ordinal, header_faults, block_field, block_items}
 use Rattle.ti_meaning.specs.Reaching.{used_name}
 use Rattle.ti_meaning.specs.Faults.{is_kept}
 use Rattle.ti_meaning.specs.Laws.{Climbs}
@@ -104,12 +104,12 @@ apart_at o k line (Some s) =
 not_both : (a b : Bool) → a ≡ false → b ≡ false → (a || b) ≡ false
 not_both a b e f = or_from a b e f
 
-later_faults : (o k : ℕ) (items : List (List Placed)) → o < k → has_fault o (faults_from k items) ≡ false
+later_faults : (o k : ℕ) (items : List (List Placed)) → o < k → has_fault o (faults_from_ordinal k items) ≡ false
 later_faults o k [] l = refl
 later_faults o k (i ∷ is) l =
     let here = faults_at k (piece_of i).line (statement_of (piece_of i).text) in
-    any-append (λ (f : ReadFault). nat_eq f.ordinal o) here (faults_from (k + 1) is)
-    ∙ not_both (has_fault o here) (has_fault o (faults_from (k + 1) is))
+    any-append (λ (f : ReadFault). nat_eq f.ordinal o) here (faults_from_ordinal (k + 1) is)
+    ∙ not_both (has_fault o here) (has_fault o (faults_from_ordinal (k + 1) is))
     (other_faults_at o k (piece_of i).line (statement_of (piece_of i).text) (ne_eqb k o (λ e. omega arith)))
     (later_faults o (k + 1) is (omega arith))
 
@@ -122,24 +122,24 @@ later_items o k (i ∷ is) l =
     (other_items_at o k (piece_of i).line (statement_of (piece_of i).text) (ne_eqb k o (λ e. omega arith)))
     (later_items o (k + 1) is (omega arith))
 
-apart_from : (o k : ℕ) (items : List (List Placed)) → has_fault o (faults_from k items) ≡ true → has_use o (items_from k items) ≡ false
+apart_from : (o k : ℕ) (items : List (List Placed)) → has_fault o (faults_from_ordinal k items) ≡ true → has_use o (items_from k items) ≡ false
 apart_from o k [] t = refl
 apart_from o k (i ∷ is) t =
     let line = (piece_of i).line in
     let s = statement_of (piece_of i).text in
     let uses = any-append (λ (j : ReadItem). nat_eq j.ordinal o && is_some (used_name j.said)) (items_at k line s) (items_from (k + 1) is) in
-    let faults : (has_fault o (faults_at k line s) || has_fault o (faults_from (k + 1) is)) ≡ true = sym (any-append (λ (f : ReadFault). nat_eq f.ordinal o) (faults_at k line s) (faults_from (k + 1) is)) ∙ t in
+    let faults : (has_fault o (faults_at k line s) || has_fault o (faults_from_ordinal (k + 1) is)) ≡ true = sym (any-append (λ (f : ReadFault). nat_eq f.ordinal o) (faults_at k line s) (faults_from_ordinal (k + 1) is)) ∙ t in
     uses ∙ elim (cases_eq k o) [
       | inr other ↦ not_both (has_use o (items_at k line s)) (has_use o (items_from (k + 1) is))
           (other_items_at o k line s (ne_eqb k o other))
-          (apart_from o (k + 1) is (elim (or_cases (has_fault o (faults_at k line s)) (has_fault o (faults_from (k + 1) is)) faults) [
+          (apart_from o (k + 1) is (elim (or_cases (has_fault o (faults_at k line s)) (has_fault o (faults_from_ordinal (k + 1) is)) faults) [
             | inl here ↦ absurd (false≢true (sym (other_faults_at o k line s (ne_eqb k o other)) ∙ here))
             | inr later ↦ later
           ]))
       | inl same ↦ not_both (has_use o (items_at k line s)) (has_use o (items_from (k + 1) is))
           (elim (apart_at o k line s) [
             | inr no_use ↦ no_use
-            | inl no_fault ↦ elim (or_cases (has_fault o (faults_at k line s)) (has_fault o (faults_from (k + 1) is)) faults) [
+            | inl no_fault ↦ elim (or_cases (has_fault o (faults_at k line s)) (has_fault o (faults_from_ordinal (k + 1) is)) faults) [
               | inl here ↦ absurd (false≢true (sym no_fault ∙ here))
               | inr later ↦ absurd (false≢true (sym (later_faults o (k + 1) is (omega arith)) ∙ later))
             ]
@@ -169,9 +169,9 @@ front_items_at : (k line : ℕ) (s : Option Statement) (is : List ReadItem) → 
 front_items_at k line None is c = climbs-lower k (k + 1) (map (λ (i : ReadItem). i.ordinal) is) (omega arith) c
 front_items_at k line (Some s) is c = front_items k line (said_by (verdict_of s.name s.claim)) is c
 
-faults_climb : (k : ℕ) (items : List (List Placed)) → Climbs k (map (λ (f : ReadFault). f.ordinal) (faults_from k items))
+faults_climb : (k : ℕ) (items : List (List Placed)) → Climbs k (map (λ (f : ReadFault). f.ordinal) (faults_from_ordinal k items))
 faults_climb k [] = tt
-faults_climb k (i ∷ is) = front_faults_at k (piece_of i).line (statement_of (piece_of i).text) (faults_from (k + 1) is) (faults_climb (k + 1) is)
+faults_climb k (i ∷ is) = front_faults_at k (piece_of i).line (statement_of (piece_of i).text) (faults_from_ordinal (k + 1) is) (faults_climb (k + 1) is)
 
 items_climb : (k : ℕ) (items : List (List Placed)) → Climbs k (map (λ (i : ReadItem). i.ordinal) (items_from k items))
 items_climb k [] = tt
@@ -211,13 +211,13 @@ fault_filter test o (f ∷ fs) t =
 kept_faults : (header faults : List ReadFault) → filter (is_kept false) header ≡ [] → filter (is_kept false) (header ++ faults) ≡ filter (is_kept false) faults
 kept_faults header faults e = filter-append (is_kept false) header faults ∙ ap (λ xs. xs ++ filter (is_kept false) faults) e
 
-ordered_from : (header : List ReadFault) (items : List (List Placed)) → filter (is_kept false) header ≡ [] → AreOrdered (filter (is_kept false) (header ++ faults_from 0 items)) (items_from 0 items)
+ordered_from : (header : List ReadFault) (items : List (List Placed)) → filter (is_kept false) header ≡ [] → AreOrdered (filter (is_kept false) (header ++ faults_from_ordinal 0 items)) (items_from 0 items)
 ordered_from header items none =
-    let e = kept_faults header (faults_from 0 items) none in
+    let e = kept_faults header (faults_from_ordinal 0 items) none in
     record {
-      faults_climb = rw e (climbs-filter (is_kept false) 0 (faults_from 0 items) (faults_climb 0 items));
+      faults_climb = rw e (climbs-filter (is_kept false) 0 (faults_from_ordinal 0 items) (faults_climb 0 items));
       items_climb = items_climb 0 items;
-      apart = λ o t. apart_from o 0 items (fault_filter (is_kept false) o (faults_from 0 items) (ap (has_fault o) (sym e) ∙ t));
+      apart = λ o t. apart_from o 0 items (fault_filter (is_kept false) o (faults_from_ordinal 0 items) (ap (has_fault o) (sym e) ∙ t));
     }
 
 pub ordered_items : ReadItemsAreOrdered

@@ -6,11 +6,11 @@ use Rattle.ti_source.specs.declared.code.Code.TheVariants.{Unresolved}
 use Rattle.ti_source.specs.Reading.{Reading, ReadItem, Said, said_flag, said_number, said_text, said_cancel, said_import}
 use Rattle.ti_meaning.specs.Owner.{owner, owner_block}
 use Rattle.ti_meaning.specs.Expansion.{Mention, is_broken, both_lists, mentions_of, expand_items, expand, expansion, resolves}
-use Rattle.ti_meaning.specs.Reaching.{used_name, Uses, IsWay, LeadsTo}
+use Rattle.ti_meaning.specs.Reaching.{used_name, Uses, IsUseWay, LeadsTo}
 use Rattle.ti_meaning.specs.inside.Reaching.{leads_to}
 use Rattle.ti_meaning.specs.Faults.{fault_between, use_fault}
 use Rattle.ti_meaning.specs.inside.ValueTables.{names_at}
-use Rattle.ti_meaning.specs.UseLaws.{OwnerReaches, LeadingIsReaching, UsesBlock, IsWalk, Walks, LeadingIsWalking, AreFound, IsGraphOf, AreComponents, HasEdge, HaveOneNumber, CircularUsesShareAComponent, UnresolvedBlocksHaveACause}
+use Rattle.ti_meaning.specs.UseLaws.{OwnerReaches, LeadingIsReaching, UsesBlock, IsEdgeWalk, EdgesLead, LeadingIsWalking, AreFound, IsGraphOf, TellComponents, HasOptionalEdge, HaveOneNumber, CircularUsesShareAComponent, UnresolvedBlocksHaveACause}
 use Rattle.ti_meaning.proofs.Owning.{nobody, somebody, owning, owner_to_owned}
 use Rattle.ti_meaning.proofs.Depth.{bounded}
 use Rattle.ti_meaning.proofs.Leading.{leads_to-LeadsTo}
@@ -26,7 +26,7 @@ leading_reaches = λ bs name at. (
     | inr w ↦ (w.2.1.0 ∷ w.2.1.1, w.2.0, ((w.0, w.1, w.2.1.2), w.2.1.3), w.2.2)
   ],
 ) where
-  there : (bs : List Reading) (name : List ℕ) (at : ℕ) (way : List (List ℕ)) (to : List ℕ) → IsWay (owner_block bs) name way to → owner bs to ≡ Some at → (owner bs name ≡ Some at) ⊎ OwnerReaches bs name at
+  there : (bs : List Reading) (name : List ℕ) (at : ℕ) (way : List (List ℕ)) (to : List ℕ) → IsUseWay (owner_block bs) name way to → owner bs to ≡ Some at → (owner bs name ≡ Some at) ⊎ OwnerReaches bs name at
   there bs name at [] to w o = inl (ap (owner bs) w ∙ o)
   there bs name at (x ∷ way) to w o = inr (w.0.0, w.0.1, (to, (x, way, w.0.2, w.1), o))
 
@@ -39,14 +39,14 @@ has_owner bs name b e =
       | somebody q c own ↦ (q, own.owns, own.stands ∙ (sym own.is ∙ e))
     ]
 
-walk_of : (bs : List Reading) (at : ℕ) (way : List (List ℕ)) (name to : List ℕ) → IsWay (owner_block bs) name way to → owner bs to ≡ Some at → (from : ℕ) × (owner bs name ≡ Some from) × Walks (UsesBlock bs) from at
+walk_of : (bs : List Reading) (at : ℕ) (way : List (List ℕ)) (name to : List ℕ) → IsUseWay (owner_block bs) name way to → owner bs to ≡ Some at → (from : ℕ) × (owner bs name ≡ Some from) × EdgesLead (UsesBlock bs) from at
 walk_of bs at [] name to w o = (at, ap (owner bs) w ∙ o, ([], refl))
 walk_of bs at (x ∷ way) name to w o =
     let next = walk_of bs at way x to w.1 o in
     let own = has_owner bs name w.0.0 w.0.1 in
     (own.0, own.1, (next.0 ∷ next.2.0, ((w.0.0, own.2, (x, w.0.2, next.1)), next.2.1)))
 
-lead_of : (bs : List Reading) (at : ℕ) (way : List ℕ) (from : ℕ) (name : List ℕ) → owner bs name ≡ Some from → IsWalk (UsesBlock bs) from way at → LeadsTo bs name at
+lead_of : (bs : List Reading) (at : ℕ) (way : List ℕ) (from : ℕ) (name : List ℕ) → owner bs name ≡ Some from → IsEdgeWalk (UsesBlock bs) from way at → LeadsTo bs name at
 lead_of bs at [] from name o w = ([], name, refl, o ∙ ap (λ k. Some k) w)
 lead_of bs at (next ∷ way) from name o w =
     let used = w.0.2 in
@@ -59,7 +59,7 @@ leading_walks = λ bs name at. (λ l. walk_of bs at l.0 name l.1 l.2 l.3, λ w. 
 -- ---- circular uses share a component
 
 -- whoever walks to a block that was found was found, and walks to it along the edges
-found_walk : (bs : List Reading) (found : List ℕ) (Edge : ℕ → ℕ → Type 0) → AreFound bs found → IsGraphOf bs found Edge → (way : List ℕ) (from i at : ℕ) → slice_get found i ≡ Some at → IsWalk (UsesBlock bs) from way at → (j : ℕ) × (slice_get found j ≡ Some from) × Walks Edge j i
+found_walk : (bs : List Reading) (found : List ℕ) (Edge : ℕ → ℕ → Type 0) → AreFound bs found → IsGraphOf bs found Edge → (way : List ℕ) (from i at : ℕ) → slice_get found i ≡ Some at → IsEdgeWalk (UsesBlock bs) from way at → (j : ℕ) × (slice_get found j ≡ Some from) × EdgesLead Edge j i
 found_walk bs found Edge f g [] from i at s w = (i, s ∙ ap (λ k. Some k) (sym w), ([], refl))
 found_walk bs found Edge f g (x ∷ way) from i at s w =
     let next = found_walk bs found Edge f g way x i at s w.1 in
@@ -67,7 +67,7 @@ found_walk bs found Edge f g (x ∷ way) from i at s w =
     (here.0, here.1, (next.0 ∷ next.2.0, ((g here.0 next.0).1 (from, x, here.1, next.1, w.0), next.2.1)))
 
 -- a walk along the edges is one of the blocks
-block_walk : (bs : List Reading) (found : List ℕ) (Edge : ℕ → ℕ → Type 0) → IsGraphOf bs found Edge → (way : List ℕ) (j i from at : ℕ) → slice_get found j ≡ Some from → slice_get found i ≡ Some at → IsWalk Edge j way i → Walks (UsesBlock bs) from at
+block_walk : (bs : List Reading) (found : List ℕ) (Edge : ℕ → ℕ → Type 0) → IsGraphOf bs found Edge → (way : List ℕ) (j i from at : ℕ) → slice_get found j ≡ Some from → slice_get found i ≡ Some at → IsEdgeWalk Edge j way i → EdgesLead (UsesBlock bs) from at
 block_walk bs found Edge g [] j i from at s t w = ([], same_Some from at (sym s ∙ (ap (slice_get found) w ∙ t)))
 block_walk bs found Edge g (k ∷ way) j i from at s t w =
     let edge = (g j k).0 w.0 in
@@ -77,14 +77,14 @@ block_walk bs found Edge g (k ∷ way) j i from at s t w =
     (edge.1 ∷ rest.0, (uses, rest.1))
 
 -- over any edges and any relation of being of one component
-pub circular_component : (bs : List Reading) (found : List ℕ) (Edge Same : ℕ → ℕ → Type 0) → AreFound bs found → IsGraphOf bs found Edge → AreComponents (length found) Edge Same → (i at : ℕ) (b : Reading) (name : List ℕ) → slice_get found i ≡ Some at → slice_get bs at ≡ Some b → Uses b.items name → LeadsTo bs name at → (j : ℕ) × (used : ℕ) × (owner bs name ≡ Some used) × (slice_get found j ≡ Some used) × Same i j
+pub circular_component : (bs : List Reading) (found : List ℕ) (Edge Same : ℕ → ℕ → Type 0) → AreFound bs found → IsGraphOf bs found Edge → TellComponents (length found) Edge Same → (i at : ℕ) (b : Reading) (name : List ℕ) → slice_get found i ≡ Some at → slice_get bs at ≡ Some b → Uses b.items name → LeadsTo bs name at → (j : ℕ) × (used : ℕ) × (owner bs name ≡ Some used) × (slice_get found j ≡ Some used) × Same i j
 circular_component bs found Edge Same f g c i at b name s t u l =
     let w = walk_of bs at l.0 name l.1 l.2 l.3 in
     let j = found_walk bs found Edge f g w.2.0 w.0 i at s w.2.1 in
     let edge : Edge i j.0 = (g i j.0).1 (at, w.0, s, j.1, (b, t, (name, u, w.1))) in
     (j.0, w.0, w.1, j.1, (c i j.0 (slice_get_within found i at s) (slice_get_within found j.0 w.0 j.1)).1 ((j.0 ∷ [], (edge, refl)), j.2))
 
-pub component_circular : (bs : List Reading) (found : List ℕ) (Edge Same : ℕ → ℕ → Type 0) → IsGraphOf bs found Edge → AreComponents (length found) Edge Same → (i at j used : ℕ) (name : List ℕ) → slice_get found i ≡ Some at → owner bs name ≡ Some used → slice_get found j ≡ Some used → Same i j → LeadsTo bs name at
+pub component_circular : (bs : List Reading) (found : List ℕ) (Edge Same : ℕ → ℕ → Type 0) → IsGraphOf bs found Edge → TellComponents (length found) Edge Same → (i at j used : ℕ) (name : List ℕ) → slice_get found i ≡ Some at → owner bs name ≡ Some used → slice_get found j ≡ Some used → Same i j → LeadsTo bs name at
 component_circular bs found Edge Same g c i at j used name s o t same =
     let back = ((c i j (slice_get_within found i at s) (slice_get_within found j used t)).0 same).1 in
     let walk = block_walk bs found Edge g back.0 j i used at t s back.1 in
@@ -92,8 +92,8 @@ component_circular bs found Edge Same g c i at j used name s o t same =
 
 pub circular_components : CircularUsesShareAComponent
 circular_components = λ bs found graph numbers f g c i at b name s t u. (
-  λ l. circular_component bs found (HasEdge graph) (HaveOneNumber numbers) f g c i at b name s t u l,
-  λ w. component_circular bs found (HasEdge graph) (HaveOneNumber numbers) g c i at w.0 w.1 name s w.2 w.3 w.4,
+  λ l. circular_component bs found (HasOptionalEdge graph) (HaveOneNumber numbers) f g c i at b name s t u l,
+  λ w. component_circular bs found (HasOptionalEdge graph) (HaveOneNumber numbers) g c i at w.0 w.1 name s w.2 w.3 w.4,
 )
 
 -- ---- why a block does not resolve

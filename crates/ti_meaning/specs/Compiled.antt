@@ -2,7 +2,7 @@
 -- gives, for a block that resolves and whose image is within its limit: 32,768 bytes where a number is over 32,767, else 4,096.
 use Rattle.std.specs.Prelude.{ℕ, List, length, Option, Some, None, option_and_then, slice_get, Bool, nat_lt, if◌then◌else◌}
 use Rattle.ti_source.specs.Reading.{Reading}
-use Rattle.ti_layout.specs.Image.{image, limit_of}
+use Rattle.ti_layout.specs.Image.{image, image_limit}
 use Rattle.ti_meaning.specs.Owner.{readings}
 use Rattle.ti_meaning.specs.Expansion.{Mention, values, expansion}
 
@@ -12,7 +12,7 @@ image_of block mentions = image block.field (values mentions)
 
 -- whether that is over the limit
 abbrev pub is_too_large : Reading → List Mention → Bool
-is_too_large block mentions = nat_lt (limit_of (values mentions)) (length (image_of block mentions))
+is_too_large block mentions = nat_lt (image_limit (values mentions)) (length (image_of block mentions))
 
 -- the entry of a block that says this, unless it is over the limit
 abbrev pub entry_of : Reading → List Mention → Option (List ℕ)

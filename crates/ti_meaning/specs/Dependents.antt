@@ -11,13 +11,13 @@ use Rattle.ti_meaning.specs.Exchange.{PlacedBlock, Exchange, IsExchange, new_lis
 use Rattle.ti_meaning.specs.UseLaws.{UsesBlock}
 
 -- the lookup names of a block, if there is one
-abbrev pub names_of : Option PlacedBlock → List (List ℕ)
-names_of None = []
-names_of (Some placed) = placed.block.names
+abbrev pub lookup_names_of : Option PlacedBlock → List (List ℕ)
+lookup_names_of None = []
+lookup_names_of (Some placed) = placed.block.names
 
 -- the names that an edit touches: those of the block taken out and of the block put in
 abbrev pub touched_names : Exchange → List (List ℕ)
-touched_names exchange = names_of exchange.out ++ names_of exchange.put
+touched_names exchange = lookup_names_of exchange.out ++ lookup_names_of exchange.put
 
 -- a block reaches one of these names in a list
 abbrev pub ReachesOne : List Reading → List (List ℕ) → Reading → Type 0

@@ -25,17 +25,17 @@ UsesBlock blocks user at =
     × ((name : List ℕ) × Uses block.items name × (owner blocks name ≡ Some at))
 
 -- from one number a walk along edges goes over the numbers `way` to another
-abbrev pub IsWalk : (ℕ → ℕ → Type 0) → ℕ → List ℕ → ℕ → Type 0
-IsWalk Edge from [] to = from ≡ to
-IsWalk Edge from (next ∷ way) to = Edge from next × IsWalk Edge next way to
+abbrev pub IsEdgeWalk : (ℕ → ℕ → Type 0) → ℕ → List ℕ → ℕ → Type 0
+IsEdgeWalk Edge from [] to = from ≡ to
+IsEdgeWalk Edge from (next ∷ way) to = Edge from next × IsEdgeWalk Edge next way to
 
 -- some walk goes from the one to the other
-abbrev pub Walks : (ℕ → ℕ → Type 0) → ℕ → ℕ → Type 0
-Walks Edge from to = (way : List ℕ) × IsWalk Edge from way to
+abbrev pub EdgesLead : (ℕ → ℕ → Type 0) → ℕ → ℕ → Type 0
+EdgesLead Edge from to = (way : List ℕ) × IsEdgeWalk Edge from way to
 
 -- a name leads to a block exactly where from its owner the uses of blocks do
 abbrev pub LeadingIsWalking : Type 0
-LeadingIsWalking = (blocks : List Reading) (name : List ℕ) (at : ℕ) → LeadsTo blocks name at ↔ ((from : ℕ) × (owner blocks name ≡ Some from) × Walks (UsesBlock blocks) from at)
+LeadingIsWalking = (blocks : List Reading) (name : List ℕ) (at : ℕ) → LeadsTo blocks name at ↔ ((from : ℕ) × (owner blocks name ≡ Some from) × EdgesLead (UsesBlock blocks) from at)
 
 -- ---- circular uses among blocks that were found
 
@@ -49,12 +49,12 @@ IsGraphOf blocks found Edge =
     (i j : ℕ) → Edge i j ↔ ((at : ℕ) × (used : ℕ) × (slice_get found i ≡ Some at) × (slice_get found j ≡ Some used) × UsesBlock blocks at used)
 
 -- places below `count` are of one component exactly where each leads to the other
-abbrev pub AreComponents : ℕ → (ℕ → ℕ → Type 0) → (ℕ → ℕ → Type 0) → Type 0
-AreComponents count Edge Same = (i j : ℕ) → i < count → j < count → Same i j ↔ (Walks Edge i j × Walks Edge j i)
+abbrev pub TellComponents : ℕ → (ℕ → ℕ → Type 0) → (ℕ → ℕ → Type 0) → Type 0
+TellComponents count Edge Same = (i j : ℕ) → i < count → j < count → Same i j ↔ (EdgesLead Edge i j × EdgesLead Edge j i)
 
 -- an edge of a graph that has a row for each node, with the node that each of its edges leads to, if it leads to one
-abbrev pub HasEdge : List (List (Option ℕ)) → ℕ → ℕ → Type 0
-HasEdge graph from to =
+abbrev pub HasOptionalEdge : List (List (Option ℕ)) → ℕ → ℕ → Type 0
+HasOptionalEdge graph from to =
     (row : List (Option ℕ)) × (slice_get graph from ≡ Some row)
     × ((place : ℕ) × (slice_get row place ≡ Some (Some to)))
 
@@ -66,8 +66,8 @@ HaveOneNumber numbers i j = (number : ℕ) × (slice_get numbers i ≡ Some numb
 abbrev pub CircularUsesShareAComponent : Type 0
 CircularUsesShareAComponent =
     (blocks : List Reading) (found : List ℕ) (graph : List (List (Option ℕ))) (components : List ℕ)
-    → AreFound blocks found → IsGraphOf blocks found (HasEdge graph)
-    → AreComponents (length found) (HasEdge graph) (HaveOneNumber components)
+    → AreFound blocks found → IsGraphOf blocks found (HasOptionalEdge graph)
+    → TellComponents (length found) (HasOptionalEdge graph) (HaveOneNumber components)
     → (i at : ℕ) (block : Reading) (name : List ℕ) → slice_get found i ≡ Some at → slice_get blocks at ≡ Some block → Uses block.items name
     → LeadsTo blocks name at ↔ ((j : ℕ) × (used : ℕ) × (owner blocks name ≡ Some used) × (slice_get found j ≡ Some used) × HaveOneNumber components i j)
 

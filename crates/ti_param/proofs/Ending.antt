@@ -7,7 +7,7 @@ use Rattle.ti_param.specs.Formats.{Tree, IsTree, IsStuck}
 use Rattle.ti_param.specs.inside.Formats.{stuck_place, tree_of}
 use Rattle.ti_param.specs.Meaning.{Argument, State, Outcome, start, meaning}
 use Rattle.ti_param.specs.Expansion.{Expands, Overflows}
-use Rattle.ti_param.specs.inside.Expansion.{expanded, expansion_by, unless_stuck, expansion, EndsWith, HasOutcome, IsStuckError}
+use Rattle.ti_param.specs.inside.Expansion.{expanded, expansion_by, unless_stuck, format_expansion, EndsWith, HasOutcome, IsStuckError}
 use Rattle.ti_param.proofs.Laws.{is_computed}
 
 -- the tree of a format that is not stuck
@@ -26,8 +26,8 @@ refused-bad_format format (StackFull at) refusal place = absurd refusal
 refused-bad_format format Memory refusal place = absurd refusal
 
 pub refused-computed : (format : List ℕ) (parameters : List Argument) (statics : List ℤ) (e : ParamError) → IsStuckError e (stuck_place format) →
-    EndsWith e (expansion format parameters statics)
-unfolding expansion
+    EndsWith e (format_expansion format parameters statics)
+unfolding format_expansion
 refused-computed format parameters statics (BadFormat at) refusal = ap (λ stuck. unless_stuck stuck (meaning (tree_of format) (start parameters statics))) refusal
 refused-computed format parameters statics (StackFull at) refusal = absurd refusal
 refused-computed format parameters statics Memory refusal = absurd refusal
@@ -61,8 +61,8 @@ pub run-memory : (format : List ℕ) → stuck_place format ≡ None → (t : Tr
 run-memory format none = (tree_of format, whole format none)
 
 pub run-computed : (format : List ℕ) (parameters : List Argument) (statics : List ℤ) (before after : State) (e : ParamError) →
-    stuck_place format ≡ None → before ≡ start parameters statics → Runs format before (Err e) after → EndsWith e (expansion format parameters statics)
-unfolding expansion
+    stuck_place format ≡ None → before ≡ start parameters statics → Runs format before (Err e) after → EndsWith e (format_expansion format parameters statics)
+unfolding format_expansion
 run-computed format parameters statics before after e none begins runs =
     rw none (subst (λ s. EndsWith e (expansion_by (meaning (tree_of format) s))) begins (ends e (meaning (tree_of format) before) (runs (tree_of format) (whole format none))))
   where
@@ -86,8 +86,8 @@ done-expands format parameters statics before final output after none begins run
 
 pub done-computed : (format : List ℕ) (parameters : List Argument) (statics : List ℤ) (before final : State) (output : List ℕ) (after : List ℤ) →
     stuck_place format ≡ None → before ≡ start parameters statics → Runs format before (Ok tt) final → output ≡ final.output → after ≡ final.statics →
-    expansion format parameters statics ≡ expanded output after
-unfolding expansion
+    format_expansion format parameters statics ≡ expanded output after
+unfolding format_expansion
 done-computed format parameters statics before final output after none begins runs output_is statics_are =
     rw none (ap expansion_by (ap (meaning (tree_of format)) (sym begins) ∙ runs (tree_of format) (whole format none))
     ∙ ap (λ o. expanded o final.statics) (sym output_is) ∙ ap (expanded output) (sym statics_are))

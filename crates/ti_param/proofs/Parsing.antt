@@ -3,7 +3,7 @@ use Rattle.std.proofs.Common.{◌≡◌, ℕ, List, ◌∷◌, refl, ap, ◌∙�
 use Rattle.ti_param.specs.declared.codes.Token.TheVariants.{Literal, Operation, Then}
 use Rattle.ti_param.specs.declared.lexer.Placed.{Placed}
 use Rattle.ti_param.specs.Formats.{Tree, nothing, group, choice, placed_token, Closes, by_mark, by_end, IsSequence, no_piece, byte_piece, code_piece, conditional_piece, IsConditional, test_alone, test_then, test_then_else}
-use Rattle.ti_param.specs.inside.Formats.{Marks, conditional_of, grouped_tree, with_piece, tree_and_marks}
+use Rattle.ti_param.specs.inside.Formats.{Marks, conditional_of, grouped_tree, with_first_token, tree_and_marks}
 
 -- a sequence stops before a `%t`, an `%e`, a `%;` or the end
 abbrev pub Stopped : List Placed → Type 0
@@ -32,8 +32,8 @@ mutual
   pub sequence_parsed : {depth : ℕ} {tokens left : List Placed} {t : Tree} → IsSequence depth tokens left t →
       Stopped left → ◌≡◌ {A = Tree × Marks} (tree_and_marks tokens) (t, (tree_and_marks left).1)
   sequence_parsed (no_piece {left}) stops = ap (λ t. (t, (tree_and_marks left).1)) stops
-  sequence_parsed (byte_piece place b next) stops = ap (with_piece (placed_token place (Literal b))) (sequence_parsed next stops)
-  sequence_parsed (code_piece place c next) stops = ap (with_piece (placed_token place (Operation c))) (sequence_parsed next stops)
+  sequence_parsed (byte_piece place b next) stops = ap (with_first_token (placed_token place (Literal b))) (sequence_parsed next stops)
+  sequence_parsed (code_piece place c next) stops = ap (with_first_token (placed_token place (Operation c))) (sequence_parsed next stops)
   sequence_parsed (conditional_piece place {after} {conditional} few inner closes next) stops =
       ap grouped_tree (conditional_parsed inner after closes)
       ∙ ap (λ parts. (group conditional parts.0, parts.1)) (sequence_parsed next stops)

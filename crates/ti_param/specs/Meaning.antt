@@ -73,13 +73,13 @@ operation Less x y = truth (int_lt x y)
 operation And x y = truth (not (is_zero x) && not (is_zero y))
 operation Or x y = truth (not (is_zero x) || not (is_zero y))
 
--- each of the 32 bits turned
+-- each of the 32 bits is the other one
 abbrev pub complement : ℤ → ℤ
 complement n = pos 0 -ℤ n -ℤ pos 1
 
--- the low eight bits, 0x80 in place of 0
+-- the low eight bits, 0x80 in place of NUL
 abbrev pub low_byte : ℤ → ℕ
-low_byte n = let b = unsigned_abs (int_rem_euclid n (pos 256)) in if b == 0 then 128 else b
+low_byte n = let b = unsigned_abs (int_rem_euclid n (pos 256)) in if b == ascii.nul then ascii.in_place_of_nul else b
 
 -- ---- states
 

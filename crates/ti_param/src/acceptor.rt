@@ -1,8 +1,8 @@
-//! Whether a format is whole: conditionals in order, and at most 64 open at once.
+//! Whether a format is whole: conditionals in order, and not too many open at once.
 ghost use Rattle.std.specs.Prelude.{◌≡◌, ℕ, ◌≤◌, List, MatchResult, MatchBool, reverse};
 ghost use Rattle.arrayvec.specs.ArrayVec.{array_vec_len};
 ghost use Rattle.ti_param.specs.inside.Expansion.{IsStuckError};
-ghost use Rattle.ti_param.specs.Formats.{HasOneTree};
+ghost use Rattle.ti_param.specs.Formats.{HasOneTree, most_open};
 ghost use Rattle.ti_param.specs.inside.Formats.{stuck_place, phases_after, IsComputed};
 
 use crate::codes::Token;
@@ -10,7 +10,7 @@ use crate::errors::ParamError;
 use crate::lexer::{Lexer, Placed};
 use arrayvec::ArrayVec;
 
-/// How many conditionals may be open at once.
+/// How many conditionals may be open at once: `most_open` of `specs/Formats.antt`.
 const MOST: usize = 64;
 
 /// What may come in an open conditional.
@@ -42,9 +42,10 @@ pub(crate) fn accept(format: &[u8]) -> Result<(), ParamError>
 
 /// Whether the token may stand in the open conditionals, which are then those after it.
 fn advance(phases: &mut ArrayVec<Phase, MOST>, token: Token) -> bool
-    requires { array_vec_len phases.old ≤ 64 }
-    ensures step { MatchBool result (phases_after (reverse phases.old.items) token ≡ Some (reverse phases.new.items)) (phases_after (reverse phases.old.items) token ≡ None) }
-    ensures bound { array_vec_len phases.new ≤ 64 }
+    requires { array_vec_len phases.old ≤ most_open }
+    ensures step { MatchBool result (phases_after (reverse phases.old.items) token
+        ≡ Some (reverse phases.new.items)) (phases_after (reverse phases.old.items) token ≡ None) }
+    ensures bound { array_vec_len phases.new ≤ most_open }
 {
     match token {
         Token::Literal(_) | Token::Operation(_) => true,

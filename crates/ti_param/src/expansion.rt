@@ -4,7 +4,7 @@ ghost use Rattle.ti_param.specs.Formats.{Tree, IsTree, IsStuck};
 ghost use Rattle.ti_param.specs.inside.Formats.{after_part, level_after};
 ghost use Rattle.ti_param.specs.Meaning.{argument_of, meaning};
 ghost use Rattle.ti_param.specs.Expansion.{Expands, Overflows};
-ghost use Rattle.ti_param.specs.inside.Expansion.{EndsWith, expansion, expanded, HasOutcome};
+ghost use Rattle.ti_param.specs.inside.Expansion.{EndsWith, format_expansion, expanded, HasOutcome};
 
 use crate::acceptor::accept;
 use crate::codes::Token;
@@ -41,8 +41,8 @@ pub fn expand(
 
     // the same, computed
     ensures computed { MatchResult result
-        (λ output. expansion format.now (map argument_of params.now) statics.old ≡ expanded output.items statics.new)
-        (λ error. EndsWith error (expansion format.now (map argument_of params.now) statics.old)) }
+        (λ output. format_expansion format.now (map argument_of params.now) statics.old ≡ expanded output.items statics.new)
+        (λ error. EndsWith error (format_expansion format.now (map argument_of params.now) statics.old)) }
 {
     accept(format)?;
     let mut machine = Machine::new(alloc, params, statics);

@@ -8,6 +8,7 @@ ghost use Rattle.ti_param.specs.inside.Codes.{OneCode, token_after, letter_after
 use crate::codes::{Code, Operator, Token, ordinal_of, variable_of};
 use crate::decimals::number;
 use crate::directives::directive;
+use ti_text::limits::NUMBER_MAX;
 
 /// The code at the front of the text after a `%`.
 #[tactic(auto, unfolding(crate::specs::inside::Codes::token_after))]
@@ -145,7 +146,7 @@ fn number_constant(text: &[u8]) -> Option<(Token, &[u8])>
 }
 
 /// The largest number that a `%{n}` may push.
-const LARGEST: u32 = 0x7FFF_FFFF;
+const LARGEST: u32 = NUMBER_MAX;
 
 /// The law of codes: no code's text begins another's, and a text is read as the code that it begins with.
 pub fn one_code()

@@ -14,9 +14,9 @@ use Rattle.ti_meaning.specs.Faults.{use_fault}
 use Rattle.ti_meaning.specs.Compiled.{EntryState, oversized, written, image_of, state_with, state_of}
 use Rattle.ti_meaning.specs.ValueTables.{IsTableOfMentions, HasTable}
 use Rattle.ti_meaning.specs.inside.ValueTables.{AddsSaid, IsTableOf}
-use Rattle.ti_layout.specs.Image.{limit_of}
+use Rattle.ti_layout.specs.Image.{image_limit}
 use Rattle.ti_meaning.proofs.Depth.{bounded}
-use Rattle.ti_meaning.proofs.Laying.{uses_at}
+use Rattle.ti_meaning.proofs.MentionMerging.{uses_at}
 use Rattle.ti_plan.specs.inside.Settling.{IsUseAt, IsItemAt, AreUsesSound, IsUsedTable}
 
 -- an item that says a use is one
@@ -44,14 +44,14 @@ same_table blocks block f g same t = record { depth = t.depth; mentions = t.ment
 
 -- ---- the state that a table makes
 
-pub within : (b : Reading) (ms : List Mention) (bytes : List ℕ) → bytes ≡ image_of b ms → length bytes ≤ limit_of (values ms) → written bytes ≡ state_with b (Some ms)
+pub within : (b : Reading) (ms : List Mention) (bytes : List ℕ) → bytes ≡ image_of b ms → length bytes ≤ image_limit (values ms) → written bytes ≡ state_with b (Some ms)
 within b ms bytes e l =
-    let small : nat_lt (limit_of (values ms)) (length (image_of b ms)) ≡ false = le-ltb (limit_of (values ms)) (length (image_of b ms)) (rw (← e) l) in
+    let small : nat_lt (image_limit (values ms)) (length (image_of b ms)) ≡ false = le-ltb (image_limit (values ms)) (length (image_of b ms)) (rw (← e) l) in
     rw (small, e) refl
 
-pub over : (b : Reading) (ms : List Mention) → limit_of (values ms) < length (image_of b ms) → oversized ≡ state_with b (Some ms)
+pub over : (b : Reading) (ms : List Mention) → image_limit (values ms) < length (image_of b ms) → oversized ≡ state_with b (Some ms)
 over b ms l =
-    let large : nat_lt (limit_of (values ms)) (length (image_of b ms)) ≡ true = lt-ltb (limit_of (values ms)) (length (image_of b ms)) l in
+    let large : nat_lt (image_limit (values ms)) (length (image_of b ms)) ≡ true = lt-ltb (image_limit (values ms)) (length (image_of b ms)) l in
     rw large refl
 
 -- the table that some depth gives is the block's

@@ -11,7 +11,7 @@ use Rattle.ti_slots.specs.declared.slots.Settled.{Settled}
 use Rattle.ti_slots.specs.Slots.{blocks_of}
 use Rattle.ti_slots.specs.Settled.{IsSettled}
 use Rattle.ti_dependents.specs.declared.dependents.Dependents.{Dependents}
-use Rattle.ti_plan.specs.inside.Settling.{AreFoundIn, AreSettled, AreAllSettled, CanBeSettled, HasSettledOwners, place_of}
+use Rattle.ti_plan.specs.inside.Settling.{AreFoundIn, AreSettled, AreAllSettled, CanBeSettled, HasSettledOwners, node_position}
 
 -- those before one place of the order are settled
 pub record IsFollowing (slots : Slots) (d : Dependents) (order : List ℕ) (settled : List (Option Settled)) (end : ℕ) : Type 0 where
@@ -85,11 +85,11 @@ next_owners slots d component_of order settled end node found comps c h o = λ o
       | inr before ↦ inr (h.done j.0 owner before j.1)
     ]
 
-pub place_stands : (slots : Slots) (d : Dependents) (component_of order : List ℕ) (end node : ℕ) → AreFoundIn slots d → IsClosingOrder d.uses component_of order → slice_get order end ≡ Some node → slice_get d.places.items node ≡ Some (place_of d node)
+pub place_stands : (slots : Slots) (d : Dependents) (component_of order : List ℕ) (end node : ℕ) → AreFoundIn slots d → IsClosingOrder d.uses component_of order → slice_get order end ≡ Some node → slice_get d.places.items node ≡ Some (node_position d node)
 place_stands slots d component_of order end node found c o =
     slice_get-get_or d.places.items node 0 (let l = c.nodes end node o in omega (arith, found.graph.as_many, found.as_many))
 
-pub next_can : (slots : Slots) (d : Dependents) (component_of order : List ℕ) (settled : List (Option Settled)) (end node : ℕ) → AreFoundIn slots d → AreComponents d.uses component_of → IsClosingOrder d.uses component_of order → IsFollowing slots d order settled end → slice_get order end ≡ Some node → CanBeSettled slots d component_of settled node (place_of d node)
+pub next_can : (slots : Slots) (d : Dependents) (component_of order : List ℕ) (settled : List (Option Settled)) (end node : ℕ) → AreFoundIn slots d → AreComponents d.uses component_of → IsClosingOrder d.uses component_of order → IsFollowing slots d order settled end → slice_get order end ≡ Some node → CanBeSettled slots d component_of settled node (node_position d node)
 next_can slots d component_of order settled end node found comps c h o = record {
   known = record { found = found; components = comps; so_far = h.so_far };
   stands = place_stands slots d component_of order end node found c o;

@@ -13,7 +13,7 @@ use Rattle.ti_meaning.specs.inside.Reaching.{leads_to}
 use Rattle.ti_meaning.specs.Faults.{SourceFault, local_fault, fault_between, use_fault, fault_of_use, fault_of_item, faults_before, faults_from, item_faults}
 use Rattle.ti_meaning.specs.KeptBlocks.{is_no_duplicate}
 use Rattle.ti_meaning.specs.UseLaws.{HasUseAtFault}
-use Rattle.ti_meaning.proofs.Laying.{uses_at}
+use Rattle.ti_meaning.proofs.MentionMerging.{uses_at}
 use Rattle.ti_plan.specs.inside.Settling.{AreUsesSound, is_at_fault}
 use Rattle.ti_plan.proofs.Places.{place_of_use}
 

@@ -18,7 +18,7 @@ use Rattle.ti_dependents.specs.Dependents.{AreDependentIds, IsGraphOfUses}
 use Rattle.ti_plan.specs.Plans.{IsPlan, IsReady}
 use Rattle.ti_dependents.specs.declared.dependents.Dependents.{Dependents}
 use Rattle.ti_plan.specs.declared.plans.Plan.{Plan}
-use Rattle.ti_plan.specs.inside.Settling.{AreFoundIn, AreAllSettled, IsPlanOf, place_of}
+use Rattle.ti_plan.specs.inside.Settling.{AreFoundIn, AreAllSettled, IsPlanOf, node_position}
 use Rattle.ti_plan.proofs.Places.{block_of, block_at, node_of_place, node_of_id, one_node}
 use Rattle.ti_plan.proofs.Following.{place_stands}
 
@@ -31,13 +31,13 @@ at_contains xs i x e = (i, slice_get_within xs i x e, get_or_from_slice_get xs i
 
 module _ (slots : Slots) (d : Dependents) (component_of order : List ℕ) (found : AreFoundIn slots d) (closing : IsClosingOrder d.uses component_of order) where
   -- the position of a node of the order
-  at_place : (i node : ℕ) → slice_get order i ≡ Some node → slice_get (map (place_of d) order) i ≡ Some (place_of d node)
-  at_place i node e = rw (slice_get-map (place_of d) order i, e) refl
+  at_place : (i node : ℕ) → slice_get order i ≡ Some node → slice_get (map (node_position d) order) i ≡ Some (node_position d node)
+  at_place i node e = rw (slice_get-map (node_position d) order i, e) refl
 
-  node_at : (i place : ℕ) → slice_get (map (place_of d) order) i ≡ Some place → (node : ℕ) × (slice_get order i ≡ Some node) × (slice_get d.places.items node ≡ Some place)
+  node_at : (i place : ℕ) → slice_get (map (node_position d) order) i ≡ Some place → (node : ℕ) × (slice_get order i ≡ Some node) × (slice_get d.places.items node ≡ Some place)
   node_at i place e =
-      let w = item_at order i (rw length-map at (slice_get_within (map (place_of d) order) i place e)) in
-      let same : place_of d w.0 ≡ place = same_Some (place_of d w.0) place (sym (at_place i w.0 w.1) ∙ e) in
+      let w = item_at order i (rw length-map at (slice_get_within (map (node_position d) order) i place e)) in
+      let same : node_position d w.0 ≡ place = same_Some (node_position d w.0) place (sym (at_place i w.0 w.1) ∙ e) in
       (w.0, w.1, place_stands slots d component_of order i w.0 found closing w.1 ∙ ap (λ k. Some k) same)
 
   -- each node of the order has a position
@@ -45,31 +45,31 @@ module _ (slots : Slots) (d : Dependents) (component_of order : List ℕ) (found
   nodes_placed k e l = slice_get_within d.places.items (get_or order k e) _ (place_stands slots d component_of order k (get_or order k e) found closing (slice_get-get_or order k e l))
 
   -- no position stands twice
-  pub distinct_places : AllPairs (λ x y. x ≡ y → ⊥) (map (place_of d) order)
+  pub distinct_places : AllPairs (λ x y. x ≡ y → ⊥) (map (node_position d) order)
   distinct_places i j e l m = λ same.
-      let xs = map (place_of d) order in
+      let xs = map (node_position d) order in
       let first = node_at i (get_or xs i e) (slice_get-get_or xs i e (omega arith)) in
       let second = node_at j (get_or xs j e) (slice_get-get_or xs j e m) in
       let node : first.0 ≡ second.0 = one_node slots d found first.0 second.0 (get_or xs i e) first.2 (second.2 ∙ ap (λ k. Some k) (sym same)) in
       let place = closing.once i j first.0 first.1 (second.1 ∙ ap (λ k. Some k) (sym node)) in
       omega arith
 
-  pub placed_there : (at : ℕ) → Contains (map (place_of d) order) at → Contains d.places.items at
+  pub placed_there : (at : ℕ) → Contains (map (node_position d) order) at → Contains d.places.items at
   placed_there at c =
-      let w = contains_at (map (place_of d) order) at c in
+      let w = contains_at (map (node_position d) order) at c in
       let n = node_at w.0 at w.1 in
       at_contains d.places.items n.0 at n.2
 
-  pub there_placed : (at : ℕ) → Contains d.places.items at → Contains (map (place_of d) order) at
+  pub there_placed : (at : ℕ) → Contains d.places.items at → Contains (map (node_position d) order) at
   there_placed at c =
       let w = contains_at d.places.items at c in
       let l = slice_get_within d.places.items w.0 at w.1 in
       let i = closing.listed w.0 (omega (arith, found.graph.as_many, found.as_many)) in
-      let same : place_of d w.0 ≡ at = get_or_from_slice_get d.places.items w.0 at 0 w.1 in
-      at_contains (map (place_of d) order) i.0 at (at_place i.0 w.0 i.1 ∙ ap (λ k. Some k) same)
+      let same : node_position d w.0 ≡ at = get_or_from_slice_get d.places.items w.0 at 0 w.1 in
+      at_contains (map (node_position d) order) i.0 at (at_place i.0 w.0 i.1 ∙ ap (λ k. Some k) same)
 
   pub planned : (plan : Plan) (settled : List (Option Settled)) (steps : ℕ) → plan.ids ≡ d.ids → AreAllSettled slots d settled → map (λ one. Some one) plan.settled.items ≡ settled
-      → IsPermutation (map (place_of d) order) plan.rebuilt.items → IsRising plan.rebuilt.items → plan.work ≡ 0 + work (blocks_of slots) (map (place_of d) order) → IsPlanOf slots d plan
+      → IsPermutation (map (node_position d) order) plan.rebuilt.items → IsRising plan.rebuilt.items → plan.work ≡ 0 + work (blocks_of slots) (map (node_position d) order) → IsPlanOf slots d plan
   planned plan settled steps ids all same moved rising spent = record {
     ids = ids;
     as_many = sym (length-map plan.settled.items (λ one. Some one)) ∙ (ap length same ∙ all.so_far.as_many);
@@ -77,10 +77,10 @@ module _ (slots : Slots) (d : Dependents) (component_of order : List ℕ) (found
         (ap (λ xs. slice_get xs node) (sym same) ∙ (slice_get-map (λ one. Some one) plan.settled.items node ∙ ap (λ o. option_map (λ one. Some one) o) e)) p s;
     rising = rising;
     members = λ at. (
-      λ c. placed_there at (Contains-permutation plan.rebuilt.items (map (place_of d) order) at (IsPermutation-sym (map (place_of d) order) plan.rebuilt.items moved) c),
-      λ c. Contains-permutation (map (place_of d) order) plan.rebuilt.items at moved (there_placed at c),
+      λ c. placed_there at (Contains-permutation plan.rebuilt.items (map (node_position d) order) at (IsPermutation-sym (map (node_position d) order) plan.rebuilt.items moved) c),
+      λ c. Contains-permutation (map (node_position d) order) plan.rebuilt.items at moved (there_placed at c),
     );
-    steps = spent ∙ (let sum = sum_by-IsPermutation (λ at. work_of (blocks_of slots) (slice_get (blocks_of slots) at)) (map (place_of d) order) plan.rebuilt.items moved in omega (arith, sum));
+    steps = spent ∙ (let sum = sum_by-IsPermutation (λ at. work_of (blocks_of slots) (slice_get (blocks_of slots) at)) (map (node_position d) order) plan.rebuilt.items moved in omega (arith, sum));
   }
 
 -- ---- the blocks found are those that depend on the edit

@@ -6,7 +6,7 @@ use Rattle.ti_meaning.specs.Reaching.{used_name, Uses}
 use Rattle.ti_meaning.specs.UseLaws as laws
 use Rattle.ti_meaning.specs.UseLaws.{UsesBlock, IsGraphOf, HaveOneNumber}
 use Rattle.ti_meaning.specs.Usable.{IsUsable}
-use Rattle.ti_meaning.proofs.Laying.{uses_at}
+use Rattle.ti_meaning.proofs.MentionMerging.{uses_at}
 use Rattle.ti_components.specs.Graph.{Rows}
 use Rattle.ti_components.specs.Leading.{IsWay}
 use Rattle.ti_components.specs.Components.{AreComponents}
@@ -107,9 +107,9 @@ row_at slots d h node at index name row p u r =
     omega arith
 
 -- the graph has an edge between the nodes of blocks where the one uses the other
-pub graph_of : (slots : Slots) (d : Dependents) → AreFoundIn slots d → IsGraphOf (blocks_of slots) d.places.items (laws.HasEdge d.uses)
+pub graph_of : (slots : Slots) (d : Dependents) → AreFoundIn slots d → IsGraphOf (blocks_of slots) d.places.items (laws.HasOptionalEdge d.uses)
 graph_of slots d h i j = (there slots d h i j, back slots d h i j) where
-  there : (slots : Slots) (d : Dependents) → AreFoundIn slots d → (i j : ℕ) → laws.HasEdge d.uses i j → (at : ℕ) × (used : ℕ) × (slice_get d.places.items i ≡ Some at) × (slice_get d.places.items j ≡ Some used) × UsesBlock (blocks_of slots) at used
+  there : (slots : Slots) (d : Dependents) → AreFoundIn slots d → (i j : ℕ) → laws.HasOptionalEdge d.uses i j → (at : ℕ) × (used : ℕ) × (slice_get d.places.items i ≡ Some at) × (slice_get d.places.items j ≡ Some used) × UsesBlock (blocks_of slots) at used
   there slots d h i j w =
       let id = item_at d.ids.items i (omega (arith, slice_get_within d.uses i w.0 w.1, h.graph.as_many)) in
       let n = node_of_id slots d h i id.0 id.1 in
@@ -120,7 +120,7 @@ graph_of slots d h i j = (there slots d h i j, back slots d h i j) where
       let same : own.3.0 ≡ m.0 = h.distinct own.3.0 m.0 own.1 own.3.2 m.1.stands in
       (n.0, m.0, n.1.at_is, m.1.at_is, (block_of slots id.0, n.1.block, (own.0, uses_at (block_of slots id.0).items w.2.0 item.0 own.0 item.1 own.2, own.3.1 ∙ ap (λ k. Some k) same)))
 
-  back : (slots : Slots) (d : Dependents) → AreFoundIn slots d → (i j : ℕ) → (at : ℕ) × (used : ℕ) × (slice_get d.places.items i ≡ Some at) × (slice_get d.places.items j ≡ Some used) × UsesBlock (blocks_of slots) at used → laws.HasEdge d.uses i j
+  back : (slots : Slots) (d : Dependents) → AreFoundIn slots d → (i j : ℕ) → (at : ℕ) × (used : ℕ) × (slice_get d.places.items i ≡ Some at) × (slice_get d.places.items j ≡ Some used) × UsesBlock (blocks_of slots) at used → laws.HasOptionalEdge d.uses i j
   back slots d h i j w =
       let m = node_of_place slots d h j w.1 w.3 in
       let use_place = place_of_use w.4.0.items w.4.2.0 w.4.2.1 in
@@ -132,16 +132,16 @@ graph_of slots d h i j = (there slots d h i j, back slots d h i j) where
 
 -- ---- components
 
-walk_of_way : (g : Rows) (u w : ℕ) (way : List ℕ) → IsWay g u way w → laws.IsWalk (laws.HasEdge g) u way w
+walk_of_way : (g : Rows) (u w : ℕ) (way : List ℕ) → IsWay g u way w → laws.IsEdgeWalk (laws.HasOptionalEdge g) u way w
 walk_of_way g u w [] h = h
 walk_of_way g u w (x ∷ way) h = ((h.0.row, h.0.stands, (h.0.place, h.0.leads)), walk_of_way g x w way h.1)
 
-way_of_walk : (g : Rows) (u w : ℕ) (way : List ℕ) → laws.IsWalk (laws.HasEdge g) u way w → IsWay g u way w
+way_of_walk : (g : Rows) (u w : ℕ) (way : List ℕ) → laws.IsEdgeWalk (laws.HasOptionalEdge g) u way w → IsWay g u way w
 way_of_walk g u w [] h = h
 way_of_walk g u w (x ∷ way) h = (record { row = h.0.0; place = h.0.2.0; stands = h.0.1; leads = h.0.2.1 }, way_of_walk g x w way h.1)
 
 -- the components of the graph, as the laws speak of them
-pub components_of : (g : Rows) (numbers : List ℕ) (count : ℕ) → AreComponents g numbers → count ≡ length g → laws.AreComponents count (laws.HasEdge g) (HaveOneNumber numbers)
+pub components_of : (g : Rows) (numbers : List ℕ) (count : ℕ) → AreComponents g numbers → count ≡ length g → laws.TellComponents count (laws.HasOptionalEdge g) (HaveOneNumber numbers)
 components_of g numbers count h n i j within_i within_j =
     let c = item_at numbers i (omega (arith, h.as_many)) in
     let d = item_at numbers j (omega (arith, h.as_many)) in

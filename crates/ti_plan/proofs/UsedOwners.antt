@@ -34,7 +34,7 @@ pub record IsFoundUse (slots : Slots) (d : Dependents) (component_of : List ℕ)
   pub leads : IsEdgeTo slots d.ids.items name edge
 
 module _ (slots : Slots) (d : Dependents) (component_of : List ℕ) (settled : List (Option Settled)) (node at index : ℕ) (name : List ℕ) where
-  numbers : IsKnown slots d component_of settled → laws.AreComponents (length d.places.items) (laws.HasEdge d.uses) (HaveOneNumber component_of)
+  numbers : IsKnown slots d component_of settled → laws.TellComponents (length d.places.items) (laws.HasOptionalEdge d.uses) (HaveOneNumber component_of)
   numbers k = components_of d.uses component_of (length d.places.items) k.components (omega (arith, k.found.as_many, k.found.graph.as_many))
 
   -- where the use leads back, its edge leads to a node of the same component
@@ -42,7 +42,7 @@ module _ (slots : Slots) (d : Dependents) (component_of : List ℕ) (settled : L
   back_shares edge u lead =
       let found = u.known.found in
       let n = node_of_place slots d found node at u.place in
-      let w = circular_component (blocks_of slots) d.places.items (laws.HasEdge d.uses) (HaveOneNumber component_of) found.closed (graph_of slots d found) (numbers u.known)
+      let w = circular_component (blocks_of slots) d.places.items (laws.HasOptionalEdge d.uses) (HaveOneNumber component_of) found.closed (graph_of slots d found) (numbers u.known)
       node at (block_of slots n.0) name u.place n.1.block (use_of_place (blocks_of slots) at index name (block_of slots n.0) u.of_item n.1.block) lead in
       let m = node_of_place slots d found w.0 w.1 w.3 in
       (w.0, (u.leads w.0).1 (m.0, (w.1, w.2, m.1.stands), m.1.id_is), w.4)
@@ -74,7 +74,7 @@ module _ (slots : Slots) (d : Dependents) (component_of : List ℕ) (settled : L
       let m = node_of_id slots d found w own.0 own.2 in
       let same : own.1.0 ≡ m.0 = found.distinct own.1.0 m.0 own.0 own.1.2 m.1.stands in
       let owns : owner (blocks_of slots) name ≡ Some m.0 = own.1.1 ∙ ap (λ k. Some k) same in
-      let lead = component_circular (blocks_of slots) d.places.items (laws.HasEdge d.uses) (HaveOneNumber component_of) (graph_of slots d found) (numbers u.known)
+      let lead = component_circular (blocks_of slots) d.places.items (laws.HasOptionalEdge d.uses) (HaveOneNumber component_of) (graph_of slots d found) (numbers u.known)
       node at w m.0 name u.place owns m.1.at_is one in
       let b = owner_is (blocks_of slots) name m.0 owns in
       use_fault_circular (blocks_of slots) at name b.0 b.1 (LeadsTo-leads_to (blocks_of slots) name at lead)

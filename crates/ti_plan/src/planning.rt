@@ -8,7 +8,7 @@ ghost use Rattle.std.specs.Rc.{rc_slice_items};
 ghost use Rattle.ti_meaning.specs.Usable.{IsUsable};
 ghost use Rattle.ti_slots.specs.Slots.{blocks_of, IsIndexed, StandsAt};
 ghost use Rattle.ti_plan.specs.Plans.{IsPlan, IsPlanOfAll, IsReady};
-ghost use Rattle.ti_plan.specs.inside.Settling.{AreAllSettled, AreFoundIn, IsPlanOf, place_of};
+ghost use Rattle.ti_plan.specs.inside.Settling.{AreAllSettled, AreFoundIn, IsPlanOf, node_position};
 
 use crate::owners::Known;
 use crate::plans::Plan;
@@ -44,7 +44,7 @@ fn settle_all(
     requires order { IsClosingOrder dependents.now.uses components.now.component_of.items components.now.order.items }
     requires room { steps.old + sum_by length dependents.now.uses < 2 ^ 64 }
     ensures settled { IfOk result (λ all. AreAllSettled slots.now dependents.now all.items) }
-    ensures work { OnOk result (steps.new ≡ steps.old + work (blocks_of slots.now) (map (place_of dependents.now) components.now.order.items)) }
+    ensures work { OnOk result (steps.new ≡ steps.old + work (blocks_of slots.now) (map (node_position dependents.now) components.now.order.items)) }
 {
     let mut settled = nothing_settled(alloc, dependents.ids.len())?;
     for node in &components.order {
@@ -80,7 +80,7 @@ fn places_of(
     nodes: &[usize],
 ) -> Result<Vec<usize>, AllocError>
     requires { All (λ node. node < length dependents.now.places.items) nodes.now }
-    ensures { IfOk result (λ places. places.items ≡ map (place_of dependents.now) nodes.now) }
+    ensures { IfOk result (λ places. places.items ≡ map (node_position dependents.now) nodes.now) }
 {
     let mut places = Vec::with_capacity(alloc, nodes.len())?;
     for node in nodes {
@@ -96,8 +96,8 @@ fn sorted_places(
     nodes: &[usize],
 ) -> Result<Vec<usize>, AllocError>
     requires within { All (λ node. node < length dependents.now.places.items) nodes.now }
-    requires distinct { AllPairs (λ x y. x ≡ y → ⊥) (map (place_of dependents.now) nodes.now) }
-    ensures moved { IfOk result (λ places. IsPermutation (map (place_of dependents.now) nodes.now) places.items) }
+    requires distinct { AllPairs (λ x y. x ≡ y → ⊥) (map (node_position dependents.now) nodes.now) }
+    ensures moved { IfOk result (λ places. IsPermutation (map (node_position dependents.now) nodes.now) places.items) }
     ensures rising { IfOk result (λ places. IsRising places.items) }
 {
     let mut places = places_of(alloc, dependents, nodes)?;

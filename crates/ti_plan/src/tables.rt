@@ -4,7 +4,7 @@ ghost use Rattle.std.specs.Prelude.{ℕ, ◌≡◌, ◌+◌, ◌<◌, ◌^◌, �
 ghost use Rattle.std.specs.Option.{option_or};
 ghost use Rattle.ti_caps.specs.Tables.{Capability, IsCapability, same_capability};
 ghost use Rattle.ti_source.specs.Reading.{reading_of, said_of};
-ghost use Rattle.ti_layout.specs.Image.{image, limit_of};
+ghost use Rattle.ti_layout.specs.Image.{image, image_limit};
 ghost use Rattle.ti_layout.specs.Laws.{without_cancel};
 ghost use Rattle.ti_layout.specs.Values.{contents, content_of, Agrees};
 ghost use Rattle.ti_compiled.specs.Image.{contents_in};
@@ -116,7 +116,8 @@ fn make_image(alloc: Global, slot: &Slot, table: &Table) -> Result<Image, WriteE
     requires usable { IsUsable (reading_of slot.now.block) }
     ensures image { IfOk result (λ i. i ≡ image slot.now.block.field.items (contents table.now)) }
     ensures contents { IfOk result (λ i. (c : Capability) → IsCapability c → contents_in i c ≡ without_cancel (contents table.now c)) }
-    ensures too_large { IsErrOf result WriteError.TooLarge ↔ (limit_of (contents table.now) < length (image slot.now.block.field.items (contents table.now))) }
+    ensures too_large { IsErrOf result WriteError.TooLarge
+        ↔ (image_limit (contents table.now) < length (image slot.now.block.field.items (contents table.now))) }
     ensures names_fit { IsErrOf result WriteError.NamesTooLong → ⊥ }
 {
     let names = &slot.block.field;

@@ -5,7 +5,7 @@ use Rattle.std.proofs.Math.Seq.{drop-append_seam}
 use Rattle.ti_printing.specs.declared.padding.Padding.{Padding}
 use Rattle.ti_printing.specs.declared.padding.Part.{Part}
 use Rattle.ti_printing.specs.declared.padding.Part.TheVariants.{Literal, Delay}
-use Rattle.ti_printing.specs.Padding.{BeginsNoPadding, IsPadding, IsCutIntoParts, cut_nothing, cut_literal, cut_padding, OneCut}
+use Rattle.ti_printing.specs.Padding.{BeginsNoPadding, IsPadding, IsCutIntoParts, cut_nothing, cut_literal, cut_padding, TextsHaveOneCut}
 use Rattle.ti_printing.specs.inside.Padding.{first_part, taken_by, padding_at, parts_after, parts_of}
 use Rattle.ti_printing.proofs.Paddings.{padding_at-some, padding_at-found}
 
@@ -92,7 +92,7 @@ cut_within (suc most) (byte ∷ text) within =
           subst (λ t. IsCutIntoParts t (parts_of t)) (sym spelled) (subst (IsCutIntoParts (front ++ found.1)) (sym (parts_of-padding front found.1 found.0 is)) (cut_padding is (cut_within most found.1 shorter)))
     ] refl
 
-pub one_cut : OneCut
+pub one_cut : TextsHaveOneCut
 one_cut text parts = (parts_of_cut text parts, λ e. subst (IsCutIntoParts text) (sym e) (cut_within (length text) text (omega arith)))
 
 -- no more parts than bytes

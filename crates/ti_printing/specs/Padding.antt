@@ -59,8 +59,8 @@ pub data IsCutIntoParts : List ℕ → List Part → Type 0 where
       → IsCutIntoParts (text ++ rest) (Delay padding ∷ parts)
 
 -- the law of the cut: each text has exactly one, and it is `parts_of`
-abbrev pub OneCut : Type 0
-OneCut = (text : List ℕ) (parts : List Part) → IsCutIntoParts text parts ↔ (parts ≡ parts_of text)
+abbrev pub TextsHaveOneCut : Type 0
+TextsHaveOneCut = (text : List ℕ) (parts : List Part) → IsCutIntoParts text parts ↔ (parts ≡ parts_of text)
 
 -- ---- the padded text
 
@@ -87,6 +87,10 @@ abbrev pub padding_of_parts : ℕ → Line → List Part → ℕ
 padding_of_parts lines line [] = 0
 padding_of_parts lines line (Literal byte ∷ parts) = padding_of_parts lines line parts
 padding_of_parts lines line (Delay padding ∷ parts) = pad_count lines line padding + padding_of_parts lines line parts
+
+-- the most pad bytes that one text may ask for (own)
+abbrev pub pad_bytes_max : ℕ
+pad_bytes_max = 65536
 
 -- the text with each padding as its pad bytes
 unfoldable pub with_pad_bytes : List ℕ → ℕ → Line → List ℕ

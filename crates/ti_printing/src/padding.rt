@@ -1,7 +1,7 @@
 //! Padding: a capability's text as bytes for the terminal, with pad bytes at the line's speed.
 ghost use Rattle.std.specs.Prelude.{◌≡◌, ◌+◌, ◌<◌, ◌≤◌, ◌++◌, ◌↔◌, length, IfOk, IfSome, SomeIff, MatchOption, vec_len, vec_capacity};
 ghost use Rattle.std.specs.Iterator.{YieldsFirst, item_count};
-ghost use Rattle.ti_printing.specs.Padding.{OneCut, with_pad_bytes, padding_of, pad_count};
+ghost use Rattle.ti_printing.specs.Padding.{TextsHaveOneCut, with_pad_bytes, pad_bytes_max, padding_of, pad_count};
 ghost use Rattle.ti_printing.specs.inside.Padding.{parts_of, padding_at, after_byte, digits_len, milliseconds_at, tenths_at, mark_at, marks_at};
 
 use memchr::memchr;
@@ -55,7 +55,7 @@ impl From<AllocError> for PadError {
 /// `Memory` where the room was refused.
 pub fn pad(alloc: Global, text: &[u8], lines: u32, line: &Line) -> Result<Vec<u8>, PadError>
     ensures ok { IfOk result (λ out. out.items ≡ with_pad_bytes text.now lines line.now) }
-    ensures too_much { (result ≡ Err PadError.TooMuch) ↔ (65536 < padding_of text.now lines line.now) }
+    ensures too_much { (result ≡ Err PadError.TooMuch) ↔ (pad_bytes_max < padding_of text.now lines line.now) }
 {
     match memchr(b'$', text) {
         None => Ok(Vec::from_slice(alloc, text)?),
@@ -70,7 +70,7 @@ pub fn pad(alloc: Global, text: &[u8], lines: u32, line: &Line) -> Result<Vec<u8
 /// Those of [`pad`].
 pub fn pad_owned(alloc: Global, text: Vec<u8>, lines: u32, line: &Line) -> Result<Vec<u8>, PadError>
     ensures ok { IfOk result (λ out. out.items ≡ with_pad_bytes text.items lines line.now) }
-    ensures too_much { (result ≡ Err PadError.TooMuch) ↔ (65536 < padding_of text.items lines line.now) }
+    ensures too_much { (result ≡ Err PadError.TooMuch) ↔ (pad_bytes_max < padding_of text.items lines line.now) }
 {
     match memchr(b'$', text.as_slice()) {
         None => Ok(text),
@@ -81,7 +81,7 @@ pub fn pad_owned(alloc: Global, text: Vec<u8>, lines: u32, line: &Line) -> Resul
 // The same, part by part.
 fn pad_parts(alloc: Global, text: &[u8], lines: u32, line: &Line) -> Result<Vec<u8>, PadError>
     ensures ok { IfOk result (λ out. out.items ≡ with_pad_bytes text.now lines line.now) }
-    ensures too_much { (result ≡ Err PadError.TooMuch) ↔ (65536 < padding_of text.now lines line.now) }
+    ensures too_much { (result ≡ Err PadError.TooMuch) ↔ (pad_bytes_max < padding_of text.now lines line.now) }
 {
     let Some(pads) = pads_in(text, lines, line) else {
         return Err(PadError::TooMuch);
@@ -94,7 +94,7 @@ fn pad_parts(alloc: Global, text: &[u8], lines: u32, line: &Line) -> Result<Vec<
 /// The law of the cut that `pad` rests on: each text is cut from the left in exactly one way, into paddings
 /// and bytes at which none begins.
 pub fn one_cut()
-    ensures { OneCut }
+    ensures { TextsHaveOneCut }
 {}
 
 /// A time, and when it is waited.
@@ -145,7 +145,7 @@ impl<'a> Iterator for Parts<'a> {
 /// How many pad bytes the text asks for, where they are not too many.
 #[tactic(auto, unfolding(crate::specs::Padding::padding_of))]
 fn pads_in(text: &[u8], lines: u32, line: &Line) -> Option<usize>
-    ensures { SomeIff result (padding_of text.now lines line.now ≤ 65536) (padding_of text.now lines line.now) }
+    ensures { SomeIff result (padding_of text.now lines line.now ≤ pad_bytes_max) (padding_of text.now lines line.now) }
 {
     let mut total = 0;
     let parts = Parts { rest: text };

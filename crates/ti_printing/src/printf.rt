@@ -134,7 +134,8 @@ fn print_number(out: &mut Vec<u8>, directive: &Directive, number: i32) -> Result
 /// Where the parts of a number stand: blanks or zeros fill it up to the width.
 fn arrange<'a>(directive: &Directive, front: &'a [u8], zeros: usize, shown: &'a [u8]) -> Layout<'a>
     requires { length front.now + zeros + length shown.now < 2 ^ 32 }
-    ensures parts { parts_text result.before result.front.now result.zeros result.shown.now result.after ≡ in_width directive.now front.now (replicate zeros ascii.digit_0 ++ shown.now) }
+    ensures parts { parts_text result.before result.front.now result.zeros result.shown.now result.after
+        ≡ in_width directive.now front.now (replicate zeros ascii.digit_0 ++ shown.now) }
     ensures bound { result.before + length result.front.now + result.zeros + length result.shown.now + result.after < 2 ^ 64 }
 {
     let long = front.len() + zeros + shown.len();
@@ -169,7 +170,8 @@ fn arrange<'a>(directive: &Directive, front: &'a [u8], zeros: usize, shown: &'a 
 /// Makes room for all parts, and then appends them.
 fn push_parts(out: &mut Vec<u8>, layout: &Layout<'_>) -> Result<(), AllocError>
     requires { layout.now.before + length layout.now.front.now + layout.now.zeros + length layout.now.shown.now + layout.now.after < 2 ^ 64 }
-    ensures ok { OnOk result (out.new.items ≡ out.old.items ++ parts_text layout.now.before layout.now.front.now layout.now.zeros layout.now.shown.now layout.now.after) }
+    ensures ok { OnOk result (out.new.items
+        ≡ out.old.items ++ parts_text layout.now.before layout.now.front.now layout.now.zeros layout.now.shown.now layout.now.after) }
     ensures err { OnErr result (out.new.items ≡ out.old.items) }
 {
     let Layout {
@@ -190,7 +192,8 @@ fn push_parts(out: &mut Vec<u8>, layout: &Layout<'_>) -> Result<(), AllocError>
 
 /// The sign and the prefix.
 fn front_of(directive: &Directive, number: i32) -> &'static [u8]
-    ensures value { result.now ≡ sign_in directive.now.conversion directive.now.flags number ++ prefix_in directive.now.conversion directive.now.flags number }
+    ensures value { result.now ≡ sign_in directive.now.conversion directive.now.flags number
+        ++ prefix_in directive.now.conversion directive.now.flags number }
     ensures bound { length result.now ≤ 2 }
 {
     let flags = directive.flags;

@@ -3,7 +3,7 @@
 mod changes;
 mod uses;
 
-use changes::{CHANGES, HEADER_LEN, changed, plain_entry};
+use changes::{CHANGES, HEADER_LEN, bytes_with, plain_entry};
 use std::alloc::{AllocError, Global};
 use std::io;
 use std::io::Write;
@@ -15,7 +15,7 @@ fn try_each_byte(alloc: Global, entry: &[u8]) -> Result<Tally, AllocError> {
     let mut tally = Tally::default();
     for at in 0..entry.len() {
         for to in CHANGES {
-            tally.try_entry(alloc, &changed(alloc, entry, at, to)?, entry)?;
+            tally.try_entry(alloc, &bytes_with(alloc, entry, at, to)?, entry)?;
         }
     }
     Ok(tally)
@@ -26,10 +26,10 @@ fn try_header_pairs(alloc: Global, entry: &[u8]) -> Result<Tally, AllocError> {
     let mut tally = Tally::default();
     for first in 0..HEADER_LEN {
         for one in CHANGES {
-            let half = changed(alloc, entry, first, one)?;
+            let half = bytes_with(alloc, entry, first, one)?;
             for second in first.saturating_add(1)..HEADER_LEN {
                 for other in CHANGES {
-                    tally.try_entry(alloc, &changed(alloc, &half, second, other)?, entry)?;
+                    tally.try_entry(alloc, &bytes_with(alloc, &half, second, other)?, entry)?;
                 }
             }
         }
@@ -38,7 +38,12 @@ fn try_header_pairs(alloc: Global, entry: &[u8]) -> Result<Tally, AllocError> {
 }
 
 /// A piece so many times, behind a front.
-fn repeated(alloc: Global, front: &[u8], piece: &[u8], count: u32) -> Result<Vec<u8>, AllocError> {
+fn repeat_piece(
+    alloc: Global,
+    front: &[u8],
+    piece: &[u8],
+    count: u32,
+) -> Result<Vec<u8>, AllocError> {
     let mut format = Vec::from_slice(alloc, front)?;
     for _turn in 0..count {
         format.extend_from_slice(piece)?;
@@ -64,15 +69,15 @@ fn print_expansion(
 
 /// Conditionals opened and never closed, a long part that is not taken, and one that is.
 fn print_formats(out: &mut impl Write, alloc: Global) -> io::Result<()> {
-    let opened = repeated(alloc, b"", b"%?", 1_000_000)?;
+    let opened = repeat_piece(alloc, b"", b"%?", 1_000_000)?;
     print_expansion(out, alloc, "1,000,000 conditionals opened", &opened)?;
-    let skipped = repeated(alloc, b"%?%p1%t", b"%%", 100_000)?;
+    let skipped = repeat_piece(alloc, b"%?%p1%t", b"%%", 100_000)?;
     print_expansion(out, alloc, "100,000 marks in a part not taken", &skipped)?;
-    let taken = repeated(alloc, b"%?%p1%!%t", b"%%", 100_000)?;
+    let taken = repeat_piece(alloc, b"%?%p1%!%t", b"%%", 100_000)?;
     print_expansion(out, alloc, "100,000 marks in a part taken", &taken)?;
-    let pushed = repeated(alloc, b"", b"%p1", 1_000_000)?;
+    let pushed = repeat_piece(alloc, b"", b"%p1", 1_000_000)?;
     print_expansion(out, alloc, "1,000,000 values pushed", &pushed)?;
-    let otherwise = repeated(alloc, b"%?", b"%p1%tA%e", 200_000)?;
+    let otherwise = repeat_piece(alloc, b"%?", b"%p1%tA%e", 200_000)?;
     print_expansion(out, alloc, "200,000 tests in turn", &otherwise)
 }
 

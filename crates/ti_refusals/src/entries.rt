@@ -23,7 +23,7 @@ fn has_no_nul(bytes: &[u8]) -> bool
 }
 
 // The entry that a table is laid as.
-fn laid(alloc: Global, table: &Table) -> Result<Vec<u8>, Trouble> {
+fn entry_bytes(alloc: Global, table: &Table) -> Result<Vec<u8>, Trouble> {
     if NAMES.is_empty() || !has_no_nul(NAMES) {
         return Err(Trouble::Wrong("the names hold a NUL"));
     }
@@ -54,17 +54,17 @@ pub fn table(alloc: Global) -> Result<Tried, Trouble> {
         let Some(cap) = Cap::at(Kind::Text, place) else {
             return Err(Trouble::Wrong("no capability"));
         };
-        let before = laid(alloc, &table)?;
+        let before = entry_bytes(alloc, &table)?;
         if set_text(alloc, &mut table, cap)?.is_err() {
             tried.count_refusal();
-            if table.get(cap).is_some() || laid(alloc, &table)? != before {
+            if table.get(cap).is_some() || entry_bytes(alloc, &table)? != before {
                 return Err(Trouble::Wrong("a refused value has changed a table"));
             }
             if set_text(alloc, &mut table, cap)?.is_err() {
                 return Err(Trouble::Wrong("a value was refused with memory there"));
             }
         }
-        tried.add(laid(alloc, &table)?.as_slice());
+        tried.add(entry_bytes(alloc, &table)?.as_slice());
     }
     if NAMES.is_empty() || !has_no_nul(NAMES) {
         return Err(Trouble::Wrong("the names hold a NUL"));

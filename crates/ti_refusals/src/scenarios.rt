@@ -1,7 +1,7 @@
 //! The scenarios, and their names.
 use crate::{calls, entries, listings, scripts, strings, tools};
 use std::alloc::Global;
-use ti_tried_edits::blocks::{circular, moves, owners, three};
+use ti_tried_edits::blocks::{circular_edits, moves, owners, three};
 use ti_tried_edits::many::Many;
 use ti_tried_edits::{Tried, Trouble, edits, many, wholes};
 
@@ -82,12 +82,12 @@ impl Scenario {
     pub fn run(self, alloc: Global) -> Result<Tried, Trouble> {
         match self {
             Scenario::Three => edits::apply_all(alloc, &three()),
-            Scenario::Circular => edits::apply_all(alloc, &circular()),
+            Scenario::Circular => edits::apply_all(alloc, &circular_edits()),
             Scenario::Owners => edits::apply_all(alloc, &owners()),
             Scenario::Moves => edits::apply_all(alloc, &moves()),
             Scenario::Limit => edits::apply_at_limit(alloc),
             Scenario::RunThree => wholes::run_all(alloc, &three()),
-            Scenario::RunCircular => wholes::run_all(alloc, &circular()),
+            Scenario::RunCircular => wholes::run_all(alloc, &circular_edits()),
             Scenario::RunOwners => wholes::run_all(alloc, &owners()),
             Scenario::RunMoves => wholes::run_all(alloc, &moves()),
             Scenario::RunLimit => wholes::run_at_limit(alloc),

@@ -12,7 +12,7 @@ use Rattle.ti_source.specs.Code.{is_error}
 use Rattle.ti_source.specs.Reading.{Said, ReadItem, ReadFault, Reading}
 use Rattle.ti_source.specs.Parsing.{reading_of_text}
 use Rattle.ti_layout.specs.Values.{Content, content_true, content_number, content_text, content_cancelled, Contents}
-use Rattle.ti_layout.specs.Image.{image, limit_of}
+use Rattle.ti_layout.specs.Image.{image, image_limit}
 use Rattle.ti_layout.specs.Laws.{without_cancel, ImagesAreOfValues, LimitsAreOfValues}
 use Rattle.ti_meaning.specs.Owner.{owner_block, readings}
 use Rattle.ti_meaning.specs.Expansion.{Mention, leftmost_content, values, is_broken, expand, expansion}
@@ -23,7 +23,7 @@ use Rattle.ti_list.specs.Listing.{items_for, listing}
 use Rattle.ti_relisting.specs.Shown.{CanHaveAll, IsWithinLimit}
 use Rattle.ti_relisting.specs.Laws.{PartsAreRead, ListingsCompile}
 use Rattle.ti_relisting.proofs.Orders.{all_in, all_in-all}
-use Rattle.ti_relisting.proofs.Laying.{listed-all, all-can, mentions_for, expand_says, expand_items-says, before, own-expands, all-say}
+use Rattle.ti_relisting.proofs.Listing.{listed-all, all-can, mentions_for, expand_says, expand_items-says, before, own-expands, all-say}
 
 pub uncancelled-twice : (o : Option Content) → without_cancel (without_cancel o) ≡ without_cancel o
 uncancelled-twice None = refl
@@ -57,8 +57,8 @@ entry-is images limits blocks block field table ms expands is_field tells within
     let same : (c : Capability) → IsCapability c → without_cancel (values ms c) ≡ without_cancel (table c) = λ c is. uncancelled-twice (leftmost_content ms c) ∙ tells c is in
     let is_image : image_of block ms ≡ image field table = ap (λ f. image f (values ms)) is_field ∙ images field (values ms) table same in
     let sizes : length (image_of block ms) ≡ length (image field table) = ap length is_image in
-    let limit : limit_of (values ms) ≡ limit_of table = limits (values ms) table same in
-    let fits : is_too_large block ms ≡ false = le-ltb (limit_of (values ms)) (length (image_of block ms)) (omega (arith, sizes, limit, within)) in
+    let limit : image_limit (values ms) ≡ image_limit table = limits (values ms) table same in
+    let fits : is_too_large block ms ≡ false = le-ltb (image_limit (values ms)) (length (image_of block ms)) (omega (arith, sizes, limit, within)) in
     ap (option_and_then (entry_of block)) expands ∙ (ap (λ b. cond b None (Some (image_of block ms))) fits ∙ ap (λ bytes. Some bytes) is_image)
 
 option_or-nothing : (o : Option Content) → option_or o None ≡ o

@@ -13,7 +13,7 @@ use Rattle.ti_source.specs.Sound.{EachIsWellRead}
 use Rattle.ti_spelling.specs.Spelling.{AreBytes}
 use Rattle.ti_spelling.specs.inside.Spelling.{UnescapedAgrees, ValuesAreSound}
 use Rattle.ti_layout.specs.Values.{Contents}
-use Rattle.ti_layout.specs.Image.{image, limit_of}
+use Rattle.ti_layout.specs.Image.{image, image_limit}
 use Rattle.ti_layout.specs.Reading.{Reads, EntriesHaveOneReading}
 use Rattle.ti_layout.specs.Laws.{without_cancel, ImagesAreRead, ImagesAreOfValues, LimitsAreOfValues}
 use Rattle.ti_meaning.specs.Owner.{owner_block, readings}
@@ -30,10 +30,10 @@ use Rattle.ti_relisting.proofs.Fitting.{MentionFits, ItemFits, items-fit, unbrok
 use Rattle.ti_relisting.proofs.Heading.{block-listable, first-lookup}
 use Rattle.ti_relisting.proofs.Compiling.{uncancelled-twice}
 use Rattle.ti_relisting.proofs.Relating.{All-at, uses-can, differing-can}
-use Rattle.ti_relisting.proofs.Laying.{listed-all, uses-tail, all-can}
+use Rattle.ti_relisting.proofs.Listing.{listed-all, uses-tail, all-can}
 use Rattle.ti_relisting.proofs.Orders.{all_in}
 use Rattle.ti_relisting.proofs.Standing.{single-cut}
-use Rattle.ti_relisting.specs.Laid.{uses_of}
+use Rattle.ti_relisting.specs.Layouts.{uses_of}
 use Rattle.ti_list.specs.Listing.{items_for, listing}
 
 -- the laws of the layers below
@@ -96,18 +96,18 @@ record HasImage (bytes : List ℕ) : Type 0 where
   pub no_nul : All (λ byte. byte ≢ 0) field
   pub fit : All MentionFits mentions
   pub is : image field (values mentions) ≡ bytes
-  pub within : length (image field (values mentions)) ≤ limit_of (values mentions)
+  pub within : length (image field (values mentions)) ≤ image_limit (values mentions)
 
 -- an entry is of mentions whose image is within the limit
 record IsImage (block : Reading) (ms : List Mention) (bytes : List ℕ) : Type 0 where
   pub is : image_of block ms ≡ bytes
-  pub within : length (image_of block ms) ≤ limit_of (values ms)
+  pub within : length (image_of block ms) ≤ image_limit (values ms)
 
 entry-image : (block : Reading) (ms : List Mention) (bytes : List ℕ) → entry_of block ms ≡ Some bytes → IsImage block ms bytes
 entry-image block ms bytes e =
     elim (cases_Bool (is_too_large block ms)) [
       | inl t ↦ absurd (none-some bytes (rw t at e))
-      | inr f ↦ record { is = same_Some (image_of block ms) bytes (rw f at e); within = ltb-false (limit_of (values ms)) (length (image_of block ms)) f }
+      | inr f ↦ record { is = same_Some (image_of block ms) bytes (rw f at e); within = ltb-false (image_limit (values ms)) (length (image_of block ms)) f }
     ]
 
 has-image : AreKnown → (texts : List (List ℕ)) (at : ℕ) (bytes : List ℕ) → All IsText texts → compiled texts at ≡ Some bytes → HasImage bytes
@@ -157,7 +157,7 @@ is-shown known bytes shown entry =
     let alike : (c : Capability) → IsCapability c → without_cancel (shown.table c) ≡ without_cancel (values ms c) = λ c is. ap without_cancel (tells c is) ∙ uncancelled-twice (values ms c) in
     let image_is : image shown.field shown.table ≡ bytes = ap (λ f. image f shown.table) same.0 ∙ known.images has.field shown.table (values ms) alike ∙ has.is in
     let sizes : length (image shown.field shown.table) ≡ length (image has.field (values ms)) = ap length (image_is ∙ sym has.is) in
-    let limit : limit_of shown.table ≡ limit_of (values ms) = known.limits shown.table (values ms) alike in
+    let limit : image_limit shown.table ≡ image_limit (values ms) = known.limits shown.table (values ms) alike in
     let is_within = has.within in
     record {
       can = record {

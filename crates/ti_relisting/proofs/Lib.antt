@@ -5,7 +5,7 @@ pub mod Words
 pub mod Stating
 pub mod ReadBack
 pub mod Orders
-pub mod Laying
+pub mod Listing
 pub mod Compiling
 pub mod Relating
 pub mod TextBytes

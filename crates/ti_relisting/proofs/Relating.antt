@@ -20,11 +20,11 @@ use Rattle.ti_list.specs.Items.{CanBeListed, IsReadAs}
 use Rattle.ti_list.specs.Listing.{listing}
 use Rattle.ti_list.specs.Relative.{Shown, first_name, same_content, first_of, difference, differing_contents, use_lines, relative, with_others}
 use Rattle.ti_list.specs.Listing.{items_for}
-use Rattle.ti_relisting.specs.Laid.{uses_of}
+use Rattle.ti_relisting.specs.Layouts.{uses_of}
 use Rattle.ti_relisting.specs.Shown.{CanHave, CanHaveAll, CanBeUsed}
 use Rattle.ti_relisting.specs.Laws.{PartsAreRead, RelativesCompile}
 use Rattle.ti_relisting.proofs.Orders.{all_in}
-use Rattle.ti_relisting.proofs.Laying.{listed-all, uses-tail, all-can, mentions_for, expand_says, before}
+use Rattle.ti_relisting.proofs.Listing.{listed-all, uses-tail, all-can, mentions_for, expand_says, before}
 use Rattle.ti_relisting.proofs.Compiling.{used_at, own-at, entry-is, listing-expands, all-tell}
 
 -- ---- what the entry and the others say together is what the entry says

@@ -5,7 +5,7 @@ use Rattle.ti_caps.specs.Tables.{Capability, IsCapability}
 use Rattle.ti_spelling.specs.Spelling.{AreBytes}
 use Rattle.ti_source.specs.Header.{IsLookupName}
 use Rattle.ti_layout.specs.Values.{Content, content_true, content_number, content_text, content_cancelled, Contents, Agrees}
-use Rattle.ti_layout.specs.Image.{image, limit_of}
+use Rattle.ti_layout.specs.Image.{image, image_limit}
 use Rattle.ti_list.specs.Items.{IsListable}
 use Rattle.ti_list.specs.Relative.{Shown, first_name}
 
@@ -23,7 +23,7 @@ CanHaveAll table = (c : Capability) → IsCapability c → CanHave c (table c)
 
 -- the image of the names field and the contents is within the limit
 abbrev pub IsWithinLimit : List ℕ → Contents → Type 0
-IsWithinLimit field table = length (image field table) ≤ limit_of table
+IsWithinLimit field table = length (image field table) ≤ image_limit table
 
 -- an entry whose names field and contents can be listed
 pub record CanBeShown (entry : Shown) : Type 0 where

@@ -1,5 +1,5 @@
 // Listings and relative sources, whatever the breaks of their lines.
-ghost use Rattle.ti_relisting.specs.Laid.{ListingsAreLaidOut, RelativesAreLaidOut};
+ghost use Rattle.ti_relisting.specs.Layouts.{ListingsAreLaidOut, RelativesAreLaidOut};
 
 /// A listing in any layout is its names field and the items of its entry, each on the line or on a new one; a relative source
 /// is its names field, the items in which the entry differs from the others, and a use of each of these.

@@ -4,7 +4,7 @@ use Rattle.std.specs.Io.KnownBytes.{Consumes, IsAtEnd}
 use Rattle.ti_devices.proofs.Written.{Consumes-then, Gives-none, Gives-then, TakesAll-none, TakesAll-then, TakesFront-more, TakesFront-then}
 use Rattle.ti_devices.specs.Counted.{Observed}
 use Rattle.ti_devices.specs.LineReader
-use Rattle.ti_devices.specs.LineReader.{CannotReadOn, ReadsLine, SpendsReads, ahead_of, limit_of, line_of, reads_left_of, reads_max}
+use Rattle.ti_devices.specs.LineReader.{CannotReadOn, ReadsLine, SpendsReads, ahead_of, line_limit_of, last_line_of, reads_left_of, reads_max}
 use Rattle.ti_devices.specs.Lines.{with_newline}
 use Rattle.ti_devices.specs.Reading.{Gives}
 use Rattle.ti_devices.specs.Writing.{TakesAll, Wrote}
@@ -14,27 +14,27 @@ use Rattle.ti_devices.specs.declared.tool_error.ToolError.{ToolError}
 use Rattle.ti_devices.specs.declared.tool_error.ToolError.TheVariants.{Usage, NoTerminal, BadEntry, ReadFault, WriteFault, LineTooLong, BlockTooLong, TooManyBlocks, Memory}
 use Rattle.ti_session.specs.declared.editor.Editor.{Editor}
 use Rattle.ti_session.specs.inside.Editor.{ActsOn, HasState}
-use Rattle.ti_session.specs.Script.{Complete, IsShortLine, Session, State, closing_reply, script_line_max, meaning_in, start}
+use Rattle.ti_session.specs.Script.{Complete, IsShortLine, Session, SessionState, closing_reply, script_line_max, meaning_in, session_start}
 use Rattle.ti_session.specs.Streaming.{Ends}
 use Rattle.ti_session.proofs.Running.{Complete-last, Complete-ran, Ran, Ran-line, Ran-none, SoFar-ran, bytes_of, bytes_of-more}
 
 -- the lines that were read are answered, and what was read behind them is ahead
 pub record Progress (given left : Observed) (reading : LineReader) (editor : Editor) (before now : Observed) : Type 0 where
   pub lines : List (List ℕ)
-  pub state : State
+  pub state : SessionState
   pub output : List ℕ
   pub ran : Ran lines state output
   pub gives : Gives given left (bytes_of lines ++ ahead_of reading)
   pub holds : HasState editor state
   pub written : TakesAll before now output
-  pub limit : limit_of reading ≡ script_line_max
+  pub limit : line_limit_of reading ≡ script_line_max
   pub reads : reads_left_of reading + left.reads ≡ reads_max + given.reads
 
-pub Progress-start : (given before : Observed) (reading : LineReader) (editor : Editor) → limit_of reading ≡ script_line_max
-    → ahead_of reading ≡ [] → reads_left_of reading ≡ reads_max → HasState editor start → Progress given given reading editor before before
+pub Progress-start : (given before : Observed) (reading : LineReader) (editor : Editor) → line_limit_of reading ≡ script_line_max
+    → ahead_of reading ≡ [] → reads_left_of reading ≡ reads_max → HasState editor session_start → Progress given given reading editor before before
 Progress-start given before reading editor limit ahead reads holds = record {
   lines = [];
-  state = start;
+  state = session_start;
   output = [];
   ran = Ran-none;
   gives = subst (λ (t : List ℕ). Gives given given t) (sym ahead) (Gives-none given);
@@ -55,26 +55,26 @@ module _ (given left : Observed) (reading : LineReader) (editor : Editor) (befor
   spent : (next : LineReader) (later : Observed) → SpendsReads reading next left later → reads_left_of next + later.reads ≡ reads_max + given.reads
   spent next later s = s.reads ∙ p.reads
 
-  short : (line : List ℕ) → length line ≤ limit_of reading → IsShortLine line
+  short : (line : List ℕ) → length line ≤ line_limit_of reading → IsShortLine line
   short line low = subst (λ (n : ℕ). length line ≤ n) p.limit low
 
   -- a line with its newline was read
   module _ (next : LineReader) (later : Observed) (r : ReadsLine reading next left later (Ok Line)) where
-    gives-line : Gives given later ((bytes_of p.lines ++ with_newline (line_of next)) ++ ahead_of next)
+    gives-line : Gives given later ((bytes_of p.lines ++ with_newline (last_line_of next)) ++ ahead_of next)
     gives-line =
         subst (λ (t : List ℕ). Gives given later t)
-        (ap (λ (t : List ℕ). bytes_of p.lines ++ t) r.2 ∙ sym (append_assoc (bytes_of p.lines) (with_newline (line_of next)) (ahead_of next)))
+        (ap (λ (t : List ℕ). bytes_of p.lines ++ t) r.2 ∙ sym (append_assoc (bytes_of p.lines) (with_newline (last_line_of next)) (ahead_of next)))
         (gives-more later r.0 r.1)
 
     pub Progress-line : (editor2 : Editor) (now2 : Observed) → SpendsReads reading next left later
-        → ActsOn (meaning_in p.state.mode (line_of next)) p.state editor2 now now2 (Ok tt)
+        → ActsOn (meaning_in p.state.mode (last_line_of next)) p.state editor2 now now2 (Ok tt)
         → Progress given later next editor2 before now2
     Progress-line editor2 now2 s acts = record {
-      lines = p.lines ++ line_of next ∷ [];
+      lines = p.lines ++ last_line_of next ∷ [];
       state = acts.next;
       output = p.output ++ acts.reply;
-      ran = Ran-line p.lines p.state acts.next (line_of next) p.output acts.reply p.ran r.3 (short (line_of next) r.4) acts.leads;
-      gives = subst (λ (t : List ℕ). Gives given later (t ++ ahead_of next)) (sym (bytes_of-more p.lines (line_of next))) gives-line;
+      ran = Ran-line p.lines p.state acts.next (last_line_of next) p.output acts.reply p.ran r.3 (short (last_line_of next) r.4) acts.leads;
+      gives = subst (λ (t : List ℕ). Gives given later (t ++ ahead_of next)) (sym (bytes_of-more p.lines (last_line_of next))) gives-line;
       holds = acts.holds;
       written = TakesAll-then before now now2 p.output acts.reply p.written acts.wrote;
       limit = s.limit ∙ p.limit;
@@ -82,15 +82,15 @@ module _ (given left : Observed) (reading : LineReader) (editor : Editor) (befor
     }
 
     pub Ends-line : (editor2 : Editor) (now2 : Observed) (e : ToolError)
-        → ActsOn (meaning_in p.state.mode (line_of next)) p.state editor2 now now2 (Err e) → Ends given later before now2 (Err e)
+        → ActsOn (meaning_in p.state.mode (last_line_of next)) p.state editor2 now now2 (Err e) → Ends given later before now2 (Err e)
     Ends-line editor2 now2 e acts =
-        let ran = Ran-line p.lines p.state acts.next (line_of next) p.output acts.reply p.ran r.3 (short (line_of next) r.4) acts.leads in
+        let ran = Ran-line p.lines p.state acts.next (last_line_of next) p.output acts.reply p.ran r.3 (short (last_line_of next) r.4) acts.leads in
         subst (λ (x : ToolError). Ends given later before now2 (Err x)) (sym acts.wrote.0) (record {
-          taken = bytes_of (p.lines ++ line_of next ∷ []);
+          taken = bytes_of (p.lines ++ last_line_of next ∷ []);
           rest = ahead_of next;
           output = p.output ++ acts.reply;
-          gives = subst (λ (t : List ℕ). Gives given later (t ++ ahead_of next)) (sym (bytes_of-more p.lines (line_of next))) gives-line;
-          is_output = inl ([], acts.next, rw append-nil at (SoFar-ran (p.lines ++ line_of next ∷ []) acts.next [] (p.output ++ acts.reply) ran tt));
+          gives = subst (λ (t : List ℕ). Gives given later (t ++ ahead_of next)) (sym (bytes_of-more p.lines (last_line_of next))) gives-line;
+          is_output = inl ([], acts.next, rw append-nil at (SoFar-ran (p.lines ++ last_line_of next ∷ []) acts.next [] (p.output ++ acts.reply) ran tt));
           written = TakesFront-then before now now2 p.output acts.reply p.written acts.wrote.1;
         })
 
@@ -138,7 +138,7 @@ module _ (given left : Observed) (reading : LineReader) (editor : Editor) (befor
   Ends-fault next later Memory r s = absurd r
 
 -- all of the input was taken, with these replies
-module _ (given left before : Observed) (input : List ℕ) (gives : Gives given left input) (at_end : IsAtEnd left.bytes) (end : State)
+module _ (given left before : Observed) (input : List ℕ) (gives : Gives given left input) (at_end : IsAtEnd left.bytes) (end : SessionState)
     (replies : List ℕ) (complete : Complete input end replies) where
   abbrev whole : Session input (replies ++ closing_reply end.mode)
   whole = record { end = end; replies = replies; complete = complete; whole = refl }
@@ -174,7 +174,7 @@ module _ (given left : Observed) (reading : LineReader) (editor : Editor) (befor
     (p : Progress given left reading editor before now) (next : LineReader) (later : Observed) where
   -- the script has ended behind a newline
   pub Ends-end : ReadsLine reading next left later (Ok End) → (now2 : Observed) (result : Result Unit ToolError)
-      → ((s : State) → HasState editor s → Wrote now now2 (closing_reply s.mode) result) → Ends given later before now2 result
+      → ((s : SessionState) → HasState editor s → Wrote now now2 (closing_reply s.mode) result) → Ends given later before now2 result
   Ends-end r now2 result closes =
       let gives : Gives given later (bytes_of p.lines) =
       subst (λ (t : List ℕ). Gives given later t)
@@ -185,26 +185,26 @@ module _ (given left : Observed) (reading : LineReader) (editor : Editor) (befor
 
   -- the script has ended behind a last line without newline
   module _ (r : ReadsLine reading next left later (Ok LastLine)) where
-    gives-last : Gives given later (bytes_of p.lines ++ line_of next)
+    gives-last : Gives given later (bytes_of p.lines ++ last_line_of next)
     gives-last =
         subst (λ (t : List ℕ). Gives given later (bytes_of p.lines ++ t)) r.2 (gives-more given left reading editor before now p later r.0 r.1)
 
     module _ (editor2 : Editor) (middle : Observed) where
-      pub Ends-last : (acts : ActsOn (meaning_in p.state.mode (line_of next)) p.state editor2 now middle (Ok tt)) (now2 : Observed)
-          (result : Result Unit ToolError) → ((s : State) → HasState editor2 s → Wrote middle now2 (closing_reply s.mode) result)
+      pub Ends-last : (acts : ActsOn (meaning_in p.state.mode (last_line_of next)) p.state editor2 now middle (Ok tt)) (now2 : Observed)
+          (result : Result Unit ToolError) → ((s : SessionState) → HasState editor2 s → Wrote middle now2 (closing_reply s.mode) result)
           → Ends given later before now2 result
       Ends-last acts now2 result closes =
-          let complete = Complete-last p.lines p.state acts.next (line_of next) p.output acts.reply p.ran r.4
-          (short given left reading editor before now p (line_of next) r.5) r.6 acts.leads in
-          Ends-closed given later before (bytes_of p.lines ++ line_of next) gives-last r.3 acts.next (p.output ++ acts.reply) complete
+          let complete = Complete-last p.lines p.state acts.next (last_line_of next) p.output acts.reply p.ran r.4
+          (short given left reading editor before now p (last_line_of next) r.5) r.6 acts.leads in
+          Ends-closed given later before (bytes_of p.lines ++ last_line_of next) gives-last r.3 acts.next (p.output ++ acts.reply) complete
           middle now2 result (TakesAll-then before now middle p.output acts.reply p.written acts.wrote) (closes acts.next acts.holds)
 
-      pub Ends-last_cut : (e : ToolError) → ActsOn (meaning_in p.state.mode (line_of next)) p.state editor2 now middle (Err e)
+      pub Ends-last_cut : (e : ToolError) → ActsOn (meaning_in p.state.mode (last_line_of next)) p.state editor2 now middle (Err e)
           → Ends given later before middle (Err e)
       Ends-last_cut e acts =
-          let complete = Complete-last p.lines p.state acts.next (line_of next) p.output acts.reply p.ran r.4
-          (short given left reading editor before now p (line_of next) r.5) r.6 acts.leads in
-          Ends-cut given later before (bytes_of p.lines ++ line_of next) gives-last r.3 acts.next (p.output ++ acts.reply) complete middle e (
+          let complete = Complete-last p.lines p.state acts.next (last_line_of next) p.output acts.reply p.ran r.4
+          (short given left reading editor before now p (last_line_of next) r.5) r.6 acts.leads in
+          Ends-cut given later before (bytes_of p.lines ++ last_line_of next) gives-last r.3 acts.next (p.output ++ acts.reply) complete middle e (
             acts.wrote.0,
             TakesFront-more before middle (p.output ++ acts.reply) (closing_reply acts.next.mode)
                 (TakesFront-then before now middle p.output acts.reply p.written acts.wrote.1),

@@ -22,7 +22,7 @@ use Rattle.ti_devices.specs.Lines.{with_newline}
 use Rattle.ti_devices.specs.Writing.{Wrote}
 use Rattle.ti_session.specs.inside.Replies.{CarriesOut, WroteReport}
 use Rattle.ti_session.specs.inside.Requests.{mode_of, opened_change, opened_mode}
-use Rattle.ti_session.specs.Script.{Answers, Command, EditsSource, Leads, Meaning, Mode, Shows, Source, State, meaning_outside, asks, edits, goes_on, meaning_in, outcome_text, outside, print_reply, prints, rebuilds, reports, source, state}
+use Rattle.ti_session.specs.Script.{AnswersCommand, Command, EditsSource, LineLeads, Meaning, Mode, Shows, Source, SessionState, meaning_outside, asks, edits, goes_on, meaning_in, outcome_text, outside, print_reply, prints, rebuilds, reports, source, state}
 use Rattle.ti_devices.proofs.Written.{TakesAll-none}
 
 -- ---- a block of which only the front is held
@@ -74,7 +74,7 @@ EditsSource-of_front opened source next text limit outcome room edited = elim (d
 
 -- ---- holding
 
-pub HasState-outside : (d d2 : Editor) (s : State) → s.mode ≡ outside → HasState d s → d2.block ≡ d.block → d2.opened ≡ d.opened
+pub HasState-outside : (d d2 : Editor) (s : SessionState) → s.mode ≡ outside → HasState d s → d2.block ≡ d.block → d2.opened ≡ d.opened
     → HasState d2 (state (source_of d2) outside)
 HasState-outside d d2 s is held same_block same_opened = record {
   text = held.text;
@@ -84,7 +84,7 @@ HasState-outside d d2 s is held same_block same_opened = record {
   room = rw same_block held.room;
 }
 
-pub HasState-closed : (d d2 : Editor) (s : State) → HasState d s → d2.block ≡ d.block → d2.opened ≡ None
+pub HasState-closed : (d d2 : Editor) (s : SessionState) → HasState d s → d2.block ≡ d.block → d2.opened ≡ None
     → HasState d2 (state (source_of d2) outside)
 HasState-closed d d2 s held same_block none = record {
   text = held.text;
@@ -94,7 +94,7 @@ HasState-closed d d2 s held same_block none = record {
   room = rw same_block held.room;
 }
 
-pub HasState-opened : (d d2 : Editor) (s : State) (opened : Opened) → HasState d s → source_of d2 ≡ source_of d → d2.block.bytes ≡ []
+pub HasState-opened : (d d2 : Editor) (s : SessionState) (opened : Opened) → HasState d s → source_of d2 ≡ source_of d → d2.block.bytes ≡ []
     → d2.block.limit ≡ d.block.limit → d2.opened ≡ Some opened → HasState d2 (state s.source (opened_mode opened []))
 HasState-opened d d2 s opened held same_source empty same_limit is = record {
   text = [];
@@ -104,7 +104,7 @@ HasState-opened d d2 s opened held same_source empty same_limit is = record {
   room = rw same_limit held.room;
 }
 
-pub HasState-added : (d d2 : Editor) (s : State) (opened : Opened) (line : List ℕ) (held : HasState d s) → d2.database ≡ d.database
+pub HasState-added : (d d2 : Editor) (s : SessionState) (opened : Opened) (line : List ℕ) (held : HasState d s) → d2.database ≡ d.database
     → d2.rebuilt ≡ d.rebuilt → d.opened ≡ Some opened → d2.opened ≡ d.opened → d2.block.limit ≡ d.block.limit
     → d2.block.bytes ≡ take d.block.limit (take d.block.limit (d.block.bytes ++ line) ++ 10 ∷ [])
     → HasState d2 (state s.source (opened_mode opened (held.text ++ with_newline line)))
@@ -146,35 +146,35 @@ meaning_in-meaning_outside mode line is = ap (λ (m : Mode). meaning_in m line) 
 
 -- ---- what a line leads to
 
-pub ActsOn-on : (meaning : Meaning) (s : State) (d : Editor) (now : Observed) (mode : Mode) → meaning ≡ goes_on mode
+pub ActsOn-on : (meaning : Meaning) (s : SessionState) (d : Editor) (now : Observed) (mode : Mode) → meaning ≡ goes_on mode
     → HasState d (state s.source mode) → ActsOn meaning s d now now (Ok tt)
 ActsOn-on meaning s d now mode is held = record {
   next = state s.source mode;
   reply = [];
-  leads = subst (λ (m : Meaning). Leads m s (state s.source mode) []) (sym is) (refl, refl);
+  leads = subst (λ (m : Meaning). LineLeads m s (state s.source mode) []) (sym is) (refl, refl);
   holds = held;
   wrote = TakesAll-none now;
 }
 
-pub ActsOn-asks : (meaning : Meaning) (s : State) (d : Editor) (before now : Observed) (result : Result Unit ToolError) (command : Command)
-    (reply : List ℕ) → meaning ≡ asks command → Answers s.source command (source_of d) reply → HasState d (state (source_of d) outside)
+pub ActsOn-asks : (meaning : Meaning) (s : SessionState) (d : Editor) (before now : Observed) (result : Result Unit ToolError) (command : Command)
+    (reply : List ℕ) → meaning ≡ asks command → AnswersCommand s.source command (source_of d) reply → HasState d (state (source_of d) outside)
     → Wrote before now reply result → ActsOn meaning s d before now result
 ActsOn-asks meaning s d before now result command reply is answers held wrote = record {
   next = state (source_of d) outside;
   reply = reply;
-  leads = subst (λ (m : Meaning). Leads m s (state (source_of d) outside) reply) (sym is) (refl, answers);
+  leads = subst (λ (m : Meaning). LineLeads m s (state (source_of d) outside) reply) (sym is) (refl, answers);
   holds = held;
   wrote = wrote;
 }
 
-pub ActsOn-edits : (meaning : Meaning) (s : State) (d : Editor) (before now : Observed) (result : Result Unit ToolError) (change : Change)
+pub ActsOn-edits : (meaning : Meaning) (s : SessionState) (d : Editor) (before now : Observed) (result : Result Unit ToolError) (change : Change)
     (source : Source) → meaning ≡ asks (edits change) → source ≡ s.source → CarriesOut source change (source_of d) before now result
     → HasState d (state (source_of d) outside) → ActsOn meaning s d before now result
 ActsOn-edits meaning s d before now result change source is same carried held =
     ActsOn-asks meaning s d before now result (edits change) (outcome_text carried.outcome) is
     (carried.outcome, subst (λ (x : Source). EditsSource x change carried.outcome (source_of d)) same carried.edited, refl) held carried.wrote
 
-pub ActsOn-reports : (meaning : Meaning) (s : State) (d : Editor) (before now : Observed) (result : Result Unit ToolError)
+pub ActsOn-reports : (meaning : Meaning) (s : SessionState) (d : Editor) (before now : Observed) (result : Result Unit ToolError)
     (source : Source) → meaning ≡ asks reports → source ≡ s.source → source_of d ≡ source → WroteReport source.texts before now result
     → HasState d (state (source_of d) outside) → ActsOn meaning s d before now result
 ActsOn-reports meaning s d before now result source is same kept (inl wrote) held =
@@ -182,19 +182,19 @@ ActsOn-reports meaning s d before now result source is same kept (inl wrote) hel
 ActsOn-reports meaning s d before now result source is same kept (inr wrote) held =
     ActsOn-asks meaning s d before now result reports _ is (kept ∙ same, inr refl) held wrote
 
-pub ActsOn-same : (meaning other : Meaning) (s : State) (d : Editor) (before now : Observed) (result : Result Unit ToolError) → meaning ≡ other
+pub ActsOn-same : (meaning other : Meaning) (s : SessionState) (d : Editor) (before now : Observed) (result : Result Unit ToolError) → meaning ≡ other
     → ActsOn other s d before now result → ActsOn meaning s d before now result
 ActsOn-same meaning other s d before now result is led =
     subst (λ (m : Meaning). ActsOn m s d before now result) (sym is) led
 
-pub ActsOn-prints : (meaning : Meaning) (s : State) (d : Editor) (before now : Observed) (result : Result Unit ToolError) (at : ℕ)
+pub ActsOn-prints : (meaning : Meaning) (s : SessionState) (d : Editor) (before now : Observed) (result : Result Unit ToolError) (at : ℕ)
     (source : Source) → meaning ≡ asks (prints at) → source ≡ s.source → source_of d ≡ source → Wrote before now (print_reply source.texts at) result
     → HasState d (state (source_of d) outside) → ActsOn meaning s d before now result
 ActsOn-prints meaning s d before now result at source is same kept wrote held =
     ActsOn-asks meaning s d before now result (prints at) (print_reply source.texts at) is
     (kept ∙ same, ap (λ (x : Source). print_reply x.texts at) same) held wrote
 
-pub ActsOn-rebuilds : (meaning : Meaning) (s : State) (d : Editor) (before now : Observed) (result : Result Unit ToolError)
+pub ActsOn-rebuilds : (meaning : Meaning) (s : SessionState) (d : Editor) (before now : Observed) (result : Result Unit ToolError)
     (source : Source) → meaning ≡ asks rebuilds → source ≡ s.source → source_of d ≡ source → Wrote before now (places_text source.rebuilt) result
     → HasState d (state (source_of d) outside) → ActsOn meaning s d before now result
 ActsOn-rebuilds meaning s d before now result source is same kept wrote held =

@@ -7,7 +7,7 @@ use Rattle.ti_meaning.specs.declared.edits.Outcome.TheVariants.{Accepted, Refuse
 use Rattle.ti_session.specs.ScriptLaws.{OneAnswer, OneOutput, DifferAtMemory, SaysMemory}
 use Rattle.ti_devices.proofs.CutLines.{one_split-law}
 use Rattle.ti_devices.specs.Lines.{with_last}
-use Rattle.ti_session.specs.Script.{Answers, Mode, Runs, Shows, Source, State, asks, closing_reply, edits, goes_on, meaning_in, outcome_text, outside, prints, rebuilds, refused_text, reports, source, start, state, nothing_known}
+use Rattle.ti_session.specs.Script.{AnswersCommand, Mode, Runs, Shows, Source, SessionState, asks, closing_reply, edits, goes_on, meaning_in, outcome_text, outside, prints, rebuilds, refused_text, reports, source, session_start, state, nothing_known}
 use Rattle.ti_meaning.proofs.ExchangeLaws.{one_rebuilt}
 
 -- ---- answers
@@ -50,10 +50,10 @@ Step-one texts next later change (Refused TooMany) (Refused TooMany) x y = inr (
 Source-same : (a b : Source) → a.texts ≡ b.texts → a.rebuilt ≡ b.rebuilt → a ≡ b
 Source-same a b texts rebuilt = ap (λ (t : List (List ℕ)). source t a.rebuilt) texts ∙ ap (λ (r : List ℕ). source b.texts r) rebuilt
 
-State-same : (a b : State) → a.source ≡ b.source → a.mode ≡ b.mode → a ≡ b
+State-same : (a b : SessionState) → a.source ≡ b.source → a.mode ≡ b.mode → a ≡ b
 State-same a b same mode = ap (λ (x : Source). state x a.mode) same ∙ ap (λ (m : Mode). state b.source m) mode
 
-Leads-same : (after other : State) → after.mode ≡ outside → other.mode ≡ outside → after.source ≡ other.source → after ≡ other
+Leads-same : (after other : SessionState) → after.mode ≡ outside → other.mode ≡ outside → after.source ≡ other.source → after ≡ other
 Leads-same after other a b same = State-same after other same (a ∙ sym b)
 
 Shows-one : (texts : List (List ℕ)) (change : Change) (outcome : Outcome) (before now other : List ℕ) → Shows texts change outcome before now
@@ -61,8 +61,8 @@ Shows-one : (texts : List (List ℕ)) (change : Change) (outcome : Outcome) (bef
 Shows-one texts change Accepted before now other x y = (one_rebuilt texts change now other x.0 y.0 x.1 y.1).0
 Shows-one texts change (Refused error) before now other x y = x ∙ sym y
 
-edits-one : (source : Source) (after other : State) (reply answer : List ℕ) (change : Change) → after.mode ≡ outside → other.mode ≡ outside
-    → Answers source (edits change) after.source reply → Answers source (edits change) other.source answer
+edits-one : (source : Source) (after other : SessionState) (reply answer : List ℕ) (change : Change) → after.mode ≡ outside → other.mode ≡ outside
+    → AnswersCommand source (edits change) after.source reply → AnswersCommand source (edits change) other.source answer
     → (reply ≡ refused_text Memory) ⊎ (answer ≡ refused_text Memory) ⊎ ((after ≡ other) × (reply ≡ answer))
 edits-one source after other reply answer change a b x y =
     elim (Step-one source.texts after.source.texts other.source.texts change x.0 y.0 x.1.step y.1.step) [
@@ -74,8 +74,8 @@ edits-one source after other reply answer change a b x y =
           inr (inr (Leads-same after other a b (Source-same after.source other.source same.1 rebuilt), x.2 ∙ ap outcome_text same.0 ∙ sym y.2))
     ]
 
-reports-one : (source : Source) (after other : State) (reply answer : List ℕ) → after.mode ≡ outside → other.mode ≡ outside
-    → Answers source reports after.source reply → Answers source reports other.source answer
+reports-one : (source : Source) (after other : SessionState) (reply answer : List ℕ) → after.mode ≡ outside → other.mode ≡ outside
+    → AnswersCommand source reports after.source reply → AnswersCommand source reports other.source answer
     → (reply ≡ refused_text Memory) ⊎ (answer ≡ refused_text Memory) ⊎ ((after ≡ other) × (reply ≡ answer))
 reports-one source after other reply answer a b x y =
     elim x.1 [
@@ -131,14 +131,14 @@ DifferAtMemory-before output other more most part = record {
 DifferAtMemory-here : (output other : List ℕ) → SaysMemory output ⊎ SaysMemory other → DifferAtMemory output other
 DifferAtMemory-here output other wants = record { front = []; rest = output; other_rest = other; is = refl; other_is = refl; wants = wants }
 
-Runs-one : (lines : List (List ℕ)) (before after last : State) (output other : List ℕ) → Runs lines before after output
+Runs-one : (lines : List (List ℕ)) (before after last : SessionState) (output other : List ℕ) → Runs lines before after output
     → Runs lines before last other → ((after ≡ last) × (output ≡ other)) ⊎ DifferAtMemory output other
 Runs-one [] before after last output other x y = inl (x.0 ∙ sym y.0, x.1 ∙ sym y.1)
 Runs-one (line ∷ lines) before after last output other x y =
     elim (one_answer-law (meaning_in before.mode line) before x.0 y.0 x.1 y.1 x.3 y.3) [
       | inl memory ↦ inr (DifferAtMemory-here output other (inl (x.2, x.5 ∙ ap (λ (r : List ℕ). r ++ x.2) memory)))
       | inr (inl memory) ↦ inr (DifferAtMemory-here output other (inr (y.2, y.5 ∙ ap (λ (r : List ℕ). r ++ y.2) memory)))
-      | inr (inr same) ↦ elim (Runs-one lines x.0 after last x.2 y.2 x.4 (subst (λ (s : State). Runs lines s last y.2) (sym same.0) y.4)) [
+      | inr (inr same) ↦ elim (Runs-one lines x.0 after last x.2 y.2 x.4 (subst (λ (s : SessionState). Runs lines s last y.2) (sym same.0) y.4)) [
         | inl equal ↦ inl (
           equal.0,
           x.5 ∙ ap (λ (r : List ℕ). r ++ x.2) same.1 ∙ ap (λ (r : List ℕ). y.1 ++ r) equal.1 ∙ sym y.5,
@@ -158,10 +158,10 @@ one_output-law input output other a b =
     let same = one_split-law input x.lines y.lines x.rest y.rest x.split y.split in
     let lines : with_last x.lines x.rest ≡ with_last y.lines y.rest =
     ap (λ (ls : List (List ℕ)). with_last ls x.rest) same.0 ∙ ap (λ (r : List ℕ). with_last y.lines r) same.1 in
-    elim (Runs-one (with_last x.lines x.rest) start a.end b.end a.replies b.replies x.ran
-    (subst (λ (ls : List (List ℕ)). Runs ls start b.end b.replies) (sym lines) y.ran)) [
+    elim (Runs-one (with_last x.lines x.rest) session_start a.end b.end a.replies b.replies x.ran
+    (subst (λ (ls : List (List ℕ)). Runs ls session_start b.end b.replies) (sym lines) y.ran)) [
       | inl equal ↦ inl (a.whole ∙ ap (λ (r : List ℕ). r ++ closing_reply a.end.mode) equal.1
-          ∙ ap (λ (s : State). b.replies ++ closing_reply s.mode) equal.0 ∙ sym b.whole)
+          ∙ ap (λ (s : SessionState). b.replies ++ closing_reply s.mode) equal.0 ∙ sym b.whole)
       | inr part ↦ inr (subst (λ (o : List ℕ). DifferAtMemory output o) (sym b.whole)
           (subst (λ (o : List ℕ). DifferAtMemory o (b.replies ++ closing_reply b.end.mode)) (sym a.whole)
           (DifferAtMemory-before a.replies b.replies (closing_reply a.end.mode) (closing_reply b.end.mode) part)))

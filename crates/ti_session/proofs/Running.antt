@@ -4,15 +4,15 @@ use Rattle.std.proofs.lemmas.Grind.{flat_map-append}
 use Rattle.std.specs.List.{flat_map, AllByRecursion}
 use Rattle.ti_devices.proofs.LineSteps.{AllByRecursion-push}
 use Rattle.ti_devices.specs.Lines.{IsOneLine, with_newline}
-use Rattle.ti_session.specs.Script.{Complete, IsShortLine, Leads, Runs, SoFar, State, meaning_in, start}
+use Rattle.ti_session.specs.Script.{Complete, IsShortLine, LineLeads, Runs, SoFar, SessionState, meaning_in, session_start}
 
-pub Runs-push : (lines : List (List ℕ)) (s t u : State) (o reply line : List ℕ) → Runs lines s t o
-    → Leads (meaning_in t.mode line) t u reply → Runs (lines ++ line ∷ []) s u (o ++ reply)
+pub Runs-push : (lines : List (List ℕ)) (s t u : SessionState) (o reply line : List ℕ) → Runs lines s t o
+    → LineLeads (meaning_in t.mode line) t u reply → Runs (lines ++ line ∷ []) s u (o ++ reply)
 Runs-push [] s t u o reply line ran leads = (
   u,
   reply,
   [],
-  subst (λ (x : State). Leads (meaning_in x.mode line) x u reply) ran.0 leads,
+  subst (λ (x : SessionState). LineLeads (meaning_in x.mode line) x u reply) ran.0 leads,
   (refl, refl),
   ap (λ (x : List ℕ). x ++ reply) ran.1 ∙ sym (append-nil reply),
 )
@@ -26,12 +26,12 @@ Runs-push (first ∷ lines) s t u o reply line ran leads = (
 )
 
 -- these lines, each with its newline, are within the limit and have led to that state, with their replies
-pub record Ran (lines : List (List ℕ)) (end : State) (output : List ℕ) : Type 0 where
+pub record Ran (lines : List (List ℕ)) (end : SessionState) (output : List ℕ) : Type 0 where
   pub each : AllByRecursion IsOneLine lines
   pub short : AllByRecursion IsShortLine lines
-  pub ran : Runs lines start end output
+  pub ran : Runs lines session_start end output
 
-pub Ran-none : Ran [] start []
+pub Ran-none : Ran [] session_start []
 Ran-none = record { each = tt; short = tt; ran = (refl, refl) }
 
 -- the bytes of lines that are complete
@@ -42,16 +42,16 @@ pub bytes_of-more : (lines : List (List ℕ)) (line : List ℕ) → bytes_of (li
 bytes_of-more lines line =
     flat_map-append with_newline lines (line ∷ []) ∙ ap (λ (t : List ℕ). bytes_of lines ++ t) (append-nil (with_newline line))
 
-pub Ran-line : (lines : List (List ℕ)) (s next : State) (line output reply : List ℕ) → Ran lines s output → IsOneLine line → IsShortLine line
-    → Leads (meaning_in s.mode line) s next reply → Ran (lines ++ line ∷ []) next (output ++ reply)
+pub Ran-line : (lines : List (List ℕ)) (s next : SessionState) (line output reply : List ℕ) → Ran lines s output → IsOneLine line → IsShortLine line
+    → LineLeads (meaning_in s.mode line) s next reply → Ran (lines ++ line ∷ []) next (output ++ reply)
 Ran-line lines s next line output reply r one short leads = record {
   each = AllByRecursion-push IsOneLine lines line r.each one;
   short = AllByRecursion-push IsShortLine lines line r.short short;
-  ran = Runs-push lines start s next output reply line r.ran leads;
+  ran = Runs-push lines session_start s next output reply line r.ran leads;
 }
 
-pub Complete-last : (lines : List (List ℕ)) (s next : State) (line output reply : List ℕ) → Ran lines s output → IsOneLine line
-    → IsShortLine line → 0 < length line → Leads (meaning_in s.mode line) s next reply
+pub Complete-last : (lines : List (List ℕ)) (s next : SessionState) (line output reply : List ℕ) → Ran lines s output → IsOneLine line
+    → IsShortLine line → 0 < length line → LineLeads (meaning_in s.mode line) s next reply
     → Complete (bytes_of lines ++ line) next (output ++ reply)
 Complete-last lines s next [] output reply r one short some leads = absurd (omega arith)
 Complete-last lines s next (byte ∷ line) output reply r one short some leads = record {
@@ -59,10 +59,10 @@ Complete-last lines s next (byte ∷ line) output reply r one short some leads =
   rest = byte ∷ line;
   split = record { whole = refl; each = r.each; partial = one };
   short = AllByRecursion-push IsShortLine lines (byte ∷ line) r.short short;
-  ran = Runs-push lines start s next output reply (byte ∷ line) r.ran leads;
+  ran = Runs-push lines session_start s next output reply (byte ∷ line) r.ran leads;
 }
 
-pub SoFar-ran : (lines : List (List ℕ)) (s : State) (line output : List ℕ) → Ran lines s output → IsOneLine line
+pub SoFar-ran : (lines : List (List ℕ)) (s : SessionState) (line output : List ℕ) → Ran lines s output → IsOneLine line
     → SoFar (bytes_of lines ++ line) line s output
 SoFar-ran lines s line output r one = record {
   lines = lines;
@@ -71,7 +71,7 @@ SoFar-ran lines s line output r one = record {
   ran = r.ran;
 }
 
-pub Complete-ran : (lines : List (List ℕ)) (s : State) (output : List ℕ) → Ran lines s output → Complete (bytes_of lines) s output
+pub Complete-ran : (lines : List (List ℕ)) (s : SessionState) (output : List ℕ) → Ran lines s output → Complete (bytes_of lines) s output
 Complete-ran lines s output r = record {
   lines = lines;
   rest = [];

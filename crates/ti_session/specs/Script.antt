@@ -62,14 +62,14 @@ meaning_with_number letter (Some n) =
     else asks nothing_known
 
 -- both numbers, where both are there
-abbrev pub both : Option ℕ → Option ℕ → Option (ℕ × ℕ)
-both (Some one) (Some other) = Some (one, other)
-both _ _ = None
+abbrev pub both_numbers : Option ℕ → Option ℕ → Option (ℕ × ℕ)
+both_numbers (Some one) (Some other) = Some (one, other)
+both_numbers _ _ = None
 
 -- the numbers before a place of the text and behind it
 abbrev pub numbers_around : List ℕ → Option ℕ → Option (ℕ × ℕ)
 numbers_around text None = None
-numbers_around text (Some place) = both (number (take place text)) (number (drop (place + 1) text))
+numbers_around text (Some place) = both_numbers (number (take place text)) (number (drop (place + 1) text))
 
 -- two numbers with one space between them
 abbrev pub two_numbers : List ℕ → Option (ℕ × ℕ)
@@ -159,33 +159,33 @@ pub record EditsSource (source : Source) (change : Change) (outcome : Outcome) (
 
 -- A command leads from one source to the next, with its reply. An edit without cause, and a report, may be refused for want
 -- of memory.
-abbrev pub Answers : Source → Command → Source → List ℕ → Type 0
-Answers source (edits change) next reply = (outcome : Outcome) × EditsSource source change outcome next × (reply ≡ outcome_text outcome)
-Answers source (prints at) next reply = (next ≡ source) × (reply ≡ print_reply source.texts at)
-Answers source reports next reply = (next ≡ source) × ((reply ≡ report source.texts 1 ++ with_newline (codes ".")) ⊎ (reply ≡ refused_text Memory))
-Answers source rebuilds next reply = (next ≡ source) × (reply ≡ places_text source.rebuilt)
-Answers source nothing_known next reply = (next ≡ source) × (reply ≡ with_newline (codes "unknown"))
+abbrev pub AnswersCommand : Source → Command → Source → List ℕ → Type 0
+AnswersCommand source (edits change) next reply = (outcome : Outcome) × EditsSource source change outcome next × (reply ≡ outcome_text outcome)
+AnswersCommand source (prints at) next reply = (next ≡ source) × (reply ≡ print_reply source.texts at)
+AnswersCommand source reports next reply = (next ≡ source) × ((reply ≡ report source.texts 1 ++ with_newline (codes ".")) ⊎ (reply ≡ refused_text Memory))
+AnswersCommand source rebuilds next reply = (next ≡ source) × (reply ≡ places_text source.rebuilt)
+AnswersCommand source nothing_known next reply = (next ≡ source) × (reply ≡ with_newline (codes "unknown"))
 
 -- between two lines: the source and the mode
-pub record State : Type 0 where
+pub record SessionState : Type 0 where
   pub source : Source
   pub mode : Mode
 
 -- the state of this source and that mode
-abbrev pub state : Source → Mode → State
+abbrev pub state : Source → Mode → SessionState
 state source mode = record { source = source; mode = mode }
 
 -- what a line of that meaning leads to, with its reply
-abbrev pub Leads : Meaning → State → State → List ℕ → Type 0
-Leads (goes_on mode) before after reply = (after ≡ state before.source mode) × (reply ≡ [])
-Leads (asks command) before after reply = (after.mode ≡ outside) × Answers before.source command after.source reply
+abbrev pub LineLeads : Meaning → SessionState → SessionState → List ℕ → Type 0
+LineLeads (goes_on mode) before after reply = (after ≡ state before.source mode) × (reply ≡ [])
+LineLeads (asks command) before after reply = (after.mode ≡ outside) × AnswersCommand before.source command after.source reply
 
 -- lines lead from one state to another, with their replies in order
-abbrev pub Runs : List (List ℕ) → State → State → List ℕ → Type 0
+abbrev pub Runs : List (List ℕ) → SessionState → SessionState → List ℕ → Type 0
 Runs [] before after output = (after ≡ before) × (output ≡ [])
 Runs (line ∷ lines) before after output =
-    (next : State) × (reply : List ℕ) × (later : List ℕ)
-    × Leads (meaning_in before.mode line) before next reply × Runs lines next after later × (output ≡ reply ++ later)
+    (next : SessionState) × (reply : List ℕ) × (later : List ℕ)
+    × LineLeads (meaning_in before.mode line) before next reply × Runs lines next after later × (output ≡ reply ++ later)
 
 -- a script that ends inside a block is answered so
 abbrev pub closing_reply : Mode → List ℕ
@@ -194,27 +194,27 @@ closing_reply (in_insertion at block) = with_newline (codes "unfinished")
 closing_reply (in_replacement at block) = with_newline (codes "unfinished")
 
 -- at the start there are no blocks, none was rebuilt, and none is open
-abbrev pub start : State
-start = state (source [] []) outside
+abbrev pub session_start : SessionState
+session_start = state (source [] []) outside
 
 -- lines within the limit are complete, and of a further line this front has come; they have led to that state, with their replies
-pub record SoFar (taken line : List ℕ) (end : State) (output : List ℕ) : Type 0 where
+pub record SoFar (taken line : List ℕ) (end : SessionState) (output : List ℕ) : Type 0 where
   pub lines : List (List ℕ)
   pub split : Splits taken lines line
   pub short : AllByRecursion IsShortLine lines
-  pub ran : Runs lines start end output
+  pub ran : Runs lines session_start end output
 
 -- all lines of the input, a last one without newline too, are within the limit and have led to that state, with their replies
-pub record Complete (input : List ℕ) (end : State) (replies : List ℕ) : Type 0 where
+pub record Complete (input : List ℕ) (end : SessionState) (replies : List ℕ) : Type 0 where
   pub lines : List (List ℕ)
   pub rest : List ℕ
   pub split : Splits input lines rest
   pub short : AllByRecursion IsShortLine (with_last lines rest)
-  pub ran : Runs (with_last lines rest) start end replies
+  pub ran : Runs (with_last lines rest) session_start end replies
 
 -- the output of a session that read this input to its end
 pub record Session (input output : List ℕ) : Type 0 where
-  pub end : State
+  pub end : SessionState
   pub replies : List ℕ
   pub complete : Complete input end replies
   pub whole : output ≡ replies ++ closing_reply end.mode

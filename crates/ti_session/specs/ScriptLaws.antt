@@ -1,12 +1,12 @@
 -- What the definition of a session leaves open (own): nothing but where memory is wanting.
 use Rattle.std.specs.Prelude.{◌≡◌, ℕ, List, ◌++◌, ◌⊎◌}
 use Rattle.ti_meaning.specs.declared.edits.EditError.TheVariants.{Memory}
-use Rattle.ti_session.specs.Script.{Leads, Meaning, Session, State, refused_text}
+use Rattle.ti_session.specs.Script.{LineLeads, Meaning, Session, SessionState, refused_text}
 
 -- a line leads from a state to one state, with one reply, unless one of two replies is that memory is wanting
 abbrev pub OneAnswer : Type 0
-OneAnswer = (meaning : Meaning) (before after other : State) (reply answer : List ℕ) → Leads meaning before after reply
-    → Leads meaning before other answer
+OneAnswer = (meaning : Meaning) (before after other : SessionState) (reply answer : List ℕ) → LineLeads meaning before after reply
+    → LineLeads meaning before other answer
     → (reply ≡ refused_text Memory) ⊎ (answer ≡ refused_text Memory) ⊎ ((after ≡ other) × (reply ≡ answer))
 
 -- these replies begin with the one that memory is wanting

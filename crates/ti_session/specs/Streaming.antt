@@ -7,7 +7,7 @@ use Rattle.ti_devices.specs.Reading.{Gives}
 use Rattle.ti_devices.specs.Writing.{TakesAll, TakesFront}
 use Rattle.ti_devices.specs.declared.tool_error.ToolError.{ToolError}
 use Rattle.ti_devices.specs.declared.tool_error.ToolError.TheVariants.{ReadFault, WriteFault, LineTooLong, Memory}
-use Rattle.ti_session.specs.Script.{IsShortLine, Session, SoFar, State, script_line_max}
+use Rattle.ti_session.specs.Script.{IsShortLine, Session, SoFar, SessionState, script_line_max}
 
 -- the script was read to its end, and all replies were written
 pub record Completes (given left before now : Observed) : Type 0 where
@@ -22,7 +22,7 @@ pub record Completes (given left before now : Observed) : Type 0 where
 pub record StopsReading (given left before now : Observed) : Type 0 where
   pub taken : List ℕ
   pub line : List ℕ
-  pub end : State
+  pub end : SessionState
   pub output : List ℕ
   pub gives : Consumes given.bytes left.bytes taken
   pub so_far : SoFar taken line end output
@@ -35,7 +35,7 @@ pub record FindsLongLine (given left before now : Observed) : Type 0 where
   pub taken : List ℕ
   pub rest : List ℕ
   pub line : List ℕ
-  pub end : State
+  pub end : SessionState
   pub output : List ℕ
   pub gives : Gives given left (taken ++ rest)
   pub so_far : SoFar taken line end output
@@ -46,9 +46,9 @@ pub record FindsLongLine (given left before now : Observed) : Type 0 where
 -- the input has ended, all
 abbrev pub IsOutput : List ℕ → List ℕ → Observed → List ℕ → Type 0
 IsOutput taken rest left output =
-    ((line : List ℕ) × (end : State) × SoFar taken line end output) ⊎ ((rest ≡ []) × IsAtEnd left.bytes × Session taken output)
+    ((line : List ℕ) × (end : SessionState) × SoFar taken line end output) ⊎ ((rest ≡ []) × IsAtEnd left.bytes × Session taken output)
 
--- the writer failed: a front part of the replies was written, and some bytes more were read
+-- the writer failed: the replies were written up to some byte, and some bytes more were read
 pub record StopsWriting (given left before now : Observed) : Type 0 where
   pub taken : List ℕ
   pub rest : List ℕ

@@ -85,14 +85,14 @@ fn report<W: Write>(database: &Database, writer: &mut Counted<W>) -> Result<(), 
 
 impl Editor {
     ghost use Rattle.ti_session.specs.inside.Editor.{HasState, ActsOn};
-    ghost use Rattle.ti_session.specs.Script.{State, meaning_outside, closing_reply, meaning_in, outside, start};
+    ghost use Rattle.ti_session.specs.Script.{SessionState, meaning_outside, closing_reply, meaning_in, outside, session_start};
 
     /// A source without blocks, with room for a block.
     ///
     /// # Errors
     /// Want of memory.
     pub fn new(alloc: Global) -> Result<Editor, AllocError>
-        ensures { IfOk result (λ editor. HasState editor start) }
+        ensures { IfOk result (λ editor. HasState editor session_start) }
     {
         let block = Buffer::new(alloc, BLOCK_ROOM)?;
         Ok(Editor {
@@ -109,7 +109,7 @@ impl Editor {
         line: &[u8],
         writer: &mut Counted<W>,
     ) -> Result<(), ToolError>
-        ensures { (state : State) → state.mode ≡ outside → HasState self.old state
+        ensures { (state : SessionState) → state.mode ≡ outside → HasState self.old state
             → ActsOn (meaning_outside line.now) state self.new
             (observation W.contents writer.old)
             (observation W.contents writer.new) result }
@@ -151,7 +151,7 @@ impl Editor {
         writer: &mut Counted<W>,
     ) -> Result<(), ToolError>
         requires { self.old.opened ≡ Some opened }
-        ensures { (state : State) → (holds : HasState self.old state)
+        ensures { (state : SessionState) → (holds : HasState self.old state)
             → ActsOn (asks (edits (opened_change opened holds.text))) state self.new
             (observation W.contents writer.old)
             (observation W.contents writer.new) result }
@@ -174,7 +174,7 @@ impl Editor {
         line: &[u8],
         writer: &mut Counted<W>,
     ) -> Result<(), ToolError>
-        ensures { (state : State) → HasState self.old state
+        ensures { (state : SessionState) → HasState self.old state
             → ActsOn (meaning_in state.mode line.now) state self.new
             (observation W.contents writer.old)
             (observation W.contents writer.new) result }
@@ -195,7 +195,7 @@ impl Editor {
     /// # Errors
     /// `WriteFault`.
     pub fn close<W: Write>(&self, writer: &mut Counted<W>) -> Result<(), ToolError>
-        ensures { (state : State) → HasState self.now state
+        ensures { (state : SessionState) → HasState self.now state
             → Wrote (observation W.contents writer.old)
             (observation W.contents writer.new)
             (closing_reply state.mode) result }

@@ -1,7 +1,7 @@
 //! What a line of a session asks for, outside a block.
 ghost use Rattle.std.specs.Prelude.{◌≡◌, ◌==◌, ◌<◌, length, position, IfSome, Some};
 ghost use Rattle.ti_text.specs.Ascii as ascii;
-ghost use Rattle.ti_session.specs.inside.Requests.{meaning_of};
+ghost use Rattle.ti_session.specs.inside.Requests.{request_meaning};
 ghost use Rattle.ti_session.specs.Script.{meaning_alone, meaning_outside, moves, number, meaning_with_number, two_numbers};
 
 /// A block that lines are to follow for, and the position that it is for.
@@ -88,7 +88,7 @@ fn two_numbers(text: &[u8]) -> Option<(usize, usize)>
 
 // What the letter of a move asks for.
 fn relocation(text: &[u8]) -> Request
-    ensures { meaning_of result ≡ moves (two_numbers text.now) }
+    ensures { request_meaning result ≡ moves (two_numbers text.now) }
 {
     if let Some((from, to)) = two_numbers(text) {
         Request::Relocate { from, to }
@@ -99,7 +99,7 @@ fn relocation(text: &[u8]) -> Request
 
 // What a letter with a number asks for.
 fn request_with_number(letter: u8, at: usize) -> Request
-    ensures { meaning_of result ≡ meaning_with_number letter (Some at) }
+    ensures { request_meaning result ≡ meaning_with_number letter (Some at) }
 {
     match letter {
         b'i' => Request::Open(Opened::Insert { at }),
@@ -112,7 +112,7 @@ fn request_with_number(letter: u8, at: usize) -> Request
 
 // What a letter alone asks for.
 fn request_alone(letter: u8) -> Request
-    ensures { meaning_of result ≡ meaning_alone letter }
+    ensures { request_meaning result ≡ meaning_alone letter }
 {
     match letter {
         b'f' => Request::Report,
@@ -123,7 +123,7 @@ fn request_alone(letter: u8) -> Request
 
 /// What a line asks for that stands outside a block.
 pub fn read_request(line: &[u8]) -> Request
-    ensures { meaning_of result ≡ meaning_outside line.now }
+    ensures { request_meaning result ≡ meaning_outside line.now }
 {
     let Some((letter, rest)) = line.split_first() else {
         return Request::Nothing;

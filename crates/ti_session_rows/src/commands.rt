@@ -78,7 +78,7 @@ fn add_numbers(bytes: &mut Vec<u8>, numbers: &[usize]) -> Result<(), AllocError>
 }
 
 /// The bytes of an entry: a byte for each flag, the numbers, and the strings by their names, in the order of the tables.
-pub fn compiled(
+pub fn entry_bytes(
     alloc: Global,
     names: &[u8],
     flags: &[u8],
@@ -110,7 +110,7 @@ const DUMB_TEXTS: [(&str, &[u8]); 4] = [
 
 /// `dumb|80-column dumb tty,` with `am, cols#80, bel=^G, cr=\r, cud1=\n, ind=\n,`.
 pub fn dumb(alloc: Global) -> Result<Vec<u8>, AllocError> {
-    compiled(
+    entry_bytes(
         alloc,
         b"dumb|80-column dumb tty",
         &[0, 1],
@@ -181,7 +181,7 @@ const FORMATS: [(&str, &[u8]); 2] = [("cup", b"\x1b[%i%p1%d;%p2%dH"), ("pfkey", 
 
 #[test]
 fn strings_with_parameters(rt: HostRuntime) -> Result<(), ToolError> {
-    let bytes = compiled(rt.alloc(), b"v", &[], &[], &FORMATS)?;
+    let bytes = entry_bytes(rt.alloc(), b"v", &[], &[], &FORMATS)?;
     let view = entry(bytes.as_slice())?;
     let moved: [&[u8]; 3] = [b"cup", b"4", b"9"];
     expect_outcome(&rt, rt.alloc(), &view, &moved, b"\x1b[5;10H", 0)?;
@@ -198,7 +198,7 @@ fn expect_resets(
     init: &[u8],
     reset: &[u8],
 ) -> Result<(), ToolError> {
-    let bytes = compiled(alloc, b"v", &[], &[], texts)?;
+    let bytes = entry_bytes(alloc, b"v", &[], &[], texts)?;
     let view = entry(bytes.as_slice())?;
     expect_outcome(rt, alloc, &view, &[b"init"], init, 0)?;
     expect_outcome(rt, alloc, &view, &[b"reset"], reset, 0)

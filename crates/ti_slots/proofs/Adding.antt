@@ -18,7 +18,7 @@ use Rattle.ti_index.specs.declared.names.NameIndex.{NameIndex}
 use Rattle.ti_index.specs.Listing.{AreAmong, Lists, ListsToo, ListsNoMore}
 use Rattle.ti_index.specs.Names.{holders_at, users_at, mentions_at, holder_capacity, user_capacity, HasHolderRoom, HasUserRoom, IsForgotten, IsSeenSame, KeepsCapacity, KeepsOthers}
 use Rattle.ti_index.proofs.LawProofs.{agreeing_lists, among_all}
-use Rattle.ti_slots.specs.inside.Indexing.{is_name_of, is_used_by, Adds, Forgets, Removes, HasRoomAt, IsGrown, IsPart}
+use Rattle.ti_slots.specs.inside.Indexing.{is_name_of, is_used_by, AddsId, Forgets, Removes, HasRoomAt, IsGrown, IsPart}
 
 -- ---- what depends on the entry of a name alone
 
@@ -89,7 +89,7 @@ capacity_more old mid new name g h = record { holders = omega (arith, g.holders,
 
 -- ---- a name comes
 
-pub adds_more : (lists rest : NameIndex → List ℕ → List ℕ) (listed : List ℕ) (told more : List ℕ → Bool) (id : ℕ) (old mid new : NameIndex) (name : List ℕ) → ByEntry lists → ByEntry rest → Adds lists rest listed told id old mid → ((n : List ℕ) → more n ≡ (told n || bytes_eq n name)) → ListsToo listed (lists mid name) (lists new name) id → rest new name ≡ rest mid name → KeepsCapacity mid new name → KeepsOthers mid new name → Adds lists rest listed more id old new
+pub adds_more : (lists rest : NameIndex → List ℕ → List ℕ) (listed : List ℕ) (told more : List ℕ → Bool) (id : ℕ) (old mid new : NameIndex) (name : List ℕ) → ByEntry lists → ByEntry rest → AddsId lists rest listed told id old mid → ((n : List ℕ) → more n ≡ (told n || bytes_eq n name)) → ListsToo listed (lists mid name) (lists new name) id → rest new name ≡ rest mid name → KeepsCapacity mid new name → KeepsOthers mid new name → AddsId lists rest listed more id old new
 adds_more lists rest listed told more id old mid new name by by_rest h step too same_rest capacity others = record {
   added = λ n test e. elim (name_cases n name) [
     | inl same ↦
@@ -114,7 +114,7 @@ adds_more lists rest listed told more id old mid new name by by_rest h step too 
 }
 
 -- a test that says the same
-pub adds_same : (lists rest : NameIndex → List ℕ → List ℕ) (listed : List ℕ) (told more : List ℕ → Bool) (id : ℕ) (old new : NameIndex) → Adds lists rest listed told id old new → ((n : List ℕ) → more n ≡ told n) → Adds lists rest listed more id old new
+pub adds_same : (lists rest : NameIndex → List ℕ → List ℕ) (listed : List ℕ) (told more : List ℕ → Bool) (id : ℕ) (old new : NameIndex) → AddsId lists rest listed told id old new → ((n : List ℕ) → more n ≡ told n) → AddsId lists rest listed more id old new
 adds_same lists rest listed told more id old new h same = record {
   added = λ n test e. h.added n test e
       ∙ agreeing_lists listed (λ x. (nat_eq x id && told n) || test x) (λ x. (nat_eq x id && more n) || test x) (λ i x f. ap (λ b. (nat_eq x id && b) || test x) (sym (same n)));
@@ -124,7 +124,7 @@ adds_same lists rest listed told more id old new h same = record {
 }
 
 -- what adding a name asks for
-pub place_for : (lists rest : NameIndex → List ℕ → List ℕ) (capacity : NameIndex → List ℕ → ℕ) (listed : List ℕ) (told : List ℕ → Bool) (id : ℕ) (old mid : NameIndex) (name : List ℕ) → ByEntry lists → CapacityByEntry capacity → Adds lists rest listed told id old mid → IsPart listed (lists old name) → length (lists old name) < capacity old name → (length (lists mid name) < capacity mid name) ⊎ Lists listed (lists mid name) id
+pub place_for : (lists rest : NameIndex → List ℕ → List ℕ) (capacity : NameIndex → List ℕ → ℕ) (listed : List ℕ) (told : List ℕ → Bool) (id : ℕ) (old mid : NameIndex) (name : List ℕ) → ByEntry lists → CapacityByEntry capacity → AddsId lists rest listed told id old mid → IsPart listed (lists old name) → length (lists old name) < capacity old name → (length (lists mid name) < capacity mid name) ⊎ Lists listed (lists mid name) id
 place_for lists rest capacity listed told id old mid name by by_capacity h part room =
     elim (cases_Bool (told name)) [
       | inl t ↦ inr ((λ x. (nat_eq x id && told name) || part.0 x), h.added name part.0 part.1, rw (t, eq-eqb id id refl) refl)
@@ -134,7 +134,7 @@ place_for lists rest capacity listed told id old mid name by by_capacity h part 
           let two = by_capacity mid old name same in inl (omega (arith, ap length one, two, room))
     ]
 
-pub added_among : (lists rest : NameIndex → List ℕ → List ℕ) (listed : List ℕ) (told : List ℕ → Bool) (id : ℕ) (old mid : NameIndex) (name : List ℕ) → Adds lists rest listed told id old mid → IsPart listed (lists old name) → AreAmong (lists mid name) listed
+pub added_among : (lists rest : NameIndex → List ℕ → List ℕ) (listed : List ℕ) (told : List ℕ → Bool) (id : ℕ) (old mid : NameIndex) (name : List ℕ) → AddsId lists rest listed told id old mid → IsPart listed (lists old name) → AreAmong (lists mid name) listed
 added_among lists rest listed told id old mid name h part =
     rw (h.added name part.0 part.1) (among_all listed (λ x. (nat_eq x id && told name) || part.0 x))
 

@@ -13,7 +13,7 @@ use Rattle.ti_index.specs.Names.{holders_at, users_at, holder_capacity, user_cap
 use Rattle.ti_slots.specs.declared.slots.Slot.{Slot}
 use Rattle.ti_slots.specs.declared.slots.Slots.{Slots}
 use Rattle.ti_slots.specs.Slots.{slot_at, reading_at, text_at, has_name, uses_name, empty_reading, StandsAt, IsIndexed}
-use Rattle.ti_slots.specs.inside.Indexing.{is_name_of, is_used_by, Adds, Removes}
+use Rattle.ti_slots.specs.inside.Indexing.{is_name_of, is_used_by, AddsId, Removes}
 use Rattle.ti_slots.specs.Changes.{HasRoomFor, KeepsRooms, PutsIn, TakesOut}
 use Rattle.ti_slots.proofs.Adding.{capacity_more}
 use Rattle.ti_slots.proofs.Listings.{list_before, list_with, list_left, list_without, fewer_pass, one_less, and_right, map_put, map_taken, get_set, get_set_other, stood_before, left_before, length-put, length-taken}
@@ -56,8 +56,8 @@ pub record HasPut (a b : Slots) (mid : NameIndex) (at id : ℕ) (slot : Slot) : 
   pub fresh : ¬ Has a.order.listed id
   pub known : id < length a.slots.items
   pub slots : b.slots.items ≡ set a.slots.items id (Some slot)
-  pub holders : Adds holders_at users_at b.order.listed (is_name_of slot.block.names.items) id a.names mid
-  pub users : Adds users_at holders_at b.order.listed (is_used_by slot.block.items.items) id mid b.names
+  pub holders : AddsId holders_at users_at b.order.listed (is_name_of slot.block.names.items) id a.names mid
+  pub users : AddsId users_at holders_at b.order.listed (is_used_by slot.block.items.items) id mid b.names
 
 -- the lists of a name before, among the new ids
 pub holders_before : (a : Slots) (listed : List ℕ) (at id : ℕ) → IsIndexed a → listed ≡ insert a.order.listed at id → (Has a.order.listed id → ⊥) → (name : List ℕ) → holders_at a.names name ≡ filter (λ x. not (nat_eq x id) && has_name a.slots.items name x) listed

@@ -8,7 +8,7 @@ use Rattle.ti_index.specs.Labels.{Has}
 use Rattle.ti_index.specs.Names.{holders_at, users_at, HasHolderRoom, HasUserRoom, IsForgotten, KeepsCapacity}
 use Rattle.ti_slots.specs.declared.slots.Slot.{Slot}
 use Rattle.ti_slots.specs.declared.slots.Slots.{Slots}
-use Rattle.ti_slots.specs.Slots.{blocks_of, texts_of, slot_at, StandsAt, IsIndexed}
+use Rattle.ti_slots.specs.Slots.{blocks_of, slot_texts, slot_at, StandsAt, IsIndexed}
 
 -- a block that says this can be put in without memory
 pub record HasRoomFor (slots : Slots) (block : Reading) : Type 0 where
@@ -36,7 +36,7 @@ pub record ShowsSame (old new : Slots) : Type 0 where
   pub holders : (name : List ℕ) → holders_at new.names name ≡ holders_at old.names name
   pub users : (name : List ℕ) → users_at new.names name ≡ users_at old.names name
   pub blocks : blocks_of new ≡ blocks_of old
-  pub texts : texts_of new ≡ texts_of old
+  pub texts : slot_texts new ≡ slot_texts old
 
 -- the slot has come to that position of the list, under the id that was freed last
 pub record PutsIn (old new : Slots) (at : ℕ) (slot : Slot) (id : ℕ) : Type 0 where
@@ -48,7 +48,7 @@ pub record PutsIn (old new : Slots) (at : ℕ) (slot : Slot) (id : ℕ) : Type 0
   pub others : (other : ℕ) → other ≢ id → slot_at new.slots.items other ≡ slot_at old.slots.items other
   pub capacity : KeepsCapacities old new
   pub blocks : blocks_of new ≡ insert (blocks_of old) at (reading_of slot.block)
-  pub texts : texts_of new ≡ insert (texts_of old) at slot.text.items
+  pub texts : slot_texts new ≡ insert (slot_texts old) at slot.text.items
 
 -- the block at that position has left the list, with its slot; its id is the one freed last. There is room for it
 pub record TakesOut (old new : Slots) (at : ℕ) (slot : Slot) : Type 0 where
@@ -64,7 +64,7 @@ pub record TakesOut (old new : Slots) (at : ℕ) (slot : Slot) : Type 0 where
   pub room : HasRoomFor new (reading_of slot.block)
   pub rooms : KeepsRooms old new
   pub blocks : blocks_of new ≡ remove (blocks_of old) at
-  pub texts : texts_of new ≡ remove (texts_of old) at
+  pub texts : slot_texts new ≡ remove (slot_texts old) at
 
 -- the same blocks under the same ids, with the same free ids and no less capacity
 pub record IsAgain (old new : Slots) : Type 0 where
@@ -79,4 +79,4 @@ pub record ChangesAreUndone : Type 0 where
   pub taken : (a b c d : Slots) (at : ℕ) (slot : Slot) (id : ℕ) → (taken : TakesOut a b at slot) → IsAgain b c → PutsIn c d at slot id → (id ≡ taken.id) × IsAgain a d
   pub rooms : (a b : Slots) → IsIndexed a → IsIndexed b → IsAgain a b → KeepsRooms a b
   pub blocks : (a b : Slots) → IsAgain a b → blocks_of b ≡ blocks_of a
-  pub texts : (a b : Slots) → IsAgain a b → texts_of b ≡ texts_of a
+  pub texts : (a b : Slots) → IsAgain a b → slot_texts b ≡ slot_texts a

@@ -27,10 +27,10 @@ table_of (s.TooLarge table) = Some table
 table_of (s.Compiled entry) = Some entry.table
 
 -- the entry, where the block has one
-abbrev pub entry_of : State → Option Entry
-entry_of s.Unresolved = None
-entry_of (s.TooLarge table) = None
-entry_of (s.Compiled entry) = Some entry
+abbrev pub slot_entry : State → Option Entry
+slot_entry s.Unresolved = None
+slot_entry (s.TooLarge table) = None
+slot_entry (s.Compiled entry) = Some entry
 
 -- a kept fault of the block at that position
 abbrev pub fault_at : ℕ → KeptFault → SourceFault

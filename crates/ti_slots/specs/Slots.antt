@@ -38,8 +38,8 @@ abbrev pub blocks_of : Slots → List Reading
 blocks_of slots = map (reading_at slots.slots.items) slots.order.listed
 
 -- their texts
-abbrev pub texts_of : Slots → List (List ℕ)
-texts_of slots = map (text_at slots.slots.items) slots.order.listed
+abbrev pub slot_texts : Slots → List (List ℕ)
+slot_texts slots = map (text_at slots.slots.items) slots.order.listed
 
 -- the block with the id stands at that position of the list
 abbrev pub StandsAt : Slots → ℕ → ℕ → Type 0

@@ -2,7 +2,7 @@
 ghost use Rattle.std.specs.Prelude.{◌≡◌, ℕ, List, OnOk, true};
 ghost use Rattle.ti_index.specs.Labels.{Has};
 ghost use Rattle.ti_index.specs.Names.{holders_at, users_at, HasHolderRoom, HasUserRoom};
-ghost use Rattle.ti_slots.specs.inside.Indexing.{is_name_of, is_used_by, Adds, Forgets, HasRoomAt, IsGrown, IsPart, Removes};
+ghost use Rattle.ti_slots.specs.inside.Indexing.{is_name_of, is_used_by, AddsId, Forgets, HasRoomAt, IsGrown, IsPart, Removes};
 
 use std::alloc::AllocError;
 use std::rc::RcSlice;
@@ -14,7 +14,7 @@ pub(crate) fn add_holders(index: &mut NameIndex, order: &Order, names: &[RcSlice
     requires stands { Has order.now.listed id }
     requires parts { (name : List ℕ) → IsPart order.now.listed (holders_at index.old name) }
     requires room { (name : List ℕ) → is_name_of names.now name ≡ true → HasHolderRoom index.old name }
-    ensures { Adds holders_at users_at order.now.listed (is_name_of names.now) id index.old index.new }
+    ensures { AddsId holders_at users_at order.now.listed (is_name_of names.now) id index.old index.new }
 {
     for name in names {
         index.add_holder(order, name.as_slice(), id);
@@ -26,7 +26,7 @@ pub(crate) fn add_users(index: &mut NameIndex, order: &Order, items: &[Item], id
     requires stands { Has order.now.listed id }
     requires parts { (name : List ℕ) → IsPart order.now.listed (users_at index.old name) }
     requires room { (name : List ℕ) → is_used_by items.now name ≡ true → HasUserRoom index.old name }
-    ensures { Adds users_at holders_at order.now.listed (is_used_by items.now) id index.old index.new }
+    ensures { AddsId users_at holders_at order.now.listed (is_used_by items.now) id index.old index.new }
 {
     for item in items {
         if let What::Import(name) = &item.what {

@@ -45,11 +45,11 @@ pub enum State {
 }
 
 impl State {
-    ghost use Rattle.ti_slots.specs.Settled.{entry_of};
+    ghost use Rattle.ti_slots.specs.Settled.{slot_entry};
 
     /// The entry, where the block has one.
     pub fn entry(&self) -> Option<&Entry>
-        ensures { option_map (λ entry. entry.now) result ≡ entry_of self.now }
+        ensures { option_map (λ entry. entry.now) result ≡ slot_entry self.now }
     {
         match self {
             State::Compiled(entry) => Some(entry),

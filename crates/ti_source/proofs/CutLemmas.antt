@@ -1,4 +1,4 @@
--- Each source has one cut, which `front_of` and `blocks_of` compute; each block by itself is one block.
+-- Each source has one cut, which `front_of` and `blocks_from_head` compute; each block by itself is one block.
 use Rattle.std.proofs.Common.{◌≡◌, ℕ, ◌≤◌, true, false, ◌==◌, List, [], ◌∷◌, ◌++◌, length, All, cond, refl, sym, ap, ◌∙◌, inl, inr, arith, rules}
 use Rattle.std.specs.List.{concat}
 use Rattle.std.proofs.lemmas.Bool.{cases_Bool, and_parts, and_from, eqb-true, eq-eqb}
@@ -6,8 +6,8 @@ use Rattle.std.proofs.lemmas.List.{append-nil}
 use Rattle.std.proofs.lemmas.List.Elements.{All-nil, All-cons}
 use Rattle.std.proofs.lemmas.List.Sums.{sum_by-append}
 use Rattle.ti_source.specs.Lines.{LinesAdd}
-use Rattle.ti_source.specs.Blocks.{last_byte, HasNoHead, HasOneHead, AreBlocks, Cut, OneBlock, EachHasCut, OneCut, BlocksAreSingle, BlocksAreSingleOnceEnded}
-use Rattle.ti_source.specs.inside.Blocks.{front_of, blocks_of}
+use Rattle.ti_source.specs.Blocks.{last_byte, HasNoHead, HasOneHead, AreBlocks, Cut, OneBlock, EachHasCut, IsOnlyCut, BlocksAreSingle, BlocksAreSingleOnceEnded}
+use Rattle.ti_source.specs.inside.Blocks.{front_of, blocks_from_head}
 use Rattle.ti_source.specs.Heads.{begins_head, is_head}
 
 pub lines_add : LinesAdd
@@ -33,10 +33,10 @@ front_of-head before x xs t = rw t
 pub front_of-plain : (before x : ℕ) (xs : List ℕ) → is_head before x ≡ false → front_of before (x ∷ xs) ≡ x ∷ front_of x xs
 front_of-plain before x xs f = rw f
 
-pub blocks_of-head : (before x : ℕ) (xs : List ℕ) → is_head before x ≡ true → blocks_of before (x ∷ xs) ≡ (x ∷ front_of x xs) ∷ blocks_of x xs
+pub blocks_of-head : (before x : ℕ) (xs : List ℕ) → is_head before x ≡ true → blocks_from_head before (x ∷ xs) ≡ (x ∷ front_of x xs) ∷ blocks_from_head x xs
 blocks_of-head before x xs t = rw t
 
-pub blocks_of-plain : (before x : ℕ) (xs : List ℕ) → is_head before x ≡ false → blocks_of before (x ∷ xs) ≡ blocks_of x xs
+pub blocks_of-plain : (before x : ℕ) (xs : List ℕ) → is_head before x ≡ false → blocks_from_head before (x ∷ xs) ≡ blocks_from_head x xs
 blocks_of-plain before x xs f = rw f
 
 -- what the cut of a text after the byte `before` says, and that it is the computed one
@@ -45,7 +45,7 @@ record CutAfter (before : ℕ) (s p : List ℕ) (bs : List (List ℕ)) : Type 0 
   front : HasNoHead before p
   each : AreBlocks (last_byte before p) bs
 
-has_cut_after : (before : ℕ) (s : List ℕ) → CutAfter before s (front_of before s) (blocks_of before s)
+has_cut_after : (before : ℕ) (s : List ℕ) → CutAfter before s (front_of before s) (blocks_from_head before s)
 has_cut_after before [] = record { whole = refl; front = tt; each = tt }
 has_cut_after before (x ∷ xs) =
     let rest = has_cut_after x xs in
@@ -64,7 +64,7 @@ each_has_cut s = let c = has_cut_after 10 s in record { whole = c.whole; front =
 
 -- preface and blocks are those that are computed from what they make together
 abbrev IsComputed : ℕ → List ℕ → List (List ℕ) → Type 0
-IsComputed before p bs = (front_of before (p ++ concat bs) ≡ p) × (blocks_of before (p ++ concat bs) ≡ bs)
+IsComputed before p bs = (front_of before (p ++ concat bs) ≡ p) × (blocks_from_head before (p ++ concat bs) ≡ bs)
 
 -- where it holds of the blocks alone, it holds with any preface before them
 with_preface : (bs : List (List ℕ)) → ((before : ℕ) → AreBlocks before bs → IsComputed before [] bs)
@@ -83,18 +83,18 @@ blocks_alone ((x ∷ xs) ∷ bs) before a =
     (front_of-head before x (xs ++ concat bs) t, blocks_of-head before x (xs ++ concat bs) t ∙ (rw (rest.0, rest.1) refl))
 
 -- every cut is the computed one
-pub cut_is_computed : (s p : List ℕ) (bs : List (List ℕ)) → Cut s p bs → (front_of 10 s ≡ p) × (blocks_of 10 s ≡ bs)
+pub cut_is_computed : (s p : List ℕ) (bs : List (List ℕ)) → Cut s p bs → (front_of 10 s ≡ p) × (blocks_from_head 10 s ≡ bs)
 cut_is_computed s p bs c =
     let parts = with_preface bs (blocks_alone bs) 10 p c.front c.each in
-    (ap (front_of 10) c.whole ∙ parts.0, ap (blocks_of 10) c.whole ∙ parts.1)
+    (ap (front_of 10) c.whole ∙ parts.0, ap (blocks_from_head 10) c.whole ∙ parts.1)
 
-pub one_cut_law : OneCut
+pub one_cut_law : IsOnlyCut
 one_cut_law s p q bs cs c d =
     let first = cut_is_computed s p bs c in
     let second = cut_is_computed s q cs d in
     (sym first.0 ∙ second.0, sym first.1 ∙ second.1)
 
-pub length-blocks_of : (before : ℕ) (s : List ℕ) → length (blocks_of before s) ≤ length s
+pub length-blocks_of : (before : ℕ) (s : List ℕ) → length (blocks_from_head before s) ≤ length s
 length-blocks_of before [] = omega arith
 length-blocks_of before (x ∷ xs) =
     let rest = length-blocks_of x xs in

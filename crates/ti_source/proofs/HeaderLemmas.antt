@@ -11,7 +11,7 @@ use Rattle.std.proofs.lemmas.List.Splits.{slice_split-cons_yes, slice_split-cons
 use Rattle.std.proofs.lemmas.Slice.Eq.{bytes_eq-Decides}
 use Rattle.memchr.specs.Find.{IsLastByte, is_byte}
 use Rattle.ti_source.specs.Header.{IsNameByte, IsLookupName, PartsOf, lookup_parts, HeaderNames, IsBadHeader}
-use Rattle.ti_source.specs.inside.Header.{is_name_byte, is_lookup_name, parts_of, is_header, header_names, EachHeaderIsRead, HeadersHaveOneReading}
+use Rattle.ti_source.specs.inside.Header.{is_name_byte, is_lookup_name, header_parts, is_header, header_names, EachHeaderIsRead, HeadersHaveOneReading}
 
 -- ---- the tests
 leb_decides : (a b : ℕ) → Decides (nat_le a b) (a ≤ b)
@@ -54,10 +54,10 @@ nul_decides field =
     (Decides-by_or (λ b. b == 0) (λ b. b ≡ 0) (list_any (λ b. b == 0)) (λ b. Decides-eqb b 0) refl (λ _ _. refl) field)
 
 header_decides : (field : List ℕ)
-    → Decides (is_header field) (((Contains field 0 → ⊥) × All (λ part. part ≢ []) (parts_of field)) × All IsLookupName (lookup_parts (parts_of field)))
+    → Decides (is_header field) (((Contains field 0 → ⊥) × All (λ part. part ≢ []) (header_parts field)) × All IsLookupName (lookup_parts (header_parts field)))
 header_decides field =
-    Decides-and _ _ (Decides-and _ _ (Decides-not _ (nul_decides field)) (filled_decides (parts_of field)))
-    (lookup_names_decide (lookup_parts (parts_of field)))
+    Decides-and _ _ (Decides-and _ _ (Decides-not _ (nul_decides field)) (filled_decides (header_parts field)))
+    (lookup_names_decide (lookup_parts (header_parts field)))
 
 -- ---- the parts
 abbrev IsApart : List ℕ → Type 0
@@ -74,29 +74,29 @@ apart-onto_first : (x : ℕ) (parts : List (List ℕ)) → x ≢ 124 → AllByRe
 apart-onto_first x [] n a = (apart-cons x [] n apart-nil, tt)
 apart-onto_first x (p ∷ ps) n a = (apart-cons x p n a.0, a.1)
 
-apart-parts : (s : List ℕ) → AllByRecursion IsApart (parts_of s)
+apart-parts : (s : List ℕ) → AllByRecursion IsApart (header_parts s)
 apart-parts [] = (apart-nil, tt)
 apart-parts (x ∷ xs) =
     elim (cases_Bool (x == 124)) [
       | inl t ↦ rw (slice_split-cons_yes (λ b. b == 124) x xs t) (apart-nil, apart-parts xs)
-      | inr f ↦ rw (slice_split-cons_no (λ b. b == 124) x xs f) (apart-onto_first x (parts_of xs) (λ e. false≢true (sym f ∙ (Decides-eqb x 124).1 e)) (apart-parts xs))
+      | inr f ↦ rw (slice_split-cons_no (λ b. b == 124) x xs f) (apart-onto_first x (header_parts xs) (λ e. false≢true (sym f ∙ (Decides-eqb x 124).1 e)) (apart-parts xs))
     ]
 
-parts_of-some : (s : List ℕ) → 0 < length (parts_of s)
+parts_of-some : (s : List ℕ) → 0 < length (header_parts s)
 parts_of-some s = omega (arith, length-slice_split (λ b. b == 124) s)
 
-pub parts_are_parts : (field : List ℕ) → PartsOf field (parts_of field)
+pub parts_are_parts : (field : List ℕ) → PartsOf field (header_parts field)
 parts_are_parts field = record {
   whole = sym (join_with_byte-slice_split 124 field);
   some = λ e. absurd (omega (arith, parts_of-some field, ap length e));
-  apart = All-from_recursion IsApart (parts_of field) (apart-parts field);
+  apart = All-from_recursion IsApart (header_parts field) (apart-parts field);
 }
 
 -- a part is cut nowhere
 no_bar : (part : List ℕ) → IsApart part → All (λ x. (x == 124) ≡ false) part
 no_bar part a k d h = ne_eqb (get_or part k d) 124 (λ e. a (k, h, get_or_default part k 124 d h ∙ e))
 
-parts_of-join : (parts : List (List ℕ)) → parts ≢ [] → AllByRecursion IsApart parts → parts_of (join_with_byte 124 parts) ≡ parts
+parts_of-join : (parts : List (List ℕ)) → parts ≢ [] → AllByRecursion IsApart parts → header_parts (join_with_byte 124 parts) ≡ parts
 parts_of-join [] n a = absurd (n refl)
 parts_of-join (p ∷ []) n a = slice_split_none (λ b. b == 124) p (no_bar p a.0)
 parts_of-join (p ∷ q ∷ ps) n a =
@@ -104,9 +104,9 @@ parts_of-join (p ∷ q ∷ ps) n a =
     ∙ ap (λ rest. p ∷ rest) (parts_of-join (q ∷ ps) (λ e. (let clash = e in cc)) a.1)
 
 -- a field has no other parts
-parts_are_computed : (field : List ℕ) (parts : List (List ℕ)) → PartsOf field parts → parts_of field ≡ parts
+parts_are_computed : (field : List ℕ) (parts : List (List ℕ)) → PartsOf field parts → header_parts field ≡ parts
 parts_are_computed field parts p =
-    ap parts_of p.whole ∙ parts_of-join parts p.some (recursion_from_All IsApart parts p.apart)
+    ap header_parts p.whole ∙ parts_of-join parts p.some (recursion_from_All IsApart parts p.apart)
 
 -- ---- the reading of a field
 Any-from_false : {A : Type 0} (test : A → Bool) (P : A → Type 0) → ((x : A) → test x ≡ false → P x) → (xs : List A) → list_all test xs ≡ false → Any P xs
@@ -126,7 +126,7 @@ none_of_all P Q clash xs all any = clash any.1 (subst P any.3 (all any.0 any.1 a
 
 pub each_header : EachHeaderIsRead
 each_header field =
-    let parts = parts_of field in
+    let parts = header_parts field in
     elim (cases_Bool (is_header field)) [
       | inl t ↦
           let h = (header_decides field).0 t in
@@ -174,7 +174,7 @@ onto_first-append : (x : ℕ) (ps qs : List (List ℕ)) → 0 < length ps → on
 onto_first-append x [] qs h = absurd (omega arith)
 onto_first-append x (p ∷ ps) qs h = refl
 
-parts_of-last : (a d : List ℕ) → All (λ x. (x == 124) ≡ false) d → parts_of (a ++ 124 ∷ d) ≡ parts_of a ++ d ∷ []
+parts_of-last : (a d : List ℕ) → All (λ x. (x == 124) ≡ false) d → header_parts (a ++ 124 ∷ d) ≡ header_parts a ++ d ∷ []
 parts_of-last [] d n = ap (λ rest. [] ∷ rest) (slice_split_none (λ b. b == 124) d n)
 parts_of-last (x ∷ a) d n =
     elim (cases_Bool (x == 124)) [
@@ -183,7 +183,7 @@ parts_of-last (x ∷ a) d n =
           ∙ ap (λ front. front ++ d ∷ []) (sym (slice_split-cons_yes (λ b. b == 124) x a t))
       | inr f ↦
           slice_split-cons_no (λ b. b == 124) x (a ++ 124 ∷ d) f ∙ ap (onto_first x) (parts_of-last a d n)
-          ∙ onto_first-append x (parts_of a) (d ∷ []) (parts_of-some a)
+          ∙ onto_first-append x (header_parts a) (d ∷ []) (parts_of-some a)
           ∙ ap (λ front. front ++ d ∷ []) (sym (slice_split-cons_no (λ b. b == 124) x a f))
     ]
 
@@ -195,7 +195,7 @@ lookup_parts-push ps d h =
     rw many (ap (λ n. take n (ps ++ d ∷ [])) count ∙ take-append_seam ps (d ∷ []))
 
 -- a field up to its last `|`, and a field that has none
-pub described : (field : List ℕ) (k : ℕ) → IsLastByte (is_byte 124) field (Some k) → parts_of (take k field) ≡ lookup_parts (parts_of field)
+pub described : (field : List ℕ) (k : ℕ) → IsLastByte (is_byte 124) field (Some k) → header_parts (take k field) ≡ lookup_parts (header_parts field)
 described field k last =
     let front = take k field in
     let d = drop (k + 1) field in
@@ -205,10 +205,10 @@ described field k last =
     let none : All (λ x. (x == 124) ≡ false) d =
     λ i e h. false_from_ne_true _ (λ t. last.0.after (k + 1 + i) (omega arith) (omega (arith, length-drop (k + 1) field))
     (ap (λ b. b == 124) (sym (get_or-drop (k + 1) field i 0) ∙ get_or_default d i 0 e h) ∙ t)) in
-    let parts = ap parts_of cut ∙ parts_of-last front d none in
-    sym (ap lookup_parts parts ∙ lookup_parts-push (parts_of front) d (parts_of-some front))
+    let parts = ap header_parts cut ∙ parts_of-last front d none in
+    sym (ap lookup_parts parts ∙ lookup_parts-push (header_parts front) d (parts_of-some front))
 
-pub undescribed : (field : List ℕ) → IsLastByte (is_byte 124) field None → parts_of field ≡ lookup_parts (parts_of field)
+pub undescribed : (field : List ℕ) → IsLastByte (is_byte 124) field None → header_parts field ≡ lookup_parts (header_parts field)
 undescribed field none =
     let one = slice_split_none (λ b. b == 124) field
     (λ k d h. false_from_ne_true _ (λ t. none k (omega arith) h (ap (λ b. b == 124) (get_or_default field k 0 d h) ∙ t))) in

@@ -9,9 +9,9 @@ use Rattle.ti_source.specs.declared.items.Taken.{Taken}
 use Rattle.ti_source.specs.declared.items.Taken.TheVariants as taken
 use Rattle.ti_source.specs.WhiteSpace.{is_white_space}
 use Rattle.ti_source.specs.Folding.{Placed}
-use Rattle.ti_source.specs.Items.{bytes, Piece, piece, without_front, line_of, piece_of}
+use Rattle.ti_source.specs.Items.{bytes, Piece, item_piece, without_front, line_of, piece_of}
 use Rattle.ti_source.specs.inside.Folding.{SkipsWhiteSpace, skips_nothing, skips_byte}
-use Rattle.ti_source.specs.inside.Items.{taken_after, cuts, with_first, with_front, items_of, with_byte, on_line, PassesRun, takes_no_byte, takes_byte, begins_visible, IsWholeItem, TakesWholeItem, ReadsSoFar, TakesItem}
+use Rattle.ti_source.specs.inside.Items.{taken_after, cuts, with_first, with_text_before, items_of, with_byte, on_line, PassesRun, takes_no_byte, takes_byte, begins_visible, IsWholeItem, TakesWholeItem, ReadsSoFar, TakesItem}
 
 pub items_of-plain : (by : Taken) (before : ℕ) (x : Placed) (xs : List Placed) → cuts by x.0 ≡ false → items_of by before (x ∷ xs) ≡ with_first x (items_of (taken_after by before x.0) x.0 xs)
 items_of-plain by before x xs f = rw f
@@ -19,21 +19,21 @@ items_of-plain by before x xs f = rw f
 items_of-cut : (by : Taken) (before : ℕ) (x : Placed) (xs : List Placed) → cuts by x.0 ≡ true → items_of by before (x ∷ xs) ≡ [] ∷ items_of taken.Nothing 44 xs
 items_of-cut by before x xs t = rw t
 
-with_front-with_first : (x : Placed) (items : List (List Placed)) → with_first x items ≡ with_front [] (with_first x items)
+with_front-with_first : (x : Placed) (items : List (List Placed)) → with_first x items ≡ with_text_before [] (with_first x items)
 with_front-with_first x [] = refl
 with_front-with_first x (i ∷ is) = refl
 
-with_front-nil : (by : Taken) (before : ℕ) (source : List Placed) → items_of by before source ≡ with_front [] (items_of by before source)
+with_front-nil : (by : Taken) (before : ℕ) (source : List Placed) → items_of by before source ≡ with_text_before [] (items_of by before source)
 with_front-nil by before [] = refl
 with_front-nil by before (x ∷ xs) =
     let later = items_of (taken_after by before x.0) x.0 xs in
     let next = items_of taken.Nothing 44 xs in
-    elim (cuts by x.0) as (λ b. cond b ([] ∷ next) (with_first x later) ≡ with_front [] (cond b ([] ∷ next) (with_first x later))) [
+    elim (cuts by x.0) as (λ b. cond b ([] ∷ next) (with_first x later) ≡ with_text_before [] (cond b ([] ∷ next) (with_first x later))) [
       | true ↦ refl
       | false ↦ with_front-with_first x later
     ]
 
-with_front-push : (seen : List Placed) (x : Placed) (items : List (List Placed)) → with_front seen (with_first x items) ≡ with_front (seen ++ x ∷ []) items
+with_front-push : (seen : List Placed) (x : Placed) (items : List (List Placed)) → with_text_before seen (with_first x items) ≡ with_text_before (seen ++ x ∷ []) items
 with_front-push seen x [] = refl
 with_front-push seen x (i ∷ is) = ap (λ item. item ∷ is) (sym (append_assoc seen (x ∷ []) i))
 
@@ -51,18 +51,18 @@ bytes-push : (s : List Placed) (x : Placed) → bytes (s ++ x ∷ []) ≡ bytes 
 bytes-push [] x = refl
 bytes-push (y ∷ ys) x = ap (λ s. y.0 ∷ s) (bytes-push ys x)
 
-piece_of-push-by : (seen : List Placed) (x : Placed) (shown : List Placed) → without_front seen ≡ shown → piece_of (seen ++ x ∷ []) ≡ with_byte (piece (bytes shown) (line_of shown)) x
+piece_of-push-by : (seen : List Placed) (x : Placed) (shown : List Placed) → without_front seen ≡ shown → piece_of (seen ++ x ∷ []) ≡ with_byte (item_piece (bytes shown) (line_of shown)) x
 piece_of-push-by seen x [] e =
     rw ((without_front-push seen x).0 e)
-    (elim (is_white_space x.0) as (λ b. piece (bytes (cond b [] (x ∷ []))) (line_of (cond b [] (x ∷ []))) ≡ cond b (piece [] 0) (piece (x.0 ∷ []) x.1)) [ true ↦ refl | false ↦ refl ])
+    (elim (is_white_space x.0) as (λ b. item_piece (bytes (cond b [] (x ∷ []))) (line_of (cond b [] (x ∷ []))) ≡ cond b (item_piece [] 0) (item_piece (x.0 ∷ []) x.1)) [ true ↦ refl | false ↦ refl ])
 piece_of-push-by seen x (y ∷ ys) e =
     rw ((without_front-push seen x).1 y ys e)
-    (ap (λ text. piece (y.0 ∷ text) y.1) (bytes-push ys x))
+    (ap (λ text. item_piece (y.0 ∷ text) y.1) (bytes-push ys x))
 
 pub piece_of-push : (seen : List Placed) (x : Placed) → piece_of (seen ++ x ∷ []) ≡ with_byte (piece_of seen) x
 piece_of-push seen x = piece_of-push-by seen x (without_front seen) refl
 
-pub so_far-start : (start : List Placed) → ReadsSoFar start taken.Nothing 44 start (piece [] 0)
+pub so_far-start : (start : List Placed) → ReadsSoFar start taken.Nothing 44 start (item_piece [] 0)
 so_far-start start = record { seen = []; is_piece = refl; items = with_front-nil taken.Nothing 44 start; shorter = omega arith }
 
 pub so_far-more : (start : List Placed) (by : Taken) (before : ℕ) (x : Placed) (source : List Placed) (shown : Piece)
@@ -70,12 +70,12 @@ pub so_far-more : (start : List Placed) (by : Taken) (before : ℕ) (x : Placed)
 so_far-more start by before x source shown r f = record {
   seen = r.seen ++ x ∷ [];
   is_piece = piece_of-push r.seen x ∙ ap (λ p. with_byte p x) r.is_piece;
-  items = r.items ∙ ap (with_front r.seen) (items_of-plain by before x source f) ∙ with_front-push r.seen x (items_of (taken_after by before x.0) x.0 source);
+  items = r.items ∙ ap (with_text_before r.seen) (items_of-plain by before x source f) ∙ with_front-push r.seen x (items_of (taken_after by before x.0) x.0 source);
   shorter = omega (arith, r.shorter);
 }
 
 -- a text that has a byte, with one more
-pushes : (text : List ℕ) (line : ℕ) (x : Placed) → 0 < length text → with_byte (piece text line) x ≡ piece (text ++ x.0 ∷ []) line
+pushes : (text : List ℕ) (line : ℕ) (x : Placed) → 0 < length text → with_byte (item_piece text line) x ≡ item_piece (text ++ x.0 ∷ []) line
 pushes [] line x some = absurd (omega arith)
 pushes (y ∷ ys) line x some = refl
 
@@ -85,23 +85,23 @@ on_line-append line (b ∷ bs) more = ap (λ (s : List Placed). (b, line) ∷ s)
 
 -- an item whose text has a byte, read over a run
 pub so_far-run : (start : List Placed) {by next : Taken} {before last : ℕ} {run : List ℕ} (line at : ℕ) (source : List Placed) (text : List ℕ)
-    → PassesRun by before run next last → 0 < length text → ReadsSoFar start by before (on_line at run ++ source) (piece text line)
-    → ReadsSoFar start next last source (piece (text ++ run) line)
+    → PassesRun by before run next last → 0 < length text → ReadsSoFar start by before (on_line at run ++ source) (item_piece text line)
+    → ReadsSoFar start next last source (item_piece (text ++ run) line)
 so_far-run start line at source text takes_no_byte some r = rw append-nil r
 so_far-run start {run = all} line at source text (takes_byte {by = by} {next = next} {before = before} {last = last} {run = run} x goes plain inner) some r =
     let regrouped : on_line at (run ++ x ∷ []) ++ source ≡ on_line at run ++ ((x, at) ∷ source) =
     rw on_line-append (append_assoc (on_line at run) ((x, at) ∷ []) source) in
-    let earlier = so_far-run start line at ((x, at) ∷ source) text goes some (subst (λ (s : List Placed). ReadsSoFar start by before s (piece text line)) regrouped r) in
-    let longer : with_byte (piece (text ++ run) line) (x, at) ≡ piece (text ++ (run ++ x ∷ [])) line =
-    pushes (text ++ run) line (x, at) (omega (arith, length-append text run)) ∙ ap (λ (t : List ℕ). piece t line) (append_assoc text run (x ∷ [])) in
-    subst (λ (shown : Piece). ReadsSoFar start (taken_after next last x) x source shown) longer (so_far-more start next last (x, at) source (piece (text ++ run) line) earlier inner)
+    let earlier = so_far-run start line at ((x, at) ∷ source) text goes some (subst (λ (s : List Placed). ReadsSoFar start by before s (item_piece text line)) regrouped r) in
+    let longer : with_byte (item_piece (text ++ run) line) (x, at) ≡ item_piece (text ++ (run ++ x ∷ [])) line =
+    pushes (text ++ run) line (x, at) (omega (arith, length-append text run)) ∙ ap (λ (t : List ℕ). item_piece t line) (append_assoc text run (x ∷ [])) in
+    subst (λ (shown : Piece). ReadsSoFar start (taken_after next last x) x source shown) longer (so_far-more start next last (x, at) source (item_piece (text ++ run) line) earlier inner)
 
 pub takes-cut : (start : List Placed) (by : Taken) (before : ℕ) (x : Placed) (source : List Placed) (shown : Piece)
     → ReadsSoFar start by before (x ∷ source) shown → cuts by x.0 ≡ true → TakesItem start shown false source
 takes-cut start by before x source shown r t = record {
   item = r.seen;
   is_piece = r.is_piece;
-  is_first = r.items ∙ ap (with_front r.seen) (items_of-cut by before x source t) ∙ ap (λ item. item ∷ items_of taken.Nothing 44 source) (append-nil r.seen);
+  is_first = r.items ∙ ap (with_text_before r.seen) (items_of-cut by before x source t) ∙ ap (λ item. item ∷ items_of taken.Nothing 44 source) (append-nil r.seen);
   shorter = λ e. omega (arith, r.shorter);
 }
 
@@ -137,18 +137,18 @@ items_of-white x xs w =
       | inr e ↦ subst (λ b. items_of taken.Nothing 44 ((b, x.1) ∷ xs) ≡ with_first (b, x.1) (items_of taken.Nothing 44 xs)) (sym e) (items_of-tab x.1 xs)
     ]
 
-white_unseen : (x : Placed) → is_white_space x.0 ≡ true → with_byte (piece [] 0) x ≡ piece [] 0
+white_unseen : (x : Placed) → is_white_space x.0 ≡ true → with_byte (item_piece [] 0) x ≡ item_piece [] 0
 white_unseen x w = rw w refl
 
 pub so_far-white : (start : List Placed) {old new : List Placed} → SkipsWhiteSpace old new
-    → ReadsSoFar start taken.Nothing 44 old (piece [] 0) → ReadsSoFar start taken.Nothing 44 new (piece [] 0)
+    → ReadsSoFar start taken.Nothing 44 old (item_piece [] 0) → ReadsSoFar start taken.Nothing 44 new (item_piece [] 0)
 so_far-white start skips_nothing r = r
 so_far-white start (skips_byte {new = new} x skips w) r =
     let earlier = so_far-white start skips r in
     record {
       seen = earlier.seen ++ x ∷ [];
       is_piece = piece_of-push earlier.seen x ∙ ap (λ p. with_byte p x) earlier.is_piece ∙ white_unseen x w;
-      items = earlier.items ∙ ap (with_front earlier.seen) (items_of-white x new w) ∙ with_front-push earlier.seen x (items_of taken.Nothing 44 new);
+      items = earlier.items ∙ ap (with_text_before earlier.seen) (items_of-white x new w) ∙ with_front-push earlier.seen x (items_of taken.Nothing 44 new);
       shorter = omega (arith, earlier.shorter);
     }
 
@@ -164,7 +164,7 @@ begins_earlier [] x v = refl
 begins_earlier (y ∷ ys) x v = v
 
 visible_more : (line x : ℕ) (run : List ℕ) → begins_visible (run ++ x ∷ []) ≡ true
-    → with_byte (piece run (line_at line run)) (x, line) ≡ piece (run ++ x ∷ []) (line_at line (run ++ x ∷ []))
+    → with_byte (item_piece run (line_at line run)) (x, line) ≡ item_piece (run ++ x ∷ []) (line_at line (run ++ x ∷ []))
 visible_more line x [] v =
     elim (cases_Bool (is_white_space x)) [
       | inl t ↦ (let no = rw t at v in cc)
@@ -174,27 +174,27 @@ visible_more line x (y ∷ ys) v = refl
 
 -- an item of which nothing shows, read over a run that begins with no white space
 so_far-item : (start : List Placed) {by next : Taken} {before last : ℕ} {run : List ℕ} (line : ℕ) (source : List Placed)
-    → PassesRun by before run next last → begins_visible run ≡ true → ReadsSoFar start by before (on_line line run ++ source) (piece [] 0)
-    → ReadsSoFar start next last source (piece run (line_at line run))
+    → PassesRun by before run next last → begins_visible run ≡ true → ReadsSoFar start by before (on_line line run ++ source) (item_piece [] 0)
+    → ReadsSoFar start next last source (item_piece run (line_at line run))
 so_far-item start line source takes_no_byte v r = r
 so_far-item start line source (takes_byte {by = by} {next = next} {before = before} {last = last} {run = run} x goes plain inner) v r =
     let regrouped : on_line line (run ++ x ∷ []) ++ source ≡ on_line line run ++ ((x, line) ∷ source) =
     rw on_line-append (append_assoc (on_line line run) ((x, line) ∷ []) source) in
-    let earlier = so_far-item start line ((x, line) ∷ source) goes (begins_earlier run x v) (subst (λ (s : List Placed). ReadsSoFar start by before s (piece [] 0)) regrouped r) in
+    let earlier = so_far-item start line ((x, line) ∷ source) goes (begins_earlier run x v) (subst (λ (s : List Placed). ReadsSoFar start by before s (item_piece [] 0)) regrouped r) in
     subst (λ (shown : Piece). ReadsSoFar start (taken_after next last x) x source shown) (visible_more line x run v)
-    (so_far-more start next last (x, line) source (piece run (line_at line run)) earlier inner)
+    (so_far-more start next last (x, line) source (item_piece run (line_at line run)) earlier inner)
 
 line_at-some : (line : ℕ) (text : List ℕ) → 0 < length text → line_at line text ≡ line
 line_at-some line [] some = absurd (omega arith)
 line_at-some line (x ∷ xs) some = refl
 
 pub takes-whole : (start old : List Placed) (text : List ℕ) (line : ℕ) (new : List Placed)
-    → ReadsSoFar start taken.Nothing 44 old (piece [] 0) → TakesWholeItem old text line new → TakesItem start (piece text line) false new
+    → ReadsSoFar start taken.Nothing 44 old (item_piece [] 0) → TakesWholeItem old text line new → TakesItem start (item_piece text line) false new
 takes-whole start old text line new r whole =
-    let from_item = subst (λ (s : List Placed). ReadsSoFar start taken.Nothing 44 s (piece [] 0)) whole.whole r in
+    let from_item = subst (λ (s : List Placed). ReadsSoFar start taken.Nothing 44 s (item_piece [] 0)) whole.whole r in
     let read = so_far-item start line ((44, line) ∷ new) whole.item.passes_run whole.item.visible from_item in
-    subst (λ (n : ℕ). TakesItem start (piece text n) false new) (line_at-some line text whole.item.some)
-    (takes-cut start whole.item.next whole.item.last (44, line) new (piece text (line_at line text)) read whole.item.ends)
+    subst (λ (n : ℕ). TakesItem start (item_piece text n) false new) (line_at-some line text whole.item.some)
+    (takes-cut start whole.item.next whole.item.last (44, line) new (item_piece text (line_at line text)) read whole.item.ends)
 
 -- ---- how far an item on one line goes
 

@@ -19,7 +19,7 @@ use Rattle.ti_source.specs.Items.{Claim, claims_flag, claims_number, claims_text
 use Rattle.ti_source.specs.inside.Items.{field_of, after_field, items_of, statement_of}
 use Rattle.ti_source.specs.Reading.{ReadItem, ReadFault, Reading}
 use Rattle.ti_source.specs.Parsing.{ReadsItems, reads_nothing, reads_ignored, reads_judged, ReadsHeader, bad_header, long_header, good_header, Parses, HasReading, BlocksHaveOneReading}
-use Rattle.ti_source.specs.inside.Parsing.{items_at, faults_at, items_from, faults_from, names_found, header_faults, ReadsField, AddsItems, block_field, block_items, reading_of_text}
+use Rattle.ti_source.specs.inside.Parsing.{items_at, faults_at, items_from, faults_from_ordinal, names_found, header_faults, ReadsField, AddsItems, block_field, block_items, reading_of_text}
 use Rattle.ti_source.specs.inside.Verdicts.{number_verdict, text_verdict, fitting_verdict, named_verdict, verdict_of}
 use Rattle.ti_text.specs.Limits.{names_max}
 use Rattle.ti_source.specs.Verdicts.{Verdict, refused, fits, is_import, Judges, judged_import, judged_unknown, judged_wrong_kind, judged_flag, judged_cancel, judged_number, judged_bad_number, judged_large_number, judged_text, judged_odd_text, judged_bad_text, items_by, faults_by, header_fault}
@@ -111,19 +111,19 @@ piece-visible [] = tt
 piece-visible (x ∷ xs) = elim (cases_Bool (is_white_space x.0)) [ inl w ↦ rw w (piece-visible xs) | inr v ↦ rw v v ]
 
 item_reads : UnescapedAgrees → (n : ℕ) (item : List Placed) (items : List (List Placed)) (o : Option Statement) → States (piece_of item).text o
-    → ReadsItems (n + 1) items (items_from (n + 1) items) (faults_from (n + 1) items)
-    → ReadsItems n (item ∷ items) (items_at n (piece_of item).line o ++ items_from (n + 1) items) (faults_at n (piece_of item).line o ++ faults_from (n + 1) items)
-item_reads agrees n item items None states later = reads_ignored n item items (items_from (n + 1) items) (faults_from (n + 1) items) states later
+    → ReadsItems (n + 1) items (items_from (n + 1) items) (faults_from_ordinal (n + 1) items)
+    → ReadsItems n (item ∷ items) (items_at n (piece_of item).line o ++ items_from (n + 1) items) (faults_at n (piece_of item).line o ++ faults_from_ordinal (n + 1) items)
+item_reads agrees n item items None states later = reads_ignored n item items (items_from (n + 1) items) (faults_from_ordinal (n + 1) items) states later
 item_reads agrees n item items (Some s) states later =
-    reads_judged n item items (items_from (n + 1) items) (faults_from (n + 1) items) s (verdict_of s.name s.claim) states (has_verdict agrees s.name s.claim) later
+    reads_judged n item items (items_from (n + 1) items) (faults_from_ordinal (n + 1) items) s (verdict_of s.name s.claim) states (has_verdict agrees s.name s.claim) later
 
-pub has_read : UnescapedAgrees → (n : ℕ) (items : List (List Placed)) → ReadsItems n items (items_from n items) (faults_from n items)
+pub has_read : UnescapedAgrees → (n : ℕ) (items : List (List Placed)) → ReadsItems n items (items_from n items) (faults_from_ordinal n items)
 has_read agrees n [] = reads_nothing n
 has_read agrees n (item ∷ items) =
     item_reads agrees n item items (statement_of (piece_of item).text) (has_statement (piece_of item).text (piece-visible item)) (has_read agrees (n + 1) items)
 
 pub one_read : UnescapedAgrees → (n : ℕ) (items : List (List Placed)) (found : List ReadItem) (faults : List ReadFault) → ReadsItems n items found faults
-    → (found ≡ items_from n items) × (faults ≡ faults_from n items)
+    → (found ≡ items_from n items) × (faults ≡ faults_from_ordinal n items)
 one_read agrees _ _ _ _ (reads_nothing n) = (refl, refl)
 one_read agrees _ _ _ _ (reads_ignored n item items found faults states later) =
     let rest = one_read agrees (n + 1) items found faults later in
@@ -168,7 +168,7 @@ has_reading agrees block =
       rest = after_field text;
       items = block_items block;
       of_header = header_faults (block_field block) (header_names (block_field block));
-      of_items = faults_from 0 (block_items block);
+      of_items = faults_from_ordinal 0 (block_items block);
       begins = has_field text;
       cut = has_items 44 (after_field text);
       is_field = refl;
@@ -194,7 +194,7 @@ is_parsed agrees block reading p =
     (header.0 ∙ ap (λ f. names_found (header_names f)) same_field)
     (read.0 ∙ ap (items_from 0) items)
     (p.faults ∙ ap (λ f. f ++ p.of_items) (header.1 ∙ ap (λ f. header_faults f (header_names f)) same_field)
-    ∙ ap (λ f. header_faults (block_field block) (header_names (block_field block)) ++ f) (read.1 ∙ ap (faults_from 0) items))
+    ∙ ap (λ f. header_faults (block_field block) (header_names (block_field block)) ++ f) (read.1 ∙ ap (faults_from_ordinal 0) items))
 
 pub one_reading : UnescapedAgrees → BlocksHaveOneReading
 one_reading agrees block one other p q = is_parsed agrees block one p ∙ sym (is_parsed agrees block other q)
@@ -209,5 +209,5 @@ parsed_by_parts block field source rest header reading at_start is_field at_rest
     same_reading reading (reading_of_text block) (adds.same_field ∙ reads.is_field ∙ same_field)
     (adds.same_names ∙ reads.names ∙ ap (λ f. names_found (header_names f)) same_field)
     (adds.more_items ∙ ap (λ l. l ++ items_from 0 (items_of taken.Nothing 44 rest)) reads.items ∙ ap (items_from 0) same_items)
-    (adds.more_faults ∙ ap (λ l. l ++ faults_from 0 (items_of taken.Nothing 44 rest)) (reads.faults ∙ ap (λ f. header_faults f (header_names f)) same_field)
-    ∙ ap (λ l. header_faults (block_field block) (header_names (block_field block)) ++ faults_from 0 l) same_items)
+    (adds.more_faults ∙ ap (λ l. l ++ faults_from_ordinal 0 (items_of taken.Nothing 44 rest)) (reads.faults ∙ ap (λ f. header_faults f (header_names f)) same_field)
+    ∙ ap (λ l. header_faults (block_field block) (header_names (block_field block)) ++ faults_from_ordinal 0 l) same_items)

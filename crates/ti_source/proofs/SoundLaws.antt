@@ -28,7 +28,7 @@ use Rattle.ti_source.specs.Folding.{Placed, bytes_on_lines, in_comment, without_
 use Rattle.ti_source.specs.Items.{Claim, claims_flag, claims_number, claims_text, claims_cancel, Statement, bytes, without_front, line_of, piece_of}
 use Rattle.ti_source.specs.inside.Items.{after_field, taken_after, cuts, with_first, items_of, statement_of}
 use Rattle.ti_source.specs.Reading.{ReadItem, ReadFault}
-use Rattle.ti_source.specs.inside.Parsing.{items_at, faults_at, items_from, faults_from, names_found, header_faults, block_field, block_items, reading_of_text}
+use Rattle.ti_source.specs.inside.Parsing.{items_at, faults_at, items_from, faults_from_ordinal, names_found, header_faults, block_field, block_items, reading_of_text}
 use Rattle.ti_source.specs.inside.Verdicts.{number_verdict, text_verdict, fitting_verdict, named_verdict, verdict_of}
 use Rattle.ti_text.specs.Limits.{names_max}
 use Rattle.ti_source.specs.Verdicts.{Verdict, accepted, accepted_odd, refused, is_import, items_by, faults_by, header_fault}
@@ -195,14 +195,14 @@ shown-lines Q n (x ∷ xs) all = by_statement (statement_of (bytes (x ∷ xs)))
     by_statement (Some s) = (items_by-lines Q n x.1 (verdict_of s.name s.claim) all.0, faults_by-lines Q n x.1 s.name (verdict_of s.name s.claim) all.0)
 
 from-lines : (Q : ℕ → Type 0) (n : ℕ) (items : List (List Placed)) → AllByRecursion (AllByRecursion (λ (x : Placed). Q x.1)) items
-    → AllByRecursion (λ (i : ReadItem). Q i.line) (items_from n items) × AllByRecursion (λ (f : ReadFault). Q f.line) (faults_from n items)
+    → AllByRecursion (λ (i : ReadItem). Q i.line) (items_from n items) × AllByRecursion (λ (f : ReadFault). Q f.line) (faults_from_ordinal n items)
 from-lines Q n [] all = (tt, tt)
 from-lines Q n (item ∷ items) all =
     let here = shown-lines Q n (without_front item) (without_front-all (λ x. Q x.1) item all.0) in
     let later = from-lines Q (n + 1) items all.1 in
     let p = piece_of item in (
       AllByRecursion-append (λ (i : ReadItem). Q i.line) (items_at n p.line (statement_of p.text)) (items_from (n + 1) items) here.0 later.0,
-      AllByRecursion-append (λ (f : ReadFault). Q f.line) (faults_at n p.line (statement_of p.text)) (faults_from (n + 1) items) here.1 later.1,
+      AllByRecursion-append (λ (f : ReadFault). Q f.line) (faults_at n p.line (statement_of p.text)) (faults_from_ordinal (n + 1) items) here.1 later.1,
     )
 
 block_items-lines : (block : List ℕ) → last_byte 10 block ≡ 10 → AllByRecursion (AllByRecursion (λ (x : Placed). IsBetween 1 (1 + line_count block) x.1)) (block_items block)
@@ -296,12 +296,12 @@ items_from-rise n (item ∷ items) =
     rising-at (λ (i : ReadItem). i.ordinal) n (items_at n p.line (statement_of p.text)) (items_from (n + 1) items) (items_at-at n p.line (statement_of p.text)) later.0 later.1
 
 faults_from-rise : (n : ℕ) (items : List (List Placed))
-    → AllByRecursion (λ (f : ReadFault). n ≤ f.ordinal) (faults_from n items) × IsRising (map (λ (f : ReadFault). f.ordinal) (faults_from n items))
+    → AllByRecursion (λ (f : ReadFault). n ≤ f.ordinal) (faults_from_ordinal n items) × IsRising (map (λ (f : ReadFault). f.ordinal) (faults_from_ordinal n items))
 faults_from-rise n [] = (tt, tt)
 faults_from-rise n (item ∷ items) =
     let p = piece_of item in
     let later = faults_from-rise (n + 1) items in
-    rising-at (λ (f : ReadFault). f.ordinal) n (faults_at n p.line (statement_of p.text)) (faults_from (n + 1) items) (faults_at-at n p.line (statement_of p.text)) later.0 later.1
+    rising-at (λ (f : ReadFault). f.ordinal) n (faults_at n p.line (statement_of p.text)) (faults_from_ordinal (n + 1) items) (faults_at-at n p.line (statement_of p.text)) later.0 later.1
 
 -- no fault of an item is one of the names field
 abbrev IsOfItem : ReadFault → Type 0
@@ -316,11 +316,11 @@ faults_at-item : NamedIsCapability → ValuesAreSound → (n line : ℕ) (o : Op
 faults_at-item valid sound n line None = tt
 faults_at-item valid sound n line (Some s) = faults_by-item n line s.name (verdict_of s.name s.claim) (verdict_sets valid sound s.name s.claim)
 
-faults_from-item : NamedIsCapability → ValuesAreSound → (n : ℕ) (items : List (List Placed)) → AllByRecursion IsOfItem (faults_from n items)
+faults_from-item : NamedIsCapability → ValuesAreSound → (n : ℕ) (items : List (List Placed)) → AllByRecursion IsOfItem (faults_from_ordinal n items)
 faults_from-item valid sound n [] = tt
 faults_from-item valid sound n (item ∷ items) =
     let p = piece_of item in
-    AllByRecursion-append IsOfItem (faults_at n p.line (statement_of p.text)) (faults_from (n + 1) items)
+    AllByRecursion-append IsOfItem (faults_at n p.line (statement_of p.text)) (faults_from_ordinal (n + 1) items)
     (faults_at-item valid sound n p.line (statement_of p.text)) (faults_from-item valid sound (n + 1) items)
 
 header_faults-one : (field : List ℕ) (o : Option (List (List ℕ))) → (length (header_faults field o) ≤ 1) × AllByRecursion (λ (f : ReadFault). is_of_header f.code ≡ true) (header_faults field o)
@@ -344,23 +344,23 @@ well_read valid sound block one =
     let header_lines : AllByRecursion (λ (f : ReadFault). IsLineOf block f.line) (header_faults field found) = header_faults-lines (IsLineOf block) (omega arith, ends.1) field found in
     record {
       names = names-sound field found (each_header field);
-      named = λ e. named-sound field found refl (each_header field) (any-front (λ (f : ReadFault). is_error f.code) (header_faults field found) (faults_from 0 items) e);
+      named = λ e. named-sound field found refl (each_header field) (any-front (λ (f : ReadFault). is_error f.code) (header_faults field found) (faults_from_ordinal 0 items) e);
       sets = All-from_recursion Sets (items_from 0 items) (items_from-sets valid sound 0 items);
       order = record {
         of_header = header_faults field found;
-        of_items = faults_from 0 items;
+        of_items = faults_from_ordinal 0 items;
         faults = refl;
         one = (header_faults-one field found).0;
         header = All-from_recursion (λ (f : ReadFault). is_of_header f.code ≡ true) (header_faults field found) (header_faults-one field found).1;
-        item = All-from_recursion IsOfItem (faults_from 0 items) (faults_from-item valid sound 0 items);
+        item = All-from_recursion IsOfItem (faults_from_ordinal 0 items) (faults_from-item valid sound 0 items);
         items_rise = (items_from-rise 0 items).1;
         faults_rise = (faults_from-rise 0 items).1;
       };
       item_lines = All-from_recursion (λ (i : ReadItem). IsLineOf block i.line) (items_from 0 items)
           (AllByRecursion-weaker (λ (i : ReadItem). InBlock i.line) (λ (i : ReadItem). IsLineOf block i.line) (λ i h. in_block i.line h) (items_from 0 items) lines.0);
-      fault_lines = All-from_recursion (λ (f : ReadFault). IsLineOf block f.line) (header_faults field found ++ faults_from 0 items)
-          (AllByRecursion-append (λ (f : ReadFault). IsLineOf block f.line) (header_faults field found) (faults_from 0 items) header_lines
-          (AllByRecursion-weaker (λ (f : ReadFault). InBlock f.line) (λ (f : ReadFault). IsLineOf block f.line) (λ f h. in_block f.line h) (faults_from 0 items) lines.1));
+      fault_lines = All-from_recursion (λ (f : ReadFault). IsLineOf block f.line) (header_faults field found ++ faults_from_ordinal 0 items)
+          (AllByRecursion-append (λ (f : ReadFault). IsLineOf block f.line) (header_faults field found) (faults_from_ordinal 0 items) header_lines
+          (AllByRecursion-weaker (λ (f : ReadFault). InBlock f.line) (λ (f : ReadFault). IsLineOf block f.line) (λ f h. in_block f.line h) (faults_from_ordinal 0 items) lines.1));
     }
 
 -- ---- a name in the tables

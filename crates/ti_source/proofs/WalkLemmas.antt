@@ -8,7 +8,7 @@ use Rattle.std.proofs.Math.Seq.{drop-append_seam, take-append_seam}
 use Rattle.std.specs.Iterator.{MakesProgress, item_count}
 use Rattle.memchr.specs.Find.{IsFirstByte, is_byte}
 use Rattle.ti_source.specs.Blocks.{last_byte, HasNoHead, OneBlock}
-use Rattle.ti_source.specs.inside.Blocks.{front_of, blocks_of, begins_with_head, to_next_head}
+use Rattle.ti_source.specs.inside.Blocks.{front_of, blocks_from_head, begins_with_head, to_next_head}
 use Rattle.ti_source.specs.Heads.{begins_head, is_head}
 use Rattle.ti_source.proofs.CutLemmas.{front_of-head, front_of-plain, blocks_of-head, blocks_of-plain, is_head_from, is_head_parts, one_block_from}
 
@@ -16,7 +16,7 @@ use Rattle.ti_source.proofs.CutLemmas.{front_of-head, front_of-plain, blocks_of-
 record Splits (before : ℕ) (s rest : List ℕ) : Type 0 where
   pub whole : front_of before s ++ rest ≡ s
   pub front : front_of 10 rest ≡ []
-  pub left : blocks_of 10 rest ≡ blocks_of before s
+  pub left : blocks_from_head 10 rest ≡ blocks_from_head before s
 
 splits_at_head : (before : ℕ) (s : List ℕ) → (rest : List ℕ) × Splits before s rest
 splits_at_head before [] = ([], record { whole = refl; front = refl; left = refl })
@@ -128,14 +128,14 @@ last_tested s (Some x) e t is = ap (λ b. x.now == b) is ∙ ap (λ o. option_eq
 -- a text that begins with a head line: its first block, and what is left
 pub record TakesBlock (s : List ℕ) (n : ℕ) : Type 0 where
   pub within : n ≤ length s
-  pub left : blocks_of 10 s ≡ take n s ∷ blocks_of 10 (drop n s)
+  pub left : blocks_from_head 10 s ≡ take n s ∷ blocks_from_head 10 (drop n s)
   pub front : front_of 10 (drop n s) ≡ []
 
 -- a text that begins with no head line: its front, and what is left
 pub record TakesFront (s : List ℕ) (n : ℕ) : Type 0 where
   pub within : n ≤ length s
   pub preface : take n s ≡ front_of 10 s
-  pub left : blocks_of 10 (drop n s) ≡ blocks_of 10 s
+  pub left : blocks_from_head 10 (drop n s) ≡ blocks_from_head 10 s
   pub front : front_of 10 (drop n s) ≡ []
 
 pub takes_front : (s : List ℕ) (n : ℕ) → n ≡ length (front_of 10 s) → TakesFront s n

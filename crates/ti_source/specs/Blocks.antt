@@ -1,7 +1,7 @@
 -- The blocks of a source (terminfo(5); X/Open Curses Issue 7, "Terminfo Source Format"): an entry begins at a line that is not empty and begins
 -- with neither white space nor `#`, and reaches to the next such line.
 pub use Rattle.ti_source.specs.Heads.{begins_head, is_head}
-pub use Rattle.ti_source.specs.inside.Blocks.{front_of, blocks_of, Pieces}
+pub use Rattle.ti_source.specs.inside.Blocks.{front_of, blocks_from_head, Pieces}
 use Rattle.ti_text.specs.Ascii as ascii
 pub use Rattle.ti_text.specs.Texts.{last_byte}
 use Rattle.std.specs.Prelude.{◌≡◌, ℕ, true, false, ◌==◌, if◌then◌else◌, List, [], ◌∷◌, ◌++◌, All}
@@ -35,11 +35,11 @@ pub record OneBlock (text : List ℕ) : Type 0 where
 
 -- each source has a cut
 abbrev pub EachHasCut : Type 0
-EachHasCut = (s : List ℕ) → Cut s (front_of ascii.newline s) (blocks_of ascii.newline s)
+EachHasCut = (s : List ℕ) → Cut s (front_of ascii.newline s) (blocks_from_head ascii.newline s)
 
 -- a source has no other cut
-abbrev pub OneCut : Type 0
-OneCut = (s p q : List ℕ) (bs cs : List (List ℕ)) → Cut s p bs → Cut s q cs → (p ≡ q) × (bs ≡ cs)
+abbrev pub IsOnlyCut : Type 0
+IsOnlyCut = (s p q : List ℕ) (bs cs : List (List ℕ)) → Cut s p bs → Cut s q cs → (p ≡ q) × (bs ≡ cs)
 
 -- of a source that ends with a newline, or is empty, each block is one by itself
 abbrev pub BlocksAreSingle : Type 0

@@ -53,8 +53,8 @@ pub record Piece : Type 0 where
   pub line : ℕ
 
 -- the item of this text on this line
-abbrev pub piece : List ℕ → ℕ → Piece
-piece text line = record { text = text; line = line }
+abbrev pub item_piece : List ℕ → ℕ → Piece
+item_piece text line = record { text = text; line = line }
 
 -- the bytes of an item without the white space at its front
 abbrev pub without_front : List Placed → List Placed
@@ -68,7 +68,7 @@ line_of (x ∷ xs) = x.1
 
 -- an item's bytes from the first that is no white space on, with the line of that one
 abbrev pub piece_of : List Placed → Piece
-piece_of item = piece (bytes (without_front item)) (line_of (without_front item))
+piece_of item = item_piece (bytes (without_front item)) (line_of (without_front item))
 
 -- ---- what an item states: a name, and a flag, a number or a text of that name, or that it is cancelled
 

@@ -12,8 +12,8 @@ use Rattle.ti_source.specs.WhiteSpace.{is_white_space}
 abbrev pub digit_value : ℕ → ℕ
 digit_value b =
     if nat_le ascii.digit_0 b && nat_le b ascii.digit_9 then b - ascii.digit_0
-    else if nat_le (byte_of "a") b && nat_le b (byte_of "f") then b - 87
-    else if nat_le (byte_of "A") b && nat_le b (byte_of "F") then b - 55
+    else if nat_le (byte_of "a") b && nat_le b (byte_of "f") then 10 + b - byte_of "a"
+    else if nat_le (byte_of "A") b && nat_le b (byte_of "F") then 10 + b - byte_of "A"
     else 16
 
 -- a digit of a base

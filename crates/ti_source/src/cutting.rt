@@ -12,7 +12,7 @@ use crate::walk::Blocks;
 pub fn blocks(source: &[u8]) -> Blocks<'_>
     ensures cut { spec.Cut source.now result.preface result.blocks }
     ensures preface { result.preface ≡ spec.front_of ascii.newline source.now }
-    ensures blocks { result.blocks ≡ spec.blocks_of ascii.newline source.now }
+    ensures blocks { result.blocks ≡ spec.blocks_from_head ascii.newline source.now }
     ensures len { length result.blocks ≤ length source.now }
 {
     let (preface, rest) = source.split_at(preface_len(source));
@@ -33,7 +33,7 @@ pub fn each_has_cut()
 
 /// A source has one cut alone.
 pub fn one_cut()
-    ensures { spec.OneCut }
+    ensures { spec.IsOnlyCut }
 {}
 
 /// Each block of a source that ends with a newline is one block by itself.

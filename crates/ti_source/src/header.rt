@@ -33,7 +33,7 @@ pub fn is_lookup_name(name: &[u8]) -> bool
 
 // The part of `field` whose parts are its lookup names.
 fn without_description(field: &[u8]) -> &[u8]
-    ensures { computed.parts_of result.now ≡ spec.lookup_parts (computed.parts_of field.now) }
+    ensures { computed.header_parts result.now ≡ spec.lookup_parts (computed.header_parts field.now) }
 {
     match memrchr(b'|', field) {
         Some(last) => &field[..last],
@@ -42,7 +42,7 @@ fn without_description(field: &[u8]) -> &[u8]
 }
 
 fn has_no_empty_part(field: &[u8]) -> bool
-    ensures { result ≡ list_all (λ part. not (length part == 0)) (computed.parts_of field.now) }
+    ensures { result ≡ list_all (λ part. not (length part == 0)) (computed.header_parts field.now) }
 {
     field
         .split(|byte| *byte == b'|')
@@ -50,7 +50,7 @@ fn has_no_empty_part(field: &[u8]) -> bool
 }
 
 fn are_lookup_names(joined: &[u8]) -> bool
-    ensures { result ≡ list_all computed.is_lookup_name (computed.parts_of joined.now) }
+    ensures { result ≡ list_all computed.is_lookup_name (computed.header_parts joined.now) }
 {
     joined
         .split(|byte| *byte == b'|')
@@ -64,7 +64,7 @@ fn is_header(field: &[u8]) -> bool
 }
 
 fn parts(alloc: Global, joined: &[u8]) -> Result<Vec<RcSlice<u8>>, AllocError>
-    ensures { IfOk result (λ v. map rc_slice_items v.items ≡ computed.parts_of joined.now) }
+    ensures { IfOk result (λ v. map rc_slice_items v.items ≡ computed.header_parts joined.now) }
 {
     let mut parts = Vec::new(alloc);
     for part in joined.split(|byte| *byte == b'|') {

@@ -2,7 +2,7 @@
 ghost use Rattle.std.specs.Prelude.{◌≡◌, ◌+◌, ◌<◌, ◌≤◌, IfOk, IfSome, OnOk, length, take, drop, slice_index, option_map};
 ghost use Rattle.memchr.specs.Find.{IsFirstByte};
 ghost use Rattle.std.specs.Option.{option_map_or};
-ghost use Rattle.ti_source.specs.Items.{bytes, is_mark, piece, without_outer_space};
+ghost use Rattle.ti_source.specs.Items.{bytes, is_mark, item_piece, without_outer_space};
 ghost use Rattle.ti_source.specs.inside.Items.{taken_after, cuts, field_of, after_field, PassesRun, ReadsOn, TakesItem, EndsItem, IsWholeItem, with_byte, statement_in_memory, statement_of, statement_with_value, plain_statement};
 
 use crate::folding::Folded;
@@ -20,7 +20,7 @@ pub(crate) enum Taken {
 
 impl Taken {
     // What takes the byte after `byte`, which this takes and which stands just after `before`.
-    fn after(self, before: u8, byte: u8) -> Taken
+    fn next_taken(self, before: u8, byte: u8) -> Taken
         ensures { result ≡ taken_after self before byte }
     {
         match (self, byte) {
@@ -62,7 +62,7 @@ pub(crate) fn front_run(text: &[u8], taken: Taken, before: u8) -> Run<'_>
         if byte == b'\n' || next.cuts(byte) {
             break;
         }
-        next = next.after(last, byte);
+        next = next.next_taken(last, byte);
         last = byte;
         size += 1;
     }
@@ -114,7 +114,7 @@ pub(crate) struct Reached<'a> {
 // Adds a byte to the text of an item, but for white space at its front, and gives the line of the text: `line`, or `at`,
 // the line of the byte, where the byte is the first.
 fn push_visible(text: &mut Vec<u8>, line: usize, byte: u8, at: usize) -> Result<usize, AllocError>
-    ensures { IfOk result (λ l. piece text.new.items l ≡ with_byte (piece text.old.items line) (byte, at)) }
+    ensures { IfOk result (λ l. item_piece text.new.items l ≡ with_byte (item_piece text.old.items line) (byte, at)) }
 {
     if !text.is_empty() {
         text.push(byte)?;
@@ -164,7 +164,7 @@ pub(crate) fn read_item<'a>(
     source: &mut Folded<'a>,
     text: &mut Vec<u8>,
 ) -> Result<Reached<'a>, AllocError>
-    ensures { IfOk result (λ item. TakesItem source.old (piece (option_map_or (λ t. t.now) item.whole text.new.items) item.line) item.last source.new) }
+    ensures { IfOk result (λ item. TakesItem source.old (item_piece (option_map_or (λ t. t.now) item.whole text.new.items) item.line) item.last source.new) }
 {
     source.skip_white_space();
     // most items stand on one line
@@ -180,7 +180,7 @@ pub(crate) fn read_item<'a>(
 
 // The same, byte by byte and run by run, from behind the white space at the front of the item.
 fn read_runs<'a>(source: &mut Folded<'a>, text: &mut Vec<u8>) -> Result<Reached<'a>, AllocError>
-    ensures { IfOk result (λ item. EndsItem source.old (piece (option_map_or (λ t. t.now) item.whole text.new.items) item.line) item.last source.new) }
+    ensures { IfOk result (λ item. EndsItem source.old (item_piece (option_map_or (λ t. t.now) item.whole text.new.items) item.line) item.last source.new) }
 {
     text.clear();
     let mut line = 0;
@@ -196,7 +196,7 @@ fn read_runs<'a>(source: &mut Folded<'a>, text: &mut Vec<u8>) -> Result<Reached<
         }
         line = push_visible(text, line, byte, at)?;
         // most bytes of an item stand in such runs, which are added at once
-        (taken, before) = push_run(source, text, taken.after(before, byte), byte)?;
+        (taken, before) = push_run(source, text, taken.next_taken(before, byte), byte)?;
     }
     Ok(Reached {
         whole: None,

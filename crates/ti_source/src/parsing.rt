@@ -1,7 +1,7 @@
 // A block as it is read.
 ghost use Rattle.std.specs.Prelude.{◌≡◌, ◌<◌, ◌+◌, ◌^◌, IfOk, OnOk, length};
 ghost use Rattle.ti_source.specs.Blocks.{OneBlock};
-ghost use Rattle.ti_source.specs.Items.{piece};
+ghost use Rattle.ti_source.specs.Items.{item_piece};
 ghost use Rattle.ti_source.specs.Parsing.{Parses, HasReading, BlocksHaveOneReading};
 ghost use Rattle.ti_source.specs.inside.Parsing.{reading_of_text, AddsItem, AddsItems, ReadsField};
 ghost use Rattle.ti_source.specs.Verdicts.{header_fault, item_fault};
@@ -176,7 +176,7 @@ fn add_item(
     shared: &mut SharedTexts,
     parsed: &mut Parsed,
 ) -> Result<(), AllocError>
-    ensures { OnOk result (AddsItem ordinal (piece text.now line) (reading_of parsed.old) (reading_of parsed.new)) }
+    ensures { OnOk result (AddsItem ordinal (item_piece text.now line) (reading_of parsed.old) (reading_of parsed.new)) }
 {
     let Some(statement) = statement_of(text) else {
         return Ok(());

@@ -17,11 +17,11 @@ pub struct Blocks<'a> {
 impl<'a> Model for Blocks<'a> {
     ghost use Rattle.ti_text.specs.Ascii as ascii;
     ghost use Rattle.std.specs.Prelude.{◌≡◌, []};
-    ghost use Rattle.ti_source.specs.inside.Blocks.{Pieces, front_of, blocks_of};
+    ghost use Rattle.ti_source.specs.inside.Blocks.{Pieces, front_of, blocks_from_head};
 
     ghost Value = { Pieces };
 
-    ghost view = { λ b. record { preface = b.preface.now; blocks = blocks_of ascii.newline b.rest.now } };
+    ghost view = { λ b. record { preface = b.preface.now; blocks = blocks_from_head ascii.newline b.rest.now } };
 
     ghost invariant = { λ b. front_of ascii.newline b.rest.now ≡ [] };
 }
@@ -30,7 +30,7 @@ impl<'a> Blocks<'a> {
     pub(crate) fn new(preface: &'a [u8], rest: &'a [u8]) -> Blocks<'a>
         requires { spec.front_of ascii.newline rest.now ≡ [] }
         ensures preface { result.preface ≡ preface.now }
-        ensures left { result.blocks ≡ spec.blocks_of ascii.newline rest.now }
+        ensures left { result.blocks ≡ spec.blocks_from_head ascii.newline rest.now }
     {
         Blocks { preface, rest }
     }

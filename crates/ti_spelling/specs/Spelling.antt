@@ -52,7 +52,7 @@ octal_value digits = octal_value_from 0 digits
 
 -- terminfo(5): a string can't hold a NUL, and 0200 stands for it, which most terminals take as one
 abbrev pub not_nul : ℕ → ℕ
-not_nul byte = if byte == ascii.nul then 128 else byte
+not_nul byte = if byte == ascii.nul then ascii.in_place_of_nul else byte
 
 -- whether a byte is a `%`, after which a `^` is literal (own), so that the operator `%^` stays as it is
 abbrev pub is_percent : ℕ → Bool

@@ -12,6 +12,10 @@ byte_of c = code c
 abbrev pub nul : ℕ
 nul = 0
 
+-- 0x80, which stands in a string for the NUL that would end it
+abbrev pub in_place_of_nul : ℕ
+in_place_of_nul = 128
+
 -- BEL
 abbrev pub bell : ℕ
 bell = 7

@@ -6,7 +6,7 @@ use ti_tools::{File, MemTree, TicOptions, TicOutcome, ToolError, place, tic};
 const DUMB: &[u8] =
     b"dumb|80-column dumb tty,\n\tam, cols#80, bel=^G, cr=\\r, cud1=\\n, ind=\\n,\n";
 
-fn made(alloc: Global, source: &[u8], check: bool) -> Result<TicOutcome, ToolError> {
+fn tic_outcome(alloc: Global, source: &[u8], check: bool) -> Result<TicOutcome, ToolError> {
     let dir = String::from_str(alloc, "out")?;
     tic(alloc, source, &TicOptions { check, dir })
 }
@@ -19,7 +19,7 @@ fn push_many(bytes: &mut Vec<u8>, byte: u8, count: usize) -> Result<(), AllocErr
 }
 
 // `before`, so many times `byte`, and `after`.
-fn joined(
+fn text_with_run(
     alloc: Global,
     before: &[u8],
     byte: u8,
@@ -41,7 +41,7 @@ fn are_placed(alloc: Global, files: &[File], path: &str, bytes: &[u8]) -> bool {
 #[test]
 fn the_smallest_useful_entry(rt: HostRuntime) -> Result<(), ToolError> {
     let alloc = rt.alloc();
-    let outcome = made(alloc, DUMB, false)?;
+    let outcome = tic_outcome(alloc, DUMB, false)?;
     assert!(rt; outcome.report.is_empty() && outcome.status == 0);
     let entry = dumb(alloc)?;
     assert_eq!(rt; entry.len(), 308);
@@ -69,7 +69,7 @@ const COMPILED: [Compiled; 8] = [
 
 // Whether a source without a fault has this one file.
 fn is_compiled(alloc: Global, row: &Compiled) -> Result<bool, ToolError> {
-    let outcome = made(alloc, row.source, false)?;
+    let outcome = tic_outcome(alloc, row.source, false)?;
     Ok(match outcome.files.as_slice() {
         [file] => {
             outcome.report.is_empty() && outcome.status == 0 && file.bytes.as_slice() == row.entry
@@ -125,7 +125,7 @@ fn is_outcome(outcome: &TicOutcome, report: &[u8], status: u8, files: usize) -> 
 #[test]
 fn sources_with_faults(rt: HostRuntime) -> Result<(), ToolError> {
     for row in &REPORTED {
-        let outcome = made(rt.alloc(), row.source, false)?;
+        let outcome = tic_outcome(rt.alloc(), row.source, false)?;
         assert!(rt; is_outcome(&outcome, row.report, row.status, row.files));
     }
     Ok(())
@@ -147,16 +147,16 @@ fn are_of_two_names(files: &[File]) -> bool {
 #[test]
 fn the_files_of_a_block_with_two_names(rt: HostRuntime) -> Result<(), ToolError> {
     let source = b"# c\na|b|a|d,foo,\n";
-    let checked = made(rt.alloc(), source, true)?;
+    let checked = tic_outcome(rt.alloc(), source, true)?;
     assert!(rt; is_outcome(&checked, b"2: W1 UnknownCapability foo\n", 0, 0));
-    let outcome = made(rt.alloc(), source, false)?;
+    let outcome = tic_outcome(rt.alloc(), source, false)?;
     assert!(rt; are_of_two_names(outcome.files.as_slice()));
     Ok(())
 }
 
 // How long the only entry of a source without a report is.
 fn entry_length(alloc: Global, source: &[u8]) -> Result<Option<usize>, ToolError> {
-    let outcome = made(alloc, source, false)?;
+    let outcome = tic_outcome(alloc, source, false)?;
     Ok(match outcome.files.as_slice() {
         [file] if outcome.report.is_empty() => Some(file.bytes.len()),
         _ => None,
@@ -165,16 +165,16 @@ fn entry_length(alloc: Global, source: &[u8]) -> Result<Option<usize>, ToolError
 
 // Whether a source has an error with this report, and so no file.
 fn has_error(alloc: Global, source: &[u8], report: &[u8]) -> Result<bool, ToolError> {
-    let outcome = made(alloc, source, false)?;
+    let outcome = tic_outcome(alloc, source, false)?;
     Ok(is_outcome(&outcome, report, 1, 0))
 }
 
 #[test]
 fn names_at_their_limit(rt: HostRuntime) -> Result<(), ToolError> {
     let alloc = rt.alloc();
-    let most = joined(alloc, b"", b'n', 127, b",\n")?;
+    let most = text_with_run(alloc, b"", b'n', 127, b",\n")?;
     assert!(rt; entry_length(alloc, &most)? == Some(140));
-    let more = joined(alloc, b"", b'n', 128, b",\n")?;
+    let more = text_with_run(alloc, b"", b'n', 128, b",\n")?;
     assert!(rt; has_error(alloc, &more, b"1: E2 NamesTooLong\n")?);
     Ok(())
 }
@@ -182,9 +182,9 @@ fn names_at_their_limit(rt: HostRuntime) -> Result<(), ToolError> {
 #[test]
 fn an_entry_at_its_limit(rt: HostRuntime) -> Result<(), ToolError> {
     let alloc = rt.alloc();
-    let most = joined(alloc, b"x,cbt=", b'A', 4079, b",\n")?;
+    let most = text_with_run(alloc, b"x,cbt=", b'A', 4079, b",\n")?;
     assert!(rt; entry_length(alloc, &most)? == Some(4096));
-    let more = joined(alloc, b"x,cbt=", b'A', 4080, b",\n")?;
+    let more = text_with_run(alloc, b"x,cbt=", b'A', 4080, b",\n")?;
     assert!(rt; has_error(alloc, &more, b"1: E9 TooLarge x\n")?);
     Ok(())
 }
@@ -199,9 +199,9 @@ fn refusal(alloc: Global, source: &[u8]) -> Option<ToolError> {
 fn a_block_at_its_limit(rt: HostRuntime) -> Result<(), ToolError> {
     let alloc = rt.alloc();
     // the newline that is added counts
-    let most = joined(alloc, b"# c\nx,\n#", b'a', 1_048_571, b"")?;
-    assert_eq!(rt; made(alloc, &most, true)?.status, 0);
-    let more = joined(alloc, b"# c\nx,\n#", b'a', 1_048_572, b"")?;
+    let most = text_with_run(alloc, b"# c\nx,\n#", b'a', 1_048_571, b"")?;
+    assert_eq!(rt; tic_outcome(alloc, &most, true)?.status, 0);
+    let more = text_with_run(alloc, b"# c\nx,\n#", b'a', 1_048_572, b"")?;
     assert!(rt; refusal(alloc, &more) == Some(ToolError::BlockTooLong(2)));
     Ok(())
 }

@@ -2,8 +2,8 @@
 use Rattle.std.proofs.Common.{◌≡◌, ◌⊎◌, ℕ, suc, ◌-◌, ◌<◌, ◌==◌, true, false, List, [], ◌∷◌, ◌++◌, length, map, get_or, Some, slice_get, refl, sym, ap, ap₂, ◌∙◌, inl, inr, arith}
 use Rattle.std.proofs.lemmas.Bool.{and_parts, cases_Bool, eqb-true, eq-eqb}
 use Rattle.std.proofs.lemmas.Option.{slice_get-get_or}
-use Rattle.ti_source.specs.Blocks.{begins_head, is_head, last_byte, front_of, blocks_of}
-use Rattle.ti_tools.specs.Sources.{with_last_newline, preface_of, texts_of}
+use Rattle.ti_source.specs.Blocks.{begins_head, is_head, last_byte, front_of, blocks_from_head}
+use Rattle.ti_tools.specs.Sources.{with_last_newline, preface_of, source_texts}
 
 last_byte-get_or : (before : ℕ) (text : List ℕ) → 0 < length text → last_byte before text ≡ get_or text (length text - 1) 0
 last_byte-get_or before [] h = absurd (omega arith)
@@ -24,7 +24,7 @@ newline_before_head : (before x : ℕ) → is_head before x ≡ true → before 
 newline_before_head before x head = eqb-true before 10 (and_parts (before == 10) (begins_head x) head).0
 
 -- what stands before the first head line is all, or ends with a newline
-front_of-ends : (before : ℕ) (s : List ℕ) → (blocks_of before s ≡ []) ⊎ (last_byte before (front_of before s) ≡ 10)
+front_of-ends : (before : ℕ) (s : List ℕ) → (blocks_from_head before s ≡ []) ⊎ (last_byte before (front_of before s) ≡ 10)
 front_of-ends before [] = inl refl
 front_of-ends before (x ∷ xs) =
     elim (cases_Bool (is_head before x)) [
@@ -55,18 +55,18 @@ all_but_last text [] h rest = tt
 all_but_last text (next ∷ texts) (inl bad) rest = absurd (cc)
 all_but_last text (next ∷ texts) (inr same) rest = (same, rest)
 
-pub blocks_of-all_but_last : (before : ℕ) (s : List ℕ) → AllButLastEnded (blocks_of before s)
+pub blocks_of-all_but_last : (before : ℕ) (s : List ℕ) → AllButLastEnded (blocks_from_head before s)
 blocks_of-all_but_last before [] = tt
 blocks_of-all_but_last before (x ∷ xs) =
     elim (cases_Bool (is_head before x)) [
-      | inl t ↦ rw t (all_but_last (x ∷ front_of x xs) (blocks_of x xs)
+      | inl t ↦ rw t (all_but_last (x ∷ front_of x xs) (blocks_from_head x xs)
           (elim (front_of-ends x xs) [ inl none ↦ inl none | inr e ↦ inr (ended-of_newline (x ∷ front_of x xs) e) ])
           (blocks_of-all_but_last x xs))
       | inr f ↦ rw f (blocks_of-all_but_last x xs)
     ]
 
 -- the blocks of a text that ends with a newline do so too
-blocks_of-of_newline : (before : ℕ) (s : List ℕ) → last_byte before s ≡ 10 → map with_last_newline (blocks_of before s) ≡ blocks_of before s
+blocks_of-of_newline : (before : ℕ) (s : List ℕ) → last_byte before s ≡ 10 → map with_last_newline (blocks_from_head before s) ≡ blocks_from_head before s
 blocks_of-of_newline before [] e = refl
 blocks_of-of_newline before (x ∷ xs) e =
     elim (cases_Bool (is_head before x)) [
@@ -79,7 +79,7 @@ no_head_at_newline before f = rw f
 
 -- a newline put at the end of a text whose last line is not ended: where it comes to stand
 record IsEndedAt (before : ℕ) (s : List ℕ) : Type 0 where
-  apart : ((blocks_of before s ≡ []) × (front_of before (s ++ 10 ∷ []) ≡ front_of before s ++ 10 ∷ []) × (front_of before s ≡ s))
+  apart : ((blocks_from_head before s ≡ []) × (front_of before (s ++ 10 ∷ []) ≡ front_of before s ++ 10 ∷ []) × (front_of before s ≡ s))
       ⊎ ((front_of before (s ++ 10 ∷ []) ≡ front_of before s) × (last_byte before (front_of before s) ≡ 10))
 
 front_of-newline : (before : ℕ) (s : List ℕ) → (last_byte before s == 10) ≡ false → IsEndedAt before s
@@ -101,7 +101,7 @@ block-newline x xs f =
       | inr part ↦ ap (λ r. x ∷ r) part.0 ∙ sym (ended-of_newline (x ∷ front_of x xs) part.1)
     ]
 
-blocks_of-newline : (before : ℕ) (s : List ℕ) → (last_byte before s == 10) ≡ false → blocks_of before (s ++ 10 ∷ []) ≡ map with_last_newline (blocks_of before s)
+blocks_of-newline : (before : ℕ) (s : List ℕ) → (last_byte before s == 10) ≡ false → blocks_from_head before (s ++ 10 ∷ []) ≡ map with_last_newline (blocks_from_head before s)
 blocks_of-newline before [] f = rw (no_head_at_newline before f)
 blocks_of-newline before (x ∷ xs) f =
     elim (cases_Bool (is_head before x)) [
@@ -110,7 +110,7 @@ blocks_of-newline before (x ∷ xs) f =
     ]
 
 -- the blocks of a source are those of the source as it stands, each with a newline at its end
-pub texts_of-blocks : (source : List ℕ) → texts_of source ≡ map with_last_newline (blocks_of 10 source)
+pub texts_of-blocks : (source : List ℕ) → source_texts source ≡ map with_last_newline (blocks_from_head 10 source)
 texts_of-blocks source =
     elim (cases_Bool (last_byte 10 source == 10)) [
       | inl t ↦ rw t (sym (blocks_of-of_newline 10 source (eqb-true (last_byte 10 source) 10 t)))
@@ -118,7 +118,7 @@ texts_of-blocks source =
     ]
 
 -- its preface is that of the source as it stands, where there is a block
-pub preface_of-front : (source : List ℕ) → (blocks_of 10 source ≡ []) ⊎ (preface_of source ≡ front_of 10 source)
+pub preface_of-front : (source : List ℕ) → (blocks_from_head 10 source ≡ []) ⊎ (preface_of source ≡ front_of 10 source)
 preface_of-front source =
     elim (cases_Bool (last_byte 10 source == 10)) [
       | inl t ↦ inr (rw t refl)

@@ -13,7 +13,7 @@ use Rattle.ti_meaning.specs.Owner.{is_among, readings}
 use Rattle.ti_meaning.specs.inside.Reaching.{is_owner}
 use Rattle.ti_meaning.specs.Faults.{distinct_after}
 use Rattle.ti_devices.specs.Tree.{FileAt}
-use Rattle.ti_tools.specs.EntryFiles.{IsAsciiName, files_at, files_for, files_from, files_of, own_names}
+use Rattle.ti_tools.specs.EntryFiles.{IsAsciiName, files_at, files_for, files_from, source_files, own_names}
 use Rattle.ti_devices.specs.Paths.{path_of}
 
 -- the files for names that stand behind others
@@ -127,10 +127,10 @@ files_joined old new file left next wanted is_new is_left whole =
 
 -- the files of the blocks before `at` were made
 abbrev pub IsFiledTo : List ℕ → List (List ℕ) → List FileAt → ℕ → Type 0
-IsFiledTo dir texts files at = files ++ files_from dir texts at (drop at texts) ≡ files_of dir texts
+IsFiledTo dir texts files at = files ++ files_from dir texts at (drop at texts) ≡ source_files dir texts
 
 pub filed_to_start : (dir : List ℕ) (texts : List (List ℕ)) → IsFiledTo dir texts [] 0
-unfolding files_of
+unfolding source_files
 filed_to_start dir texts = refl
 
 pub filed_to_next : (dir : List ℕ) (texts : List (List ℕ)) (old new : List FileAt) (at : ℕ) → at < length texts

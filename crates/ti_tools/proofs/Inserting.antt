@@ -6,7 +6,7 @@ use Rattle.std.proofs.lemmas.List.{append-nil, append_assoc, length-append, leng
 use Rattle.std.proofs.lemmas.Option.{none-some, same_Some, slice_get_within}
 use Rattle.std.proofs.lemmas.List.Elements.{All-head, All-tail}
 use Rattle.std.proofs.Math.Seq.{drop-length, take-length}
-use Rattle.ti_source.specs.Blocks.{OneBlock, blocks_of, front_of, last_byte}
+use Rattle.ti_source.specs.Blocks.{OneBlock, blocks_from_head, front_of, last_byte}
 use Rattle.ti_source.specs.Lines.{line_count}
 use Rattle.ti_meaning.specs.Edits.{IsRefusal, IsSoundEdit, list_after, insertion}
 use Rattle.ti_meaning.specs.declared.edits.EditError.{EditError}
@@ -22,16 +22,16 @@ insert-end texts text = rw (take-length texts, drop-length texts)
 -- The texts were put in, and `rest` are the blocks of the source from there on; up to there it is not refused.
 pub record IsPutTo (source : List ℕ) (texts rest : List (List ℕ)) : Type 0 where
   pub seen : List ℕ
-  pub whole : texts ++ rest ≡ blocks_of 10 source
+  pub whole : texts ++ rest ≡ blocks_from_head 10 source
   pub same : source_refusal source ≡ refusal_after 65535 seen (length texts) rest
   pub single : All OneBlock rest
 
-pub put_to_start : (source : List ℕ) → last_byte 10 source ≡ 10 → All OneBlock (blocks_of 10 source) → IsPutTo source [] (blocks_of 10 source)
+pub put_to_start : (source : List ℕ) → last_byte 10 source ≡ 10 → All OneBlock (blocks_from_head 10 source) → IsPutTo source [] (blocks_from_head 10 source)
 unfolding refusal_within
 put_to_start source is_ended single = record {
   seen = preface_of source;
   whole = refl;
-  same = ap (λ (t : List ℕ). refusal_after 65535 (preface_of source) 0 (blocks_of 10 t)) (ended-of_newline source is_ended);
+  same = ap (λ (t : List ℕ). refusal_after 65535 (preface_of source) 0 (blocks_from_head 10 t)) (ended-of_newline source is_ended);
   single = single;
 }
 
@@ -67,7 +67,7 @@ put_to_after source seen (text ∷ front) back put taken =
     get_middle (y ∷ xs) x ys = get_middle xs x ys
 
 -- all are put in
-pub put_to_end : (source : List ℕ) (texts : List (List ℕ)) → IsPutTo source texts [] → (texts ≡ blocks_of 10 source) × (source_refusal source ≡ None)
+pub put_to_end : (source : List ℕ) (texts : List (List ℕ)) → IsPutTo source texts [] → (texts ≡ blocks_from_head 10 source) × (source_refusal source ≡ None)
 put_to_end source texts put = (sym (append-nil texts) ∙ put.whole, put.same)
 
 -- the next text is refused for want of memory, or the source is refused
@@ -91,15 +91,15 @@ split_at [] at x e = absurd (none-some x e)
 split_at (y ∷ ys) zero x e = ap (λ z. z ∷ ys) (sym (same_Some y x e))
 split_at (y ∷ ys) (suc at) x e = ap (λ zs. y ∷ zs) (split_at ys at x e)
 
-put_to_blocks : (source : List ℕ) (front back : List (List ℕ)) → last_byte 10 source ≡ 10 → All OneBlock (blocks_of 10 source) → front ++ back ≡ blocks_of 10 source → AreTaken front → IsPutTo source front back
+put_to_blocks : (source : List ℕ) (front back : List (List ℕ)) → last_byte 10 source ≡ 10 → All OneBlock (blocks_from_head 10 source) → front ++ back ≡ blocks_from_head 10 source → AreTaken front → IsPutTo source front back
 put_to_blocks source front back is_ended single whole taken =
     put_to_after source [] front back (subst (λ (rest : List (List ℕ)). IsPutTo source [] rest) (sym whole) (put_to_start source is_ended single)) taken
 
-pub load_sound : (source : List ℕ) (texts : List (List ℕ)) → last_byte 10 source ≡ 10 → All OneBlock (blocks_of 10 source) → texts ≡ blocks_of 10 source → AreTaken texts → source_refusal source ≡ None
+pub load_sound : (source : List ℕ) (texts : List (List ℕ)) → last_byte 10 source ≡ 10 → All OneBlock (blocks_from_head 10 source) → texts ≡ blocks_from_head 10 source → AreTaken texts → source_refusal source ≡ None
 load_sound source texts is_ended single whole taken =
     (put_to_end source texts (put_to_blocks source texts [] is_ended single (append-nil texts ∙ whole) taken)).1
 
-pub load_refused : (source : List ℕ) (texts : List (List ℕ)) (error : EditError) → last_byte 10 source ≡ 10 → All OneBlock (blocks_of 10 source) → texts ≡ blocks_of 10 source
+pub load_refused : (source : List ℕ) (texts : List (List ℕ)) (error : EditError) → last_byte 10 source ≡ 10 → All OneBlock (blocks_from_head 10 source) → texts ≡ blocks_from_head 10 source
     → (error ≡ Memory) ⊎ IsLoadRefusal texts error → (error ≡ Memory) ⊎ IsSome (source_refusal source)
 load_refused source texts error is_ended single whole (inl memory) = inl memory
 load_refused source texts error is_ended single whole (inr r) =
@@ -114,9 +114,9 @@ load_refused source texts error is_ended single whole (inr r) =
 
 -- what comes of a source that ends with a newline and is not refused
 pub result-ended : (source : List ℕ) (check : Bool) (dir : List ℕ) → last_byte 10 source ≡ 10 → source_refusal source ≡ None
-    → tic_result source check dir ≡ Ok (compilation check dir (line_count (front_of 10 source) + 1) (blocks_of 10 source))
+    → tic_result source check dir ≡ Ok (compilation check dir (line_count (front_of 10 source) + 1) (blocks_from_head 10 source))
 result-ended source check dir is_ended sound =
-    rw sound (ap (λ (t : List ℕ). Ok (compilation check dir (line_count (front_of 10 t) + 1) (blocks_of 10 t))) (ended-of_newline source is_ended))
+    rw sound (ap (λ (t : List ℕ). Ok (compilation check dir (line_count (front_of 10 t) + 1) (blocks_from_head 10 t))) (ended-of_newline source is_ended))
 
 -- a newline that is put at the end of a source without one changes nothing
 pub result-newline : (source : List ℕ) (check : Bool) (dir : List ℕ) → (last_byte 10 source == 10) ≡ false → tic_result (source ++ 10 ∷ []) check dir ≡ tic_result source check dir
@@ -124,4 +124,4 @@ unfolding refusal_within
 result-newline source check dir open_end =
     let same : with_last_newline (source ++ 10 ∷ []) ≡ with_last_newline source =
     ended-of_newline (source ++ 10 ∷ []) (last_byte-newline 10 source) ∙ sym (rw open_end refl) in
-    ap (λ (t : List ℕ). refusal_or (refusal_after 65535 (front_of 10 t) 0 (blocks_of 10 t)) (compilation check dir (line_count (front_of 10 t) + 1) (blocks_of 10 t))) same
+    ap (λ (t : List ℕ). refusal_or (refusal_after 65535 (front_of 10 t) 0 (blocks_from_head 10 t)) (compilation check dir (line_count (front_of 10 t) + 1) (blocks_from_head 10 t))) same

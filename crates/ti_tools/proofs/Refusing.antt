@@ -3,7 +3,7 @@ use Rattle.std.proofs.Common.{◌≡◌, ◌⊎◌, ℕ, suc, ◌+◌, false, Li
 use Rattle.std.specs.List.{concat}
 use Rattle.std.proofs.lemmas.List.{append_assoc, length-append}
 use Rattle.ti_text.specs.Limits.{block_bytes_max}
-use Rattle.ti_source.specs.Blocks.{Cut, blocks_of, front_of}
+use Rattle.ti_source.specs.Blocks.{Cut, blocks_from_head, front_of}
 use Rattle.ti_tools.specs.Sources.{with_last_newline, preface_of, refusal_after, refusal_within}
 use Rattle.ti_tools.proofs.Ending.{AllButLastEnded, blocks_of-all_but_last, preface_of-front, texts_of-blocks}
 
@@ -21,14 +21,14 @@ refusal_after-front most before front blocks (inl none) = rw none
 refusal_after-front most before front blocks (inr same) = rw same
 
 pub checked_to_start : (most : ℕ) (source preface : List ℕ) (blocks : List (List ℕ)) → Cut source preface blocks
-    → preface ≡ front_of 10 source → blocks ≡ blocks_of 10 source → IsCheckedTo most source (length preface) 0 blocks
+    → preface ≡ front_of 10 source → blocks ≡ blocks_from_head 10 source → IsCheckedTo most source (length preface) 0 blocks
 unfolding refusal_within
 checked_to_start most source preface blocks cut is_front is_blocks = record {
   seen = preface;
   whole = cut.whole;
   at = refl;
   ends = rw is_blocks (blocks_of-all_but_last 10 source);
-  same = rw (texts_of-blocks source, is_blocks, is_front) (refusal_after-front most (preface_of source) (front_of 10 source) (blocks_of 10 source) (preface_of-front source));
+  same = rw (texts_of-blocks source, is_blocks, is_front) (refusal_after-front most (preface_of source) (front_of 10 source) (blocks_from_head 10 source) (preface_of-front source));
 }
 
 refusal_after-next : (most : ℕ) (seen : List ℕ) (count : ℕ) (text : List ℕ) (rest : List (List ℕ)) → AllButLastEnded (text ∷ rest)

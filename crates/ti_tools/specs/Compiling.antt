@@ -5,9 +5,9 @@ use Rattle.ti_source.specs.Code.{is_error}
 use Rattle.ti_meaning.specs.Owner.{readings}
 use Rattle.ti_meaning.specs.Faults.{SourceFault, faults}
 use Rattle.ti_meaning.specs.Report.{report}
-use Rattle.ti_tools.specs.EntryFiles.{files_of}
+use Rattle.ti_tools.specs.EntryFiles.{source_files}
 use Rattle.ti_devices.specs.Placing.{entries}
-use Rattle.ti_tools.specs.Sources.{first_line, source_refusal, texts_of}
+use Rattle.ti_tools.specs.Sources.{first_line, source_refusal, source_texts}
 use Rattle.ti_devices.specs.Tree.{FileAt}
 use Rattle.ti_tools.specs.declared.outcome.TicOutcome.{TicOutcome}
 use Rattle.ti_devices.specs.declared.tool_error.ToolError.{ToolError}
@@ -20,15 +20,15 @@ pub record Compilation : Type 0 where
   pub status : ℕ
 
 -- 1 where one of the faults is an error
-abbrev pub status_of : List SourceFault → ℕ
-status_of found = if list_any (λ (fault : SourceFault). is_error fault.code) found then 1 else 0
+abbrev pub fault_status : List SourceFault → ℕ
+fault_status found = if list_any (λ (fault : SourceFault). is_error fault.code) found then 1 else 0
 
 -- what comes of a source of these blocks, of which the first line has that number
 abbrev pub compilation : Bool → List ℕ → ℕ → List (List ℕ) → Compilation
 compilation check dir first texts = record {
-  files = if check then [] else files_of dir texts;
+  files = if check then [] else source_files dir texts;
   report = report texts first;
-  status = status_of (faults (readings texts));
+  status = fault_status (faults (readings texts));
 }
 
 -- the refusal of a source, if there is one, else what comes of it
@@ -39,7 +39,7 @@ refusal_or (Some error) made = Err error
 -- what comes of a source: a refusal, or all that its blocks make
 abbrev pub tic_result : List ℕ → Bool → List ℕ → Result Compilation ToolError
 tic_result source check dir =
-    refusal_or (source_refusal source) (compilation check dir (first_line source) (texts_of source))
+    refusal_or (source_refusal source) (compilation check dir (first_line source) (source_texts source))
 
 -- an outcome that holds files and report in memory, as plain data
 abbrev pub compilation_of : TicOutcome → Compilation

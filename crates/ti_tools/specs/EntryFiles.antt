@@ -45,5 +45,5 @@ abbrev pub is_seen : BTreeSet (Bor (List ℕ)) → List ℕ → Bool
 is_seen seen name = contains_by (λ key. slice_cmp nat_cmp name key.now) seen
 
 -- the files of a source
-unfoldable pub files_of : List ℕ → List (List ℕ) → List FileAt
-files_of dir texts = files_from dir texts 0 texts
+unfoldable pub source_files : List ℕ → List (List ℕ) → List FileAt
+source_files dir texts = files_from dir texts 0 texts

@@ -15,12 +15,12 @@ abbrev pub listings : List Shown → Layout → List ℕ
 listings entries layout = flat_map (λ (entry : Shown). listing entry.field entry.table layout) entries
 
 -- what is printed of the first entry and of others, of which there is one at least
-abbrev pub printed_text : InfocmpMode → Shown → List Shown → Layout → List ℕ
-printed_text mode.List first others layout = listings (first ∷ others) layout
-printed_text mode.Differ first others layout = flat_map (λ other. comparison first other rows.Differ layout.order) others
-printed_text mode.Common first others layout = flat_map (λ other. comparison first other rows.Common layout.order) others
-printed_text mode.Neither first others layout = flat_map (λ other. comparison first other rows.Neither layout.order) others
-printed_text mode.Relative first others layout = relative first others layout
+abbrev pub printed_listing : InfocmpMode → Shown → List Shown → Layout → List ℕ
+printed_listing mode.List first others layout = listings (first ∷ others) layout
+printed_listing mode.Differ first others layout = flat_map (λ other. comparison first other rows.Differ layout.order) others
+printed_listing mode.Common first others layout = flat_map (λ other. comparison first other rows.Common layout.order) others
+printed_listing mode.Neither first others layout = flat_map (λ other. comparison first other rows.Neither layout.order) others
+printed_listing mode.Relative first others layout = relative first others layout
 
 -- what is printed of one entry or none: their listings, and in another mode nothing, since it takes two
 abbrev pub text_alone : InfocmpMode → List Shown → Layout → Option (List ℕ)
@@ -31,4 +31,4 @@ text_alone _ entries layout = None
 abbrev pub infocmp_result : List Shown → InfocmpOptions → Option (List ℕ)
 infocmp_result [] options = text_alone options.mode [] options.layout
 infocmp_result (first ∷ []) options = text_alone options.mode (first ∷ []) options.layout
-infocmp_result (first ∷ other ∷ others) options = Some (printed_text options.mode first (other ∷ others) options.layout)
+infocmp_result (first ∷ other ∷ others) options = Some (printed_listing options.mode first (other ∷ others) options.layout)

@@ -3,7 +3,7 @@
 use Rattle.std.specs.Prelude.{ℕ, suc, ◌+◌, ◌==◌, List, [], ◌∷◌, ◌++◌, length, Option, Some, None, nat_le, nat_lt, if◌then◌else◌}
 use Rattle.ti_text.specs.Ascii as ascii
 use Rattle.ti_text.specs.Limits.{block_bytes_max, blocks_max}
-use Rattle.ti_source.specs.Blocks.{blocks_of, front_of, last_byte}
+use Rattle.ti_source.specs.Blocks.{blocks_from_head, front_of, last_byte}
 use Rattle.ti_source.specs.Lines.{line_count}
 use Rattle.ti_devices.specs.declared.tool_error.ToolError.{ToolError}
 use Rattle.ti_devices.specs.declared.tool_error.ToolError.TheVariants.{BlockTooLong, TooManyBlocks}
@@ -17,8 +17,8 @@ abbrev pub preface_of : List ℕ → List ℕ
 preface_of source = front_of ascii.newline (with_last_newline source)
 
 -- the texts of the blocks
-abbrev pub texts_of : List ℕ → List (List ℕ)
-texts_of source = blocks_of ascii.newline (with_last_newline source)
+abbrev pub source_texts : List ℕ → List (List ℕ)
+source_texts source = blocks_from_head ascii.newline (with_last_newline source)
 
 -- the number of the first block's first line
 abbrev pub first_line : List ℕ → ℕ
@@ -35,7 +35,7 @@ refusal_after most before count (text ∷ texts) =
 
 -- why a source of which so many blocks may be compiled is refused, if it is
 unfoldable pub refusal_within : ℕ → List ℕ → Option ToolError
-refusal_within most source = refusal_after most (preface_of source) 0 (texts_of source)
+refusal_within most source = refusal_after most (preface_of source) 0 (source_texts source)
 
 -- why a source is refused, if it is: at most 65,535 blocks may be compiled
 abbrev pub source_refusal : List ℕ → Option ToolError

@@ -7,7 +7,7 @@ ghost use Rattle.ti_source.specs.Blocks.{front_of, last_byte};
 ghost use Rattle.ti_source.specs.Code.{is_error};
 ghost use Rattle.ti_source.specs.Lines.{line_count};
 ghost use Rattle.ti_meaning.specs.Faults.{fault_seen};
-ghost use Rattle.ti_tools.specs.Compiling.{IsTicAnswer, compilation, compilation_of, status_of, tic_result};
+ghost use Rattle.ti_tools.specs.Compiling.{IsTicAnswer, compilation, compilation_of, fault_status, tic_result};
 
 use crate::entry_files::entry_files;
 use crate::loading::database_of;
@@ -36,7 +36,7 @@ fn has_error(faults: &[Fault]) -> bool
 
 // The status of a run with these faults: 1 where one of them is an error.
 fn report_status(faults: &[Fault]) -> u8
-    ensures { result ≡ status_of (map fault_seen faults.now) }
+    ensures { result ≡ fault_status (map fault_seen faults.now) }
 {
     if has_error(faults) { 1 } else { 0 }
 }

@@ -4,7 +4,7 @@ ghost use Rattle.std.specs.Rc.{rc_slice_items};
 ghost use Rattle.std.specs.Str.{bytes_eq};
 ghost use Rattle.ti_meaning.specs.Owner.{readings};
 ghost use Rattle.ti_meaning.specs.inside.Reaching.{is_owner};
-ghost use Rattle.ti_tools.specs.EntryFiles.{IsAsciiName, files_at, files_for, files_of, is_seen, own_names};
+ghost use Rattle.ti_tools.specs.EntryFiles.{IsAsciiName, files_at, files_for, source_files, is_seen, own_names};
 ghost use Rattle.ti_devices.specs.Paths.{path_of};
 ghost use Rattle.ti_devices.specs.Placing.{entries};
 
@@ -121,7 +121,7 @@ fn add_block(
 /// # Errors
 /// Want of memory.
 pub fn entry_files(alloc: Global, database: &Database, dir: &str) -> Result<Vec<File>, AllocError>
-    ensures { IfOk result (λ files. entries files.items ≡ files_of dir.now database.now) }
+    ensures { IfOk result (λ files. entries files.items ≡ source_files dir.now database.now) }
 {
     let mut files = Vec::new(alloc);
     for at in 0..database.len() {

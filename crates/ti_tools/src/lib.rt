@@ -2,6 +2,7 @@
 //!
 //! - `compiling`: what `tic` makes of a source: files, a report and a status. `loading` makes a
 //!   database of the blocks, `entry_files` names the files of the entries, and `sources` says why a source is refused
+//! - `outcome`: what `tic` is asked for, and what it made
 //! - `listings`: what `infocmp` prints of entries
 //! - `stopping`: how a tool that stops ends: its status, and the line on standard error
 //! - `laws`: that the listing of an entry, and its relative source, compile back to the entry

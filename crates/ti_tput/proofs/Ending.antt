@@ -7,7 +7,7 @@ use Rattle.ti_devices.proofs.LineSteps.{AllByRecursion-push}
 use Rattle.ti_devices.proofs.Written.{Consumes-then, Gives-none, Gives-then, TakesAll-none, TakesAll-then, TakesFront-then}
 use Rattle.ti_devices.specs.Counted.{Observed}
 use Rattle.ti_devices.specs.LineReader
-use Rattle.ti_devices.specs.LineReader.{CannotReadOn, ReadsLine, SpendsReads, ahead_of, limit_of, line_of, reads_left_of, reads_max}
+use Rattle.ti_devices.specs.LineReader.{CannotReadOn, ReadsLine, SpendsReads, ahead_of, line_limit_of, last_line_of, reads_left_of, reads_max}
 use Rattle.ti_devices.specs.Lines.{IsOneLine, with_last, with_newline}
 use Rattle.ti_devices.specs.Reading.{Gives}
 use Rattle.ti_devices.specs.Writing.{TakesAll, TakesFront}
@@ -16,7 +16,7 @@ use Rattle.ti_devices.specs.declared.line_reader.Next.TheVariants.{Line, LastLin
 use Rattle.ti_devices.specs.declared.tool_error.ToolError.{ToolError}
 use Rattle.ti_devices.specs.declared.tool_error.ToolError.TheVariants.{Usage, NoTerminal, BadEntry, ReadFault, WriteFault, LineTooLong, BlockTooLong, TooManyBlocks, Memory}
 use Rattle.ti_tput.specs.Entries.{Entry}
-use Rattle.ti_tput.specs.Runs.{Course, Step, line_step, run_status, start, steps, tput_run}
+use Rattle.ti_tput.specs.Runs.{Course, LineStep, line_step, run_status, lines_start, steps, tput_run}
 use Rattle.ti_tput.specs.Streaming.{Ends, HasLines, IsShortLine, command_line_max}
 use Rattle.ti_tput.specs.inside.Terminal.{HasCourse, Took}
 use Rattle.ti_tput.specs.declared.terminal.Terminal.{Terminal}
@@ -73,17 +73,17 @@ with_last-some lines (byte ∷ line) some = refl
 module _ (entry : Entry) (rate : ℕ) where
   -- what stands after these lines, and what they write
   abbrev pub after_lines : List (List ℕ) → Course
-  after_lines lines = (steps entry rate start lines).after
+  after_lines lines = (steps entry rate lines_start lines).after
 
   abbrev written_by : List (List ℕ) → List ℕ
   written_by lines = (tput_run entry rate lines).bytes
 
   written_more : (lines : List (List ℕ)) (line : List ℕ)
       → written_by lines ++ (line_step entry rate (after_lines lines) line).bytes ≡ written_by (lines ++ line ∷ [])
-  written_more lines line = sym (ap (λ (s : Step). s.bytes) (steps-push entry rate start lines line))
+  written_more lines line = sym (ap (λ (s : LineStep). s.bytes) (steps-push entry rate lines_start lines line))
 
   after_more : (lines : List (List ℕ)) (line : List ℕ) → (line_step entry rate (after_lines lines) line).after ≡ after_lines (lines ++ line ∷ [])
-  after_more lines line = sym (ap (λ (s : Step). s.after) (steps-push entry rate start lines line))
+  after_more lines line = sym (ap (λ (s : LineStep). s.after) (steps-push entry rate lines_start lines line))
 
   -- the lines that were read are answered, and what was read behind them is ahead
   pub record Progress (given left : Observed) (reading : LineReader) (terminal : Terminal) (before now : Observed) : Type 0 where
@@ -92,11 +92,11 @@ module _ (entry : Entry) (rate : ℕ) where
     pub gives : Gives given left (bytes_of lines ++ ahead_of reading)
     pub holds : HasCourse entry rate terminal (after_lines lines)
     pub written : TakesAll before now (written_by lines)
-    pub limit : limit_of reading ≡ command_line_max
+    pub limit : line_limit_of reading ≡ command_line_max
     pub reads : reads_left_of reading + left.reads ≡ reads_max + given.reads
 
-  pub Progress-start : (given before : Observed) (reading : LineReader) (terminal : Terminal) → limit_of reading ≡ command_line_max
-      → ahead_of reading ≡ [] → reads_left_of reading ≡ reads_max → HasCourse entry rate terminal start
+  pub Progress-start : (given before : Observed) (reading : LineReader) (terminal : Terminal) → line_limit_of reading ≡ command_line_max
+      → ahead_of reading ≡ [] → reads_left_of reading ≡ reads_max → HasCourse entry rate terminal lines_start
       → Progress given given reading terminal before before
   unfolding steps
   Progress-start given before reading terminal limit ahead reads holds = record {
@@ -134,67 +134,67 @@ module _ (entry : Entry) (rate : ℕ) where
     spent : (next : LineReader) (later : Observed) → SpendsReads reading next left later → reads_left_of next + later.reads ≡ reads_max + given.reads
     spent next later s = s.reads ∙ p.reads
 
-    short : (line : List ℕ) → length line ≤ limit_of reading → IsShortLine line
+    short : (line : List ℕ) → length line ≤ line_limit_of reading → IsShortLine line
     short line low = subst (λ (n : ℕ). length line ≤ n) p.limit low
 
     module _ (next : LineReader) (later : Observed) where
       -- a line with its newline was read
       module _ (r : ReadsLine reading next left later (Ok Line)) where
-        gives-line : Gives given later ((bytes_of p.lines ++ with_newline (line_of next)) ++ ahead_of next)
+        gives-line : Gives given later ((bytes_of p.lines ++ with_newline (last_line_of next)) ++ ahead_of next)
         gives-line =
             subst (λ (t : List ℕ). Gives given later t)
-            (ap (λ (t : List ℕ). bytes_of p.lines ++ t) r.2 ∙ sym (append_assoc (bytes_of p.lines) (with_newline (line_of next)) (ahead_of next)))
+            (ap (λ (t : List ℕ). bytes_of p.lines ++ t) r.2 ∙ sym (append_assoc (bytes_of p.lines) (with_newline (last_line_of next)) (ahead_of next)))
             (gives-more later r.0 r.1)
 
-        gives-lines : Gives given later (bytes_of (p.lines ++ line_of next ∷ []) ++ ahead_of next)
-        gives-lines = subst (λ (t : List ℕ). Gives given later (t ++ ahead_of next)) (sym (bytes_of-more p.lines (line_of next))) gives-line
+        gives-lines : Gives given later (bytes_of (p.lines ++ last_line_of next ∷ []) ++ ahead_of next)
+        gives-lines = subst (λ (t : List ℕ). Gives given later (t ++ ahead_of next)) (sym (bytes_of-more p.lines (last_line_of next))) gives-line
 
-        are-lines : AreLines (p.lines ++ line_of next ∷ [])
-        are-lines = AreLines-more p.lines (line_of next) p.are r.3 (short (line_of next) r.4)
+        are-lines : AreLines (p.lines ++ last_line_of next ∷ [])
+        are-lines = AreLines-more p.lines (last_line_of next) p.are r.3 (short (last_line_of next) r.4)
 
         pub Progress-line : (terminal2 : Terminal) (now2 : Observed) → SpendsReads reading next left later
-            → Took entry rate (line_step entry rate (after_lines p.lines) (line_of next)) terminal2 now now2 (Ok tt)
+            → Took entry rate (line_step entry rate (after_lines p.lines) (last_line_of next)) terminal2 now now2 (Ok tt)
             → Progress given later next terminal2 before now2
         Progress-line terminal2 now2 s took = record {
-          lines = p.lines ++ line_of next ∷ [];
+          lines = p.lines ++ last_line_of next ∷ [];
           are = are-lines;
           gives = gives-lines;
-          holds = subst (λ (c : Course). HasCourse entry rate terminal2 c) (after_more p.lines (line_of next)) took.0;
-          written = subst (λ (t : List ℕ). TakesAll before now2 t) (written_more p.lines (line_of next))
+          holds = subst (λ (c : Course). HasCourse entry rate terminal2 c) (after_more p.lines (last_line_of next)) took.0;
+          written = subst (λ (t : List ℕ). TakesAll before now2 t) (written_more p.lines (last_line_of next))
               (TakesAll-then before now now2 (written_by p.lines) _ p.written took.1);
           limit = s.limit ∙ p.limit;
           reads = spent next later s;
         }
 
         pub Ends-line : (terminal2 : Terminal) (now2 : Observed) (e : ToolError)
-            → Took entry rate (line_step entry rate (after_lines p.lines) (line_of next)) terminal2 now now2 (Err e)
+            → Took entry rate (line_step entry rate (after_lines p.lines) (last_line_of next)) terminal2 now now2 (Err e)
             → Ends entry rate given later before now2 (Err e)
         Ends-line terminal2 now2 Usage took = absurd took
         Ends-line terminal2 now2 NoTerminal took = absurd took
         Ends-line terminal2 now2 (BadEntry why) took = absurd took
         Ends-line terminal2 now2 ReadFault took = absurd took
         Ends-line terminal2 now2 WriteFault took = record {
-          taken = bytes_of (p.lines ++ line_of next ∷ []);
+          taken = bytes_of (p.lines ++ last_line_of next ∷ []);
           rest = ahead_of next;
-          lines = p.lines ++ line_of next ∷ [];
+          lines = p.lines ++ last_line_of next ∷ [];
           gives = gives-lines;
-          are_begun = inl ([], HasLines-whole (p.lines ++ line_of next ∷ []) are-lines);
-          written = subst (λ (t : List ℕ). TakesFront before now2 t) (written_more p.lines (line_of next))
+          are_begun = inl ([], HasLines-whole (p.lines ++ last_line_of next ∷ []) are-lines);
+          written = subst (λ (t : List ℕ). TakesFront before now2 t) (written_more p.lines (last_line_of next))
               (TakesFront-then before now now2 (written_by p.lines) _ p.written took);
         }
         Ends-line terminal2 now2 LineTooLong took = absurd took
         Ends-line terminal2 now2 (BlockTooLong n) took = absurd took
         Ends-line terminal2 now2 TooManyBlocks took = absurd took
         Ends-line terminal2 now2 Memory took = record {
-          taken = bytes_of p.lines ++ line_of next;
+          taken = bytes_of p.lines ++ last_line_of next;
           rest = 10 ∷ ahead_of next;
           lines = p.lines;
-          line = line_of next;
+          line = last_line_of next;
           gives = subst (λ (t : List ℕ). Gives given later t)
-              (ap (λ (t : List ℕ). t ++ ahead_of next) (sym (append_assoc (bytes_of p.lines) (line_of next) (10 ∷ [])))
-              ∙ append_assoc (bytes_of p.lines ++ line_of next) (10 ∷ []) (ahead_of next)) gives-line;
-          has_lines = HasLines-are p.lines (line_of next) p.are r.3;
-          short = short (line_of next) r.4;
+              (ap (λ (t : List ℕ). t ++ ahead_of next) (sym (append_assoc (bytes_of p.lines) (last_line_of next) (10 ∷ [])))
+              ∙ append_assoc (bytes_of p.lines ++ last_line_of next) (10 ∷ []) (ahead_of next)) gives-line;
+          has_lines = HasLines-are p.lines (last_line_of next) p.are r.3;
+          short = short (last_line_of next) r.4;
           written = subst (λ (w : Observed). TakesAll before w (written_by p.lines)) (sym took) p.written;
         }
 
@@ -256,60 +256,60 @@ module _ (entry : Entry) (rate : ℕ) where
 
       -- the input has ended behind a last line without newline
       module _ (r : ReadsLine reading next left later (Ok LastLine)) where
-        gives-last : Gives given later (bytes_of p.lines ++ line_of next)
+        gives-last : Gives given later (bytes_of p.lines ++ last_line_of next)
         gives-last = subst (λ (t : List ℕ). Gives given later (bytes_of p.lines ++ t)) r.2 (gives-more later r.0 r.1)
 
-        has-last : HasLines (bytes_of p.lines ++ line_of next) p.lines (line_of next)
-        has-last = HasLines-are p.lines (line_of next) p.are r.4
+        has-last : HasLines (bytes_of p.lines ++ last_line_of next) p.lines (last_line_of next)
+        has-last = HasLines-are p.lines (last_line_of next) p.are r.4
 
-        all : with_last p.lines (line_of next) ≡ p.lines ++ line_of next ∷ []
-        all = with_last-some p.lines (line_of next) r.6
+        all : with_last p.lines (last_line_of next) ≡ p.lines ++ last_line_of next ∷ []
+        all = with_last-some p.lines (last_line_of next) r.6
 
         pub Ends-last : (terminal2 : Terminal) (now2 : Observed) (status : ℕ)
-            → Took entry rate (line_step entry rate (after_lines p.lines) (line_of next)) terminal2 now now2 (Ok tt)
+            → Took entry rate (line_step entry rate (after_lines p.lines) (last_line_of next)) terminal2 now now2 (Ok tt)
             → ((c : Course) → HasCourse entry rate terminal2 c → status ≡ run_status c.bad) → Ends entry rate given later before now2 (Ok status)
         Ends-last terminal2 now2 status took is = record {
-          input = bytes_of p.lines ++ line_of next;
+          input = bytes_of p.lines ++ last_line_of next;
           lines = p.lines;
-          line = line_of next;
+          line = last_line_of next;
           gives = gives-last;
           at_end = r.3;
           has_lines = has-last;
-          short = short (line_of next) r.5;
+          short = short (last_line_of next) r.5;
           written = subst (λ (ls : List (List ℕ)). TakesAll before now2 (written_by ls)) (sym all)
-              (subst (λ (t : List ℕ). TakesAll before now2 t) (written_more p.lines (line_of next))
+              (subst (λ (t : List ℕ). TakesAll before now2 t) (written_more p.lines (last_line_of next))
               (TakesAll-then before now now2 (written_by p.lines) _ p.written took.1));
           ends_with = subst (λ (ls : List (List ℕ)). status ≡ run_status (after_lines ls).bad) (sym all)
-              (subst (λ (c : Course). status ≡ run_status c.bad) (after_more p.lines (line_of next)) (is _ took.0));
+              (subst (λ (c : Course). status ≡ run_status c.bad) (after_more p.lines (last_line_of next)) (is _ took.0));
         }
 
         pub Ends-last_cut : (terminal2 : Terminal) (now2 : Observed) (e : ToolError)
-            → Took entry rate (line_step entry rate (after_lines p.lines) (line_of next)) terminal2 now now2 (Err e)
+            → Took entry rate (line_step entry rate (after_lines p.lines) (last_line_of next)) terminal2 now now2 (Err e)
             → Ends entry rate given later before now2 (Err e)
         Ends-last_cut terminal2 now2 Usage took = absurd took
         Ends-last_cut terminal2 now2 NoTerminal took = absurd took
         Ends-last_cut terminal2 now2 (BadEntry why) took = absurd took
         Ends-last_cut terminal2 now2 ReadFault took = absurd took
         Ends-last_cut terminal2 now2 WriteFault took = record {
-          taken = bytes_of p.lines ++ line_of next;
+          taken = bytes_of p.lines ++ last_line_of next;
           rest = [];
-          lines = with_last p.lines (line_of next);
+          lines = with_last p.lines (last_line_of next);
           gives = rw append-nil gives-last;
-          are_begun = inr (p.lines, line_of next, has-last, refl, r.3, refl);
+          are_begun = inr (p.lines, last_line_of next, has-last, refl, r.3, refl);
           written = subst (λ (ls : List (List ℕ)). TakesFront before now2 (written_by ls)) (sym all)
-              (subst (λ (t : List ℕ). TakesFront before now2 t) (written_more p.lines (line_of next))
+              (subst (λ (t : List ℕ). TakesFront before now2 t) (written_more p.lines (last_line_of next))
               (TakesFront-then before now now2 (written_by p.lines) _ p.written took));
         }
         Ends-last_cut terminal2 now2 LineTooLong took = absurd took
         Ends-last_cut terminal2 now2 (BlockTooLong n) took = absurd took
         Ends-last_cut terminal2 now2 TooManyBlocks took = absurd took
         Ends-last_cut terminal2 now2 Memory took = record {
-          taken = bytes_of p.lines ++ line_of next;
+          taken = bytes_of p.lines ++ last_line_of next;
           rest = [];
           lines = p.lines;
-          line = line_of next;
+          line = last_line_of next;
           gives = rw append-nil gives-last;
           has_lines = has-last;
-          short = short (line_of next) r.5;
+          short = short (last_line_of next) r.5;
           written = subst (λ (w : Observed). TakesAll before w (written_by p.lines)) (sym took) p.written;
         }

@@ -3,9 +3,9 @@ use Rattle.std.proofs.Common.{◌≡◌, ◌≢◌, ℕ, suc, ◌<◌, ◌≤◌
 use Rattle.std.specs.Prelude.{codes, ℤ}
 use Rattle.std.proofs.lemmas.Bool.{lt-ltb, ne_eqb, ltb-true, ltb-false}
 use Rattle.std.proofs.lemmas.List.{take_all, length-take, nil_from_length}
-use Rattle.ti_param.specs.inside.Expansion.{Expansion, expanded, bad_format, stack_full, expansion}
+use Rattle.ti_param.specs.inside.Expansion.{Expansion, expanded, bad_format, stack_full, format_expansion}
 use Rattle.ti_printing.specs.declared.padding.Line.{Line}
-use Rattle.ti_tput.specs.Entries.{Entry, Holding, flag_held, number_held, text_held, holding_of, line_of}
+use Rattle.ti_tput.specs.Entries.{Entry, Holding, flag_held, number_held, text_held, holding_of, line_at_rate}
 use Rattle.ti_tput.specs.Parameters.{parameters}
 use Rattle.ti_tput.specs.Results.{Reply, holding_reply, init_strings, named_reply, padded_texts, padded_text, reset_strings, sent_reply, expansion_reply, string_reply, tput_result}
 use Rattle.ti_tput.specs.Runs.{Course, bad_step, command_step, line_step, reply_step, words_of}
@@ -30,7 +30,7 @@ string-leaves : (line : Line) (cap : List ℕ) (words : List (List ℕ)) (static
     → ((string_reply line cap words statics text).bytes ≡ []) × ((string_reply line cap words statics text).statics ≡ statics)
 string-leaves line cap [] statics text four = sent-leaves (padded_text line text) statics statics four
 string-leaves line cap (word ∷ words) statics text four =
-    expansion-leaves line statics (expansion text (parameters cap (word ∷ words)) statics) four
+    expansion-leaves line statics (format_expansion text (parameters cap (word ∷ words)) statics) four
 
 holding-leaves : (line : Line) (cap : List ℕ) (words : List (List ℕ)) (statics : List ℤ) (h : Option Holding)
     → (holding_reply line cap words statics h).status ≡ 4
@@ -53,9 +53,9 @@ named-leaves : (entry : Entry) (rate : ℕ) (cap : List ℕ) (words : List (List
     → ((named_reply entry rate cap words statics).bytes ≡ []) × ((named_reply entry rate cap words statics).statics ≡ statics)
 named-leaves entry rate cap words statics =
     either-leaves (bytes_eq cap (codes "longname")) _ _ statics (λ four. absurd (omega arith))
-    (either-leaves (bytes_eq cap (codes "init")) _ _ statics (sent-leaves (padded_texts (line_of entry rate) (init_strings entry)) statics statics)
-    (either-leaves (bytes_eq cap (codes "reset")) _ _ statics (sent-leaves (padded_texts (line_of entry rate) (reset_strings entry)) statics statics)
-    (holding-leaves (line_of entry rate) cap words statics (holding_of entry cap))))
+    (either-leaves (bytes_eq cap (codes "init")) _ _ statics (sent-leaves (padded_texts (line_at_rate entry rate) (init_strings entry)) statics statics)
+    (either-leaves (bytes_eq cap (codes "reset")) _ _ statics (sent-leaves (padded_texts (line_at_rate entry rate) (reset_strings entry)) statics statics)
+    (holding-leaves (line_at_rate entry rate) cap words statics (holding_of entry cap))))
 
 if_not : {X : Type 0} (b : Bool) (x y : X) → cond b None (Some x) ≡ Some y → (b ≡ false) × (x ≡ y)
 if_not true x y e = absurd (cc)

@@ -7,12 +7,12 @@ use Rattle.ti_tput.specs.Results.{Reply}
 use Rattle.ti_tput.specs.declared.replies.TputOutcome.{TputOutcome}
 
 -- the answer is the reply, with these variables after it; bad usage where there is none; or memory is wanting
-abbrev pub Answers : Result TputOutcome ToolError → List ℤ → Option Reply → Type 0
-Answers (Ok outcome) statics reply = reply ≡ Some (reply_of outcome statics)
-Answers (Err Usage) statics reply = reply ≡ None
-Answers (Err Memory) statics reply = IsSome reply
-Answers (Err _) statics reply = ⊥
+abbrev pub AnswersWords : Result TputOutcome ToolError → List ℤ → Option Reply → Type 0
+AnswersWords (Ok outcome) statics reply = reply ≡ Some (reply_of outcome statics)
+AnswersWords (Err Usage) statics reply = reply ≡ None
+AnswersWords (Err Memory) statics reply = IsSome reply
+AnswersWords (Err _) statics reply = ⊥
 
 -- the same, whatever the variables are after it
 abbrev pub AnswersAlone : Result TputOutcome ToolError → Option Reply → Type 0
-AnswersAlone result reply = (statics : List ℤ) × Answers result statics reply
+AnswersAlone result reply = (statics : List ℤ) × AnswersWords result statics reply

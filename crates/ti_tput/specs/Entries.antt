@@ -32,18 +32,18 @@ unfoldable pub holding_of : Entry → List ℕ → Option Holding
 holding_of entry name = option_map (λ c. holding_as c.kind (entry.contents c)) (capability_named name)
 
 -- whether it is a flag that is set
-abbrev pub flag_value : Option Holding → Bool
-flag_value None = false
-flag_value (Some (flag_held set)) = set
-flag_value (Some (number_held n)) = false
-flag_value (Some (text_held t)) = false
+abbrev pub is_set_flag : Option Holding → Bool
+is_set_flag None = false
+is_set_flag (Some (flag_held set)) = set
+is_set_flag (Some (number_held n)) = false
+is_set_flag (Some (text_held t)) = false
 
 -- the value of a number that is there
-abbrev pub number_value : Option Holding → Option ℕ
-number_value None = None
-number_value (Some (flag_held set)) = None
-number_value (Some (number_held n)) = n
-number_value (Some (text_held t)) = None
+abbrev pub given_number : Option Holding → Option ℕ
+given_number None = None
+given_number (Some (flag_held set)) = None
+given_number (Some (number_held n)) = n
+given_number (Some (text_held t)) = None
 
 -- the value of a text that is there
 abbrev pub text_value : Option Holding → Option (List ℕ)
@@ -60,25 +60,25 @@ first_byte (Some text) = slice_index text 0
 -- the pad byte: none with `npc`, else the first byte of `pad`, 0 where it has none
 abbrev pub pad_byte_of : Entry → Option ℕ
 pad_byte_of entry =
-    if flag_value (holding_of entry (codes "npc")) then None else Some (first_byte (text_value (holding_of entry (codes "pad"))))
+    if is_set_flag (holding_of entry (codes "npc")) then None else Some (first_byte (text_value (holding_of entry (codes "pad"))))
 
 -- the line of a terminal at a rate: `xon`, and the least rate of padding `pb`, 0 where there is none
-unfoldable pub line_of : Entry → ℕ → Line
-line_of entry rate = record {
+unfoldable pub line_at_rate : Entry → ℕ → Line
+line_at_rate entry rate = record {
   rate = rate;
-  xon = flag_value (holding_of entry (codes "xon"));
-  pad_from = unwrap_or (number_value (holding_of entry (codes "pb"))) 0;
+  xon = is_set_flag (holding_of entry (codes "xon"));
+  pad_from = unwrap_or (given_number (holding_of entry (codes "pb"))) 0;
   pad_byte = pad_byte_of entry;
 }
 
 -- ---- own: what the code knows of an entry
 
 -- the entry that a view shows
-abbrev pub entry_of : View → Entry
-entry_of view = record { names = names_of view; contents = view_contents view }
+abbrev pub shown_entry : View → Entry
+shown_entry view = record { names = names_of view; contents = view_contents view }
 
 -- what a value says, apart from where it lies in memory
-abbrev pub meaning_of : CapabilityValue → Holding
-meaning_of (code.Flag set) = flag_held set
-meaning_of (code.Number n) = number_held n
-meaning_of (code.Text t) = text_held (option_map (λ bytes. bytes.now) t)
+abbrev pub value_meaning : CapabilityValue → Holding
+value_meaning (code.Flag set) = flag_held set
+value_meaning (code.Number n) = number_held n
+value_meaning (code.Text t) = text_held (option_map (λ bytes. bytes.now) t)

@@ -6,12 +6,12 @@ use Rattle.ti_tput.specs.Results.{Reply, reply}
 use Rattle.ti_tput.specs.declared.replies.TputOutcome.{TputOutcome}
 
 -- the bytes that were made, if there are some
-abbrev pub items_of : Option (Vec ℕ) → Option (List ℕ)
-items_of made = option_map (λ bytes. bytes.items) made
+abbrev pub made_bytes : Option (Vec ℕ) → Option (List ℕ)
+made_bytes made = option_map (λ bytes. bytes.items) made
 
 -- the texts of which each may be there
-abbrev pub texts_of : List (Option (Bor (List ℕ))) → List (Option (List ℕ))
-texts_of texts = map (λ t. option_map (λ bytes. bytes.now) t) texts
+abbrev pub given_texts : List (Option (Bor (List ℕ))) → List (Option (List ℕ))
+given_texts texts = map (λ t. option_map (λ bytes. bytes.now) t) texts
 
 -- an outcome, with these variables after it
 abbrev pub reply_of : TputOutcome → List ℤ → Reply

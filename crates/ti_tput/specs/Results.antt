@@ -4,10 +4,10 @@ use Rattle.std.specs.Prelude.{List, [], ◌∷◌, ◌++◌, length, codes, byte
 use Rattle.std.specs.Fmt.{decimal}
 use Rattle.std.specs.List.{after_last}
 use Rattle.ti_text.specs.Ascii as ascii
-use Rattle.ti_param.specs.inside.Expansion.{Expansion, expanded, bad_format, stack_full, expansion}
+use Rattle.ti_param.specs.inside.Expansion.{Expansion, expanded, bad_format, stack_full, format_expansion}
 use Rattle.ti_printing.specs.declared.padding.Line.{Line}
-use Rattle.ti_printing.specs.Padding.{with_pad_bytes, padding_of}
-use Rattle.ti_tput.specs.Entries.{Entry, Holding, flag_held, number_held, text_held, holding_of, text_value, line_of}
+use Rattle.ti_printing.specs.Padding.{with_pad_bytes, padding_of, pad_bytes_max}
+use Rattle.ti_tput.specs.Entries.{Entry, Holding, flag_held, number_held, text_held, holding_of, text_value, line_at_rate}
 use Rattle.ti_tput.specs.Parameters.{parameters}
 
 -- what a command writes, its exit status, and the static variables after it
@@ -24,7 +24,7 @@ reply bytes status statics = record { bytes = bytes; status = status; statics = 
 
 -- a string padded for one line; None where that is too much padding
 abbrev pub padded_text : Line → List ℕ → Option (List ℕ)
-padded_text line text = if nat_lt 65536 (padding_of text 1 line) then None else Some (with_pad_bytes text 1 line)
+padded_text line text = if nat_lt pad_bytes_max (padding_of text 1 line) then None else Some (with_pad_bytes text 1 line)
 
 -- A string that was padded is written, and the variables are then those after it. One with too much padding is refused: nothing
 -- is written, status 4, and the variables are as before.
@@ -41,19 +41,19 @@ expansion_reply line before (stack_full place) = reply [] 4 before
 -- a string as it stands where there is no word, else expanded with the words
 abbrev pub string_reply : Line → List ℕ → List (List ℕ) → List ℤ → List ℕ → Reply
 string_reply line cap [] statics text = sent_reply (padded_text line text) statics statics
-string_reply line cap (word ∷ words) statics text = expansion_reply line statics (expansion text (parameters cap (word ∷ words)) statics)
+string_reply line cap (word ∷ words) statics text = expansion_reply line statics (format_expansion text (parameters cap (word ∷ words)) statics)
 
 -- one text after another, where both are there
-abbrev pub both : Option (List ℕ) → Option (List ℕ) → Option (List ℕ)
-both (Some front) (Some back) = Some (front ++ back)
-both (Some front) None = None
-both None back = None
+abbrev pub both_texts : Option (List ℕ) → Option (List ℕ) → Option (List ℕ)
+both_texts (Some front) (Some back) = Some (front ++ back)
+both_texts (Some front) None = None
+both_texts None back = None
 
 -- those of the strings that are present, each padded for itself, in order; None where one has too much padding
 abbrev pub padded_texts : Line → List (Option (List ℕ)) → Option (List ℕ)
 padded_texts line [] = Some []
 padded_texts line (None ∷ texts) = padded_texts line texts
-padded_texts line (Some text ∷ texts) = both (padded_text line text) (padded_texts line texts)
+padded_texts line (Some text ∷ texts) = both_texts (padded_text line text) (padded_texts line texts)
 
 -- the strings that initialize a terminal
 abbrev pub init_strings : Entry → List (Option (List ℕ))
@@ -97,9 +97,9 @@ holding_reply line cap words statics (Some (text_held (Some text))) = string_rep
 abbrev pub named_reply : Entry → ℕ → List ℕ → List (List ℕ) → List ℤ → Reply
 named_reply entry rate cap words statics =
     if bytes_eq cap (codes "longname") then reply (long_name entry.names) 0 statics
-    else if bytes_eq cap (codes "init") then sent_reply (padded_texts (line_of entry rate) (init_strings entry)) statics statics
-    else if bytes_eq cap (codes "reset") then sent_reply (padded_texts (line_of entry rate) (reset_strings entry)) statics statics
-    else holding_reply (line_of entry rate) cap words statics (holding_of entry cap)
+    else if bytes_eq cap (codes "init") then sent_reply (padded_texts (line_at_rate entry rate) (init_strings entry)) statics statics
+    else if bytes_eq cap (codes "reset") then sent_reply (padded_texts (line_at_rate entry rate) (reset_strings entry)) statics statics
+    else holding_reply (line_at_rate entry rate) cap words statics (holding_of entry cap)
 
 -- What a command answers; None is bad usage: no word, or more than nine parameters.
 unfoldable pub tput_result : Entry → List (List ℕ) → ℕ → List ℤ → Option Reply

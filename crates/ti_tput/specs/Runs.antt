@@ -28,32 +28,32 @@ pub record Course : Type 0 where
   pub statics : List ℤ
 
 -- what comes of a line: what stands after it, and what it writes
-pub record Step : Type 0 where
+pub record LineStep : Type 0 where
   pub after : Course
   pub bytes : List ℕ
 
 -- a bad line writes nothing, and leaves the variables
-abbrev pub bad_step : Course → Step
+abbrev pub bad_step : Course → LineStep
 bad_step course = record { after = record { bad = suc course.bad; statics = course.statics }; bytes = [] }
 
 -- a line is bad where it would end with status 2 or 4
-abbrev pub reply_step : Course → Option Reply → Step
+abbrev pub reply_step : Course → Option Reply → LineStep
 reply_step course None = bad_step course
 reply_step course (Some reply) =
     if reply.status == 4 then bad_step course
     else record { after = record { bad = course.bad; statics = reply.statics }; bytes = reply.bytes }
 
 -- a line without words does nothing
-abbrev pub command_step : Entry → ℕ → Course → List (List ℕ) → Step
+abbrev pub command_step : Entry → ℕ → Course → List (List ℕ) → LineStep
 command_step entry rate course [] = record { after = course; bytes = [] }
 command_step entry rate course (word ∷ words) = reply_step course (tput_result entry (word ∷ words) rate course.statics)
 
 -- what comes of a line
-abbrev pub line_step : Entry → ℕ → Course → List ℕ → Step
+abbrev pub line_step : Entry → ℕ → Course → List ℕ → LineStep
 line_step entry rate course line = command_step entry rate course (words_of line)
 
 -- what comes of lines, one after another
-unfoldable pub steps : Entry → ℕ → Course → List (List ℕ) → Step
+unfoldable pub steps : Entry → ℕ → Course → List (List ℕ) → LineStep
 steps entry rate course [] = record { after = course; bytes = [] }
 steps entry rate course (line ∷ lines) =
     let first = line_step entry rate course line in
@@ -61,8 +61,8 @@ steps entry rate course (line ∷ lines) =
     record { after = later.after; bytes = first.bytes ++ later.bytes }
 
 -- at the start no line was bad, and each static variable is 0
-abbrev pub start : Course
-start = record { bad = 0; statics = replicate 26 (pos 0) }
+abbrev pub lines_start : Course
+lines_start = record { bad = 0; statics = replicate 26 (pos 0) }
 
 -- 0 where no line was bad, else 4 and the count of bad lines, at most 255
 abbrev pub run_status : ℕ → ℕ
@@ -70,14 +70,14 @@ run_status zero = 0
 run_status (suc bad) = min 255 (4 + suc bad)
 
 -- what the lines of an input write, and the exit status
-pub record Run : Type 0 where
+pub record LinesRun : Type 0 where
   pub bytes : List ℕ
   pub status : ℕ
 
 -- what `tput -S` answers to lines
-abbrev pub tput_run : Entry → ℕ → List (List ℕ) → Run
+abbrev pub tput_run : Entry → ℕ → List (List ℕ) → LinesRun
 tput_run entry rate lines =
-    let all = steps entry rate start lines in record { bytes = all.bytes; status = run_status all.after.bad }
+    let all = steps entry rate lines_start lines in record { bytes = all.bytes; status = run_status all.after.bad }
 
 -- ---- laws
 

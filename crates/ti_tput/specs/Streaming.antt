@@ -76,7 +76,7 @@ AreBegun taken rest left begun =
     ((line : List ℕ) × HasLines taken begun line)
     ⊎ ((lines : List (List ℕ)) × (line : List ℕ) × HasLines taken lines line × (rest ≡ []) × IsAtEnd left.bytes × (begun ≡ with_last lines line))
 
--- the writer failed: a front part of what these lines write was written, and some bytes more were read
+-- the writer failed: what these lines write was written up to some byte, and some bytes more were read
 pub record StopsWriting (entry : Entry) (rate : ℕ) (given left before now : Observed) : Type 0 where
   pub taken : List ℕ
   pub rest : List ℕ

@@ -1,7 +1,7 @@
 //! `tput` of one command: a capability's name, and the words after it.
 ghost use Rattle.std.specs.Prelude.{◌≡◌, ℕ, OnErr, map, pos, replicate};
-ghost use Rattle.ti_tput.specs.Entries.{entry_of, line_of};
-ghost use Rattle.ti_tput.specs.Commands.{Answers, AnswersAlone};
+ghost use Rattle.ti_tput.specs.Entries.{shown_entry, line_at_rate};
+ghost use Rattle.ti_tput.specs.Commands.{AnswersWords, AnswersAlone};
 ghost use Rattle.ti_tput.specs.Results.{tput_result};
 ghost use Rattle.ti_tput.specs.Runs.{BadCommandsChangeNothing};
 
@@ -24,8 +24,8 @@ pub(crate) fn answer(
     words: &[&[u8]],
     statics: &mut Statics,
 ) -> Result<TputOutcome, ToolError>
-    ensures answer { (rate : ℕ) → line.now ≡ line_of (entry_of view.now) rate
-        → Answers result statics.new (tput_result (entry_of view.now) (map (λ word. word.now) words.now) rate statics.old) }
+    ensures answer { (rate : ℕ) → line.now ≡ line_at_rate (shown_entry view.now) rate
+        → AnswersWords result statics.new (tput_result (shown_entry view.now) (map (λ word. word.now) words.now) rate statics.old) }
     ensures err { OnErr result (statics.new ≡ statics.old) }
 {
     let Some((cap, params)) = words.split_first() else {
@@ -59,7 +59,7 @@ pub fn tput(
     words: &[&[u8]],
     rate: u32,
 ) -> Result<TputOutcome, ToolError>
-    ensures { AnswersAlone result (tput_result (entry_of view.now) (map (λ word. word.now) words.now) rate (replicate 26 (pos 0))) }
+    ensures { AnswersAlone result (tput_result (shown_entry view.now) (map (λ word. word.now) words.now) rate (replicate 26 (pos 0))) }
 {
     let line = terminal_line(view, rate);
     let mut statics = Statics::new();

@@ -1,6 +1,6 @@
 //! What an entry has of a capability that is asked for by its name, and the line of its terminal.
 ghost use Rattle.std.specs.Prelude.{◌≡◌, Some, option_map};
-ghost use Rattle.ti_tput.specs.Entries.{entry_of, flag_value, holding_of, line_of, meaning_of, number_value, pad_byte_of, text_value};
+ghost use Rattle.ti_tput.specs.Entries.{shown_entry, is_set_flag, holding_of, line_at_rate, value_meaning, given_number, pad_byte_of, text_value};
 
 use ti_caps::{Kind, find};
 use ti_layout::View;
@@ -20,7 +20,7 @@ pub enum CapabilityValue<'a> {
 /// What an entry has of the capability of a name; `None` where no capability has the name.
 #[tactic(auto, unfolding(crate::specs::Entries::holding_of))]
 pub fn value_of<'a>(view: &View<'a>, name: &[u8]) -> Option<CapabilityValue<'a>>
-    ensures { option_map meaning_of result ≡ holding_of (entry_of view.now) name.now }
+    ensures { option_map value_meaning result ≡ holding_of (shown_entry view.now) name.now }
 {
     let cap = find(name)?;
     let value = match cap.kind() {
@@ -33,7 +33,7 @@ pub fn value_of<'a>(view: &View<'a>, name: &[u8]) -> Option<CapabilityValue<'a>>
 
 // Whether an entry has a flag.
 fn flag(view: &View<'_>, name: &[u8]) -> bool
-    ensures { result ≡ flag_value (holding_of (entry_of view.now) name.now) }
+    ensures { result ≡ is_set_flag (holding_of (shown_entry view.now) name.now) }
 {
     match value_of(view, name) {
         Some(CapabilityValue::Flag(set)) => set,
@@ -43,7 +43,7 @@ fn flag(view: &View<'_>, name: &[u8]) -> bool
 
 // The number that an entry has of a capability.
 fn number(view: &View<'_>, name: &[u8]) -> Option<u32>
-    ensures { result ≡ number_value (holding_of (entry_of view.now) name.now) }
+    ensures { result ≡ given_number (holding_of (shown_entry view.now) name.now) }
 {
     match value_of(view, name) {
         Some(CapabilityValue::Number(number)) => number,
@@ -53,7 +53,7 @@ fn number(view: &View<'_>, name: &[u8]) -> Option<u32>
 
 /// The string that an entry has of a capability.
 pub fn text<'a>(view: &View<'a>, name: &[u8]) -> Option<&'a [u8]>
-    ensures { option_map (λ t. t.now) result ≡ text_value (holding_of (entry_of view.now) name.now) }
+    ensures { option_map (λ t. t.now) result ≡ text_value (holding_of (shown_entry view.now) name.now) }
 {
     match value_of(view, name) {
         Some(CapabilityValue::Text(text)) => text,
@@ -63,7 +63,7 @@ pub fn text<'a>(view: &View<'a>, name: &[u8]) -> Option<&'a [u8]>
 
 // The byte that passes the time: the first one of `pad`, 0 where there is none, and no byte with `npc`.
 fn pad_byte(view: &View<'_>) -> Option<u8>
-    ensures { result ≡ pad_byte_of (entry_of view.now) }
+    ensures { result ≡ pad_byte_of (shown_entry view.now) }
 {
     if flag(view, b"npc") {
         return None;
@@ -75,9 +75,9 @@ fn pad_byte(view: &View<'_>) -> Option<u8>
 }
 
 /// The line to the terminal of an entry, at a rate in bits a second: by `xon`, `pb`, `npc` and `pad`.
-#[tactic(auto, unfolding(crate::specs::Entries::line_of))]
+#[tactic(auto, unfolding(crate::specs::Entries::line_at_rate))]
 pub fn terminal_line(view: &View<'_>, rate: u32) -> Line
-    ensures { result ≡ line_of (entry_of view.now) rate }
+    ensures { result ≡ line_at_rate (shown_entry view.now) rate }
 {
     Line {
         rate,

@@ -1,9 +1,9 @@
 //! What a command is answered: bytes for the terminal, and an exit status.
 ghost use Rattle.std.specs.Prelude.{◌≡◌, ℕ, ℤ, List, [], IfOk, OnErr, Some, map};
-ghost use Rattle.ti_tput.specs.Entries.{entry_of, line_of, meaning_of};
+ghost use Rattle.ti_tput.specs.Entries.{shown_entry, line_at_rate, value_meaning};
 ghost use Rattle.ti_tput.specs.Results.{holding_reply, init_strings, long_name, named_reply, number_text};
 ghost use Rattle.ti_tput.specs.Results.{padded_texts, padded_text, reply, reset_strings, sent_reply, string_reply};
-ghost use Rattle.ti_tput.specs.Replies.{items_of, reply_of, texts_of};
+ghost use Rattle.ti_tput.specs.Replies.{made_bytes, reply_of, given_texts};
 
 use crate::entries::{CapabilityValue, terminal_line, text, value_of};
 use crate::parameters::parameters;
@@ -26,7 +26,7 @@ pub struct TputOutcome {
 
 // A string padded for one line; `None` where that is too much padding.
 fn padded_once(alloc: Global, text: &[u8], line: &Line) -> Result<Option<Vec<u8>>, AllocError>
-    ensures { IfOk result (λ found. items_of found ≡ padded_text line.now text.now) }
+    ensures { IfOk result (λ found. made_bytes found ≡ padded_text line.now text.now) }
 {
     match pad(alloc, text, 1, line) {
         Ok(bytes) => Ok(Some(bytes)),
@@ -37,7 +37,7 @@ fn padded_once(alloc: Global, text: &[u8], line: &Line) -> Result<Option<Vec<u8>
 
 // The same of a string that an expansion made.
 fn padded_output(alloc: Global, output: Vec<u8>, line: &Line) -> Result<Option<Vec<u8>>, AllocError>
-    ensures { IfOk result (λ found. items_of found ≡ padded_text line.now output.items) }
+    ensures { IfOk result (λ found. made_bytes found ≡ padded_text line.now output.items) }
 {
     match pad_owned(alloc, output, 1, line) {
         Ok(bytes) => Ok(Some(bytes)),
@@ -52,7 +52,7 @@ fn padded_all(
     texts: &[Option<&[u8]>],
     line: &Line,
 ) -> Result<Option<Vec<u8>>, AllocError>
-    ensures { IfOk result (λ found. items_of found ≡ padded_texts line.now (texts_of texts.now)) }
+    ensures { IfOk result (λ found. made_bytes found ≡ padded_texts line.now (given_texts texts.now)) }
 {
     let mut bytes = Vec::new(alloc);
     for text in texts {
@@ -75,7 +75,7 @@ fn string(
     line: &Line,
     statics: &mut Statics,
 ) -> Result<Option<Vec<u8>>, AllocError>
-    ensures string { IfOk result (λ found. sent_reply (items_of found) statics.new statics.new
+    ensures string { IfOk result (λ found. sent_reply (made_bytes found) statics.new statics.new
         ≡ string_reply line.now cap.now (map (λ word. word.now) words.now) statics.old text.now) }
     ensures err { OnErr result (statics.new ≡ statics.old) }
 {
@@ -98,7 +98,7 @@ fn string(
 
 // A string that was made is written; else nothing is, and the status is 4.
 fn outcome_of(alloc: Global, made: Option<Vec<u8>>) -> TputOutcome
-    ensures { (statics : List ℤ) → reply_of result statics ≡ sent_reply (items_of made) statics statics }
+    ensures { (statics : List ℤ) → reply_of result statics ≡ sent_reply (made_bytes made) statics statics }
 {
     match made {
         Some(bytes) => TputOutcome { bytes, status: 0 },
@@ -150,7 +150,7 @@ fn answer_value(
     statics: &mut Statics,
 ) -> Result<TputOutcome, AllocError>
     ensures answer { IfOk result (λ outcome. reply_of outcome statics.new
-        ≡ holding_reply line.now cap.now (map (λ word. word.now) words.now) statics.old (Some (meaning_of value.entry))) }
+        ≡ holding_reply line.now cap.now (map (λ word. word.now) words.now) statics.old (Some (value_meaning value.entry))) }
     ensures err { OnErr result (statics.new ≡ statics.old) }
 {
     match value {
@@ -173,7 +173,8 @@ fn answer_strings(
     texts: &[Option<&[u8]>],
     line: &Line,
 ) -> Result<TputOutcome, AllocError>
-    ensures { (statics : List ℤ) → IfOk result (λ outcome. reply_of outcome statics ≡ sent_reply (padded_texts line.now (texts_of texts.now)) statics statics) }
+    ensures { (statics : List ℤ)
+        → IfOk result (λ outcome. reply_of outcome statics ≡ sent_reply (padded_texts line.now (given_texts texts.now)) statics statics) }
 {
     let made = padded_all(alloc, texts, line)?;
     Ok(outcome_of(alloc, made))
@@ -181,14 +182,14 @@ fn answer_strings(
 
 // The strings that initialize a terminal.
 fn init_strings<'a>(view: &View<'a>) -> [Option<&'a [u8]>; 3]
-    ensures { texts_of result ≡ init_strings (entry_of view.now) }
+    ensures { given_texts result ≡ init_strings (shown_entry view.now) }
 {
     [text(view, b"is1"), text(view, b"is2"), text(view, b"is3")]
 }
 
 // The strings that reset it: those that initialize it, where it has no others.
 fn reset_strings<'a>(view: &View<'a>) -> [Option<&'a [u8]>; 3]
-    ensures { texts_of result ≡ reset_strings (entry_of view.now) }
+    ensures { given_texts result ≡ reset_strings (shown_entry view.now) }
 {
     let texts = [text(view, b"rs1"), text(view, b"rs2"), text(view, b"rs3")];
     if texts[0].is_none() && texts[1].is_none() && texts[2].is_none() {
@@ -216,8 +217,8 @@ pub(crate) fn answer_name(
     line: &Line,
     statics: &mut Statics,
 ) -> Result<TputOutcome, AllocError>
-    ensures answer { (rate : ℕ) → line.now ≡ line_of (entry_of view.now) rate → IfOk result (λ outcome. reply_of outcome statics.new
-        ≡ named_reply (entry_of view.now) rate cap.now (map (λ word. word.now) words.now) statics.old) }
+    ensures answer { (rate : ℕ) → line.now ≡ line_at_rate (shown_entry view.now) rate → IfOk result (λ outcome. reply_of outcome statics.new
+        ≡ named_reply (shown_entry view.now) rate cap.now (map (λ word. word.now) words.now) statics.old) }
     ensures err { OnErr result (statics.new ≡ statics.old) }
 {
     if cap == b"longname".as_slice() {

@@ -1,10 +1,10 @@
 //! Where the entry of a terminal is looked for, its file, and the entry in it.
-ghost use Rattle.std.specs.Prelude.{◌≡◌, ◌+◌, ◌^◌, ◌<◌, ◌≤◌, ◌==◌, ◌++◌, ◌∷◌, ◌⊎◌, [], All, IfErr, IfOk, IsErrOf, OnOk, Some, map, length, option_map};
+ghost use Rattle.std.specs.Prelude.{◌≡◌, ◌+◌, ◌^◌, ◌<◌, ◌≤◌, ◌==◌, ◌++◌, ◌∷◌, ◌⊎◌, [], All, IfErr, IfOk, IsErrOf, OnOk, Some, map, length, option_map, suc};
 ghost use Rattle.std.specs.List.{slice_split};
 ghost use Rattle.std.specs.String.{string_bytes};
 ghost use Rattle.ti_text.specs.Ascii as ascii;
 ghost use Rattle.ti_devices.specs.declared.tool_error.ToolError.TheVariants.{Memory, ReadFault};
-ghost use Rattle.ti_tput.specs.Searching.{Finds, Locates, Opens, listed_places, place_of_part, places_of};
+ghost use Rattle.ti_tput.specs.Searching.{Finds, Locates, Opens, file_bytes_max, listed_places, place_of_part, places_of};
 
 use std::alloc::{AllocError, Global};
 use ti_devices::{ToolError, Tree, TreeFault, entry_path};
@@ -123,7 +123,7 @@ pub fn locate<T: Tree>(
     name: &str,
     places: &[String],
 ) -> Result<Vec<u8>, ToolError>
-    ensures located { Locates 65537 (T.files tree.old) name.now (map string_bytes places.now) result }
+    ensures located { Locates (suc file_bytes_max) (T.files tree.old) name.now (map string_bytes places.now) result }
     ensures kept { T.files tree.new ≡ T.files tree.old }
     ensures later { T.failures tree.old ≤ T.failures tree.new }
     ensures failed { IsErrOf result ToolError.ReadFault → T.failures tree.old < T.failures tree.new }
@@ -160,7 +160,7 @@ fn entry_within(bytes: &[u8], limit: usize) -> Result<View<'_>, ToolError>
 /// # Errors
 /// `BadEntry` with the refusal of the bytes; of more than 65,536 bytes, with that of the first 65,537, or `Counts`.
 pub fn entry(bytes: &[u8]) -> Result<View<'_>, ToolError>
-    ensures { Opens 65536 bytes.now result }
+    ensures { Opens file_bytes_max bytes.now result }
 {
     entry_within(bytes, FILE_MAX)
 }

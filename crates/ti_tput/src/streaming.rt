@@ -2,7 +2,7 @@
 ghost use Rattle.std.specs.Prelude.{◌+◌, ◌≤◌};
 ghost use Rattle.ti_devices.specs.Counted.{observation, reads_of};
 ghost use Rattle.ti_devices.specs.LineReader.{reads_max};
-ghost use Rattle.ti_tput.specs.Entries.{entry_of};
+ghost use Rattle.ti_tput.specs.Entries.{shown_entry};
 ghost use Rattle.ti_tput.specs.Streaming.{Ends};
 
 use crate::terminal::Terminal;
@@ -31,7 +31,7 @@ pub fn tput_lines<R: Read, W: Write>(
     reader: &mut Counted<R>,
     writer: &mut Counted<W>,
 ) -> Result<u8, ToolError>
-    ensures ends { Ends (entry_of view.now) rate (observation R.remaining reader.old) (observation R.remaining reader.new)
+    ensures ends { Ends (shown_entry view.now) rate (observation R.remaining reader.old) (observation R.remaining reader.new)
         (observation W.contents writer.old) (observation W.contents writer.new) result }
     ensures reads { reads_of reader.new ≤ reads_of reader.old + reads_max }
 {

@@ -1,8 +1,8 @@
 //! A terminal that takes commands line by line, and writes what they write.
 ghost use Rattle.std.specs.Prelude.{◌≡◌, ◌==◌, ℕ, IfOk};
 ghost use Rattle.ti_devices.specs.Counted.{observation};
-ghost use Rattle.ti_tput.specs.Entries.{Entry, entry_of};
-ghost use Rattle.ti_tput.specs.Runs.{Course, line_step, run_status, start};
+ghost use Rattle.ti_tput.specs.Entries.{Entry, shown_entry};
+ghost use Rattle.ti_tput.specs.Runs.{Course, line_step, run_status, lines_start};
 
 use crate::commands::answer;
 use crate::entries::terminal_line;
@@ -36,7 +36,7 @@ impl<'a> Terminal<'a> {
 
     /// The terminal of an entry at a rate, before any command.
     pub fn new(alloc: Global, view: &View<'a>, rate: u32) -> Terminal<'a>
-        ensures { HasCourse (entry_of view.now) rate result start }
+        ensures { HasCourse (shown_entry view.now) rate result lines_start }
     {
         Terminal {
             alloc,

@@ -14,7 +14,7 @@ pub fn three() -> [Edit<'static>; 5] {
 }
 
 /// Circular uses, made and undone.
-pub fn circular() -> [Edit<'static>; 5] {
+pub fn circular_edits() -> [Edit<'static>; 5] {
     [
         insertion(0, b"p,use=q,\n"),
         insertion(1, b"q,use=r,\n"),

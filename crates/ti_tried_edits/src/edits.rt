@@ -8,7 +8,7 @@ use ti_base::{Database, Edit, EditError, Edited};
 ///
 /// # Errors
 /// Want of memory.
-pub fn seen(alloc: Global, database: &Database) -> Result<Vec<u8>, AllocError> {
+pub fn snapshot(alloc: Global, database: &Database) -> Result<Vec<u8>, AllocError> {
     let mut bytes = Vec::with_capacity(alloc, 16_384)?;
     push_blocks(&mut bytes, database)?;
     push_owners(&mut bytes, database)?;
@@ -42,7 +42,7 @@ fn push_owners(bytes: &mut Vec<u8>, database: &Database) -> Result<(), AllocErro
 /// # Errors
 /// Want of memory.
 pub fn add_seen(alloc: Global, database: &Database, tried: &mut Tried) -> Result<(), AllocError> {
-    tried.add(seen(alloc, database)?.as_slice());
+    tried.add(snapshot(alloc, database)?.as_slice());
     Ok(())
 }
 
@@ -51,7 +51,7 @@ pub fn add_seen(alloc: Global, database: &Database, tried: &mut Tried) -> Result
 /// # Errors
 /// Want of memory, or that something has changed.
 pub fn expect_unchanged(alloc: Global, database: &Database, before: &[u8]) -> Result<(), Trouble> {
-    if seen(alloc, database)?.as_slice() == before {
+    if snapshot(alloc, database)?.as_slice() == before {
         Ok(())
     } else {
         Err(Trouble::Wrong("a refused edit has changed something"))
@@ -84,7 +84,7 @@ fn apply_one(
     edit: &Edit<'_>,
     tried: &mut Tried,
 ) -> Result<(), Trouble> {
-    let before = seen(alloc, database)?;
+    let before = snapshot(alloc, database)?;
     let answer = apply_again(alloc, database, edit, &before, tried)?;
     if answer.is_err() {
         expect_unchanged(alloc, database, &before)?;

@@ -1,6 +1,6 @@
 //! One edit of a thousand blocks: it takes few growths of memory, however many blocks there are.
 use crate::blocks::{insertion, replacement};
-use crate::edits::{add_seen, expect_unchanged, seen};
+use crate::edits::{add_seen, expect_unchanged, snapshot};
 use crate::tried::{Tried, Trouble};
 use std::alloc::Global;
 use ti_base::{Database, Edit, EditError, Edited};
@@ -30,7 +30,7 @@ impl Many {
     }
 
     // The position that is rebuilt, and the work.
-    fn expected(self) -> (Option<usize>, u64) {
+    fn expected_answer(self) -> (Option<usize>, u64) {
         match self {
             Many::None | Many::Remove => (None, 0),
             Many::Replace => (Some(500), 1),
@@ -41,7 +41,7 @@ impl Many {
 
     // Whether the edit rebuilt what it must, with so much work.
     fn is_expected(self, edited: &Edited) -> bool {
-        let (rebuilt, work) = self.expected();
+        let (rebuilt, work) = self.expected_answer();
         edited.rebuilt.first().copied() == rebuilt
             && edited.rebuilt.len() <= 1
             && edited.work == work
@@ -49,7 +49,7 @@ impl Many {
 }
 
 // The blocks.
-fn filled(alloc: Global) -> Result<Database, Trouble> {
+fn make_database(alloc: Global) -> Result<Database, Trouble> {
     let mut database = Database::new(alloc);
     for number in 0..BLOCKS {
         put_in(alloc, &mut database, number)?;
@@ -70,7 +70,7 @@ fn put_in(alloc: Global, database: &mut Database, number: usize) -> Result<(), T
 
 // What is seen of the blocks.
 fn seen_filled(alloc: Global) -> Result<Vec<u8>, Trouble> {
-    Ok(seen(alloc, &filled(alloc)?)?)
+    Ok(snapshot(alloc, &make_database(alloc)?)?)
 }
 
 /// Makes one edit of the blocks. Between the last insertion and the edit no memory is asked for.
@@ -79,7 +79,7 @@ fn seen_filled(alloc: Global) -> Result<Vec<u8>, Trouble> {
 /// As of a scenario.
 pub fn edit(alloc: Global, many: Many) -> Result<Tried, Trouble> {
     let mut tried = Tried::new();
-    let mut database = filled(alloc)?;
+    let mut database = make_database(alloc)?;
     if let Some(edit) = many.edit() {
         let edited = apply(alloc, &mut database, &edit, &mut tried)?;
         if !many.is_expected(&edited) {

@@ -1,5 +1,5 @@
 //! Lists of edits that are made in one call, and lists of blocks that are loaded.
-use crate::edits::{LongBlocks, add_seen, seen};
+use crate::edits::{LongBlocks, add_seen, snapshot};
 use crate::tried::{Tried, Trouble};
 use std::alloc::Global;
 use ti_base::{Database, Edit, EditError, Outcome, run};
@@ -57,7 +57,7 @@ fn expect_outcome(
 fn seen_after(alloc: Global, edits: &[Edit<'_>], outcomes: &[Outcome]) -> Result<Vec<u8>, Trouble> {
     let mut reference = Database::new(alloc);
     expect_outcomes(&mut reference, edits, outcomes)?;
-    Ok(seen(alloc, &reference)?)
+    Ok(snapshot(alloc, &reference)?)
 }
 
 // Makes edits in one call. Whether memory sufficed for it and for each of them.
@@ -86,7 +86,7 @@ fn add_run(
 }
 
 fn expect_seen(alloc: Global, database: &Database, want: &[u8]) -> Result<(), Trouble> {
-    if seen(alloc, database)?.as_slice() == want {
+    if snapshot(alloc, database)?.as_slice() == want {
         Ok(())
     } else {
         Err(Trouble::Wrong("the database does not follow from the edits"))
@@ -156,14 +156,14 @@ fn load_again(alloc: Global, texts: &[&[u8]], tried: &mut Tried) -> Result<Datab
 // What is seen of the blocks loaded.
 fn seen_loaded(alloc: Global, tried: &mut Tried) -> Result<Vec<u8>, Trouble> {
     match load_again(alloc, &LOADED, tried) {
-        Ok(database) => Ok(seen(alloc, &database)?),
+        Ok(database) => Ok(snapshot(alloc, &database)?),
         Err(_) => Err(Trouble::Wrong("blocks were refused with memory there")),
     }
 }
 
 // What is seen of the same blocks put in one by one.
 fn seen_put_in(alloc: Global) -> Result<Vec<u8>, Trouble> {
-    Ok(seen(alloc, &put_in_turn(alloc, &LOADED)?)?)
+    Ok(snapshot(alloc, &put_in_turn(alloc, &LOADED)?)?)
 }
 
 // The blocks of which one is none are refused by that name.

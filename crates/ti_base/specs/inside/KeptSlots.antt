@@ -32,25 +32,25 @@ pub record IsSoundSlot (slot : Slot) : Type 0 where
   pub usable : IsUsable (reading_of slot.block)
 
 -- each slot of a list is sound
-abbrev pub AreSound : List (Option Slot) → Type 0
-AreSound listed = (at : ℕ) (slot : Slot) → slice_get listed at ≡ Some (Some slot) → IsSoundSlot slot
+abbrev pub SlotsAreSound : List (Option Slot) → Type 0
+SlotsAreSound listed = (at : ℕ) (slot : Slot) → slice_get listed at ≡ Some (Some slot) → IsSoundSlot slot
 
 -- what each holds is right for its block in the list
-abbrev pub AreSettled : List (Option Slot) → Type 0
-AreSettled listed = (at : ℕ) (slot : Slot) → slice_get listed at ≡ Some (Some slot) → IsSettled (map reading_seen listed) at (reading_of slot.block) slot.settled
+abbrev pub SlotsAreSettled : List (Option Slot) → Type 0
+SlotsAreSettled listed = (at : ℕ) (slot : Slot) → slice_get listed at ≡ Some (Some slot) → IsSettled (map reading_seen listed) at (reading_of slot.block) slot.settled
 
 -- at most 65,535 blocks, indexed, each read from its text
 pub record AreRead (slots : Slots) : Type 0 where
   pub indexed : IsIndexed slots
   pub few : length slots.order.listed ≤ blocks_max
-  pub sound : AreSound (slots_of slots)
+  pub sound : SlotsAreSound (slots_of slots)
 
 -- the same, and settled
 pub record AreKept (slots : Slots) : Type 0 where
   pub indexed : IsIndexed slots
   pub few : length slots.order.listed ≤ blocks_max
-  pub sound : AreSound (slots_of slots)
-  pub settled : AreSettled (slots_of slots)
+  pub sound : SlotsAreSound (slots_of slots)
+  pub settled : SlotsAreSettled (slots_of slots)
 
 -- the slot of a block put in or taken out, and its position
 pub record PlacedSlot : Type 0 where

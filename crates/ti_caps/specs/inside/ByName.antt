@@ -4,8 +4,8 @@ use Rattle.ti_caps.specs.declared.capability.Kind.{Kind}
 use Rattle.ti_caps.specs.ByName.{Row}
 
 -- the table has this row
-abbrev pub IsRowOf : List Row → List ℕ → Kind → ℕ → Type 0
-IsRowOf rows name kind index = Contains rows (name, kind, index)
+abbrev pub IsTableRow : List Row → List ℕ → Kind → ℕ → Type 0
+IsTableRow rows name kind index = Contains rows (name, kind, index)
 
 -- the row at the place has another name
 abbrev pub IsOfAnother : List Row → ℕ → List ℕ → Type 0

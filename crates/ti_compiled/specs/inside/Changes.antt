@@ -1,9 +1,11 @@
 -- A change of one capability, for the functions that make it (own).
 use Rattle.std.specs.Prelude.{◌≡◌, ◌≢◌, ℕ, ◌<◌, Bool, true, false, List, Option, Some, None, option_map}
 use Rattle.std.specs.Borrow.{Bor}
-use Rattle.ti_caps.specs.Tables.{Capability, IsCapability, capability}
+use Rattle.ti_caps.specs.Tables.{Capability, IsCapability, capability, count_of}
 use Rattle.ti_caps.specs.declared.capability.Kind.TheVariants.{Number}
-use Rattle.ti_layout.specs.Image.{limit_of, number_value, of_kind}
+use Rattle.ti_layout.specs.Layout.{absent_mark}
+use Rattle.ti_layout.specs.declared.layout.Format.TheVariants.{Extended}
+use Rattle.ti_layout.specs.Image.{image_limit, number_value, of_kind}
 use Rattle.ti_compiled.specs.Image.{contents_in, with_content}
 use Rattle.ti_layout.specs.Laws.{without_cancel}
 use Rattle.ti_layout.specs.Values.{Content, content_true, content_number, content_text, content_of, Contents, AgreesIfSome}
@@ -39,8 +41,9 @@ pub record IsLeft (old new held : Option Content) : Type 0 where
   pub same : old ≡ new → held ≡ without_cancel new
   pub gone : old ≢ new → held ≡ None
 
+-- the most bytes that the entry may have once the capability has this
 abbrev pub limit_with : List ℕ → Capability → Option Content → ℕ
-limit_with bytes cap content = limit_of (with_content (contents_in bytes) cap content)
+limit_with bytes cap content = image_limit (with_content (contents_in bytes) cap content)
 
 -- what the bytes hold, with a number given or taken away
 abbrev pub with_number : List ℕ → ℕ → Option ℕ → Contents
@@ -48,8 +51,8 @@ with_number bytes index number = with_content (contents_in bytes) (capability Nu
 
 -- the number of a place, and what stands for one that is absent
 abbrev pub wide_value : Contents → ℕ → ℕ
-wide_value contents index = number_value 4294967295 (of_kind contents Number index)
+wide_value contents index = number_value (absent_mark Extended) (of_kind contents Number index)
 
 -- what the places of numbers have, they may have
 abbrev pub HasNumbers : Contents → Type 0
-HasNumbers contents = (index : ℕ) → index < 39 → AgreesIfSome (capability Number index) (contents (capability Number index))
+HasNumbers contents = (index : ℕ) → index < count_of Number → AgreesIfSome (capability Number index) (contents (capability Number index))

@@ -1,5 +1,8 @@
 -- A part of bytes changed where it lies (own).
 use Rattle.std.specs.Prelude.{◌≡◌, ℕ, ◌+◌, ◌-◌, ◌==◌, nat_lt, if◌then◌else◌, List, [], ◌∷◌, ◌++◌, length, take, drop, replicate, Option, Some, None}
+use Rattle.ti_text.specs.Ascii as ascii
+use Rattle.ti_layout.specs.Layout.{absent_mark}
+use Rattle.ti_layout.specs.declared.layout.Format.TheVariants.{Legacy}
 
 -- as many bytes put in at a place
 abbrev pub with_bytes_in : List ℕ → ℕ → ℕ → ℕ → List ℕ
@@ -19,13 +22,13 @@ Replaces old new at size change = (p m r : List ℕ) → old ≡ p ++ (m ++ r) �
 
 -- an offset of a text that stands behind another, of which so many bytes are taken out and put in; the one of an absent text stays
 abbrev pub offset_after : ℕ → ℕ → ℕ → ℕ
-offset_after removed added offset = if offset == 65535 then 65535 else offset + added - removed
+offset_after removed added offset = if offset == absent_mark Legacy then absent_mark Legacy else offset + added - removed
 
 -- the offsets from an index on are moved
 abbrev pub moved_later : (ℕ → ℕ) → ℕ → ℕ → ℕ → ℕ → ℕ
 moved_later f from removed added j = if nat_lt j from then f j else offset_after removed added (f j)
 
 -- a text with the NUL that ends it, or nothing
-abbrev pub piece : Option (List ℕ) → List ℕ
-piece None = []
-piece (Some text) = text ++ 0 ∷ []
+abbrev pub ended_text : Option (List ℕ) → List ℕ
+ended_text None = []
+ended_text (Some text) = text ++ ascii.nul ∷ []

@@ -9,7 +9,7 @@ use Rattle.ti_slots.specs.Slots.{reading_at, StandsAt, IsOwnerId}
 use Rattle.ti_dependents.specs.Dependents.{IsExchangeOf}
 
 -- ids were put behind others: only such as pass, and all that pass are there
-pub record Adds (IsAdded : ℕ → Type 0) (old new : List ℕ) : Type 0 where
+pub record AddsPassing (IsAdded : ℕ → Type 0) (old new : List ℕ) : Type 0 where
   pub added : List ℕ
   pub behind : new ≡ old ++ added
   pub only : (id : ℕ) → Has added id → IsAdded id

@@ -4,20 +4,20 @@ use Rattle.ti_source.specs.Reading.{ReadItem}
 use Rattle.ti_components.specs.Graph.{Rows}
 use Rattle.ti_slots.specs.declared.slots.Slots.{Slots}
 use Rattle.ti_slots.specs.Slots.{reading_at}
-use Rattle.ti_dependents.specs.Dependents.{IsRowOf}
+use Rattle.ti_dependents.specs.Dependents.{IsEdgeRowOf}
 
 -- where each of the ids stands in the list
-pub record ArePlaces (listed ids places : List ℕ) : Type 0 where
+pub record ArePositions (listed ids places : List ℕ) : Type 0 where
   pub as_many : length places ≡ length ids
   pub stands : (i id at : ℕ) → slice_get ids i ≡ Some id → slice_get places i ≡ Some at → slice_get listed at ≡ Some id
 
 -- a row for the items stands behind the others
 pub record AddsRow (slots : Slots) (ids : List ℕ) (items : List ReadItem) (old new : Rows) : Type 0 where
   pub row : List (Option ℕ)
-  pub of_items : IsRowOf slots ids items row
+  pub of_items : IsEdgeRowOf slots ids items row
   pub behind : new ≡ old ++ row ∷ []
 
 -- a row for each of the blocks `done`, with edges to the places among the ids
 pub record AreRowsOf (slots : Slots) (ids done : List ℕ) (graph : Rows) : Type 0 where
   pub as_many : length graph ≡ length done
-  pub rows : (i id : ℕ) (row : List (Option ℕ)) → slice_get done i ≡ Some id → slice_get graph i ≡ Some row → IsRowOf slots ids (reading_at slots.slots.items id).items row
+  pub rows : (i id : ℕ) (row : List (Option ℕ)) → slice_get done i ≡ Some id → slice_get graph i ≡ Some row → IsEdgeRowOf slots ids (reading_at slots.slots.items id).items row

@@ -2,6 +2,8 @@
 use Rattle.std.specs.Prelude.{◌<◌, length}
 use Rattle.ti_caps.specs.Tables.{Capability}
 use Rattle.ti_source.specs.Reading.{Said, said_flag, said_number, said_text, said_cancel}
+use Rattle.ti_layout.specs.Layout.{first_negative}
+use Rattle.ti_layout.specs.declared.layout.Format.TheVariants.{Legacy}
 use Rattle.ti_layout.specs.Values.{Content, content_true, content_number, content_text, content_cancelled}
 use Rattle.ti_list.specs.declared.contents.Content.{Content as ContentInMemory}
 use Rattle.ti_list.specs.declared.contents.Content.TheVariants as memory
@@ -21,8 +23,8 @@ said_for c (content_text t) = said_text c t
 said_for c content_cancelled = said_cancel c
 
 -- a text is no longer than a string table can be
-abbrev pub IsShort : Content → Type 0
-IsShort content_true = Unit {0}
-IsShort (content_number n) = Unit {0}
-IsShort (content_text t) = length t < 32768
-IsShort content_cancelled = Unit {0}
+abbrev pub FitsStringTable : Content → Type 0
+FitsStringTable content_true = Unit {0}
+FitsStringTable (content_number n) = Unit {0}
+FitsStringTable (content_text t) = length t < first_negative Legacy
+FitsStringTable content_cancelled = Unit {0}

@@ -22,8 +22,8 @@ unless_stuck None outcome = expansion_by outcome
 unless_stuck (Some place) outcome = bad_format place
 
 -- what a format expands to with these parameters and static variables
-unfoldable pub expansion : List ℕ → List Argument → List ℤ → Expansion
-expansion format parameters statics = unless_stuck (stuck_place format) (meaning (tree_of format) (start parameters statics))
+unfoldable pub format_expansion : List ℕ → List Argument → List ℤ → Expansion
+format_expansion format parameters statics = unless_stuck (stuck_place format) (meaning (tree_of format) (start parameters statics))
 
 -- the error that an expansion ends with; want of memory may come where the format is not stuck
 abbrev pub EndsWith : ParamError → Expansion → Type 0

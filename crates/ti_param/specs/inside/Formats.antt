@@ -84,8 +84,8 @@ abbrev pub grouped_tree : Tree × Tree × Marks → Tree × Marks
 grouped_tree parts = (group parts.0 parts.1, parts.2)
 
 -- the tree and the marks of a list of tokens, by its first token and those of the others
-abbrev pub with_piece : Placed → Tree × Marks → Tree × Marks
-with_piece p (next, marks) = elim p.token [
+abbrev pub with_first_token : Placed → Tree × Marks → Tree × Marks
+with_first_token p (next, marks) = elim p.token [
   | Literal b ↦ (byte b next, marks)
   | Operation c ↦ (code p.place c next, marks)
   | If ↦ grouped_tree (conditional_of next marks)
@@ -97,7 +97,7 @@ with_piece p (next, marks) = elim p.token [
 -- the tree of a list of tokens up to its first mark, and the marks from there on
 unfoldable pub tree_and_marks : List Placed → Tree × Marks
 tree_and_marks [] = (nothing, [])
-tree_and_marks (p ∷ tokens) = with_piece p (tree_and_marks tokens)
+tree_and_marks (p ∷ tokens) = with_first_token p (tree_and_marks tokens)
 
 -- the tree of a format that is not stuck
 abbrev pub tree_of : List ℕ → Tree

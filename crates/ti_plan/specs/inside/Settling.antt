@@ -40,8 +40,8 @@ pub record AreFoundIn (slots : Slots) (dependents : Dependents) : Type 0 where
   pub others : (at id : ℕ) → StandsAt slots at id → (Contains dependents.places.items at → ⊥) → HoldsSettled slots at id
 
 -- the position of a node's block
-abbrev pub place_of : Dependents → ℕ → ℕ
-place_of dependents node = slice_index dependents.places.items node
+abbrev pub node_position : Dependents → ℕ → ℕ
+node_position dependents node = slice_index dependents.places.items node
 
 -- the plan has the blocks found, what is right for each, and their positions and work
 pub record IsPlanOf (slots : Slots) (dependents : Dependents) (plan : Plan) : Type 0 where

@@ -45,7 +45,7 @@ pub fn plain_entry(alloc: Global) -> Result<Vec<u8>, AllocError> {
 }
 
 /// The entry with one byte changed; a place past its end changes none.
-pub fn changed(alloc: Global, entry: &[u8], at: usize, to: u8) -> Result<Vec<u8>, AllocError> {
+pub fn bytes_with(alloc: Global, entry: &[u8], at: usize, to: u8) -> Result<Vec<u8>, AllocError> {
     let mut entry = Vec::from_slice(alloc, entry)?;
     if let Some(byte) = entry.get_mut(at) {
         *byte = to;

@@ -65,7 +65,7 @@ impl Tally {
         match (View::read(bytes), View::read(good)) {
             (Ok(view), Ok(other)) => {
                 raise(&mut self.read);
-                add(&mut self.present, present(&view));
+                add(&mut self.present, count_present(&view));
                 self.write_all(alloc, &view, &other)?;
                 self.print_all(alloc, &view)
             }
@@ -144,7 +144,7 @@ impl Tally {
 }
 
 /// How many capabilities the entry has.
-fn present(view: &View<'_>) -> usize {
+fn count_present(view: &View<'_>) -> usize {
     let mut total = 0;
     for index in 0..count(Kind::Flag) {
         if let Some(cap) = Cap::at(Kind::Flag, index) {

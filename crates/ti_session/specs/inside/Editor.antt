@@ -6,7 +6,7 @@ use Rattle.ti_devices.specs.declared.tool_error.ToolError.{ToolError}
 use Rattle.ti_devices.specs.Counted.{Observed}
 use Rattle.ti_devices.specs.Writing.{Wrote}
 use Rattle.ti_session.specs.inside.Requests.{mode_of}
-use Rattle.ti_session.specs.Script.{Leads, Meaning, Source, State, source}
+use Rattle.ti_session.specs.Script.{LineLeads, Meaning, Source, SessionState, source}
 
 -- the source that the editor holds
 abbrev pub source_of : Editor → Source
@@ -14,7 +14,7 @@ source_of editor = source editor.database editor.rebuilt.items
 
 -- The editor holds a state: of the block that is open so many bytes as there is room for, which is more than a block may
 -- have.
-pub record HasState (editor : Editor) (state : State) : Type 0 where
+pub record HasState (editor : Editor) (state : SessionState) : Type 0 where
   pub text : List ℕ
   pub source : source_of editor ≡ state.source
   pub mode : state.mode ≡ mode_of editor.opened text
@@ -22,9 +22,9 @@ pub record HasState (editor : Editor) (state : State) : Type 0 where
   pub room : block_bytes_max < editor.block.limit
 
 -- what a line of that meaning leads to is held, and its reply was written
-pub record ActsOn (meaning : Meaning) (state : State) (editor : Editor) (before now : Observed) (result : Result Unit ToolError) : Type 0 where
-  pub next : State
+pub record ActsOn (meaning : Meaning) (state : SessionState) (editor : Editor) (before now : Observed) (result : Result Unit ToolError) : Type 0 where
+  pub next : SessionState
   pub reply : List ℕ
-  pub leads : Leads meaning state next reply
+  pub leads : LineLeads meaning state next reply
   pub holds : HasState editor next
   pub wrote : Wrote before now reply result

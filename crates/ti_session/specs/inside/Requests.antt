@@ -18,15 +18,15 @@ mode_of None text = outside
 mode_of (Some opened) text = opened_mode opened text
 
 -- what a request means
-abbrev pub meaning_of : Request → Meaning
-meaning_of Nothing = goes_on outside
-meaning_of (Open opened) = goes_on (opened_mode opened [])
-meaning_of (Remove at) = asks (edits (removal at))
-meaning_of (Relocate from to) = asks (edits (relocation from to))
-meaning_of (Print at) = asks (prints at)
-meaning_of Report = asks reports
-meaning_of Rebuilt = asks rebuilds
-meaning_of Unknown = asks nothing_known
+abbrev pub request_meaning : Request → Meaning
+request_meaning Nothing = goes_on outside
+request_meaning (Open opened) = goes_on (opened_mode opened [])
+request_meaning (Remove at) = asks (edits (removal at))
+request_meaning (Relocate from to) = asks (edits (relocation from to))
+request_meaning (Print at) = asks (prints at)
+request_meaning Report = asks reports
+request_meaning Rebuilt = asks rebuilds
+request_meaning Unknown = asks nothing_known
 
 -- the edit that the end of the block asks for
 abbrev pub opened_change : Opened → List ℕ → Change

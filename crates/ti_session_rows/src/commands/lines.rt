@@ -1,5 +1,5 @@
 //! Worked lines of `-S`, and devices that fail in mid-stream.
-use super::{compiled, dumb};
+use super::{dumb, entry_bytes};
 use crate::devices::{Drip, End, Narrow};
 use std::alloc::{AllocError, Global};
 use std::process::Abort;
@@ -53,7 +53,7 @@ fn lines_on_a_dumb_terminal(rt: HostRuntime) -> Result<(), ToolError> {
 }
 
 /// These bytes, and so many times others.
-fn repeated(
+fn text_with_run(
     alloc: Global,
     front: &[u8],
     piece: &[u8],
@@ -71,7 +71,7 @@ fn many_bad_lines(rt: HostRuntime) -> Result<(), ToolError> {
     let alloc = rt.alloc();
     let bytes = dumb(alloc)?;
     let view = entry(bytes.as_slice())?;
-    let lines = repeated(alloc, b"", b"zz\n", 300)?;
+    let lines = text_with_run(alloc, b"", b"zz\n", 300)?;
     expect_lines(&rt, alloc, &view, 0, &lines, b"", Ok(255));
     Ok(())
 }
@@ -81,7 +81,7 @@ fn a_line_over_the_limit(rt: HostRuntime) -> Result<(), ToolError> {
     let alloc = rt.alloc();
     let bytes = dumb(alloc)?;
     let view = entry(bytes.as_slice())?;
-    let lines = repeated(alloc, b"cols\n", b"x", 4097)?;
+    let lines = text_with_run(alloc, b"cols\n", b"x", 4097)?;
     expect_lines(
         &rt,
         alloc,
@@ -103,7 +103,7 @@ fn expect_shared(
     written: &[u8],
     status: u8,
 ) -> Result<(), ToolError> {
-    let bytes = compiled(alloc, b"v", &[], &[], texts)?;
+    let bytes = entry_bytes(alloc, b"v", &[], &[], texts)?;
     let view = entry(bytes.as_slice())?;
     expect_lines(rt, alloc, &view, rate, b"u0 6\nu1 0\n", written, Ok(status));
     Ok(())

@@ -24,7 +24,7 @@ abbrev pub IsPart : List ℕ → List ℕ → Type 0
 IsPart listed list = (test : ℕ → Bool) × (list ≡ filter test listed)
 
 -- the id has come to the lists of the names that pass a test. `lists` are those lists, `rest` the others
-pub record Adds (lists rest : NameIndex → List ℕ → List ℕ) (listed : List ℕ) (told : List ℕ → Bool) (id : ℕ) (old new : NameIndex) : Type 0 where
+pub record AddsId (lists rest : NameIndex → List ℕ → List ℕ) (listed : List ℕ) (told : List ℕ → Bool) (id : ℕ) (old new : NameIndex) : Type 0 where
   pub added : (name : List ℕ) (test : ℕ → Bool) → lists old name ≡ filter test listed → lists new name ≡ filter (λ x. (nat_eq x id && told name) || test x) listed
   pub untold : (name : List ℕ) → told name ≡ false → mentions_at new name ≡ mentions_at old name
   pub kept : (name : List ℕ) → rest new name ≡ rest old name

@@ -8,9 +8,9 @@ front_of before [] = []
 front_of before (x ∷ xs) = if is_head before x then [] else x ∷ front_of x xs
 
 -- the blocks of a text from its first head line on
-abbrev pub blocks_of : ℕ → List ℕ → List (List ℕ)
-blocks_of before [] = []
-blocks_of before (x ∷ xs) = if is_head before x then (x ∷ front_of x xs) ∷ blocks_of x xs else blocks_of x xs
+abbrev pub blocks_from_head : ℕ → List ℕ → List (List ℕ)
+blocks_from_head before [] = []
+blocks_from_head before (x ∷ xs) = if is_head before x then (x ∷ front_of x xs) ∷ blocks_from_head x xs else blocks_from_head x xs
 
 -- whether a text begins as a head line does
 abbrev pub begins_with_head : List ℕ → Bool

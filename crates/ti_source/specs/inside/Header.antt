@@ -15,18 +15,18 @@ is_lookup_name name = not (length name == 0) && not (bytes_eq name (ascii.dot �
     && list_all is_name_byte name
 
 -- the parts of a field
-abbrev pub parts_of : List ℕ → List (List ℕ)
-parts_of field = slice_split (λ b. b == ascii.bar) field
+abbrev pub header_parts : List ℕ → List (List ℕ)
+header_parts field = slice_split (λ b. b == ascii.bar) field
 
 -- whether no fault stands in a field
 abbrev pub is_header : List ℕ → Bool
 is_header field =
-    not (list_any (λ b. b == ascii.nul) field) && list_all (λ part. not (length part == 0)) (parts_of field)
-    && list_all is_lookup_name (lookup_parts (parts_of field))
+    not (list_any (λ b. b == ascii.nul) field) && list_all (λ part. not (length part == 0)) (header_parts field)
+    && list_all is_lookup_name (lookup_parts (header_parts field))
 
 -- the lookup names of a field, or none where a fault stands in it
 abbrev pub header_names : List ℕ → Option (List (List ℕ))
-header_names field = if is_header field then Some (lookup_parts (parts_of field)) else None
+header_names field = if is_header field then Some (lookup_parts (header_parts field)) else None
 
 -- each field has lookup names or is bad, as `header_names` says
 abbrev pub EachHeaderIsRead : Type 0

@@ -10,7 +10,7 @@ use Rattle.ti_source.specs.declared.items.Run.{Run}
 use Rattle.ti_source.specs.declared.items.Claim.{Claim as ClaimInMemory}
 use Rattle.ti_source.specs.declared.items.Claim.TheVariants as claims
 use Rattle.ti_source.specs.declared.items.Statement.{Statement as StatementInMemory}
-use Rattle.ti_source.specs.Items.{Claim, Piece, Statement, claims_cancel, claims_flag, claims_number, claims_text, is_mark, piece, piece_of}
+use Rattle.ti_source.specs.Items.{Claim, Piece, Statement, claims_cancel, claims_flag, claims_number, claims_text, is_mark, item_piece, piece_of}
 
 -- what stands before the first comma, all where there is none
 abbrev pub field_of : List Placed → List Placed
@@ -91,27 +91,27 @@ statement_of (x ∷ xs) = if x == ascii.dot then None else Some (statement_by_ma
 abbrev pub with_byte : Piece → Placed → Piece
 with_byte p x =
     elim p.text [
-      | [] ↦ if is_white_space x.0 then p else piece (x.0 ∷ []) x.1
-      | y ∷ ys ↦ piece (y ∷ ys ++ x.0 ∷ []) p.line
+      | [] ↦ if is_white_space x.0 then p else item_piece (x.0 ∷ []) x.1
+      | y ∷ ys ↦ item_piece (y ∷ ys ++ x.0 ∷ []) p.line
     ]
 
--- The item at the front of a text was taken: `piece` says it, and `rest` is left, or the item was the last, and nothing is left.
-pub record TakesItem (text : List Placed) (piece : Piece) (last : Bool) (rest : List Placed) : Type 0 where
+-- The item at the front of a text was taken: `item_piece` says it, and `rest` is left, or the item was the last, and nothing is left.
+pub record TakesItem (text : List Placed) (item_piece : Piece) (last : Bool) (rest : List Placed) : Type 0 where
   pub item : List Placed
-  pub is_piece : piece_of item ≡ piece
+  pub is_piece : piece_of item ≡ item_piece
   pub is_first : items_of taken.Nothing ascii.comma text ≡ item ∷ (if last then [] else items_of taken.Nothing ascii.comma rest)
   pub shorter : last ≡ false → length rest < length text
 
 -- a text in front of the first of some items
-abbrev pub with_front : List Placed → List (List Placed) → List (List Placed)
-with_front front [] = front ∷ []
-with_front front (item ∷ items) = (front ++ item) ∷ items
+abbrev pub with_text_before : List Placed → List (List Placed) → List (List Placed)
+with_text_before front [] = front ∷ []
+with_text_before front (item ∷ items) = (front ++ item) ∷ items
 
 -- An item is read up to here: `seen` of it, which shows as `shown`, and `source` is left.
 pub record ReadsSoFar (start : List Placed) (by : Taken) (before : ℕ) (source : List Placed) (shown : Piece) : Type 0 where
   pub seen : List Placed
   pub is_piece : piece_of seen ≡ shown
-  pub items : items_of taken.Nothing ascii.comma start ≡ with_front seen (items_of by before source)
+  pub items : items_of taken.Nothing ascii.comma start ≡ with_text_before seen (items_of by before source)
   pub shorter : length source ≤ length start
 
 -- An item goes on over a run of bytes: none of them is a newline or ends the item. `by` takes the first of them, which stands just after `before`, and
@@ -134,7 +134,7 @@ pub record TakesRun (old : List Placed) (by : Taken) (before : ℕ) (run : Run) 
 -- However an item with this text was read up to `old`, it is read up to `new` with this longer text.
 abbrev pub ReadsOn : (old : List Placed) (by : Taken) (before : ℕ) (text : List ℕ) (new : List Placed) (next : Taken) (last : ℕ) (longer : List ℕ) → Type 0
 ReadsOn old by before text new next last longer =
-    (start : List Placed) (line : ℕ) → ReadsSoFar start by before old (piece text line) → ReadsSoFar start next last new (piece longer line)
+    (start : List Placed) (line : ℕ) → ReadsSoFar start by before old (item_piece text line) → ReadsSoFar start next last new (item_piece longer line)
 
 -- whether a text is empty or begins with no white space
 abbrev pub begins_visible : List ℕ → Bool
@@ -161,10 +161,10 @@ pub record TakesWholeItem (old : List Placed) (text : List ℕ) (line : ℕ) (ne
   pub whole : old ≡ on_line line text ++ (ascii.comma, line) ∷ new
   pub item : IsItemText text
 
--- Wherever an item begins with white space up to `old`, it is taken: `piece` says it, and `new` is left, or the item was the last.
-abbrev pub EndsItem : (old : List Placed) (piece : Piece) (last : Bool) (new : List Placed) → Type 0
+-- Wherever an item begins with white space up to `old`, it is taken: `item_piece` says it, and `new` is left, or the item was the last.
+abbrev pub EndsItem : (old : List Placed) (item_piece : Piece) (last : Bool) (new : List Placed) → Type 0
 EndsItem old shown last new =
-    (start : List Placed) → ReadsSoFar start taken.Nothing ascii.comma old (piece [] 0) → TakesItem start shown last new
+    (start : List Placed) → ReadsSoFar start taken.Nothing ascii.comma old (item_piece [] 0) → TakesItem start shown last new
 
 -- a claim that holds its text in memory, as plain data
 abbrev pub claim_of : ClaimInMemory → Claim

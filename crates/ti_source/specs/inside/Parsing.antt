@@ -28,9 +28,9 @@ items_from ordinal [] = []
 items_from ordinal (item ∷ items) = items_at ordinal (piece_of item).line (statement_of (piece_of item).text) ++ items_from (ordinal + 1) items
 
 -- the faults of items in a row, of which the first has the place `ordinal`
-abbrev pub faults_from : ℕ → List (List Placed) → List ReadFault
-faults_from ordinal [] = []
-faults_from ordinal (item ∷ items) = faults_at ordinal (piece_of item).line (statement_of (piece_of item).text) ++ faults_from (ordinal + 1) items
+abbrev pub faults_from_ordinal : ℕ → List (List Placed) → List ReadFault
+faults_from_ordinal ordinal [] = []
+faults_from_ordinal ordinal (item ∷ items) = faults_at ordinal (piece_of item).line (statement_of (piece_of item).text) ++ faults_from_ordinal (ordinal + 1) items
 
 -- the lookup names of a names field, none where a fault stands in it
 abbrev pub names_found : Option (List (List ℕ)) → List (List ℕ)
@@ -56,7 +56,7 @@ reading_of_text block = record {
   field = block_field block;
   names = names_found (header_names (block_field block));
   items = items_from 0 (block_items block);
-  faults = header_faults (block_field block) (header_names (block_field block)) ++ faults_from 0 (block_items block);
+  faults = header_faults (block_field block) (header_names (block_field block)) ++ faults_from_ordinal 0 (block_items block);
 }
 
 -- the names and the fault of a names field were read, and no items
@@ -67,7 +67,7 @@ pub record ReadsField (field : List ℕ) (reading : Reading) : Type 0 where
   pub faults : reading.faults ≡ header_faults field (header_names field)
 
 -- these items and faults were added to a reading
-pub record Adds (found : List ReadItem) (faults : List ReadFault) (old new : Reading) : Type 0 where
+pub record AddsToReading (found : List ReadItem) (faults : List ReadFault) (old new : Reading) : Type 0 where
   pub same_field : new.field ≡ old.field
   pub same_names : new.names ≡ old.names
   pub more_items : new.items ≡ old.items ++ found
@@ -75,8 +75,8 @@ pub record Adds (found : List ReadItem) (faults : List ReadFault) (old new : Rea
 
 -- what an item with this place says, and its faults, were added to a reading
 abbrev pub AddsItem : ℕ → Piece → Reading → Reading → Type 0
-AddsItem ordinal p old new = Adds (items_at ordinal p.line (statement_of p.text)) (faults_at ordinal p.line (statement_of p.text)) old new
+AddsItem ordinal p old new = AddsToReading (items_at ordinal p.line (statement_of p.text)) (faults_at ordinal p.line (statement_of p.text)) old new
 
 -- what the items of a text say, and their faults, were added to a reading
 abbrev pub AddsItems : List Placed → Reading → Reading → Type 0
-AddsItems source old new = Adds (items_from 0 (items_of taken.Nothing ascii.comma source)) (faults_from 0 (items_of taken.Nothing ascii.comma source)) old new
+AddsItems source old new = AddsToReading (items_from 0 (items_of taken.Nothing ascii.comma source)) (faults_from_ordinal 0 (items_of taken.Nothing ascii.comma source)) old new

@@ -1,5 +1,5 @@
 use Rattle.std.proofs.Common.{◌≡◌, map, take}
-use Rattle.ti_slots.specs.Slots.{texts_of}
+use Rattle.ti_slots.specs.Slots.{slot_texts}
 use Rattle.ti_base.specs.inside.KeptSlots.{AreRead}
 use Rattle.ti_base.specs.Loading.{AreTaken}
 use Rattle.ti_base.proofs.loading.read_slots.Given as goal
@@ -8,6 +8,6 @@ use Rattle.ti_base.proofs.loading.read_slots.Given as goal
 abbrev pub invariant-loop-text : goal.invariant-loop-text
 invariant-loop-text l = record {
   read : AreRead l.slots;
-  texts : texts_of l.slots ≡ take l.text-index (map (λ text. text.now) l.texts);
+  texts : slot_texts l.slots ≡ take l.text-index (map (λ text. text.now) l.texts);
   taken : AreTaken (take l.text-index (map (λ text. text.now) l.texts));
 }

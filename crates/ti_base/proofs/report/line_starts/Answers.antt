@@ -3,7 +3,7 @@ use Rattle.std.specs.List.{range_with_len}
 use Rattle.std.proofs.lemmas.List.Elements.{All-push}
 use Rattle.ti_text.specs.Texts.{line_count}
 use Rattle.ti_meaning.specs.Report.{lines_before}
-use Rattle.ti_slots.specs.Slots.{texts_of}
+use Rattle.ti_slots.specs.Slots.{slot_texts}
 use Rattle.ti_base.proofs.Counting.{lines_more, starts_more}
 use Rattle.ti_base.proofs.SlotLists.{length_texts}
 use Rattle.ti_base.proofs.SlotEntries.{text_of_slot}
@@ -12,7 +12,7 @@ use Rattle.ti_base.proofs.report.line_starts.Goals as goal
 pub loop-at-preserved : goal.loop-at-preserved
 loop-at-preserved c =
     let slots = c.args.slots.now in
-    let texts = texts_of slots in
+    let texts = slot_texts slots in
     let at = c.loop-at.at in
     let slot = c.slot_of.result.now in
     let here = text_of_slot slots at slot c.slot_of.ensures in
@@ -33,5 +33,5 @@ pub returns-clause-starts : goal.returns-clause-starts
 returns-clause-starts c =
     let slots = c.args.slots.now in
     let count : length c.ids-count.result.now ≡ length slots.order.listed = ap (λ xs. length xs) c.ids-count.ensures.ids in
-    let end : c.loop-at.at ≡ length (texts_of slots) = omega (arith, count, length_texts slots) in
-    c.loop-at.invariant.0 ∙ ap (λ n. map (lines_before (texts_of slots)) (range_with_len 0 n)) end
+    let end : c.loop-at.at ≡ length (slot_texts slots) = omega (arith, count, length_texts slots) in
+    c.loop-at.invariant.0 ∙ ap (λ n. map (lines_before (slot_texts slots)) (range_with_len 0 n)) end

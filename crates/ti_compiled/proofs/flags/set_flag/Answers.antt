@@ -1,7 +1,7 @@
 use Rattle.std.proofs.Common.{◌≤◌, ℕ, List, length, sym, ap, ◌∙◌, subst, vec_capacity}
 use Rattle.ti_caps.specs.Tables.{capability}
 use Rattle.ti_caps.specs.declared.capability.Kind.TheVariants.{Flag}
-use Rattle.ti_layout.specs.Image.{image, limit_of}
+use Rattle.ti_layout.specs.Image.{image, image_limit}
 use Rattle.ti_layout.specs.Sizes.{HasSizes}
 use Rattle.ti_compiled.specs.Changes.{image_with}
 use Rattle.ti_compiled.specs.inside.Changes.{flag_content}
@@ -21,7 +21,7 @@ change_flag-requires-clause-small c =
     let b = c.args.bytes.now.items in
     let g = with_content (contents_in b) (capability Flag c.args.index) (flag_content c.args.on) in
     let has : HasSizes (names_in b) g c.sizes_with_flag-new.result = subst (λ (x : List ℕ). HasSizes (names_in x) (with_content (contents_in x) (capability Flag c.args.index) (flag_content c.args.on)) c.sizes_with_flag-new.result) c.deref-2.ensures.value c.sizes_with_flag-new.ensures in
-    subst (λ (x : List ℕ). length (image (names_in x) (with_content (contents_in x) (capability Flag c.args.index) (flag_content c.args.on))) ≤ limit_of (with_content (contents_in x) (capability Flag c.args.index) (flag_content c.args.on))) (sym c.make_room-room.ensures.items) (when_ok c.make_room-room.result _ (sym c.is_ok.ensures.value ∙ c.if-is_ok.true) (c.make_room-room.ensures.within (names_in b) g has))
+    subst (λ (x : List ℕ). length (image (names_in x) (with_content (contents_in x) (capability Flag c.args.index) (flag_content c.args.on))) ≤ image_limit (with_content (contents_in x) (capability Flag c.args.index) (flag_content c.args.on))) (sym c.make_room-room.ensures.items) (when_ok c.make_room-room.result _ (sym c.is_ok.ensures.value ∙ c.if-is_ok.true) (c.make_room-room.ensures.within (names_in b) g has))
 
 pub change_flag-requires-clause-room : goal.change_flag-requires-clause-room
 change_flag-requires-clause-room c =

@@ -1,6 +1,6 @@
 use Rattle.std.proofs.Common.{◌≡◌, ◌≤◌, ℕ, List, length, sym, ap, ◌∙◌, subst, Option, arith, vec_capacity}
 use Rattle.ti_layout.specs.declared.layout.Header.{Header}
-use Rattle.ti_layout.specs.Image.{image, below, limit_of}
+use Rattle.ti_layout.specs.Image.{image, below, image_limit}
 use Rattle.ti_layout.specs.Sizes.{HasSizes}
 use Rattle.ti_compiled.specs.inside.Changes.{with_number, wide_value}
 use Rattle.ti_compiled.specs.Image.{names_in, contents_in}
@@ -33,11 +33,11 @@ returns-then-is_ok-clause-ok c =
     let old = old_sizes b c.deref.result.now c.header_of-old.result c.deref.ensures.value c.header_of-old.ensures.sizes in
     let all = all_values b c.deref-2.result.now c.numbers_with-values.result c.args.index c.args.number c.deref-2.ensures.value c.numbers_with-values.ensures in
     let has : HasSizes (names_in b) g c.sizes_with_numbers-new.result = c.sizes_with_numbers-new.ensures.sizes b c.args.index c.args.number c.requires.image old c.requires.index c.requires.fits all in
-    let small : length (image (names_in b) g) ≤ limit_of g = when_ok c.make_room-room.result _ (sym c.is_ok.ensures.value ∙ c.if-is_ok.true) (c.make_room-room.ensures.within (names_in b) g has) in
+    let small : length (image (names_in b) g) ≤ image_limit g = when_ok c.make_room-room.result _ (sym c.is_ok.ensures.value ∙ c.if-is_ok.true) (c.make_room-room.ensures.within (names_in b) g has) in
     let same = c.make_room-room.ensures.items in
     let done : c.change_numbers.new.bytes.items ≡ image (names_in b) g =
     subst (λ (x : List ℕ). HasSizes (names_in x) (with_number x c.args.index c.args.number) c.sizes_with_numbers-new.result → c.numbers_with-values.result ≡ below (wide_value (with_number x c.args.index c.args.number)) 39
-    → length (image (names_in x) (with_number x c.args.index c.args.number)) ≤ limit_of (with_number x c.args.index c.args.number) → c.change_numbers.new.bytes.items ≡ image (names_in x) (with_number x c.args.index c.args.number))
+    → length (image (names_in x) (with_number x c.args.index c.args.number)) ≤ image_limit (with_number x c.args.index c.args.number) → c.change_numbers.new.bytes.items ≡ image (names_in x) (with_number x c.args.index c.args.number))
     same (c.change_numbers.ensures c.args.index c.args.number c.requires.index) has all small in
     on_ok c.make_room-room.result _ done
 

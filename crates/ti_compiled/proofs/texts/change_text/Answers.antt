@@ -4,9 +4,9 @@ use Rattle.ti_caps.specs.declared.capability.Kind.TheVariants.{Text}
 use Rattle.ti_layout.specs.Image.{texts_below, written_count}
 use Rattle.ti_compiled.specs.inside.Changes.{text_content}
 use Rattle.ti_compiled.specs.Image.{names_in, contents_in, with_content}
-use Rattle.ti_compiled.specs.inside.Parts.{piece}
+use Rattle.ti_compiled.specs.inside.Parts.{ended_text}
 use Rattle.ti_compiled.proofs.TextFits.{gone_or_more, lengths_of, removed_found}
-use Rattle.ti_compiled.proofs.TextLaid.{table_changed, offsets_resized, put_here, put_other, put_fits, offset_there, offset_none, text_changed}
+use Rattle.ti_compiled.proofs.TextSteps.{table_changed, offsets_resized, put_here, put_other, put_fits, offset_there, offset_none, text_changed}
 use Rattle.ti_compiled.proofs.TextPlaces.{offset_of, offsets_from, length_front, head_of, middle}
 use Rattle.ti_compiled.proofs.texts.change_text.Goals as goal
 use Rattle.ti_compiled.proofs.texts.change_text.Goals.{in-Some, in-None}
@@ -16,7 +16,7 @@ overflow_sub-removed c =
     let b = c.args.bytes.now.items in
     let t = option_map (λ (x : Bor (List ℕ)). x.now) c.args.text in
     let r = c.requires in
-    let l = lengths_of b r.image c.args.old.now r.old c.args.index r.index t c.args.new.now r.new r.small c.deref.result.now c.deref-2.result.now c.start_of-start.result c.start_of.result (offsets_from c.args.old.now) (vec_capacity c.args.bytes.now) (length (piece t))
+    let l = lengths_of b r.image c.args.old.now r.old c.args.index r.index t c.args.new.now r.new r.small c.deref.result.now c.deref-2.result.now c.start_of-start.result c.start_of.result (offsets_from c.args.old.now) (vec_capacity c.args.bytes.now) (length (ended_text t))
     c.deref.ensures.value c.deref-2.ensures.value c.start_of-start.ensures c.start_of.ensures refl refl r.room in
     let l0 = l.removed_is in let l1 = l.ordered in let l2 = l.fits in let l3 = l.in_table in let l4 = l.head in let l5 = l.room_for in let l6 = l.added_fits in let l7 = l.kept in let l8 = l.wanted in let l9 = l.grows in
     omega arith
@@ -26,7 +26,7 @@ piece_len-added-requires c =
     let b = c.args.bytes.now.items in
     let t = option_map (λ (x : Bor (List ℕ)). x.now) c.args.text in
     let r = c.requires in
-    let l = lengths_of b r.image c.args.old.now r.old c.args.index r.index t c.args.new.now r.new r.small c.deref.result.now c.deref-2.result.now c.start_of-start.result c.start_of.result (offsets_from c.args.old.now) (vec_capacity c.args.bytes.now) (length (piece t))
+    let l = lengths_of b r.image c.args.old.now r.old c.args.index r.index t c.args.new.now r.new r.small c.deref.result.now c.deref-2.result.now c.start_of-start.result c.start_of.result (offsets_from c.args.old.now) (vec_capacity c.args.bytes.now) (length (ended_text t))
     c.deref.ensures.value c.deref-2.ensures.value c.start_of-start.ensures c.start_of.ensures refl refl r.room in
     let l0 = l.removed_is in let l1 = l.ordered in let l2 = l.fits in let l3 = l.in_table in let l4 = l.head in let l5 = l.room_for in let l6 = l.added_fits in let l7 = l.kept in let l8 = l.wanted in let l9 = l.grows in
     omega arith

@@ -1,5 +1,5 @@
 use Rattle.std.proofs.Common.{length, arith}
-use Rattle.ti_components.specs.inside.Walk.{AreNodes}
+use Rattle.ti_components.specs.inside.Search.{AreNodes}
 use Rattle.ti_components.proofs.Searching.{marks_more}
 use Rattle.ti_components.proofs.search.mark_closed.Goals as goal
 

@@ -1,5 +1,5 @@
 use Rattle.std.proofs.Common.{take}
-use Rattle.ti_components.specs.inside.Walk.{IsMarked}
+use Rattle.ti_components.specs.inside.Search.{IsMarked}
 use Rattle.ti_components.proofs.search.mark_closed.Given as goal
 
 abbrev pub invariant-loop-node : goal.invariant-loop-node

@@ -1,6 +1,6 @@
 use Rattle.std.proofs.Common.{◌<◌, ◌∙◌, sym, refl, length, arith}
 use Rattle.std.proofs.lemmas.Option.{slice_get_read, same_Some}
-use Rattle.ti_components.specs.inside.Walk.{IsFresh}
+use Rattle.ti_components.specs.inside.Search.{IsFresh}
 use Rattle.ti_components.specs.declared.search.Progress.TheVariants.{Unseen}
 use Rattle.ti_components.proofs.Searching.{met_none, met_more, met_by, met_all}
 use Rattle.ti_components.proofs.search.search_graph.Goals as goal

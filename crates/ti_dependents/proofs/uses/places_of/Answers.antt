@@ -2,11 +2,11 @@ use Rattle.std.proofs.Common.{◌≡◌, ℕ, inl, inr, List, [], ◌∷◌, ◌
 use Rattle.std.proofs.lemmas.List.{length-append, take_all, take_more}
 use Rattle.std.proofs.lemmas.Option.{slice_get_within, slice_get-get_or}
 use Rattle.ti_components.proofs.Lists.{push_cases}
-use Rattle.ti_dependents.specs.inside.Uses.{ArePlaces}
+use Rattle.ti_dependents.specs.inside.Uses.{ArePositions}
 use Rattle.ti_dependents.proofs.uses.places_of.Goals as goal
 
 -- one more id stands there
-places_more : (listed ids places : List ℕ) (id at : ℕ) → ArePlaces listed ids places → slice_get listed at ≡ Some id → ArePlaces listed (ids ++ id ∷ []) (places ++ at ∷ [])
+places_more : (listed ids places : List ℕ) (id at : ℕ) → ArePositions listed ids places → slice_get listed at ≡ Some id → ArePositions listed (ids ++ id ∷ []) (places ++ at ∷ [])
 places_more listed ids places id at h here = record {
   as_many = (let n = h.as_many in omega (arith, length-append ids (id ∷ []), length-append places (at ∷ [])));
   stands = λ i one there e f.
@@ -33,4 +33,4 @@ pub position-requires : goal.position-requires
 position-requires c = c.requires c.loop-id.id-index (get_or c.args.ids.now c.loop-id.id-index 0) (slice_get-get_or c.args.ids.now c.loop-id.id-index 0 c.loop-id-test.true)
 
 pub returns-clause-places : goal.returns-clause-places
-returns-clause-places c = subst (λ done. ArePlaces c.args.order.now.listed done c.loop-id.places.items) (take_all c.loop-id.id-index c.args.ids.now c.loop-id-test.false) c.loop-id.invariant
+returns-clause-places c = subst (λ done. ArePositions c.args.order.now.listed done c.loop-id.places.items) (take_all c.loop-id.id-index c.args.ids.now c.loop-id-test.false) c.loop-id.invariant

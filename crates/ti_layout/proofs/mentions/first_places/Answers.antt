@@ -1,5 +1,5 @@
 use Rattle.std.proofs.Common.{set, ◌++◌, ◌∷◌, [], take, refl, sym, subst, arith}
-use Rattle.ti_layout.specs.inside.Mentions.{ArePlaces}
+use Rattle.ti_layout.specs.inside.Mentions.{AreMentionPlaces}
 use Rattle.ti_layout.specs.Values.{TableEntry, content_of, entries_of, rank_of}
 use Rattle.ti_layout.proofs.FirstMentions.{places_of_none, places_kept, places_more, entries_front, entries_count, rank_within}
 use Rattle.ti_layout.proofs.mentions.first_places.Goals as goal
@@ -24,6 +24,6 @@ loop-index-preserved c =
           let free = rw rank at w.if-places-rank-eq0.true in
           let count = entries_count ms i (omega (arith, c.loop-index-test.true)) in
           let more = places_more es e places known c.rank-rank.ensures.valid (rank_within x.0 c.rank-rank.ensures.valid) free in
-          rw (w.places-is, rank) (subst (λ n. ArePlaces (es ++ e ∷ []) (set places (rank_of x.0) n)) (omega (arith, count)) more)
+          rw (w.places-is, rank) (subst (λ n. AreMentionPlaces (es ++ e ∷ []) (set places (rank_of x.0) n)) (omega (arith, count)) more)
       | else-places-rank-eq0 w ↦ rw w.places-is (places_kept es e places known (λ free. w.if-places-rank-eq0.false (rw rank free)))
     ])

@@ -25,8 +25,8 @@ loop-mention-preserved c d =
     let i = c.loop-mention.mention-index in
     let x = c.mention-item.result in
     let said = cond (same_capability x.0 d) (Some (content_of x.1)) None in
-    let laid = rw c.in_ok-copy_of.ensures at (c.in_ok-set_if_absent.ensures.laid d) in
-    laid
+    let given = rw c.in_ok-copy_of.ensures at (c.in_ok-set_if_absent.ensures.given d) in
+    given
     ∙ ap (λ o. option_or o said) (c.loop-mention.invariant d)
     ∙ or_assoc (contents c.args.table.now d) _ said
     ∙ ap (λ o. option_or (contents c.args.table.now d) o) (sym (front_more ms i x c.loop-mention-test.true (sym c.mention-item.is) d))

@@ -7,5 +7,5 @@ pub returns-then-is_empty : goal.returns-then-is_empty
 returns-then-is_empty c d valid =
     let held = c.entries.result.now in
     let none = no_items held (eqb-true _ _ (sym c.is_empty.ensures ∙ c.if-is_empty.true)) in
-    ap (λ es. contents es d) c.of_entries-laid.ensures ∙ c.in_ok-first_mentions.ensures.said d valid
+    ap (λ es. contents es d) c.of_entries-added.ensures ∙ c.in_ok-first_mentions.ensures.said d valid
     ∙ behind_nothing c.args.table.now held d _ none c.entries.ensures.entries

@@ -2,7 +2,7 @@
 use Rattle.std.proofs.Common.{◌≡◌, true, subst}
 use Rattle.std.specs.Option.{is_some}
 use Rattle.ti_layout.specs.Values.{IsAt, IsGapFor, entries_of}
-use Rattle.ti_layout.proofs.Held.{contents_nowhere}
+use Rattle.ti_layout.proofs.KeptEntries.{contents_nowhere}
 use Rattle.ti_layout.proofs.Places.{nowhere, kept-written, sets-written, kept-placed, sets-placed}
 use Rattle.ti_layout.proofs.values.put.Goals as goal
 

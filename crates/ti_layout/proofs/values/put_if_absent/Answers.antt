@@ -3,7 +3,7 @@ use Rattle.std.proofs.Common.{◌≡◌, true, subst}
 use Rattle.std.specs.Option.{is_some}
 use Rattle.ti_layout.specs.Values.{IsAt, IsGapFor, content_of, entries_of}
 use Rattle.ti_layout.proofs.Absent.{laid_in_gap, laid_behind}
-use Rattle.ti_layout.proofs.Held.{contents_nowhere}
+use Rattle.ti_layout.proofs.KeptEntries.{contents_nowhere}
 use Rattle.ti_layout.proofs.Places.{nowhere, content_here, kept-placed, sets-placed}
 use Rattle.ti_layout.proofs.values.put_if_absent.Goals as goal
 

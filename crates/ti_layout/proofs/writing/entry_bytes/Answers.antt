@@ -1,5 +1,5 @@
 use Rattle.std.proofs.Common.{arith}
-use Rattle.ti_layout.proofs.Assembling.{laid, strings_counted, table_small}
+use Rattle.ti_layout.proofs.Assembling.{assembled, strings_counted, table_small}
 use Rattle.ti_layout.proofs.writing.entry_bytes.Goals as goal
 
 pub push_header-requires-clause-strings : goal.push_header-requires-clause-strings
@@ -12,5 +12,5 @@ pub push_offsets-requires-clause-fits : goal.push_offsets-requires-clause-fits
 push_offsets-requires-clause-fits c = let t = table_small _ _ _ c.requires.sizes c.requires.small in omega arith
 
 pub returns : goal.returns
-returns c = laid _ _ _ c.requires.sizes c.requires.small _ _ _ _ _ _ _ _ _ c.in_ok-image.ensures.items c.in_ok-push_header.ensures c.in_ok-extend_from_slice.ensures.items c.in_ok-push.ensures.items
+returns c = assembled _ _ _ c.requires.sizes c.requires.small _ _ _ _ _ _ _ _ _ c.in_ok-image.ensures.items c.in_ok-push_header.ensures c.in_ok-extend_from_slice.ensures.items c.in_ok-push.ensures.items
     c.in_ok-push_flags.ensures c.in_ok-push_fill.ensures c.in_ok-push_numbers.ensures c.in_ok-push_offsets.ensures c.in_ok-push_texts.ensures

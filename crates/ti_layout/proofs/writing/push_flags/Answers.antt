@@ -2,7 +2,7 @@ use Rattle.std.proofs.Common.{ap, sym, subst}
 use Rattle.ti_caps.specs.declared.capability.Kind.TheVariants.{Flag}
 use Rattle.ti_layout.specs.Values.{content_of}
 use Rattle.ti_layout.proofs.Walked.{is_of}
-use Rattle.ti_layout.proofs.Laying.{HasFlags, flags_begun, flags_done, flag_laid, no_flag, passed, behind, all_past}
+use Rattle.ti_layout.proofs.WrittenSections.{HasFlags, flags_begun, flags_done, flag_laid, no_flag, passed, behind, all_past}
 use Rattle.ti_layout.proofs.writing.push_flags.Goals.{in-True+in_ok-push_fill+in_ok-push, in_default}
 use Rattle.ti_layout.proofs.writing.push_flags.Goals as goal
 

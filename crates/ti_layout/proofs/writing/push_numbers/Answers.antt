@@ -2,7 +2,7 @@ use Rattle.std.proofs.Common.{ap, sym, subst}
 use Rattle.ti_caps.specs.declared.capability.Kind.TheVariants.{Number}
 use Rattle.ti_layout.specs.Values.{content_of}
 use Rattle.ti_layout.proofs.Walked.{is_of}
-use Rattle.ti_layout.proofs.Laying.{HasNumbers, numbers_begun, numbers_done, number_laid, no_number, passed, behind, all_past}
+use Rattle.ti_layout.proofs.WrittenSections.{HasNumbers, numbers_begun, numbers_done, number_laid, no_number, passed, behind, all_past}
 use Rattle.ti_layout.proofs.writing.push_numbers.Goals.{in-Number+in_ok-push_fill+in_ok-push_number, in_default}
 use Rattle.ti_layout.proofs.writing.push_numbers.Goals as goal
 

@@ -1,5 +1,5 @@
 use Rattle.ti_layout.specs.Values.{entries_of}
-use Rattle.ti_layout.proofs.Laying.{HasNumbers}
+use Rattle.ti_layout.proofs.WrittenSections.{HasNumbers}
 use Rattle.ti_layout.proofs.writing.push_numbers.Given as goal
 
 abbrev pub invariant-loop-entry : goal.invariant-loop-entry

@@ -2,7 +2,7 @@ use Rattle.std.proofs.Common.{◌+◌, ap, sym, subst, ◌∙◌, arith}
 use Rattle.ti_caps.specs.declared.capability.Kind.TheVariants.{Text}
 use Rattle.ti_layout.specs.Values.{content_of}
 use Rattle.ti_layout.proofs.Walked.{is_of}
-use Rattle.ti_layout.proofs.Laying.{HasOffsets, offsets_begun, offsets_done, offset_laid, no_text, passed, behind, all_past, text_within}
+use Rattle.ti_layout.proofs.WrittenSections.{HasOffsets, offsets_begun, offsets_done, offset_laid, no_text, passed, behind, all_past, text_within}
 use Rattle.ti_layout.proofs.writing.push_offsets.Goals.{in-Text+in_ok-push_fill+in_ok-push_number, in_default}
 use Rattle.ti_layout.proofs.writing.push_offsets.Goals as goal
 

@@ -1,5 +1,5 @@
 use Rattle.ti_layout.specs.Values.{entries_of}
-use Rattle.ti_layout.proofs.Laying.{HasOffsets}
+use Rattle.ti_layout.proofs.WrittenSections.{HasOffsets}
 use Rattle.ti_layout.proofs.writing.push_offsets.Given as goal
 
 abbrev pub invariant-loop-entry : goal.invariant-loop-entry

@@ -1,7 +1,7 @@
 use Rattle.std.proofs.Common.{◌++◌, ap, sym, subst, ◌∙◌, refl}
 use Rattle.ti_caps.specs.declared.capability.Kind.TheVariants.{Text}
 use Rattle.ti_layout.specs.Values.{content_of}
-use Rattle.ti_layout.proofs.Laying.{HasTexts, texts_begun, texts_done, text_laid, no_text, passed, all_past}
+use Rattle.ti_layout.proofs.WrittenSections.{HasTexts, texts_begun, texts_done, text_laid, no_text, passed, all_past}
 use Rattle.ti_layout.proofs.writing.push_texts.Goals.{in-Text+in_ok-extend_from_slice+in_ok-push, in_default}
 use Rattle.ti_layout.proofs.writing.push_texts.Goals as goal
 

@@ -2,7 +2,7 @@ use Rattle.std.proofs.Common.{ℕ, ◌≡◌, ◌+◌, ◌<◌, ◌≤◌, ◌++
 use Rattle.std.proofs.lemmas.List.{take_more, map-append}
 use Rattle.std.proofs.lemmas.Option.{slice_get-get_or}
 use Rattle.ti_slots.specs.Slots.{blocks_of}
-use Rattle.ti_plan.specs.inside.Settling.{place_of}
+use Rattle.ti_plan.specs.inside.Settling.{node_position}
 use Rattle.ti_plan.proofs.Following.{following_begun, following_more, following_ended, next_can, place_stands, right_at}
 use Rattle.ti_plan.proofs.Places.{block_of, node_of_place}
 use Rattle.ti_plan.proofs.Steps.{next_room, steps_more, bound_more}
@@ -26,7 +26,7 @@ settle-requires c =
     let more : take (end + 1) order ≡ take end order ++ node ∷ [] = rw c.deref-node-items.ensures.value (take_more order end 0 within) in
     let can = next_can slots d c.args.components.now.component_of.items order c.loop-node.settled.items end node c.requires.found c.requires.components c.requires.order c.loop-node.invariant.following listed in (
       rw (c.deref.ensures.value, c.deref-in-loop-node.ensures.value) can,
-      λ block s. next_room slots d order end node c.args.steps.now c.loop-node.steps (place_of d node) block c.requires.found c.requires.order.once c.requires.order.nodes listed more can.stands s c.loop-node.invariant.bound c.requires.room,
+      λ block s. next_room slots d order end node c.args.steps.now c.loop-node.steps (node_position d node) block c.requires.found c.requires.order.once c.requires.order.nodes listed more can.stands s c.loop-node.invariant.bound c.requires.room,
     )
 
 pub index_mut-requires : goal.index_mut-requires
@@ -51,14 +51,14 @@ loop-node-preserved c =
     let more : take (end + 1) order ≡ take end order ++ node ∷ [] = rw c.deref-node-items.ensures.value (take_more order end 0 within) in
     let h = c.loop-node.invariant in
     let stands = place_stands slots d c.args.components.now.component_of.items order end node c.requires.found c.requires.order listed in
-    let n = node_of_place slots d c.requires.found node (place_of d node) stands in
+    let n = node_of_place slots d c.requires.found node (node_position d node) stands in
     let below = c.requires.order.nodes end node listed in
     let fits : node < length c.loop-node.settled.items = omega (arith, h.following.so_far.as_many, c.requires.found.graph.as_many) in
     record {
-      following = following_more slots d order c.loop-node.settled.items end node c.in_ok-one.one h.following listed fits (right_at slots d node (place_of d node) c.in_ok-one.one stands c.in_ok-one.ensures.settled);
-      steps = rw (more, map-append (place_of d) (take end order) (node ∷ []))
-          (steps_more (blocks_of slots) (map (place_of d) (take end order)) (place_of d node) c.args.steps.now c.loop-node.steps c.settle.new.work h.steps c.in_ok-one.ensures.work);
-      bound = rw more (bound_more slots d (take end order) node (place_of d node) c.args.steps.now c.loop-node.steps c.settle.new.work (block_of slots n.0) c.requires.found stands n.1.block h.bound c.in_ok-one.ensures.work);
+      following = following_more slots d order c.loop-node.settled.items end node c.in_ok-one.one h.following listed fits (right_at slots d node (node_position d node) c.in_ok-one.one stands c.in_ok-one.ensures.settled);
+      steps = rw (more, map-append (node_position d) (take end order) (node ∷ []))
+          (steps_more (blocks_of slots) (map (node_position d) (take end order)) (node_position d node) c.args.steps.now c.loop-node.steps c.settle.new.work h.steps c.in_ok-one.ensures.work);
+      bound = rw more (bound_more slots d (take end order) node (node_position d node) c.args.steps.now c.loop-node.steps c.settle.new.work (block_of slots n.0) c.requires.found stands n.1.block h.bound c.in_ok-one.ensures.work);
     }
 
 pub returns-clause-settled : goal.returns-clause-settled

@@ -1,7 +1,7 @@
 use Rattle.std.proofs.Common.{refl}
 use Rattle.std.specs.Rc.{rc_slice_items}
 use Rattle.ti_layout.specs.Values.{contents, content_true, content_number, content_text, content_cancelled}
-use Rattle.ti_meaning.proofs.Laying.{laid_one}
+use Rattle.ti_meaning.proofs.MentionMerging.{laid_one}
 use Rattle.ti_slots.specs.Slots.{blocks_of}
 use Rattle.ti_plan.proofs.BlockValues.{no_fault, laid_use}
 use Rattle.ti_plan.proofs.tables.add_item.Goals as goal

@@ -2,7 +2,7 @@ use Rattle.std.proofs.Common.{ℕ, ◌∙◌, ◌<◌, ◌≤◌, inl, inr, List
 use Rattle.std.specs.Result.{is_ok}
 use Rattle.std.proofs.lemmas.Bool.{cases_lt, false≢true}
 use Rattle.ti_source.specs.Reading.{reading_of}
-use Rattle.ti_layout.specs.Image.{image, limit_of}
+use Rattle.ti_layout.specs.Image.{image, image_limit}
 use Rattle.ti_layout.specs.Values.{contents}
 use Rattle.ti_meaning.specs.Compiled.{image_of}
 use Rattle.ti_meaning.proofs.Imaging.{image_tells, limit_tells}
@@ -13,18 +13,18 @@ pub returns-in-Ok-clause-state : goal.returns-in-Ok-clause-state
 returns-in-Ok-clause-state c = λ mentions tells.
     let field = c.args.slot.now.block.field.items in
     let t = contents c.args.table in
-    let small : length (image field t) ≤ limit_of t =
-    elim (cases_lt (limit_of t) (length (image field t))) [
+    let small : length (image field t) ≤ image_limit t =
+    elim (cases_lt (image_limit t) (length (image field t))) [
       | inl large ↦ absurd (false≢true (sym (ap is_ok (c.in-Ok.ensures.too_large.1 large))))
       | inr fits ↦ fits
     ]
     in
     within (reading_of c.args.slot.now.block) mentions c.in-Ok.image (c.in-Ok.ensures.image ∙ image_tells field t mentions tells)
-    (subst (λ n. length c.in-Ok.image ≤ n) (limit_tells t mentions tells) (subst (λ (i : List ℕ). length i ≤ limit_of t) (sym c.in-Ok.ensures.image) small))
+    (subst (λ n. length c.in-Ok.image ≤ n) (limit_tells t mentions tells) (subst (λ (i : List ℕ). length i ≤ image_limit t) (sym c.in-Ok.ensures.image) small))
 
 pub returns-in-Err-TooLarge-clause-state : goal.returns-in-Err-TooLarge-clause-state
 returns-in-Err-TooLarge-clause-state c = λ mentions tells.
     let large = c.in-Err-TooLarge.ensures.too_large.0 (rw c.in-Err-TooLarge.field-0-is refl) in
     let size = image_tells c.args.slot.now.block.field.items (contents c.args.table) mentions tells in
     let limit = limit_tells (contents c.args.table) mentions tells in
-    over (reading_of c.args.slot.now.block) mentions (subst (λ n. n < length (image_of (reading_of c.args.slot.now.block) mentions)) limit (subst (λ i. limit_of (contents c.args.table) < length i) size large))
+    over (reading_of c.args.slot.now.block) mentions (subst (λ n. n < length (image_of (reading_of c.args.slot.now.block) mentions)) limit (subst (λ i. image_limit (contents c.args.table) < length i) size large))

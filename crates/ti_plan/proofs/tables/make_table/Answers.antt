@@ -3,7 +3,7 @@ use Rattle.std.proofs.lemmas.List.{take_all}
 use Rattle.ti_source.specs.Reading.{reading_of, item_of}
 use Rattle.ti_layout.specs.Values.{contents}
 use Rattle.ti_meaning.specs.Usable.{SetsWell}
-use Rattle.ti_meaning.proofs.Laying.{table_of_one_more, table_of_block}
+use Rattle.ti_meaning.proofs.MentionMerging.{table_of_one_more, table_of_block}
 use Rattle.ti_slots.specs.Slots.{blocks_of}
 use Rattle.ti_plan.proofs.ItemLists.{All-map_item, map-take_item, slice_get-map_item}
 use Rattle.ti_plan.proofs.BlockValues.{same_table}

@@ -1,4 +1,4 @@
-use Rattle.ti_relisting.proofs.Laying.{listings_laid, relatives_laid}
+use Rattle.ti_relisting.proofs.Listing.{listings_laid, relatives_laid}
 use Rattle.ti_relisting.proofs.layouts.listings_are_laid_out.Goals as goal
 
 pub returns-clause-listing : goal.returns-clause-listing

@@ -1,5 +1,5 @@
 use Rattle.std.proofs.Common.{ap, ◌∙◌}
-use Rattle.ti_source.specs.inside.Blocks.{front_of, blocks_of}
+use Rattle.ti_source.specs.inside.Blocks.{front_of, blocks_from_head}
 use Rattle.ti_source.proofs.CutLemmas.{each_has_cut, length-blocks_of}
 use Rattle.ti_source.proofs.WalkLemmas.{takes_front}
 use Rattle.ti_source.proofs.cutting.blocks.Goals as goal
@@ -15,7 +15,7 @@ returns-clause-preface c = c.new.ensures.preface ∙ c.split_at.ensures.front �
 
 pub returns-clause-blocks : goal.returns-clause-blocks
 returns-clause-blocks c =
-    c.new.ensures.left ∙ ap (blocks_of 10) c.split_at.ensures.back ∙ (takes_front _ _ c.preface_len.ensures).left
+    c.new.ensures.left ∙ ap (blocks_from_head 10) c.split_at.ensures.back ∙ (takes_front _ _ c.preface_len.ensures).left
 
 pub returns-clause-cut : goal.returns-clause-cut
 returns-clause-cut c = rw (returns-clause-preface c, returns-clause-blocks c) (each_has_cut c.args.source.now)

@@ -3,7 +3,7 @@ use Rattle.std.specs.List.{list_any}
 use Rattle.std.specs.Ordering.{is_eq, nat_cmp}
 use Rattle.std.specs.Cmp.Lexicographic.{slice_cmp}
 use denote.Ref.{Bor}
-use Rattle.ti_tools.proofs.Seeing.{key_put}
+use Rattle.ti_base.proofs.Naming.{key_put}
 use Rattle.ti_tools.proofs.entry_files.see.Goals as goal
 
 pub returns-clause-seen : goal.returns-clause-seen

@@ -5,7 +5,7 @@ use Rattle.ti_meaning.specs.inside.Bounds.{IsPlaced}
 use Rattle.ti_meaning.specs.Faults.{SourceFault, fault_seen, faults}
 use Rattle.ti_meaning.specs.Report.{report, report_line}
 use Rattle.ti_meaning.proofs.Bounding.{faults_placed}
-use Rattle.ti_slots.specs.Slots.{blocks_of, texts_of}
+use Rattle.ti_slots.specs.Slots.{blocks_of, slot_texts}
 use Rattle.ti_base.proofs.SlotLists.{blocks_read, length_blocks, length_texts}
 use Rattle.ti_base.proofs.Installing.{all_usable}
 use Rattle.ti_base.proofs.database.Database.report_of.Goals as goal
@@ -18,11 +18,11 @@ write_report-requires-clause-placed c =
     let slots = c.self.inside.slots in
     let kept = c.self.invariant in
     let read = blocks_read slots kept.indexed kept.sound ∙ ap readings c.self.view_is in
-    placed_as (length (blocks_of slots)) (length (texts_of slots)) (faults (blocks_of slots)) (map fault_seen c.args.found.now) (length_blocks slots ∙ sym (length_texts slots))
+    placed_as (length (blocks_of slots)) (length (slot_texts slots)) (faults (blocks_of slots)) (map fault_seen c.args.found.now) (length_blocks slots ∙ sym (length_texts slots))
     (c.requires.all ∙ ap faults (sym read)) (faults_placed (blocks_of slots) (all_usable slots kept.indexed kept.sound))
 
 pub returns : goal.returns
 returns c =
     let slots = c.self.inside.slots in
     let found = c.requires.all ∙ ap (λ texts. faults (readings texts)) (sym c.self.view_is) in
-    c.in_ok-report.ensures ∙ (ap (flat_map (report_line (texts_of slots) c.args.first_line)) found ∙ ap (λ texts. report texts c.args.first_line) c.self.view_is)
+    c.in_ok-report.ensures ∙ (ap (flat_map (report_line (slot_texts slots) c.args.first_line)) found ∙ ap (λ texts. report texts c.args.first_line) c.self.view_is)

@@ -1,5 +1,5 @@
 use Rattle.std.proofs.Common.{ap, length, arith}
-use Rattle.ti_components.specs.inside.Walk.{AreNumbers, IsSearched}
+use Rattle.ti_components.specs.inside.Search.{AreClosedNumbers, IsSearched}
 use Rattle.ti_components.proofs.Ending.{components_found, order_found, closed_all}
 use Rattle.ti_components.proofs.components.Components.find.Goals as goal
 
@@ -11,11 +11,11 @@ numbers-requires c = λ v l.
 pub returns-clause-components : goal.returns-clause-components
 returns-clause-components c =
     let searched : IsSearched c.args.graph.now c.in_ok-progress.field-0 = c.in_ok-progress.ensures in
-    let numbers : AreNumbers c.in_ok-progress.field-0.progress.items c.in_ok-component_of.component_of.items = rw c.deref.ensures.value at c.in_ok-component_of.ensures in
+    let numbers : AreClosedNumbers c.in_ok-progress.field-0.progress.items c.in_ok-component_of.component_of.items = rw c.deref.ensures.value at c.in_ok-component_of.ensures in
     components_found c.args.graph.now c.in_ok-progress.field-0 c.in_ok-component_of.component_of.items searched numbers
 
 pub returns-clause-order : goal.returns-clause-order
 returns-clause-order c =
     let searched : IsSearched c.args.graph.now c.in_ok-progress.field-0 = c.in_ok-progress.ensures in
-    let numbers : AreNumbers c.in_ok-progress.field-0.progress.items c.in_ok-component_of.component_of.items = rw c.deref.ensures.value at c.in_ok-component_of.ensures in
+    let numbers : AreClosedNumbers c.in_ok-progress.field-0.progress.items c.in_ok-component_of.component_of.items = rw c.deref.ensures.value at c.in_ok-component_of.ensures in
     order_found c.args.graph.now c.in_ok-progress.field-0 c.in_ok-component_of.component_of.items searched numbers

@@ -1,7 +1,7 @@
 use Rattle.std.proofs.Common.{◌≡◌, ◌+◌, ◌-◌, suc, length, get_or, Some, None, refl, ap, ◌∙◌, arith}
 use Rattle.std.specs.Vec.{vec_len, with_item}
 use Rattle.std.proofs.lemmas.Option.{slice_get_read, slice_get-get_or}
-use Rattle.ti_components.specs.inside.Walk.{Follows}
+use Rattle.ti_components.specs.inside.Search.{Follows}
 use Rattle.ti_components.proofs.Searching.{place_read, path_known, is_at, step_followed, step_left}
 use Rattle.ti_components.proofs.search.Search.step.Goals as goal
 

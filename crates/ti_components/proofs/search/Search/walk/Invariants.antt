@@ -1,4 +1,4 @@
-use Rattle.ti_components.specs.inside.Walk.{steps_left}
+use Rattle.ti_components.specs.inside.Search.{steps_left}
 use Rattle.ti_components.proofs.Searching.{IsWalking}
 use Rattle.ti_components.proofs.search.Search.walk.Given as goal
 

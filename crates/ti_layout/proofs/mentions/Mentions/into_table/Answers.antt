@@ -6,4 +6,4 @@ use Rattle.ti_layout.proofs.mentions.Mentions.into_table.Goals as goal
 pub returns : goal.returns
 returns c d valid =
     let inside = c.self.inside in
-    c.in_ok-settle.ensures.laid d valid ∙ sym (contents-append inside.table (entries_of inside.recent.items) d) ∙ ap (λ es. contents es d) c.self.view_is
+    c.in_ok-settle.ensures.merged d valid ∙ sym (contents-append inside.table (entries_of inside.recent.items) d) ∙ ap (λ es. contents es d) c.self.view_is

@@ -14,7 +14,7 @@ returns c d valid =
     let before : contents (now.table ++ entries_of now.recent.items) d ≡ contents c.args.self.now d = elim c.if-len-ge-RECENT_MAX.branch [
       | then-len-ge-RECENT_MAX+in_ok-settle w ↦
           rw w.self-inside-is
-          (laid_all _ _ d w.in_ok-settle.ensures.none ∙ w.in_ok-settle.ensures.laid d valid ∙ sym (contents-append inside.table (entries_of inside.recent.items) d) ∙ ap (λ es. contents es d) c.self.view_is)
+          (laid_all _ _ d w.in_ok-settle.ensures.none ∙ w.in_ok-settle.ensures.merged d valid ∙ sym (contents-append inside.table (entries_of inside.recent.items) d) ∙ ap (λ es. contents es d) c.self.view_is)
       | else-len-ge-RECENT_MAX w ↦ rw w.self-inside-is (ap (λ es. contents es d) c.self.view_is)
     ] in
     ap (λ xs. contents (now.table ++ entries_of xs) d) c.in_ok-push.ensures.items

@@ -1,11 +1,11 @@
 -- What the entries of a table say of a capability, and what an edit of them changes.
 use Rattle.std.proofs.Common.{◌≡◌, ◌≢◌, ℕ, zero, suc, ◌+◌, ◌<◌, Bool, true, false, cond, if◌then◌else◌, All, subst, List, [], ◌∷◌, length, get_or, set, Option, Some, None, refl, sym, ◌∙◌, ap, arith}
 use Rattle.std.specs.List.{insert, remove}
-use Rattle.ti_caps.specs.Tables.{Capability, IsCapability, capability, count_of, same_capability}
+use Rattle.ti_caps.specs.Tables.{Capability, IsCapability, capability, count_of, same_capability, rank_in}
 use Rattle.ti_caps.proofs.Same.{same_capability-true, same_capability-itself}
 use Rattle.ti_caps.specs.declared.capability.Kind.{Kind}
 use Rattle.ti_caps.specs.declared.capability.Kind.TheVariants.{Flag, Number, Text}
-use Rattle.ti_layout.specs.Values.{Content, TableEntry, Agrees, AgreesIfSome, contents, rank_in, rank_of}
+use Rattle.ti_layout.specs.Values.{Content, TableEntry, Agrees, AgreesIfSome, contents, rank_of}
 
 -- ---- whether two capabilities are one
 

@@ -45,7 +45,7 @@ pub record AreGroups (graph : Rows) (progress : List Progress) (count : ℕ) : T
   pub below : (u c : ℕ) → slice_get progress u ≡ Some (Closed c) → c < count
 
 -- the nodes in the order of closing
-pub record IsOrder (progress : List Progress) (order : List ℕ) : Type 0 where
+pub record IsOrderSoFar (progress : List Progress) (order : List ℕ) : Type 0 where
   pub listed : (u c : ℕ) → slice_get progress u ≡ Some (Closed c) → Has order u
   pub closed : (i u : ℕ) → slice_get order i ≡ Some u → (c : ℕ) × (slice_get progress u ≡ Some (Closed c)) × (c ≤ i)
   pub early : (j w d u c : ℕ) → slice_get order j ≡ Some w → slice_get progress w ≡ Some (Closed d) → slice_get progress u ≡ Some (Closed c) → d < c → j < c
@@ -55,7 +55,7 @@ pub record IsOrder (progress : List Progress) (order : List ℕ) : Type 0 where
 pub record IsWalk (graph : Rows) (progress : List Progress) (cursors path starts active order : List ℕ) : Type 0 where
   pub going : IsPath graph progress cursors path starts active
   pub shut : AreGroups graph progress (length order)
-  pub listing : IsOrder progress order
+  pub listing : IsOrderSoFar progress order
 
 -- the search keeps it
 abbrev pub IsWalkOf : Rows → Search → Type 0
@@ -83,7 +83,7 @@ pub record IsMarked (old new : List Progress) (nodes : List ℕ) (number : ℕ) 
   pub kept : (v : ℕ) → (Has nodes v → ⊥) → slice_get new v ≡ slice_get old v
 
 -- the nodes of the path from `start` on were closed, and left it
-pub record Closes (old new : Search) (start : ℕ) : Type 0 where
+pub record ClosesPath (old new : Search) (start : ℕ) : Type 0 where
   pub progress : IsMarked old.progress.items new.progress.items (drop start old.path.items) (length old.order.items)
   pub cursors : new.cursors.items ≡ old.cursors.items
   pub path : new.path.items ≡ take start old.path.items
@@ -150,7 +150,7 @@ pub record IsIdle (graph : Rows) (s : Search) : Type 0 where
   pub idle : s.active.items ≡ []
 
 -- a node and all that it leads to were closed
-pub record Walks (graph : Rows) (old new : Search) (root : ℕ) : Type 0 where
+pub record WalksFrom (graph : Rows) (old new : Search) (root : ℕ) : Type 0 where
   pub idle : IsIdle graph new
   pub met : KeepsMet old new
   pub root_met : slice_get new.progress.items root ≡ Some Unseen → ⊥
@@ -172,6 +172,6 @@ pub record IsSearched (graph : Rows) (s : Search) : Type 0 where
   pub all : (v : ℕ) → slice_get s.progress.items v ≡ Some Unseen → ⊥
 
 -- the number of each node whose component was closed
-pub record AreNumbers (progress : List Progress) (numbers : List ℕ) : Type 0 where
+pub record AreClosedNumbers (progress : List Progress) (numbers : List ℕ) : Type 0 where
   pub number_each : length numbers ≡ length progress
   pub number : (v c : ℕ) → slice_get progress v ≡ Some (Closed c) → slice_get numbers v ≡ Some c

@@ -17,7 +17,7 @@ use Rattle.ti_list.specs.Items.{item_text, IsTail, no_more, on_line, new_line, I
 use Rattle.ti_list.specs.Listing.{item_for, items_for, kind_items, in_order, size_of, further_items, lines_of, source_lines, listing}
 use Rattle.ti_list.specs.Relative.{Shown, first_name, differing_contents, use_lines}
 use Rattle.ti_relisting.specs.Shown.{CanHave, CanHaveAll}
-use Rattle.ti_relisting.specs.Laid.{entry_items, uses_of, ListingsAreLaidOut, RelativesAreLaidOut}
+use Rattle.ti_relisting.specs.Layouts.{entry_items, uses_of, ListingsAreLaidOut, RelativesAreLaidOut}
 use Rattle.ti_relisting.proofs.Orders.{is_among, all_in, all_in-all}
 
 -- ---- the layout

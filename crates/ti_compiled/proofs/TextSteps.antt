@@ -6,7 +6,7 @@ use Rattle.ti_caps.specs.Tables.{capability}
 use Rattle.ti_caps.specs.declared.capability.Kind.TheVariants.{Text}
 use Rattle.ti_layout.specs.declared.layout.Format.TheVariants.{Legacy}
 use Rattle.ti_layout.specs.declared.layout.Header.{Header}
-use Rattle.ti_layout.specs.Image.{image, below, limit_of, of_kind, offset_value, text_piece, texts_below, written_count}
+use Rattle.ti_layout.specs.Image.{image, below, image_limit, of_kind, offset_value, text_piece, texts_below, written_count}
 use Rattle.ti_layout.specs.Layout.{header, number_section}
 use Rattle.ti_layout.specs.Sizes.{HasSizes}
 use Rattle.ti_layout.specs.Values.{Content, content_true, content_number, content_text, content_cancelled, Contents, AgreesIfSome}
@@ -16,7 +16,7 @@ use Rattle.ti_layout.proofs.Spelled.{length-spelled}
 use Rattle.ti_layout.proofs.Below.{length-below}
 use Rattle.ti_compiled.specs.inside.Changes.{text_content}
 use Rattle.ti_compiled.specs.Image.{names_in, contents_in, with_content, IsImage}
-use Rattle.ti_compiled.specs.inside.Parts.{Replaces, with_length, offset_after, moved_later, piece}
+use Rattle.ti_compiled.specs.inside.Parts.{Replaces, with_length, offset_after, moved_later, ended_text}
 use Rattle.ti_compiled.proofs.Moving.{moved_absent, moved_there, later_before, later_from}
 use Rattle.ti_compiled.proofs.Numbering.{resized-spelled}
 use Rattle.ti_compiled.proofs.TextChange.{piece_of, lengths_about, texts_about, texts_before}
@@ -56,7 +56,7 @@ module _ (b : List ℕ) (is : IsImage b) (h : Header) (has : HasSizes (names_in 
   old_table : texts_below c T ≡ texts_below c index ++ (text_piece (of_kind c Text index) ++ tail)
   old_table = sym (texts_past names c is.imaged 414 (count_le b is h has index within t c)) ∙ ap (texts_below c) (sym all) ∙ (texts_about c g index (others b is h has index within t) (414 - (index + 1))).1
 
-  new_table : texts_below g (written_count g Text) ≡ texts_below c index ++ (piece t ++ tail)
+  new_table : texts_below g (written_count g Text) ≡ texts_below c index ++ (ended_text t ++ tail)
   new_table =
       sym (texts_end g (past_g b is h has index within t) 414 (count_le b is h has index within t g)) ∙ ap (texts_below g) (sym all) ∙ (texts_about c g index (others b is h has index within t) (414 - (index + 1))).2
       ∙ ap (λ o. texts_below c index ++ (text_piece o ++ tail)) (here b is h has index within t) ∙ ap (λ y. texts_below c index ++ (y ++ tail)) (piece_of t)
@@ -66,7 +66,7 @@ module _ (b : List ℕ) (is : IsImage b) (h : Header) (has : HasSizes (names_in 
 
   -- the text replaced in the table
   pub table_changed : (b1 : List ℕ) (place at start removed : ℕ) → place ≡ offsets_from h → at ≡ place + 2 * h.texts + start → start ≡ length (texts_below (contents_in b) index) → removed ≡ length (text_piece (of_kind (contents_in b) Text index))
-      → Replaces b b1 at removed (λ _. piece t)
+      → Replaces b b1 at removed (λ _. ended_text t)
       → b1 ≡ (head_of (names_in b) (contents_in b) ++ middle (names_in b) (contents_in b)) ++ (number_section Legacy (below (offset_of (contents_in b)) (written_count (contents_in b) Text)) ++ (texts_below (with_content (contents_in b) (capability Text index) (text_content t)) (written_count (with_content (contents_in b) (capability Text index) (text_content t)) Text) ++ []))
   table_changed b1 place at start removed ep ea es er replaces =
       let o = number_section Legacy (below (offset_of c) T) in
@@ -78,7 +78,7 @@ module _ (b : List ℕ) (is : IsImage b) (h : Header) (has : HasSizes (names_in 
       let l1 = length-append front (o ++ a) in
       let l2 = length-append o a in
       let first : b ≡ (front ++ (o ++ a)) ++ (x ++ tail) = text_parts b names c is.whole ∙ ap (λ s. front ++ (o ++ (s ++ []))) old_table ∙ regroup front o a x tail in
-      replaces (front ++ (o ++ a)) x tail first (omega arith) (sym er) ∙ sym (regroup front o a (piece t) tail) ∙ ap (λ s. front ++ (o ++ (s ++ []))) (sym new_table)
+      replaces (front ++ (o ++ a)) x tail first (omega arith) (sym er) ∙ sym (regroup front o a (ended_text t) tail) ∙ ap (λ s. front ++ (o ++ (s ++ []))) (sym new_table)
 
   -- the offsets cut or filled up
   pub offsets_resized : (b1 b2 rest : List ℕ) (place n : ℕ) → place ≡ offsets_from h → b1 ≡ (head_of (names_in b) (contents_in b) ++ middle (names_in b) (contents_in b)) ++ (number_section Legacy (below (offset_of (contents_in b)) (written_count (contents_in b) Text)) ++ rest)
@@ -122,7 +122,7 @@ module _ (b : List ℕ) (is : IsImage b) (h : Header) (has : HasSizes (names_in 
   ]
 
   -- with all of them moved
-  each : (removed added : ℕ) → removed ≡ length (text_piece (of_kind c Text index)) → added ≡ length (piece t) → (j : ℕ) → moved_later put (index + 1) removed added j ≡ offset_of g j
+  each : (removed added : ℕ) → removed ≡ length (text_piece (of_kind c Text index)) → added ≡ length (ended_text t) → (j : ℕ) → moved_later put (index + 1) removed added j ≡ offset_of g j
   each removed added er ea j = elim (cases_lt j (index + 1)) [
     | inl low ↦ later_before put (index + 1) removed added j low ∙ elim (cases_eq j index) [
       | inl same ↦ ap put same ∙ put_here ∙ ap (offset_of g) (sym same)
@@ -133,18 +133,18 @@ module _ (b : List ℕ) (is : IsImage b) (h : Header) (has : HasSizes (names_in 
     | inr high ↦
         let s = texts_small names c is.imaged j in
         let l = lengths_about c g index (others b is h has index within t) j (omega arith) in
-        let p : length (text_piece (of_kind g Text index)) ≡ length (piece t) = ap (λ o. length (text_piece o)) (here b is h has index within t) ∙ ap (λ (x : List ℕ). length x) (piece_of t) in
+        let p : length (text_piece (of_kind g Text index)) ≡ length (ended_text t) = ap (λ o. length (text_piece o)) (here b is h has index within t) ∙ ap (λ (x : List ℕ). length x) (piece_of t) in
         let other : j ≢ index = λ same. omega arith in
         later_from put (index + 1) removed added j (omega arith) ∙ ap (offset_after removed added) (put_other j other)
         ∙ moved_one j (length (texts_below c j)) (length (texts_below g j)) removed added (of_kind c Text j) (agrees_text names c is.imaged j) (omega arith) (omega arith)
         ∙ sym (ap (offset_value (length (texts_below g j))) (others b is h has index within t j other))
   ]
 
-  pub text_changed : (b4 b5 : List ℕ) (k : Header) (removed added : ℕ) → removed ≡ length (text_piece (of_kind (contents_in b) Text index)) → added ≡ length (piece t)
+  pub text_changed : (b4 b5 : List ℕ) (k : Header) (removed added : ℕ) → removed ≡ length (text_piece (of_kind (contents_in b) Text index)) → added ≡ length (ended_text t)
       → b4 ≡ (head_of (names_in b) (contents_in b) ++ middle (names_in b) (contents_in b)) ++ (number_section Legacy (below (moved_later (λ j. if j == index then offset_of (with_content (contents_in b) (capability Text index) (text_content t)) index else offset_of (contents_in b) j) (index + 1) removed added) k.texts)
       ++ (texts_below (with_content (contents_in b) (capability Text index) (text_content t)) (written_count (with_content (contents_in b) (capability Text index) (text_content t)) Text) ++ []))
       → HasSizes (names_in b) (with_content (contents_in b) (capability Text index) (text_content t)) k
-      → length (image (names_in b) (with_content (contents_in b) (capability Text index) (text_content t))) ≤ limit_of (with_content (contents_in b) (capability Text index) (text_content t))
+      → length (image (names_in b) (with_content (contents_in b) (capability Text index) (text_content t))) ≤ image_limit (with_content (contents_in b) (capability Text index) (text_content t))
       → Replaces b4 b5 0 12 (λ _. header k.format k.names k.flags k.numbers k.texts k.strings) → b5 ≡ image (names_in b) (with_content (contents_in b) (capability Text index) (text_content t))
   text_changed b4 b5 k removed added er ea whole sizes small replaces =
       let S = texts_below g (written_count g Text) in

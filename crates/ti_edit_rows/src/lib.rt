@@ -1,0 +1,8 @@
+//! Edits made at random as a test of the database, which is compared with one made afresh after each. No code of the
+//! product; the worked rows stand in `ti_base_rows`.
+//!
+//! - `random`: the edits, and what is compared
+#![tactic(auto)]
+
+#[cfg(test)]
+mod random;
