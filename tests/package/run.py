@@ -367,8 +367,76 @@ def check_tarball_builds():
             yield f"out/d/dumb has {size} bytes"
 
 
+# What stands for rt where only the order of a build is tried: it wants the libraries below a crate to be built beside it.
+STAND_IN = """#!/bin/sh
+name=$(basename "$PWD")
+if [ "$1" = run ]; then
+    mkdir -p out
+    printf '#!/bin/sh\\necho built\\n' >out/ti
+    chmod +x out/ti
+    exit 0
+fi
+for below in $(sed -n "s/^$name: *//p" ../../crates.txt); do
+    ! grep -q "^$below:" ../../crates.txt || [ -e "../$below/out/rlib/stamp" ] || {
+        echo "$below is not there"
+        exit 1
+    }
+done
+[ "$name" != "$REFUSED" ] || {
+    echo "refused $name"
+    exit 1
+}
+sleep 0.1
+mkdir -p out/rlib
+echo "$name" >out/rlib/stamp
+"""
+
+
+def check_build():
+    """Whether ./ti builds each crate behind those that it stands on, and ends where one is refused."""
+    with tempfile.TemporaryDirectory(prefix="ti-package-") as folder:
+        made, _ = unpacked(folder)
+        tools = os.path.join(folder, "tools")
+        os.mkdir(tools)
+        with open(os.path.join(tools, "rt"), "w") as file:
+            file.write(STAND_IN)
+        os.chmod(file.name, 0o755)
+        needs = {}
+        for line in open(os.path.join(made, "crates.txt")):
+            if ":" in line and not line.startswith("#"):
+                needs[line.split(":")[0]] = line.split(":")[1].split()
+
+        def build(**more):
+            given = {**os.environ, "PATH": f"{tools}:{os.environ['PATH']}", **more}
+            ran = subprocess.run(["./ti"], cwd=made, env=given, capture_output=True, text=True)
+            return ran.returncode, ran.stdout, ran.stderr
+
+        status, printed, said = build(TI_JOBS="3", REFUSED="")
+        proved = [line.split(": ")[2] for line in said.split("\n") if line.startswith("ti: proved, crate ")]
+        if status or printed != "built\n" or f"building crate {len(proved) + 1} of {len(proved) + 1}: ti" not in said:
+            yield f"status {status}, printed {printed!r}, said {said!r}"
+        for at, name in enumerate(proved):
+            early = [it for it in needs[name] if it in needs and it not in proved[:at]]
+            if early:
+                yield f"{name} was built before {early}"
+            if not os.path.exists(os.path.join(made, "crates", name, "out", "rlib", "stamp")):
+                yield f"{name} is not there once all is built"
+        lacking = [it for it in needs["ti"] if it in needs and it not in proved]
+        if lacking or os.path.exists(os.path.join(made, ".ti-build")):
+            yield f"{lacking} were not built, or the copies are left"
+        os.utime(os.path.join(made, "crates", "ti_text", "src", "lib.rt"))
+        status, printed, said = build(TI_JOBS="2", REFUSED="ti_layout")
+        if status != 1 or printed or "ti: not proved: ti_layout\n" not in said or "refused ti_layout" not in said:
+            yield f"where one is refused: status {status}, printed {printed!r}, said {said!r}"
+        if any(it in said for it in (": ti_compiled\n", ": ti_tools\n", "building crate")):
+            yield f"what stands on the refused one was built: {said!r}"
+        for jobs in ("0", "x", "-1"):
+            if build(TI_JOBS=jobs, REFUSED="")[0] != 1:
+                yield f"TI_JOBS={jobs} is taken"
+
+
 CHECKS = {
-    "options": check_options, "pages": check_pages, "bash": check_bash, "fish": check_fish, "zsh": check_zsh,
+    "build": check_build, "options": check_options, "pages": check_pages, "bash": check_bash, "fish": check_fish, "zsh": check_zsh,
     "install": check_install, "copies": check_copies, "tarball": check_tarball, "tarball-builds": check_tarball_builds,
 }
 
