@@ -19,7 +19,7 @@ use crate::tput_tool::TputWords;
 use std::process::ExitCode;
 use std::rt::{Env, Files};
 use std::{env, io};
-use ti_tools::{InfocmpOptions, Job, ToolError, UsageError, job, usage_text};
+use ti_tools::{InfocmpOptions, Job, Refusal, ToolError, job_or_refusal};
 
 fn main(rt: HostRuntime) -> ExitCode {
     ExitCode::from(run(&rt))
@@ -31,10 +31,9 @@ fn run<R: Env + Files + Input + Print + Eprint + AllocGlobal>(rt: &R) -> u8 {
         Ok(words) => words,
         Err(failure) => return print_failure(rt, "ti", failure),
     };
-    match job(rt.alloc(), words.as_slice()) {
+    match job_or_refusal(rt.alloc(), words.as_slice()) {
         Ok(job) => run_job(rt, &job),
-        Err(UsageError::Memory) => print_failure(rt, "ti", Failure::Tool(ToolError::Memory)),
-        Err(_) => print_usage(rt, words.as_slice()),
+        Err(refusal) => print_refusal(rt, &refusal),
     }
 }
 
@@ -111,19 +110,17 @@ fn print_failure<R: Eprint>(rt: &R, tool: &str, failure: Failure) -> u8 {
 
 // Prints the help that the words ask for, or what is wrong with them. An error of usage has status 2, also where
 // standard error takes nothing.
-fn print_usage<R: Print + Eprint + AllocGlobal>(rt: &R, words: &[String]) -> u8 {
-    let usage = match usage_text(rt.alloc(), words) {
-        Ok(Some(usage)) => usage,
-        Ok(None) => return print_failure(rt, "ti", Failure::Tool(ToolError::Usage)),
-        Err(_) => return print_failure(rt, "ti", Failure::Tool(ToolError::Memory)),
-    };
-    let text = usage.text.as_str();
-    if !usage.is_help {
-        let _ = rt.eprint(text);
-        return 2;
-    }
-    match rt.print(text) {
-        Ok(()) => 0,
-        Err(_) => print_failure(rt, "ti", Failure::Tool(ToolError::WriteFault)),
+fn print_refusal<R: Print + Eprint>(rt: &R, refusal: &Refusal) -> u8 {
+    match refusal {
+        Refusal::Memory => print_failure(rt, "ti", Failure::Tool(ToolError::Memory)),
+        Refusal::Usage(None) => print_failure(rt, "ti", Failure::Tool(ToolError::Usage)),
+        Refusal::Usage(Some(text)) => {
+            let _ = rt.eprint(text.as_str());
+            2
+        }
+        Refusal::Help(text) => match rt.print(text.as_str()) {
+            Ok(()) => 0,
+            Err(_) => print_failure(rt, "ti", Failure::Tool(ToolError::WriteFault)),
+        },
     }
 }

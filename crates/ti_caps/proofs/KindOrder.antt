@@ -15,7 +15,8 @@ use Rattle.ti_caps.specs.declared.name_order.TheConstants.{FLAGS_BY_NAME, NUMBER
 use Rattle.ti_caps.specs.Names.{flag_names, number_names, text_names}
 use Rattle.ti_caps.specs.Tables.{same_kind, Capability, IsCapability, capability, count_of, name_of, names}
 use Rattle.ti_caps.specs.ByName.{Row, by_name}
-use Rattle.ti_caps.specs.NameOrder.{rows_of_kind, in_name_order, EachKindIsInOrder}
+use Rattle.ti_caps.specs.inside.NameOrder.{rows_of_kind, in_name_order}
+use Rattle.ti_caps.specs.NameOrder.{EachKindIsInOrder}
 use Rattle.ti_caps.proofs.Same.{same_kind-true, same_kind-itself}
 use Rattle.ti_caps.proofs.Order.{rising_from, adjacent_from_rising}
 use Rattle.ti_caps.proofs.Table.{row_of_capability, Contains-cons}

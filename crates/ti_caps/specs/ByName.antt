@@ -3,15 +3,10 @@ use Rattle.std.specs.Prelude.{ℕ, ◌-◌, List, map, nat_lt, if◌then◌else�
 use Rattle.std.specs.Ordering.{nat_cmp}
 use Rattle.std.specs.Cmp.Lexicographic.{slice_cmp}
 use Rattle.std.specs.List.Sorted.{IsStrictlySortedBy}
-use Rattle.std.specs.Borrow.{Bor}
 use Rattle.ti_caps.specs.declared.capability.Kind.{Kind}
 use Rattle.ti_caps.specs.declared.capability.Kind.TheVariants.{Flag, Number, Text}
 use Rattle.ti_caps.specs.declared.tables.TheConstants.{BY_NAME}
 use Rattle.ti_caps.specs.Tables.{Capability, capability, name_of, rank_in}
-
--- the texts of a slice of texts
-abbrev pub texts_of : List (Bor (List ℕ)) → List (List ℕ)
-texts_of ts = map (λ t. t.now) ts
 
 -- own: a row has a name, the kind and the index
 abbrev pub Row : Type 0

@@ -1,7 +1,8 @@
 // The capabilities of each kind in the order of the bytes of their names.
 ghost use Rattle.std.specs.Prelude.{◌≡◌, map, slice_get};
 ghost use Rattle.ti_caps.specs.Tables.{capability};
-ghost use Rattle.ti_caps.specs.NameOrder.{EachKindIsInOrder, in_name_order};
+ghost use Rattle.ti_caps.specs.inside.NameOrder.{in_name_order};
+ghost use Rattle.ti_caps.specs.NameOrder.{EachKindIsInOrder};
 
 use crate::capability::{Cap, Kind};
 use crate::tables::{FLAG_COUNT, NUMBER_COUNT, TEXT_COUNT};

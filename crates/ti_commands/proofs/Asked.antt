@@ -10,9 +10,11 @@ use Rattle.clap.specs.declared.error.kind.ErrorKind.TheVariants.{OutOfMemory}
 use Rattle.clap.specs.declared.parser.matches.ArgMatches.{ArgMatches}
 use Rattle.ti_commands.specs.Arguments.{faults_of, job_of, task_in}
 use Rattle.ti_commands.specs.Commands.{ti_app}
-use Rattle.ti_commands.specs.Jobs.{IsUsageRefusal, TellsHelp, is_help, refusal_of}
+use Rattle.ti_commands.specs.Jobs.{IsUsageRefusal, cause_of, refusal_of}
 use Rattle.ti_commands.specs.declared.arguments.UsageError.{UsageError}
 use Rattle.ti_commands.specs.declared.arguments.UsageError.TheVariants as usage
+use Rattle.ti_commands.specs.declared.arguments.Refusal.{Refusal}
+use Rattle.ti_commands.specs.declared.arguments.Refusal.TheVariants as refusal
 
 is_program_simple : is_simple ti_app ≡ true
 unfolding ti_app
@@ -41,16 +43,13 @@ IsUsageRefusal-of_fault app words job error e same fails is =
       | inr among ↦ inr (inl (kind_of error, subst (λ (a : App). IsAmong (kind_of error) (fault_of a words)) same among, is))
     ]
 
-pub IsUsageRefusal-no_job : (words : List Text) (job : _) (e : UsageError) → faults_of words ≡ [] → job ≡ job_of words
-    → (e ≡ usage.Memory) ⊎ ((e ≡ usage.Usage) × (job ≡ None)) → IsUsageRefusal (faults_of words) (job_of words) e
-IsUsageRefusal-no_job words job e no_fault same (inl memory) = inl memory
-IsUsageRefusal-no_job words job e no_fault same (inr refused) = inr (inr (no_fault, sym same ∙ refused.1, refused.0))
+pub IsUsageRefusal-no_job : (words : List Text) (job : _) (e : Refusal) → faults_of words ≡ [] → job ≡ job_of words
+    → (e ≡ refusal.Memory) ⊎ ((e ≡ refusal.Usage None) × (job ≡ None)) → IsUsageRefusal (faults_of words) (job_of words) (cause_of e)
+IsUsageRefusal-no_job words job e no_fault same (inl memory) = inl (ap cause_of memory)
+IsUsageRefusal-no_job words job e no_fault same (inr refused) = inr (inr (no_fault, sym same ∙ refused.1, ap cause_of refused.0))
 
-pub tells_help : (app : App) (words : List Text) (error : Error) (help : Bool) → app ≡ ti_app
-    → (is_simple_and_free app ≡ true → FailsBy {T = ArgMatches} (fault_of app words) (Err error))
-    → (kind_of error ≢ OutOfMemory) × (help ≡ is_help (kind_of error)) → TellsHelp (faults_of words) help
-tells_help app words error help same fails is =
-    elim (fails (ap is_simple_and_free same ∙ is_program_free)) [
-      | inl memory ↦ absurd (is.0 memory)
-      | inr among ↦ (kind_of error, subst (λ (a : App). IsAmong (kind_of error) (fault_of a words)) same among, is.1)
-    ]
+-- what has the cause of want of memory is that
+pub memory_alone : (e : Refusal) → cause_of e ≡ usage.Memory → e ≡ refusal.Memory
+memory_alone refusal.Memory is = refl
+memory_alone (refusal.Help said) is = absurd cc
+memory_alone (refusal.Usage said) is = absurd cc

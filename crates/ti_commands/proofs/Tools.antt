@@ -16,7 +16,8 @@ use Rattle.clap.specs.declared.parser.matches.ArgMatches.{ArgMatches}
 use Rattle.clap.proofs.FaultLemmas.{leaf_fault, stopped_fault}
 use Rattle.clap.proofs.WalkLemmas.{walk_stopped}
 use Rattle.ti_commands.specs.Arguments.{faults_of, job_of, task_at, task_in}
-use Rattle.ti_commands.specs.Commands.{session_app, ti_app, tic_app, tool_app, tput_app}
+use Rattle.ti_commands.specs.inside.Commands.{tool_app}
+use Rattle.ti_commands.specs.Commands.{session_app, ti_app, tic_app, tput_app}
 use Rattle.ti_commands.specs.InfocmpWords.{infocmp_app}
 
 -- the walk that met a name as its first word, with the words behind it

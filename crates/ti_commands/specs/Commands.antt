@@ -1,9 +1,7 @@
 -- The command lines that the program takes, as what clap reads of them (tic(1), tput(1), infocmp(1)).
-use Rattle.std.specs.Prelude.{Option, Some, None, codes, if◌then◌else◌, true}
-use Rattle.std.specs.Str.{bytes_eq}
+use Rattle.std.specs.Prelude.{codes, true}
 use Rattle.ti_text.specs.Ascii.{byte_of}
 use Rattle.clap.specs.Simple.{App, new_app, on_top, with_rule, with_subcommand}
-use Rattle.clap.specs.Walk.{Text}
 use Rattle.ti_commands.specs.InfocmpWords.{infocmp_app}
 use Rattle.ti_commands.specs.Rules.{flag_rule, long_option_rule, operand_rule, operands_rule, option_rule}
 
@@ -41,12 +39,3 @@ first_tools_app = with_subcommand
 -- the program with all of them
 unfoldable pub ti_app : App
 ti_app = with_subcommand (with_subcommand first_tools_app session_app.top) infocmp_app.top
-
--- the tool of that name, as a command line of its own
-abbrev pub tool_app : Text → Option App
-tool_app name =
-    if bytes_eq name (codes "tic") then Some tic_app
-    else if bytes_eq name (codes "tput") then Some tput_app
-    else if bytes_eq name (codes "session") then Some session_app
-    else if bytes_eq name (codes "infocmp") then Some infocmp_app
-    else None

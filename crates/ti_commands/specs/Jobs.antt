@@ -1,5 +1,5 @@
 -- The jobs of the program, as plain data, and why words ask for none (own).
-use Rattle.std.specs.Prelude.{◌≡◌, ◌⊎◌, Bool, true, false, [], None, Option, map, option_map}
+use Rattle.std.specs.Prelude.{◌≡◌, ◌⊎◌, [], None, Option, map, option_map}
 use Rattle.std.specs.String.{string_bytes}
 use Rattle.clap.specs.Kinds.{IsAmong, Kinds}
 use Rattle.clap.specs.declared.error.kind.ErrorKind.{ErrorKind}
@@ -7,6 +7,8 @@ use Rattle.clap.specs.declared.error.kind.ErrorKind.TheVariants as kind
 use Rattle.ti_commands.specs.Arguments.{Task, task_infocmp, task_session, task_tic, task_tput}
 use Rattle.ti_commands.specs.declared.arguments.UsageError.{UsageError}
 use Rattle.ti_commands.specs.declared.arguments.UsageError.TheVariants as usage
+use Rattle.ti_commands.specs.declared.arguments.Refusal.{Refusal}
+use Rattle.ti_commands.specs.declared.arguments.Refusal.TheVariants as refusal
 use Rattle.ti_commands.specs.declared.jobs.Job.{Job}
 use Rattle.ti_commands.specs.declared.jobs.Job.TheVariants.{Infocmp, Session, Tic, Tput}
 
@@ -24,6 +26,12 @@ task_of (Infocmp mode names layout first_dir other_dir) = task_infocmp (record {
   other_dir = option_map string_bytes other_dir;
 })
 
+-- a refusal, without what is said
+abbrev pub cause_of : Refusal → UsageError
+cause_of (refusal.Usage said) = usage.Usage
+cause_of (refusal.Help said) = usage.Help
+cause_of refusal.Memory = usage.Memory
+
 -- what a fault that clap finds is to the program
 abbrev pub refusal_of : ErrorKind → UsageError
 refusal_of kind.DisplayHelp = usage.Help
@@ -36,12 +44,3 @@ abbrev pub IsUsageRefusal : Kinds → Option Task → UsageError → Type 0
 IsUsageRefusal faults job e =
     (e ≡ usage.Memory) ⊎ ((k : ErrorKind) × IsAmong k faults × (e ≡ refusal_of k))
     ⊎ ((faults ≡ []) × (job ≡ None) × (e ≡ usage.Usage))
-
--- whether a fault that clap finds is that help is asked for
-abbrev pub is_help : ErrorKind → Bool
-is_help kind.DisplayHelp = true
-is_help _ = false
-
--- what is said is help or an error, by one of these faults
-abbrev pub TellsHelp : Kinds → Bool → Type 0
-TellsHelp faults help = (k : ErrorKind) × IsAmong k faults × (help ≡ is_help k)

@@ -1,9 +1,9 @@
 //! What the words of a command line ask for.
-ghost use Rattle.std.specs.Prelude.{◌≡◌, ◌⊎◌, [], IfErr, IfOk, IfSome, None, OnOk, Some, codes, map, true};
-ghost use Rattle.clap.specs.Words.{first_of, subcommand_rows_of};
+ghost use Rattle.std.specs.Prelude.{◌≡◌, ◌≢◌, ◌⊎◌, [], IfErr, IfOk, IfSome, None, OnOk, Some, codes, map, true};
+ghost use Rattle.clap.specs.Words.{first_of, kind_of, subcommand_rows_of};
 ghost use Rattle.ti_commands.specs.Arguments.{Task, faults_of, is_word_count, job_of, rate_in, takes_words, task_at, task_in, tic_task, tput_task, tput_with, word_texts};
-ghost use Rattle.ti_commands.specs.Jobs.{IsUsageRefusal, refusal_of, task_of};
-ghost use Rattle.ti_commands.specs.declared.arguments.UsageError.TheVariants.{Memory};
+ghost use Rattle.ti_commands.specs.Jobs.{IsUsageRefusal, cause_of, refusal_of, task_of};
+ghost use Rattle.ti_commands.specs.declared.arguments.Refusal.TheVariants.{Memory};
 ghost use Rattle.ti_commands.specs.Matches.{matched_rows};
 
 use crate::commands::{command, tool_named};
@@ -29,23 +29,49 @@ pub enum UsageError {
     Memory,
 }
 
-impl From<AllocError> for UsageError {
-    ghost from_gives = { λ _ error. error ≡ Memory };
+/// Why words ask for no job, with the text that is said of them, which ends with a newline.
+#[derive(Debug, Drop)]
+pub enum Refusal {
+    /// The words are no command line of the program: what clap says of them; `None` where clap takes them, but no tool
+    /// does, as a tenth parameter of `tput`.
+    Usage(Option<String>),
+    /// The words ask for help: its text.
+    Help(String),
+    /// A growth of memory was refused.
+    Memory,
+}
 
-    fn from(_error: AllocError) -> UsageError {
-        UsageError::Memory
+impl From<AllocError> for Refusal {
+    ghost from_gives = { λ _ refused. refused ≡ Memory };
+
+    fn from(_error: AllocError) -> Refusal {
+        Refusal::Memory
     }
 }
 
-// What a fault that clap finds is to the program.
-fn refusal(kind: ErrorKind) -> UsageError
-    ensures { result ≡ refusal_of kind }
-{
-    match kind {
-        ErrorKind::DisplayHelp => UsageError::Help,
-        ErrorKind::OutOfMemory => UsageError::Memory,
-        _ => UsageError::Usage,
+impl Refusal {
+    /// The cause, without what is said.
+    pub fn cause(&self) -> UsageError
+        ensures { result ≡ cause_of self.now }
+    {
+        match self {
+            Refusal::Usage(_) => UsageError::Usage,
+            Refusal::Help(_) => UsageError::Help,
+            Refusal::Memory => UsageError::Memory,
+        }
     }
+}
+
+// What a fault that clap finds is to the program, with clap's text.
+fn refusal_by(alloc: Global, error: &clap::error::Error) -> Result<Refusal, AllocError>
+    ensures cause { IfOk result (λ refused. cause_of refused ≡ refusal_of (kind_of error.now)) }
+    ensures said { IfOk result (λ refused. refused ≢ Refusal.Usage None) }
+{
+    Ok(match error.kind() {
+        ErrorKind::OutOfMemory => Refusal::Memory,
+        ErrorKind::DisplayHelp => Refusal::Help(format!(in alloc; "{error}")?),
+        _ => Refusal::Usage(Some(format!(in alloc; "{error}")?)),
+    })
 }
 
 fn tic_job(alloc: Global, matches: &ArgMatches<'_>) -> Result<Job, AllocError>
@@ -79,18 +105,18 @@ fn is_word_count(lines: bool, count: usize) -> bool
 }
 
 // The job of `tput` with these words.
-fn tput_of(alloc: Global, matches: &ArgMatches<'_>, words: &[&str]) -> Result<Job, UsageError>
+fn tput_of(alloc: Global, matches: &ArgMatches<'_>, words: &[&str]) -> Result<Job, Refusal>
     ensures right { IfOk result (λ job. tput_with (matched_rows matches.now) (map (λ word. word.now) words.now)
         ≡ Some (task_of job)) }
-    ensures refused { IfErr result (λ error. (error ≡ UsageError.Memory)
-        ⊎ ((error ≡ UsageError.Usage) × (tput_with (matched_rows matches.now) (map (λ word. word.now) words.now) ≡ None))) }
+    ensures refused { IfErr result (λ error. (error ≡ Refusal.Memory)
+        ⊎ ((error ≡ Refusal.Usage None) × (tput_with (matched_rows matches.now) (map (λ word. word.now) words.now) ≡ None))) }
 {
     let lines = is_on(matches, "lines");
     let Some(rate) = rate(matches) else {
-        return Err(UsageError::Usage);
+        return Err(Refusal::Usage(None));
     };
     if !is_word_count(lines, words.len()) {
-        return Err(UsageError::Usage);
+        return Err(Refusal::Usage(None));
     }
     let term = text(alloc, matches, "term")?;
     let words = texts(alloc, words)?;
@@ -102,10 +128,10 @@ fn tput_of(alloc: Global, matches: &ArgMatches<'_>, words: &[&str]) -> Result<Jo
     })
 }
 
-fn tput_job(alloc: Global, matches: &ArgMatches<'_>) -> Result<Job, UsageError>
+fn tput_job(alloc: Global, matches: &ArgMatches<'_>) -> Result<Job, Refusal>
     ensures right { IfOk result (λ job. tput_task (matched_rows matches.now) ≡ Some (task_of job)) }
-    ensures refused { IfErr result (λ error. (error ≡ UsageError.Memory)
-        ⊎ ((error ≡ UsageError.Usage) × (tput_task (matched_rows matches.now) ≡ None))) }
+    ensures refused { IfErr result (λ error. (error ≡ Refusal.Memory)
+        ⊎ ((error ≡ Refusal.Usage None) × (tput_task (matched_rows matches.now) ≡ None))) }
 {
     match values(matches, "words") {
         Some(words) => tput_of(alloc, matches, words),
@@ -114,30 +140,30 @@ fn tput_job(alloc: Global, matches: &ArgMatches<'_>) -> Result<Job, UsageError>
 }
 
 // The job of the tool of that name, with its matches.
-fn tool_job(alloc: Global, name: &str, matches: &ArgMatches<'_>) -> Result<Job, UsageError>
+fn tool_job(alloc: Global, name: &str, matches: &ArgMatches<'_>) -> Result<Job, Refusal>
     ensures right { IfOk result (λ job. task_at name.now (matched_rows matches.now) ≡ Some (task_of job)) }
-    ensures refused { IfErr result (λ error. (error ≡ UsageError.Memory)
-        ⊎ ((error ≡ UsageError.Usage) × (task_at name.now (matched_rows matches.now) ≡ None))) }
+    ensures refused { IfErr result (λ error. (error ≡ Refusal.Memory)
+        ⊎ ((error ≡ Refusal.Usage None) × (task_at name.now (matched_rows matches.now) ≡ None))) }
 {
     match name {
         "tic" => Ok(tic_job(alloc, matches)?),
         "tput" => tput_job(alloc, matches),
         "session" => Ok(Job::Session),
         "infocmp" => infocmp_job(alloc, matches),
-        _ => Err(UsageError::Usage),
+        _ => Err(Refusal::Usage(None)),
     }
 }
 
 // The job of the subcommand that was used.
-fn used_job(alloc: Global, matches: &ArgMatches<'_>) -> Result<Job, UsageError>
+fn used_job(alloc: Global, matches: &ArgMatches<'_>) -> Result<Job, Refusal>
     ensures right { IfOk result (λ job. task_in (subcommand_rows_of matches.now)
         ≡ Some (task_of job)) }
-    ensures refused { IfErr result (λ error. (error ≡ UsageError.Memory)
-        ⊎ ((error ≡ UsageError.Usage) × (task_in (subcommand_rows_of matches.now) ≡ None))) }
+    ensures refused { IfErr result (λ error. (error ≡ Refusal.Memory)
+        ⊎ ((error ≡ Refusal.Usage None) × (task_in (subcommand_rows_of matches.now) ≡ None))) }
 {
     match matches.subcommand() {
         Some((name, inner)) => tool_job(alloc, name, inner),
-        None => Err(UsageError::Usage),
+        None => Err(Refusal::Usage(None)),
     }
 }
 
@@ -162,19 +188,44 @@ fn job_of_tool(alloc: Global, words: &[String]) -> Result<Option<Job>, AllocErro
 }
 
 // The job that the words ask for, read by the command of all tools.
-fn job_of_program(alloc: Global, words: &[String]) -> Result<Job, UsageError>
+fn job_of_program(alloc: Global, words: &[String]) -> Result<Job, Refusal>
     ensures right { IfOk result (λ job. job_of (word_texts words.now) ≡ Some (task_of job)) }
     ensures answered { (task : Task) → job_of (word_texts words.now) ≡ Some task
         → takes_words (word_texts words.now) ≡ true
-        → IfErr result (λ error. error ≡ UsageError.Memory) }
+        → IfErr result (λ refused. refused ≡ Refusal.Memory) }
     ensures accepted { OnOk result (faults_of (word_texts words.now) ≡ []) }
-    ensures refused { IfErr result (IsUsageRefusal (faults_of (word_texts words.now))
-        (job_of (word_texts words.now))) }
+    ensures refused { IfErr result (λ refused. IsUsageRefusal (faults_of (word_texts words.now))
+        (job_of (word_texts words.now)) (cause_of refused)) }
+    ensures silent { IfErr result (λ refused. refused ≡ Refusal.Usage None
+        → (faults_of (word_texts words.now) ≡ []) × (job_of (word_texts words.now) ≡ None)) }
 {
     let command = command(alloc)?;
     match command.try_get_matches_from(words) {
         Ok(matches) => used_job(alloc, &matches),
-        Err(error) => Err(refusal(error.kind())),
+        Err(error) => Err(refusal_by(alloc, &error)?),
+    }
+}
+
+/// What the words of a command line ask for, or why they ask for nothing, with what is said of them. The first word is the
+/// program's name.
+///
+/// # Errors
+/// `Usage` where the words are no command line of the program, and `Help` where they ask for help;
+/// then `Memory`. `Usage` has no text only where clap finds no fault in them.
+pub fn job_or_refusal(alloc: Global, words: &[String]) -> Result<Job, Refusal>
+    ensures right { IfOk result (λ job. job_of (word_texts words.now) ≡ Some (task_of job)) }
+    ensures answered { (task : Task) → job_of (word_texts words.now) ≡ Some task
+        → takes_words (word_texts words.now) ≡ true
+        → IfErr result (λ refused. refused ≡ Refusal.Memory) }
+    ensures accepted { OnOk result (faults_of (word_texts words.now) ≡ []) }
+    ensures refused { IfErr result (λ refused. IsUsageRefusal (faults_of (word_texts words.now))
+        (job_of (word_texts words.now)) (cause_of refused)) }
+    ensures silent { IfErr result (λ refused. refused ≡ Refusal.Usage None
+        → (faults_of (word_texts words.now) ≡ []) × (job_of (word_texts words.now) ≡ None)) }
+{
+    match job_of_tool(alloc, words)? {
+        Some(job) => Ok(job),
+        None => job_of_program(alloc, words),
     }
 }
 
@@ -192,8 +243,8 @@ pub fn job(alloc: Global, words: &[String]) -> Result<Job, UsageError>
     ensures refused { IfErr result (IsUsageRefusal (faults_of (word_texts words.now))
         (job_of (word_texts words.now))) }
 {
-    match job_of_tool(alloc, words)? {
-        Some(job) => Ok(job),
-        None => job_of_program(alloc, words),
+    match job_or_refusal(alloc, words) {
+        Ok(job) => Ok(job),
+        Err(refused) => Err(refused.cause()),
     }
 }

@@ -4,8 +4,8 @@ ghost use Rattle.std.specs.Prelude.{◌≡◌, IfOk, false, option_map};
 ghost use Rattle.std.specs.List.{fold};
 ghost use Rattle.clap.specs.Words.{app_of};
 ghost use Rattle.clap.specs.declared.builder.Command.TheViews.{out-Command as fields_of};
-ghost use Rattle.ti_commands.specs.Commands.{ti_app, tool_app};
-ghost use Rattle.ti_commands.specs.inside.Tools.{app_for, with_argument, with_tool};
+ghost use Rattle.ti_commands.specs.inside.Commands.{tool_app, app_for, with_argument, with_tool};
+ghost use Rattle.ti_commands.specs.Commands.{ti_app};
 
 use crate::infocmp_words::INFOCMP;
 use crate::rules::{Argument, Form};

@@ -6,7 +6,7 @@ ghost use Rattle.ti_commands.specs.InfocmpWords.{choice_in, choice_with, infocmp
 ghost use Rattle.ti_commands.specs.Jobs.{task_of};
 ghost use Rattle.ti_commands.specs.Matches.{matched_rows};
 
-use crate::arguments::UsageError;
+use crate::arguments::Refusal;
 use crate::commands::Tool;
 use crate::jobs::{InfocmpMode, Job};
 use crate::matches::{is_on, text, texts, value, values};
@@ -191,16 +191,16 @@ fn order_of(matches: &ArgMatches<'_>) -> Option<Order>
 }
 
 // The job of `infocmp` with these names.
-fn infocmp_of(alloc: Global, matches: &ArgMatches<'_>, names: &[&str]) -> Result<Job, UsageError>
+fn infocmp_of(alloc: Global, matches: &ArgMatches<'_>, names: &[&str]) -> Result<Job, Refusal>
     ensures right { IfOk result (λ job. option_map task_infocmp (infocmp_with (matched_rows matches.now) (map (λ name. name.now) names.now))
         ≡ Some (task_of job)) }
-    ensures refused { IfErr result (λ error. (error ≡ UsageError.Memory)
-        ⊎ ((error ≡ UsageError.Usage)
+    ensures refused { IfErr result (λ error. (error ≡ Refusal.Memory)
+        ⊎ ((error ≡ Refusal.Usage None)
         × (option_map task_infocmp (infocmp_with (matched_rows matches.now) (map (λ name. name.now) names.now)) ≡ None))) }
 {
     let mode = mode_for(choice_of(matches), names.len());
     let (Some(mode), Some(width), Some(order)) = (mode, width_of(matches), order_of(matches)) else {
-        return Err(UsageError::Usage);
+        return Err(Refusal::Usage(None));
     };
     let names = texts(alloc, names)?;
     let first_dir = text(alloc, matches, "first")?;
@@ -224,10 +224,10 @@ fn infocmp_of(alloc: Global, matches: &ArgMatches<'_>, names: &[&str]) -> Result
 /// # Errors
 /// `Usage` where they ask for none; then `Memory`.
 #[tactic(auto, unfolding(crate::specs::Arguments::infocmp_job_of))]
-pub fn infocmp_job(alloc: Global, matches: &ArgMatches<'_>) -> Result<Job, UsageError>
+pub fn infocmp_job(alloc: Global, matches: &ArgMatches<'_>) -> Result<Job, Refusal>
     ensures right { IfOk result (λ job. infocmp_job_of (matched_rows matches.now) ≡ Some (task_of job)) }
-    ensures refused { IfErr result (λ error. (error ≡ UsageError.Memory)
-        ⊎ ((error ≡ UsageError.Usage) × (infocmp_job_of (matched_rows matches.now) ≡ None))) }
+    ensures refused { IfErr result (λ error. (error ≡ Refusal.Memory)
+        ⊎ ((error ≡ Refusal.Usage None) × (infocmp_job_of (matched_rows matches.now) ≡ None))) }
 {
     match values(matches, "name") {
         Some(names) => infocmp_of(alloc, matches, names),

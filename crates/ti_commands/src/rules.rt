@@ -3,7 +3,7 @@ ghost use Rattle.std.specs.Prelude.{◌≡◌, false, Some};
 ghost use Rattle.clap.specs.declared.builder.texts.Texts.TheVariants.{One};
 ghost use Rattle.clap.specs.Words.{rule_of};
 ghost use Rattle.ti_commands.specs.Rules.{flag_rule, long_option_rule, operand_rule, operands_rule, option_rule};
-ghost use Rattle.ti_commands.specs.inside.Tools.{ShowsValue, rule_for};
+ghost use Rattle.ti_commands.specs.inside.Rules.{ShowsValue, rule_for};
 
 use clap::builder::ValueParser;
 use clap::{Arg, ArgAction};

@@ -10,13 +10,13 @@ use Rattle.ti_layout.specs.Layout.{header, number_section, entry_size, width}
 use Rattle.ti_layout.specs.Laws.{without_cancel}
 use Rattle.ti_layout.specs.Sizes.{HasSizes}
 use Rattle.ti_layout.specs.Values.{Content, content_true, content_number, content_text, content_cancelled, Contents}
-use Rattle.ti_layout.proofs.Assembling.{header_laid}
+use Rattle.ti_layout.proofs.Assembling.{header_written}
 use Rattle.ti_layout.proofs.Below.{length-below, below-filled, below-same}
 use Rattle.ti_layout.proofs.Parts.{length-header}
 use Rattle.ti_layout.proofs.Sizes.{length-image}
 use Rattle.ti_compiled.specs.inside.Changes.{flag_content}
 use Rattle.ti_compiled.specs.Image.{with_content}
-use Rattle.ti_compiled.specs.inside.Parts.{Replaces, with_length}
+use Rattle.ti_compiled.specs.inside.Bytes.{Replaces, with_length}
 use Rattle.ti_compiled.proofs.Given.{HoldsNoOther, given_here, given_place, given_past, nothing_past}
 use Rattle.ti_compiled.proofs.Resizing.{resized-below, set-below}
 use Rattle.ti_compiled.proofs.Same.{same_offsets, same_strings, same_text_count}
@@ -131,7 +131,7 @@ module _ (names : List ℕ) (c : Contents) (past : HoldsNoOther c) (index : ℕ)
         let all : n ≡ size names g = rw (← has.flags, ← has.names) e in
         replaces [] (head names c) rest (so_far ∙ append_assoc (head names c) (names ++ 0 ∷ []) (below (bytes_of g) n ++ behind c)) refl
         (length-header (format_of c) (suc (length names)) (length (flags_below c (written_count c Flag))) (length (numbers_below (format_of c) c (written_count c Number))) (length (offsets_below c (written_count c Text))) (length (texts_below c (written_count c Text))))
-        ∙ ap (λ t. t ++ rest) (header_laid names g k has small)
+        ∙ ap (λ t. t ++ rest) (header_written names g k has small)
         ∙ ap (λ t. head names g ++ ((names ++ 0 ∷ []) ++ (below (bytes_of g) n ++ t))) (sym same_behind)
         ∙ ap (λ m. head names g ++ ((names ++ 0 ∷ []) ++ (below (bytes_of g) m ++ behind g))) all
         ∙ sym (frame names g past_g)

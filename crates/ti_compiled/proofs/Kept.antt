@@ -10,7 +10,7 @@ use Rattle.ti_caps.proofs.Same.{same_capability-true}
 use Rattle.ti_caps.specs.declared.capability.Kind.{Kind}
 use Rattle.ti_caps.specs.declared.capability.Kind.TheVariants.{Flag, Number, Text}
 use Rattle.ti_layout.specs.declared.layout.Format.{Format}
-use Rattle.ti_layout.specs.Image.{image, image_limit}
+use Rattle.ti_layout.specs.Image.{image, image_limit, ImageFits, ImageIsTooLarge}
 use Rattle.ti_layout.specs.Laws.{without_cancel}
 use Rattle.ti_layout.specs.Reading.{Reads, says, stored_flag, stored_number, stored_text}
 use Rattle.ti_layout.specs.Values.{Content, content_true, content_number, content_text, content_cancelled, Contents, AgreesIfSome, HasNoNul}
@@ -18,7 +18,7 @@ use Rattle.ti_layout.proofs.OneReading.{read_names, read_contents}
 use Rattle.ti_layout.proofs.ImageReading.{images_are_read}
 use Rattle.ti_layout.proofs.OfValues.{images_are_of_values, limits_are_of_values}
 use Rattle.ti_layout.specs.declared.writing.WriteError.TheVariants.{TooLarge}
-use Rattle.ti_compiled.specs.Changes.{HoldsGiven, ImageFits, IsOver}
+use Rattle.ti_compiled.specs.Changes.{HoldsGiven}
 use Rattle.ti_compiled.specs.Image.{names_in, contents_in, with_content, IsImage}
 use Rattle.ti_compiled.proofs.Carried.{carried}
 
@@ -123,13 +123,13 @@ given_contents (Err x) b new is k v agrees present made within = tt
 pub record AfterGiving (r : Result (Unit {0}) WriteError) (b new : List ℕ) (k : Capability) (v : Option Content) : Type 0 where
   pub kept : IsImage new
   pub within : OnOk r (ImageFits (names_in b) (with_content (contents_in b) k v))
-  pub too_large : IsErrOf r TooLarge ↔ IsOver (names_in b) (with_content (contents_in b) k v)
+  pub too_large : IsErrOf r TooLarge ↔ ImageIsTooLarge (names_in b) (with_content (contents_in b) k v)
   pub names : OnOk r (names_in new ≡ names_in b)
   pub contents : OnOk r (HoldsGiven b new k v)
 
 pub after_giving : (r : Result (Unit {0}) WriteError) (x b new : List ℕ) (k : Capability) (kind : Kind) (i : ℕ) (v : Option Content) → x ≡ b → k.kind ≡ kind → i ≡ k.index
     → IsImage x → AgreesIfSome (capability kind i) v → without_cancel v ≡ v → OnOk r (new ≡ image (names_in x) (with_content (contents_in x) (capability kind i) v))
-    → OnOk r (ImageFits (names_in x) (with_content (contents_in x) (capability kind i) v)) → (IsErrOf r TooLarge ↔ IsOver (names_in x) (with_content (contents_in x) (capability kind i) v)) → OnErr r (new ≡ x)
+    → OnOk r (ImageFits (names_in x) (with_content (contents_in x) (capability kind i) v)) → (IsErrOf r TooLarge ↔ ImageIsTooLarge (names_in x) (with_content (contents_in x) (capability kind i) v)) → OnErr r (new ≡ x)
     → AfterGiving r b new k v
 after_giving r x b new k kind i v same e f is agrees present made within over left =
     carried (λ y d. AfterGiving r y new d v) x b k kind i same e f (record {
@@ -141,13 +141,13 @@ after_giving r x b new k kind i v same e f is agrees present made within over le
     })
 
 -- an image of the same names and values is the image of any contents that say them
-pub record LaidAs (i names : List ℕ) (t : Contents) : Type 0 where
+pub record IsWrittenAs (i names : List ℕ) (t : Contents) : Type 0 where
   pub whole : i ≡ image names t
   pub within : ImageFits names t
 
-pub laid_as : (i names : List ℕ) (t : Contents) → i ≡ image (names_in i) (contents_in i) → ImageFits (names_in i) (contents_in i) → names_in i ≡ names
-    → ((c : Capability) → IsCapability c → contents_in i c ≡ without_cancel (t c)) → LaidAs i names t
-laid_as i names t whole within named said =
+pub written_as : (i names : List ℕ) (t : Contents) → i ≡ image (names_in i) (contents_in i) → ImageFits (names_in i) (contents_in i) → names_in i ≡ names
+    → ((c : Capability) → IsCapability c → contents_in i c ≡ without_cancel (t c)) → IsWrittenAs i names t
+written_as i names t whole within named said =
     let same : (c : Capability) → IsCapability c → without_cancel (contents_in i c) ≡ without_cancel (t c) = λ c valid. ap without_cancel (said c valid) ∙ uncancelled-twice (t c) in
     let again : image (names_in i) (contents_in i) ≡ image names t = images_are_of_values (names_in i) (contents_in i) t same ∙ ap (λ n. image n t) named in
     let limits = limits_are_of_values (contents_in i) t same in

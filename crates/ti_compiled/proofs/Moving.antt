@@ -6,7 +6,7 @@ use Rattle.ti_layout.specs.Image.{below}
 use Rattle.ti_layout.specs.Layout.{number_bytes, number_section}
 use Rattle.ti_layout.specs.Reading.{word_at}
 use Rattle.ti_layout.proofs.Below.{below-same}
-use Rattle.ti_compiled.specs.inside.Parts.{Replaces, offset_after, moved_later}
+use Rattle.ti_compiled.specs.inside.Bytes.{Replaces, offset_after, moved_later}
 use Rattle.ti_compiled.proofs.Numbering.{place-set, place-get}
 
 -- those before an index are moved, and those from it on are as they were

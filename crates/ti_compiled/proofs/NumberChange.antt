@@ -9,12 +9,12 @@ use Rattle.ti_layout.specs.Image.{image, below, format_of, is_there, image_limit
 use Rattle.ti_layout.specs.Layout.{absent_mark, header, number_bytes, number_section, width}
 use Rattle.ti_layout.specs.Sizes.{HasSizes, at_most_max}
 use Rattle.ti_layout.specs.Values.{Content, content_true, content_number, content_text, content_cancelled, Contents, AgreesIfSome}
-use Rattle.ti_layout.proofs.Assembling.{header_laid}
+use Rattle.ti_layout.proofs.Assembling.{header_written}
 use Rattle.ti_layout.proofs.Below.{length-below, get_or-below, last_passing-is}
 use Rattle.ti_layout.proofs.Spelled.{length-spelled, spelled-append, spelled-one}
 use Rattle.ti_compiled.specs.inside.Changes.{number_content, wide_value, with_number, HasNumbers}
 use Rattle.ti_compiled.specs.Image.{names_in, contents_in, IsImage}
-use Rattle.ti_compiled.specs.inside.Parts.{Replaces, with_length}
+use Rattle.ti_compiled.specs.inside.Bytes.{Replaces, with_length}
 use Rattle.ti_compiled.proofs.FlagPlaces.{length_sized}
 use Rattle.ti_compiled.proofs.Given.{given_here, given_place}
 use Rattle.ti_compiled.proofs.Kept.{given_agrees}
@@ -138,7 +138,7 @@ module _ (b : List ℕ) (is : IsImage b) (h : Header) (has : HasSizes (names_in 
         let two : b2 ≡ p ++ (new ++ r) = puts p (with_length m wanted fill) r one lp (length-resized m wanted fill ∙ ew) in
         let three : b3 ≡ header k.format k.names k.flags k.numbers k.texts k.strings ++ (before_numbers names c ++ (new ++ r)) =
         heads [] (head_of names c) (before_numbers names c ++ (new ++ r)) (two ∙ append_assoc (head_of names c) (before_numbers names c) (new ++ r)) refl (length_head names c) in
-        three ∙ ap (λ t. t ++ (before_numbers names c ++ (new ++ r))) (header_laid names g k has_g small)
+        three ∙ ap (λ t. t ++ (before_numbers names c ++ (new ++ r))) (header_written names g k has_g small)
         ∙ ap (λ t. head_of names g ++ (before_numbers names c ++ (t ++ r))) (all_spelled values all)
         ∙ ap (λ t. head_of names g ++ (before_numbers names c ++ (number_section (format_of g) (below (number_in (format_of g) g) (written_count g Number)) ++ t))) (sym same_after)
         ∙ sym (number_frame names g)

@@ -9,7 +9,7 @@ use Rattle.ti_layout.specs.Layout.{absent_mark, number_bytes, number_section, wi
 use Rattle.ti_layout.specs.Reading.{number_at}
 use Rattle.ti_layout.proofs.Below.{length-below, get_or-below, below-filled}
 use Rattle.ti_layout.proofs.Spelled.{length-number_bytes, length-spelled, number_at-first, number_at-here, spelled-append, spelled-absent}
-use Rattle.ti_compiled.specs.inside.Parts.{Replaces, with_length}
+use Rattle.ti_compiled.specs.inside.Bytes.{Replaces, with_length}
 use Rattle.ti_compiled.proofs.Resizing.{take-below, set-below}
 
 spelled-cons : (w : Format) (x : ℕ) (xs : List ℕ) → number_section w (x ∷ xs) ≡ number_bytes w x ++ number_section w xs

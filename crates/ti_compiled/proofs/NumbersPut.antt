@@ -5,7 +5,7 @@ use Rattle.ti_layout.specs.declared.layout.Format.{Format}
 use Rattle.ti_layout.specs.declared.layout.Format.TheVariants.{Legacy, Extended}
 use Rattle.ti_layout.specs.Layout.{number_bytes, number_section, width}
 use Rattle.ti_layout.proofs.Spelled.{length-spelled, place_none, spelled-none, spelled-append, spelled-one}
-use Rattle.ti_compiled.specs.inside.Parts.{Replaces}
+use Rattle.ti_compiled.specs.inside.Bytes.{Replaces}
 use Rattle.ti_compiled.proofs.Numbering.{place_under}
 
 -- those before an index are written over the front of a part

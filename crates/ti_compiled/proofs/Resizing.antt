@@ -4,7 +4,7 @@ use Rattle.std.proofs.lemmas.Bool.{cases_lt, cases_eq}
 use Rattle.std.proofs.lemmas.List.{take_all, same_lists, length-take, get_or-take, length-set, get_or-set_same, get_or-set_other}
 use Rattle.ti_layout.specs.Image.{below}
 use Rattle.ti_layout.proofs.Below.{length-below, get_or-below, below-filled}
-use Rattle.ti_compiled.specs.inside.Parts.{with_length}
+use Rattle.ti_compiled.specs.inside.Bytes.{with_length}
 
 module _ (f : ℕ → ℕ) where
   pub take-below : (m n : ℕ) → n ≤ m → take n (below f m) ≡ below f n

@@ -7,7 +7,7 @@ use Rattle.ti_layout.specs.Image.{of_kind, text_piece, texts_below}
 use Rattle.ti_layout.specs.Values.{Contents}
 use Rattle.ti_layout.proofs.Texts.{texts-more, texts-same}
 use Rattle.ti_compiled.specs.inside.Changes.{text_content}
-use Rattle.ti_compiled.specs.inside.Parts.{ended_text}
+use Rattle.ti_compiled.specs.inside.Bytes.{ended_text}
 
 pub piece_of : (t : Option (List ℕ)) → text_piece (text_content t) ≡ ended_text t
 piece_of None = refl

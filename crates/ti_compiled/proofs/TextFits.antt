@@ -10,7 +10,7 @@ use Rattle.ti_layout.specs.Sizes.{HasSizes}
 use Rattle.ti_layout.proofs.Sizes.{limit-le}
 use Rattle.ti_compiled.specs.inside.Changes.{text_content}
 use Rattle.ti_compiled.specs.Image.{names_in, contents_in, with_content, IsImage}
-use Rattle.ti_compiled.specs.inside.Parts.{ended_text}
+use Rattle.ti_compiled.specs.inside.Bytes.{ended_text}
 use Rattle.ti_compiled.proofs.Counted.{count-put}
 use Rattle.ti_compiled.proofs.FlagPlaces.{length_sized}
 use Rattle.ti_compiled.proofs.TextPlaces.{offsets_from, texts_within}

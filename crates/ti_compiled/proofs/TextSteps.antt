@@ -1,4 +1,4 @@
--- An image in which a text changes is laid step by step.
+-- An image in which a text changes comes to be step by step.
 use Rattle.std.proofs.Common.{◌≡◌, ◌≢◌, ℕ, ◌+◌, ◌-◌, ◌*◌, ◌<◌, ◌≤◌, ◌==◌, if◌then◌else◌, cond, List, [], ◌++◌, length, Option, Some, None, refl, sym, ap, ◌∙◌, append_assoc, append-nil, eq-eqb, arith, inl, inr}
 use Rattle.std.proofs.lemmas.Bool.{cases_lt, cases_eq, ne_eqb}
 use Rattle.std.proofs.lemmas.List.{length-append}
@@ -10,13 +10,13 @@ use Rattle.ti_layout.specs.Image.{image, below, image_limit, of_kind, offset_val
 use Rattle.ti_layout.specs.Layout.{header, number_section}
 use Rattle.ti_layout.specs.Sizes.{HasSizes}
 use Rattle.ti_layout.specs.Values.{Content, content_true, content_number, content_text, content_cancelled, Contents, AgreesIfSome}
-use Rattle.ti_layout.proofs.Assembling.{header_laid}
+use Rattle.ti_layout.proofs.Assembling.{header_written}
 use Rattle.ti_layout.proofs.Below.{below-same}
 use Rattle.ti_layout.proofs.Spelled.{length-spelled}
 use Rattle.ti_layout.proofs.Below.{length-below}
 use Rattle.ti_compiled.specs.inside.Changes.{text_content}
 use Rattle.ti_compiled.specs.Image.{names_in, contents_in, with_content, IsImage}
-use Rattle.ti_compiled.specs.inside.Parts.{Replaces, with_length, offset_after, moved_later, ended_text}
+use Rattle.ti_compiled.specs.inside.Bytes.{Replaces, with_length, offset_after, moved_later, ended_text}
 use Rattle.ti_compiled.proofs.Moving.{moved_absent, moved_there, later_before, later_from}
 use Rattle.ti_compiled.proofs.Numbering.{resized-spelled}
 use Rattle.ti_compiled.proofs.TextChange.{piece_of, lengths_about, texts_about, texts_before}
@@ -153,6 +153,6 @@ module _ (b : List ℕ) (is : IsImage b) (h : Header) (has : HasSizes (names_in 
       let offsets : below (moved_later put (index + 1) removed added) k.texts ≡ below (offset_of g) (written_count g Text) =
       below-same (moved_later put (index + 1) removed added) (offset_of g) k.texts (λ j lt. each removed added er ea j) ∙ ap (below (offset_of g)) sizes.texts in
       replaces [] (head_of names c) rest (whole ∙ append_assoc (head_of names c) (middle names c) (o ++ (S ++ []))) refl (length_head names c)
-      ∙ ap (λ x. x ++ rest) (header_laid names g k sizes small)
+      ∙ ap (λ x. x ++ rest) (header_written names g k sizes small)
       ∙ ap (λ x. head_of names g ++ (middle names c ++ (number_section Legacy x ++ (S ++ [])))) offsets
       ∙ sym (text_frame names g)

@@ -1,16 +1,9 @@
 -- What a capability is given, by its kind, and what is held of it while values change (own).
-use Rattle.std.specs.Prelude.{◌≡◌, ℕ, ◌<◌, ◌≤◌, List, length, Option}
+use Rattle.std.specs.Prelude.{◌≡◌, ℕ, List, Option}
 use Rattle.ti_caps.specs.Tables.{Capability, IsCapability}
-use Rattle.ti_layout.specs.Image.{image, image_limit}
+use Rattle.ti_layout.specs.Image.{image, ImageFits, ImageIsTooLarge}
 use Rattle.ti_compiled.specs.Image.{names_in, contents_in, with_content}
-use Rattle.ti_layout.specs.Values.{Content, Contents}
-
--- the image of these names and contents is within its limit, or is over it
-abbrev pub ImageFits : List ℕ → Contents → Type 0
-ImageFits names contents = length (image names contents) ≤ image_limit contents
-
-abbrev pub IsOver : List ℕ → Contents → Type 0
-IsOver names contents = image_limit contents < length (image names contents)
+use Rattle.ti_layout.specs.Values.{Content}
 
 -- new bytes hold what the old ones do, with another content of a capability
 pub record HoldsGiven (old new : List ℕ) (cap : Capability) (content : Option Content) : Type 0 where
@@ -25,4 +18,4 @@ abbrev pub FitsWith : List ℕ → Capability → Option Content → Type 0
 FitsWith bytes cap content = ImageFits (names_in bytes) (with_content (contents_in bytes) cap content)
 
 abbrev pub IsOverWith : List ℕ → Capability → Option Content → Type 0
-IsOverWith bytes cap content = IsOver (names_in bytes) (with_content (contents_in bytes) cap content)
+IsOverWith bytes cap content = ImageIsTooLarge (names_in bytes) (with_content (contents_in bytes) cap content)

@@ -1,7 +1,7 @@
 // Parts of an entry's bytes that grow, shrink or are written over where they lie. The room for
 // them is there, so none of these takes memory.
 ghost use Rattle.std.specs.Prelude.{◌≡◌, ◌+◌, ◌≤◌, length, vec_len, vec_capacity};
-ghost use Rattle.ti_compiled.specs.inside.Parts.{with_bytes_in, with_bytes_out, with_length, Replaces};
+ghost use Rattle.ti_compiled.specs.inside.Bytes.{with_bytes_in, with_bytes_out, with_length, Replaces};
 
 // Puts as many bytes in at a place.
 fn open(bytes: &mut Vec<u8>, at: usize, count: usize, fill: u8)

@@ -4,12 +4,12 @@ ghost use Rattle.ti_text.specs.Limits.{names_max};
 ghost use Rattle.ti_caps.specs.declared.capability.Kind.TheVariants.{Text};
 ghost use Rattle.ti_layout.specs.Image.{image, image_limit, texts_below, written_count};
 ghost use Rattle.ti_layout.specs.Layout as layout;
-ghost use Rattle.ti_layout.specs.Layout.{number_bytes};
+ghost use Rattle.ti_layout.specs.Layout.{FitsTwoBytes, number_bytes};
 ghost use Rattle.ti_layout.specs.Sizes.{HasSizes};
 ghost use Rattle.ti_layout.specs.Values.{Contents, HasNoNul};
 ghost use Rattle.ti_compiled.specs.Image.{names_in, contents_in, IsImage};
 ghost use Rattle.ti_layout.specs.inside.Sections.{IsHeaderAt};
-ghost use Rattle.ti_compiled.specs.inside.Parts.{Replaces};
+ghost use Rattle.ti_compiled.specs.inside.Bytes.{Replaces};
 
 use crate::bytes::overwrite;
 use ti_layout::{Format, HEADER_SIZE, Header, WriteError, word};
@@ -58,10 +58,10 @@ pub fn names_of(bytes: &[u8]) -> &[u8]
 
 /// Makes room for an image of these sizes, where it is within its limit.
 pub fn make_room(bytes: &mut Vec<u8>, header: &Header) -> Result<(), WriteError>
-    requires names { header.now.names < 65536 }
-    requires flags { header.now.flags < 65536 }
-    requires numbers { header.now.numbers < 65536 }
-    requires texts { header.now.texts < 65536 }
+    requires names { FitsTwoBytes header.now.names }
+    requires flags { FitsTwoBytes header.now.flags }
+    requires numbers { FitsTwoBytes header.now.numbers }
+    requires texts { FitsTwoBytes header.now.texts }
     ensures items { bytes.new.items ≡ bytes.old.items }
     ensures room { (names : List ℕ) (c : Contents) → HasSizes names c header.now → OnOk result (length (image names c) ≤ vec_capacity bytes.new) }
     ensures within { (names : List ℕ) (c : Contents) → HasSizes names c header.now → OnOk result (length (image names c) ≤ image_limit c) }

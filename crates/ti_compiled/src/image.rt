@@ -3,10 +3,10 @@ ghost use Rattle.std.specs.Prelude.{None, ◌≡◌, ◌≢◌, ◌<◌, ◌≤�
 ghost use Rattle.ti_text.specs.Limits.{names_max, number_max};
 ghost use Rattle.ti_caps.specs.Tables.{Capability, IsCapability};
 ghost use Rattle.ti_caps.specs.declared.capability.Kind.TheVariants.{Flag, Number, Text};
-ghost use Rattle.ti_layout.specs.Image.{image, image_limit, HasNoNul};
+ghost use Rattle.ti_layout.specs.Image.{image, image_limit, HasNoNul, ImageFits};
 ghost use Rattle.ti_layout.specs.Laws.{without_cancel};
 ghost use Rattle.ti_layout.specs.Values.{content_of, contents, AgreesIfSome};
-ghost use Rattle.ti_compiled.specs.Changes.{image_with, FitsWith, HoldsGiven, IsOverWith, ImageFits};
+ghost use Rattle.ti_compiled.specs.Changes.{image_with, FitsWith, HoldsGiven, IsOverWith};
 ghost use Rattle.ti_compiled.specs.inside.Changes.{flag_content, number_content, text_lent, content_lent};
 ghost use Rattle.ti_compiled.specs.Image.{names_in, contents_in};
 
@@ -79,7 +79,7 @@ impl Image {
 
     /// The same entry with the values of another table: a copy in which first each value that changes
     /// is taken away and then the new ones are given. Where a number of either table is over 32,767, or
-    /// the copy gets no memory, the entry is laid anew.
+    /// the copy gets no memory, the entry is written anew.
     ///
     /// # Errors
     /// [`WriteError::TooLarge`] exactly where [`write`] answers it, and [`WriteError::Memory`].
@@ -94,7 +94,7 @@ impl Image {
     {
         match changed_copy(self, alloc, old, new) {
             Some(image) => {
-                image.is_laid();
+                image.is_image_within_limit();
                 Ok(image)
             }
             None => Image::new(alloc, names_of(&self.bytes), new),
@@ -102,7 +102,7 @@ impl Image {
     }
 
     // What is so of every image. It computes nothing.
-    fn is_laid(&self)
+    fn is_image_within_limit(&self)
         ensures whole { self.now ≡ image (names_in self.now) (contents_in self.now) }
         ensures within { ImageFits (names_in self.now) (contents_in self.now) }
     {

@@ -6,13 +6,13 @@ ghost use Rattle.ti_caps.specs.Tables.{capability, count_of};
 ghost use Rattle.ti_caps.specs.declared.capability.Kind.TheVariants.{Number};
 ghost use Rattle.ti_layout.specs.Image.{image, below, format_of};
 ghost use Rattle.ti_layout.specs.Layout as layout;
-ghost use Rattle.ti_layout.specs.Layout.{number_section, number_bytes};
+ghost use Rattle.ti_layout.specs.Layout.{FitsTwoBytes, number_section, number_bytes};
 ghost use Rattle.ti_layout.specs.Sizes.{HasSizes};
 ghost use Rattle.ti_layout.specs.Values.{Contents};
 ghost use Rattle.ti_compiled.specs.Changes.{image_with, FitsWith, IsOverWith};
 ghost use Rattle.ti_compiled.specs.inside.Changes.{number_content, wide_value, with_number, HasNumbers};
 ghost use Rattle.ti_compiled.specs.Image.{names_in, contents_in, IsImage};
-ghost use Rattle.ti_compiled.specs.inside.Parts.{Replaces};
+ghost use Rattle.ti_compiled.specs.inside.Bytes.{Replaces};
 
 use crate::bytes::{overwrite, resize_part};
 use crate::header::{header_of, make_room, write_header};
@@ -27,8 +27,8 @@ const ABSENT: u32 = u32::MAX;
 
 // Where the numbers begin.
 fn numbers_place(header: &Header) -> usize
-    requires names { header.now.names < 65536 }
-    requires flags { header.now.flags < 65536 }
+    requires names { FitsTwoBytes header.now.names }
+    requires flags { FitsTwoBytes header.now.flags }
     ensures { result ≡ layout.header_size + header.now.names + header.now.flags + (header.now.names + header.now.flags) % 2 }
 {
     HEADER_SIZE + header.names + header.flags + (header.names + header.flags) % 2

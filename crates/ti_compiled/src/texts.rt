@@ -5,13 +5,13 @@ ghost use Rattle.ti_caps.specs.Tables.{capability, count_of};
 ghost use Rattle.ti_caps.specs.declared.capability.Kind.TheVariants.{Text};
 ghost use Rattle.ti_layout.specs.Image.{image, below, texts_below};
 ghost use Rattle.ti_layout.specs.Layout as layout;
-ghost use Rattle.ti_layout.specs.Layout.{number_section};
+ghost use Rattle.ti_layout.specs.Layout.{FitsTwoBytes, number_section};
 ghost use Rattle.ti_layout.specs.Reading.{word_at};
 ghost use Rattle.ti_layout.specs.Sizes.{HasSizes};
 ghost use Rattle.ti_compiled.specs.Changes.{image_with, FitsWith, IsOverWith};
 ghost use Rattle.ti_compiled.specs.inside.Changes.{text_lent};
 ghost use Rattle.ti_compiled.specs.Image.{names_in, contents_in, with_content, IsImage};
-ghost use Rattle.ti_compiled.specs.inside.Parts.{Replaces, moved_later, ended_text};
+ghost use Rattle.ti_compiled.specs.inside.Bytes.{Replaces, moved_later, ended_text};
 
 use crate::bytes::{overwrite, resize_part};
 use crate::header::{header_of, make_room, word_bytes, write_header};
@@ -22,9 +22,9 @@ const ABSENT: usize = 0xffff;
 
 // Where the offsets begin.
 fn offsets_place(header: &Header) -> usize
-    requires names { header.now.names < 65536 }
-    requires flags { header.now.flags < 65536 }
-    requires numbers { header.now.numbers < 65536 }
+    requires names { FitsTwoBytes header.now.names }
+    requires flags { FitsTwoBytes header.now.flags }
+    requires numbers { FitsTwoBytes header.now.numbers }
     ensures { result ≡ layout.header_size + header.now.names + header.now.flags
         + (header.now.names + header.now.flags) % 2 + layout.width header.now.format * header.now.numbers }
 {

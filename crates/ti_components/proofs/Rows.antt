@@ -4,7 +4,8 @@ use Rattle.std.proofs.lemmas.List.{drop_all, take_rest, drop-append-le, take-app
 use Rattle.std.proofs.lemmas.List.Sums.{sum_by-cons}
 use Rattle.std.proofs.lemmas.Bool.{false≢true}
 use Rattle.std.proofs.lemmas.Option.{none-some, same_Some}
-use Rattle.ti_components.specs.Graph.{Rows, AddsEdge, row_from, rows_of, AreStarts, IsRow}
+use Rattle.ti_components.specs.inside.Graph.{IsRow}
+use Rattle.ti_components.specs.Graph.{Rows, AddsEdge, row_from, rows_of, AreStarts}
 
 pub length-rows_of : (targets : List (Option ℕ)) (starts : List ℕ) → length (rows_of targets starts) ≡ length starts
 length-rows_of targets [] = refl

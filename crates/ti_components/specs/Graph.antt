@@ -36,9 +36,3 @@ abbrev pub AreStarts : List (Option ℕ) → List ℕ → Type 0
 AreStarts targets [] = Unit {0}
 AreStarts targets (start ∷ []) = start ≤ length targets
 AreStarts targets (start ∷ (next ∷ starts)) = (start ≤ next) × AreStarts targets (next ∷ starts)
-
--- the row of node `node` is what stands from `start` to `end` among all edges
-pub record IsRow (targets : List (Option ℕ)) (starts : List ℕ) (node start end : ℕ) : Type 0 where
-  pub climbs : start ≤ end
-  pub within : end ≤ length targets
-  pub row : slice_get (rows_of targets starts) node ≡ Some (take (end - start) (drop start targets))

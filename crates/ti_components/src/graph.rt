@@ -1,6 +1,7 @@
 // A directed graph in two lists: the ends of all edges, and where the edges of each node begin.
 ghost use Rattle.std.specs.Prelude.{◌≡◌, ◌<◌, ◌↔◌, ◌++◌, ◌∷◌, [], ℕ, Some, slice_get, sum_by, length, IsTrue, OnOk, OnErr, IfOk};
-ghost use Rattle.ti_components.specs.Graph.{AddsEdge, AreStarts, IsGraph, IsRow};
+ghost use Rattle.ti_components.specs.inside.Graph.{IsRow};
+ghost use Rattle.ti_components.specs.Graph.{AddsEdge, AreStarts, IsGraph};
 
 use std::alloc::{AllocError, Global};
 use std::marker::Model;

@@ -3,7 +3,7 @@
 //!
 //! - `graph`: a graph, each node a row of edges
 //! - `components`: its components and their order
-//! - `laws`: what its numbers tell
+//! - `laws`: what its numbers say
 //! - `search`: the path search that finds them, without recursion
 #![tactic(auto)]
 

@@ -9,7 +9,8 @@ use Rattle.std.specs.List.{AllByRecursion}
 use Rattle.ti_devices.specs.Counted.{Observed}
 use Rattle.std.specs.Io.KnownBytes.{IsAtEnd}
 use Rattle.ti_devices.proofs.Written.{Consumes-then, Gives-then}
-use Rattle.ti_devices.specs.LineReader.{ReadsLine, Refills, SpendsReads, TakesLine, ahead_of, bytes_left, line_limit_of, last_line_of, reads_left_of}
+use Rattle.ti_devices.specs.inside.LineReader.{Refills, TakesLine}
+use Rattle.ti_devices.specs.LineReader.{ReadsLine, SpendsReads, ahead_of, bytes_left, line_limit_of, last_line_of, reads_left_of}
 use Rattle.ti_devices.specs.Lines.{IsOneLine, IsWithin, with_newline}
 use Rattle.ti_devices.specs.Reading.{Gives}
 use Rattle.ti_devices.specs.declared.line_reader.LineReader.{LineReader}

@@ -1,5 +1,5 @@
 -- Lines read from a device, one at a time (own).
-use Rattle.std.specs.Prelude.{◌≡◌, ℕ, ◌+◌, ◌*◌, ◌<◌, ◌≤◌, List, [], ◌++◌, length, Bool, true, false, Result, Ok, Err, ◌⊎◌}
+use Rattle.std.specs.Prelude.{◌≡◌, ℕ, ◌+◌, ◌*◌, ◌<◌, List, [], ◌++◌, length, Result, Ok, Err, ◌⊎◌}
 use Rattle.std.specs.Io.KnownBytes.{Consumes, IsAtEnd}
 use Rattle.ti_devices.specs.Counted.{Observed}
 use Rattle.ti_devices.specs.Lines.{IsOneLine, IsWithin, with_newline}
@@ -71,25 +71,3 @@ pub record SpendsReads (before now : LineReader) (given left : Observed) : Type 
 abbrev pub Advances : LineReader → LineReader → Result Next ToolError → Type 0
 Advances before now (Ok Line) = bytes_left now < bytes_left before
 Advances before now _ = Unit {0}
-
--- ---- a part of one line
-
--- what stands before the first newline of the bytes ahead was put behind the line, or all of them where there is none
-abbrev pub TakesLine : LineReader → LineReader → Result Bool ToolError → Type 0
-TakesLine before now (Ok true) =
-    (front : List ℕ) × (ahead_of before ≡ with_newline front ++ ahead_of now) × IsOneLine front × (last_line_of now ≡ last_line_of before ++ front)
-    × IsWithin (line_limit_of before) (last_line_of now)
-TakesLine before now (Ok false) =
-    IsOneLine (ahead_of before) × (ahead_of now ≡ []) × (last_line_of now ≡ last_line_of before ++ ahead_of before)
-    × IsWithin (line_limit_of before) (last_line_of now)
-TakesLine before now (Err error) =
-    (error ≡ LineTooLong) × (front : List ℕ) × (rest : List ℕ) × (ahead_of before ≡ front ++ rest) × IsOneLine front
-    × (line_limit_of before < length (last_line_of before ++ front))
-
--- one more read: the bytes ahead are those that came; none came only at the end; or no read was left, or it failed
-abbrev pub Refills : LineReader → LineReader → Observed → Observed → Result Bool ToolError → Type 0
-Refills before now given left (Ok true) =
-    Gives given left (ahead_of now) × (reads_left_of now + 1 ≡ reads_left_of before) × (bytes_left now ≤ bytes_left before)
-Refills before now given left (Ok false) = Gives given left [] × IsAtEnd left.bytes × (ahead_of now ≡ [])
-Refills before now given left (Err error) =
-    (error ≡ ReadFault) × Consumes given.bytes left.bytes [] × CannotRead now given left

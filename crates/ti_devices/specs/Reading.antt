@@ -1,5 +1,5 @@
 -- Bytes read from a device (own).
-use Rattle.std.specs.Prelude.{◌≡◌, ℕ, ◌+◌, ◌≤◌, List, [], length, take, Result, Ok, Err}
+use Rattle.std.specs.Prelude.{◌≡◌, ℕ, ◌+◌, ◌≤◌, List, length, take, Result, Ok, Err}
 use Rattle.std.specs.Io.KnownBytes.{Consumes, IsAtEnd, Keeps}
 use Rattle.ti_devices.specs.Counted.{Observed}
 use Rattle.ti_devices.specs.declared.tool_error.ToolError.{ToolError}
@@ -20,8 +20,3 @@ abbrev pub ReadsOnce : Observed → Observed → List ℕ → Result ℕ ToolErr
 ReadsOnce given left piece (Ok count) =
     (count ≤ length piece) × Gives given left (take count piece) × (count ≡ 0 → IsAtEnd left.bytes)
 ReadsOnce given left piece (Err error) = (error ≡ ReadFault) × FailsOnce given left
-
--- the same, where the front of the piece alone is kept: no byte where the read failed
-abbrev pub Refill : Observed → Observed → List ℕ → Result Unit ToolError → Type 0
-Refill given left came (Ok _) = Gives given left came × (came ≡ [] → IsAtEnd left.bytes)
-Refill given left came (Err error) = (error ≡ ReadFault) × FailsOnce given left

@@ -1,2 +1,4 @@
 -- Computed forms of what the other files define by relations, and words that only private functions and proofs use.
 pub mod Buffer
+pub mod LineReader
+pub mod Reading

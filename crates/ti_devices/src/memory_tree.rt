@@ -1,4 +1,4 @@
-//! A tree of files that is held in memory, and that fails when it is told to.
+//! A tree of files that is held in memory, and that fails at a call that is set.
 ghost use Rattle.std.specs.Prelude.{◌≡◌, ◌+◌, ◌<◌, IfErr, IfOk, OnErr, OnOk, Some, option_map};
 ghost use Rattle.ti_devices.specs.Tree.{FindsFile, Sets};
 ghost use Rattle.ti_devices.specs.declared.tree.TreeFault.TheVariants.{Failed};
@@ -20,13 +20,13 @@ pub struct MemTree {
 
 impl MemTree {
     ghost use Rattle.ti_devices.specs.Tree.{IsBare};
-    ghost use Rattle.ti_devices.specs.MemoryTree.{FailsWhereTold, SameFiles, due_of, failures_of, files_of};
+    ghost use Rattle.ti_devices.specs.MemoryTree.{FailsWhereSet, SameFiles, due_of, tree_failures_of, files_of};
 
     /// A tree without files, no call of which is to fail. Takes no memory.
     pub fn new(alloc: Global) -> MemTree
         ensures files { IsBare (files_of result) }
         ensures due { due_of result ≡ 0 }
-        ensures failures { failures_of result ≡ 0 }
+        ensures failures { tree_failures_of result ≡ 0 }
     {
         MemTree {
             alloc,
@@ -50,14 +50,14 @@ impl MemTree {
         requires { 0 < n }
         ensures due { due_of self.new ≡ n }
         ensures files { files_of self.new ≡ files_of self.old }
-        ensures failures { failures_of self.new ≡ failures_of self.old }
+        ensures failures { tree_failures_of self.new ≡ tree_failures_of self.old }
     {
         self.due = n;
     }
 
     // Counts one call, which fails where it was to.
     fn count_call(&mut self) -> Result<(), TreeFault>
-        ensures told { FailsWhereTold self.old self.new result }
+        ensures failing { FailsWhereSet self.old self.new result }
         ensures failed { IfErr result (λ fault. fault ≡ Failed) }
         ensures held { self.new.held ≡ self.old.held }
     {
@@ -93,7 +93,7 @@ impl MemTree {
             (Some (files_of self.new))) }
         ensures refused { OnErr result (SameFiles self.old self.new) }
         ensures due { due_of self.new ≡ due_of self.old }
-        ensures failures { failures_of self.new ≡ failures_of self.old }
+        ensures failures { tree_failures_of self.new ≡ tree_failures_of self.old }
     {
         let path = String::from_str(self.alloc, path)?;
         let bytes = Vec::from_slice(self.alloc, bytes)?;
@@ -103,11 +103,11 @@ impl MemTree {
 }
 
 impl Tree for MemTree {
-    ghost use Rattle.ti_devices.specs.MemoryTree.{FailsWhereTold, SameFiles, failures_of, files_of};
+    ghost use Rattle.ti_devices.specs.MemoryTree.{FailsWhereSet, SameFiles, tree_failures_of, files_of};
 
     ghost files = { λ tree. Some (files_of tree) };
 
-    ghost failures = { λ tree. failures_of tree };
+    ghost failures = { λ tree. tree_failures_of tree };
 
     fn read(
         &mut self,
@@ -118,7 +118,7 @@ impl Tree for MemTree {
         ensures found { IfOk result (λ found. FindsFile path.now (limit + 1) (Some (files_of self.old))
             (option_map (λ bytes. bytes.items) found)) }
         ensures kept { files_of self.new ≡ files_of self.old }
-        ensures told { FailsWhereTold self.old self.new result }
+        ensures failing { FailsWhereSet self.old self.new result }
     {
         self.count_call()?;
         match self.front(alloc, path, limit) {
@@ -131,7 +131,7 @@ impl Tree for MemTree {
         ensures written { OnOk result (Sets (path.now, bytes.now) (Some (files_of self.old))
             (Some (files_of self.new))) }
         ensures refused { OnErr result (SameFiles self.old self.new) }
-        ensures told { FailsWhereTold self.old self.new result }
+        ensures failing { FailsWhereSet self.old self.new result }
     {
         self.count_call()?;
         match self.insert(path, bytes) {

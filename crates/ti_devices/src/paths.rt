@@ -1,13 +1,14 @@
 //! Where the entries of terminals stand below a folder.
 ghost use Rattle.std.specs.Prelude.{◌≡◌, ◌<◌, ◌++◌, All, IfOk, OnOk, length};
 ghost use Rattle.std.specs.String.{string_bytes};
+ghost use Rattle.ti_text.specs.Ascii as ascii;
 ghost use Rattle.ti_devices.specs.Paths.{path_of};
 
 use std::alloc::{AllocError, Global};
 
 // Adds a name to a path. Its bytes are ASCII.
 fn push_name(path: &mut String, name: &[u8]) -> Result<(), AllocError>
-    requires { All (λ byte. byte < 128) name.now }
+    requires { All (λ byte. byte < ascii.size) name.now }
     ensures { OnOk result (string_bytes path.new ≡ string_bytes path.old ++ name.now) }
 {
     for byte in name {
@@ -22,7 +23,7 @@ fn push_name(path: &mut String, name: &[u8]) -> Result<(), AllocError>
 /// Want of memory.
 pub fn entry_path(alloc: Global, dir: &str, name: &[u8]) -> Result<String, AllocError>
     requires some { 0 < length name.now }
-    requires ascii { All (λ byte. byte < 128) name.now }
+    requires ascii { All (λ byte. byte < ascii.size) name.now }
     ensures { IfOk result (λ path. string_bytes path ≡ path_of dir.now name.now) }
 {
     let mut path = String::from_str(alloc, dir)?;

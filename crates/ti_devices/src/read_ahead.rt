@@ -1,7 +1,7 @@
 //! Bytes that were read at once and are used one after another.
 ghost use Rattle.std.specs.Prelude.{◌≡◌, ◌+◌, ◌-◌, ◌≤◌, [], ℕ, List, drop, length, take};
 ghost use Rattle.ti_devices.specs.Counted.{observation, reads_of};
-ghost use Rattle.ti_devices.specs.Reading.{Refill};
+ghost use Rattle.ti_devices.specs.inside.Reading.{Refill};
 
 use crate::counted::Counted;
 use crate::reading::read_piece;

@@ -3,7 +3,8 @@ use Rattle.std.proofs.Common.{◌≡◌, ℕ, zero, suc, ◌+◌, ◌<◌, ◌�
 use Rattle.std.proofs.lemmas.Bool.{cases_lt, cases_eq, cases_Bool, false≢true, eqb-true, eq-eqb}
 use Rattle.std.proofs.lemmas.List.Elements.{filter-append}
 use Rattle.std.proofs.lemmas.Option.{same_Some, none-some}
-use Rattle.ti_index.specs.Labels.{Has, AreKnown, AreLabelled, IsDistinct}
+use Rattle.ti_index.specs.inside.Labels.{AreLabelled}
+use Rattle.ti_index.specs.Labels.{Has, AreKnown, IsDistinct}
 use Rattle.ti_index.specs.Listing.{Lists, ListsBefore, ListsToo, ListsNoMore}
 use Rattle.ti_index.proofs.Placing.{before_told}
 use Rattle.ti_index.proofs.Lists.{get_back, take_get, drop_get}

@@ -2,7 +2,8 @@
 use Rattle.std.proofs.Common.{◌≡◌, ℕ, zero, suc, ◌+◌, ◌^◌, ◌<◌, ◌≤◌, ◌⊎◌, inl, inr, List, [], ◌∷◌, ◌++◌, length, set, Some, slice_get, refl, sym, ◌∙◌, ap, arith, length-set, length-append}
 use Rattle.std.specs.List.{insert, remove}
 use Rattle.std.proofs.lemmas.Option.{same_Some, none-some, slice_get_within}
-use Rattle.ti_index.specs.Labels.{Has, HasLabel, AreLabelled, FitsAt}
+use Rattle.ti_index.specs.inside.Labels.{HasLabel, AreLabelled, FitsAt}
+use Rattle.ti_index.specs.Labels.{Has}
 use Rattle.ti_index.specs.inside.Order.{IsOrder}
 use Rattle.ti_index.proofs.Lists.{get_front, get_last, push_cases, get-set_same, get-set_other, item_at}
 

@@ -2,7 +2,8 @@
 use Rattle.std.proofs.Common.{◌≡◌, ℕ, ◌+◌, ◌*◌, ◌^◌, ◌<◌, ◌≤◌, inl, inr, List, length, set, Some, slice_get, sym, ◌∙◌, ap, arith}
 use Rattle.std.proofs.lemmas.Bool.{cases_lt, cases_eq}
 use Rattle.std.proofs.lemmas.Option.{same_Some, slice_get_within}
-use Rattle.ti_index.specs.Labels.{IsDistinct, HasLabel, AreLabelled, IsGap, FitsAt}
+use Rattle.ti_index.specs.inside.Labels.{HasLabel, AreLabelled, IsGap, FitsAt}
+use Rattle.ti_index.specs.Labels.{IsDistinct}
 use Rattle.ti_index.proofs.Lists.{get-set_same, get-set_other, item_at}
 
 -- the first ids have labels that are multiples of the step

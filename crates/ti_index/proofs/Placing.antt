@@ -2,7 +2,8 @@
 use Rattle.std.proofs.Common.{◌≡◌, ℕ, ◌+◌, ◌<◌, ◌≤◌, inl, inr, List, length, get_or, Some, slice_get, sym, ◌∙◌, ap, arith}
 use Rattle.std.proofs.lemmas.Bool.{cases_lt, cases_eq}
 use Rattle.std.proofs.lemmas.Option.{same_Some, slice_get_within, slice_get-get_or}
-use Rattle.ti_index.specs.Labels.{Has, AreKnown, HasLabel, AreLabelled}
+use Rattle.ti_index.specs.inside.Labels.{HasLabel, AreLabelled}
+use Rattle.ti_index.specs.Labels.{Has, AreKnown}
 
 -- the id stands in the list, and between the bounds
 pub record IsBetween (ids : List ℕ) (id low high : ℕ) : Type 0 where

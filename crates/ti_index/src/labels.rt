@@ -1,6 +1,7 @@
 // Labels that rise along a list of ids, with room between for labels of ids that are put in.
 ghost use Rattle.std.specs.Prelude.{◌≡◌, ◌<◌, ◌≤◌, ◌*◌, ◌+◌, ◌^◌, ℕ, Some, slice_get, length, vec_len};
-ghost use Rattle.ti_index.specs.Labels.{AreKnown, AreLabelled, FitsAt, Has, IsDistinct, IsGap};
+ghost use Rattle.ti_index.specs.inside.Labels.{AreLabelled, FitsAt, IsGap};
+ghost use Rattle.ti_index.specs.Labels.{AreKnown, Has, IsDistinct};
 
 /// Labels stay below this.
 const LABEL_END: u64 = 1 << 63;

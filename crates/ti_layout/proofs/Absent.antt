@@ -1,9 +1,10 @@
--- A value laid for a capability, unless the capability has one.
+-- A value put for a capability, unless the capability has one.
 use Rattle.std.proofs.Common.{◌≡◌, Bool, true, false, if◌then◌else◌, List, Option, Some, None, refl, sym, ◌∙◌, ap, subst}
 use Rattle.std.specs.Option.{option_or}
 use Rattle.ti_caps.specs.Tables.{Capability, same_capability}
 use Rattle.ti_caps.proofs.Same.{same_capability-true}
-use Rattle.ti_layout.specs.Values.{Content, TableEntry, SetsOnly, contents}
+use Rattle.ti_layout.specs.inside.Values.{SetsOnly}
+use Rattle.ti_layout.specs.Values.{Content, TableEntry, contents}
 use Rattle.ti_layout.proofs.KeptEntries.{other_from_test}
 
 or_nothing : {X : Type 0} (o : Option X) → o ≡ option_or o None
@@ -11,9 +12,9 @@ or_nothing None = refl
 or_nothing (Some x) = refl
 
 -- the capability had none
-pub laid_in_gap : (old new : List TableEntry) (c : Capability) (x : Content) → contents old c ≡ None → SetsOnly old new c (Some x)
+pub added_in_gap : (old new : List TableEntry) (c : Capability) (x : Content) → contents old c ≡ None → SetsOnly old new c (Some x)
     → (d : Capability) → contents new d ≡ option_or (contents old d) (if same_capability c d then Some x else None)
-laid_in_gap old new c x none sets d = by_test (same_capability c d) refl
+added_in_gap old new c x none sets d = by_test (same_capability c d) refl
   where
     by_test : (b : Bool) → same_capability c d ≡ b → contents new d ≡ option_or (contents old d) (if b then Some x else None)
     by_test true e =
@@ -22,9 +23,9 @@ laid_in_gap old new c x none sets d = by_test (same_capability c d) refl
     by_test false e = sets.others d (λ same. other_from_test c d e (sym same)) ∙ or_nothing (contents old d)
 
 -- the capability had one, which stays
-pub laid_behind : (es : List TableEntry) (c : Capability) (there x : Content) → Some there ≡ contents es c
+pub added_behind : (es : List TableEntry) (c : Capability) (there x : Content) → Some there ≡ contents es c
     → (d : Capability) → contents es d ≡ option_or (contents es d) (if same_capability c d then Some x else None)
-laid_behind es c there x has d = by_test (same_capability c d) refl
+added_behind es c there x has d = by_test (same_capability c d) refl
   where
     by_test : (b : Bool) → same_capability c d ≡ b → contents es d ≡ option_or (contents es d) (if b then Some x else None)
     by_test true e =

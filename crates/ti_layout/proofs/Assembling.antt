@@ -67,9 +67,9 @@ module _ (field : List ℕ) (c : Contents) (h : Header) (has : HasSizes field c 
     pub strings_counted : h.strings ≡ length (texts_below c (written_count c Text))
     strings_counted = let s = has.strings in let t = table_small in omega arith
 
-    pub header_laid : header h.format h.names h.flags h.numbers h.texts h.strings
+    pub header_written : header h.format h.names h.flags h.numbers h.texts h.strings
         ≡ header (format_of c) (suc (length field)) (length (flags_below c (written_count c Flag))) (length (numbers_below (format_of c) c (written_count c Number))) (length (offsets_below c (written_count c Text))) (length (texts_below c (written_count c Text)))
-    header_laid =
+    header_written =
         same_header _ _ _ _ _ _ _ _ _ _ _ _ has.format has.names (has.flags ∙ sym (length-below _ (written_count c Flag))) (has.numbers ∙ sym (length-below _ (written_count c Number)))
         (has.texts ∙ sym (length-below _ (written_count c Text))) strings_counted
 
@@ -83,7 +83,7 @@ module _ (field : List ℕ) (c : Contents) (h : Header) (has : HasSizes field c 
         let numbers : number_section h.format (numbers_below h.format c (written_count c Number)) ≡ number_section w (numbers_below w c (written_count c Number)) = ap (λ f. number_section f (numbers_below f c (written_count c Number))) has.format in
         let gap : replicate {A = ℕ} ((h.names + h.flags) % 2) 0 ≡ even_gap field (written_count c Flag) = ap (λ n. replicate {A = ℕ} (n % 2) 0) (ap (λ n. n + h.flags) has.names ∙ ap (λ n. suc (length field) + n) has.flags) in
         let first : v1 ≡ header w (suc (length field)) (length (flags_below c (written_count c Flag))) (length (numbers_below w c (written_count c Number))) (length (offsets_below c (written_count c Text))) (length (texts_below c (written_count c Text))) =
-        e1 ∙ ap (λ x. x ++ header h.format h.names h.flags h.numbers h.texts h.strings) e0 ∙ header_laid in
+        e1 ∙ ap (λ x. x ++ header h.format h.names h.flags h.numbers h.texts h.strings) e0 ∙ header_written in
         e8 ∙ ap (λ x. x ++ texts_below c (written_count c Text))
         (e7 ∙ ap (λ x. x ++ number_section Legacy (offsets_below c (written_count c Text)))
         (e6 ∙ joined _ _ _ _ (e5 ∙ joined _ _ _ _ (e4 ∙ ap (λ x. x ++ flags_below c (written_count c Flag)) (e3 ∙ ap (λ x. x ++ 0 ∷ []) (e2 ∙ ap (λ x. x ++ field) first))) gap) numbers))

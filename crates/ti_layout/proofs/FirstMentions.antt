@@ -48,14 +48,14 @@ nothing_behind table xs c none = sym (ap (λ o. option_or (contents table c) o) 
 pub behind_nothing : (table : List TableEntry) (xs : List (Capability × Value)) (c : Capability) (said : Option Content) → xs ≡ [] → entries_of xs ≡ table → said ≡ option_or (contents table c) said
 behind_nothing table xs c said none is = sym (ap (λ o. option_or o said) (ap (λ es. contents es c) (sym is ∙ ap entries_of none) ∙ contents-none c))
 
--- what was laid, and one more value
+-- what was put, and one more value
 pub or_assoc : (a b o : Option Content) → option_or (option_or a b) o ≡ option_or a (option_or b o)
 or_assoc None b o = refl
 or_assoc (Some v) b o = refl
 
-pub laid_more : (table : List TableEntry) (xs : List (Capability × Value)) (x : Capability × Value) (c : Capability)
+pub added_more : (table : List TableEntry) (xs : List (Capability × Value)) (x : Capability × Value) (c : Capability)
     → contents (table ++ entries_of (xs ++ x ∷ [])) c ≡ option_or (contents (table ++ entries_of xs) c) (cond (same_capability x.0 c) (Some (content_of x.1)) None)
-laid_more table xs x c =
+added_more table xs x c =
     let e : TableEntry = (x.0, content_of x.1) in
     let end : entries_of (xs ++ x ∷ []) ≡ entries_of xs ++ e ∷ [] = map-append (λ (y : Capability × Value). (y.0, content_of y.1)) xs (x ∷ []) in
     contents-append table (entries_of (xs ++ x ∷ [])) c
@@ -64,9 +64,9 @@ laid_more table xs x c =
     ∙ ap (λ o. option_or o (contents (e ∷ []) c)) (sym (contents-append table (entries_of xs) c))
     ∙ ap (λ o. option_or (contents (table ++ entries_of xs) c) o) (contents-one e c)
 
--- all that was laid is in the table
-pub laid_all : (table : List TableEntry) (xs : List (Capability × Value)) (c : Capability) → xs ≡ [] → contents (table ++ entries_of xs) c ≡ contents table c
-laid_all table xs c none = contents-append table (entries_of xs) c ∙ sym (nothing_behind table xs c none)
+-- all that was put is in the table
+pub added_all : (table : List TableEntry) (xs : List (Capability × Value)) (c : Capability) → xs ≡ [] → contents (table ++ entries_of xs) c ≡ contents table c
+added_all table xs c none = contents-append table (entries_of xs) c ∙ sym (nothing_behind table xs c none)
 
 -- ---- the places of first mentions
 

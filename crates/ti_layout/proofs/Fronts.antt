@@ -8,7 +8,8 @@ use Rattle.std.proofs.lemmas.Option.{none-some}
 use Rattle.ti_caps.specs.Tables.{Capability, IsCapability, same_capability}
 use Rattle.ti_caps.proofs.Same.{same_capability-true}
 use Rattle.ti_layout.specs.declared.values.Value.{Value}
-use Rattle.ti_layout.specs.Values.{Content, TableEntry, Agrees, IsGapFor, IsKept, contents, content_of, entries_of, rank_at, rank_of}
+use Rattle.ti_layout.specs.inside.Values.{IsGapFor}
+use Rattle.ti_layout.specs.Values.{Content, TableEntry, Agrees, IsKept, contents, content_of, entries_of, rank_at, rank_of}
 use Rattle.ti_layout.specs.inside.Merging.{IsPastBoth}
 use Rattle.ti_layout.proofs.KeptEntries.{contents_nowhere, one_from_rank}
 use Rattle.ti_layout.proofs.Places.{nowhere, kept-insert, rank_read}

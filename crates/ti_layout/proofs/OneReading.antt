@@ -8,7 +8,7 @@ use Rattle.ti_layout.specs.Values.{Contents, HasNoNul}
 use Rattle.ti_layout.specs.declared.layout.Format.{Format}
 use Rattle.ti_layout.specs.declared.layout.Format.TheVariants.{Legacy, Extended}
 use Rattle.ti_layout.specs.Layout.{Sections, absent_mark, cancelled_mark, first_negative, number_section, width}
-use Rattle.ti_layout.specs.Reading.{AreSound, IsStoredNumber, IsOffset, Reads, contents_of, number_at, numbers_in, count_in, format_in, Refused, HasReadFault, HasBadCount, HasBadNames, HasBadFlag, HasBadNumber, HasBadOffset, HasEnd, rank, names_section, flags_section, numbers_section, offsets_section, strings_section}
+use Rattle.ti_layout.specs.Reading.{AreSound, IsStoredNumber, IsOffset, Reads, contents_of, number_at, numbers_in, count_in, format_in, FailsToRead, HasReadFault, HasBadCount, HasBadNames, HasBadFlag, HasBadNumber, HasBadOffset, HasEnd, rank, names_section, flags_section, numbers_section, offsets_section, strings_section}
 use Rattle.ti_layout.proofs.Spelled.{numbers-again, number_read, length-spelled, counted}
 use Rattle.ti_layout.proofs.Parts.{Found, found}
 
@@ -76,7 +76,7 @@ unrank-rank BadOffset = refl
 same_rank : (e f : ReadError) → rank e ≡ rank f → e ≡ f
 same_rank e f h = sym (unrank-rank e) ∙ ap unrank h ∙ unrank-rank f
 
-pub one_refusal : (b : List ℕ) (e f : ReadError) → Refused b e → Refused b f → e ≡ f
+pub one_refusal : (b : List ℕ) (e f : ReadError) → FailsToRead b e → FailsToRead b f → e ≡ f
 one_refusal b e f r s =
     elim (cases_lt (rank e) (rank f)) [
       | inl lt ↦ absurd (s.first e lt r.holds)
@@ -159,5 +159,5 @@ never_of b w s sound f BadOffset h =
 never : (b m : List ℕ) (c : Contents) (e : ReadError) → Reads b m c → HasReadFault b e → ⊥
 never b m c e r h = never_of b r.format r.sections r.sound (found_of b m c r) e h
 
-pub not_both : (b m : List ℕ) (c : Contents) (e : ReadError) → Reads b m c → Refused b e → ⊥
+pub not_both : (b m : List ℕ) (c : Contents) (e : ReadError) → Reads b m c → FailsToRead b e → ⊥
 not_both b m c e r s = never b m c e r s.holds

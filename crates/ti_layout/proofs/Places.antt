@@ -14,7 +14,8 @@ use Rattle.std.proofs.lemmas.List.Elements.{All-set, All-append, All-cons, All-t
 use Rattle.ti_caps.specs.Tables.{Capability, IsCapability}
 use Rattle.ti_layout.specs.declared.values.Value.{Value}
 use Rattle.ti_layout.specs.declared.values.Value.TheVariants.{True}
-use Rattle.ti_layout.specs.Values.{Content, content_true, TableEntry, Agrees, IsAt, IsGapFor, IsKept, SetsOnly, contents, content_of, entries_of, rank_at, rank_of}
+use Rattle.ti_layout.specs.inside.Values.{IsAt, IsGapFor, SetsOnly}
+use Rattle.ti_layout.specs.Values.{Content, content_true, TableEntry, Agrees, IsKept, contents, content_of, entries_of, rank_at, rank_of}
 use Rattle.ti_layout.proofs.KeptEntries.{Elsewhere, Nowhere, Says, one_from_rank, contents_here, contents_nowhere, says-set, says-insert, says-remove, same_from_one, test_from_other}
 
 -- the rank that a place has is that of the capability there

@@ -6,7 +6,7 @@ use Rattle.ti_layout.specs.declared.fault.ReadError.{ReadError}
 use Rattle.ti_layout.specs.declared.fault.ReadError.TheVariants.{Short, Magic, Counts, Truncated, BadNames, BadFlag, BadNumber, BadOffset}
 use Rattle.ti_layout.specs.declared.sections.Sections.{Sections}
 use Rattle.ti_layout.specs.Layout.{cancelled_mark, magic, first_negative}
-use Rattle.ti_layout.specs.Reading.{IsStoredNumber, format_in, names_section, flags_section, numbers_section, strings_section, HasBadCount, HasBadNames, HasBadFlag, HasBadNumber, HasBadOffset, HasReadFault, Refused, rank}
+use Rattle.ti_layout.specs.Reading.{IsStoredNumber, format_in, names_section, flags_section, numbers_section, strings_section, HasBadCount, HasBadNames, HasBadFlag, HasBadNumber, HasBadOffset, HasReadFault, FailsToRead, rank}
 use Rattle.ti_layout.specs.inside.Sections.{AreNames, AreFlags, AreStoredNumbers, IsCutIntoSections}
 
 known_magic : (w : Format) (n : ℕ) → n ≡ magic w → n ≢ magic Legacy → n ≢ magic Extended → ⊥
@@ -59,26 +59,26 @@ none_before b s cut n most names flags numbers BadOffset lt h = omega (arith, lt
 numbers_of : (b : List ℕ) (s : Sections) → IsCutIntoSections b s → AreStoredNumbers s.format s.numbers.now → AreStoredNumbers (format_in b) (numbers_section b)
 numbers_of b s cut numbers = subst (λ (x : Format). AreStoredNumbers x (numbers_section b)) cut.format (subst (λ (x : List ℕ). AreStoredNumbers s.format x) cut.numbers numbers)
 
-pub refused_names : (b : List ℕ) (s : Sections) → IsCutIntoSections b s → HasBadNames s.names.now → Refused b BadNames
+pub refused_names : (b : List ℕ) (s : Sections) → IsCutIntoSections b s → HasBadNames s.names.now → FailsToRead b BadNames
 refused_names b s cut bad = record {
   holds = subst HasBadNames cut.names bad;
   first = none_before b s cut 5 (omega arith) (λ (n : 5 < 5). absurd (omega (arith, n))) (λ (n : 6 < 5). absurd (omega (arith, n))) (λ (n : 7 < 5). absurd (omega (arith, n)));
 }
 
-pub refused_flags : (b : List ℕ) (s : Sections) → IsCutIntoSections b s → AreNames s.names.now → HasBadFlag s.flags.now → Refused b BadFlag
+pub refused_flags : (b : List ℕ) (s : Sections) → IsCutIntoSections b s → AreNames s.names.now → HasBadFlag s.flags.now → FailsToRead b BadFlag
 refused_flags b s cut names bad = record {
   holds = subst HasBadFlag cut.flags bad;
   first = none_before b s cut 6 (omega arith) (λ (_ : 5 < 6). subst AreNames cut.names names) (λ (n : 6 < 6). absurd (omega (arith, n))) (λ (n : 7 < 6). absurd (omega (arith, n)));
 }
 
-pub refused_numbers : (b : List ℕ) (s : Sections) → IsCutIntoSections b s → AreNames s.names.now → AreFlags s.flags.now → HasBadNumber s.format s.numbers.now → Refused b BadNumber
+pub refused_numbers : (b : List ℕ) (s : Sections) → IsCutIntoSections b s → AreNames s.names.now → AreFlags s.flags.now → HasBadNumber s.format s.numbers.now → FailsToRead b BadNumber
 refused_numbers b s cut names flags bad = record {
   holds = subst (λ (x : Format). HasBadNumber x (numbers_section b)) cut.format (subst (λ (x : List ℕ). HasBadNumber s.format x) cut.numbers bad);
   first = none_before b s cut 7 (omega arith) (λ (_ : 5 < 7). subst AreNames cut.names names) (λ (_ : 6 < 7). subst AreFlags cut.flags flags) (λ (n : 7 < 7). absurd (omega (arith, n)));
 }
 
 -- the offsets are looked through last
-pub refused_offsets : (b : List ℕ) (s : Sections) → IsCutIntoSections b s → AreNames s.names.now → AreFlags s.flags.now → AreStoredNumbers s.format s.numbers.now → HasBadOffset s.offsets.now s.strings.now → Refused b BadOffset
+pub refused_offsets : (b : List ℕ) (s : Sections) → IsCutIntoSections b s → AreNames s.names.now → AreFlags s.flags.now → AreStoredNumbers s.format s.numbers.now → HasBadOffset s.offsets.now s.strings.now → FailsToRead b BadOffset
 refused_offsets b s cut names flags numbers bad = record {
   holds = subst (λ (x : List ℕ). HasBadOffset x (strings_section b)) cut.offsets (subst (λ (x : List ℕ). HasBadOffset s.offsets.now x) cut.strings bad);
   first = none_before b s cut 8 (omega arith) (λ (_ : 5 < 8). subst AreNames cut.names names) (λ (_ : 6 < 8). subst AreFlags cut.flags flags) (λ (_ : 7 < 8). numbers_of b s cut numbers);

@@ -10,7 +10,8 @@ use Rattle.ti_caps.specs.declared.capability.Kind.TheVariants.{Flag, Number, Tex
 use Rattle.ti_layout.specs.declared.layout.Format.{Format}
 use Rattle.ti_layout.specs.declared.layout.Format.TheVariants.{Legacy}
 use Rattle.ti_layout.specs.declared.values.Value.{Value}
-use Rattle.ti_layout.specs.Values.{Content, content_true, content_number, content_text, content_cancelled, TableEntry, Agrees, IsAt, IsKept, contents, content_of, entries_of}
+use Rattle.ti_layout.specs.inside.Values.{IsAt}
+use Rattle.ti_layout.specs.Values.{Content, content_true, content_number, content_text, content_cancelled, TableEntry, Agrees, IsKept, contents, content_of, entries_of}
 use Rattle.ti_layout.specs.Layout.{absent_mark, number_bytes, number_section, width}
 use Rattle.ti_layout.specs.Image.{is_there, of_kind, written_count, flag_value, number_value, offset_value, text_piece, flags_below, numbers_below, offsets_below, texts_below, below}
 use Rattle.ti_layout.proofs.KeptEntries.{contents_here}

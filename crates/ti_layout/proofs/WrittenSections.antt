@@ -1,4 +1,4 @@
--- What the writer has laid of a section when its walk has come past some of the entries, and what one more entry adds.
+-- What the writer has written of a section when its walk has come past some of the entries, and what one more entry adds.
 use Rattle.std.proofs.Common.{◌≡◌, ℕ, ◌+◌, ◌-◌, ◌*◌, ◌<◌, ◌≤◌, true, false, List, [], ◌∷◌, ◌++◌, length, get_or, replicate, refl, sym, ap, ◌∙◌, subst, arith, append-nil, append_assoc, length-append}
 use Rattle.std.proofs.lemmas.List.{length-map}
 use Rattle.ti_caps.specs.Tables.{Capability}
@@ -19,7 +19,7 @@ use Rattle.ti_layout.proofs.Spelled.{spelled-none}
 use Rattle.ti_layout.proofs.Texts.{texts-none}
 use Rattle.ti_layout.proofs.Walked.{Walked, is_of, walked-start, walked-there, walked-past, walked-end, places_behind, next_flag, next_number, next_offset, next_text, text_fits, item_read, grown}
 
--- ---- what is laid so far
+-- ---- what is written so far
 
 pub record HasFlags (es : List TableEntry) (start image : List ℕ) (k places : ℕ) : Type 0 where
   pub walked : Walked es Flag k places
@@ -129,8 +129,8 @@ module _ (xs : List (Capability × Value)) (kept : IsKept (entries_of xs)) (k pl
       subst (Walked (entries_of xs) kind (k + 1)) {x = x.0.index + 1} (omega arith) (walked-there (entries_of xs) kept kind k places walked in_range (x.0, content_of x.1) read is)
 
   module _ (start v0 v1 v2 : List ℕ) (first next index : ℕ) (i1 : first ≡ x.0.index) (i2 : index ≡ x.0.index) (n : next ≡ index + 1) where
-    pub flag_laid : x.1 ≡ True → HasFlags (entries_of xs) start v0 k places → v1 ≡ v0 ++ replicate (first - places) 0 → v2 ≡ v1 ++ 1 ∷ [] → HasFlags (entries_of xs) start v2 (k + 1) next
-    flag_laid value has fill push =
+    pub flag_put : x.1 ≡ True → HasFlags (entries_of xs) start v0 k places → v1 ≡ v0 ++ replicate (first - places) 0 → v2 ≡ v1 ++ 1 ∷ [] → HasFlags (entries_of xs) start v2 (k + 1) next
+    flag_put value has fill push =
         let c = ap content_of value in
         let e : next ≡ x.0.index + 1 = omega arith in
         record {
@@ -139,9 +139,9 @@ module _ (xs : List (Capability × Value)) (kept : IsKept (entries_of xs)) (k pl
               (ap (flags_below (contents (entries_of xs))) e ∙ next_flag (entries_of xs) kept k places in_range (x.0, content_of x.1) read has.walked c);
         }
 
-    pub number_laid : (w : Format) (size m : ℕ) → x.1 ≡ v.Number m → HasNumbers w (entries_of xs) start v0 k places → size ≡ width w → v1 ≡ v0 ++ replicate (size * (first - places)) 255 → v2 ≡ v1 ++ number_bytes w m
+    pub number_put : (w : Format) (size m : ℕ) → x.1 ≡ v.Number m → HasNumbers w (entries_of xs) start v0 k places → size ≡ width w → v1 ≡ v0 ++ replicate (size * (first - places)) 255 → v2 ≡ v1 ++ number_bytes w m
         → HasNumbers w (entries_of xs) start v2 (k + 1) next
-    number_laid w size m value has wide fill push =
+    number_put w size m value has wide fill push =
         let c = ap content_of value in
         let e : next ≡ x.0.index + 1 = omega arith in
         record {
@@ -150,9 +150,9 @@ module _ (xs : List (Capability × Value)) (kept : IsKept (entries_of xs)) (k pl
               (ap (λ j. number_section w (numbers_below w (contents (entries_of xs)) j)) e ∙ next_number (entries_of xs) kept k places in_range (x.0, content_of x.1) read w m has.walked c);
         }
 
-    pub offset_laid : (t : List ℕ) (offset more : ℕ) → content_of x.1 ≡ content_text t → HasOffsets (entries_of xs) start v0 k places offset → v1 ≡ v0 ++ replicate (2 * (first - places)) 255 → v2 ≡ v1 ++ number_bytes Legacy offset
+    pub offset_put : (t : List ℕ) (offset more : ℕ) → content_of x.1 ≡ content_text t → HasOffsets (entries_of xs) start v0 k places offset → v1 ≡ v0 ++ replicate (2 * (first - places)) 255 → v2 ≡ v1 ++ number_bytes Legacy offset
         → more ≡ offset + (length t + 1) → HasOffsets (entries_of xs) start v2 (k + 1) next more
-    offset_laid t offset more c has fill push sum =
+    offset_put t offset more c has fill push sum =
         let e : next ≡ x.0.index + 1 = omega arith in
         let text = next_text (entries_of xs) kept k places in_range (x.0, content_of x.1) read t has.walked c in
         let size = text_length (texts_below (contents (entries_of xs)) places) t in
@@ -169,8 +169,8 @@ module _ (xs : List (Capability × Value)) (kept : IsKept (entries_of xs)) (k pl
       → offset + (length t + 1) ≤ length (texts_below (contents (entries_of xs)) (written_count (contents (entries_of xs)) Text))
   text_within t offset c walked e = let fits = text_fits (entries_of xs) kept k places in_range (x.0, content_of x.1) read t walked c in omega arith
 
-  pub text_laid : (start v0 v1 v2 t : List ℕ) → content_of x.1 ≡ content_text t → Walked (entries_of xs) Text k places → v0 ≡ start ++ texts_below (contents (entries_of xs)) places → v1 ≡ v0 ++ t → v2 ≡ v1 ++ 0 ∷ [] → HasTexts (entries_of xs) start v2 (k + 1)
-  text_laid start v0 v1 v2 t c walked so_far push nul = record {
+  pub text_put : (start v0 v1 v2 t : List ℕ) → content_of x.1 ≡ content_text t → Walked (entries_of xs) Text k places → v0 ≡ start ++ texts_below (contents (entries_of xs)) places → v1 ≡ v0 ++ t → v2 ≡ v1 ++ 0 ∷ [] → HasTexts (entries_of xs) start v2 (k + 1)
+  text_put start v0 v1 v2 t c walked so_far push nul = record {
     places = x.0.index + 1;
     walked = stepped Text (x.0.index + 1) x.0.index walked (ap (is_of Text) c) refl refl;
     so_far = text_grown start _ t v0 v1 v2 so_far push nul ∙ ap (λ u. start ++ u) (sym (next_text (entries_of xs) kept k places in_range (x.0, content_of x.1) read t walked c));

@@ -1,7 +1,7 @@
 -- The bytes of a compiled entry as they are written (term(5)): the layout of a names field and of what the capabilities have.
 use Rattle.ti_text.specs.Ascii as ascii
 use Rattle.ti_text.specs.Limits.{legacy_number_max}
-use Rattle.std.specs.Prelude.{ℕ, zero, suc, ◌+◌, ◌%◌, Bool, true, false, nat_lt, if◌then◌else◌, List, [], ◌∷◌, ◌++◌, length, replicate, Option, Some, None}
+use Rattle.std.specs.Prelude.{ℕ, zero, suc, ◌+◌, ◌<◌, ◌≤◌, ◌%◌, Bool, true, false, nat_lt, if◌then◌else◌, List, [], ◌∷◌, ◌++◌, length, replicate, Option, Some, None}
 use Rattle.ti_caps.specs.Tables.{capability, count_of}
 use Rattle.ti_caps.specs.declared.capability.Kind.{Kind}
 use Rattle.ti_caps.specs.declared.capability.Kind.TheVariants.{Flag, Number, Text}
@@ -121,7 +121,7 @@ offsets_below contents n = below (λ i. offset_value (length (texts_below conten
 
 -- the zero byte where the names with their NUL and the flags are an odd number of bytes
 abbrev pub even_gap : List ℕ → ℕ → List ℕ
-even_gap names flags = replicate ((suc (length names) + flags) % 2) 0
+even_gap names flags = replicate ((suc (length names) + flags) % 2) ascii.nul
 
 -- each count stops at the last that is there; the texts lie in table order, without sharing
 abbrev pub sections_of : Format → List ℕ → Contents → Sections
@@ -138,3 +138,10 @@ sections_of format names contents = record {
 -- The compiled entry of a names field and of what the capabilities have.
 unfoldable pub image : List ℕ → Contents → List ℕ
 image names contents = entry_bytes (format_of contents) (sections_of (format_of contents) names contents)
+
+-- the image of these names and contents is within its limit, or is over it
+abbrev pub ImageFits : List ℕ → Contents → Type 0
+ImageFits names contents = length (image names contents) ≤ image_limit contents
+
+abbrev pub ImageIsTooLarge : List ℕ → Contents → Type 0
+ImageIsTooLarge names contents = image_limit contents < length (image names contents)

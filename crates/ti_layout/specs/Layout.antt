@@ -2,9 +2,13 @@
 -- sections that they size. The two formats differ in the first number and in the bytes that the number of a capability takes.
 use Rattle.ti_text.specs.Ascii as ascii
 use Rattle.ti_text.specs.Limits.{entry_max, extended_entry_max}
-use Rattle.std.specs.Prelude.{ℕ, suc, ◌+◌, ◌*◌, ◌/◌, ◌%◌, List, [], ◌∷◌, ◌++◌, length}
+use Rattle.std.specs.Prelude.{ℕ, suc, ◌<◌, ◌+◌, ◌*◌, ◌/◌, ◌%◌, List, [], ◌∷◌, ◌++◌, length}
 use Rattle.ti_layout.specs.declared.layout.Format.{Format}
 use Rattle.ti_layout.specs.declared.layout.Format.TheVariants.{Legacy, Extended}
+
+-- two bytes can hold the number, as each of the header's
+abbrev pub FitsTwoBytes : ℕ → Type 0
+FitsTwoBytes number = number < 65536
 
 -- ---- the two formats
 

@@ -35,9 +35,13 @@ numbers_in format section = below (λ i. number_at format (width format * i) sec
 
 -- ---- what may stand in a section
 
+-- the byte of -2, which stands for a cancelled flag of old writers; that of -1, the greatest byte, stands for an absent one
+abbrev pub cancelled_flag : ℕ
+cancelled_flag = 254
+
 -- 0 and 1, and the absent and cancelled of old writers
 abbrev pub IsFlagByte : ℕ → Type 0
-IsFlagByte b = (b < 2) ⊎ (254 ≤ b)
+IsFlagByte b = (b < 2) ⊎ (cancelled_flag ≤ b)
 
 -- not negative as a signed number
 abbrev pub IsPlain : Format → ℕ → Type 0
@@ -190,7 +194,7 @@ HasBadNames names =
 
 -- a byte that is neither 0 nor 1, nor the absent or cancelled of old writers
 abbrev pub HasBadFlag : List ℕ → Type 0
-HasBadFlag flags = (k : ℕ) × (k < length flags) × (2 ≤ slice_index flags k) × (slice_index flags k < 254)
+HasBadFlag flags = (k : ℕ) × (k < length flags) × (2 ≤ slice_index flags k) × (slice_index flags k < cancelled_flag)
 
 -- some number of a section
 abbrev pub SomeNumber : Format → List ℕ → (ℕ → Type 0) → Type 0
@@ -228,7 +232,7 @@ rank BadNumber = 7
 rank BadOffset = 8
 
 -- the refusal holds, and none before it does
-pub record Refused (bytes : List ℕ) (error : ReadError) : Type 0 where
+pub record FailsToRead (bytes : List ℕ) (error : ReadError) : Type 0 where
   pub holds : HasReadFault bytes error
   pub first : (earlier : ReadError) → rank earlier < rank error → ¬ HasReadFault bytes earlier
 
@@ -236,5 +240,5 @@ pub record Refused (bytes : List ℕ) (error : ReadError) : Type 0 where
 abbrev pub EntriesHaveOneReading : Type 0
 EntriesHaveOneReading =
     ((bytes m n : List ℕ) (c d : Contents) → Reads bytes m c → Reads bytes n d → (m ≡ n) × (c ≡ d))
-    × ((bytes : List ℕ) (e f : ReadError) → Refused bytes e → Refused bytes f → e ≡ f)
-    × ((bytes names : List ℕ) (c : Contents) (e : ReadError) → Reads bytes names c → Refused bytes e → ⊥)
+    × ((bytes : List ℕ) (e f : ReadError) → FailsToRead bytes e → FailsToRead bytes f → e ≡ f)
+    × ((bytes names : List ℕ) (c : Contents) (e : ReadError) → Reads bytes names c → FailsToRead bytes e → ⊥)

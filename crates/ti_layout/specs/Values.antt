@@ -1,10 +1,9 @@
 -- What an entry has of a capability (term(5)), apart from where it lies in memory.
 use Rattle.ti_text.specs.Limits.{number_max}
-use Rattle.std.specs.Prelude.{◌≡◌, ◌≢◌, ℕ, ◌+◌, ◌<◌, ◌≤◌, if◌then◌else◌, List, [], ◌∷◌, map, length, slice_index, slice_index_or, All, Option, Some, None}
+use Rattle.std.specs.Prelude.{◌≡◌, ℕ, ◌+◌, ◌<◌, ◌≤◌, if◌then◌else◌, List, [], ◌∷◌, map, length, slice_index, All, Option, Some, None}
 use Rattle.std.specs.Rc.{rc_slice_items}
 pub use Rattle.ti_text.specs.Texts.{HasNoNul}
 use Rattle.ti_caps.specs.Tables.{Capability, IsCapability, rank_in, same_capability}
-use Rattle.ti_caps.specs.declared.capability.Kind.{Kind}
 use Rattle.ti_caps.specs.declared.capability.Kind.TheVariants.{Flag, Number, Text}
 use Rattle.ti_layout.specs.declared.values.Value.{Value}
 use Rattle.ti_layout.specs.declared.values.Value.TheVariants.{True, Cancelled}
@@ -67,19 +66,3 @@ rank_at es i = slice_index (map (λ e. rank_of e.0) es) i
 pub record IsKept (es : List TableEntry) : Type 0 where
   pub rises : (i j : ℕ) → i < j → j < length es → rank_at es i < rank_at es j
   pub agree : All (λ e. IsCapability e.0 × Agrees e.0 e.1) es
-
--- the capability stands at place i
-pub record IsAt (es : List TableEntry) (c : Capability) (i : ℕ) : Type 0 where
-  pub in_range : i < length es
-  pub is_here : (e : TableEntry) → (slice_index_or es i e).0 ≡ c
-
--- the capability would stand at place i
-pub record IsGapFor (es : List TableEntry) (c : Capability) (i : ℕ) : Type 0 where
-  pub in_range : i ≤ length es
-  pub before : (j : ℕ) → j < i → rank_at es j < rank_of c
-  pub after : (j : ℕ) → i ≤ j → j < length es → rank_of c < rank_at es j
-
--- the new entries give the capability this content, and say of every other one what the old ones say
-pub record SetsOnly (old new : List TableEntry) (c : Capability) (content : Option Content) : Type 0 where
-  pub this_one : contents new c ≡ content
-  pub others : (d : Capability) → d ≢ c → contents new d ≡ contents old d

@@ -13,6 +13,15 @@ names_of v = v.names.now
 abbrev pub view_contents : View → Contents
 view_contents v = contents_of v.format v.flags.now (numbers_in v.format v.numbers.now) (numbers_in Legacy v.offsets.now) v.strings.now
 
+-- an entry: its names field, and what it has of each capability
+pub record Entry : Type 0 where
+  pub names : List ℕ
+  pub contents : Contents
+
+-- the entry that a view shows
+abbrev pub shown_entry : View → Entry
+shown_entry view = record { names = names_of view; contents = view_contents view }
+
 -- whether a flag is set
 abbrev pub shown_flag : Option Content → Bool
 shown_flag (Some content_true) = true

@@ -3,3 +3,4 @@ pub mod Sections
 pub mod Mentions
 pub mod Merging
 pub mod Sound
+pub mod Values

@@ -88,10 +88,10 @@ pub struct Header {
 impl Header {
     /// The bytes of an entry with this header; the greatest number where they are more.
     pub fn size(&self) -> usize
-        requires names { self.now.names < 65536 }
-        requires flags { self.now.flags < 65536 }
-        requires numbers { self.now.numbers < 65536 }
-        requires texts { self.now.texts < 65536 }
+        requires names { layout.FitsTwoBytes self.now.names }
+        requires flags { layout.FitsTwoBytes self.now.flags }
+        requires numbers { layout.FitsTwoBytes self.now.numbers }
+        requires texts { layout.FitsTwoBytes self.now.texts }
         ensures { result ≡ at_most_max (layout.entry_size self.now.format self.now.names self.now.flags self.now.numbers self.now.texts self.now.strings) }
     {
         let gap = (self.names + self.flags) % 2;

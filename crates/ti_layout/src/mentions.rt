@@ -131,7 +131,8 @@ impl Mentions {
         })
     }
 
-    /// One more mention, behind the others: it decides where none of them is of the same capability. The kinds agree, a number is at most 2,147,483,647 and a text holds no NUL.
+    /// One more mention, behind the others: it decides where none of them is of the same capability. The kinds
+    /// agree, a number is at most 2,147,483,647 and a text holds no NUL.
     pub fn push(&mut self, cap: Cap, value: Value) -> Result<(), AllocError>
         requires { Agrees cap (content_of value) }
         ensures { OnOk result ((c : Capability) → IsCapability c → contents self.new c

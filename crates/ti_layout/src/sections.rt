@@ -1,7 +1,7 @@
 // The sections of a compiled entry: cut by the header's numbers, and each looked through once.
 ghost use Rattle.std.specs.Prelude.{◌≡◌, ◌+◌, ◌*◌, ◌<◌, ◌≤◌, length, MatchBool, IfOk, IfErr};
 ghost use Rattle.ti_layout.specs.Layout as layout;
-ghost use Rattle.ti_layout.specs.Reading.{word_at, number_at, Refused, HasBadNames, HasBadFlag, HasBadNumber, HasBadOffset};
+ghost use Rattle.ti_layout.specs.Reading.{word_at, number_at, FailsToRead, HasBadNames, HasBadFlag, HasBadNumber, HasBadOffset};
 ghost use Rattle.ti_layout.specs.inside.Sections.{HasHeader, IsCutIntoSections, AreNames, AreFlags, AreStoredNumbers, AreOffsets};
 
 use crate::fault::ReadError;
@@ -56,7 +56,7 @@ pub fn number(bytes: &[u8], at: usize, format: Format) -> u32
 /// The header's numbers, or the first of Short, Magic and Counts that holds.
 fn read_header(bytes: &[u8]) -> Result<Header, ReadError>
     ensures found { IfOk result (λ h. HasHeader bytes.now h) }
-    ensures refused { IfErr result (λ e. Refused bytes.now e) }
+    ensures refused { IfErr result (λ e. FailsToRead bytes.now e) }
 {
     if bytes.len() < HEADER_SIZE {
         return Err(ReadError::Short);
@@ -88,7 +88,7 @@ fn read_header(bytes: &[u8]) -> Result<Header, ReadError>
 /// The sections, or the first of Short, Magic, Counts and Truncated that holds.
 pub fn cut(bytes: &[u8]) -> Result<Sections<'_>, ReadError>
     ensures found { IfOk result (λ s. IsCutIntoSections bytes.now s) }
-    ensures refused { IfErr result (λ e. Refused bytes.now e) }
+    ensures refused { IfErr result (λ e. FailsToRead bytes.now e) }
 {
     let header = read_header(bytes)?;
     let end = header.size();

@@ -2,7 +2,8 @@
 ghost use Rattle.std.specs.Prelude.{◌≡◌, ◌≢◌, Option, Some, None, option_map, OnOk, OnErr, IfOk, IfErr, IfSome, IsNone, IsOk, IsSome, if◌then◌else◌};
 ghost use Rattle.std.specs.Option.{option_or};
 ghost use Rattle.ti_caps.specs.Tables.{Capability, IsCapability, same_capability};
-ghost use Rattle.ti_layout.specs.Values.{contents, content_of, entries_of, rank_of, Agrees, AgreesIfSome, IsAt, IsGapFor, IsKept, SetsOnly};
+ghost use Rattle.ti_layout.specs.inside.Values.{IsAt, IsGapFor, SetsOnly};
+ghost use Rattle.ti_layout.specs.Values.{contents, content_of, entries_of, rank_of, Agrees, AgreesIfSome, IsKept};
 
 use crate::merging::merge;
 use std::alloc::{AllocError, Global};

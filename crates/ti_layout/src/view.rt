@@ -5,7 +5,7 @@ ghost use Rattle.std.specs.Option.{option_copied};
 ghost use Rattle.ti_caps.specs.declared.capability.Kind.TheVariants.{Flag, Number, Text};
 ghost use Rattle.ti_layout.specs.Layout.{first_negative};
 ghost use Rattle.ti_layout.specs.declared.layout.Format.TheVariants.{Legacy};
-ghost use Rattle.ti_layout.specs.Reading.{Reads, Refused};
+ghost use Rattle.ti_layout.specs.Reading.{Reads, FailsToRead};
 ghost use Rattle.ti_layout.specs.inside.Sound.{OffsetsEnd};
 
 use crate::fault::ReadError;
@@ -30,7 +30,7 @@ pub struct View<'a> {
     strings: &'a [u8],
     // each plain offset leads into the string table
     ghost ends: { OffsetsEnd offsets.now strings.now },
-    // which is no longer than a header can tell
+    // which is no longer than a header can say
     pub ghost short: { length strings.now < first_negative Legacy },
 }
 
@@ -45,7 +45,7 @@ impl<'a> View<'a> {
     /// The first of the refusals of [`ReadError`], in its order, that holds of the bytes.
     pub fn read(bytes: &'a [u8]) -> Result<View<'a>, ReadError>
         ensures found { IfOk result (λ v. Reads bytes.now (names_of v) (view_contents v)) }
-        ensures refused { IfErr result (λ e. Refused bytes.now e) }
+        ensures refused { IfErr result (λ e. FailsToRead bytes.now e) }
     {
         let sections = cut(bytes)?;
         if !are_names(sections.names) {

@@ -1,5 +1,5 @@
 // An entry written as term(5) lays it out. The entries of a table stand in the order of the entry,
-// so each section is laid in one walk over them: what is absent before a value is filled up in one
+// so each section is written in one walk over them: what is absent before a value is filled up in one
 // step, and what is absent behind the last value is not written.
 ghost use Rattle.std.specs.Prelude.{◌≡◌, ◌≢◌, ◌<◌, ◌≤◌, ◌↔◌, ◌+◌, ◌*◌, ◌++◌, [], length, replicate, Some, IfOk, IsErrOf, OnOk};
 ghost use Rattle.ti_text.specs.Limits.{names_max};
@@ -7,7 +7,7 @@ ghost use Rattle.ti_caps.specs.declared.capability.Kind.TheVariants.{Flag, Numbe
 ghost use Rattle.ti_layout.specs.Image.{is_wide as is_wide_content};
 ghost use Rattle.ti_layout.specs.Image.{image, format_of, image_limit, written_count, flags_below, numbers_below, texts_below, offsets_below, HasNoNul};
 ghost use Rattle.ti_layout.specs.Layout as layout;
-ghost use Rattle.ti_layout.specs.Layout.{number_section, number_bytes};
+ghost use Rattle.ti_layout.specs.Layout.{FitsTwoBytes, number_section, number_bytes};
 ghost use Rattle.ti_layout.specs.Sizes.{HasSizes};
 ghost use Rattle.ti_layout.specs.Values.{contents, content_of, entries_of, IsKept};
 ghost use Rattle.ti_layout.specs.declared.writing.WriteError.TheVariants.{Memory};
@@ -169,11 +169,11 @@ fn push_number(image: &mut Vec<u8>, number: u32, format: Format) -> Result<(), A
 
 // Adds the six numbers of the header.
 fn push_header(image: &mut Vec<u8>, header: &Header) -> Result<(), AllocError>
-    requires names { header.now.names < 65536 }
-    requires flags { header.now.flags < 65536 }
-    requires numbers { header.now.numbers < 65536 }
-    requires texts { header.now.texts < 65536 }
-    requires strings { header.now.strings < 65536 }
+    requires names { FitsTwoBytes header.now.names }
+    requires flags { FitsTwoBytes header.now.flags }
+    requires numbers { FitsTwoBytes header.now.numbers }
+    requires texts { FitsTwoBytes header.now.texts }
+    requires strings { FitsTwoBytes header.now.strings }
     ensures { OnOk result (image.new.items
         ≡ image.old.items
         ++ layout.header header.now.format header.now.names header.now.flags header.now.numbers header.now.texts header.now.strings) }

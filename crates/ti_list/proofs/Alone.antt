@@ -4,7 +4,8 @@ use Rattle.ti_caps.specs.Tables.{Capability}
 use Rattle.ti_layout.specs.Values.{Content, Contents}
 use Rattle.ti_list.specs.declared.layout.Layout.{Layout}
 use Rattle.ti_list.specs.Listing.{items_for, listing}
-use Rattle.ti_list.specs.Relative.{Shown, difference, differing_contents, relative}
+use Rattle.ti_layout.specs.View.{Entry}
+use Rattle.ti_list.specs.RelativeSource.{difference, differing_contents, relative}
 
 alone : (own : Option Content) → difference own None ≡ own
 alone None = refl
@@ -14,5 +15,5 @@ items-alone : (table : Contents) (caps : List Capability) → items_for (differi
 items-alone table [] = refl
 items-alone table (c ∷ cs) = rw (alone (table c), items-alone table cs) refl
 
-pub relative-alone : (entry : Shown) (layout : Layout) → relative entry [] layout ≡ listing entry.field entry.table layout
-relative-alone entry layout = simp (items-alone entry.table)
+pub relative-alone : (entry : Entry) (layout : Layout) → relative entry [] layout ≡ listing entry.names entry.contents layout
+relative-alone entry layout = simp (items-alone entry.contents)

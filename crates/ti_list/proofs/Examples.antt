@@ -3,7 +3,6 @@ use Rattle.std.proofs.Common.{◌≡◌, ℕ, false, [], ◌∷◌, refl}
 use Rattle.std.specs.Prelude.{codes}
 use Rattle.ti_caps.specs.Names.{flag_names, number_names, text_names}
 use Rattle.ti_caps.specs.Tables.{capability, names}
-use Rattle.ti_caps.specs.Names.{flag_names, number_names, text_names}
 use Rattle.std.specs.Fmt.{digits}
 use Rattle.ti_caps.specs.declared.capability.Kind.TheVariants.{Flag, Number, Text}
 use Rattle.ti_spelling.specs.Spelling.{byte_text}
@@ -13,7 +12,8 @@ use Rattle.ti_list.specs.declared.layout.Order.{Order}
 use Rattle.ti_list.specs.declared.layout.Order.TheVariants as order
 use Rattle.ti_list.specs.declared.layout.Mode.TheVariants.{Differ, Common}
 use Rattle.ti_list.specs.Listing.{in_order, listing}
-use Rattle.ti_list.specs.Relative.{Shown, relative}
+use Rattle.ti_layout.specs.View.{Entry}
+use Rattle.ti_list.specs.RelativeSource.{relative}
 use Rattle.ti_list.specs.Comparison.{comparison}
 
 abbrev layout : ℕ → Order → Layout
@@ -23,11 +23,11 @@ abbrev dumb : Contents
 dumb = contents ((capability Flag 1, content_true) ∷ (capability Number 0, content_number 80) ∷ (capability Text 1, content_text (7 ∷ [])) ∷ (capability Text 2, content_text (13 ∷ []))
     ∷ (capability Text 11, content_text (10 ∷ [])) ∷ (capability Text 129, content_text (10 ∷ [])) ∷ [])
 
-abbrev first : Shown
-first = record { field = codes "a|first"; table = contents ((capability Flag 1, content_true) ∷ (capability Number 0, content_number 80) ∷ (capability Text 1, content_text (7 ∷ [])) ∷ []) }
+abbrev first : Entry
+first = record { names = codes "a|first"; contents = contents ((capability Flag 1, content_true) ∷ (capability Number 0, content_number 80) ∷ (capability Text 1, content_text (7 ∷ [])) ∷ []) }
 
-abbrev second : Shown
-second = record { field = codes "b|second"; table = contents ((capability Number 0, content_number 132) ∷ (capability Text 1, content_text (7 ∷ [])) ∷ (capability Text 2, content_text (13 ∷ [])) ∷ []) }
+abbrev second : Entry
+second = record { names = codes "b|second"; contents = contents ((capability Number 0, content_number 132) ∷ (capability Text 1, content_text (7 ∷ [])) ∷ (capability Text 2, content_text (13 ∷ [])) ∷ []) }
 
 lists_dumb : listing (codes "dumb|80-column dumb tty") dumb (layout 60 order.Table) ≡ codes "dumb|80-column dumb tty,\n\tam,\n\tcols#80,\n\tbel=^G, cr=\\r, cud1=\\n, ind=\\n,\n"
 unfolding names flag_names number_names text_names byte_text digits in_order contents

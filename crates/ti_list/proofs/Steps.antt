@@ -7,7 +7,7 @@ use Rattle.ti_source.specs.Reading.{Said}
 use Rattle.ti_layout.specs.Values.{Content, content_true, content_number, content_text, content_cancelled, Contents}
 use Rattle.ti_list.specs.inside.Contents.{said_for}
 use Rattle.ti_list.specs.declared.layout.Layout.{Layout}
-use Rattle.ti_list.specs.inside.Flow.{flow}
+use Rattle.ti_list.specs.inside.Listing.{flow}
 use Rattle.ti_list.specs.Listing.{further_items, item_for, items_for}
 
 -- what stands at a place, and then what stands behind it

@@ -12,7 +12,8 @@ use Rattle.ti_list.specs.declared.layout.Order.{Order}
 use Rattle.ti_list.specs.declared.layout.Mode.{Mode}
 use Rattle.ti_list.specs.declared.layout.Mode.TheVariants.{Differ, Common, Neither}
 use Rattle.ti_list.specs.Listing.{in_order}
-use Rattle.ti_list.specs.Relative.{Shown, first_name, same_content}
+use Rattle.ti_layout.specs.View.{Entry}
+use Rattle.ti_list.specs.RelativeSource.{first_name, same_content}
 
 -- what stands for a capability that an entry does not have
 abbrev pub absent_text : Kind → List ℕ
@@ -72,11 +73,11 @@ kind_heading Number = codes "    comparing numbers.\n"
 kind_heading Text = codes "    comparing strings.\n"
 
 -- the heading of a kind and its rows
-abbrev pub compared_kind : Shown → Shown → Mode → Order → Kind → List ℕ
-compared_kind one other mode order kind = kind_heading kind ++ rows mode one.table other.table (in_order order kind)
+abbrev pub compared_kind : Entry → Entry → Mode → Order → Kind → List ℕ
+compared_kind one other mode order kind = kind_heading kind ++ rows mode one.contents other.contents (in_order order kind)
 
 -- the comparison of two entries
-abbrev pub comparison : Shown → Shown → Mode → Order → List ℕ
+abbrev pub comparison : Entry → Entry → Mode → Order → List ℕ
 comparison one other mode order =
-    codes "comparing " ++ first_name one.field ++ codes " to " ++ first_name other.field ++ codes ".\n"
+    codes "comparing " ++ first_name one.names ++ codes " to " ++ first_name other.names ++ codes ".\n"
     ++ compared_kind one other mode order Flag ++ compared_kind one other mode order Number ++ compared_kind one other mode order Text

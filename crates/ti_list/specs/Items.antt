@@ -32,7 +32,7 @@ pub data IsTail : (items : List Said) (tail : List ℕ) → Type 0 where
 pub record IsListing (field : List ℕ) (items : List Said) (text : List ℕ) : Type 0 where
   pub tail : List ℕ
   pub whole : text ≡ field ++ ascii.comma ∷ tail
-  pub laid : IsTail items tail
+  pub is_tail : IsTail items tail
 
 -- ---- what reads back as it is written
 

@@ -1,5 +1,5 @@
 pub mod Items
 pub mod Listing
-pub mod Relative
+pub mod RelativeSource
 pub mod Comparison
 pub mod inside

@@ -1,8 +1,8 @@
 // What an entry has of a capability, and how it differs from what others have.
 ghost use Rattle.std.specs.Prelude.{◌≡◌, option_map, IfSome};
 ghost use Rattle.ti_layout.specs.View.{view_contents};
-ghost use Rattle.ti_list.specs.inside.Contents.{content_of, FitsStringTable};
-ghost use Rattle.ti_list.specs.Relative.{difference, first_of, same_content, entries_shown};
+ghost use Rattle.ti_list.specs.inside.Contents.{plain_content, FitsStringTable};
+ghost use Rattle.ti_list.specs.RelativeSource.{difference, first_of, same_content, entries_shown};
 
 use ti_caps::{Cap, Kind};
 use ti_layout::View;
@@ -23,8 +23,8 @@ pub enum Content<'a> {
 /// What an entry has of a capability.
 #[inline(always)]
 pub fn view_content<'a>(view: &View<'a>, cap: Cap) -> Option<Content<'a>>
-    ensures is { option_map content_of result ≡ view_contents view.now cap }
-    ensures short { IfSome result (λ c. FitsStringTable (content_of c)) }
+    ensures is { option_map plain_content result ≡ view_contents view.now cap }
+    ensures short { IfSome result (λ c. FitsStringTable (plain_content c)) }
 {
     match cap.kind() {
         Kind::Flag => {
@@ -48,7 +48,7 @@ pub fn view_content<'a>(view: &View<'a>, cap: Cap) -> Option<Content<'a>>
 /// What the first of the entries that has the capability has of it.
 #[inline(always)]
 pub fn first_of<'a>(others: &[View<'a>], cap: Cap) -> Option<Content<'a>>
-    ensures { option_map content_of result ≡ first_of (entries_shown others.now) cap }
+    ensures { option_map plain_content result ≡ first_of (entries_shown others.now) cap }
 {
     for other in others {
         if let Some(content) = view_content(other, cap) {
@@ -60,7 +60,7 @@ pub fn first_of<'a>(others: &[View<'a>], cap: Cap) -> Option<Content<'a>>
 
 /// Whether two contents are one.
 pub fn same_content(one: Content<'_>, other: Content<'_>) -> bool
-    ensures { result ≡ same_content (content_of one.entry) (content_of other.entry) }
+    ensures { result ≡ same_content (plain_content one.entry) (plain_content other.entry) }
 {
     match (one, other) {
         (Content::True, Content::True) | (Content::Cancelled, Content::Cancelled) => true,
@@ -73,7 +73,7 @@ pub fn same_content(one: Content<'_>, other: Content<'_>) -> bool
 /// What a relative source says of a capability, where the entry has this of it and the others that.
 #[inline(always)]
 pub fn difference<'a>(own: Option<Content<'a>>, theirs: Option<Content<'_>>) -> Option<Content<'a>>
-    ensures { option_map content_of result ≡ difference (option_map content_of own.entry) (option_map content_of theirs.entry) }
+    ensures { option_map plain_content result ≡ difference (option_map plain_content own.entry) (option_map plain_content theirs.entry) }
 {
     match (own, theirs) {
         (None, None) => None,

@@ -5,7 +5,8 @@
 //! - `order`: the capabilities of a kind in that order
 //! - `contents`: what an entry has of a capability, and how it differs from what others have
 //! - `items`: an item as it is written
-//! - `listing`: an entry as source text, by itself or as it differs from others
+//! - `listing`: an entry as source text
+//! - `relative_source`: an entry as source text, as it differs from others
 //! - `comparison`: two entries compared
 #![tactic(auto)]
 
@@ -15,7 +16,9 @@ mod items;
 mod layout;
 mod listing;
 mod order;
+mod relative_source;
 
 pub use comparison::compare;
 pub use layout::{Layout, Mode, Order};
-pub use listing::{ListError, list, relative};
+pub use listing::list;
+pub use relative_source::{ListError, relative};

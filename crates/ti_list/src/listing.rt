@@ -1,22 +1,20 @@
-// An entry as source text: its own items, or those in which it differs from others.
+// An entry as source text.
 ghost use Rattle.std.specs.Prelude.{◌≡◌, ℕ, ◌+◌, ◌≤◌, ◌++◌, ◌∷◌, ◌↔◌, [], List, option_map, IfOk, IfSome, IsErrOf, ◌<◌, vec_len, vec_capacity};
 ghost use Rattle.ti_text.specs.Ascii as ascii;
-ghost use Rattle.ti_layout.specs.View.{view_contents, names_of};
+ghost use Rattle.ti_layout.specs.View.{view_contents, names_of, shown_entry};
 ghost use Rattle.ti_source.specs.Reading.{Said};
-ghost use Rattle.ti_list.specs.inside.Contents.{content_of, said_for, FitsStringTable};
-ghost use Rattle.ti_list.specs.inside.Flow.{flow};
+ghost use Rattle.ti_list.specs.inside.Contents.{plain_content, said_for, FitsStringTable};
+ghost use Rattle.ti_list.specs.inside.Listing.{flow};
 ghost use Rattle.ti_list.specs.Items.{item_text};
 ghost use Rattle.ti_list.specs.Listing.{size_of, further_items, in_order, items_for, kind_items, lines_of, listing};
 ghost use Rattle.ti_list.specs.inside.Room.{item_room, items_room, source_room, uses_room};
-ghost use Rattle.ti_list.specs.Relative.{differing_contents, relative, entry_shown, use_lines, entries_shown};
-ghost use Rattle.ti_list.specs.declared.listing.ListError.TheVariants.{Memory};
+ghost use Rattle.ti_list.specs.RelativeSource.{differing_contents, relative, use_lines, entries_shown};
 
 use crate::contents::{Content, difference, first_of, view_content};
 use crate::items::{item_room, write_item};
 use crate::layout::{Layout, Order};
 use crate::order::cap_at;
 use std::alloc::{AllocError, Global};
-use thiserror::Error;
 use ti_caps::{Cap, Kind, count};
 use ti_layout::View;
 use ti_text::room::append_reserved;
@@ -27,20 +25,20 @@ const TAB: usize = 8;
 // What an entry's source says of a capability where it uses the others.
 #[inline(always)]
 fn said_of<'a>(view: &View<'a>, others: &[View<'a>], cap: Cap) -> Option<Content<'a>>
-    ensures is { option_map content_of result ≡ differing_contents (view_contents view.now) (entries_shown others.now) cap }
-    ensures short { IfSome result (λ c. FitsStringTable (content_of c)) }
+    ensures is { option_map plain_content result ≡ differing_contents (view_contents view.now) (entries_shown others.now) cap }
+    ensures short { IfSome result (λ c. FitsStringTable (plain_content c)) }
 {
     difference(view_content(view, cap), first_of(others, cap))
 }
 
 // Appends an item with its comma on a new line, behind a tab. Gives the columns that are then taken.
 fn write_below(out: &mut Vec<u8>, cap: Cap, content: Content<'_>) -> usize
-    requires short { FitsStringTable (content_of content) }
-    requires room { vec_len out.old + item_room (said_for cap (content_of content)) ≤ vec_capacity out.old }
+    requires short { FitsStringTable (plain_content content) }
+    requires room { vec_len out.old + item_room (said_for cap (plain_content content)) ≤ vec_capacity out.old }
     ensures items { out.new.items ≡ out.old.items
-        ++ ascii.newline ∷ ascii.tab ∷ item_text (said_for cap (content_of content.entry)) ++ ascii.comma ∷ [] }
-    ensures column { result ≡ 8 + size_of (said_for cap (content_of content.entry)) }
-    ensures len { vec_len out.new ≤ vec_len out.old + item_room (said_for cap (content_of content.entry)) }
+        ++ ascii.newline ∷ ascii.tab ∷ item_text (said_for cap (plain_content content.entry)) ++ ascii.comma ∷ [] }
+    ensures column { result ≡ 8 + size_of (said_for cap (plain_content content.entry)) }
+    ensures len { vec_len out.new ≤ vec_len out.old + item_room (said_for cap (plain_content content.entry)) }
     ensures capacity { vec_capacity out.old ≤ vec_capacity out.new }
 {
     let start = out.len();
@@ -61,15 +59,15 @@ fn write_further(
     cap: Cap,
     content: Content<'_>,
 ) -> usize
-    requires short { FitsStringTable (content_of content) }
-    requires room { vec_len out.old + item_room (said_for cap (content_of content)) ≤ vec_capacity out.old }
-    ensures fits { taken + 1 + size_of (said_for cap (content_of content.entry)) ≤ width
-        → (result ≡ taken + 1 + size_of (said_for cap (content_of content.entry)))
-        × (out.new.items ≡ out.old.items ++ ascii.space ∷ item_text (said_for cap (content_of content.entry)) ++ ascii.comma ∷ []) }
-    ensures breaks { width < taken + 1 + size_of (said_for cap (content_of content.entry))
-        → (result ≡ 8 + size_of (said_for cap (content_of content.entry)))
-        × (out.new.items ≡ out.old.items ++ ascii.newline ∷ ascii.tab ∷ item_text (said_for cap (content_of content.entry)) ++ ascii.comma ∷ []) }
-    ensures len { vec_len out.new ≤ vec_len out.old + item_room (said_for cap (content_of content.entry)) }
+    requires short { FitsStringTable (plain_content content) }
+    requires room { vec_len out.old + item_room (said_for cap (plain_content content)) ≤ vec_capacity out.old }
+    ensures fits { taken + 1 + size_of (said_for cap (plain_content content.entry)) ≤ width
+        → (result ≡ taken + 1 + size_of (said_for cap (plain_content content.entry)))
+        × (out.new.items ≡ out.old.items ++ ascii.space ∷ item_text (said_for cap (plain_content content.entry)) ++ ascii.comma ∷ []) }
+    ensures breaks { width < taken + 1 + size_of (said_for cap (plain_content content.entry))
+        → (result ≡ 8 + size_of (said_for cap (plain_content content.entry)))
+        × (out.new.items ≡ out.old.items ++ ascii.newline ∷ ascii.tab ∷ item_text (said_for cap (plain_content content.entry)) ++ ascii.comma ∷ []) }
+    ensures len { vec_len out.new ≤ vec_len out.old + item_room (said_for cap (plain_content content.entry)) }
     ensures capacity { vec_capacity out.old ≤ vec_capacity out.new }
 {
     let start = out.len();
@@ -94,12 +92,12 @@ fn write_placed(
     cap: Cap,
     content: Content<'_>,
 ) -> usize
-    requires short { FitsStringTable (content_of content) }
-    requires room { vec_len out.old + item_room (said_for cap (content_of content)) ≤ vec_capacity out.old }
+    requires short { FitsStringTable (plain_content content) }
+    requires room { vec_len out.old + item_room (said_for cap (plain_content content)) ≤ vec_capacity out.old }
     ensures items { (items : List Said) (rest : List ℕ)
         → out.new.items ++ further_items layout.now result items rest
-        ≡ out.old.items ++ flow layout.now line (said_for cap (content_of content.entry) ∷ items) rest }
-    ensures len { vec_len out.new ≤ vec_len out.old + item_room (said_for cap (content_of content.entry)) }
+        ≡ out.old.items ++ flow layout.now line (said_for cap (plain_content content.entry) ∷ items) rest }
+    ensures len { vec_len out.new ≤ vec_len out.old + item_room (said_for cap (plain_content content.entry)) }
     ensures capacity { vec_capacity out.old ≤ vec_capacity out.new }
 {
     match line {
@@ -180,7 +178,7 @@ fn uses_room(others: &[View<'_>]) -> Option<usize>
 // Enough room for the source of an entry that uses the others.
 #[inline(always)]
 fn source_room<'a>(view: &View<'a>, others: &[View<'a>], order: Order) -> Option<usize>
-    ensures { IfSome result (λ room. room ≡ source_room (entry_shown view.now) (entries_shown others.now) order) }
+    ensures { IfSome result (λ room. room ≡ source_room (shown_entry view.now) (entries_shown others.now) order) }
 {
     let flags = kind_room(view, others, order, Kind::Flag)?;
     let numbers = kind_room(view, others, order, Kind::Number)?;
@@ -198,8 +196,8 @@ fn source_room<'a>(view: &View<'a>, others: &[View<'a>], order: Order) -> Option
 // Appends the source of an entry that uses the others, into such room. It takes no memory.
 #[inline(always)]
 fn write_source<'a>(out: &mut Vec<u8>, view: &View<'a>, others: &[View<'a>], layout: &Layout)
-    requires { vec_len out.old + source_room (entry_shown view.now) (entries_shown others.now) layout.now.order ≤ vec_capacity out.old }
-    ensures { out.new.items ≡ out.old.items ++ relative (entry_shown view.now) (entries_shown others.now) layout.now }
+    requires { vec_len out.old + source_room (shown_entry view.now) (entries_shown others.now) layout.now.order ≤ vec_capacity out.old }
+    ensures { out.new.items ≡ out.old.items ++ relative (shown_entry view.now) (entries_shown others.now) layout.now }
 {
     append_reserved(out, view.names());
     out.push_reserved(b',');
@@ -212,13 +210,13 @@ fn write_source<'a>(out: &mut Vec<u8>, view: &View<'a>, others: &[View<'a>], lay
 
 // The source of an entry that uses the others, in one allocation: nothing that follows it can fail.
 #[inline(always)]
-fn source_of<'a>(
+pub(crate) fn source_of<'a>(
     alloc: Global,
     view: &View<'a>,
     others: &[View<'a>],
     layout: &Layout,
 ) -> Result<Vec<u8>, AllocError>
-    ensures { IfOk result (λ text. text.items ≡ relative (entry_shown view.now) (entries_shown others.now) layout.now) }
+    ensures { IfOk result (λ text. text.items ≡ relative (shown_entry view.now) (entries_shown others.now) layout.now) }
 {
     // where no number is so great, no memory is either, and the growth is refused
     let room = source_room(view, others, layout.order).unwrap_or(usize::MAX);
@@ -236,44 +234,4 @@ pub fn list(alloc: Global, view: &View<'_>, layout: &Layout) -> Result<Vec<u8>, 
     ensures { IfOk result (λ text. text.items ≡ listing (names_of view.now) (view_contents view.now) layout.now) }
 {
     source_of(alloc, view, &[], layout)
-}
-
-/// Why there is no relative source.
-#[derive(Clone, Copy, PartialEq, Eq, Debug, Error)]
-pub enum ListError {
-    /// There are no others to use.
-    #[error("NoOthers")]
-    NoOthers,
-    /// There is no memory for the source.
-    #[error("Memory")]
-    Memory,
-}
-
-impl From<AllocError> for ListError {
-    ghost from_gives = { λ _ e. e ≡ Memory };
-
-    fn from(_e: AllocError) -> ListError {
-        ListError::Memory
-    }
-}
-
-/// The source of an entry that uses others, by their first names, as infocmp(1)'s `-u` prints it: laid out as a listing, with
-/// the items whose values are not those of the first of the others that has the capability, and cancels of what only others
-/// have. Then a line `use=` for each of the others, in their order.
-///
-/// # Errors
-/// `NoOthers` where there are none; then `Memory`.
-pub fn relative(
-    alloc: Global,
-    view: &View<'_>,
-    others: &[View<'_>],
-    layout: &Layout,
-) -> Result<Vec<u8>, ListError>
-    ensures ok { IfOk result (λ text. text.items ≡ relative (entry_shown view.now) (entries_shown others.now) layout.now) }
-    ensures no_others { IsErrOf result ListError.NoOthers ↔ (others.now ≡ []) }
-{
-    if others.is_empty() {
-        return Err(ListError::NoOthers);
-    }
-    Ok(source_of(alloc, view, others, layout)?)
 }

@@ -7,7 +7,7 @@ use Rattle.ti_meaning.specs.Owner.{is_among, owner, owner_block}
 use Rattle.ti_meaning.specs.Expansion.{Mention, expand, Resolves, expansion}
 use Rattle.ti_meaning.specs.Reaching.{LeadsTo}
 use Rattle.ti_meaning.specs.inside.Reaching.{leads_to}
-use Rattle.ti_meaning.specs.Laws.{IsFirstWith, OwnersAreFirst, ExpansionsStay, ExpansionsAreFound, WaysAreFound, IsUseFault, nobody_owns, leads_back, owner_unresolved, owner_resolved, UseFaultsAreTold}
+use Rattle.ti_meaning.specs.Laws.{IsFirstWith, OwnersAreFirst, ExpansionsStay, ExpansionsAreFound, WaysAreFound, IsUseFault, nobody_owns, leads_back, owner_unresolved, owner_resolved, UseFaultsAreFound}
 use Rattle.ti_meaning.proofs.Owning.{nobody, somebody, owning}
 use Rattle.ti_meaning.proofs.Depth.{expand-le, bounded}
 use Rattle.ti_meaning.proofs.UseFaults.{use_fault_missing, use_fault_circular, use_fault_open, use_fault_none}
@@ -90,7 +90,7 @@ unresolved_or_not : (o : Option (List Mention)) → (o ≡ None) ⊎ ((ms : List
 unresolved_or_not None = inl refl
 unresolved_or_not (Some ms) = inr (ms, refl)
 
-pub told_faults : UseFaultsAreTold
+pub told_faults : UseFaultsAreFound
 told_faults = λ bs at name.
     elim (owning bs name) [
       | nobody o _ ↦ subst (IsUseFault bs at name) (use_fault_missing bs at name o) (nobody_owns o)

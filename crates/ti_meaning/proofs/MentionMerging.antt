@@ -1,4 +1,4 @@
--- What laying mentions into a table makes of it, item by item; and where a block has no expansion at a depth.
+-- What adding mentions to a table makes of it, item by item; and where a block has no expansion at a depth.
 use Rattle.std.proofs.Common.{◌≡◌, ℕ, zero, suc, append_assoc, ◌+◌, inl, inr, Bool, true, false, cond, List, [], ◌∷◌, ◌++◌, Option, Some, None, slice_get, refl, sym, ◌∙◌, ap, arith}
 use Rattle.std.specs.Option.{option_or}
 use Rattle.std.proofs.lemmas.Option.{same_Some, none-some}
@@ -6,12 +6,13 @@ use Rattle.ti_caps.specs.Tables.{Capability, IsCapability, same_capability}
 use Rattle.ti_source.specs.Reading.{Reading, ReadItem, Said, said_flag, said_number, said_text, said_cancel, said_import}
 use Rattle.ti_layout.specs.Values.{Contents, Content}
 use Rattle.ti_meaning.specs.Owner.{owner_block}
-use Rattle.ti_meaning.specs.Expansion.{Mention, leftmost_content, is_broken, both_lists, mentions_of, expand_items}
+use Rattle.ti_text.specs.Texts.{both_lists}
+use Rattle.ti_meaning.specs.Expansion.{Mention, leftmost_content, is_broken, mentions_of, expand_items}
 use Rattle.ti_meaning.specs.Reaching.{used_name, Uses}
 use Rattle.ti_meaning.specs.inside.ValueTables.{names_at, IsTableOf, IsTableOfItems, AddsSaid}
 use Rattle.ti_meaning.proofs.Depth.{expand_items-more, names_at-le, mentions_of-more}
 
--- ---- laying
+-- ---- adding
 
 option_or-none : (o : Option Content) → option_or o None ≡ o
 option_or-none None = refl
@@ -31,9 +32,9 @@ said-append [] ns c = refl
 said-append (m ∷ ms) ns c =
     rw (said-append ms ns c) (sym (if_or (same_capability m.capability c) None (leftmost_content ms c) (leftmost_content ns c) m.says))
 
--- one mention was laid
-pub laid_one : (bs : List Reading) (item : Said) (m : Mention) (old new : Contents) → mentions_of (names_at (owner_block bs) 0) item ≡ Some (m ∷ []) → ((c : Capability) → IsCapability c → new c ≡ option_or (old c) (cond (same_capability m.capability c) (Some m.says) None)) → AddsSaid bs item old new
-laid_one bs item m old new e laid = record { depth = 0; mentions = m ∷ []; expands = e; adds = laid }
+-- one mention was added
+pub added_one : (bs : List Reading) (item : Said) (m : Mention) (old new : Contents) → mentions_of (names_at (owner_block bs) 0) item ≡ Some (m ∷ []) → ((c : Capability) → IsCapability c → new c ≡ option_or (old c) (cond (same_capability m.capability c) (Some m.says) None)) → AddsSaid bs item old new
+added_one bs item m old new e added = record { depth = 0; mentions = m ∷ []; expands = e; adds = added }
 
 -- ---- the items of a block, one after another
 
@@ -55,7 +56,7 @@ expand_items-append f (i ∷ is) js = rw (expand_items-append f is js) (joined-a
 pub table_of_nothing : (bs : List Reading) (f : Contents) → ((c : Capability) → f c ≡ None) → IsTableOfItems bs [] f
 table_of_nothing bs f none = record { depth = 0; mentions = []; expands = refl; is_table = λ c _. none c }
 
--- one more item was laid
+-- one more item was added
 pub table_of_one_more : (bs : List Reading) (is : List ReadItem) (i : ReadItem) (f g : Contents) → IsTableOfItems bs is f → AddsSaid bs i.said f g → IsTableOfItems bs (is ++ i ∷ []) g
 table_of_one_more bs is i f g t h =
     let deep = t.depth + h.depth in
@@ -73,7 +74,7 @@ table_of_one_more bs is i f g t h =
           ∙ sym (said-append t.mentions (h.mentions ++ []) c)));
     }
 
--- all items of a sound block were laid
+-- all items of a sound block were added
 pub table_of_block : (bs : List Reading) (b : Reading) (f : Contents) → is_broken b ≡ false → IsTableOfItems bs b.items f → IsTableOf bs b f
 table_of_block bs b f sound t = record { depth = suc t.depth; mentions = t.mentions; expands = rw (sound, t.expands) refl; is_table = t.is_table }
 

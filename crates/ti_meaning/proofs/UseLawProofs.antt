@@ -5,12 +5,13 @@ use Rattle.std.proofs.lemmas.Option.{same_Some, none-some, slice_get_within}
 use Rattle.ti_source.specs.declared.code.Code.TheVariants.{Unresolved}
 use Rattle.ti_source.specs.Reading.{Reading, ReadItem, Said, said_flag, said_number, said_text, said_cancel, said_import}
 use Rattle.ti_meaning.specs.Owner.{owner, owner_block}
-use Rattle.ti_meaning.specs.Expansion.{Mention, is_broken, both_lists, mentions_of, expand_items, expand, expansion, resolves}
+use Rattle.ti_text.specs.Texts.{both_lists}
+use Rattle.ti_meaning.specs.Expansion.{Mention, is_broken, mentions_of, expand_items, expand, expansion, resolves}
 use Rattle.ti_meaning.specs.Reaching.{used_name, Uses, IsUseWay, LeadsTo}
 use Rattle.ti_meaning.specs.inside.Reaching.{leads_to}
 use Rattle.ti_meaning.specs.Faults.{fault_between, use_fault}
 use Rattle.ti_meaning.specs.inside.ValueTables.{names_at}
-use Rattle.ti_meaning.specs.UseLaws.{OwnerReaches, LeadingIsReaching, UsesBlock, IsEdgeWalk, EdgesLead, LeadingIsWalking, AreFound, IsGraphOf, TellComponents, HasOptionalEdge, HaveOneNumber, CircularUsesShareAComponent, UnresolvedBlocksHaveACause}
+use Rattle.ti_meaning.specs.UseLaws.{OwnerReaches, LeadingIsReaching, UsesBlock, IsEdgeWalk, EdgesLead, LeadingIsWalking, AreFound, IsGraphOf, MarksComponents, HasOptionalEdge, HaveOneNumber, CircularUsesShareAComponent, UnresolvedBlocksHaveACause}
 use Rattle.ti_meaning.proofs.Owning.{nobody, somebody, owning, owner_to_owned}
 use Rattle.ti_meaning.proofs.Depth.{bounded}
 use Rattle.ti_meaning.proofs.Leading.{leads_to-LeadsTo}
@@ -77,14 +78,14 @@ block_walk bs found Edge g (k ∷ way) j i from at s t w =
     (edge.1 ∷ rest.0, (uses, rest.1))
 
 -- over any edges and any relation of being of one component
-pub circular_component : (bs : List Reading) (found : List ℕ) (Edge Same : ℕ → ℕ → Type 0) → AreFound bs found → IsGraphOf bs found Edge → TellComponents (length found) Edge Same → (i at : ℕ) (b : Reading) (name : List ℕ) → slice_get found i ≡ Some at → slice_get bs at ≡ Some b → Uses b.items name → LeadsTo bs name at → (j : ℕ) × (used : ℕ) × (owner bs name ≡ Some used) × (slice_get found j ≡ Some used) × Same i j
+pub circular_component : (bs : List Reading) (found : List ℕ) (Edge Same : ℕ → ℕ → Type 0) → AreFound bs found → IsGraphOf bs found Edge → MarksComponents (length found) Edge Same → (i at : ℕ) (b : Reading) (name : List ℕ) → slice_get found i ≡ Some at → slice_get bs at ≡ Some b → Uses b.items name → LeadsTo bs name at → (j : ℕ) × (used : ℕ) × (owner bs name ≡ Some used) × (slice_get found j ≡ Some used) × Same i j
 circular_component bs found Edge Same f g c i at b name s t u l =
     let w = walk_of bs at l.0 name l.1 l.2 l.3 in
     let j = found_walk bs found Edge f g w.2.0 w.0 i at s w.2.1 in
     let edge : Edge i j.0 = (g i j.0).1 (at, w.0, s, j.1, (b, t, (name, u, w.1))) in
     (j.0, w.0, w.1, j.1, (c i j.0 (slice_get_within found i at s) (slice_get_within found j.0 w.0 j.1)).1 ((j.0 ∷ [], (edge, refl)), j.2))
 
-pub component_circular : (bs : List Reading) (found : List ℕ) (Edge Same : ℕ → ℕ → Type 0) → IsGraphOf bs found Edge → TellComponents (length found) Edge Same → (i at j used : ℕ) (name : List ℕ) → slice_get found i ≡ Some at → owner bs name ≡ Some used → slice_get found j ≡ Some used → Same i j → LeadsTo bs name at
+pub component_circular : (bs : List Reading) (found : List ℕ) (Edge Same : ℕ → ℕ → Type 0) → IsGraphOf bs found Edge → MarksComponents (length found) Edge Same → (i at j used : ℕ) (name : List ℕ) → slice_get found i ≡ Some at → owner bs name ≡ Some used → slice_get found j ≡ Some used → Same i j → LeadsTo bs name at
 component_circular bs found Edge Same g c i at j used name s o t same =
     let back = ((c i j (slice_get_within found i at s) (slice_get_within found j used t)).0 same).1 in
     let walk = block_walk bs found Edge g back.0 j i used at t s back.1 in

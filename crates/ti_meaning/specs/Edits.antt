@@ -2,7 +2,7 @@
 use Rattle.ti_text.specs.Limits.{block_bytes_max, blocks_max}
 use Rattle.std.specs.Prelude.{ℕ, ◌≡◌, ◌<◌, ◌≤◌, List, [], ◌∷◌, length, insert, remove, slice_get, slice_set, Result, Ok, Err}
 use Rattle.std.specs.Option.{option_map_or}
-use Rattle.ti_source.specs.Blocks.{OneBlock}
+use Rattle.ti_source.specs.Cutting.{OneBlock}
 use Rattle.ti_meaning.specs.declared.edits.Edit.{Edit}
 use Rattle.ti_meaning.specs.declared.edits.Edit.TheVariants as edit
 use Rattle.ti_meaning.specs.declared.edits.Edited.{Edited}

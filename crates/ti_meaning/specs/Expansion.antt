@@ -1,7 +1,8 @@
 -- What a block says once its uses are expanded (terminfo(5), "Similar Terminals"): a use stands for all that the owner of
 -- the name says, in order, expanded in the same way, and the leftmost mention of a capability decides.
-use Rattle.std.specs.Prelude.{ℕ, zero, suc, List, [], ◌∷◌, ◌++◌, length, Option, Some, None, IsSome, is_some, option_and_then, Bool, if◌then◌else◌}
+use Rattle.std.specs.Prelude.{ℕ, zero, suc, List, [], ◌∷◌, length, Option, Some, None, IsSome, is_some, option_and_then, Bool, if◌then◌else◌}
 use Rattle.std.specs.List.{list_any}
+use Rattle.ti_text.specs.Texts.{both_lists}
 use Rattle.ti_caps.specs.Tables.{Capability, same_capability}
 use Rattle.ti_source.specs.Code.{is_error}
 use Rattle.ti_source.specs.Reading.{Reading, ReadItem, ReadFault, Said, said_flag, said_number, said_text, said_cancel, said_import}
@@ -27,12 +28,6 @@ values mentions capability = without_cancel (leftmost_content mentions capabilit
 -- whether reading gave the block a fault that leaves it without an entry: one of its header, its numbers or its strings
 abbrev pub is_broken : Reading → Bool
 is_broken block = list_any (λ (fault : ReadFault). is_error fault.code) block.faults
-
--- two lists after one another, where both are there
-abbrev pub both_lists : {X : Type 0} → Option (List X) → Option (List X) → Option (List X)
-both_lists None _ = None
-both_lists (Some xs) None = None
-both_lists (Some xs) (Some ys) = Some (xs ++ ys)
 
 -- the mentions that one item stands for, where `of_name` gives those of a used name
 abbrev pub mentions_of : (List ℕ → Option (List Mention)) → Said → Option (List Mention)

@@ -1,6 +1,6 @@
 -- The faults of a source (own): for each block those of its header, of its names, of its items in their order and of its
 -- entry.
-use Rattle.std.specs.Prelude.{◌≡◌, option_map, ℕ, suc, List, [], ◌∷◌, ◌++◌, map, filter, Option, Some, None, slice_get, Bool, true, false, not, nat_lt, if◌then◌else◌}
+use Rattle.std.specs.Prelude.{option_map, ℕ, suc, List, [], ◌∷◌, ◌++◌, map, filter, Option, Some, None, slice_get, Bool, true, false, not, nat_lt, if◌then◌else◌}
 use Rattle.std.specs.Option.{option_map_or}
 use Rattle.std.specs.Rc.{rc_slice_items}
 use Rattle.ti_meaning.specs.declared.faults.Fault.{Fault}
@@ -10,7 +10,7 @@ use Rattle.ti_source.specs.Code.{is_of_header}
 use Rattle.ti_source.specs.Reading.{Reading, ReadItem, ReadFault}
 use Rattle.ti_meaning.specs.Owner.{owner, owner_block, is_among}
 use Rattle.ti_meaning.specs.Expansion.{resolves}
-use Rattle.ti_meaning.specs.Reaching.{used_name, Uses}
+use Rattle.ti_meaning.specs.Reaching.{used_name}
 use Rattle.ti_meaning.specs.inside.Reaching.{leads_to}
 use Rattle.ti_meaning.specs.Compiled.{EntryState, unresolved, oversized, written, state_of}
 
@@ -120,7 +120,3 @@ faults_after blocks at (block ∷ rest) = block_faults blocks at block ++ faults
 -- the faults of all blocks, in list order
 abbrev pub faults : List Reading → List SourceFault
 faults blocks = faults_after blocks 0 blocks
-
--- the block at that position uses the name
-abbrev pub IsUser : List Reading → ℕ → List ℕ → Type 0
-IsUser blocks at name = (block : Reading) × (slice_get blocks at ≡ Some block) × Uses block.items name

@@ -45,8 +45,8 @@ pub data IsUseFault (blocks : List Reading) (at : ℕ) (name : List ℕ) : Optio
   owner_resolved : (block : Reading) → owner_block blocks name ≡ Some block → (LeadsTo blocks name at → ⊥) → Resolves (owner_block blocks) block → IsUseFault blocks at name None
 
 -- each use has the fault that is computed
-abbrev pub UseFaultsAreTold : Type 0
-UseFaultsAreTold = (blocks : List Reading) (at : ℕ) (name : List ℕ) → IsUseFault blocks at name (use_fault blocks at name)
+abbrev pub UseFaultsAreFound : Type 0
+UseFaultsAreFound = (blocks : List Reading) (at : ℕ) (name : List ℕ) → IsUseFault blocks at name (use_fault blocks at name)
 
 -- a fault of an item with the ordinal of the item
 abbrev pub fault_with_ordinal : ℕ → ReadFault → ℕ × SourceFault

@@ -49,8 +49,8 @@ IsGraphOf blocks found Edge =
     (i j : ℕ) → Edge i j ↔ ((at : ℕ) × (used : ℕ) × (slice_get found i ≡ Some at) × (slice_get found j ≡ Some used) × UsesBlock blocks at used)
 
 -- places below `count` are of one component exactly where each leads to the other
-abbrev pub TellComponents : ℕ → (ℕ → ℕ → Type 0) → (ℕ → ℕ → Type 0) → Type 0
-TellComponents count Edge Same = (i j : ℕ) → i < count → j < count → Same i j ↔ (EdgesLead Edge i j × EdgesLead Edge j i)
+abbrev pub MarksComponents : ℕ → (ℕ → ℕ → Type 0) → (ℕ → ℕ → Type 0) → Type 0
+MarksComponents count Edge Same = (i j : ℕ) → i < count → j < count → Same i j ↔ (EdgesLead Edge i j × EdgesLead Edge j i)
 
 -- an edge of a graph that has a row for each node, with the node that each of its edges leads to, if it leads to one
 abbrev pub HasOptionalEdge : List (List (Option ℕ)) → ℕ → ℕ → Type 0
@@ -67,7 +67,7 @@ abbrev pub CircularUsesShareAComponent : Type 0
 CircularUsesShareAComponent =
     (blocks : List Reading) (found : List ℕ) (graph : List (List (Option ℕ))) (components : List ℕ)
     → AreFound blocks found → IsGraphOf blocks found (HasOptionalEdge graph)
-    → TellComponents (length found) (HasOptionalEdge graph) (HaveOneNumber components)
+    → MarksComponents (length found) (HasOptionalEdge graph) (HaveOneNumber components)
     → (i at : ℕ) (block : Reading) (name : List ℕ) → slice_get found i ≡ Some at → slice_get blocks at ≡ Some block → Uses block.items name
     → LeadsTo blocks name at ↔ ((j : ℕ) × (used : ℕ) × (owner blocks name ≡ Some used) × (slice_get found j ≡ Some used) × HaveOneNumber components i j)
 

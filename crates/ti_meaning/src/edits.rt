@@ -69,8 +69,8 @@ impl From<AllocError> for EditError {
 pub struct Edited {
     /// The positions of the blocks that depend on the edit, in the new list, in ascending order.
     pub rebuilt: Vec<usize>,
-    /// A step for each capability item that was laid and for each table of a used name that was
-    /// merged.
+    /// A step for each capability item that was added to a table and for each table of a used name
+    /// that was merged.
     pub work: u64,
 }
 

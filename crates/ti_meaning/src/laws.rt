@@ -1,5 +1,5 @@
 // Laws of the definitions that the calls of this crate stand on. They compute nothing.
-ghost use Rattle.ti_meaning.specs.Laws.{ItemFaultsAreInOrder, ExpansionsAreFound, ExpansionsStay, OwnersAreFirst, UseFaultsAreTold, WaysAreFound};
+ghost use Rattle.ti_meaning.specs.Laws.{ItemFaultsAreInOrder, ExpansionsAreFound, ExpansionsStay, OwnersAreFirst, UseFaultsAreFound, WaysAreFound};
 
 /// A name belongs to the first block that has it.
 pub fn owners_are_first()
@@ -25,8 +25,8 @@ pub fn ways_are_found()
 
 /// The fault of a use is the first that holds of: nobody owns the name, its owner leads back to the
 /// block, the owner does not resolve.
-pub fn use_faults_are_told()
-    ensures { UseFaultsAreTold }
+pub fn use_faults_are_found()
+    ensures { UseFaultsAreFound }
 {}
 
 /// The faults of a block's items stand in the order of their items, those that reading gave and

@@ -10,7 +10,7 @@ use Rattle.ti_param.specs.declared.lexer.Placed.{Placed}
 use Rattle.ti_param.specs.Codes.{IsCode}
 use Rattle.ti_param.specs.inside.Codes.{Front, token_after}
 use Rattle.ti_param.specs.Formats.{Tree, placed_token, IsCutIntoTokens, no_tokens, then_byte, then_code, AreTokensOf, IsTree, BeginsFormat, IsStuck, HasOneTree}
-use Rattle.ti_param.specs.inside.Formats.{Scan, with_token, scan, scan_of, phases_after, refusal, stuck_place, tree_and_marks, tree_of, IsComputed}
+use Rattle.ti_param.specs.inside.Formats.{Scan, with_token, scan, scan_of, phases_after, refusal, stuck_place, tree_and_marks, tree_of, IsFormatComputed}
 use Rattle.ti_param.specs.Meaning.{State, Outcome, and_then, meaning}
 use Rattle.ti_param.proofs.Reading.{code_read, code_so}
 use Rattle.ti_param.proofs.Scanning.{scan-byte, scan-stop, scan-code}
@@ -233,7 +233,7 @@ computed_stuck format place is =
         let stops : None ≡ Some rest.0 = sym (ap (λ a. gone a (λ o. advanced_all o more)) no_step) ∙ rest.1 in
         absurd (cc stops)
 
-pub is_computed : (format : List ℕ) → IsComputed format
+pub is_computed : (format : List ℕ) → IsFormatComputed format
 is_computed format = record {
   tree = λ t. (tree_computed format t, λ h. subst (IsTree format) h.1 (computed_tree format h.0));
   stuck = λ place. (stuck_computed format place, computed_stuck format place);

@@ -8,7 +8,7 @@ use Rattle.ti_printing.specs.declared.printf.Conversion.{Conversion}
 use Rattle.ti_printing.specs.declared.printf.Directive.{Directive}
 use Rattle.ti_printing.specs.declared.printf.Flags.{Flags}
 use Rattle.ti_param.specs.Codes.{span, begins_zero, row_for, conversions}
-use Rattle.ti_text.specs.Digits.{is_decimal_digit, decimal, decimal_from}
+use Rattle.ti_text.specs.Digits.{is_decimal_digit, decimal_value, decimal_from}
 use Rattle.ti_param.specs.inside.Codes.{number_after, constant_before, flags_after, precision_after, directive_after, directive_with}
 use Rattle.ti_param.proofs.Fronts.{span-whole, fails, braced}
 
@@ -51,24 +51,24 @@ digits-length : (text : List ℕ) → length (span is_decimal_digit text).0 + le
 digits-length text = sym (ap length (span-whole is_decimal_digit text) ∙ length-append (span is_decimal_digit text).0 (span is_decimal_digit text).1)
 
 pub number-refused : (text after rest : List ℕ) (x value : ℕ) → after ≡ (span is_decimal_digit text).1 → after ≡ x ∷ rest →
-    value ≡ min (decimal (span is_decimal_digit text).0) 4294967295 →
+    value ≡ min (decimal_value (span is_decimal_digit text).0) 4294967295 →
     (x ≡ 125 → length after ≢ length text → value ≤ 2147483647 → ⊥) → number_after text ≡ None
 unfolding number_after constant_before
 number-refused text after rest x value is begins capped refused =
     let l : length (span is_decimal_digit text).0 + length after ≡ length text = ap (λ t. length (span is_decimal_digit text).0 + length t) is ∙ digits-length text in
-    let test : ((x == 125 && nat_lt 0 (length (span is_decimal_digit text).0)) && nat_le (decimal (span is_decimal_digit text).0) 2147483647) ≡ false =
-    fails _ (λ h. let (brace, some, small) = braced x (length (span is_decimal_digit text).0) (decimal (span is_decimal_digit text).0) h in
+    let test : ((x == 125 && nat_lt 0 (length (span is_decimal_digit text).0)) && nat_le (decimal_value (span is_decimal_digit text).0) 2147483647) ≡ false =
+    fails _ (λ h. let (brace, some, small) = braced x (length (span is_decimal_digit text).0) (decimal_value (span is_decimal_digit text).0) h in
     refused brace (λ same. omega arith) (omega arith)) in
     rw (sym is ∙ begins) (rw test refl)
 
 pub number-read : (text after rest : List ℕ) (x value : ℕ) → after ≡ (span is_decimal_digit text).1 → after ≡ x ∷ rest →
-    value ≡ min (decimal (span is_decimal_digit text).0) 4294967295 →
+    value ≡ min (decimal_value (span is_decimal_digit text).0) 4294967295 →
     x ≡ 125 → length after ≢ length text → value ≤ 2147483647 → number_after text ≡ Some (Operation (Constant (pos value)), rest)
 unfolding number_after constant_before
 number-read text after rest x value is begins capped brace some small =
     let l : length (span is_decimal_digit text).0 + length after ≡ length text = ap (λ t. length (span is_decimal_digit text).0 + length t) is ∙ digits-length text in
     let n : ℕ = length (span is_decimal_digit text).0 in
-    let d : ℕ = decimal (span is_decimal_digit text).0 in
+    let d : ℕ = decimal_value (span is_decimal_digit text).0 in
     let same : value ≡ d = omega arith in
     let nonempty : 0 < n = omega arith in
     let few : d ≤ 2147483647 = omega arith in
@@ -99,26 +99,26 @@ unfolding directive_after
 directive-parts text after left flags e f = rw (sym e) (rw (sym f) refl)
 
 pub width-large : (flags : Flags) (ds : List ℕ) (precision : Option ℕ) (x : ℕ) (rest : List ℕ) (value : ℕ) →
-    value ≡ min (decimal ds) 4294967295 → 999 < value → directive_with flags ds (Some (precision, x ∷ rest)) ≡ None
+    value ≡ min (decimal_value ds) 4294967295 → 999 < value → directive_with flags ds (Some (precision, x ∷ rest)) ≡ None
 unfolding directive_with
 width-large flags ds precision x rest value capped large =
-    let over : nat_le (decimal ds) 999 ≡ false = grind (arith, nat_tests) in rw over refl
+    let over : nat_le (decimal_value ds) 999 ≡ false = grind (arith, nat_tests) in rw over refl
 
 pub conversion-unknown : (flags : Flags) (ds : List ℕ) (precision : Option ℕ) (x : ℕ) (rest : List ℕ) →
     row_for x conversions ≡ None → directive_with flags ds (Some (precision, x ∷ rest)) ≡ None
 unfolding directive_with
-conversion-unknown flags ds precision x rest row = rw row (either (nat_le (decimal ds) 999))
+conversion-unknown flags ds precision x rest row = rw row (either (nat_le (decimal_value ds) 999))
   where
     either : (b : Bool) → ◌≡◌ {A = Option (Directive × List ℕ)} (if b then None else None) None
     either true = refl
     either false = refl
 
 pub directive-read : (flags : Flags) (ds : List ℕ) (precision : Option ℕ) (x : ℕ) (rest : List ℕ) (value : ℕ) (zero : Bool) (conversion : Conversion) →
-    value ≡ min (decimal ds) 4294967295 → value ≤ 999 → zero ≡ begins_zero ds → row_for x conversions ≡ Some conversion →
+    value ≡ min (decimal_value ds) 4294967295 → value ≤ 999 → zero ≡ begins_zero ds → row_for x conversions ≡ Some conversion →
     directive_with flags ds (Some (precision, x ∷ rest)) ≡
     Some (record { flags = record flags { zero = zero }; width = value; precision = precision; conversion = conversion }, rest)
 unfolding directive_with
 directive-read flags ds precision x rest value zero conversion capped small is row =
-    let under : nat_le (decimal ds) 999 ≡ true = grind (arith, nat_tests) in
-    let same : decimal ds ≡ value = omega arith in
+    let under : nat_le (decimal_value ds) 999 ≡ true = grind (arith, nat_tests) in
+    let same : decimal_value ds ≡ value = omega arith in
     rw under (rw row (rw (same, sym is) refl))

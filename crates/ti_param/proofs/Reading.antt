@@ -9,7 +9,7 @@ use Rattle.ti_printing.specs.declared.printf.Conversion.{Conversion}
 use Rattle.ti_printing.specs.declared.printf.Directive.{Directive}
 use Rattle.ti_printing.specs.declared.printf.Flags.{Flags}
 use Rattle.ti_param.specs.Codes.{row_for, AllAre, span, simple_tokens, conversions, is_flag, IsFlags, signed_flags, plain_flags, IsPrecision, without_precision, with_precision, begins_zero, IsDirective, directive, IsCode, simple_code, parameter_code, store_code, fetch_code, byte_code, number_code, print_code}
-use Rattle.ti_text.specs.Digits.{is_decimal_digit, decimal}
+use Rattle.ti_text.specs.Digits.{is_decimal_digit, decimal_value}
 use Rattle.ti_param.specs.inside.Codes.{Front, parameter_after, store_after, fetch_after, byte_after, constant_before, number_after, flags_of, flags_after, precision_of, precision_after, directive_with, directive_after, begins_directive, letter_after, token_after, OneCode}
 use Rattle.ti_param.proofs.Fronts.{chosen, mapped, found-row, span-whole, span-all, span-append, braced}
 
@@ -83,7 +83,7 @@ unfolding precision_after
 precision_read ps precision x rest without_precision ends = rw ends.1 refl
 precision_read ps precision x rest (with_precision ds each small) ends =
     let parts : span is_decimal_digit (ds ++ (x ∷ rest)) ≡ (ds, x ∷ rest) = span-append is_decimal_digit ds (x ∷ rest) each ends.0 in
-    ap precision_of parts ∙ rw (within (decimal ds) 999 small) refl
+    ap precision_of parts ∙ rw (within (decimal_value ds) 999 small) refl
 
 -- the text of a printf form, head and tail
 abbrev Begun : List ℕ → Type 0
@@ -112,9 +112,9 @@ flags_head fs flags y ys (plain_flags (x ∷ xs) each) past = flag_begins x each
 
 -- the form that a text begins with is read, and it begins as forms do
 directive_read : (fs ds ps : List ℕ) (x : ℕ) (rest : List ℕ) (flags : Flags) (precision : Option ℕ) (conversion : Conversion) →
-    IsFlags fs flags → AllAre is_decimal_digit ds → decimal ds ≤ 999 → IsPrecision ps precision → row_for x conversions ≡ Some conversion →
+    IsFlags fs flags → AllAre is_decimal_digit ds → decimal_value ds ≤ 999 → IsPrecision ps precision → row_for x conversions ≡ Some conversion →
     (directive_after (fs ++ (ds ++ (ps ++ (x ∷ rest)))) ≡
-    Some (record { flags = record flags { zero = begins_zero ds }; width = decimal ds; precision = precision; conversion = conversion }, rest))
+    Some (record { flags = record flags { zero = begins_zero ds }; width = decimal_value ds; precision = precision; conversion = conversion }, rest))
     × Begun (fs ++ (ds ++ (ps ++ (x ∷ rest))))
 unfolding directive_after directive_with
 directive_read fs ds ps x rest flags precision conversion is_flags digits small is_precision row =
@@ -126,7 +126,7 @@ directive_read fs ds ps x rest flags precision conversion is_flags digits small 
     rw is (width_head (λ text. flags_after (fs ++ text) ≡ (flags, text)) ds y ys digits past (λ z zs after e. flags_read fs flags z zs is_flags after)) in
     let begun : Begun (fs ++ (ds ++ (ps ++ (x ∷ rest)))) =
     rw is (width_head (λ text. Begun (fs ++ text)) ds y ys digits past (λ z zs after e. flags_head fs flags z zs is_flags after)) in
-    (rw front (rw width (rw at (rw (within (decimal ds) 999 small) (rw row refl)))), begun)
+    (rw front (rw width (rw at (rw (within (decimal_value ds) 999 small) (rw row refl)))), begun)
 
 -- ---- each code's text is read
 
@@ -147,13 +147,13 @@ simple_code_read x rest token row =
     found-row (λ r. token_after (r.0 ∷ rest) ≡ Some (r.1, rest)) x simple_tokens token
     (refl, (refl, (refl, (refl, (refl, (refl, (refl, (refl, (refl, (refl, (refl, (refl, (refl, (refl, (refl, (refl, (refl, (refl, (refl, (refl, (refl, (refl, (refl, tt))))))))))))))))))))))) row
 
-number_code_read : (ds rest : List ℕ) → AllAre is_decimal_digit ds → 0 < length ds → decimal ds ≤ 2147483647 →
-    token_after (123 ∷ ((ds ++ 125 ∷ []) ++ rest)) ≡ Some (Operation (Constant (pos (decimal ds))), rest)
+number_code_read : (ds rest : List ℕ) → AllAre is_decimal_digit ds → 0 < length ds → decimal_value ds ≤ 2147483647 →
+    token_after (123 ∷ ((ds ++ 125 ∷ []) ++ rest)) ≡ Some (Operation (Constant (pos (decimal_value ds))), rest)
 unfolding token_after letter_after number_after constant_before
 number_code_read ds rest digits some small =
     let parts : span is_decimal_digit (ds ++ (125 ∷ rest)) ≡ (ds, 125 ∷ rest) = span-append is_decimal_digit ds (125 ∷ rest) digits refl in
     let nonempty : nat_lt 0 (length ds) ≡ true = grind (arith, nat_tests) in
-    rw append_assoc (rw parts (rw nonempty (rw (within (decimal ds) 2147483647 small) refl)))
+    rw append_assoc (rw parts (rw nonempty (rw (within (decimal_value ds) 2147483647 small) refl)))
 
 pub code_read : (text rest : List ℕ) (token : Token) → IsCode text token → token_after (text ++ rest) ≡ Some (token, rest)
 unfolding token_after letter_after parameter_after store_after fetch_after byte_after
@@ -202,10 +202,10 @@ constant_so : (ds after : List ℕ) (found : Token × List ℕ) → AllAre is_de
 unfolding constant_before
 constant_so ds [] found digits h = absurd (cc)
 constant_so ds (x ∷ rest) found digits h =
-    elim (chosen ((x == 125 && nat_lt 0 (length ds)) && nat_le (decimal ds) 2147483647) _ _ _ h) [
+    elim (chosen ((x == 125 && nat_lt 0 (length ds)) && nat_le (decimal_value ds) 2147483647) _ _ _ h) [
       | inl (test, is) ↦
-          let (brace, some, small) = braced x (length ds) (decimal ds) test in
-          let same : ◌≡◌ {A = Token × List ℕ} (Operation (Constant (pos (decimal ds))), rest) found = cc is in
+          let (brace, some, small) = braced x (length ds) (decimal_value ds) test in
+          let same : ◌≡◌ {A = Token × List ℕ} (Operation (Constant (pos (decimal_value ds))), rest) found = cc is in
           subst (Found 123 (ds ++ (x ∷ rest))) same
           (ds ++ 125 ∷ [], ap (λ q. ds ++ (q ∷ rest)) brace ∙ sym (append_assoc ds (125 ∷ []) rest), number_code ds digits some small)
       | inr (other, is) ↦ absurd (cc is)
@@ -279,9 +279,9 @@ precision_so [] found h =
     subst (FoundPrecision []) same ([], refl, without_precision)
 precision_so (x ∷ xs) found h =
     elim (chosen (x == 46) _ _ _ h) [
-      | inl (point, is) ↦ elim (chosen (nat_le (decimal (span is_decimal_digit xs).0) 999) _ _ _ is) [
+      | inl (point, is) ↦ elim (chosen (nat_le (decimal_value (span is_decimal_digit xs).0) 999) _ _ _ is) [
         | inl (small, at) ↦
-            let same : ◌≡◌ {A = Option ℕ × List ℕ} (Some (decimal (span is_decimal_digit xs).0), (span is_decimal_digit xs).1) found = cc at in
+            let same : ◌≡◌ {A = Option ℕ × List ℕ} (Some (decimal_value (span is_decimal_digit xs).0), (span is_decimal_digit xs).1) found = cc at in
             subst (FoundPrecision (x ∷ xs)) same (
               46 ∷ (span is_decimal_digit xs).0,
               ap (λ c. c ∷ xs) ((Decides-eqb x 46).0 point) ∙ ap (λ ys. 46 ∷ ys) (span-whole is_decimal_digit xs),
@@ -300,9 +300,9 @@ record ReadForm (flags : Flags) (ds : List ℕ) (precision : Front (Option ℕ))
   pub letter : ℕ
   pub conversion : Conversion
   pub read : precision ≡ Some (count, letter ∷ found.1)
-  pub small : decimal ds ≤ 999
+  pub small : decimal_value ds ≤ 999
   pub row : row_for letter conversions ≡ Some conversion
-  pub form : record { flags = record flags { zero = begins_zero ds }; width = decimal ds; precision = count; conversion = conversion } ≡ found.0
+  pub form : record { flags = record flags { zero = begins_zero ds }; width = decimal_value ds; precision = count; conversion = conversion } ≡ found.0
 
 form_so : (flags : Flags) (ds : List ℕ) (precision : Front (Option ℕ)) (found : Directive × List ℕ) →
     directive_with flags ds precision ≡ Some found → ReadForm flags ds precision found
@@ -310,7 +310,7 @@ unfolding directive_with
 form_so flags ds None found h = absurd (cc)
 form_so flags ds (Some (count, [])) found h = absurd (cc)
 form_so flags ds (Some (count, letter ∷ rest)) found h =
-    elim (chosen (nat_le (decimal ds) 999) _ _ _ h) [
+    elim (chosen (nat_le (decimal_value ds) 999) _ _ _ h) [
       | inl (small, is) ↦
           let (conversion, row, at) = mapped _ _ found is in
           record {

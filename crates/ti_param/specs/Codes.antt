@@ -3,7 +3,7 @@
 use Rattle.std.specs.Prelude.{◌≡◌, ℕ, ◌-◌, ◌<◌, ◌≤◌, Bool, true, false, ◌&&◌, ◌||◌, List, [], ◌∷◌, ◌++◌, length, map, pos, if◌then◌else◌, ◌==◌, nat_le, Option, Some, None}
 use Rattle.ti_text.specs.Ascii.{byte_of}
 use Rattle.ti_text.specs.Ascii as ascii
-use Rattle.ti_text.specs.Digits.{is_decimal_digit, decimal}
+use Rattle.ti_text.specs.Digits.{is_decimal_digit, decimal_value}
 use Rattle.ti_text.specs.Limits.{number_max}
 use Rattle.std.specs.List.{AllByRecursion}
 use Rattle.ti_param.specs.declared.codes.Code.TheVariants.{Percent, Character, Print, Parameter, Store, Fetch, Constant, Length, Binary, Not, Complement, Increment}
@@ -105,7 +105,7 @@ greatest_size = 999
 -- the texts of a precision; `.` without digits is 0
 pub data IsPrecision : List ℕ → Option ℕ → Type 0 where
   without_precision : IsPrecision [] None
-  with_precision : (ds : List ℕ) → AllAre is_decimal_digit ds → decimal ds ≤ greatest_size → IsPrecision (ascii.dot ∷ ds) (Some (decimal ds))
+  with_precision : (ds : List ℕ) → AllAre is_decimal_digit ds → decimal_value ds ≤ greatest_size → IsPrecision (ascii.dot ∷ ds) (Some (decimal_value ds))
 
 -- a leading 0 of the width
 abbrev pub begins_zero : List ℕ → Bool
@@ -115,9 +115,9 @@ begins_zero (d ∷ ds) = d == ascii.digit_0
 -- the texts of a printf form: flags, width, precision, conversion
 pub data IsDirective : List ℕ → Directive → Type 0 where
   directive : (fs ds ps : List ℕ) (x : ℕ) {flags : Flags} {precision : Option ℕ} {conversion : Conversion} →
-      IsFlags fs flags → AllAre is_decimal_digit ds → decimal ds ≤ greatest_size → IsPrecision ps precision → row_for x conversions ≡ Some conversion →
+      IsFlags fs flags → AllAre is_decimal_digit ds → decimal_value ds ≤ greatest_size → IsPrecision ps precision → row_for x conversions ≡ Some conversion →
       IsDirective (fs ++ (ds ++ (ps ++ x ∷ [])))
-      (record { flags = record flags { zero = begins_zero ds }; width = decimal ds; precision = precision; conversion = conversion })
+      (record { flags = record flags { zero = begins_zero ds }; width = decimal_value ds; precision = precision; conversion = conversion })
 
 -- ---- the table
 
@@ -128,6 +128,6 @@ pub data IsCode : List ℕ → Token → Type 0 where
   store_code : (x : ℕ) {variable : Variable} → variable_named x ≡ Some variable → IsCode (byte_of "P" ∷ (x ∷ [])) (Operation (Store variable))
   fetch_code : (x : ℕ) {variable : Variable} → variable_named x ≡ Some variable → IsCode (byte_of "g" ∷ (x ∷ [])) (Operation (Fetch variable))
   byte_code : (x : ℕ) → IsCode (ascii.apostrophe ∷ (x ∷ (ascii.apostrophe ∷ []))) (Operation (Constant (pos x)))
-  number_code : (ds : List ℕ) → AllAre is_decimal_digit ds → 0 < length ds → decimal ds ≤ number_max →
-      IsCode (ascii.open_brace ∷ (ds ++ ascii.close_brace ∷ [])) (Operation (Constant (pos (decimal ds))))
+  number_code : (ds : List ℕ) → AllAre is_decimal_digit ds → 0 < length ds → decimal_value ds ≤ number_max →
+      IsCode (ascii.open_brace ∷ (ds ++ ascii.close_brace ∷ [])) (Operation (Constant (pos (decimal_value ds))))
   print_code : (text : List ℕ) {form : Directive} → IsDirective text form → IsCode text (Operation (Print form))

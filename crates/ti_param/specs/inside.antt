@@ -2,3 +2,4 @@
 pub mod Codes
 pub mod Formats
 pub mod Expansion
+pub mod Reader

@@ -3,7 +3,7 @@ ghost use Rattle.std.specs.Prelude.{◌≡◌, ℕ, ◌≤◌, List, MatchResult
 ghost use Rattle.arrayvec.specs.ArrayVec.{array_vec_len};
 ghost use Rattle.ti_param.specs.inside.Expansion.{IsStuckError};
 ghost use Rattle.ti_param.specs.Formats.{HasOneTree, most_open};
-ghost use Rattle.ti_param.specs.inside.Formats.{stuck_place, phases_after, IsComputed};
+ghost use Rattle.ti_param.specs.inside.Formats.{stuck_place, phases_after, IsFormatComputed};
 
 use crate::codes::Token;
 use crate::errors::ParamError;
@@ -75,5 +75,5 @@ pub fn one_reading()
 
 /// The law of the computing reader: it gives the tree, and the place, that there are.
 pub fn reading_is_computed()
-    ensures { (format : List ℕ) → IsComputed format }
+    ensures { (format : List ℕ) → IsFormatComputed format }
 {}

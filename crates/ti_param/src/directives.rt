@@ -1,8 +1,9 @@
 //! Reading a printf form of a format: flags, width, precision and conversion.
-ghost use Rattle.std.specs.Prelude.{◌≡◌, option_map, if◌then◌else◌};
+ghost use Rattle.std.specs.Prelude.{◌≡◌, if◌then◌else◌};
 ghost use Rattle.ti_param.specs.Codes.{with_flag, span, row_for, conversions, begins_zero, is_flag};
 ghost use Rattle.ti_param.specs.inside.Codes.{directive_after, precision_after, flags_after, flags_of};
 ghost use Rattle.ti_text.specs.Digits.{is_decimal_digit};
+ghost use Rattle.ti_param.specs.inside.Reader.{with_rest};
 
 use crate::decimals::number;
 use ti_printing::printf::{Conversion, Directive, Flags};
@@ -11,7 +12,7 @@ use ti_printing::printf::{Conversion, Directive, Flags};
 #[inline(always)]
 #[tactic(auto, unfolding(crate::specs::inside::Codes::directive_after))]
 pub(crate) fn directive(text: &[u8]) -> Option<(Directive, &[u8])>
-    ensures { option_map (λ found. (found.0, found.1.now)) result ≡ directive_after text.now }
+    ensures { with_rest result ≡ directive_after text.now }
 {
     let (flags, text) = flags(text);
     let zero = begins_with_zero(text);
@@ -105,7 +106,7 @@ fn flag(flags: Flags, byte: u8, signed: bool) -> Option<Flags>
 #[inline(always)]
 #[tactic(auto, unfolding(crate::specs::inside::Codes::precision_after))]
 fn precision(text: &[u8]) -> Option<(Option<u16>, &[u8])>
-    ensures { option_map (λ found. (found.0, found.1.now)) result ≡ precision_after text.now }
+    ensures { with_rest result ≡ precision_after text.now }
 {
     match text.split_first() {
         Some((&b'.', digits)) => {

@@ -1,6 +1,7 @@
 //! A format as its tokens.
-ghost use Rattle.std.specs.Prelude.{◌≡◌, ◌^◌, ◌<◌, [], ◌∷◌, MatchOption, IfNone, length, option_map};
+ghost use Rattle.std.specs.Prelude.{◌≡◌, ◌^◌, ◌<◌, [], ◌∷◌, MatchOption, IfNone, length};
 ghost use Rattle.ti_param.specs.inside.Formats.{first_token, scan_of};
+ghost use Rattle.ti_param.specs.inside.Reader.{with_rest};
 
 use crate::codes::Token;
 use crate::reader::read_token;
@@ -16,7 +17,7 @@ pub(crate) struct Placed {
 /// The token that a byte and the text after it begin with: the code after a `%`, else the byte itself.
 #[inline(always)]
 fn first_token(byte: u8, after: &[u8]) -> Option<(Token, &[u8])>
-    ensures { option_map (λ found. (found.0, found.1.now)) result ≡ first_token byte after.now }
+    ensures { with_rest result ≡ first_token byte after.now }
 {
     if byte == b'%' {
         read_token(after)

@@ -1,9 +1,10 @@
 //! Reading one code of a format.
 //!
 //! Each reader takes the text at which it begins, and gives what it read and the text after it.
-ghost use Rattle.std.specs.Prelude.{◌≡◌, option_map};
+ghost use Rattle.std.specs.Prelude.{◌≡◌};
 ghost use Rattle.ti_param.specs.Codes.{row_for, operators, simple_tokens};
 ghost use Rattle.ti_param.specs.inside.Codes.{OneCode, token_after, letter_after, parameter_after, store_after, fetch_after, byte_after, number_after};
+ghost use Rattle.ti_param.specs.inside.Reader.{with_rest};
 
 use crate::codes::{Code, Operator, Token, ordinal_of, variable_of};
 use crate::decimals::number;
@@ -14,7 +15,7 @@ use ti_text::limits::NUMBER_MAX;
 #[tactic(auto, unfolding(crate::specs::inside::Codes::token_after))]
 #[inline(always)]
 pub(crate) fn read_token(text: &[u8]) -> Option<(Token, &[u8])>
-    ensures { option_map (λ found. (found.0, found.1.now)) result ≡ token_after text.now }
+    ensures { with_rest result ≡ token_after text.now }
 {
     let (&letter, rest) = text.split_first()?;
     match letter {
@@ -30,7 +31,7 @@ pub(crate) fn read_token(text: &[u8]) -> Option<(Token, &[u8])>
 #[tactic(auto, unfolding(crate::specs::inside::Codes::letter_after))]
 #[inline(always)]
 fn lettered_token(letter: u8, rest: &[u8]) -> Option<(Token, &[u8])>
-    ensures { option_map (λ found. (found.0, found.1.now)) result ≡ letter_after letter rest.now }
+    ensures { with_rest result ≡ letter_after letter rest.now }
 {
     match letter {
         b'p' => parameter(rest),
@@ -90,7 +91,7 @@ fn operator_of(letter: u8) -> Option<Operator>
 #[inline(always)]
 #[tactic(auto, unfolding(crate::specs::inside::Codes::parameter_after))]
 fn parameter(text: &[u8]) -> Option<(Token, &[u8])>
-    ensures { option_map (λ found. (found.0, found.1.now)) result ≡ parameter_after text.now }
+    ensures { with_rest result ≡ parameter_after text.now }
 {
     let (&digit, rest) = text.split_first()?;
     let ordinal = ordinal_of(digit)?;
@@ -100,7 +101,7 @@ fn parameter(text: &[u8]) -> Option<(Token, &[u8])>
 /// `%P` and a letter, after the `P`.
 #[tactic(auto, unfolding(crate::specs::inside::Codes::store_after))]
 fn store(text: &[u8]) -> Option<(Token, &[u8])>
-    ensures { option_map (λ found. (found.0, found.1.now)) result ≡ store_after text.now }
+    ensures { with_rest result ≡ store_after text.now }
 {
     let (&letter, rest) = text.split_first()?;
     let variable = variable_of(letter)?;
@@ -110,7 +111,7 @@ fn store(text: &[u8]) -> Option<(Token, &[u8])>
 /// `%g` and a letter, after the `g`.
 #[tactic(auto, unfolding(crate::specs::inside::Codes::fetch_after))]
 fn fetch(text: &[u8]) -> Option<(Token, &[u8])>
-    ensures { option_map (λ found. (found.0, found.1.now)) result ≡ fetch_after text.now }
+    ensures { with_rest result ≡ fetch_after text.now }
 {
     let (&letter, rest) = text.split_first()?;
     let variable = variable_of(letter)?;
@@ -121,7 +122,7 @@ fn fetch(text: &[u8]) -> Option<(Token, &[u8])>
 #[inline(always)]
 #[tactic(auto, unfolding(crate::specs::inside::Codes::byte_after))]
 fn byte(text: &[u8]) -> Option<(Token, &[u8])>
-    ensures { option_map (λ found. (found.0, found.1.now)) result ≡ byte_after text.now }
+    ensures { with_rest result ≡ byte_after text.now }
 {
     let (&byte, rest) = text.split_first()?;
     let (&quote, rest) = rest.split_first()?;
@@ -135,7 +136,7 @@ fn byte(text: &[u8]) -> Option<(Token, &[u8])>
 #[inline(always)]
 #[tactic(auto, unfolding(crate::specs::inside::Codes::number_after))]
 fn number_constant(text: &[u8]) -> Option<(Token, &[u8])>
-    ensures { option_map (λ found. (found.0, found.1.now)) result ≡ number_after text.now }
+    ensures { with_rest result ≡ number_after text.now }
 {
     let (value, after) = number(text);
     let (&brace, rest) = after.split_first()?;

@@ -29,13 +29,13 @@ no_fault blocks at index name code h sound e =
     let none = sound h.block name h.stands (uses_at h.block.items index h.item name h.places (ap used_name h.is)) in
     none-some code (sym none ∙ sym e)
 
--- the table of the used name's owner was laid
-pub laid_use : (blocks : List Reading) (name : List ℕ) (used old new : Contents) → IsUsedTable blocks name used → ((c : Capability) → IsCapability c → new c ≡ option_or (old c) (used c)) → AddsSaid blocks (said_import name) old new
-laid_use blocks name used old new u laid = record {
+-- the table of the used name's owner was added
+pub added_use : (blocks : List Reading) (name : List ℕ) (used old new : Contents) → IsUsedTable blocks name used → ((c : Capability) → IsCapability c → new c ≡ option_or (old c) (used c)) → AddsSaid blocks (said_import name) old new
+added_use blocks name used old new u added = record {
   depth = suc (length blocks);
   mentions = u.2.0;
   expands = rw u.1 u.2.1;
-  adds = λ c valid. rw (← u.2.2 c valid) (laid c valid);
+  adds = λ c valid. rw (← u.2.2 c valid) (added c valid);
 }
 
 -- a table that says the same

@@ -83,6 +83,6 @@ uses_sound bs at block end s past h other name t u =
     let below : w.0 < end = omega arith in
     no_code (use_fault bs at name) (subst (λ o. is_at_fault bs at o ≡ false) w.3 (h w.0 w.1 below w.2))
 
-pub told : (b : Bool) (P Q : Type 0) → (b ≡ true → P) → (b ≡ false → Q) → MatchBool b P Q
-told true P Q p q = p refl
-told false P Q p q = q refl
+pub found : (b : Bool) (P Q : Type 0) → (b ≡ true → P) → (b ≡ false → Q) → MatchBool b P Q
+found true P Q p q = p refl
+found false P Q p q = q refl

@@ -141,7 +141,7 @@ way_of_walk g u w [] h = h
 way_of_walk g u w (x ∷ way) h = (record { row = h.0.0; place = h.0.2.0; stands = h.0.1; leads = h.0.2.1 }, way_of_walk g x w way h.1)
 
 -- the components of the graph, as the laws speak of them
-pub components_of : (g : Rows) (numbers : List ℕ) (count : ℕ) → AreComponents g numbers → count ≡ length g → laws.TellComponents count (laws.HasOptionalEdge g) (HaveOneNumber numbers)
+pub components_of : (g : Rows) (numbers : List ℕ) (count : ℕ) → AreComponents g numbers → count ≡ length g → laws.MarksComponents count (laws.HasOptionalEdge g) (HaveOneNumber numbers)
 components_of g numbers count h n i j within_i within_j =
     let c = item_at numbers i (omega (arith, h.as_many)) in
     let d = item_at numbers j (omega (arith, h.as_many)) in

@@ -34,7 +34,7 @@ pub record IsFoundUse (slots : Slots) (d : Dependents) (component_of : List ℕ)
   pub leads : IsEdgeTo slots d.ids.items name edge
 
 module _ (slots : Slots) (d : Dependents) (component_of : List ℕ) (settled : List (Option Settled)) (node at index : ℕ) (name : List ℕ) where
-  numbers : IsKnown slots d component_of settled → laws.TellComponents (length d.places.items) (laws.HasOptionalEdge d.uses) (HaveOneNumber component_of)
+  numbers : IsKnown slots d component_of settled → laws.MarksComponents (length d.places.items) (laws.HasOptionalEdge d.uses) (HaveOneNumber component_of)
   numbers k = components_of d.uses component_of (length d.places.items) k.components (omega (arith, k.found.as_many, k.found.graph.as_many))
 
   -- where the use leads back, its edge leads to a node of the same component

@@ -1,5 +1,5 @@
 // The faults of a block but those of names that earlier blocks own: of its header, its items in their order, and its entry.
-ghost use Rattle.std.specs.Prelude.{ℕ, ◌≡◌, ◌≤◌, ◌++◌, [], ◌∷◌, drop, filter, map, length, slice_get, Some, is_some, false, option_map, IfOk, OnOk};
+ghost use Rattle.std.specs.Prelude.{ℕ, ◌≡◌, ◌≤◌, [], ◌∷◌, drop, filter, map, length, slice_get, Some, is_some, false, option_map, IfOk, OnOk};
 ghost use Rattle.std.specs.Bool.{MatchBool};
 ghost use Rattle.std.specs.Rc.{rc_slice_items};
 ghost use Rattle.ti_source.specs.Reading.{fault_of, reading_of, said_of};
@@ -7,8 +7,9 @@ ghost use Rattle.ti_meaning.specs.Faults.{entry_faults, fault_of_item, fault_of_
 ghost use Rattle.ti_meaning.specs.KeptBlocks.{is_no_duplicate};
 ghost use Rattle.ti_meaning.specs.Reaching.{used_name};
 ghost use Rattle.ti_meaning.specs.UseLaws.{HasUseAtFault};
-ghost use Rattle.ti_slots.specs.Settled.{fault_at, state_seen};
+ghost use Rattle.ti_slots.specs.Settled.{state_seen};
 ghost use Rattle.ti_plan.specs.inside.Settling.{AreUsesSound, CanSettle, IsItemAt, IsUseAt, is_at_fault, blocks_known};
+ghost use Rattle.ti_plan.specs.inside.Faults.{AddsFaults};
 
 use crate::owners::{Known, used_table};
 use std::alloc::AllocError;
@@ -19,8 +20,8 @@ use ti_source::{Code, Item, Local, Parsed, What};
 /// Adds a fault that reading gave. One of a name that an earlier block owns is none of these.
 fn add_local(local: &Local, faults: &mut Vec<KeptFault>) -> Result<(), AllocError>
     ghost at: { ℕ }
-    ensures { OnOk result (map (fault_at at) faults.new.items
-        ≡ map (fault_at at) faults.old.items ++ filter is_no_duplicate (local_fault at (fault_of local.now) ∷ [])) }
+    ensures { OnOk result (AddsFaults at faults.old.items faults.new.items
+        (filter is_no_duplicate (local_fault at (fault_of local.now) ∷ []))) }
 {
     if !matches!(local.code, Code::DuplicateName) {
         faults.push(KeptFault {
@@ -39,8 +40,8 @@ pub(crate) fn add_locals(
     faults: &mut Vec<KeptFault>,
 ) -> Result<(), AllocError>
     ghost at: { ℕ }
-    ensures { OnOk result (map (fault_at at) faults.new.items
-        ≡ map (fault_at at) faults.old.items ++ filter is_no_duplicate (local_faults of_header at (map fault_of locals.now))) }
+    ensures { OnOk result (AddsFaults at faults.old.items faults.new.items
+        (filter is_no_duplicate (local_faults of_header at (map fault_of locals.now)))) }
 {
     for local in locals {
         if local.code.is_of_header() == of_header {
@@ -61,8 +62,8 @@ fn add_before(
     ghost at: { ℕ }
     requires { next ≤ length locals.now }
     ensures within { IfOk result (λ rest. rest ≤ length locals.now) }
-    ensures added { OnOk result (map (fault_at at) faults.new.items ≡ map (fault_at at) faults.old.items
-        ++ filter is_no_duplicate (map (local_fault at) (faults_before ordinal (filter (is_kept false) (map fault_of (drop next locals.now)))))) }
+    ensures added { OnOk result (AddsFaults at faults.old.items faults.new.items
+        (filter is_no_duplicate (map (local_fault at) (faults_before ordinal (filter (is_kept false) (map fault_of (drop next locals.now))))))) }
     ensures rest { IfOk result (λ rest. filter (is_kept false) (map fault_of (drop rest locals.now))
         ≡ faults_from ordinal (filter (is_kept false) (map fault_of (drop next locals.now)))) }
 {
@@ -91,9 +92,9 @@ fn add_use_fault(
     ghost at: { ℕ }
     requires ready { CanSettle known.now node at }
     requires used { IsUseAt (blocks_known known.now) at index (rc_slice_items name.now) }
-    ensures added { OnOk result (map (fault_at at) faults.new.items ≡ map (fault_at at) faults.old.items
-        ++ fault_of_use at line (rc_slice_items name.now) (use_fault (blocks_known known.now) at (rc_slice_items name.now))) }
-    ensures told { IfOk result (λ is_wrong. is_wrong ≡ is_some (use_fault (blocks_known known.now) at (rc_slice_items name.now))) }
+    ensures added { OnOk result (AddsFaults at faults.old.items faults.new.items
+        (fault_of_use at line (rc_slice_items name.now) (use_fault (blocks_known known.now) at (rc_slice_items name.now)))) }
+    ensures found { IfOk result (λ is_wrong. is_wrong ≡ is_some (use_fault (blocks_known known.now) at (rc_slice_items name.now))) }
 {
     let Err(code) = used_table(known, node, index, name.as_slice()) else {
         return Ok(false);
@@ -118,9 +119,9 @@ fn add_item_fault(
     ghost at: { ℕ }
     requires ready { CanSettle known.now node at }
     requires item { IsItemAt (blocks_known known.now) at index (said_of item.now.what) }
-    ensures added { OnOk result (map (fault_at at) faults.new.items ≡ map (fault_at at) faults.old.items
-        ++ fault_of_item (blocks_known known.now) at item.now.line (used_name (said_of item.now.what))) }
-    ensures told { IfOk result (λ is_wrong. is_wrong ≡ is_at_fault (blocks_known known.now) at (used_name (said_of item.now.what))) }
+    ensures added { OnOk result (AddsFaults at faults.old.items faults.new.items
+        (fault_of_item (blocks_known known.now) at item.now.line (used_name (said_of item.now.what)))) }
+    ensures found { IfOk result (λ is_wrong. is_wrong ≡ is_at_fault (blocks_known known.now) at (used_name (said_of item.now.what))) }
 {
     match &item.what {
         What::Import(name) => add_use_fault(known, node, index, item.line, name, faults),
@@ -139,9 +140,10 @@ pub(crate) fn add_item_faults(
     ghost at: { ℕ }
     requires ready { CanSettle known.now node at }
     requires block { slice_get (blocks_known known.now) at ≡ Some (reading_of block.now) }
-    ensures added { OnOk result (map (fault_at at) faults.new.items ≡ map (fault_at at) faults.old.items
-        ++ filter is_no_duplicate (item_faults (blocks_known known.now) at (filter (is_kept false) (reading_of block.now).faults) (reading_of block.now).items)) }
-    ensures told { IfOk result (λ is_wrong. MatchBool is_wrong
+    ensures added { OnOk result (AddsFaults at faults.old.items faults.new.items
+        (filter is_no_duplicate (item_faults (blocks_known known.now) at
+        (filter (is_kept false) (reading_of block.now).faults) (reading_of block.now).items))) }
+    ensures found { IfOk result (λ is_wrong. MatchBool is_wrong
         (HasUseAtFault (blocks_known known.now) at (reading_of block.now)) (AreUsesSound (blocks_known known.now) at)) }
 {
     let mut next = 0;
@@ -173,8 +175,8 @@ pub(crate) fn add_entry_fault(
     faults: &mut Vec<KeptFault>,
 ) -> Result<(), AllocError>
     ghost at: { ℕ }
-    ensures { OnOk result (map (fault_at at) faults.new.items ≡ map (fault_at at) faults.old.items
-        ++ entry_faults at (map rc_slice_items names.now) (state_seen state.now)) }
+    ensures { OnOk result (AddsFaults at faults.old.items faults.new.items
+        (entry_faults at (map rc_slice_items names.now) (state_seen state.now))) }
 {
     if let State::TooLarge(_) = state {
         faults.push(KeptFault {

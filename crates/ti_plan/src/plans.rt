@@ -11,7 +11,7 @@ pub struct Plan {
     pub settled: Vec<Settled>,
     /// The positions of these blocks in the new list, in ascending order.
     pub rebuilt: Vec<usize>,
-    /// A step for each capability item that was laid and for each table of a used name that was
-    /// merged.
+    /// A step for each capability item that was added to a table and for each table of a used name
+    /// that was merged.
     pub work: u64,
 }

@@ -1,10 +1,11 @@
--- What is parts_text out is what is printed.
+-- The parts of a field one behind the other are what is printed.
 use Rattle.ti_printing.specs.declared.printf.Conversion.{Conversion}
 use Rattle.ti_printing.specs.declared.printf.Conversion.TheVariants.{Decimal, Octal, LowerHex, UpperHex, Text}
 use Rattle.ti_printing.specs.declared.printf.Directive.{Directive}
 use Rattle.std.proofs.Common.{◌≢◌, ℤ, ◌≡◌, ℕ, ◌+◌, ◌-◌, List, [], ◌++◌, length, replicate, refl, sym, ap, ◌∙◌, arith}
 use Rattle.std.proofs.lemmas.List.{append_assoc, append-nil, length-append, length-replicate, replicate-append-replicate}
-use Rattle.ti_printing.specs.Printf.{printed_by, printed_number, parts_text, at_least}
+use Rattle.ti_printing.specs.inside.Printf.{parts_text}
+use Rattle.ti_printing.specs.Printf.{printed_by, printed_number, at_least}
 
 -- zeros for the width and zeros for the precision
 pub parts_text-zeros : (width zeros : ℕ) (front shown : List ℕ) →

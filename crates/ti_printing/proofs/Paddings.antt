@@ -1,5 +1,5 @@
 -- What `padding_at` finds is a padding, and it finds each.
-use Rattle.ti_text.specs.Digits.{is_decimal_digit, IsDecimalDigit, decimal, decimal_from}
+use Rattle.ti_text.specs.Digits.{is_decimal_digit, IsDecimalDigit, decimal_value, decimal_from}
 use Rattle.std.proofs.Common.{◌≡◌, ℕ, zero, suc, ◌+◌, ◌-◌, ◌*◌, ◌^◌, ◌<◌, ◌≤◌, Bool, true, false, List, [], ◌∷◌, ◌++◌, length, drop, take, get_or, eqb, Option, Some, None, cond, refl, sym, ap, subst, ◌∙◌, arith, add-one}
 use Rattle.std.proofs.lemmas.Bool.Decides.{nat_tests}
 use Rattle.std.proofs.lemmas.List.Elements.{All-from_recursion}
@@ -74,10 +74,10 @@ after_byte-some byte (first ∷ text) rest h =
 milliseconds_at-some : (text : List ℕ) (found : ℕ × List ℕ) → milliseconds_at text ≡ Some found → (digits : List ℕ) × (text ≡ digits ++ found.1) × AreMilliseconds digits found.0
 milliseconds_at-some text found h =
     let len = digits_len 5 text in
-    elim (eqb len 0) as (λ b. eqb len 0 ≡ b → cond b None (Some (decimal (take len text), drop len text)) ≡ Some found → (digits : List ℕ) × (text ≡ digits ++ found.1) × AreMilliseconds digits found.0) [
+    elim (eqb len 0) as (λ b. eqb len 0 ≡ b → cond b None (Some (decimal_value (take len text), drop len text)) ≡ Some found → (digits : List ℕ) × (text ≡ digits ++ found.1) × AreMilliseconds digits found.0) [
       | true ↦ λ e h'. absurd (cc)
       | false ↦ λ e h'.
-          let same : (decimal (take len text), drop len text) ≡ found = cc in
+          let same : (decimal_value (take len text), drop len text) ≡ found = cc in
           let some : 0 < len = grind (arith, nat_tests) in
           let long : length (take len text) ≡ len = omega (arith, length-take len text, digits_len-le 5 text) in (
             take len text,
@@ -183,10 +183,10 @@ milliseconds_at-found : (digits text : List ℕ) (number : ℕ) → AreMilliseco
 milliseconds_at-found digits text number h other =
     let long = digits_len-append 5 digits text h.digits h.few other in
     let some = h.some in
-    ap (λ len. cond (eqb len 0) None (Some (decimal (take len (digits ++ text)), drop len (digits ++ text)))) long ∙
-    ap (λ b. cond b None (Some (decimal (take (length digits) (digits ++ text)), drop (length digits) (digits ++ text)))) (not_none digits some) ∙
-    ap (λ ds. Some (decimal ds, drop (length digits) (digits ++ text))) (take-append_seam digits text) ∙
-    ap (λ t. Some (decimal digits, t)) (drop-append_seam digits text) ∙
+    ap (λ len. cond (eqb len 0) None (Some (decimal_value (take len (digits ++ text)), drop len (digits ++ text)))) long ∙
+    ap (λ b. cond b None (Some (decimal_value (take (length digits) (digits ++ text)), drop (length digits) (digits ++ text)))) (not_none digits some) ∙
+    ap (λ ds. Some (decimal_value ds, drop (length digits) (digits ++ text))) (take-append_seam digits text) ∙
+    ap (λ t. Some (decimal_value digits, t)) (drop-append_seam digits text) ∙
     ap (λ n. Some (n, text)) (sym h.value)
 
 pub padding_at-found : (front rest : List ℕ) (padding : Padding) → IsPadding front padding → padding_at (front ++ rest) ≡ Some (padding, rest)
@@ -203,20 +203,20 @@ padding_at-found front rest padding h =
 -- ---- steps of the loops over digits
 
 pub digits_len-next : (len : ℕ) (text : List ℕ) → len < 5 → len < length text → is_decimal_digit (get_or text len 0) ≡ true → digits_len (5 - len) (drop len text) ≡ suc (digits_len (5 - (len + 1)) (drop (len + 1) text))
-digits_len-next len text few within decimal =
+digits_len-next len text few within decimal_value =
     let count : 5 - len ≡ suc (5 - (len + 1)) = omega arith in
     let front : drop len text ≡ get_or text len 0 ∷ drop (len + 1) text = rw add-one (drop-cons text len 0 within) in
     ap (λ n. digits_len n (drop len text)) count ∙ ap (digits_len (suc (5 - (len + 1)))) front ∙
-    ap (λ b. cond b (suc (digits_len (5 - (len + 1)) (drop (len + 1) text))) 0) decimal
+    ap (λ b. cond b (suc (digits_len (5 - (len + 1)) (drop (len + 1) text))) 0) decimal_value
 
 decimal_from-push : (n : ℕ) (digits : List ℕ) (digit : ℕ) → decimal_from n (digits ++ digit ∷ []) ≡ 10 * decimal_from n digits + (digit - 48)
 decimal_from-push n [] digit = refl
 decimal_from-push n (d ∷ ds) digit = decimal_from-push (10 * n + (d - 48)) ds digit
 
-pub decimal-next : (digits : List ℕ) (i : ℕ) → i < length digits → decimal (take (i + 1) digits) ≡ 10 * decimal (take i digits) + (get_or digits i 0 - 48)
-decimal-next digits i within =
+pub decimal_value-next : (digits : List ℕ) (i : ℕ) → i < length digits → decimal_value (take (i + 1) digits) ≡ 10 * decimal_value (take i digits) + (get_or digits i 0 - 48)
+decimal_value-next digits i within =
     let digit = get_or digits i 0 in
-    ap decimal (take_more digits i 0 within) ∙
+    ap decimal_value (take_more digits i 0 within) ∙
     decimal_from-push 0 (take i digits) digit
 
 -- each byte that is counted is a digit

@@ -2,7 +2,7 @@
 use Rattle.std.specs.Prelude.{◌≡◌, ℕ, ◌+◌, ◌*◌, ◌<◌, ◌≤◌, Bool, true, false, not, ◌&&◌, ◌||◌, List, [], ◌∷◌, ◌++◌, length, replicate, if◌then◌else◌, nat_le, is_some, unwrap_or, ◌↔◌}
 use Rattle.std.specs.Int.{div_ceil}
 use Rattle.ti_text.specs.Ascii as ascii
-use Rattle.ti_text.specs.Digits.{IsDecimalDigit, decimal_digit_value, decimal}
+use Rattle.ti_text.specs.Digits.{IsDecimalDigit, decimal_digit_value, decimal_value}
 use Rattle.std.specs.List.{AllByRecursion}
 use Rattle.ti_printing.specs.declared.padding.Line.{Line}
 use Rattle.ti_printing.specs.declared.padding.Padding.{Padding}
@@ -17,7 +17,7 @@ pub record AreMilliseconds (text : List ℕ) (number : ℕ) : Type 0 where
   pub digits : AllByRecursion IsDecimalDigit text
   pub some : 0 < length text
   pub few : length text ≤ 5
-  pub value : number ≡ decimal text
+  pub value : number ≡ decimal_value text
 
 -- nothing, or `.` and a digit, which is the tenths of a millisecond
 pub data AreTenths : List ℕ → ℕ → Type 0 where

@@ -90,10 +90,6 @@ printed_number directive number = in_width directive
     (sign_in directive.conversion directive.flags number ++ prefix_in directive.conversion directive.flags number)
     (digits_in directive.conversion directive.flags directive.precision (numeral directive.conversion number))
 
--- blanks, a front, zeros, what is shown and blanks
-abbrev pub parts_text : ℕ → List ℕ → ℕ → List ℕ → ℕ → List ℕ
-parts_text before front zeros shown after = replicate before ascii.space ++ (front ++ (replicate zeros ascii.digit_0 ++ (shown ++ replicate after ascii.space)))
-
 -- at most as many bytes of the text as the precision says
 abbrev pub cut_to_precision : Option ℕ → List ℕ → List ℕ
 cut_to_precision None text = text

@@ -2,7 +2,8 @@
 ghost use Rattle.std.specs.Prelude.{◌≡◌, ◌≢◌, ◌+◌, ◌^◌, ◌<◌, ◌≤◌, ◌++◌, length, map, drop, replicate, slice_index, OnOk, OnErr};
 ghost use Rattle.std.specs.Fmt.{digit_glyph};
 ghost use Rattle.std.specs.Int.Digits.{digits_of};
-ghost use Rattle.ti_printing.specs.Printf.{form_bytes, printed_text, printed_number, parts_text, numeral, digits_in, in_width, sign_in, prefix_in, OneNumeral};
+ghost use Rattle.ti_printing.specs.inside.Printf.{parts_text};
+ghost use Rattle.ti_printing.specs.Printf.{form_bytes, printed_text, printed_number, numeral, digits_in, in_width, sign_in, prefix_in, OneNumeral};
 ghost use Rattle.ti_text.specs.Ascii as ascii;
 
 use std::alloc::AllocError;

@@ -1,4 +1,4 @@
-//! Tables of values, entries laid from them, and entries that are patched.
+//! Tables of values, entries written from them, and entries that are patched.
 ghost use Rattle.std.specs.Prelude.{◌↔◌, IsTrue};
 ghost use Rattle.ti_layout.specs.Values.{HasNoNul};
 
@@ -22,7 +22,7 @@ fn has_no_nul(bytes: &[u8]) -> bool
     bytes.iter().all(|byte| *byte != 0)
 }
 
-// The entry that a table is laid as.
+// The entry of a table.
 fn entry_bytes(alloc: Global, table: &Table) -> Result<Vec<u8>, Trouble> {
     if NAMES.is_empty() || !has_no_nul(NAMES) {
         return Err(Trouble::Wrong("the names hold a NUL"));
@@ -43,7 +43,7 @@ fn set_text(alloc: Global, table: &mut Table, cap: Cap) -> Result<Result<(), All
     Ok(table.set(cap, Some(Value::Text(text))))
 }
 
-/// Texts set in a table one by one, and the entry that is laid from it.
+/// Texts set in a table one by one, and the entry that is written from it.
 ///
 /// # Errors
 /// As of a scenario.
@@ -93,7 +93,7 @@ fn patch(
     Ok(image.set(cap, Some(Value::Text(text))))
 }
 
-/// An entry that is laid, patched and copied.
+/// An entry that is written, patched and copied.
 ///
 /// # Errors
 /// As of a scenario.

@@ -6,14 +6,14 @@ use Rattle.std.proofs.lemmas.Option.{same_Some, none-some, slice_get-map}
 use Rattle.std.proofs.lemmas.List.Elements.{All-nil, All-cons, All-head, All-tail, All-map, All-weaker}
 use Rattle.ti_caps.specs.NameOrder.{EachKindIsInOrder}
 use Rattle.ti_caps.specs.Tables.{Capability, IsCapability}
-use Rattle.ti_source.specs.Blocks.{OneBlock}
+use Rattle.ti_source.specs.Cutting.{OneBlock}
 use Rattle.ti_source.specs.Reading.{Reading}
 use Rattle.ti_source.specs.Parsing.{reading_of_text, HasReading}
 use Rattle.ti_source.specs.Sound.{EachIsWellRead}
 use Rattle.ti_spelling.specs.Spelling.{AreBytes}
 use Rattle.ti_spelling.specs.inside.Spelling.{UnescapedAgrees, ValuesAreSound}
 use Rattle.ti_layout.specs.Values.{Contents}
-use Rattle.ti_layout.specs.Image.{image, image_limit}
+use Rattle.ti_layout.specs.Image.{image, image_limit, ImageFits}
 use Rattle.ti_layout.specs.Reading.{Reads, EntriesHaveOneReading}
 use Rattle.ti_layout.specs.Laws.{without_cancel, ImagesAreRead, ImagesAreOfValues, LimitsAreOfValues}
 use Rattle.ti_meaning.specs.Owner.{owner_block, readings}
@@ -21,10 +21,11 @@ use Rattle.ti_meaning.specs.Expansion.{Mention, leftmost_content, values, is_bro
 use Rattle.ti_meaning.specs.Compiled.{image_of, is_too_large, entry_of, entry, compiled}
 use Rattle.ti_list.specs.Items.{no_more, CanBeListed, IsListable}
 use Rattle.ti_list.specs.declared.layout.Layout.{Layout}
-use Rattle.ti_list.specs.Relative.{Shown, differing_contents, use_lines, relative, with_others}
-use Rattle.ti_relisting.specs.Shown.{CanHave, IsWithinLimit, CanBeShown, CanBeUsed}
-use Rattle.ti_relisting.specs.Entries.{IsEntry, IsUsedEntry}
-use Rattle.ti_relisting.specs.Laws.{PartsAreBlocks, ListingsCompile, RelativesCompile, ShownEntry, listings, Relisting, Relistings, RelativeSource}
+use Rattle.ti_layout.specs.View.{Entry}
+use Rattle.ti_list.specs.RelativeSource.{differing_contents, use_lines, relative, with_others}
+use Rattle.ti_relisting.specs.Relisting.{CanHave, CanBeShown, CanBeUsed, ListingsCompile, RelativesCompile}
+use Rattle.ti_relisting.specs.Entries.{IsEntry, IsUsedEntry, ShownEntry, listings, Relisting, Relistings, RelativeSource}
+use Rattle.ti_relisting.specs.ReadingBack.{PartsAreBlocks}
 use Rattle.ti_relisting.proofs.TextBytes.{parsed-bytes}
 use Rattle.ti_relisting.proofs.Fitting.{MentionFits, ItemFits, items-fit, unbroken-expand, follows, expand-fits, owned-has, said-has, uncancelled-has, agrees-has}
 use Rattle.ti_relisting.proofs.Heading.{block-listable, first-lookup}
@@ -136,28 +137,28 @@ has-image known texts at bytes are is =
     }
 
 -- an entry can be shown, and is the image of what is shown
-pub record IsShown (bytes : List ℕ) (shown : Shown) : Type 0 where
+pub record IsShown (bytes : List ℕ) (shown : Entry) : Type 0 where
   pub can : CanBeShown shown
-  pub image_is : image shown.field shown.table ≡ bytes
-  pub within : IsWithinLimit shown.field shown.table
+  pub image_is : image shown.names shown.contents ≡ bytes
+  pub within : ImageFits shown.names shown.contents
 
 some-long : (w : List ℕ) → w ≢ [] → 0 < length w
 some-long [] some = absurd (some refl)
 some-long (x ∷ w) some = omega arith
 
-pub is-shown : AreKnown → (bytes : List ℕ) (shown : Shown) → IsEntry bytes shown → IsShown bytes shown
+pub is-shown : AreKnown → (bytes : List ℕ) (shown : Entry) → IsEntry bytes shown → IsShown bytes shown
 is-shown known bytes shown entry =
     let has = has-image known entry.texts entry.at bytes (texts-both entry.texts entry.blocks entry.of_bytes) entry.is in
     let ms = has.mentions in
     let holds : (c : Capability) → CanHave c (values ms c) = λ c. uncancelled-has c (leftmost_content ms c) (said-has ms c has.fit) in
     let read = known.read has.field (values ms) (some-long has.field has.some) has.listable.short has.no_nul (λ c is. agrees-has c (values ms c) (holds c)) has.within in
     let reads : Reads bytes has.field read.0 = subst (λ b. Reads b has.field read.0) has.is read.1 in
-    let same = known.one.0 bytes shown.field has.field shown.table read.0 entry.reads reads in
-    let tells : (c : Capability) → IsCapability c → shown.table c ≡ without_cancel (values ms c) = λ c is. ap (λ (table : Contents). table c) same.1 ∙ read.2 c is in
-    let alike : (c : Capability) → IsCapability c → without_cancel (shown.table c) ≡ without_cancel (values ms c) = λ c is. ap without_cancel (tells c is) ∙ uncancelled-twice (values ms c) in
-    let image_is : image shown.field shown.table ≡ bytes = ap (λ f. image f shown.table) same.0 ∙ known.images has.field shown.table (values ms) alike ∙ has.is in
-    let sizes : length (image shown.field shown.table) ≡ length (image has.field (values ms)) = ap length (image_is ∙ sym has.is) in
-    let limit : image_limit shown.table ≡ image_limit (values ms) = known.limits shown.table (values ms) alike in
+    let same = known.one.0 bytes shown.names has.field shown.contents read.0 entry.reads reads in
+    let tells : (c : Capability) → IsCapability c → shown.contents c ≡ without_cancel (values ms c) = λ c is. ap (λ (table : Contents). table c) same.1 ∙ read.2 c is in
+    let alike : (c : Capability) → IsCapability c → without_cancel (shown.contents c) ≡ without_cancel (values ms c) = λ c is. ap without_cancel (tells c is) ∙ uncancelled-twice (values ms c) in
+    let image_is : image shown.names shown.contents ≡ bytes = ap (λ f. image f shown.contents) same.0 ∙ known.images has.field shown.contents (values ms) alike ∙ has.is in
+    let sizes : length (image shown.names shown.contents) ≡ length (image has.field (values ms)) = ap length (image_is ∙ sym has.is) in
+    let limit : image_limit shown.contents ≡ image_limit (values ms) = known.limits shown.contents (values ms) alike in
     let is_within = has.within in
     record {
       can = record {
@@ -169,21 +170,21 @@ is-shown known bytes shown entry =
       within = omega (arith, sizes, limit, is_within);
     }
 
-listing-stands : EachKindIsInOrder → PartsAreBlocks → (shown : Shown) (layout : Layout) → CanBeShown shown → OneBlock (listing shown.field shown.table layout)
+listing-stands : EachKindIsInOrder → PartsAreBlocks → (shown : Entry) (layout : Layout) → CanBeShown shown → OneBlock (listing shown.names shown.contents layout)
 listing-stands ordered stands shown layout can =
-    stands shown.field can.names (items_for shown.table (all_in layout.order) ++ []) (listing shown.field shown.table layout) can.listable
-    (all-can ordered shown.table layout [] can.holds (All-nil CanBeListed)) (listed-all shown.field shown.table layout [] (10 ∷ []) no_more)
+    stands shown.names can.names (items_for shown.contents (all_in layout.order) ++ []) (listing shown.names shown.contents layout) can.listable
+    (all-can ordered shown.contents layout [] can.holds (All-nil CanBeListed)) (listed-all shown.names shown.contents layout [] (10 ∷ []) no_more)
 
 -- a listing compiles to its entry wherever it stands
-listing-compiles : AreKnown → ListingsCompile → (bytes : List ℕ) (shown : Shown) (layout : Layout) → IsShown bytes shown
-    → (texts : List (List ℕ)) (at : ℕ) → slice_get texts at ≡ Some (listing shown.field shown.table layout) → compiled texts at ≡ Some bytes
+listing-compiles : AreKnown → ListingsCompile → (bytes : List ℕ) (shown : Entry) (layout : Layout) → IsShown bytes shown
+    → (texts : List (List ℕ)) (at : ℕ) → slice_get texts at ≡ Some (listing shown.names shown.contents layout) → compiled texts at ≡ Some bytes
 listing-compiles known compiles bytes shown layout is texts at stands =
-    compiles shown.field is.can.names shown.table layout is.can.listable is.can.holds is.within texts at stands ∙ ap (λ b. Some b) is.image_is
+    compiles shown.names is.can.names shown.contents layout is.can.listable is.can.holds is.within texts at stands ∙ ap (λ b. Some b) is.image_is
 
 pub relisting : AreKnown → PartsAreBlocks → ListingsCompile → Relisting
 relisting known stands compiles bytes shown layout is_entry =
     let is = is-shown known bytes shown is_entry in
-    let text = listing shown.field shown.table layout in
+    let text = listing shown.names shown.contents layout in
     let one = listing-stands known.ordered stands shown layout is.can in
     (record { cut = one.cut; single = All-cons OneBlock text [] one (All-nil OneBlock) }, listing-compiles known compiles bytes shown layout is (text ∷ []) 0 refl)
 
@@ -196,7 +197,7 @@ all-stand : AreKnown → PartsAreBlocks → (layout : Layout) (entries : List Sh
 all-stand known stands layout [] are = All-nil OneBlock
 all-stand known stands layout (entry ∷ entries) are =
     let is = is-shown known entry.0 entry.1 (All-head IsEntryShown entry entries are) in
-    All-cons OneBlock (listing entry.1.field entry.1.table layout) (listings entries layout) (listing-stands known.ordered stands entry.1 layout is.can)
+    All-cons OneBlock (listing entry.1.names entry.1.contents layout) (listings entries layout) (listing-stands known.ordered stands entry.1 layout is.can)
     (all-stand known stands layout entries (All-tail IsEntryShown entry entries are))
 
 pub relistings : AreKnown → PartsAreBlocks → ListingsCompile → Relistings
@@ -206,29 +207,29 @@ relistings known stands compiles entries layout are =
       λ i entry at.
           let is = is-shown known entry.0 entry.1 (All-at IsEntryShown entries i entry are at) in
           listing-compiles known compiles entry.0 entry.1 layout is (listings entries layout) i
-          (slice_get-map (λ (e : ShownEntry). listing e.1.field e.1.table layout) entries i ∙ ap (option_map (λ (e : ShownEntry). listing e.1.field e.1.table layout)) at),
+          (slice_get-map (λ (e : ShownEntry). listing e.1.names e.1.contents layout) entries i ∙ ap (option_map (λ (e : ShownEntry). listing e.1.names e.1.contents layout)) at),
     )
 
 -- ---- relative source
 
-used-can : AreKnown → (shown : Shown) → IsUsedEntry shown → CanBeUsed shown
+used-can : AreKnown → (shown : Entry) → IsUsedEntry shown → CanBeUsed shown
 used-can known shown used =
     let can = (is-shown known used.bytes shown used.entry).can in
-    record { shown = can; first = record { lookup = first-lookup shown.field can.names can.listable.header; bare = used.bare } }
+    record { shown = can; first = record { lookup = first-lookup shown.names can.names can.listable.header; bare = used.bare } }
 
-listings-stand : EachKindIsInOrder → PartsAreBlocks → (layout : Layout) (others : List Shown) → All CanBeUsed others → All OneBlock (map (λ (other : Shown). listing other.field other.table layout) others)
+listings-stand : EachKindIsInOrder → PartsAreBlocks → (layout : Layout) (others : List Entry) → All CanBeUsed others → All OneBlock (map (λ (other : Entry). listing other.names other.contents layout) others)
 listings-stand ordered stands layout [] used = All-nil OneBlock
 listings-stand ordered stands layout (other ∷ others) used =
-    All-cons OneBlock (listing other.field other.table layout) (map (λ (other : Shown). listing other.field other.table layout) others)
+    All-cons OneBlock (listing other.names other.contents layout) (map (λ (other : Entry). listing other.names other.contents layout) others)
     (listing-stands ordered stands other layout (All-head CanBeUsed other others used).shown) (listings-stand ordered stands layout others (All-tail CanBeUsed other others used))
 
-relative-stands : EachKindIsInOrder → PartsAreBlocks → (entry : Shown) (others : List Shown) (layout : Layout) → CanBeShown entry → All CanBeUsed others → All OneBlock (with_others entry others layout)
+relative-stands : EachKindIsInOrder → PartsAreBlocks → (entry : Entry) (others : List Entry) (layout : Layout) → CanBeShown entry → All CanBeUsed others → All OneBlock (with_others entry others layout)
 relative-stands ordered stands shown others layout can used =
-    let table = differing_contents shown.table others in
-    All-cons OneBlock (relative shown others layout) (map (λ (other : Shown). listing other.field other.table layout) others)
-    (stands shown.field can.names (items_for table (all_in layout.order) ++ uses_of others) (relative shown others layout) can.listable
-    (all-can ordered table layout (uses_of others) (differing-can shown.table others can.holds) (uses-can others used))
-    (listed-all shown.field table layout (uses_of others) (use_lines others (10 ∷ [])) (uses-tail others)))
+    let table = differing_contents shown.contents others in
+    All-cons OneBlock (relative shown others layout) (map (λ (other : Entry). listing other.names other.contents layout) others)
+    (stands shown.names can.names (items_for table (all_in layout.order) ++ uses_of others) (relative shown others layout) can.listable
+    (all-can ordered table layout (uses_of others) (differing-can shown.contents others can.holds) (uses-can others used))
+    (listed-all shown.names table layout (uses_of others) (use_lines others (10 ∷ [])) (uses-tail others)))
     (listings-stand ordered stands layout others used)
 
 pub relative_source : AreKnown → PartsAreBlocks → RelativesCompile → RelativeSource

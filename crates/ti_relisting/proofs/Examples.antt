@@ -13,7 +13,8 @@ use Rattle.ti_meaning.specs.Compiled.{compiled}
 use Rattle.ti_list.specs.declared.layout.Layout.{Layout}
 use Rattle.ti_list.specs.declared.layout.Order.TheVariants as order
 use Rattle.ti_list.specs.Listing.{in_order, listing}
-use Rattle.ti_list.specs.Relative.{Shown, first_name, with_others}
+use Rattle.ti_layout.specs.View.{Entry}
+use Rattle.ti_list.specs.RelativeSource.{first_name, with_others}
 use Rattle.ti_meaning.specs.Owner.{owner, readings}
 
 abbrev layout : Layout
@@ -36,13 +37,13 @@ unfolding reading_of_text in_order
 hidden-lost = refl
 
 -- an entry whose first name ends in a backslash, which takes the comma behind a use of it
-abbrev slashed : Shown
-slashed = record { field = codes "a\\"; table = nothing }
+abbrev slashed : Entry
+slashed = record { names = codes "a\\"; contents = nothing }
 
-abbrev plain : Shown
-plain = record { field = codes "b"; table = nothing }
+abbrev plain : Entry
+plain = record { names = codes "b"; contents = nothing }
 
-slashed-owns : owner (readings (with_others plain (slashed ∷ []) layout)) (first_name slashed.field) ≡ Some 1
+slashed-owns : owner (readings (with_others plain (slashed ∷ []) layout)) (first_name slashed.names) ≡ Some 1
 unfolding reading_of_text in_order
 slashed-owns = refl
 

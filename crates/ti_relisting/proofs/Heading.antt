@@ -5,7 +5,7 @@ use Rattle.std.proofs.lemmas.Bool.{cases_Bool, and_parts, and_from, or_parts, no
 use Rattle.std.proofs.lemmas.List.Elements.{All-head, All-from_get_or, All-weaker}
 use Rattle.std.proofs.lemmas.List.Sums.{list_all-from_AllPass}
 use Rattle.ti_source.specs.WhiteSpace.{is_white_space}
-use Rattle.ti_source.specs.Blocks.{HasOneHead, OneBlock}
+use Rattle.ti_source.specs.Cutting.{HasOneHead, OneBlock}
 use Rattle.ti_source.specs.Code.{is_error}
 use Rattle.ti_source.specs.Header.{IsLookupName, lookup_parts, HeaderNames}
 use Rattle.ti_source.specs.Folding.{Placed, folding_of}
@@ -15,7 +15,7 @@ use Rattle.ti_source.specs.Parsing.{ReadsHeader, bad_header, long_header, good_h
 use Rattle.ti_text.specs.Limits.{names_max}
 use Rattle.ti_meaning.specs.Expansion.{is_broken}
 use Rattle.ti_list.specs.Items.{IsListable}
-use Rattle.ti_list.specs.Relative.{first_name}
+use Rattle.ti_list.specs.RelativeSource.{first_name}
 use Rattle.ti_relisting.proofs.Bytes.{uncommented, unbroken, bytes-folded}
 use Rattle.ti_relisting.proofs.Cutting.{is_inline}
 

@@ -11,12 +11,14 @@ use Rattle.ti_caps.proofs.Same.{same_capability-true}
 use Rattle.ti_caps.specs.declared.capability.Kind.TheVariants.{Flag, Number, Text}
 use Rattle.ti_source.specs.Reading.{Said, said_flag, said_number, said_text, said_cancel, said_import, ReadItem}
 use Rattle.ti_layout.specs.Values.{Content, content_true, content_number, content_text, content_cancelled, Contents}
-use Rattle.ti_meaning.specs.Expansion.{Mention, leftmost_content, both_lists, mentions_of, expand_items}
+use Rattle.ti_text.specs.Texts.{both_lists}
+use Rattle.ti_meaning.specs.Expansion.{Mention, leftmost_content, mentions_of, expand_items}
 use Rattle.ti_list.specs.declared.layout.Layout.{Layout}
 use Rattle.ti_list.specs.Items.{item_text, IsTail, no_more, on_line, new_line, IsListing, CanBeListed}
 use Rattle.ti_list.specs.Listing.{item_for, items_for, kind_items, in_order, size_of, further_items, lines_of, source_lines, listing}
-use Rattle.ti_list.specs.Relative.{Shown, first_name, differing_contents, use_lines}
-use Rattle.ti_relisting.specs.Shown.{CanHave, CanHaveAll}
+use Rattle.ti_layout.specs.View.{Entry}
+use Rattle.ti_list.specs.RelativeSource.{first_name, differing_contents, use_lines}
+use Rattle.ti_relisting.specs.Relisting.{CanHave, CanHaveAll}
 use Rattle.ti_relisting.specs.Layouts.{entry_items, uses_of, ListingsAreLaidOut, RelativesAreLaidOut}
 use Rattle.ti_relisting.proofs.Orders.{is_among, all_in, all_in-all}
 
@@ -62,18 +64,18 @@ listed-is field table layout more rest laid =
     (lines-tail layout numbers (texts ++ more) (lines_of layout texts rest) (lines-tail layout texts more rest laid)) in
     let together : (flags ++ (numbers ++ texts)) ++ more ≡ flags ++ (numbers ++ (texts ++ more)) =
     append_assoc flags (numbers ++ texts) more ∙ ap (λ l. flags ++ l) (append_assoc numbers texts more) in
-    record { tail = tail; whole = refl; laid = subst (λ items. IsTail items tail) (sym together) by_kind }
+    record { tail = tail; whole = refl; is_tail = subst (λ items. IsTail items tail) (sym together) by_kind }
 
-pub listings_laid : ListingsAreLaidOut
-listings_laid field table layout =
+pub listings_laid_out : ListingsAreLaidOut
+listings_laid_out field table layout =
     subst (λ items. IsListing field items (listing field table layout)) (append-nil (entry_items layout table)) (listed-is field table layout [] (10 ∷ []) no_more)
 
-pub uses-tail : (others : List Shown) → IsTail (uses_of others) (use_lines others (10 ∷ []))
+pub uses-tail : (others : List Entry) → IsTail (uses_of others) (use_lines others (10 ∷ []))
 uses-tail [] = no_more
-uses-tail (other ∷ others) = new_line (said_import (first_name other.field)) (uses_of others) (use_lines others (10 ∷ [])) (uses-tail others)
+uses-tail (other ∷ others) = new_line (said_import (first_name other.names)) (uses_of others) (use_lines others (10 ∷ [])) (uses-tail others)
 
-pub relatives_laid : RelativesAreLaidOut
-relatives_laid entry others layout = listed-is entry.field (differing_contents entry.table others) layout (uses_of others) (use_lines others (10 ∷ [])) (uses-tail others)
+pub relatives_laid_out : RelativesAreLaidOut
+relatives_laid_out entry others layout = listed-is entry.names (differing_contents entry.contents others) layout (uses_of others) (use_lines others (10 ∷ [])) (uses-tail others)
 
 -- the same of the items of all capabilities
 pub listed-all : (field : List ℕ) (table : Contents) (layout : Layout) (more : List Said) (rest : List ℕ) → IsTail more rest

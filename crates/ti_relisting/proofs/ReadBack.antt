@@ -11,7 +11,7 @@ use Rattle.ti_source.specs.Reading.{Said, said_flag, said_number, said_text, sai
 use Rattle.ti_source.specs.Parsing.{accepted, ReadsItems, reads_nothing, reads_ignored, reads_judged, items_by, good_header, Parses, reading_of_text, HasReading, BlocksHaveOneReading}
 use Rattle.ti_spelling.specs.Spelling.{WrittenSpells}
 use Rattle.ti_list.specs.Items.{item_text, IsTail, no_more, on_line, new_line, IsListing, CanBeListed, IsListable, IsReadAs}
-use Rattle.ti_relisting.specs.Laws.{PartsAreRead}
+use Rattle.ti_relisting.specs.ReadingBack.{PartsAreRead}
 use Rattle.ti_relisting.proofs.Bytes.{uncommented, unbroken, bytes-folded, bytes-without_front}
 use Rattle.ti_relisting.proofs.Cutting.{is_whole, is_inline, whole-cons, whole-cut}
 use Rattle.ti_relisting.proofs.Unfolding.{is_dark, unbroken-inline, unbroken-dark, is_calm, uncommented-calm, calm-inline, split-bytes, split-byte}
@@ -110,13 +110,13 @@ record HasListing (text : List ℕ) (field : List ℕ) (names : List (List ℕ))
 listing-parses : EveryNameIsFound → WrittenSpells → (field : List ℕ) (names : List (List ℕ)) (items : List Said) (text : List ℕ) → IsListable field names → All CanBeListed items
     → IsListing field items text → HasListing text field names items
 listing-parses found spells field names items text good can is =
-    let calm = text-calm field is.tail good.plain good.inline (tail-calm found spells items is.tail can is.laid) in
+    let calm = text-calm field is.tail good.plain good.inline (tail-calm found spells items is.tail can is.is_tail) in
     let bare : unbroken false (uncommented false 10 text) ≡ field ++ 44 ∷ unbroken false is.tail =
     ap (λ t. unbroken false (uncommented false 10 t)) is.whole ∙ ap (unbroken false) (uncommented-calm 10 (field ++ 44 ∷ is.tail) calm) ∙ unbroken-inline field (44 ∷ is.tail) good.inline in
     let parts = split-bytes (folding_of text) field (44 ∷ unbroken false is.tail) (bytes-folded text ∙ bare) in
     let comma = split-byte parts.rest 44 (unbroken false is.tail) parts.is_rest in
     let is_folded : folding_of text ≡ parts.front ++ (44, comma.line) ∷ comma.rest = parts.whole ∙ ap (λ t. parts.front ++ t) comma.whole in
-    let read = tail-read found spells 0 items is.tail can is.laid comma.rest comma.is_rest in
+    let read = tail-read found spells 0 items is.tail can is.is_tail comma.rest comma.is_rest in
     let none = no_comma-of parts.front (ap (list_all (λ b. not (b == 44))) parts.is_front ∙ good.no_comma) in
     record {
       reading = record { field = field; names = names; items = read.found; faults = [] };

@@ -18,14 +18,15 @@ use Rattle.ti_meaning.specs.Expansion.{Mention, leftmost_content, expand, expans
 use Rattle.ti_list.specs.declared.layout.Layout.{Layout}
 use Rattle.ti_list.specs.Items.{CanBeListed, IsReadAs}
 use Rattle.ti_list.specs.Listing.{listing}
-use Rattle.ti_list.specs.Relative.{Shown, first_name, same_content, first_of, difference, differing_contents, use_lines, relative, with_others}
+use Rattle.ti_layout.specs.View.{Entry}
+use Rattle.ti_list.specs.RelativeSource.{first_name, same_content, first_of, difference, differing_contents, use_lines, relative, with_others}
 use Rattle.ti_list.specs.Listing.{items_for}
 use Rattle.ti_relisting.specs.Layouts.{uses_of}
-use Rattle.ti_relisting.specs.Shown.{CanHave, CanHaveAll, CanBeUsed}
-use Rattle.ti_relisting.specs.Laws.{PartsAreRead, RelativesCompile}
+use Rattle.ti_relisting.specs.Relisting.{CanHave, CanHaveAll, CanBeUsed, RelativesCompile}
+use Rattle.ti_relisting.specs.ReadingBack.{PartsAreRead}
 use Rattle.ti_relisting.proofs.Orders.{all_in}
 use Rattle.ti_relisting.proofs.Listing.{listed-all, uses-tail, all-can, mentions_for, expand_says, before}
-use Rattle.ti_relisting.proofs.Compiling.{used_at, own-at, entry-is, listing-expands, all-tell}
+use Rattle.ti_relisting.proofs.Compiling.{used_at, own-at, entry-is, listing-expands, all-contents}
 
 -- ---- what the entry and the others say together is what the entry says
 
@@ -66,24 +67,24 @@ difference-can c None (Some x) has = tt
 difference-can c (Some h) None has = has
 difference-can c (Some h) (Some x) has = elim (same_content h x) as (λ b. CanHave c (cond b None (Some h))) [ true ↦ tt | false ↦ has ]
 
-pub differing-can : (table : Contents) (others : List Shown) → CanHaveAll table → CanHaveAll (differing_contents table others)
+pub differing-can : (table : Contents) (others : List Entry) → CanHaveAll table → CanHaveAll (differing_contents table others)
 differing-can table others holds c is = difference-can c (table c) (first_of others c) (holds c is)
 
 -- ---- the uses
 
-pub uses-can : (others : List Shown) → All CanBeUsed others → All CanBeListed (uses_of others)
+pub uses-can : (others : List Entry) → All CanBeUsed others → All CanBeListed (uses_of others)
 uses-can [] can = All-nil CanBeListed
 uses-can (other ∷ others) can =
     let first = (All-head CanBeUsed other others can).first in
-    All-cons CanBeListed (said_import (first_name other.field)) (uses_of others) (first.lookup, first.bare) (uses-can others (All-tail CanBeUsed other others can))
+    All-cons CanBeListed (said_import (first_name other.names)) (uses_of others) (first.lookup, first.bare) (uses-can others (All-tail CanBeUsed other others can))
 
 -- the mentions of the others, in turn
-abbrev pub used_mentions : Layout → List Shown → List Mention
+abbrev pub used_mentions : Layout → List Entry → List Mention
 used_mentions layout [] = []
-used_mentions layout (other ∷ others) = mentions_for other.table (all_in layout.order) ++ used_mentions layout others
+used_mentions layout (other ∷ others) = mentions_for other.contents (all_in layout.order) ++ used_mentions layout others
 
-uses-expand : (of_name : List ℕ → Option (List Mention)) (layout : Layout) (others : List Shown)
-    → ((i : ℕ) (other : Shown) → slice_get others i ≡ Some other → of_name (first_name other.field) ≡ Some (mentions_for other.table (all_in layout.order)))
+uses-expand : (of_name : List ℕ → Option (List Mention)) (layout : Layout) (others : List Entry)
+    → ((i : ℕ) (other : Entry) → slice_get others i ≡ Some other → of_name (first_name other.names) ≡ Some (mentions_for other.contents (all_in layout.order)))
     → expand_says of_name (uses_of others) ≡ Some (used_mentions layout others)
 uses-expand of_name layout [] h = refl
 uses-expand of_name layout (other ∷ others) h =
@@ -91,9 +92,9 @@ uses-expand of_name layout (other ∷ others) h =
     let first = h 0 other refl in
     rw (first, later) refl
 
-used-tell : EachKindIsInOrder → (layout : Layout) (others : List Shown) (c : Capability) → IsCapability c → leftmost_content (used_mentions layout others) c ≡ first_of others c
-used-tell ordered layout [] c is = refl
-used-tell ordered layout (other ∷ others) c is = all-tell ordered other.table layout (used_mentions layout others) c is ∙ ap (option_or (other.table c)) (used-tell ordered layout others c is)
+used-contents : EachKindIsInOrder → (layout : Layout) (others : List Entry) (c : Capability) → IsCapability c → leftmost_content (used_mentions layout others) c ≡ first_of others c
+used-contents ordered layout [] c is = refl
+used-contents ordered layout (other ∷ others) c is = all-contents ordered other.contents layout (used_mentions layout others) c is ∙ ap (option_or (other.contents c)) (used-contents ordered layout others c is)
 
 -- ---- the owners
 
@@ -127,23 +128,23 @@ relatives_compile ordered read images limits e others layout shown used owns wit
     let text = relative e others layout in
     let blocks = readings (with_others e others layout) in
     let block = reading_of_text text in
-    let table = differing_contents e.table others in
-    let has : CanHaveAll table = differing-can e.table others shown.holds in
+    let table = differing_contents e.contents others in
+    let has : CanHaveAll table = differing-can e.contents others shown.holds in
     let own = items_for table (all_in layout.order) in
-    let is : IsReadAs e.field shown.names (own ++ uses_of others) block =
-    read e.field shown.names (own ++ uses_of others) text shown.listable
-    (all-can ordered table layout (uses_of others) has (uses-can others used)) (listed-all e.field table layout (uses_of others) (use_lines others (10 ∷ [])) (uses-tail others)) in
-    let list_other : Shown → List ℕ = λ other. listing other.field other.table layout in
-    let expands : (i : ℕ) (other : Shown) → slice_get others i ≡ Some other → used_at (owner_block blocks) (length blocks) (first_name other.field) ≡ Some (mentions_for other.table (all_in layout.order)) =
+    let is : IsReadAs e.names shown.names (own ++ uses_of others) block =
+    read e.names shown.names (own ++ uses_of others) text shown.listable
+    (all-can ordered table layout (uses_of others) has (uses-can others used)) (listed-all e.names table layout (uses_of others) (use_lines others (10 ∷ [])) (uses-tail others)) in
+    let list_other : Entry → List ℕ = λ other. listing other.names other.contents layout in
+    let expands : (i : ℕ) (other : Entry) → slice_get others i ≡ Some other → used_at (owner_block blocks) (length blocks) (first_name other.names) ≡ Some (mentions_for other.contents (all_in layout.order)) =
     λ i other at.
     let other_shown = (All-at CanBeUsed others i other used at).shown in
     let stands : slice_get blocks (suc i) ≡ Some (reading_of_text (list_other other)) = at-place reading_of_text (map list_other others) i (list_other other) (at-place list_other others i other at) in
-    ap (option_and_then (expand (owner_block blocks) (length blocks))) (owned-at blocks (first_name other.field) (suc i) (owns i other at) ∙ stands)
-    ∙ listing-expands ordered read (owner_block blocks) (length (map reading_of_text (map list_other others))) other.field other_shown.names other.table layout other_shown.listable other_shown.holds in
+    ap (option_and_then (expand (owner_block blocks) (length blocks))) (owned-at blocks (first_name other.names) (suc i) (owns i other at) ∙ stands)
+    ∙ listing-expands ordered read (owner_block blocks) (length (map reading_of_text (map list_other others))) other.names other_shown.names other.contents layout other_shown.listable other_shown.holds in
     let ms = mentions_for table (all_in layout.order) ++ used_mentions layout others in
     let expanded : expansion blocks block ≡ Some ms =
     own-at (owner_block blocks) (length blocks) block table (all_in layout.order) (uses_of others) is.none_wrong is.says
     ∙ ap (before (mentions_for table (all_in layout.order))) (uses-expand (used_at (owner_block blocks) (length blocks)) layout others expands) in
-    let tells : (c : Capability) → IsCapability c → without_cancel (leftmost_content ms c) ≡ without_cancel (e.table c) =
-    λ c cap. ap without_cancel (all-tell ordered table layout (used_mentions layout others) c cap ∙ ap (option_or (table c)) (used-tell ordered layout others c cap)) ∙ restores (e.table c) (first_of others c) in
-    entry-is images limits blocks block e.field e.table ms expanded is.same_field tells within
+    let tells : (c : Capability) → IsCapability c → without_cancel (leftmost_content ms c) ≡ without_cancel (e.contents c) =
+    λ c cap. ap without_cancel (all-contents ordered table layout (used_mentions layout others) c cap ∙ ap (option_or (table c)) (used-contents ordered layout others c cap)) ∙ restores (e.contents c) (first_of others c) in
+    entry-is images limits blocks block e.names e.contents ms expanded is.same_field tells within

@@ -2,7 +2,7 @@
 use Rattle.std.proofs.Common.{ℕ, ◌<◌, List, [], ◌∷◌, ◌++◌, subst}
 use Rattle.std.specs.List.{All, concat}
 use Rattle.std.proofs.lemmas.List.Elements.{All-from_recursion, recursion_from_All, All-nil, All-cons}
-use Rattle.ti_source.specs.Blocks.{BlocksAreSingle}
+use Rattle.ti_source.specs.Cutting.{BlocksAreSingle}
 use Rattle.ti_spelling.specs.Spelling.{AreBytes}
 use Rattle.ti_relisting.specs.Entries.{EntriesOfSources}
 use Rattle.ti_relisting.proofs.TextBytes.{OfBytes, behind-bytes}

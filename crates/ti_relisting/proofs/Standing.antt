@@ -6,13 +6,13 @@ use Rattle.std.proofs.lemmas.List.{append-nil}
 use Rattle.std.proofs.lemmas.List.Elements.{All-head, All-tail}
 use Rattle.ti_caps.specs.Tables.{EveryNameIsFound}
 use Rattle.ti_source.specs.WhiteSpace.{is_white_space}
-use Rattle.ti_source.specs.Blocks.{begins_head, last_byte, HasNoHead, HasOneHead, AreBlocks, Cut, OneBlock}
+use Rattle.ti_source.specs.Cutting.{begins_head, last_byte, HasNoHead, HasOneHead, AreBlocks, Cut, OneBlock}
 use Rattle.ti_source.specs.Header.{IsNameByte, IsLookupName}
 use Rattle.ti_source.specs.Reading.{Said}
 use Rattle.ti_spelling.specs.Spelling.{WrittenSpells}
 use Rattle.ti_list.specs.Items.{item_text, IsTail, no_more, on_line, new_line, CanBeListed, IsListable}
-use Rattle.ti_list.specs.Relative.{first_name}
-use Rattle.ti_relisting.specs.Laws.{PartsAreBlocks}
+use Rattle.ti_list.specs.RelativeSource.{first_name}
+use Rattle.ti_relisting.specs.ReadingBack.{PartsAreBlocks}
 use Rattle.ti_relisting.proofs.Cutting.{is_inline}
 use Rattle.ti_relisting.proofs.ReadBack.{item-readable}
 use Rattle.ti_relisting.proofs.Heading.{one_plus, first-lookup}
@@ -65,10 +65,10 @@ field-head (x ∷ xs) tail names good none =
 
 pub parts_stand : EveryNameIsFound → WrittenSpells → PartsAreBlocks
 parts_stand found spells field names items text good can is =
-    let head : HasOneHead text = subst HasOneHead (sym is.whole) (field-head field is.tail names good (tail-headless found spells items is.tail can is.laid)) in
+    let head : HasOneHead text = subst HasOneHead (sym is.whole) (field-head field is.tail names good (tail-headless found spells items is.tail can is.is_tail)) in
     record {
       cut = record { whole = sym (append-nil text); front = tt; each = (refl, head, tt) };
-      ends = ap (last_byte 0) is.whole ∙ last_byte-append 0 field (44 ∷ is.tail) ∙ tail-ends items is.tail is.laid;
+      ends = ap (last_byte 0) is.whole ∙ last_byte-append 0 field (44 ∷ is.tail) ∙ tail-ends items is.tail is.is_tail;
     }
 
 -- ---- single blocks make a source

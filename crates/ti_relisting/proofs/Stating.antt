@@ -10,7 +10,7 @@ use Rattle.std.proofs.lemmas.List.Folds.{list_all-append}
 use Rattle.ti_caps.specs.Tables.{Capability, IsCapability, name_of, EveryNameIsFound}
 use Rattle.ti_caps.specs.declared.capability.Kind.TheVariants.{Flag, Number, Text}
 use Rattle.ti_source.specs.WhiteSpace.{is_white_space, without_trailing_space}
-use Rattle.ti_source.specs.Blocks.{last_byte}
+use Rattle.ti_source.specs.Cutting.{last_byte}
 use Rattle.ti_source.specs.Header.{IsNameByte, IsLookupName}
 use Rattle.ti_text.specs.Limits.{number_max}
 use Rattle.ti_source.specs.Items.{Statement, claims_flag, claims_number, claims_text, claims_cancel, is_mark, HasNoMark, IsEnabled, States, number_item, text_item, cancel_item, flag_item, without_outer_space}

@@ -1,4 +1,4 @@
-pub mod Shown
+pub mod Relisting
 pub mod Layouts
 pub mod Entries
-pub mod Laws
+pub mod ReadingBack

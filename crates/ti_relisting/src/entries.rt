@@ -1,6 +1,5 @@
 // The laws of relisting and of relative source: compiled entries of sources come back byte for byte.
-ghost use Rattle.ti_relisting.specs.Laws.{RelativeSource, Relisting, Relistings};
-ghost use Rattle.ti_relisting.specs.Entries.{EntriesOfSources};
+ghost use Rattle.ti_relisting.specs.Entries.{EntriesOfSources, RelativeSource, Relisting, Relistings};
 
 use crate::reading_back::parts_are_blocks;
 use crate::relisting::{listings_compile, relatives_compile};

@@ -1,5 +1,5 @@
 // A listing is one block, and is read as what it lists.
-ghost use Rattle.ti_relisting.specs.Laws.{PartsAreBlocks, PartsAreRead};
+ghost use Rattle.ti_relisting.specs.ReadingBack.{PartsAreBlocks, PartsAreRead};
 
 use ti_caps::every_name_is_found;
 use ti_source::{one_reading, written_spells};

@@ -1,5 +1,5 @@
 // A listing compiles to what was listed, and a relative source to the entry that it is of.
-ghost use Rattle.ti_relisting.specs.Laws.{ListingsCompile, RelativesCompile};
+ghost use Rattle.ti_relisting.specs.Relisting.{ListingsCompile, RelativesCompile};
 
 use crate::reading_back::parts_are_read;
 use ti_caps::each_kind_is_in_order;

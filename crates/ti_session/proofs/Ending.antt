@@ -14,8 +14,8 @@ use Rattle.ti_devices.specs.declared.tool_error.ToolError.{ToolError}
 use Rattle.ti_devices.specs.declared.tool_error.ToolError.TheVariants.{Usage, NoTerminal, BadEntry, ReadFault, WriteFault, LineTooLong, BlockTooLong, TooManyBlocks, Memory}
 use Rattle.ti_session.specs.declared.editor.Editor.{Editor}
 use Rattle.ti_session.specs.inside.Editor.{ActsOn, HasState}
-use Rattle.ti_session.specs.Script.{Complete, IsShortLine, Session, SessionState, closing_reply, script_line_max, meaning_in, session_start}
-use Rattle.ti_session.specs.Streaming.{Ends}
+use Rattle.ti_session.specs.Script.{Complete, IsShortScriptLine, Session, SessionState, closing_reply, script_line_max, meaning_in, session_start}
+use Rattle.ti_session.specs.Streaming.{ScriptEnds}
 use Rattle.ti_session.proofs.Running.{Complete-last, Complete-ran, Ran, Ran-line, Ran-none, SoFar-ran, bytes_of, bytes_of-more}
 
 -- the lines that were read are answered, and what was read behind them is ahead
@@ -55,7 +55,7 @@ module _ (given left : Observed) (reading : LineReader) (editor : Editor) (befor
   spent : (next : LineReader) (later : Observed) → SpendsReads reading next left later → reads_left_of next + later.reads ≡ reads_max + given.reads
   spent next later s = s.reads ∙ p.reads
 
-  short : (line : List ℕ) → length line ≤ line_limit_of reading → IsShortLine line
+  short : (line : List ℕ) → length line ≤ line_limit_of reading → IsShortScriptLine line
   short line low = subst (λ (n : ℕ). length line ≤ n) p.limit low
 
   -- a line with its newline was read
@@ -81,11 +81,11 @@ module _ (given left : Observed) (reading : LineReader) (editor : Editor) (befor
       reads = spent next later s;
     }
 
-    pub Ends-line : (editor2 : Editor) (now2 : Observed) (e : ToolError)
-        → ActsOn (meaning_in p.state.mode (last_line_of next)) p.state editor2 now now2 (Err e) → Ends given later before now2 (Err e)
-    Ends-line editor2 now2 e acts =
+    pub ScriptEnds-line : (editor2 : Editor) (now2 : Observed) (e : ToolError)
+        → ActsOn (meaning_in p.state.mode (last_line_of next)) p.state editor2 now now2 (Err e) → ScriptEnds given later before now2 (Err e)
+    ScriptEnds-line editor2 now2 e acts =
         let ran = Ran-line p.lines p.state acts.next (last_line_of next) p.output acts.reply p.ran r.3 (short (last_line_of next) r.4) acts.leads in
-        subst (λ (x : ToolError). Ends given later before now2 (Err x)) (sym acts.wrote.0) (record {
+        subst (λ (x : ToolError). ScriptEnds given later before now2 (Err x)) (sym acts.wrote.0) (record {
           taken = bytes_of (p.lines ++ last_line_of next ∷ []);
           rest = ahead_of next;
           output = p.output ++ acts.reply;
@@ -103,12 +103,12 @@ module _ (given left : Observed) (reading : LineReader) (editor : Editor) (befor
       inr (used.0 ∙ p.gives.failures, omega arith)
 
   -- no more can be read, or a line is over the limit
-  pub Ends-fault : (next : LineReader) (later : Observed) (e : ToolError) → ReadsLine reading next left later (Err e)
-      → SpendsReads reading next left later → Ends given later before now (Err e)
-  Ends-fault next later Usage r s = absurd r
-  Ends-fault next later NoTerminal r s = absurd r
-  Ends-fault next later (BadEntry why) r s = absurd r
-  Ends-fault next later ReadFault r s = record {
+  pub ScriptEnds-fault : (next : LineReader) (later : Observed) (e : ToolError) → ReadsLine reading next left later (Err e)
+      → SpendsReads reading next left later → ScriptEnds given later before now (Err e)
+  ScriptEnds-fault next later Usage r s = absurd r
+  ScriptEnds-fault next later NoTerminal r s = absurd r
+  ScriptEnds-fault next later (BadEntry why) r s = absurd r
+  ScriptEnds-fault next later ReadFault r s = record {
     taken = bytes_of p.lines ++ (ahead_of reading ++ r.0);
     line = ahead_of reading ++ r.0;
     end = p.state;
@@ -120,8 +120,8 @@ module _ (given left : Observed) (reading : LineReader) (editor : Editor) (befor
     written = p.written;
     cause = cannot next later r.4 s;
   }
-  Ends-fault next later WriteFault r s = absurd r
-  Ends-fault next later LineTooLong r s = record {
+  ScriptEnds-fault next later WriteFault r s = absurd r
+  ScriptEnds-fault next later LineTooLong r s = record {
     taken = bytes_of p.lines ++ r.1;
     rest = r.2;
     line = r.1;
@@ -133,9 +133,9 @@ module _ (given left : Observed) (reading : LineReader) (editor : Editor) (befor
     long = subst (λ (n : ℕ). n < length r.1) p.limit r.6;
     written = p.written;
   }
-  Ends-fault next later (BlockTooLong n) r s = absurd r
-  Ends-fault next later TooManyBlocks r s = absurd r
-  Ends-fault next later Memory r s = absurd r
+  ScriptEnds-fault next later (BlockTooLong n) r s = absurd r
+  ScriptEnds-fault next later TooManyBlocks r s = absurd r
+  ScriptEnds-fault next later Memory r s = absurd r
 
 -- all of the input was taken, with these replies
 module _ (given left before : Observed) (input : List ℕ) (gives : Gives given left input) (at_end : IsAtEnd left.bytes) (end : SessionState)
@@ -143,8 +143,8 @@ module _ (given left before : Observed) (input : List ℕ) (gives : Gives given 
   abbrev whole : Session input (replies ++ closing_reply end.mode)
   whole = record { end = end; replies = replies; complete = complete; whole = refl }
 
-  Ends-written : (now : Observed) → TakesAll before now (replies ++ closing_reply end.mode) → Ends given left before now (Ok tt)
-  Ends-written now written = record {
+  ScriptEnds-written : (now : Observed) → TakesAll before now (replies ++ closing_reply end.mode) → ScriptEnds given left before now (Ok tt)
+  ScriptEnds-written now written = record {
     input = input;
     output = replies ++ closing_reply end.mode;
     gives = gives;
@@ -153,9 +153,9 @@ module _ (given left before : Observed) (input : List ℕ) (gives : Gives given 
     written = written;
   }
 
-  pub Ends-cut : (now : Observed) (e : ToolError) → Wrote before now (replies ++ closing_reply end.mode) (Err e) → Ends given left before now (Err e)
-  Ends-cut now e wrote =
-      subst (λ (x : ToolError). Ends given left before now (Err x)) (sym wrote.0) (record {
+  pub ScriptEnds-cut : (now : Observed) (e : ToolError) → Wrote before now (replies ++ closing_reply end.mode) (Err e) → ScriptEnds given left before now (Err e)
+  ScriptEnds-cut now e wrote =
+      subst (λ (x : ToolError). ScriptEnds given left before now (Err x)) (sym wrote.0) (record {
         taken = input;
         rest = [];
         output = replies ++ closing_reply end.mode;
@@ -164,23 +164,23 @@ module _ (given left before : Observed) (input : List ℕ) (gives : Gives given 
         written = wrote.1;
       })
 
-  pub Ends-closed : (middle now : Observed) (result : Result Unit ToolError) → TakesAll before middle replies
-      → Wrote middle now (closing_reply end.mode) result → Ends given left before now result
-  Ends-closed middle now (Ok tt) written wrote = Ends-written now (TakesAll-then before middle now replies (closing_reply end.mode) written wrote)
-  Ends-closed middle now (Err e) written wrote =
-      Ends-cut now e (wrote.0, TakesFront-then before middle now replies (closing_reply end.mode) written wrote.1)
+  pub ScriptEnds-closed : (middle now : Observed) (result : Result Unit ToolError) → TakesAll before middle replies
+      → Wrote middle now (closing_reply end.mode) result → ScriptEnds given left before now result
+  ScriptEnds-closed middle now (Ok tt) written wrote = ScriptEnds-written now (TakesAll-then before middle now replies (closing_reply end.mode) written wrote)
+  ScriptEnds-closed middle now (Err e) written wrote =
+      ScriptEnds-cut now e (wrote.0, TakesFront-then before middle now replies (closing_reply end.mode) written wrote.1)
 
 module _ (given left : Observed) (reading : LineReader) (editor : Editor) (before now : Observed)
     (p : Progress given left reading editor before now) (next : LineReader) (later : Observed) where
   -- the script has ended behind a newline
-  pub Ends-end : ReadsLine reading next left later (Ok End) → (now2 : Observed) (result : Result Unit ToolError)
-      → ((s : SessionState) → HasState editor s → Wrote now now2 (closing_reply s.mode) result) → Ends given later before now2 result
-  Ends-end r now2 result closes =
+  pub ScriptEnds-end : ReadsLine reading next left later (Ok End) → (now2 : Observed) (result : Result Unit ToolError)
+      → ((s : SessionState) → HasState editor s → Wrote now now2 (closing_reply s.mode) result) → ScriptEnds given later before now2 result
+  ScriptEnds-end r now2 result closes =
       let gives : Gives given later (bytes_of p.lines) =
       subst (λ (t : List ℕ). Gives given later t)
       (ap (λ (t : List ℕ). bytes_of p.lines ++ (t ++ [])) r.1 ∙ append-nil (bytes_of p.lines))
       (gives-more given left reading editor before now p later [] r.0) in
-      Ends-closed given later before (bytes_of p.lines) gives r.2 p.state p.output (Complete-ran p.lines p.state p.output p.ran)
+      ScriptEnds-closed given later before (bytes_of p.lines) gives r.2 p.state p.output (Complete-ran p.lines p.state p.output p.ran)
       now now2 result p.written (closes p.state p.holds)
 
   -- the script has ended behind a last line without newline
@@ -190,21 +190,21 @@ module _ (given left : Observed) (reading : LineReader) (editor : Editor) (befor
         subst (λ (t : List ℕ). Gives given later (bytes_of p.lines ++ t)) r.2 (gives-more given left reading editor before now p later r.0 r.1)
 
     module _ (editor2 : Editor) (middle : Observed) where
-      pub Ends-last : (acts : ActsOn (meaning_in p.state.mode (last_line_of next)) p.state editor2 now middle (Ok tt)) (now2 : Observed)
+      pub ScriptEnds-last : (acts : ActsOn (meaning_in p.state.mode (last_line_of next)) p.state editor2 now middle (Ok tt)) (now2 : Observed)
           (result : Result Unit ToolError) → ((s : SessionState) → HasState editor2 s → Wrote middle now2 (closing_reply s.mode) result)
-          → Ends given later before now2 result
-      Ends-last acts now2 result closes =
+          → ScriptEnds given later before now2 result
+      ScriptEnds-last acts now2 result closes =
           let complete = Complete-last p.lines p.state acts.next (last_line_of next) p.output acts.reply p.ran r.4
           (short given left reading editor before now p (last_line_of next) r.5) r.6 acts.leads in
-          Ends-closed given later before (bytes_of p.lines ++ last_line_of next) gives-last r.3 acts.next (p.output ++ acts.reply) complete
+          ScriptEnds-closed given later before (bytes_of p.lines ++ last_line_of next) gives-last r.3 acts.next (p.output ++ acts.reply) complete
           middle now2 result (TakesAll-then before now middle p.output acts.reply p.written acts.wrote) (closes acts.next acts.holds)
 
-      pub Ends-last_cut : (e : ToolError) → ActsOn (meaning_in p.state.mode (last_line_of next)) p.state editor2 now middle (Err e)
-          → Ends given later before middle (Err e)
-      Ends-last_cut e acts =
+      pub ScriptEnds-last_cut : (e : ToolError) → ActsOn (meaning_in p.state.mode (last_line_of next)) p.state editor2 now middle (Err e)
+          → ScriptEnds given later before middle (Err e)
+      ScriptEnds-last_cut e acts =
           let complete = Complete-last p.lines p.state acts.next (last_line_of next) p.output acts.reply p.ran r.4
           (short given left reading editor before now p (last_line_of next) r.5) r.6 acts.leads in
-          Ends-cut given later before (bytes_of p.lines ++ last_line_of next) gives-last r.3 acts.next (p.output ++ acts.reply) complete middle e (
+          ScriptEnds-cut given later before (bytes_of p.lines ++ last_line_of next) gives-last r.3 acts.next (p.output ++ acts.reply) complete middle e (
             acts.wrote.0,
             TakesFront-more before middle (p.output ++ acts.reply) (closing_reply acts.next.mode)
                 (TakesFront-then before now middle p.output acts.reply p.written acts.wrote.1),

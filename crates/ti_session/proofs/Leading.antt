@@ -16,7 +16,7 @@ use Rattle.ti_session.specs.declared.requests.Opened.{Opened}
 use Rattle.ti_session.specs.declared.requests.Opened.TheVariants.{Insert, Replace}
 use Rattle.ti_devices.specs.declared.tool_error.ToolError.{ToolError}
 use Rattle.ti_session.specs.inside.Editor.{HasState, ActsOn, source_of}
-use Rattle.ti_session.specs.Places.{places_text}
+use Rattle.ti_session.specs.Replies.{places_text}
 use Rattle.ti_devices.specs.Counted.{Observed}
 use Rattle.ti_devices.specs.Lines.{with_newline}
 use Rattle.ti_devices.specs.Writing.{Wrote}

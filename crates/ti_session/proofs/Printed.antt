@@ -8,7 +8,7 @@ use Rattle.std.proofs.lemmas.List.{take-append-drop, take_more}
 use Rattle.std.proofs.lemmas.Grind.{flat_map-append}
 use Rattle.ti_meaning.specs.Compiled.{compiled}
 use Rattle.ti_meaning.specs.declared.edits.EditError.TheVariants.{Position}
-use Rattle.ti_session.specs.Places.{next_place, places_text}
+use Rattle.ti_session.specs.Replies.{next_place, places_text}
 use Rattle.ti_session.specs.Script.{entry_text, hex_of, print_reply, refused_text}
 
 pub print_reply-some : (texts : List (List ℕ)) (at : ℕ) (bytes : List ℕ) → at < length texts → Some bytes ≡ compiled texts at

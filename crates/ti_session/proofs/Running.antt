@@ -4,7 +4,7 @@ use Rattle.std.proofs.lemmas.Grind.{flat_map-append}
 use Rattle.std.specs.List.{flat_map, AllByRecursion}
 use Rattle.ti_devices.proofs.LineSteps.{AllByRecursion-push}
 use Rattle.ti_devices.specs.Lines.{IsOneLine, with_newline}
-use Rattle.ti_session.specs.Script.{Complete, IsShortLine, LineLeads, Runs, SoFar, SessionState, meaning_in, session_start}
+use Rattle.ti_session.specs.Script.{Complete, IsShortScriptLine, LineLeads, Runs, SoFar, SessionState, meaning_in, session_start}
 
 pub Runs-push : (lines : List (List ℕ)) (s t u : SessionState) (o reply line : List ℕ) → Runs lines s t o
     → LineLeads (meaning_in t.mode line) t u reply → Runs (lines ++ line ∷ []) s u (o ++ reply)
@@ -28,7 +28,7 @@ Runs-push (first ∷ lines) s t u o reply line ran leads = (
 -- these lines, each with its newline, are within the limit and have led to that state, with their replies
 pub record Ran (lines : List (List ℕ)) (end : SessionState) (output : List ℕ) : Type 0 where
   pub each : AllByRecursion IsOneLine lines
-  pub short : AllByRecursion IsShortLine lines
+  pub short : AllByRecursion IsShortScriptLine lines
   pub ran : Runs lines session_start end output
 
 pub Ran-none : Ran [] session_start []
@@ -42,23 +42,23 @@ pub bytes_of-more : (lines : List (List ℕ)) (line : List ℕ) → bytes_of (li
 bytes_of-more lines line =
     flat_map-append with_newline lines (line ∷ []) ∙ ap (λ (t : List ℕ). bytes_of lines ++ t) (append-nil (with_newline line))
 
-pub Ran-line : (lines : List (List ℕ)) (s next : SessionState) (line output reply : List ℕ) → Ran lines s output → IsOneLine line → IsShortLine line
+pub Ran-line : (lines : List (List ℕ)) (s next : SessionState) (line output reply : List ℕ) → Ran lines s output → IsOneLine line → IsShortScriptLine line
     → LineLeads (meaning_in s.mode line) s next reply → Ran (lines ++ line ∷ []) next (output ++ reply)
 Ran-line lines s next line output reply r one short leads = record {
   each = AllByRecursion-push IsOneLine lines line r.each one;
-  short = AllByRecursion-push IsShortLine lines line r.short short;
+  short = AllByRecursion-push IsShortScriptLine lines line r.short short;
   ran = Runs-push lines session_start s next output reply line r.ran leads;
 }
 
 pub Complete-last : (lines : List (List ℕ)) (s next : SessionState) (line output reply : List ℕ) → Ran lines s output → IsOneLine line
-    → IsShortLine line → 0 < length line → LineLeads (meaning_in s.mode line) s next reply
+    → IsShortScriptLine line → 0 < length line → LineLeads (meaning_in s.mode line) s next reply
     → Complete (bytes_of lines ++ line) next (output ++ reply)
 Complete-last lines s next [] output reply r one short some leads = absurd (omega arith)
 Complete-last lines s next (byte ∷ line) output reply r one short some leads = record {
   lines = lines;
   rest = byte ∷ line;
   split = record { whole = refl; each = r.each; partial = one };
-  short = AllByRecursion-push IsShortLine lines (byte ∷ line) r.short short;
+  short = AllByRecursion-push IsShortScriptLine lines (byte ∷ line) r.short short;
   ran = Runs-push lines session_start s next output reply (byte ∷ line) r.ran leads;
 }
 

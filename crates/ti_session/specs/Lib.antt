@@ -1,6 +1,6 @@
 -- The definitions that the contracts of this crate cite.
 pub mod inside
-pub mod Places
+pub mod Replies
 pub mod Script
 pub mod ScriptLaws
 pub mod Streaming

@@ -3,7 +3,7 @@ use Rattle.std.specs.Prelude.{◌≡◌, ℕ, ◌+◌, ◌-◌, ◌/◌, ◌%◌
 use Rattle.std.specs.Prelude.{List, [], ◌∷◌, ◌++◌, length, take, drop, position, codes, bytes_eq}
 use Rattle.std.specs.List.{flat_map, list_all, AllByRecursion}
 use Rattle.ti_text.specs.Ascii as ascii
-use Rattle.ti_text.specs.Digits.{decimal, is_decimal_digit}
+use Rattle.ti_text.specs.Digits.{decimal_value, is_decimal_digit}
 use Rattle.ti_meaning.specs.Compiled.{compiled}
 use Rattle.ti_meaning.specs.Report.{report}
 use Rattle.ti_meaning.specs.Edits.{Change, insertion, replacement, removal, relocation, Step}
@@ -13,7 +13,7 @@ use Rattle.ti_meaning.specs.declared.edits.EditError.TheVariants.{Position, TooL
 use Rattle.ti_meaning.specs.declared.edits.Outcome.{Outcome}
 use Rattle.ti_meaning.specs.declared.edits.Outcome.TheVariants.{Accepted, Refused}
 use Rattle.ti_devices.specs.Lines.{IsWithin, Splits, with_last, with_newline}
-use Rattle.ti_session.specs.Places.{places_text}
+use Rattle.ti_session.specs.Replies.{places_text}
 
 -- ---- lines
 
@@ -22,8 +22,8 @@ abbrev pub script_line_max : ℕ
 script_line_max = 65536
 
 -- the line is within that limit
-abbrev pub IsShortLine : List ℕ → Type 0
-IsShortLine line = IsWithin script_line_max line
+abbrev pub IsShortScriptLine : List ℕ → Type 0
+IsShortScriptLine line = IsWithin script_line_max line
 
 -- ---- what a line says
 
@@ -49,7 +49,7 @@ pub data Meaning : Type 0 where
 
 -- one to nine decimal digits
 abbrev pub number : List ℕ → Option ℕ
-number text = if nat_lt 0 (length text) && nat_lt (length text) 10 && list_all is_decimal_digit text then Some (decimal text) else None
+number text = if nat_lt 0 (length text) && nat_lt (length text) 10 && list_all is_decimal_digit text then Some (decimal_value text) else None
 
 -- a letter with a number: `i N`, `r N`, `d N`, `p N`
 abbrev pub meaning_with_number : ℕ → Option ℕ → Meaning
@@ -201,7 +201,7 @@ session_start = state (source [] []) outside
 pub record SoFar (taken line : List ℕ) (end : SessionState) (output : List ℕ) : Type 0 where
   pub lines : List (List ℕ)
   pub split : Splits taken lines line
-  pub short : AllByRecursion IsShortLine lines
+  pub short : AllByRecursion IsShortScriptLine lines
   pub ran : Runs lines session_start end output
 
 -- all lines of the input, a last one without newline too, are within the limit and have led to that state, with their replies
@@ -209,7 +209,7 @@ pub record Complete (input : List ℕ) (end : SessionState) (replies : List ℕ)
   pub lines : List (List ℕ)
   pub rest : List ℕ
   pub split : Splits input lines rest
-  pub short : AllByRecursion IsShortLine (with_last lines rest)
+  pub short : AllByRecursion IsShortScriptLine (with_last lines rest)
   pub ran : Runs (with_last lines rest) session_start end replies
 
 -- the output of a session that read this input to its end

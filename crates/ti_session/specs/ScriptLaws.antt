@@ -9,11 +9,11 @@ OneAnswer = (meaning : Meaning) (before after other : SessionState) (reply answe
     → LineLeads meaning before other answer
     → (reply ≡ refused_text Memory) ⊎ (answer ≡ refused_text Memory) ⊎ ((after ≡ other) × (reply ≡ answer))
 
--- these replies begin with the one that memory is wanting
+-- these replies begin with the answer of want of memory
 abbrev pub SaysMemory : List ℕ → Type 0
 SaysMemory replies = (later : List ℕ) × (replies ≡ refused_text Memory ++ later)
 
--- two outputs are equal up to a place where one of them says that memory is wanting
+-- two outputs are equal up to a place from which one of them goes on with the answer of want of memory
 pub record DifferAtMemory (output other : List ℕ) : Type 0 where
   pub front : List ℕ
   pub rest : List ℕ
@@ -22,6 +22,6 @@ pub record DifferAtMemory (output other : List ℕ) : Type 0 where
   pub other_is : other ≡ front ++ other_rest
   pub wants : SaysMemory rest ⊎ SaysMemory other_rest
 
--- two outputs of one input are equal, or equal up to a place where one of them says that memory is wanting
+-- two outputs of one input are equal, or equal up to a place from which one goes on with the answer of want of memory
 abbrev pub OneOutput : Type 0
 OneOutput = (input output other : List ℕ) → Session input output → Session input other → (output ≡ other) ⊎ DifferAtMemory output other

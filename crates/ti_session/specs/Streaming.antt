@@ -7,10 +7,10 @@ use Rattle.ti_devices.specs.Reading.{Gives}
 use Rattle.ti_devices.specs.Writing.{TakesAll, TakesFront}
 use Rattle.ti_devices.specs.declared.tool_error.ToolError.{ToolError}
 use Rattle.ti_devices.specs.declared.tool_error.ToolError.TheVariants.{ReadFault, WriteFault, LineTooLong, Memory}
-use Rattle.ti_session.specs.Script.{IsShortLine, Session, SoFar, SessionState, script_line_max}
+use Rattle.ti_session.specs.Script.{IsShortScriptLine, Session, SoFar, SessionState, script_line_max}
 
 -- the script was read to its end, and all replies were written
-pub record Completes (given left before now : Observed) : Type 0 where
+pub record ScriptCompletes (given left before now : Observed) : Type 0 where
   pub input : List ℕ
   pub output : List ℕ
   pub gives : Gives given left input
@@ -19,19 +19,19 @@ pub record Completes (given left before now : Observed) : Type 0 where
   pub written : TakesAll before now output
 
 -- no more can be read: the replies to the lines that are complete were written
-pub record StopsReading (given left before now : Observed) : Type 0 where
+pub record ScriptStopsReading (given left before now : Observed) : Type 0 where
   pub taken : List ℕ
   pub line : List ℕ
   pub end : SessionState
   pub output : List ℕ
   pub gives : Consumes given.bytes left.bytes taken
   pub so_far : SoFar taken line end output
-  pub short : IsShortLine line
+  pub short : IsShortScriptLine line
   pub written : TakesAll before now output
   pub cause : CannotReadOn given left
 
 -- a line that has begun is over the limit: the replies to the lines before it were written, and some bytes more were read
-pub record FindsLongLine (given left before now : Observed) : Type 0 where
+pub record ScriptFindsLongLine (given left before now : Observed) : Type 0 where
   pub taken : List ℕ
   pub rest : List ℕ
   pub line : List ℕ
@@ -49,7 +49,7 @@ IsOutput taken rest left output =
     ((line : List ℕ) × (end : SessionState) × SoFar taken line end output) ⊎ ((rest ≡ []) × IsAtEnd left.bytes × Session taken output)
 
 -- the writer failed: the replies were written up to some byte, and some bytes more were read
-pub record StopsWriting (given left before now : Observed) : Type 0 where
+pub record ScriptStopsWriting (given left before now : Observed) : Type 0 where
   pub taken : List ℕ
   pub rest : List ℕ
   pub output : List ℕ
@@ -58,10 +58,10 @@ pub record StopsWriting (given left before now : Observed) : Type 0 where
   pub written : TakesFront before now output
 
 -- How a session ends. Memory is wanting only at the start, with nothing read or written.
-abbrev pub Ends : Observed → Observed → Observed → Observed → Result Unit ToolError → Type 0
-Ends given left before now (Ok _) = Completes given left before now
-Ends given left before now (Err ReadFault) = StopsReading given left before now
-Ends given left before now (Err LineTooLong) = FindsLongLine given left before now
-Ends given left before now (Err WriteFault) = StopsWriting given left before now
-Ends given left before now (Err Memory) = (left ≡ given) × (now ≡ before)
-Ends given left before now (Err _) = ⊥
+abbrev pub ScriptEnds : Observed → Observed → Observed → Observed → Result Unit ToolError → Type 0
+ScriptEnds given left before now (Ok _) = ScriptCompletes given left before now
+ScriptEnds given left before now (Err ReadFault) = ScriptStopsReading given left before now
+ScriptEnds given left before now (Err LineTooLong) = ScriptFindsLongLine given left before now
+ScriptEnds given left before now (Err WriteFault) = ScriptStopsWriting given left before now
+ScriptEnds given left before now (Err Memory) = (left ≡ given) × (now ≡ before)
+ScriptEnds given left before now (Err _) = ⊥

@@ -3,7 +3,7 @@ ghost use Rattle.std.specs.Prelude.{◌≡◌, ◌<◌, ◌≤◌, length};
 ghost use Rattle.std.specs.List.{flat_map};
 ghost use Rattle.ti_devices.specs.Counted.{observation};
 ghost use Rattle.ti_devices.specs.Writing.{Wrote};
-ghost use Rattle.ti_session.specs.Places.{next_place, places_text};
+ghost use Rattle.ti_session.specs.Replies.{next_place, places_text};
 ghost use Rattle.ti_session.specs.Script.{hex_digit, hex_of, refused_text};
 
 use arrayvec::ArrayVec;

@@ -2,7 +2,7 @@
 ghost use Rattle.std.specs.Prelude.{◌+◌, ◌≤◌};
 ghost use Rattle.ti_devices.specs.Counted.{observation, reads_of};
 ghost use Rattle.ti_devices.specs.LineReader.{reads_max};
-ghost use Rattle.ti_session.specs.Streaming.{Ends};
+ghost use Rattle.ti_session.specs.Streaming.{ScriptEnds};
 
 use crate::editor::Editor;
 use std::alloc::Global;
@@ -25,7 +25,7 @@ pub fn session<R: Read, W: Write>(
     reader: &mut Counted<R>,
     writer: &mut Counted<W>,
 ) -> Result<(), ToolError>
-    ensures ends { Ends (observation R.remaining reader.old) (observation R.remaining reader.new)
+    ensures ends { ScriptEnds (observation R.remaining reader.old) (observation R.remaining reader.new)
         (observation W.contents writer.old) (observation W.contents writer.new) result }
     ensures reads { reads_of reader.new ≤ reads_of reader.old + reads_max }
 {

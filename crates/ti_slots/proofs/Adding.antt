@@ -89,23 +89,23 @@ capacity_more old mid new name g h = record { holders = omega (arith, g.holders,
 
 -- ---- a name comes
 
-pub adds_more : (lists rest : NameIndex → List ℕ → List ℕ) (listed : List ℕ) (told more : List ℕ → Bool) (id : ℕ) (old mid new : NameIndex) (name : List ℕ) → ByEntry lists → ByEntry rest → AddsId lists rest listed told id old mid → ((n : List ℕ) → more n ≡ (told n || bytes_eq n name)) → ListsToo listed (lists mid name) (lists new name) id → rest new name ≡ rest mid name → KeepsCapacity mid new name → KeepsOthers mid new name → AddsId lists rest listed more id old new
-adds_more lists rest listed told more id old mid new name by by_rest h step too same_rest capacity others = record {
+pub adds_more : (lists rest : NameIndex → List ℕ → List ℕ) (listed : List ℕ) (passes more : List ℕ → Bool) (id : ℕ) (old mid new : NameIndex) (name : List ℕ) → ByEntry lists → ByEntry rest → AddsId lists rest listed passes id old mid → ((n : List ℕ) → more n ≡ (passes n || bytes_eq n name)) → ListsToo listed (lists mid name) (lists new name) id → rest new name ≡ rest mid name → KeepsCapacity mid new name → KeepsOthers mid new name → AddsId lists rest listed more id old new
+adds_more lists rest listed passes more id old mid new name by by_rest h step too same_rest capacity others = record {
   added = λ n test e. elim (name_cases n name) [
     | inl same ↦
         let here : ListsToo listed (lists mid n) (lists new n) id = rw same.0 too in
-        let all : more n ≡ true = step n ∙ or_true (told n) (bytes_eq n name) same.1 in
-        here (λ x. (nat_eq x id && told n) || test x) (h.added n test e)
-        ∙ agreeing_lists listed (λ x. nat_eq x id || ((nat_eq x id && told n) || test x)) (λ x. (nat_eq x id && more n) || test x) (λ i x f. all_added (nat_eq x id) (told n) (more n) (test x) all)
+        let all : more n ≡ true = step n ∙ or_true (passes n) (bytes_eq n name) same.1 in
+        here (λ x. (nat_eq x id && passes n) || test x) (h.added n test e)
+        ∙ agreeing_lists listed (λ x. nat_eq x id || ((nat_eq x id && passes n) || test x)) (λ x. (nat_eq x id && more n) || test x) (λ i x f. all_added (nat_eq x id) (passes n) (more n) (test x) all)
     | inr apart ↦
-        let as_before : more n ≡ told n = step n ∙ (ap (λ b. told n || b) apart.1 ∙ or_none (told n)) in
+        let as_before : more n ≡ passes n = step n ∙ (ap (λ b. passes n || b) apart.1 ∙ or_none (passes n)) in
         by new mid n (others n apart.0)
         ∙ (h.added n test e
-        ∙ agreeing_lists listed (λ x. (nat_eq x id && told n) || test x) (λ x. (nat_eq x id && more n) || test x) (λ i x f. ap (λ b. (nat_eq x id && b) || test x) (sym as_before)))
+        ∙ agreeing_lists listed (λ x. (nat_eq x id && passes n) || test x) (λ x. (nat_eq x id && more n) || test x) (λ i x f. ap (λ b. (nat_eq x id && b) || test x) (sym as_before)))
   ];
-  untold = λ n e.
-      let f = or_both (told n) (bytes_eq n name) (sym (step n) ∙ e) in
-      others n (λ same. false≢true (sym f.1 ∙ (bytes_decides n name).1 same)) ∙ h.untold n f.0;
+  elsewhere = λ n e.
+      let f = or_both (passes n) (bytes_eq n name) (sym (step n) ∙ e) in
+      others n (λ same. false≢true (sym f.1 ∙ (bytes_decides n name).1 same)) ∙ h.elsewhere n f.0;
   kept = λ n. elim (name_cases n name) [
     | inl same ↦ (let here : rest new n ≡ rest mid n = rw same.0 same_rest in here ∙ h.kept n)
     | inr apart ↦ by_rest new mid n (others n apart.0) ∙ h.kept n
@@ -114,45 +114,45 @@ adds_more lists rest listed told more id old mid new name by by_rest h step too 
 }
 
 -- a test that says the same
-pub adds_same : (lists rest : NameIndex → List ℕ → List ℕ) (listed : List ℕ) (told more : List ℕ → Bool) (id : ℕ) (old new : NameIndex) → AddsId lists rest listed told id old new → ((n : List ℕ) → more n ≡ told n) → AddsId lists rest listed more id old new
-adds_same lists rest listed told more id old new h same = record {
+pub adds_same : (lists rest : NameIndex → List ℕ → List ℕ) (listed : List ℕ) (passes more : List ℕ → Bool) (id : ℕ) (old new : NameIndex) → AddsId lists rest listed passes id old new → ((n : List ℕ) → more n ≡ passes n) → AddsId lists rest listed more id old new
+adds_same lists rest listed passes more id old new h same = record {
   added = λ n test e. h.added n test e
-      ∙ agreeing_lists listed (λ x. (nat_eq x id && told n) || test x) (λ x. (nat_eq x id && more n) || test x) (λ i x f. ap (λ b. (nat_eq x id && b) || test x) (sym (same n)));
-  untold = λ n e. h.untold n (sym (same n) ∙ e);
+      ∙ agreeing_lists listed (λ x. (nat_eq x id && passes n) || test x) (λ x. (nat_eq x id && more n) || test x) (λ i x f. ap (λ b. (nat_eq x id && b) || test x) (sym (same n)));
+  elsewhere = λ n e. h.elsewhere n (sym (same n) ∙ e);
   kept = h.kept;
   capacity = h.capacity;
 }
 
 -- what adding a name asks for
-pub place_for : (lists rest : NameIndex → List ℕ → List ℕ) (capacity : NameIndex → List ℕ → ℕ) (listed : List ℕ) (told : List ℕ → Bool) (id : ℕ) (old mid : NameIndex) (name : List ℕ) → ByEntry lists → CapacityByEntry capacity → AddsId lists rest listed told id old mid → IsPart listed (lists old name) → length (lists old name) < capacity old name → (length (lists mid name) < capacity mid name) ⊎ Lists listed (lists mid name) id
-place_for lists rest capacity listed told id old mid name by by_capacity h part room =
-    elim (cases_Bool (told name)) [
-      | inl t ↦ inr ((λ x. (nat_eq x id && told name) || part.0 x), h.added name part.0 part.1, rw (t, eq-eqb id id refl) refl)
+pub place_for : (lists rest : NameIndex → List ℕ → List ℕ) (capacity : NameIndex → List ℕ → ℕ) (listed : List ℕ) (passes : List ℕ → Bool) (id : ℕ) (old mid : NameIndex) (name : List ℕ) → ByEntry lists → CapacityByEntry capacity → AddsId lists rest listed passes id old mid → IsPart listed (lists old name) → length (lists old name) < capacity old name → (length (lists mid name) < capacity mid name) ⊎ Lists listed (lists mid name) id
+place_for lists rest capacity listed passes id old mid name by by_capacity h part room =
+    elim (cases_Bool (passes name)) [
+      | inl t ↦ inr ((λ x. (nat_eq x id && passes name) || part.0 x), h.added name part.0 part.1, rw (t, eq-eqb id id refl) refl)
       | inr f ↦
-          let same = h.untold name f in
+          let same = h.elsewhere name f in
           let one = by mid old name same in
           let two = by_capacity mid old name same in inl (omega (arith, ap length one, two, room))
     ]
 
-pub added_among : (lists rest : NameIndex → List ℕ → List ℕ) (listed : List ℕ) (told : List ℕ → Bool) (id : ℕ) (old mid : NameIndex) (name : List ℕ) → AddsId lists rest listed told id old mid → IsPart listed (lists old name) → AreAmong (lists mid name) listed
-added_among lists rest listed told id old mid name h part =
-    rw (h.added name part.0 part.1) (among_all listed (λ x. (nat_eq x id && told name) || part.0 x))
+pub added_among : (lists rest : NameIndex → List ℕ → List ℕ) (listed : List ℕ) (passes : List ℕ → Bool) (id : ℕ) (old mid : NameIndex) (name : List ℕ) → AddsId lists rest listed passes id old mid → IsPart listed (lists old name) → AreAmong (lists mid name) listed
+added_among lists rest listed passes id old mid name h part =
+    rw (h.added name part.0 part.1) (among_all listed (λ x. (nat_eq x id && passes name) || part.0 x))
 
 -- ---- a name goes
 
-pub removes_more : (lists rest : NameIndex → List ℕ → List ℕ) (listed : List ℕ) (told more : List ℕ → Bool) (id : ℕ) (old mid new : NameIndex) (name : List ℕ) → ByEntry lists → ByEntry rest → Removes lists rest listed told id old mid → ((n : List ℕ) → more n ≡ (told n || bytes_eq n name)) → ListsNoMore listed (lists mid name) (lists new name) id → rest new name ≡ rest mid name → KeepsCapacity mid new name → KeepsOthers mid new name → Removes lists rest listed more id old new
-removes_more lists rest listed told more id old mid new name by by_rest h step gone same_rest capacity others = record {
+pub removes_more : (lists rest : NameIndex → List ℕ → List ℕ) (listed : List ℕ) (passes more : List ℕ → Bool) (id : ℕ) (old mid new : NameIndex) (name : List ℕ) → ByEntry lists → ByEntry rest → Removes lists rest listed passes id old mid → ((n : List ℕ) → more n ≡ (passes n || bytes_eq n name)) → ListsNoMore listed (lists mid name) (lists new name) id → rest new name ≡ rest mid name → KeepsCapacity mid new name → KeepsOthers mid new name → Removes lists rest listed more id old new
+removes_more lists rest listed passes more id old mid new name by by_rest h step gone same_rest capacity others = record {
   removed = λ n test e. elim (name_cases n name) [
     | inl same ↦
         let here : ListsNoMore listed (lists mid n) (lists new n) id = rw same.0 gone in
-        let all : more n ≡ true = step n ∙ or_true (told n) (bytes_eq n name) same.1 in
-        here (λ x. not (nat_eq x id && told n) && test x) (h.removed n test e)
-        ∙ agreeing_lists listed (λ x. not (nat_eq x id) && (not (nat_eq x id && told n) && test x)) (λ x. not (nat_eq x id && more n) && test x) (λ i x f. all_removed (nat_eq x id) (told n) (more n) (test x) all)
+        let all : more n ≡ true = step n ∙ or_true (passes n) (bytes_eq n name) same.1 in
+        here (λ x. not (nat_eq x id && passes n) && test x) (h.removed n test e)
+        ∙ agreeing_lists listed (λ x. not (nat_eq x id) && (not (nat_eq x id && passes n) && test x)) (λ x. not (nat_eq x id && more n) && test x) (λ i x f. all_removed (nat_eq x id) (passes n) (more n) (test x) all)
     | inr apart ↦
-        let as_before : more n ≡ told n = step n ∙ (ap (λ b. told n || b) apart.1 ∙ or_none (told n)) in
+        let as_before : more n ≡ passes n = step n ∙ (ap (λ b. passes n || b) apart.1 ∙ or_none (passes n)) in
         by new mid n (others n apart.0)
         ∙ (h.removed n test e
-        ∙ agreeing_lists listed (λ x. not (nat_eq x id && told n) && test x) (λ x. not (nat_eq x id && more n) && test x) (λ i x f. ap (λ b. not (nat_eq x id && b) && test x) (sym as_before)))
+        ∙ agreeing_lists listed (λ x. not (nat_eq x id && passes n) && test x) (λ x. not (nat_eq x id && more n) && test x) (λ i x f. ap (λ b. not (nat_eq x id && b) && test x) (sym as_before)))
   ];
   kept = λ n. elim (name_cases n name) [
     | inl same ↦ (let here : rest new n ≡ rest mid n = rw same.0 same_rest in here ∙ h.kept n)
@@ -161,17 +161,17 @@ removes_more lists rest listed told more id old mid new name by by_rest h step g
   capacity = λ n. capacity_more old mid new n (h.capacity n) (capacity_here mid new name n capacity others);
 }
 
-pub removes_same : (lists rest : NameIndex → List ℕ → List ℕ) (listed : List ℕ) (told more : List ℕ → Bool) (id : ℕ) (old new : NameIndex) → Removes lists rest listed told id old new → ((n : List ℕ) → more n ≡ told n) → Removes lists rest listed more id old new
-removes_same lists rest listed told more id old new h same = record {
+pub removes_same : (lists rest : NameIndex → List ℕ → List ℕ) (listed : List ℕ) (passes more : List ℕ → Bool) (id : ℕ) (old new : NameIndex) → Removes lists rest listed passes id old new → ((n : List ℕ) → more n ≡ passes n) → Removes lists rest listed more id old new
+removes_same lists rest listed passes more id old new h same = record {
   removed = λ n test e. h.removed n test e
-      ∙ agreeing_lists listed (λ x. not (nat_eq x id && told n) && test x) (λ x. not (nat_eq x id && more n) && test x) (λ i x f. ap (λ b. not (nat_eq x id && b) && test x) (sym (same n)));
+      ∙ agreeing_lists listed (λ x. not (nat_eq x id && passes n) && test x) (λ x. not (nat_eq x id && more n) && test x) (λ i x f. ap (λ b. not (nat_eq x id && b) && test x) (sym (same n)));
   kept = h.kept;
   capacity = h.capacity;
 }
 
-pub removed_among : (lists rest : NameIndex → List ℕ → List ℕ) (listed : List ℕ) (told : List ℕ → Bool) (id : ℕ) (old mid : NameIndex) (name : List ℕ) → Removes lists rest listed told id old mid → IsPart listed (lists old name) → AreAmong (lists mid name) listed
-removed_among lists rest listed told id old mid name h part =
-    rw (h.removed name part.0 part.1) (among_all listed (λ x. not (nat_eq x id && told name) && part.0 x))
+pub removed_among : (lists rest : NameIndex → List ℕ → List ℕ) (listed : List ℕ) (passes : List ℕ → Bool) (id : ℕ) (old mid : NameIndex) (name : List ℕ) → Removes lists rest listed passes id old mid → IsPart listed (lists old name) → AreAmong (lists mid name) listed
+removed_among lists rest listed passes id old mid name h part =
+    rw (h.removed name part.0 part.1) (among_all listed (λ x. not (nat_eq x id && passes name) && part.0 x))
 
 -- ---- room is made
 
@@ -187,13 +187,13 @@ holder_room_grown old new name h room = omega (arith, room, ap length (h.seen na
 pub user_room_grown : (old new : NameIndex) (name : List ℕ) → IsGrown old new → HasUserRoom old name → HasUserRoom new name
 user_room_grown old new name h room = omega (arith, room, ap length (h.seen name).users, (h.capacity name).users)
 
-pub room_grown : (told : List ℕ → Bool) (old new : NameIndex) → IsGrown old new → HasRoomAt told old → HasRoomAt told new
-room_grown told old new h room n e = (holder_room_grown old new n h (room n e).0, user_room_grown old new n h (room n e).1)
+pub room_grown : (passes : List ℕ → Bool) (old new : NameIndex) → IsGrown old new → HasRoomAt passes old → HasRoomAt passes new
+room_grown passes old new h room n e = (holder_room_grown old new n h (room n e).0, user_room_grown old new n h (room n e).1)
 
-pub room_more : (told more : List ℕ → Bool) (mid new : NameIndex) (name : List ℕ) → HasRoomAt told mid → IsGrown mid new → HasHolderRoom new name → HasUserRoom new name → ((n : List ℕ) → more n ≡ (told n || bytes_eq n name)) → HasRoomAt more new
-room_more told more mid new name room h holder user step n e = elim (name_cases n name) [
+pub room_more : (passes more : List ℕ → Bool) (mid new : NameIndex) (name : List ℕ) → HasRoomAt passes mid → IsGrown mid new → HasHolderRoom new name → HasUserRoom new name → ((n : List ℕ) → more n ≡ (passes n || bytes_eq n name)) → HasRoomAt more new
+room_more passes more mid new name room h holder user step n e = elim (name_cases n name) [
   | inl same ↦ rw same.0 (holder, user)
-  | inr apart ↦ room_grown told mid new h room n (sym (or_none (told n)) ∙ (ap (λ b. told n || b) (sym apart.1) ∙ (sym (step n) ∙ e)))
+  | inr apart ↦ room_grown passes mid new h room n (sym (or_none (passes n)) ∙ (ap (λ b. passes n || b) (sym apart.1) ∙ (sym (step n) ∙ e)))
 ]
 
 -- ---- names are let go of
@@ -204,12 +204,12 @@ forgotten_stays mid new name seen others gone n before = elim (name_cases n name
   | inr apart ↦ λ holders users. others n apart.0 ∙ before (sym (seen n).holders ∙ holders) (sym (seen n).users ∙ users)
 ]
 
-pub forgets_more : (told more : List ℕ → Bool) (old mid new : NameIndex) (name : List ℕ) → Forgets told old mid → ((n : List ℕ) → IsSeenSame mid new n) → KeepsOthers mid new name → IsForgotten new name → ((n : List ℕ) → more n ≡ (told n || bytes_eq n name)) → Forgets more old new
-forgets_more told more old mid new name h seen others gone step = record {
+pub forgets_more : (passes more : List ℕ → Bool) (old mid new : NameIndex) (name : List ℕ) → Forgets passes old mid → ((n : List ℕ) → IsSeenSame mid new n) → KeepsOthers mid new name → IsForgotten new name → ((n : List ℕ) → more n ≡ (passes n || bytes_eq n name)) → Forgets more old new
+forgets_more passes more old mid new name h seen others gone step = record {
   same = λ n. record { holders = (seen n).holders ∙ (h.same n).holders; users = (seen n).users ∙ (h.same n).users };
   gone = λ n e. elim (name_cases n name) [
     | inl same ↦ rw same.0 gone
-    | inr apart ↦ forgotten_stays mid new name seen others gone n (h.gone n (sym (or_none (told n)) ∙ (ap (λ b. told n || b) (sym apart.1) ∙ (sym (step n) ∙ e))))
+    | inr apart ↦ forgotten_stays mid new name seen others gone n (h.gone n (sym (or_none (passes n)) ∙ (ap (λ b. passes n || b) (sym apart.1) ∙ (sym (step n) ∙ e))))
   ];
   kept = λ n f. forgotten_stays mid new name seen others gone n (h.kept n f);
 }
@@ -250,7 +250,7 @@ pub used_same : (xs : List Item) (k : ℕ) (x : Item) → k < length xs → x �
 used_same xs k x within e other n =
     ap (λ ys. is_used_by ys n) (take_push xs k x within e) ∙ (used_push (take k xs) x n ∙ (ap (λ b. is_used_by (take k xs) n || b) (no_use x.what n other) ∙ or_none (is_used_by (take k xs) n)))
 
--- what stands in a list is told of
+-- a name that stands in a list is one of its names
 pub named_here : (xs : List (RcSlice ℕ Global)) (k : ℕ) (x : RcSlice ℕ Global) (name : List ℕ) → k < length xs → x ≡ get_or xs k x → rc_slice_items x ≡ name → is_name_of xs name ≡ true
 named_here [] k x name within e is = absurd (omega arith)
 named_here (y ∷ xs) zero x name within e is =

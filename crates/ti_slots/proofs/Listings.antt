@@ -26,10 +26,10 @@ list_before listed at id has fresh =
     agreeing_lists listed has other (λ i x e. (let apart = neq_false x id (λ same. fresh (i, rw same at e)) in rw apart refl))
     ∙ sym (staying_lists.inserted listed at id other fails)
 
-pub list_with : (listed : List ℕ) (id : ℕ) (has new : ℕ → Bool) (told : Bool) → ((x : ℕ) → x ≢ id → new x ≡ has x) → new id ≡ told → filter (λ x. (nat_eq x id && told) || (not (nat_eq x id) && has x)) listed ≡ filter new listed
-list_with listed id has new told same here =
-    agreeing_lists listed (λ x. (nat_eq x id && told) || (not (nat_eq x id) && has x)) new (λ i x e. elim (cases_eq x id) [
-      | inl one ↦ rw (one, eq-eqb id id refl, here) (or_none told)
+pub list_with : (listed : List ℕ) (id : ℕ) (has new : ℕ → Bool) (passes : Bool) → ((x : ℕ) → x ≢ id → new x ≡ has x) → new id ≡ passes → filter (λ x. (nat_eq x id && passes) || (not (nat_eq x id) && has x)) listed ≡ filter new listed
+list_with listed id has new passes same here =
+    agreeing_lists listed (λ x. (nat_eq x id && passes) || (not (nat_eq x id) && has x)) new (λ i x e. elim (cases_eq x id) [
+      | inl one ↦ rw (one, eq-eqb id id refl, here) (or_none passes)
       | inr apart ↦ rw (neq_false x id apart) (sym (same x apart))
     ]) where
       or_none : (b : Bool) → (b || false) ≡ b
@@ -38,10 +38,10 @@ list_with listed id has new told same here =
 
 -- ---- an id goes
 
-pub list_left : (listed : List ℕ) (id : ℕ) (has : ℕ → Bool) (told : Bool) → has id ≡ told → filter (λ x. not (nat_eq x id && told) && has x) listed ≡ filter (λ x. not (nat_eq x id) && has x) listed
-list_left listed id has told here =
-    agreeing_lists listed (λ x. not (nat_eq x id && told) && has x) (λ x. not (nat_eq x id) && has x)
-    (λ i x e. left_test (nat_eq x id) told (has x) (λ one. ap has (eqb-true x id one) ∙ here))
+pub list_left : (listed : List ℕ) (id : ℕ) (has : ℕ → Bool) (passes : Bool) → has id ≡ passes → filter (λ x. not (nat_eq x id && passes) && has x) listed ≡ filter (λ x. not (nat_eq x id) && has x) listed
+list_left listed id has passes here =
+    agreeing_lists listed (λ x. not (nat_eq x id && passes) && has x) (λ x. not (nat_eq x id) && has x)
+    (λ i x e. left_test (nat_eq x id) passes (has x) (λ one. ap has (eqb-true x id one) ∙ here))
 
 pub list_without : (listed : List ℕ) (at id : ℕ) (has new : ℕ → Bool) → slice_get listed at ≡ Some id → ((x : ℕ) → x ≢ id → new x ≡ has x) → new id ≡ false → filter (λ x. not (nat_eq x id) && has x) listed ≡ filter new (remove listed at)
 list_without listed at id has new stood same gone =

@@ -6,8 +6,8 @@ use Rattle.std.proofs.lemmas.List.{append-nil}
 use Rattle.std.proofs.lemmas.List.Elements.{All-nil, All-cons}
 use Rattle.std.proofs.lemmas.List.Sums.{sum_by-append}
 use Rattle.ti_source.specs.Lines.{LinesAdd}
-use Rattle.ti_source.specs.Blocks.{last_byte, HasNoHead, HasOneHead, AreBlocks, Cut, OneBlock, EachHasCut, IsOnlyCut, BlocksAreSingle, BlocksAreSingleOnceEnded}
-use Rattle.ti_source.specs.inside.Blocks.{front_of, blocks_from_head}
+use Rattle.ti_source.specs.Cutting.{last_byte, HasNoHead, HasOneHead, AreBlocks, Cut, OneBlock, EachHasCut, IsOnlyCut, BlocksAreSingle, BlocksAreSingleOnceEnded}
+use Rattle.ti_source.specs.inside.Cutting.{front_of, blocks_from_head}
 use Rattle.ti_source.specs.Heads.{begins_head, is_head}
 
 pub lines_add : LinesAdd

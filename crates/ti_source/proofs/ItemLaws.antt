@@ -5,7 +5,7 @@ use Rattle.std.proofs.lemmas.Bool.{cases_Bool, eqb-true, eq-eqb, ne_eqb, and_par
 use Rattle.std.proofs.lemmas.Bool.Decides.{eqb_tells}
 use Rattle.ti_source.specs.declared.items.Taken.TheVariants as taken
 use Rattle.ti_source.specs.WhiteSpace.{is_white_space, without_trailing_space}
-use Rattle.ti_source.specs.Blocks.{last_byte}
+use Rattle.ti_source.specs.Cutting.{last_byte}
 use Rattle.ti_source.specs.Folding.{Placed}
 use Rattle.ti_source.specs.Items.{HasNoComma, Begins, all_field, field_and_rest, takes, stands_alone, AreItems, last_item, item_ends, pair_of_bytes, single_byte, is_mark, HasNoMark, IsWhite, IsEnabled, States, empty_item, disabled_item, number_item, text_item, cancel_item, flag_item, Statement, claims_flag, claims_number, claims_text, claims_cancel}
 use Rattle.ti_source.specs.inside.Items.{field_of, after_field, taken_after, cuts, with_first, items_of, before_mark, from_mark, without_last, plain_statement, statement_with_value, statement_by_mark, statement_of}

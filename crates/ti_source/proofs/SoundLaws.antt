@@ -16,7 +16,7 @@ use Rattle.ti_source.specs.declared.numbers.NumberError.{NumberError}
 use Rattle.ti_source.specs.declared.numbers.NumberError.TheVariants.{Bad, TooLarge}
 use Rattle.ti_spelling.specs.declared.spelling.UnescapeError.{UnescapeError}
 use Rattle.ti_source.specs.WhiteSpace.{is_white_space}
-use Rattle.ti_source.specs.Blocks.{last_byte}
+use Rattle.ti_source.specs.Cutting.{last_byte}
 use Rattle.ti_source.specs.Lines.{line_count}
 use Rattle.ti_source.specs.Code.{is_error, is_of_header}
 use Rattle.ti_source.specs.Header.{IsBadHeader, HeaderNames, IsLookupName}

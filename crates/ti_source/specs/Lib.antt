@@ -1,7 +1,7 @@
 pub mod WhiteSpace
 pub mod Lines
 pub mod Heads
-pub mod Blocks
+pub mod Cutting
 pub mod Header
 pub mod Numbers
 pub use Rattle.ti_spelling.specs.Spelling

@@ -1,5 +1,5 @@
 -- Computed forms of what the other files define by relations, and words that only private functions and proofs use.
-pub mod Blocks
+pub mod Cutting
 pub mod Header
 pub mod Numbers
 pub mod Folding

@@ -1,6 +1,6 @@
 //! Cutting a source into blocks, and the laws of the cut.
 ghost use Rattle.std.specs.Prelude.{◌≡◌, ◌≤◌, ◌↔◌, IsTrue, length};
-ghost use Rattle.ti_source.specs.Blocks as spec;
+ghost use Rattle.ti_source.specs.Cutting as spec;
 ghost use Rattle.ti_text.specs.Ascii as ascii;
 
 use crate::heads::{begins_with_head, ends_with_newline, next_head, preface_len};

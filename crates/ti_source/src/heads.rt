@@ -1,7 +1,7 @@
 //! Where head lines begin: the lines that are not empty and begin with neither white space nor `#`.
 ghost use Rattle.std.specs.Prelude.{◌≡◌, ◌==◌, length};
-ghost use Rattle.ti_source.specs.Blocks as spec;
-ghost use Rattle.ti_source.specs.inside.Blocks as computed;
+ghost use Rattle.ti_source.specs.Cutting as spec;
+ghost use Rattle.ti_source.specs.inside.Cutting as computed;
 ghost use Rattle.ti_text.specs.Ascii as ascii;
 
 use memchr::memchr;

@@ -1,6 +1,6 @@
 // A block as it is read.
 ghost use Rattle.std.specs.Prelude.{◌≡◌, ◌<◌, ◌+◌, ◌^◌, IfOk, OnOk, length};
-ghost use Rattle.ti_source.specs.Blocks.{OneBlock};
+ghost use Rattle.ti_source.specs.Cutting.{OneBlock};
 ghost use Rattle.ti_source.specs.Items.{item_piece};
 ghost use Rattle.ti_source.specs.Parsing.{Parses, HasReading, BlocksHaveOneReading};
 ghost use Rattle.ti_source.specs.inside.Parsing.{reading_of_text, AddsItem, AddsItems, ReadsField};

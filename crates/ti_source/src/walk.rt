@@ -1,6 +1,6 @@
 //! The walk over the blocks of a source.
 ghost use Rattle.std.specs.Prelude.{◌≡◌, []};
-ghost use Rattle.ti_source.specs.Blocks as spec;
+ghost use Rattle.ti_source.specs.Cutting as spec;
 ghost use Rattle.ti_text.specs.Ascii as ascii;
 
 use crate::heads::next_head;
@@ -17,7 +17,7 @@ pub struct Blocks<'a> {
 impl<'a> Model for Blocks<'a> {
     ghost use Rattle.ti_text.specs.Ascii as ascii;
     ghost use Rattle.std.specs.Prelude.{◌≡◌, []};
-    ghost use Rattle.ti_source.specs.inside.Blocks.{Pieces, front_of, blocks_from_head};
+    ghost use Rattle.ti_source.specs.inside.Cutting.{Pieces, front_of, blocks_from_head};
 
     ghost Value = { Pieces };
 

@@ -9,8 +9,7 @@ use Rattle.ti_spelling.specs.declared.spelling.Piece.{Piece}
 use Rattle.ti_spelling.specs.declared.spelling.UnescapeError.{UnescapeError}
 use Rattle.ti_spelling.specs.declared.spelling.UnescapeError.TheVariants.{BadOctal, BadControl, BadByte}
 use Rattle.ti_spelling.specs.Spelling.{named_escape, is_octal_digit, octal_digits, octal_digits_up_to, octal_value, is_percent, not_nul, IsEscape, escape_named, escape_octal, escape_unknown, escape_missing, IsControl, control_delete, control_masked, IsPiece, piece_escape, piece_control, piece_caret, piece_plain, IsRefused, refused_octal, refused_control, refused_control_at_end, refused_nul, refused_escaped_nul}
-use Rattle.ti_spelling.specs.inside.Spelling.{octal_piece, unnamed_piece, named_piece, escape_piece, is_control_letter, control_piece, first_piece, is_literal, with_piece, then_later, unescaped_from}
-use Rattle.ti_spelling.specs.inside.Pieces.{with_front}
+use Rattle.ti_spelling.specs.inside.Spelling.{octal_piece, unnamed_piece, named_piece, escape_piece, is_control_letter, control_piece, first_piece, is_literal, with_piece, then_later, unescaped_from, with_front}
 
 -- ---- octal digits
 

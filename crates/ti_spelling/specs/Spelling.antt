@@ -148,7 +148,7 @@ control_text byte = ascii.caret ∷ (if byte == ascii.delete then ascii.question
 abbrev pub unnamed_text : (percent edge : Bool) (byte : ℕ) → List ℕ
 unnamed_text percent edge byte = if byte == ascii.space && edge then ascii.backslash ∷ byte_of "s" ∷ []
     else (if byte == ascii.caret then (if percent then ascii.caret ∷ [] else ascii.backslash ∷ ascii.caret ∷ [])
-    else (if byte == ascii.file_separator || nat_le 128 byte then octal_text byte
+    else (if byte == ascii.file_separator || nat_le ascii.size byte then octal_text byte
     else (if nat_lt byte ascii.space || byte == ascii.delete then (if percent then octal_text byte else control_text byte)
     else byte ∷ [])))
 

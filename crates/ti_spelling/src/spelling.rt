@@ -4,8 +4,7 @@ ghost use Rattle.std.specs.Prelude.{◌≡◌, ◌≤◌, ◌<◌, length, take,
 ghost use Rattle.std.specs.List.{list_all};
 ghost use Rattle.ti_spelling.specs.declared.spelling.UnescapeError.TheVariants.{Memory};
 ghost use Rattle.ti_spelling.specs.Spelling.{named_escape, is_octal_digit, octal_digits, octal_value, not_nul, Spells, IsCauseOf, HasNoNul, OneOutcome};
-ghost use Rattle.ti_spelling.specs.inside.Spelling.{octal_piece, escape_piece, control_piece, first_piece, is_literal, unescape_result, GivesUnescaped, UnescapedAgrees, ValuesAreSound};
-ghost use Rattle.ti_spelling.specs.inside.Pieces.{left_of, with_front, TakesPiece};
+ghost use Rattle.ti_spelling.specs.inside.Spelling.{octal_piece, escape_piece, control_piece, first_piece, is_literal, unescape_result, GivesUnescaped, UnescapedAgrees, ValuesAreSound, left_of, with_front, TakesPiece};
 
 use std::alloc::{AllocError, AllocFailed, Global};
 use thiserror::Error;

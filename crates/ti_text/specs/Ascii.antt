@@ -6,6 +6,10 @@ use Rattle.std.specs.Prelude.{ℕ}
 abbrev pub byte_of : Char → ℕ
 byte_of c = code c
 
+-- how many bytes ASCII has: each byte from here on is none of it
+abbrev pub size : ℕ
+size = 128
+
 -- ---- not printed, and the space
 
 -- NUL

@@ -20,5 +20,5 @@ decimal_from n [] = n
 decimal_from n (d ∷ ds) = decimal_from (10 * n + decimal_digit_value d) ds
 
 -- the number that decimal digits write, 0 where there are none
-abbrev pub decimal : List ℕ → ℕ
-decimal digits = decimal_from 0 digits
+abbrev pub decimal_value : List ℕ → ℕ
+decimal_value digits = decimal_from 0 digits

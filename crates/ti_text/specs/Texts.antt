@@ -1,5 +1,5 @@
 -- What is known of a text by its bytes alone (own).
-use Rattle.std.specs.Prelude.{◌≡◌, ◌≢◌, ℕ, ◌+◌, ◌<◌, ◌==◌, Bool, true, false, List, [], ◌∷◌, ◌++◌, All, count_by}
+use Rattle.std.specs.Prelude.{◌≡◌, ◌≢◌, ℕ, ◌+◌, ◌<◌, ◌==◌, Bool, true, false, List, [], ◌∷◌, ◌++◌, All, Option, Some, None, count_by}
 use Rattle.ti_text.specs.Ascii as ascii
 
 -- no byte is a NUL, which ends a text in an entry
@@ -19,6 +19,12 @@ is_empty (x ∷ xs) = false
 abbrev pub last_byte : ℕ → List ℕ → ℕ
 last_byte before [] = before
 last_byte before (x ∷ xs) = last_byte x xs
+
+-- two lists after one another, where both are there
+abbrev pub both_lists : {X : Type 0} → Option (List X) → Option (List X) → Option (List X)
+both_lists None _ = None
+both_lists (Some xs) None = None
+both_lists (Some xs) (Some ys) = Some (xs ++ ys)
 
 -- ---- lines, by their newlines
 

@@ -4,7 +4,7 @@ mod tput_words;
 
 use std::alloc::{AllocError, Global};
 use std::test::Fail;
-use ti_commands::{Job, UsageError, UsageText, job, usage_text};
+use ti_commands::{Job, Refusal, UsageError, job, job_or_refusal};
 
 fn words(alloc: Global, texts: &[&str]) -> Result<Vec<String>, AllocError> {
     let mut words = Vec::new(alloc);
@@ -82,25 +82,33 @@ fn words_that_ask_for_no_job(rt: HostRuntime) -> Result<(), AllocError> {
     Ok(())
 }
 
-// What is said of the words.
-fn said_of(alloc: Global, texts: &[&str]) -> Result<Option<UsageText>, AllocError> {
+// What is said of words that ask for no job.
+fn said_of(alloc: Global, texts: &[&str]) -> Result<Option<Refusal>, AllocError> {
     let words = words(alloc, texts)?;
-    usage_text(alloc, words.as_slice())
+    Ok(job_or_refusal(alloc, words.as_slice()).err())
 }
 
 // The help of a tool.
 fn help_of(alloc: Global, tool: &str) -> Result<String, Fail> {
     match said_of(alloc, &["ti", tool, "--help"])? {
-        Some(usage) if usage.is_help => Ok(usage.text),
+        Some(Refusal::Help(text)) => Ok(text),
         _ => Err(Fail::from("no help")),
     }
 }
 
 // Whether what is said is no help, and begins so.
-fn is_fault(said: &Option<UsageText>, begin: &str) -> bool {
+fn is_fault(said: &Option<Refusal>, begin: &str) -> bool {
     match said {
-        Some(usage) => !usage.is_help && usage.text.as_str().starts_with(begin),
-        None => false,
+        Some(Refusal::Usage(Some(text))) => text.as_str().starts_with(begin),
+        _ => false,
+    }
+}
+
+// Whether nothing is said of words that clap takes, but no tool does.
+fn is_silent(said: &Option<Refusal>) -> bool {
+    match said {
+        Some(Refusal::Usage(None)) => true,
+        _ => false,
     }
 }
 
@@ -109,6 +117,13 @@ fn what_is_said_of_a_wrong_option(rt: HostRuntime) -> Result<(), AllocError> {
     let said = said_of(rt.alloc(), &["ti", "tic", "-x"])?;
     assert!(rt; is_fault(&said, "error: unexpected argument '-x' found\n"));
     assert!(rt; said_of(rt.alloc(), &["ti", "tic", "-c"])?.is_none());
+    Ok(())
+}
+
+#[test]
+fn nothing_is_said_of_words_that_clap_takes(rt: HostRuntime) -> Result<(), AllocError> {
+    let said = said_of(rt.alloc(), &["ti", "tput", "-S", "cup"])?;
+    assert!(rt; is_silent(&said));
     Ok(())
 }
 

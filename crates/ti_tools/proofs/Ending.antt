@@ -2,7 +2,7 @@
 use Rattle.std.proofs.Common.{◌≡◌, ◌⊎◌, ℕ, suc, ◌-◌, ◌<◌, ◌==◌, true, false, List, [], ◌∷◌, ◌++◌, length, map, get_or, Some, slice_get, refl, sym, ap, ap₂, ◌∙◌, inl, inr, arith}
 use Rattle.std.proofs.lemmas.Bool.{and_parts, cases_Bool, eqb-true, eq-eqb}
 use Rattle.std.proofs.lemmas.Option.{slice_get-get_or}
-use Rattle.ti_source.specs.Blocks.{begins_head, is_head, last_byte, front_of, blocks_from_head}
+use Rattle.ti_source.specs.Cutting.{begins_head, is_head, last_byte, front_of, blocks_from_head}
 use Rattle.ti_tools.specs.Sources.{with_last_newline, preface_of, source_texts}
 
 last_byte-get_or : (before : ℕ) (text : List ℕ) → 0 < length text → last_byte before text ≡ get_or text (length text - 1) 0

@@ -13,7 +13,8 @@ use Rattle.ti_meaning.specs.Owner.{is_among, readings}
 use Rattle.ti_meaning.specs.inside.Reaching.{is_owner}
 use Rattle.ti_meaning.specs.Faults.{distinct_after}
 use Rattle.ti_devices.specs.Tree.{FileAt}
-use Rattle.ti_tools.specs.EntryFiles.{IsAsciiName, files_at, files_for, files_from, source_files, own_names}
+use Rattle.ti_tools.specs.inside.EntryFiles.{IsAsciiName}
+use Rattle.ti_tools.specs.EntryFiles.{files_at, files_for, files_from, source_files, own_names}
 use Rattle.ti_devices.specs.Paths.{path_of}
 
 -- the files for names that stand behind others

@@ -3,7 +3,7 @@ use Rattle.std.proofs.Common.{◌≡◌, ◌⊎◌, ℕ, suc, ◌+◌, false, Li
 use Rattle.std.specs.List.{concat}
 use Rattle.std.proofs.lemmas.List.{append_assoc, length-append}
 use Rattle.ti_text.specs.Limits.{block_bytes_max}
-use Rattle.ti_source.specs.Blocks.{Cut, blocks_from_head, front_of}
+use Rattle.ti_source.specs.Cutting.{Cut, blocks_from_head, front_of}
 use Rattle.ti_tools.specs.Sources.{with_last_newline, preface_of, refusal_after, refusal_within}
 use Rattle.ti_tools.proofs.Ending.{AllButLastEnded, blocks_of-all_but_last, preface_of-front, texts_of-blocks}
 

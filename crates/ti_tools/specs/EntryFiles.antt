@@ -1,10 +1,7 @@
 -- The files of compiled entries (term(5), "Storage location"): one for each lookup name that a block owns, below a folder
 -- of the name's first byte.
-use Rattle.std.specs.Prelude.{ℕ, suc, ◌<◌, All, Bool, length, List, [], ◌∷◌, ◌++◌, map, filter, Option, Some, None}
-use Rattle.std.specs.Ordering.{nat_cmp}
-use Rattle.std.specs.Cmp.Lexicographic.{slice_cmp}
-use Rattle.std.specs.BTreeSet.{BTreeSet, contains_by}
-use denote.Ref.{Bor}
+use Rattle.std.specs.Prelude.{ℕ, suc, List, [], ◌∷◌, ◌++◌, map, filter, Option, Some, None}
+use Rattle.ti_text.specs.Ascii as ascii
 use Rattle.ti_source.specs.Reading.{Reading}
 use Rattle.ti_source.specs.Parsing.{reading_of_text}
 use Rattle.ti_meaning.specs.Owner.{readings}
@@ -35,14 +32,6 @@ files_at dir texts at text = files_of_entry dir (own_names (readings texts) at (
 abbrev pub files_from : List ℕ → List (List ℕ) → ℕ → List (List ℕ) → List FileAt
 files_from dir texts at [] = []
 files_from dir texts at (text ∷ rest) = files_at dir texts at text ++ files_from dir texts (suc at) rest
-
--- a name that is not empty and has ASCII bytes alone
-abbrev pub IsAsciiName : List ℕ → Type 0
-IsAsciiName name = (0 < length name) × All (λ byte. byte < 128) name
-
--- whether the name is among those seen
-abbrev pub is_seen : BTreeSet (Bor (List ℕ)) → List ℕ → Bool
-is_seen seen name = contains_by (λ key. slice_cmp nat_cmp name key.now) seen
 
 -- the files of a source
 unfoldable pub source_files : List ℕ → List (List ℕ) → List FileAt

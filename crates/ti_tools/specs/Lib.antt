@@ -4,3 +4,4 @@ pub mod EntryFiles
 pub mod Sources
 pub mod Compiling
 pub mod Listings
+pub mod inside

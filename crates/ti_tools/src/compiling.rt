@@ -3,7 +3,7 @@ ghost use Rattle.std.specs.Prelude.{◌≡◌, ◌+◌, ◌≤◌, ◌^◌, [], 
 ghost use Rattle.std.specs.List.{list_any};
 ghost use Rattle.std.specs.String.{string_bytes};
 ghost use Rattle.ti_text.specs.Ascii as ascii;
-ghost use Rattle.ti_source.specs.Blocks.{front_of, last_byte};
+ghost use Rattle.ti_source.specs.Cutting.{front_of, last_byte};
 ghost use Rattle.ti_source.specs.Code.{is_error};
 ghost use Rattle.ti_source.specs.Lines.{line_count};
 ghost use Rattle.ti_meaning.specs.Faults.{fault_seen};

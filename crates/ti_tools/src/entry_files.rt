@@ -4,7 +4,8 @@ ghost use Rattle.std.specs.Rc.{rc_slice_items};
 ghost use Rattle.std.specs.Str.{bytes_eq};
 ghost use Rattle.ti_meaning.specs.Owner.{readings};
 ghost use Rattle.ti_meaning.specs.inside.Reaching.{is_owner};
-ghost use Rattle.ti_tools.specs.EntryFiles.{IsAsciiName, files_at, files_for, source_files, is_seen, own_names};
+ghost use Rattle.ti_tools.specs.inside.EntryFiles.{IsAsciiName, is_seen};
+ghost use Rattle.ti_tools.specs.EntryFiles.{files_at, files_for, source_files, own_names};
 ghost use Rattle.ti_devices.specs.Paths.{path_of};
 ghost use Rattle.ti_devices.specs.Placing.{entries};
 

@@ -25,7 +25,7 @@ pub use compiling::tic;
 pub use listings::{InfocmpOptions, infocmp};
 pub use outcome::{TicOptions, TicOutcome};
 pub use stopping::{message, status};
-pub use ti_commands::{InfocmpMode, Job, UsageError, UsageText, job, usage_text};
+pub use ti_commands::{InfocmpMode, Job, Refusal, UsageError, job, job_or_refusal};
 pub use ti_devices::{Counted, File, MemTree, Tally, ToolError, Tree, TreeFault, place};
 pub use ti_list::{Layout, Order};
 pub use ti_session::session;

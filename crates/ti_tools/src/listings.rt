@@ -2,8 +2,9 @@
 ghost use Rattle.std.specs.Prelude.{◌≡◌, ◌≢◌, ◌⊎◌, ◌↔◌, [], IfErr, IfOk, IsErrOf, None, Some};
 ghost use Rattle.std.specs.List.{flat_map};
 ghost use Rattle.ti_list.specs.Comparison.{comparison};
-ghost use Rattle.ti_list.specs.Relative.{relative, entry_shown, entries_shown};
-ghost use Rattle.ti_tools.specs.Listings.{infocmp_result, listings};
+ghost use Rattle.ti_layout.specs.View.{shown_entry};
+ghost use Rattle.ti_list.specs.RelativeSource.{relative, entries_shown};
+ghost use Rattle.ti_tools.specs.Listings.{infocmp_result, listings_text};
 
 use std::alloc::{AllocError, Global};
 use ti_commands::InfocmpMode;
@@ -21,8 +22,8 @@ pub struct InfocmpOptions {
 }
 
 // The listing of each entry in turn.
-fn listings(alloc: Global, views: &[View<'_>], layout: &Layout) -> Result<Vec<u8>, AllocError>
-    ensures { IfOk result (λ text. text.items ≡ listings (entries_shown views.now) layout.now) }
+fn listings_text(alloc: Global, views: &[View<'_>], layout: &Layout) -> Result<Vec<u8>, AllocError>
+    ensures { IfOk result (λ text. text.items ≡ listings_text (entries_shown views.now) layout.now) }
 {
     let Some((first, others)) = views.split_first() else {
         return Ok(Vec::new(alloc));
@@ -44,7 +45,7 @@ fn comparisons(
     order: Order,
 ) -> Result<Vec<u8>, AllocError>
     ensures { IfOk result (λ text. text.items
-        ≡ flat_map (λ other. comparison (entry_shown first.now) other mode order) (entries_shown others.now)) }
+        ≡ flat_map (λ other. comparison (shown_entry first.now) other mode order) (entries_shown others.now)) }
 {
     let mut text = Vec::new(alloc);
     for other in others {
@@ -62,7 +63,7 @@ fn relation(
     layout: &Layout,
 ) -> Result<Vec<u8>, AllocError>
     requires { others.now ≢ [] }
-    ensures { IfOk result (λ text. text.items ≡ relative (entry_shown first.now) (entries_shown others.now) layout.now) }
+    ensures { IfOk result (λ text. text.items ≡ relative (shown_entry first.now) (entries_shown others.now) layout.now) }
 {
     match relative(alloc, first, others, layout) {
         Ok(text) => Ok(text),
@@ -86,7 +87,7 @@ pub fn infocmp(
 {
     let layout = &options.layout;
     if options.mode == InfocmpMode::List {
-        return Ok(listings(alloc, views, layout)?);
+        return Ok(listings_text(alloc, views, layout)?);
     }
     let Some((first, others)) = views.split_first() else {
         return Err(ToolError::Usage);
@@ -95,7 +96,7 @@ pub fn infocmp(
         return Err(ToolError::Usage);
     }
     let text = match options.mode {
-        InfocmpMode::List => listings(alloc, views, layout),
+        InfocmpMode::List => listings_text(alloc, views, layout),
         InfocmpMode::Differ => comparisons(alloc, first, others, Mode::Differ, layout.order),
         InfocmpMode::Common => comparisons(alloc, first, others, Mode::Common, layout.order),
         InfocmpMode::Neither => comparisons(alloc, first, others, Mode::Neither, layout.order),

@@ -1,7 +1,7 @@
 //! A database of all blocks of a source.
 ghost use Rattle.std.specs.Prelude.{◌≡◌, ◌⊎◌, IfErr, IfOk, IsSome, None, OnOk, map};
 ghost use Rattle.ti_text.specs.Ascii as ascii;
-ghost use Rattle.ti_source.specs.Blocks.{blocks_from_head, last_byte};
+ghost use Rattle.ti_source.specs.Cutting.{blocks_from_head, last_byte};
 ghost use Rattle.ti_meaning.specs.declared.edits.EditError.TheVariants.{Memory};
 ghost use Rattle.ti_tools.specs.Sources.{source_refusal};
 

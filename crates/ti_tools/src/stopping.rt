@@ -122,7 +122,8 @@ struct Line<'a> {
 // Writes a line.
 fn write_line<W: Write>(writer: &mut Counted<W>, line: Line<'_>) -> Result<(), ToolError>
     ensures { Wrote (observation W.contents writer.old) (observation W.contents writer.new)
-        (concat (line_parts line.entry.tool.now line.entry.head.now line.entry.subject.now line.entry.link.now line.entry.detail.now line.entry.end.now)) result }
+        (concat (line_parts line.entry.tool.now line.entry.head.now line.entry.subject.now
+        line.entry.link.now line.entry.detail.now line.entry.end.now)) result }
 {
     write_parts(
         writer,

@@ -15,9 +15,9 @@ use Rattle.ti_devices.specs.declared.line_reader.LineReader.{LineReader}
 use Rattle.ti_devices.specs.declared.line_reader.Next.TheVariants.{Line, LastLine, End}
 use Rattle.ti_devices.specs.declared.tool_error.ToolError.{ToolError}
 use Rattle.ti_devices.specs.declared.tool_error.ToolError.TheVariants.{Usage, NoTerminal, BadEntry, ReadFault, WriteFault, LineTooLong, BlockTooLong, TooManyBlocks, Memory}
-use Rattle.ti_tput.specs.Entries.{Entry}
+use Rattle.ti_layout.specs.View.{Entry}
 use Rattle.ti_tput.specs.Runs.{Course, LineStep, line_step, run_status, lines_start, steps, tput_run}
-use Rattle.ti_tput.specs.Streaming.{Ends, HasLines, IsShortLine, command_line_max}
+use Rattle.ti_tput.specs.Streaming.{CommandsEnd, HasLines, IsShortCommandLine, command_line_max}
 use Rattle.ti_tput.specs.inside.Terminal.{HasCourse, Took}
 use Rattle.ti_tput.specs.declared.terminal.Terminal.{Terminal}
 
@@ -51,12 +51,12 @@ bytes_of-more lines line = flat_map-append with_newline lines (line ∷ []) ∙ 
 -- these lines are complete, and within the limit
 pub record AreLines (lines : List (List ℕ)) : Type 0 where
   pub each : AllByRecursion IsOneLine lines
-  pub short : AllByRecursion IsShortLine lines
+  pub short : AllByRecursion IsShortCommandLine lines
 
-AreLines-more : (lines : List (List ℕ)) (line : List ℕ) → AreLines lines → IsOneLine line → IsShortLine line → AreLines (lines ++ line ∷ [])
+AreLines-more : (lines : List (List ℕ)) (line : List ℕ) → AreLines lines → IsOneLine line → IsShortCommandLine line → AreLines (lines ++ line ∷ [])
 AreLines-more lines line are one short = record {
   each = AllByRecursion-push IsOneLine lines line are.each one;
-  short = AllByRecursion-push IsShortLine lines line are.short short;
+  short = AllByRecursion-push IsShortCommandLine lines line are.short short;
 }
 
 HasLines-are : (lines : List (List ℕ)) (line : List ℕ) → AreLines lines → IsOneLine line → HasLines (bytes_of lines ++ line) lines line
@@ -110,9 +110,9 @@ module _ (entry : Entry) (rate : ℕ) where
   }
 
   -- memory is wanting before the first read
-  pub Ends-start : (given before : Observed) → Ends entry rate given given before before (Err Memory)
+  pub CommandsEnd-start : (given before : Observed) → CommandsEnd entry rate given given before before (Err Memory)
   unfolding steps
-  Ends-start given before = record {
+  CommandsEnd-start given before = record {
     taken = [];
     rest = [];
     lines = [];
@@ -134,7 +134,7 @@ module _ (entry : Entry) (rate : ℕ) where
     spent : (next : LineReader) (later : Observed) → SpendsReads reading next left later → reads_left_of next + later.reads ≡ reads_max + given.reads
     spent next later s = s.reads ∙ p.reads
 
-    short : (line : List ℕ) → length line ≤ line_limit_of reading → IsShortLine line
+    short : (line : List ℕ) → length line ≤ line_limit_of reading → IsShortCommandLine line
     short line low = subst (λ (n : ℕ). length line ≤ n) p.limit low
 
     module _ (next : LineReader) (later : Observed) where
@@ -166,14 +166,14 @@ module _ (entry : Entry) (rate : ℕ) where
           reads = spent next later s;
         }
 
-        pub Ends-line : (terminal2 : Terminal) (now2 : Observed) (e : ToolError)
+        pub CommandsEnd-line : (terminal2 : Terminal) (now2 : Observed) (e : ToolError)
             → Took entry rate (line_step entry rate (after_lines p.lines) (last_line_of next)) terminal2 now now2 (Err e)
-            → Ends entry rate given later before now2 (Err e)
-        Ends-line terminal2 now2 Usage took = absurd took
-        Ends-line terminal2 now2 NoTerminal took = absurd took
-        Ends-line terminal2 now2 (BadEntry why) took = absurd took
-        Ends-line terminal2 now2 ReadFault took = absurd took
-        Ends-line terminal2 now2 WriteFault took = record {
+            → CommandsEnd entry rate given later before now2 (Err e)
+        CommandsEnd-line terminal2 now2 Usage took = absurd took
+        CommandsEnd-line terminal2 now2 NoTerminal took = absurd took
+        CommandsEnd-line terminal2 now2 (BadEntry why) took = absurd took
+        CommandsEnd-line terminal2 now2 ReadFault took = absurd took
+        CommandsEnd-line terminal2 now2 WriteFault took = record {
           taken = bytes_of (p.lines ++ last_line_of next ∷ []);
           rest = ahead_of next;
           lines = p.lines ++ last_line_of next ∷ [];
@@ -182,10 +182,10 @@ module _ (entry : Entry) (rate : ℕ) where
           written = subst (λ (t : List ℕ). TakesFront before now2 t) (written_more p.lines (last_line_of next))
               (TakesFront-then before now now2 (written_by p.lines) _ p.written took);
         }
-        Ends-line terminal2 now2 LineTooLong took = absurd took
-        Ends-line terminal2 now2 (BlockTooLong n) took = absurd took
-        Ends-line terminal2 now2 TooManyBlocks took = absurd took
-        Ends-line terminal2 now2 Memory took = record {
+        CommandsEnd-line terminal2 now2 LineTooLong took = absurd took
+        CommandsEnd-line terminal2 now2 (BlockTooLong n) took = absurd took
+        CommandsEnd-line terminal2 now2 TooManyBlocks took = absurd took
+        CommandsEnd-line terminal2 now2 Memory took = record {
           taken = bytes_of p.lines ++ last_line_of next;
           rest = 10 ∷ ahead_of next;
           lines = p.lines;
@@ -206,12 +206,12 @@ module _ (entry : Entry) (rate : ℕ) where
           inr (used.0 ∙ p.gives.failures, omega arith)
 
       -- no more can be read, or a line is over the limit
-      pub Ends-fault : (e : ToolError) → ReadsLine reading next left later (Err e)
-          → SpendsReads reading next left later → Ends entry rate given later before now (Err e)
-      Ends-fault Usage r s = absurd r
-      Ends-fault NoTerminal r s = absurd r
-      Ends-fault (BadEntry why) r s = absurd r
-      Ends-fault ReadFault r s = record {
+      pub CommandsEnd-fault : (e : ToolError) → ReadsLine reading next left later (Err e)
+          → SpendsReads reading next left later → CommandsEnd entry rate given later before now (Err e)
+      CommandsEnd-fault Usage r s = absurd r
+      CommandsEnd-fault NoTerminal r s = absurd r
+      CommandsEnd-fault (BadEntry why) r s = absurd r
+      CommandsEnd-fault ReadFault r s = record {
         taken = bytes_of p.lines ++ (ahead_of reading ++ r.0);
         lines = p.lines;
         line = ahead_of reading ++ r.0;
@@ -222,8 +222,8 @@ module _ (entry : Entry) (rate : ℕ) where
         written = p.written;
         cause = cannot r.4 s;
       }
-      Ends-fault WriteFault r s = absurd r
-      Ends-fault LineTooLong r s = record {
+      CommandsEnd-fault WriteFault r s = absurd r
+      CommandsEnd-fault LineTooLong r s = record {
         taken = bytes_of p.lines ++ r.1;
         rest = r.2;
         lines = p.lines;
@@ -234,14 +234,14 @@ module _ (entry : Entry) (rate : ℕ) where
         long = subst (λ (n : ℕ). n < length r.1) p.limit r.6;
         written = p.written;
       }
-      Ends-fault (BlockTooLong n) r s = absurd r
-      Ends-fault TooManyBlocks r s = absurd r
-      Ends-fault Memory r s = absurd r
+      CommandsEnd-fault (BlockTooLong n) r s = absurd r
+      CommandsEnd-fault TooManyBlocks r s = absurd r
+      CommandsEnd-fault Memory r s = absurd r
 
       -- the input has ended behind a newline
-      pub Ends-end : ReadsLine reading next left later (Ok End) → (status : ℕ)
-          → ((c : Course) → HasCourse entry rate terminal c → status ≡ run_status c.bad) → Ends entry rate given later before now (Ok status)
-      Ends-end r status is = record {
+      pub CommandsEnd-end : ReadsLine reading next left later (Ok End) → (status : ℕ)
+          → ((c : Course) → HasCourse entry rate terminal c → status ≡ run_status c.bad) → CommandsEnd entry rate given later before now (Ok status)
+      CommandsEnd-end r status is = record {
         input = bytes_of p.lines;
         lines = p.lines;
         line = [];
@@ -265,10 +265,10 @@ module _ (entry : Entry) (rate : ℕ) where
         all : with_last p.lines (last_line_of next) ≡ p.lines ++ last_line_of next ∷ []
         all = with_last-some p.lines (last_line_of next) r.6
 
-        pub Ends-last : (terminal2 : Terminal) (now2 : Observed) (status : ℕ)
+        pub CommandsEnd-last : (terminal2 : Terminal) (now2 : Observed) (status : ℕ)
             → Took entry rate (line_step entry rate (after_lines p.lines) (last_line_of next)) terminal2 now now2 (Ok tt)
-            → ((c : Course) → HasCourse entry rate terminal2 c → status ≡ run_status c.bad) → Ends entry rate given later before now2 (Ok status)
-        Ends-last terminal2 now2 status took is = record {
+            → ((c : Course) → HasCourse entry rate terminal2 c → status ≡ run_status c.bad) → CommandsEnd entry rate given later before now2 (Ok status)
+        CommandsEnd-last terminal2 now2 status took is = record {
           input = bytes_of p.lines ++ last_line_of next;
           lines = p.lines;
           line = last_line_of next;
@@ -283,14 +283,14 @@ module _ (entry : Entry) (rate : ℕ) where
               (subst (λ (c : Course). status ≡ run_status c.bad) (after_more p.lines (last_line_of next)) (is _ took.0));
         }
 
-        pub Ends-last_cut : (terminal2 : Terminal) (now2 : Observed) (e : ToolError)
+        pub CommandsEnd-last_cut : (terminal2 : Terminal) (now2 : Observed) (e : ToolError)
             → Took entry rate (line_step entry rate (after_lines p.lines) (last_line_of next)) terminal2 now now2 (Err e)
-            → Ends entry rate given later before now2 (Err e)
-        Ends-last_cut terminal2 now2 Usage took = absurd took
-        Ends-last_cut terminal2 now2 NoTerminal took = absurd took
-        Ends-last_cut terminal2 now2 (BadEntry why) took = absurd took
-        Ends-last_cut terminal2 now2 ReadFault took = absurd took
-        Ends-last_cut terminal2 now2 WriteFault took = record {
+            → CommandsEnd entry rate given later before now2 (Err e)
+        CommandsEnd-last_cut terminal2 now2 Usage took = absurd took
+        CommandsEnd-last_cut terminal2 now2 NoTerminal took = absurd took
+        CommandsEnd-last_cut terminal2 now2 (BadEntry why) took = absurd took
+        CommandsEnd-last_cut terminal2 now2 ReadFault took = absurd took
+        CommandsEnd-last_cut terminal2 now2 WriteFault took = record {
           taken = bytes_of p.lines ++ last_line_of next;
           rest = [];
           lines = with_last p.lines (last_line_of next);
@@ -300,10 +300,10 @@ module _ (entry : Entry) (rate : ℕ) where
               (subst (λ (t : List ℕ). TakesFront before now2 t) (written_more p.lines (last_line_of next))
               (TakesFront-then before now now2 (written_by p.lines) _ p.written took));
         }
-        Ends-last_cut terminal2 now2 LineTooLong took = absurd took
-        Ends-last_cut terminal2 now2 (BlockTooLong n) took = absurd took
-        Ends-last_cut terminal2 now2 TooManyBlocks took = absurd took
-        Ends-last_cut terminal2 now2 Memory took = record {
+        CommandsEnd-last_cut terminal2 now2 LineTooLong took = absurd took
+        CommandsEnd-last_cut terminal2 now2 (BlockTooLong n) took = absurd took
+        CommandsEnd-last_cut terminal2 now2 TooManyBlocks took = absurd took
+        CommandsEnd-last_cut terminal2 now2 Memory took = record {
           taken = bytes_of p.lines ++ last_line_of next;
           rest = [];
           lines = p.lines;

@@ -6,7 +6,8 @@ use Rattle.std.proofs.lemmas.Bool.{lt-ltb, not-true, ltb-true, ltb-false}
 use Rattle.std.proofs.lemmas.List.{drop_all, get_or-drop, length-map, take_all, length-drop, length-take}
 use Rattle.std.proofs.Math.Seq.{take-append_seam}
 use Rattle.std.proofs.lemmas.List.Sums.{passes_at_first}
-use Rattle.ti_tput.specs.Runs.{has_bytes, is_white, words_of}
+use Rattle.ti_source.specs.WhiteSpace.{is_white_space}
+use Rattle.ti_tput.specs.Runs.{has_bytes, words_of}
 
 -- ---- the first place that passes
 
@@ -69,29 +70,29 @@ module _ (w : ℕ → Bool) where
       rw (h.1, passes, h.2) refl
 
 -- the parts of a word that is followed by what parts words
-pub words_of-none : (t : List ℕ) → position (λ byte. not (is_white byte)) t ≡ None → words_of t ≡ []
+pub words_of-none : (t : List ℕ) → position (λ byte. not (is_white_space byte)) t ≡ None → words_of t ≡ []
 unfolding words_of
 words_of-none t e =
-    let none : drop (position_or_len (λ byte. not (is_white byte)) t) t ≡ [] = drop_all _ t (position-none _ t e) in
-    sym (skip is_white t) ∙ ap (λ (x : List ℕ). filter has_bytes (slice_split is_white x)) none
+    let none : drop (position_or_len (λ byte. not (is_white_space byte)) t) t ≡ [] = drop_all _ t (position-none _ t e) in
+    sym (skip is_white_space t) ∙ ap (λ (x : List ℕ). filter has_bytes (slice_split is_white_space x)) none
 
-pub words_of-start : (t : List ℕ) (n : ℕ) → position (λ byte. not (is_white byte)) t ≡ Some n
-    → (words_of t ≡ words_of (drop n t)) × (n < length t) × (is_white (get_or (drop n t) 0 0) ≡ false)
+pub words_of-start : (t : List ℕ) (n : ℕ) → position (λ byte. not (is_white_space byte)) t ≡ Some n
+    → (words_of t ≡ words_of (drop n t)) × (n < length t) × (is_white_space (get_or (drop n t) 0 0) ≡ false)
 unfolding words_of
 words_of-start t n e =
-    let h = position-some (λ byte. not (is_white byte)) t n e in
-    let passes : not (is_white (get_or t (position_or_len (λ byte. not (is_white byte)) t) 0)) ≡ true =
-    passes_at_first (λ byte. not (is_white byte)) t 0 (rw h.0 h.1) in (
-      rw (← h.0) (sym (skip is_white t)),
+    let h = position-some (λ byte. not (is_white_space byte)) t n e in
+    let passes : not (is_white_space (get_or t (position_or_len (λ byte. not (is_white_space byte)) t) 0)) ≡ true =
+    passes_at_first (λ byte. not (is_white_space byte)) t 0 (rw h.0 h.1) in (
+      rw (← h.0) (sym (skip is_white_space t)),
       h.1,
-      rw (get_or-drop n t 0 0) (not-true _ (subst (λ (k : ℕ). not (is_white (get_or t k 0)) ≡ true) (h.0 ∙ sym (add-zero n)) passes)),
+      rw (get_or-drop n t 0 0) (not-true _ (subst (λ (k : ℕ). not (is_white_space (get_or t k 0)) ≡ true) (h.0 ∙ sym (add-zero n)) passes)),
     )
 
 has_front : (w : ℕ → Bool) (t : List ℕ) → 0 < length t → w (get_or t 0 0) ≡ false → 0 < length (take (position_or_len w t) t)
 has_front w [] some e = absurd (omega arith)
 has_front w (x ∷ xs) some e = rw (e, take-one (position_or_len w xs) x xs) (omega arith)
 
-module _ (t rest : List ℕ) (n : ℕ) (start : position (λ byte. not (is_white byte)) t ≡ Some n)
+module _ (t rest : List ℕ) (n : ℕ) (start : position (λ byte. not (is_white_space byte)) t ≡ Some n)
     (is : rest ≡ take (length t - n) (drop n t)) where
   whole : rest ≡ drop n t
   whole = is ∙ take_all (length t - n) (drop n t) (omega (arith, length-drop n t))
@@ -106,28 +107,28 @@ module _ (t rest : List ℕ) (n : ℕ) (start : position (λ byte. not (is_white
       let l : length rest ≡ length t - n = ap length whole ∙ length-drop n t in
       omega (arith, length-drop k rest)
 
-  front : 0 < length (take (position_or_len is_white rest) rest)
+  front : 0 < length (take (position_or_len is_white_space rest) rest)
   front =
       let h = words_of-start t n start in
-      has_front is_white rest some (rw whole h.2)
+      has_front is_white_space rest some (rw whole h.2)
 
-  words : words_of t ≡ take (position_or_len is_white rest) rest ∷ words_of (drop (position_or_len is_white rest) rest)
+  words : words_of t ≡ take (position_or_len is_white_space rest) rest ∷ words_of (drop (position_or_len is_white_space rest) rest)
   unfolding words_of
-  words = (words_of-start t n start).0 ∙ ap words_of (sym whole) ∙ first_word is_white rest front
+  words = (words_of-start t n start).0 ∙ ap words_of (sym whole) ∙ first_word is_white_space rest front
 
-  pub words_of-some : (k : ℕ) → position is_white rest ≡ Some k
+  pub words_of-some : (k : ℕ) → position is_white_space rest ≡ Some k
       → (words_of t ≡ take k rest ∷ words_of (drop k rest)) × (length (drop k rest) < length t)
   words_of-some k e =
-      let h = position-some is_white rest k e in
-      let long : 0 < length (take (position_or_len is_white rest) rest) = front in
-      (rw (← h.0) words, shorter k (let at : position_or_len is_white rest ≡ k = h.0 in omega (arith, length-take (position_or_len is_white rest) rest)))
+      let h = position-some is_white_space rest k e in
+      let long : 0 < length (take (position_or_len is_white_space rest) rest) = front in
+      (rw (← h.0) words, shorter k (let at : position_or_len is_white_space rest ≡ k = h.0 in omega (arith, length-take (position_or_len is_white_space rest) rest)))
 
-  pub words_of-last : position is_white rest ≡ None → (words_of t ≡ rest ∷ words_of []) × (0 < length t)
+  pub words_of-last : position is_white_space rest ≡ None → (words_of t ≡ rest ∷ words_of []) × (0 < length t)
   words_of-last e =
       let h = words_of-start t n start in
       let low : n < length t = h.1 in
-      let far : length rest ≤ position_or_len is_white rest = position-none is_white rest e in (
-        rw (take_all (position_or_len is_white rest) rest far, drop_all (position_or_len is_white rest) rest far) at words,
+      let far : length rest ≤ position_or_len is_white_space rest = position-none is_white_space rest e in (
+        rw (take_all (position_or_len is_white_space rest) rest far, drop_all (position_or_len is_white_space rest) rest far) at words,
         omega arith,
       )
 

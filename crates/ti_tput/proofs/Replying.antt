@@ -5,7 +5,8 @@ use Rattle.std.proofs.lemmas.Bool.{lt-ltb, ne_eqb, ltb-true, ltb-false}
 use Rattle.std.proofs.lemmas.List.{take_all, length-take, nil_from_length}
 use Rattle.ti_param.specs.inside.Expansion.{Expansion, expanded, bad_format, stack_full, format_expansion}
 use Rattle.ti_printing.specs.declared.padding.Line.{Line}
-use Rattle.ti_tput.specs.Entries.{Entry, Holding, flag_held, number_held, text_held, holding_of, line_at_rate}
+use Rattle.ti_layout.specs.View.{Entry}
+use Rattle.ti_tput.specs.Entries.{Holding, flag_held, number_held, text_held, holding_of, line_at_rate}
 use Rattle.ti_tput.specs.Parameters.{parameters}
 use Rattle.ti_tput.specs.Results.{Reply, holding_reply, init_strings, named_reply, padded_texts, padded_text, reset_strings, sent_reply, expansion_reply, string_reply, tput_result}
 use Rattle.ti_tput.specs.Runs.{Course, bad_step, command_step, line_step, reply_step, words_of}

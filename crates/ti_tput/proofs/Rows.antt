@@ -6,7 +6,8 @@ use Rattle.ti_caps.specs.Names.{flag_names, number_names, text_names}
 use Rattle.ti_caps.specs.Tables.{capability, capability_named, names}
 use Rattle.ti_layout.specs.Values.{contents, content_true, content_number, content_text}
 use Rattle.ti_param.specs.Meaning.{number, text}
-use Rattle.ti_tput.specs.Entries.{Entry, holding_of}
+use Rattle.ti_layout.specs.View.{Entry}
+use Rattle.ti_tput.specs.Entries.{holding_of}
 use Rattle.ti_tput.specs.Parameters.{word_number, parameters}
 use Rattle.ti_tput.specs.Results.{tput_result, reply}
 

@@ -1,7 +1,8 @@
 -- What a terminal holds after a line.
 use Rattle.std.proofs.Common.{◌≡◌, ◌≢◌, ℕ, suc, ◌+◌, ◌<◌, List, [], length, take, Option, Some, None, refl, sym, subst, ap, ◌∙◌, arith}
 use Rattle.std.specs.Prelude.{min, ℤ}
-use Rattle.ti_tput.specs.Entries.{Entry, shown_entry, line_at_rate}
+use Rattle.ti_layout.specs.View.{Entry, shown_entry}
+use Rattle.ti_tput.specs.Entries.{line_at_rate}
 use Rattle.ti_tput.specs.Replies.{reply_of}
 use Rattle.ti_tput.specs.Results.{Reply, tput_result}
 use Rattle.ti_tput.specs.Runs.{Course, LineStep, line_step, words_of}

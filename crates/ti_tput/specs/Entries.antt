@@ -3,17 +3,11 @@ use Rattle.std.specs.Prelude.{ℕ, Bool, false, if◌then◌else◌, List, codes
 use Rattle.ti_caps.specs.Tables.{capability_named}
 use Rattle.ti_caps.specs.declared.capability.Kind.{Kind}
 use Rattle.ti_caps.specs.declared.capability.Kind.TheVariants.{Flag, Number, Text}
-use Rattle.ti_layout.specs.Values.{Content, Contents}
-use Rattle.ti_layout.specs.View.{names_of, view_contents, shown_flag, shown_number, shown_text}
-use Rattle.ti_layout.specs.declared.view.View.{View}
+use Rattle.ti_layout.specs.Values.{Content}
+use Rattle.ti_layout.specs.View.{Entry, shown_flag, shown_number, shown_text}
 use Rattle.ti_printing.specs.declared.padding.Line.{Line}
 use Rattle.ti_tput.specs.declared.entries.CapabilityValue.{CapabilityValue}
 use Rattle.ti_tput.specs.declared.entries.CapabilityValue.TheVariants as code
-
--- an entry: its names field, and what it has of each capability
-pub record Entry : Type 0 where
-  pub names : List ℕ
-  pub contents : Contents
 
 -- what an entry has of a capability, by its kind
 pub data Holding : Type 0 where
@@ -72,10 +66,6 @@ line_at_rate entry rate = record {
 }
 
 -- ---- own: what the code knows of an entry
-
--- the entry that a view shows
-abbrev pub shown_entry : View → Entry
-shown_entry view = record { names = names_of view; contents = view_contents view }
 
 -- what a value says, apart from where it lies in memory
 abbrev pub value_meaning : CapabilityValue → Holding

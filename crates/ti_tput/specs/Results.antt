@@ -4,10 +4,12 @@ use Rattle.std.specs.Prelude.{List, [], ◌∷◌, ◌++◌, length, codes, byte
 use Rattle.std.specs.Fmt.{decimal}
 use Rattle.std.specs.List.{after_last}
 use Rattle.ti_text.specs.Ascii as ascii
+use Rattle.ti_text.specs.Texts.{both_lists}
 use Rattle.ti_param.specs.inside.Expansion.{Expansion, expanded, bad_format, stack_full, format_expansion}
 use Rattle.ti_printing.specs.declared.padding.Line.{Line}
 use Rattle.ti_printing.specs.Padding.{with_pad_bytes, padding_of, pad_bytes_max}
-use Rattle.ti_tput.specs.Entries.{Entry, Holding, flag_held, number_held, text_held, holding_of, text_value, line_at_rate}
+use Rattle.ti_layout.specs.View.{Entry}
+use Rattle.ti_tput.specs.Entries.{Holding, flag_held, number_held, text_held, holding_of, text_value, line_at_rate}
 use Rattle.ti_tput.specs.Parameters.{parameters}
 
 -- what a command writes, its exit status, and the static variables after it
@@ -43,17 +45,11 @@ abbrev pub string_reply : Line → List ℕ → List (List ℕ) → List ℤ →
 string_reply line cap [] statics text = sent_reply (padded_text line text) statics statics
 string_reply line cap (word ∷ words) statics text = expansion_reply line statics (format_expansion text (parameters cap (word ∷ words)) statics)
 
--- one text after another, where both are there
-abbrev pub both_texts : Option (List ℕ) → Option (List ℕ) → Option (List ℕ)
-both_texts (Some front) (Some back) = Some (front ++ back)
-both_texts (Some front) None = None
-both_texts None back = None
-
 -- those of the strings that are present, each padded for itself, in order; None where one has too much padding
 abbrev pub padded_texts : Line → List (Option (List ℕ)) → Option (List ℕ)
 padded_texts line [] = Some []
 padded_texts line (None ∷ texts) = padded_texts line texts
-padded_texts line (Some text ∷ texts) = both_texts (padded_text line text) (padded_texts line texts)
+padded_texts line (Some text ∷ texts) = both_lists (padded_text line text) (padded_texts line texts)
 
 -- the strings that initialize a terminal
 abbrev pub init_strings : Entry → List (Option (List ℕ))

@@ -1,16 +1,12 @@
 -- What `tput -S` answers to the lines of its input (tput(1); the count of bad lines and the status are own).
-use Rattle.std.specs.Prelude.{◌≡◌, ℕ, zero, suc, ◌+◌, ◌||◌, ◌==◌, nat_lt, min, Bool, if◌then◌else◌, Option, Some, None, ℤ, pos}
+use Rattle.std.specs.Prelude.{◌≡◌, ℕ, zero, suc, ◌+◌, ◌==◌, nat_lt, min, Bool, if◌then◌else◌, Option, Some, None, ℤ, pos}
 use Rattle.std.specs.Prelude.{List, [], ◌∷◌, ◌++◌, length, filter, replicate}
 use Rattle.std.specs.List.{slice_split}
-use Rattle.ti_text.specs.Ascii as ascii
-use Rattle.ti_tput.specs.Entries.{Entry}
+use Rattle.ti_source.specs.WhiteSpace.{is_white_space}
+use Rattle.ti_layout.specs.View.{Entry}
 use Rattle.ti_tput.specs.Results.{Reply, tput_result}
 
 -- ---- words
-
--- white space is a space or a tab
-abbrev pub is_white : ℕ → Bool
-is_white byte = byte == ascii.space || byte == ascii.tab
 
 -- a word has a byte
 abbrev pub has_bytes : List ℕ → Bool
@@ -18,7 +14,7 @@ has_bytes word = nat_lt 0 (length word)
 
 -- the words of a line, which white space parts
 unfoldable pub words_of : List ℕ → List (List ℕ)
-words_of line = filter has_bytes (slice_split is_white line)
+words_of line = filter has_bytes (slice_split is_white_space line)
 
 -- ---- lines
 

@@ -4,7 +4,7 @@ use Rattle.std.specs.Prelude.{List, [], ◌∷◌, ◌++◌, length, map, take, 
 use Rattle.std.specs.List.{slice_split}
 use Rattle.std.specs.Global.{Vec}
 use Rattle.ti_text.specs.Ascii as ascii
-use Rattle.ti_layout.specs.Reading.{Reads, Refused}
+use Rattle.ti_layout.specs.Reading.{Reads, FailsToRead}
 use Rattle.ti_layout.specs.View.{names_of, view_contents}
 use Rattle.ti_layout.specs.Values.{Contents}
 use Rattle.ti_layout.specs.declared.fault.ReadError.{ReadError}
@@ -77,11 +77,11 @@ Locates count files name places (Err _) = ⊥
 abbrev pub IsTooLong : ℕ → List ℕ → ReadError → Type 0
 IsTooLong limit bytes error =
     (limit < length bytes)
-    × (Refused (take (suc limit) bytes) error
+    × (FailsToRead (take (suc limit) bytes) error
     ⊎ ((error ≡ Counts) × (names : List ℕ) × (contents : Contents) × Reads (take (suc limit) bytes) names contents))
 
 -- the entry that bytes within the limit read as, or their refusal
 abbrev pub Opens : ℕ → List ℕ → Result View ToolError → Type 0
 Opens limit bytes (Ok view) = (length bytes ≤ limit) × Reads bytes (names_of view) (view_contents view)
-Opens limit bytes (Err (BadEntry error)) = ((length bytes ≤ limit) × Refused bytes error) ⊎ IsTooLong limit bytes error
+Opens limit bytes (Err (BadEntry error)) = ((length bytes ≤ limit) × FailsToRead bytes error) ⊎ IsTooLong limit bytes error
 Opens limit bytes (Err _) = ⊥

@@ -9,7 +9,7 @@ use Rattle.ti_devices.specs.Reading.{Gives}
 use Rattle.ti_devices.specs.Writing.{TakesAll, TakesFront}
 use Rattle.ti_devices.specs.declared.tool_error.ToolError.{ToolError}
 use Rattle.ti_devices.specs.declared.tool_error.ToolError.TheVariants.{ReadFault, WriteFault, LineTooLong, Memory}
-use Rattle.ti_tput.specs.Entries.{Entry}
+use Rattle.ti_layout.specs.View.{Entry}
 use Rattle.ti_tput.specs.Runs.{tput_run}
 
 -- the greatest length of a line, without its newline
@@ -17,39 +17,39 @@ abbrev pub command_line_max : ℕ
 command_line_max = 4096
 
 -- the line is within that limit
-abbrev pub IsShortLine : List ℕ → Type 0
-IsShortLine line = IsWithin command_line_max line
+abbrev pub IsShortCommandLine : List ℕ → Type 0
+IsShortCommandLine line = IsWithin command_line_max line
 
 -- of the bytes these lines are complete, each within the limit, and of a further line this front has come
 pub record HasLines (taken : List ℕ) (lines : List (List ℕ)) (line : List ℕ) : Type 0 where
   pub split : Splits taken lines line
-  pub short : AllByRecursion IsShortLine lines
+  pub short : AllByRecursion IsShortCommandLine lines
 
 -- the input was read to its end, all that its lines write was written, and the status is that of its lines
-pub record Completes (entry : Entry) (rate : ℕ) (given left before now : Observed) (status : ℕ) : Type 0 where
+pub record CommandsComplete (entry : Entry) (rate : ℕ) (given left before now : Observed) (status : ℕ) : Type 0 where
   pub input : List ℕ
   pub lines : List (List ℕ)
   pub line : List ℕ
   pub gives : Gives given left input
   pub at_end : IsAtEnd left.bytes
   pub has_lines : HasLines input lines line
-  pub short : IsShortLine line
+  pub short : IsShortCommandLine line
   pub written : TakesAll before now (tput_run entry rate (with_last lines line)).bytes
   pub ends_with : status ≡ (tput_run entry rate (with_last lines line)).status
 
 -- no more can be read: what the complete lines write was written
-pub record StopsReading (entry : Entry) (rate : ℕ) (given left before now : Observed) : Type 0 where
+pub record CommandsStopReading (entry : Entry) (rate : ℕ) (given left before now : Observed) : Type 0 where
   pub taken : List ℕ
   pub lines : List (List ℕ)
   pub line : List ℕ
   pub gives : Consumes given.bytes left.bytes taken
   pub has_lines : HasLines taken lines line
-  pub short : IsShortLine line
+  pub short : IsShortCommandLine line
   pub written : TakesAll before now (tput_run entry rate lines).bytes
   pub cause : CannotReadOn given left
 
 -- a line that has begun is over the limit: what the lines before it write was written, and some bytes more were read
-pub record FindsLongLine (entry : Entry) (rate : ℕ) (given left before now : Observed) : Type 0 where
+pub record CommandsFindLongLine (entry : Entry) (rate : ℕ) (given left before now : Observed) : Type 0 where
   pub taken : List ℕ
   pub rest : List ℕ
   pub lines : List (List ℕ)
@@ -67,7 +67,7 @@ pub record WantsMemory (entry : Entry) (rate : ℕ) (given left before now : Obs
   pub line : List ℕ
   pub gives : Gives given left (taken ++ rest)
   pub has_lines : HasLines taken lines line
-  pub short : IsShortLine line
+  pub short : IsShortCommandLine line
   pub written : TakesAll before now (tput_run entry rate lines).bytes
 
 -- the lines of which a run has begun to write: those that are complete, or, where the input has ended, all
@@ -77,7 +77,7 @@ AreBegun taken rest left begun =
     ⊎ ((lines : List (List ℕ)) × (line : List ℕ) × HasLines taken lines line × (rest ≡ []) × IsAtEnd left.bytes × (begun ≡ with_last lines line))
 
 -- the writer failed: what these lines write was written up to some byte, and some bytes more were read
-pub record StopsWriting (entry : Entry) (rate : ℕ) (given left before now : Observed) : Type 0 where
+pub record CommandsStopWriting (entry : Entry) (rate : ℕ) (given left before now : Observed) : Type 0 where
   pub taken : List ℕ
   pub rest : List ℕ
   pub lines : List (List ℕ)
@@ -86,10 +86,10 @@ pub record StopsWriting (entry : Entry) (rate : ℕ) (given left before now : Ob
   pub written : TakesFront before now (tput_run entry rate lines).bytes
 
 -- how a run ends
-abbrev pub Ends : Entry → ℕ → Observed → Observed → Observed → Observed → Result ℕ ToolError → Type 0
-Ends entry rate given left before now (Ok status) = Completes entry rate given left before now status
-Ends entry rate given left before now (Err ReadFault) = StopsReading entry rate given left before now
-Ends entry rate given left before now (Err LineTooLong) = FindsLongLine entry rate given left before now
-Ends entry rate given left before now (Err WriteFault) = StopsWriting entry rate given left before now
-Ends entry rate given left before now (Err Memory) = WantsMemory entry rate given left before now
-Ends entry rate given left before now (Err _) = ⊥
+abbrev pub CommandsEnd : Entry → ℕ → Observed → Observed → Observed → Observed → Result ℕ ToolError → Type 0
+CommandsEnd entry rate given left before now (Ok status) = CommandsComplete entry rate given left before now status
+CommandsEnd entry rate given left before now (Err ReadFault) = CommandsStopReading entry rate given left before now
+CommandsEnd entry rate given left before now (Err LineTooLong) = CommandsFindLongLine entry rate given left before now
+CommandsEnd entry rate given left before now (Err WriteFault) = CommandsStopWriting entry rate given left before now
+CommandsEnd entry rate given left before now (Err Memory) = WantsMemory entry rate given left before now
+CommandsEnd entry rate given left before now (Err _) = ⊥

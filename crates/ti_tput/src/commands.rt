@@ -1,6 +1,7 @@
 //! `tput` of one command: a capability's name, and the words after it.
 ghost use Rattle.std.specs.Prelude.{◌≡◌, ℕ, OnErr, map, pos, replicate};
-ghost use Rattle.ti_tput.specs.Entries.{shown_entry, line_at_rate};
+ghost use Rattle.ti_layout.specs.View.{shown_entry};
+ghost use Rattle.ti_tput.specs.Entries.{line_at_rate};
 ghost use Rattle.ti_tput.specs.Commands.{AnswersWords, AnswersAlone};
 ghost use Rattle.ti_tput.specs.Results.{tput_result};
 ghost use Rattle.ti_tput.specs.Runs.{BadCommandsChangeNothing};

@@ -1,6 +1,7 @@
 //! What an entry has of a capability that is asked for by its name, and the line of its terminal.
 ghost use Rattle.std.specs.Prelude.{◌≡◌, Some, option_map};
-ghost use Rattle.ti_tput.specs.Entries.{shown_entry, is_set_flag, holding_of, line_at_rate, value_meaning, given_number, pad_byte_of, text_value};
+ghost use Rattle.ti_layout.specs.View.{shown_entry};
+ghost use Rattle.ti_tput.specs.Entries.{is_set_flag, holding_of, line_at_rate, value_meaning, given_number, pad_byte_of, text_value};
 
 use ti_caps::{Kind, find};
 use ti_layout::View;

@@ -1,9 +1,11 @@
 //! What a command is answered: bytes for the terminal, and an exit status.
 ghost use Rattle.std.specs.Prelude.{◌≡◌, ℕ, ℤ, List, [], IfOk, OnErr, Some, map};
-ghost use Rattle.ti_tput.specs.Entries.{shown_entry, line_at_rate, value_meaning};
+ghost use Rattle.ti_layout.specs.View.{shown_entry};
+ghost use Rattle.ti_tput.specs.Entries.{line_at_rate, value_meaning};
 ghost use Rattle.ti_tput.specs.Results.{holding_reply, init_strings, long_name, named_reply, number_text};
 ghost use Rattle.ti_tput.specs.Results.{padded_texts, padded_text, reply, reset_strings, sent_reply, string_reply};
-ghost use Rattle.ti_tput.specs.Replies.{made_bytes, reply_of, given_texts};
+ghost use Rattle.ti_tput.specs.inside.Replies.{made_bytes, given_texts};
+ghost use Rattle.ti_tput.specs.Replies.{reply_of};
 
 use crate::entries::{CapabilityValue, terminal_line, text, value_of};
 use crate::parameters::parameters;

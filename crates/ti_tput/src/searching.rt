@@ -91,7 +91,7 @@ fn search<T: Tree>(
     limit: usize,
 ) -> Result<Option<Vec<u8>>, ToolError>
     requires some { 0 < length name.now }
-    requires ascii { All (λ byte. byte < 128) name.now }
+    requires ascii { All (λ byte. byte < ascii.size) name.now }
     ensures found { IfOk result (λ found. Finds (limit + 1) (T.files tree.old) name.now (map string_bytes places.now)
         (option_map (λ bytes. bytes.items) found)) }
     ensures kept { T.files tree.new ≡ T.files tree.old }

@@ -2,8 +2,8 @@
 ghost use Rattle.std.specs.Prelude.{◌+◌, ◌≤◌};
 ghost use Rattle.ti_devices.specs.Counted.{observation, reads_of};
 ghost use Rattle.ti_devices.specs.LineReader.{reads_max};
-ghost use Rattle.ti_tput.specs.Entries.{shown_entry};
-ghost use Rattle.ti_tput.specs.Streaming.{Ends};
+ghost use Rattle.ti_layout.specs.View.{shown_entry};
+ghost use Rattle.ti_tput.specs.Streaming.{CommandsEnd};
 
 use crate::terminal::Terminal;
 use std::alloc::Global;
@@ -31,7 +31,7 @@ pub fn tput_lines<R: Read, W: Write>(
     reader: &mut Counted<R>,
     writer: &mut Counted<W>,
 ) -> Result<u8, ToolError>
-    ensures ends { Ends (shown_entry view.now) rate (observation R.remaining reader.old) (observation R.remaining reader.new)
+    ensures ends { CommandsEnd (shown_entry view.now) rate (observation R.remaining reader.old) (observation R.remaining reader.new)
         (observation W.contents writer.old) (observation W.contents writer.new) result }
     ensures reads { reads_of reader.new ≤ reads_of reader.old + reads_max }
 {

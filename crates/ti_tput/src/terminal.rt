@@ -1,7 +1,7 @@
 //! A terminal that takes commands line by line, and writes what they write.
 ghost use Rattle.std.specs.Prelude.{◌≡◌, ◌==◌, ℕ, IfOk};
 ghost use Rattle.ti_devices.specs.Counted.{observation};
-ghost use Rattle.ti_tput.specs.Entries.{Entry, shown_entry};
+ghost use Rattle.ti_layout.specs.View.{Entry, shown_entry};
 ghost use Rattle.ti_tput.specs.Runs.{Course, line_step, run_status, lines_start};
 
 use crate::commands::answer;

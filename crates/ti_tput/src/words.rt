@@ -1,6 +1,7 @@
 //! The words of a line.
 ghost use Rattle.std.specs.Prelude.{◌≡◌, ◌∷◌, ◌<◌, [], MatchOption, length, map, not, position, take};
-ghost use Rattle.ti_tput.specs.Runs.{is_white, words_of};
+ghost use Rattle.ti_source.specs.WhiteSpace.{is_white_space};
+ghost use Rattle.ti_tput.specs.Runs.{words_of};
 
 use arrayvec::ArrayVec;
 
@@ -8,24 +9,24 @@ use arrayvec::ArrayVec;
 const MOST_WORDS: usize = 11;
 
 // Whether a byte parts words.
-fn is_white(byte: u8) -> bool
-    ensures { result ≡ is_white byte }
+fn is_white_space(byte: u8) -> bool
+    ensures { result ≡ is_white_space byte }
 {
     byte == b' ' || byte == b'\t'
 }
 
 // Where the first word of a text begins.
 fn word_start(text: &[u8]) -> Option<usize>
-    ensures { result ≡ position (λ byte. not (is_white byte)) text.now }
+    ensures { result ≡ position (λ byte. not (is_white_space byte)) text.now }
 {
-    text.iter().position(|byte| !is_white(*byte))
+    text.iter().position(|byte| !is_white_space(*byte))
 }
 
 // Where the word that a text begins with ends.
 fn word_end(text: &[u8]) -> Option<usize>
-    ensures { result ≡ position is_white text.now }
+    ensures { result ≡ position is_white_space text.now }
 {
-    text.iter().position(|byte| is_white(*byte))
+    text.iter().position(|byte| is_white_space(*byte))
 }
 
 // The first word, and what stands behind it.

@@ -1,7 +1,7 @@
 -- Which texts a database takes (own).
 use Rattle.std.specs.Prelude.{ℕ, ◌≤◌, List, length}
 use Rattle.ti_text.specs.Limits.{block_bytes_max}
-use Rattle.ti_source.specs.Blocks.{OneBlock}
+use Rattle.ti_source.specs.Cutting.{OneBlock}
 use Rattle.ti_meaning.specs.declared.edits.EditError.{EditError}
 use Rattle.ti_meaning.specs.declared.edits.EditError.TheVariants.{TooLong, NotOneBlock}
 

@@ -1,7 +1,8 @@
 -- What a look-up by name finds at a place (own).
-use Rattle.std.specs.Prelude.{◌≢◌, ℕ, List, slice_index_or, All, Contains}
+use Rattle.std.specs.Prelude.{◌≢◌, ℕ, List, slice_index_or, All, Contains, map}
 use Rattle.ti_caps.specs.declared.capability.Kind.{Kind}
 use Rattle.ti_caps.specs.ByName.{Row}
+use Rattle.std.specs.Borrow.{Bor}
 
 -- the table has this row
 abbrev pub IsTableRow : List Row → List ℕ → Kind → ℕ → Type 0
@@ -14,3 +15,7 @@ IsOfAnother rows place name = (d : Row) → (slice_index_or rows place d).0 ≢ 
 -- no row has this name
 abbrev pub HasNoRow : List Row → List ℕ → Type 0
 HasNoRow rows name = All (λ r. r.0 ≢ name) rows
+
+-- the texts of a slice of texts
+abbrev pub texts_of : List (Bor (List ℕ)) → List (List ℕ)
+texts_of ts = map (λ t. t.now) ts

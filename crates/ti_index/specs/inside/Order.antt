@@ -1,6 +1,7 @@
 -- Ids in the order of a list (own).
 use Rattle.std.specs.Prelude.{ℕ, ◌≡◌, ◌≤◌, ◌+◌, ◌^◌, List, length, Some, slice_get}
-use Rattle.ti_index.specs.Labels.{AreKnown, AreLabelled, IsDistinct}
+use Rattle.ti_index.specs.inside.Labels.{AreLabelled}
+use Rattle.ti_index.specs.Labels.{AreKnown, IsDistinct}
 
 -- the ids of a list, in its order, and those that stand nowhere, the last freed at the end
 pub record Ids : Type 0 where

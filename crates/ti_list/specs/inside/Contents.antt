@@ -9,11 +9,11 @@ use Rattle.ti_list.specs.declared.contents.Content.{Content as ContentInMemory}
 use Rattle.ti_list.specs.declared.contents.Content.TheVariants as memory
 
 -- as plain data
-abbrev pub content_of : ContentInMemory → Content
-content_of memory.True = content_true
-content_of (memory.Number n) = content_number n
-content_of (memory.Text t) = content_text t.now
-content_of memory.Cancelled = content_cancelled
+abbrev pub plain_content : ContentInMemory → Content
+plain_content memory.True = content_true
+plain_content (memory.Number n) = content_number n
+plain_content (memory.Text t) = content_text t.now
+plain_content memory.Cancelled = content_cancelled
 
 -- the item that says it
 abbrev pub said_for : Capability → Content → Said

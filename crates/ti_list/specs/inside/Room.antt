@@ -5,7 +5,8 @@ use Rattle.ti_source.specs.Reading.{Said, said_flag, said_number, said_text, sai
 use Rattle.ti_caps.specs.declared.capability.Kind.TheVariants.{Flag, Number, Text}
 use Rattle.ti_list.specs.declared.layout.Order.{Order}
 use Rattle.ti_list.specs.Listing.{in_order, items_for}
-use Rattle.ti_list.specs.Relative.{Shown, first_name, differing_contents}
+use Rattle.ti_layout.specs.View.{Entry}
+use Rattle.ti_list.specs.RelativeSource.{first_name, differing_contents}
 
 -- enough for an item, with its comma and what stands before it
 abbrev pub item_room : Said → ℕ
@@ -21,12 +22,12 @@ items_room [] = 0
 items_room (item ∷ items) = item_room item + items_room items
 
 -- enough for a use of each of the others
-abbrev pub uses_room : List Shown → ℕ
+abbrev pub uses_room : List Entry → ℕ
 uses_room [] = 0
-uses_room (o ∷ os) = length (first_name o.field) + 7 + uses_room os
+uses_room (o ∷ os) = length (first_name o.names) + 7 + uses_room os
 
 -- enough for the source of an entry that uses the others, whatever its layout
-abbrev pub source_room : Shown → List Shown → Order → ℕ
+abbrev pub source_room : Entry → List Entry → Order → ℕ
 source_room entry others order =
-    length entry.field + 2 + items_room (items_for (differing_contents entry.table others) (in_order order Flag)) + items_room (items_for (differing_contents entry.table others) (in_order order Number))
-    + items_room (items_for (differing_contents entry.table others) (in_order order Text)) + uses_room others
+    length entry.names + 2 + items_room (items_for (differing_contents entry.contents others) (in_order order Flag)) + items_room (items_for (differing_contents entry.contents others) (in_order order Number))
+    + items_room (items_for (differing_contents entry.contents others) (in_order order Text)) + uses_room others

@@ -12,7 +12,7 @@ use Rattle.ti_meaning.specs.ValueTables.{IsTableOfMentions}
 abbrev pub names_at : (List ℕ → Option Reading) → ℕ → List ℕ → Option (List Mention)
 names_at env depth name = option_and_then (expand env depth) (env name)
 
--- a table behind which the mentions were laid
+-- a table that takes from the mentions what it did not have
 abbrev pub AddsBehind : Contents → List Mention → Contents → Type 0
 AddsBehind old mentions new = (c : Capability) → IsCapability c → new c ≡ option_or (old c) (leftmost_content mentions c)
 
@@ -30,14 +30,14 @@ pub record IsTableOfItems (blocks : List Reading) (items : List ReadItem) (table
   pub expands : expand_items (names_at (owner_block blocks) depth) items ≡ Some mentions
   pub is_table : IsTableOfMentions table mentions
 
--- an item was laid behind a table
+-- a table that takes from an item what it did not have
 pub record AddsSaid (blocks : List Reading) (item : Said) (old new : Contents) : Type 0 where
   pub depth : ℕ
   pub mentions : List Mention
   pub expands : mentions_of (names_at (owner_block blocks) depth) item ≡ Some mentions
   pub adds : AddsBehind old mentions new
 
--- what the owner of a name says was laid behind a table
+-- a table that takes from the owner of a name what it did not have
 pub record AddsNamed (blocks : List Reading) (name : List ℕ) (old new : Contents) : Type 0 where
   pub depth : ℕ
   pub mentions : List Mention

@@ -2,7 +2,7 @@
 use Rattle.std.specs.Prelude.{◌≡◌, ℕ, Bool, true, false, ◌&&◌, ◌||◌, List, [], ◌∷◌, ◌++◌, length, pos, if◌then◌else◌, ◌==◌, nat_lt, nat_le, Option, Some, None, option_map, is_some}
 use Rattle.ti_text.specs.Ascii.{byte_of}
 use Rattle.ti_text.specs.Ascii as ascii
-use Rattle.ti_text.specs.Digits.{is_decimal_digit, decimal}
+use Rattle.ti_text.specs.Digits.{is_decimal_digit, decimal_value}
 use Rattle.ti_text.specs.Limits.{number_max}
 use Rattle.ti_param.specs.declared.codes.Code.TheVariants.{Print, Parameter, Store, Fetch, Constant}
 use Rattle.ti_param.specs.declared.codes.Token.{Token}
@@ -40,8 +40,8 @@ byte_after (x ∷ (y ∷ rest)) = if y == ascii.apostrophe then Some (Operation 
 unfoldable pub constant_before : List ℕ → List ℕ → Front Token
 constant_before ds [] = None
 constant_before ds (x ∷ rest) =
-    if (x == ascii.close_brace && nat_lt 0 (length ds)) && nat_le (decimal ds) number_max
-    then Some (Operation (Constant (pos (decimal ds))), rest) else None
+    if (x == ascii.close_brace && nat_lt 0 (length ds)) && nat_le (decimal_value ds) number_max
+    then Some (Operation (Constant (pos (decimal_value ds))), rest) else None
 
 -- the code of a constant in digits, by the text after its `{`
 unfoldable pub number_after : List ℕ → Front Token
@@ -58,7 +58,7 @@ flags_after (x ∷ rest) = if x == ascii.colon then flags_of (span (is_flag true
 
 -- the precision that the digits of the first of two texts write, at most 999, and the second text
 abbrev pub precision_of : List ℕ × List ℕ → Front (Option ℕ)
-precision_of parts = if nat_le (decimal parts.0) greatest_size then Some (Some (decimal parts.0), parts.1) else None
+precision_of parts = if nat_le (decimal_value parts.0) greatest_size then Some (Some (decimal_value parts.0), parts.1) else None
 
 -- the precision at the front of a text, none where no `.` stands there, and the text after it
 unfoldable pub precision_after : List ℕ → Front (Option ℕ)
@@ -70,8 +70,8 @@ unfoldable pub directive_with : Flags → List ℕ → Front (Option ℕ) → Fr
 directive_with flags ds None = None
 directive_with flags ds (Some (precision, [])) = None
 directive_with flags ds (Some (precision, x ∷ rest)) =
-    if nat_le (decimal ds) greatest_size then option_map (λ conversion.
-    (record { flags = record flags { zero = begins_zero ds }; width = decimal ds; precision = precision; conversion = conversion }, rest))
+    if nat_le (decimal_value ds) greatest_size then option_map (λ conversion.
+    (record { flags = record flags { zero = begins_zero ds }; width = decimal_value ds; precision = precision; conversion = conversion }, rest))
     (row_for x conversions)
     else None
 

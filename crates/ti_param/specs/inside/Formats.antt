@@ -104,7 +104,7 @@ abbrev pub tree_of : List ℕ → Tree
 tree_of format = (tree_and_marks (scan_of format).tokens).0
 
 -- the law of the computing reader: it gives the tree, and the place, that there are
-pub record IsComputed (format : List ℕ) : Type 0 where
+pub record IsFormatComputed (format : List ℕ) : Type 0 where
   pub tree : (t : Tree) → IsTree format t ↔ ((stuck_place format ≡ None) × (tree_of format ≡ t))
   pub stuck : (place : ℕ) → IsStuck format place ↔ (stuck_place format ≡ Some place)
 

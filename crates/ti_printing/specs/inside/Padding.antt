@@ -1,7 +1,7 @@
 -- The cut of a text into paddings and other bytes, computed (own).
 use Rattle.std.specs.Prelude.{ℕ, zero, suc, ◌+◌, ◌-◌, ◌*◌, Bool, true, false, List, [], ◌∷◌, length, drop, take, if◌then◌else◌, ◌==◌, Option, Some, None, option_and_then}
 use Rattle.ti_text.specs.Ascii as ascii
-use Rattle.ti_text.specs.Digits.{is_decimal_digit, decimal_digit_value, decimal}
+use Rattle.ti_text.specs.Digits.{is_decimal_digit, decimal_digit_value, decimal_value}
 use Rattle.ti_printing.specs.declared.padding.Padding.{Padding}
 use Rattle.ti_printing.specs.declared.padding.Part.{Part}
 use Rattle.ti_printing.specs.declared.padding.Part.TheVariants.{Literal, Delay}
@@ -20,7 +20,7 @@ digits_len (suc most) (byte ∷ text) = if is_decimal_digit byte then suc (digit
 -- the number and what follows it
 abbrev pub milliseconds_at : List ℕ → Option (ℕ × List ℕ)
 milliseconds_at text = let len = digits_len 5 text in
-    if len == 0 then None else Some (decimal (take len text), drop len text)
+    if len == 0 then None else Some (decimal_value (take len text), drop len text)
 
 -- the tenths and what follows them, given what follows a `.`, if one is there
 abbrev pub tenths_in : Option (List ℕ) → List ℕ → ℕ × List ℕ

@@ -2,7 +2,7 @@
 use Rattle.ti_text.specs.Ascii as ascii
 use Rattle.std.specs.Prelude.{◌≡◌, ℕ, Bool, true, false, not, ◌&&◌, ◌==◌, if◌then◌else◌, List, [], ◌∷◌, ◌++◌, map, length, take, slice_index, ◌<◌, ◌≤◌, Option, Some, None}
 use Rattle.ti_source.specs.WhiteSpace.{is_white_space, without_trailing_space}
-use Rattle.ti_source.specs.Blocks.{last_byte}
+use Rattle.ti_source.specs.Cutting.{last_byte}
 use Rattle.ti_source.specs.Folding.{Placed}
 use Rattle.ti_source.specs.declared.items.Taken.{Taken}
 use Rattle.ti_source.specs.declared.items.Taken.TheVariants as taken
@@ -95,10 +95,10 @@ with_byte p x =
       | y ∷ ys ↦ item_piece (y ∷ ys ++ x.0 ∷ []) p.line
     ]
 
--- The item at the front of a text was taken: `item_piece` says it, and `rest` is left, or the item was the last, and nothing is left.
-pub record TakesItem (text : List Placed) (item_piece : Piece) (last : Bool) (rest : List Placed) : Type 0 where
+-- The item at the front of a text was taken: `piece` has its text and line, and `rest` is left, or the item was the last, and nothing is left.
+pub record TakesItem (text : List Placed) (piece : Piece) (last : Bool) (rest : List Placed) : Type 0 where
   pub item : List Placed
-  pub is_piece : piece_of item ≡ item_piece
+  pub is_piece : piece_of item ≡ piece
   pub is_first : items_of taken.Nothing ascii.comma text ≡ item ∷ (if last then [] else items_of taken.Nothing ascii.comma rest)
   pub shorter : last ≡ false → length rest < length text
 
@@ -161,10 +161,10 @@ pub record TakesWholeItem (old : List Placed) (text : List ℕ) (line : ℕ) (ne
   pub whole : old ≡ on_line line text ++ (ascii.comma, line) ∷ new
   pub item : IsItemText text
 
--- Wherever an item begins with white space up to `old`, it is taken: `item_piece` says it, and `new` is left, or the item was the last.
-abbrev pub EndsItem : (old : List Placed) (item_piece : Piece) (last : Bool) (new : List Placed) → Type 0
-EndsItem old shown last new =
-    (start : List Placed) → ReadsSoFar start taken.Nothing ascii.comma old (item_piece [] 0) → TakesItem start shown last new
+-- Wherever an item begins with white space up to `old`, it is taken: `piece` has its text and line, and `new` is left, or the item was the last.
+abbrev pub EndsItem : (old : List Placed) (piece : Piece) (last : Bool) (new : List Placed) → Type 0
+EndsItem old piece last new =
+    (start : List Placed) → ReadsSoFar start taken.Nothing ascii.comma old (item_piece [] 0) → TakesItem start piece last new
 
 -- a claim that holds its text in memory, as plain data
 abbrev pub claim_of : ClaimInMemory → Claim

@@ -1,10 +1,9 @@
 -- What a text spells, computed, and the laws that join this to the relations of `Spelling` (own).
---   unescaped raw       what the text spells, `Ok (bytes, odd)`, or its first fault
---   GivesUnescaped      an answer of `unescape` is that, or Memory where the text spells something
+--   unescape_result raw  what the text spells, `Ok (bytes, odd)`, or its first fault
+--   GivesUnescaped       an answer of `unescape` is that, or Memory where the text spells something
 -- The laws: UnescapedAgrees, ValuesAreSound, WrittenReadsBack.
 use Rattle.std.specs.Prelude.{◌≡◌, ℕ, zero, suc, ◌+◌, ◌-◌, ◌≤◌, ◌==◌, Bool, true, false, not, ◌&&◌, ◌||◌, ◌↔◌, if◌then◌else◌, nat_le, List, [], ◌∷◌, length, bit_and, IsOk}
 use Rattle.std.specs.Prelude.{Option, Some, None, Result, Ok, Err}
-use Rattle.ti_text.specs.Ascii.{byte_of}
 use Rattle.ti_text.specs.Ascii as ascii
 use Rattle.ti_text.specs.Texts.{HasNoNul, AreBytes}
 use Rattle.ti_spelling.specs.declared.spelling.UnescapeError.{UnescapeError}
@@ -12,6 +11,8 @@ use Rattle.ti_spelling.specs.declared.spelling.UnescapeError.TheVariants.{BadOct
 use Rattle.ti_spelling.specs.declared.spelling.Unescaped.{Unescaped}
 use Rattle.ti_spelling.specs.declared.spelling.Piece.{Piece}
 use Rattle.ti_spelling.specs.Spelling.{Fails, Spells, is_octal_digit, is_percent, named_escape, not_nul, octal_digits, octal_value, spelling_of}
+use Rattle.std.specs.Prelude.{◌≡◌, ℕ, ◌<◌, Bool, false, ◌||◌, List, [], ◌++◌, length, Option, Some, None, Result, Ok, Err}
+use Rattle.ti_spelling.specs.declared.spelling.Pieces.{Pieces}
 
 -- the piece of a backslash and these octal digits
 abbrev pub octal_piece : List ℕ → Result Piece UnescapeError
@@ -83,13 +84,13 @@ GivesUnescaped raw (Err Memory) = IsOk (unescape_result raw)
 GivesUnescaped raw (Err cause) = unescape_result raw ≡ Err cause
 
 -- what is computed is what the relations say
-pub record IsComputed (raw : List ℕ) : Type 0 where
+pub record IsUnescapeComputed (raw : List ℕ) : Type 0 where
   pub spelled : (value : List ℕ) (odd : Bool) → Spells raw value odd ↔ (unescape_result raw ≡ Ok (value, odd))
   pub refused : (cause : UnescapeError) → Fails raw cause ↔ (unescape_result raw ≡ Err cause)
 
--- of every text, the value that it spells and its first fault are exactly what `unescaped` gives
+-- of every text, the value that it spells and its first fault are exactly what `unescape_result` gives
 abbrev pub UnescapedAgrees : Type 0
-UnescapedAgrees = (raw : List ℕ) → IsComputed raw
+UnescapedAgrees = (raw : List ℕ) → IsUnescapeComputed raw
 
 -- what is known of a value by its text alone
 pub record IsValueOf (raw value : List ℕ) : Type 0 where
@@ -101,6 +102,21 @@ pub record IsValueOf (raw value : List ℕ) : Type 0 where
 abbrev pub ValuesAreSound : Type 0
 ValuesAreSound = (raw value : List ℕ) (odd : Bool) → unescape_result raw ≡ Ok (value, odd) → IsValueOf raw value
 
--- what is written is read back by `unescaped`
+-- what is written is read back by `unescape_result`
 abbrev pub WrittenReadsBack : Type 0
 WrittenReadsBack = (value : List ℕ) → AreBytes value → HasNoNul value → unescape_result (spelling_of value) ≡ Ok (value, false)
+
+-- what is still to be read spells this
+abbrev pub left_of : Pieces → Result (List ℕ × Bool) UnescapeError
+left_of pieces = unescaped_from 0 pieces.before pieces.rest.now
+
+-- the first piece is taken, or there is none, or a refusal stands there
+abbrev pub TakesPiece : (old : Pieces) → Result (Option Piece) UnescapeError → (new : Pieces) → Type 0
+TakesPiece old (Ok (Some piece)) new = (left_of old ≡ with_piece piece (left_of new)) × (length new.rest.now < length old.rest.now)
+TakesPiece old (Ok None) new = left_of old ≡ Ok ([], false)
+TakesPiece old (Err cause) new = left_of old ≡ Err cause
+
+-- what was read so far, before what the rest spells
+abbrev pub with_front : (front : List ℕ) (odd : Bool) → Result (List ℕ × Bool) UnescapeError → Result (List ℕ × Bool) UnescapeError
+with_front front odd (Ok later) = Ok (front ++ later.0, odd || later.1)
+with_front front odd (Err cause) = Err cause

@@ -4,7 +4,8 @@ use Rattle.ti_devices.specs.Counted.{Observed}
 use Rattle.ti_devices.specs.Writing.{TakesAll, TakesFront}
 use Rattle.ti_devices.specs.declared.tool_error.ToolError.{ToolError}
 use Rattle.ti_devices.specs.declared.tool_error.ToolError.TheVariants.{WriteFault, Memory}
-use Rattle.ti_tput.specs.Entries.{Entry, shown_entry, line_at_rate}
+use Rattle.ti_layout.specs.View.{Entry, shown_entry}
+use Rattle.ti_tput.specs.Entries.{line_at_rate}
 use Rattle.ti_tput.specs.Runs.{Course, LineStep}
 use Rattle.ti_tput.specs.declared.terminal.Terminal.{Terminal}
 

@@ -5,7 +5,7 @@ use Rattle.clap.specs.Kinds.{FailsBy}
 use Rattle.clap.specs.Walk.{Text}
 use Rattle.clap.specs.Words.{HasMatchesOf, app_of}
 use Rattle.clap.specs.declared.parser.matches.ArgMatches.{ArgMatches}
-use Rattle.ti_commands.specs.Commands.{tool_app}
+use Rattle.ti_commands.specs.inside.Commands.{tool_app}
 use Rattle.ti_commands.proofs.Tools.{job_of-tool, no_faults-tool, others_of, second_of, some_of_ok}
 use Rattle.ti_commands.proofs.arguments.job_of_tool.Goals as goal
 

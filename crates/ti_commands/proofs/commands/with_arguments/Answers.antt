@@ -1,7 +1,7 @@
 -- each argument stands behind those before it
 use Rattle.std.proofs.Common.{◌∙◌, rules, sym}
 use Rattle.std.proofs.lemmas.List.Sums.{fold_more}
-use Rattle.ti_commands.specs.inside.Tools.{with_argument}
+use Rattle.ti_commands.specs.inside.Commands.{with_argument}
 use Rattle.ti_commands.proofs.Added.{rule_added, still_local}
 use Rattle.ti_commands.proofs.commands.with_arguments.Goals as goal
 

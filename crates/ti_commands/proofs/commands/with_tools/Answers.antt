@@ -1,7 +1,7 @@
 -- each tool is a subcommand behind those before it
 use Rattle.std.proofs.Common.{◌∙◌, rules, sym}
 use Rattle.std.proofs.lemmas.List.Sums.{fold_more}
-use Rattle.ti_commands.specs.inside.Tools.{with_tool}
+use Rattle.ti_commands.specs.inside.Commands.{with_tool}
 use Rattle.ti_commands.proofs.Added.{tool_added, tool_still_local}
 use Rattle.ti_commands.proofs.commands.with_tools.Goals as goal
 

@@ -2,7 +2,7 @@ use Rattle.std.proofs.Common.{◌≡◌, false, take}
 use Rattle.std.specs.List.{fold}
 use Rattle.clap.specs.Words.{app_of}
 use Rattle.clap.specs.declared.builder.Command.TheViews.{out-Command as fields_of}
-use Rattle.ti_commands.specs.inside.Tools.{with_tool}
+use Rattle.ti_commands.specs.inside.Commands.{with_tool}
 use Rattle.ti_commands.proofs.commands.with_tools.Given as goal
 
 -- the tools before are subcommands

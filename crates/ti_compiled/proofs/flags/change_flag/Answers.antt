@@ -1,7 +1,7 @@
 use Rattle.std.proofs.Common.{◌≡◌, ◌+◌, ◌≤◌, ◌%◌, ℕ, suc, List, length, subst, Vec, Global, ap, refl, ◌∙◌, arith, vec_len}
 use Rattle.ti_caps.specs.declared.capability.Kind.TheVariants.{Flag}
 use Rattle.ti_layout.specs.Image.{written_count}
-use Rattle.ti_compiled.specs.inside.Parts.{Replaces, with_length}
+use Rattle.ti_compiled.specs.inside.Bytes.{Replaces, with_length}
 use Rattle.ti_compiled.specs.Image.{names_in, contents_in}
 use Rattle.ti_compiled.proofs.FlagPlaces.{flags_within}
 use Rattle.ti_compiled.proofs.FlagChange.{flag_lengths, flag_written, flag_cut, flag_changed}

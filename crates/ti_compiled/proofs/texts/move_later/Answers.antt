@@ -2,7 +2,7 @@ use Rattle.std.proofs.Common.{◌≡◌, ◌+◌, ◌*◌, ℕ, List, length, ap
 use Rattle.ti_layout.specs.declared.layout.Format.TheVariants.{Legacy}
 use Rattle.ti_layout.specs.Layout.{number_bytes}
 use Rattle.ti_layout.specs.Reading.{word_at}
-use Rattle.ti_compiled.specs.inside.Parts.{Replaces}
+use Rattle.ti_compiled.specs.inside.Bytes.{Replaces}
 use Rattle.ti_compiled.proofs.Moving.{moved_end, moved_over, moved_past}
 use Rattle.ti_compiled.proofs.texts.move_later.Goals as goal
 use Rattle.ti_compiled.proofs.texts.move_later.Goals.{then-offset-ne-ABSENT, else-offset-ne-ABSENT}

@@ -2,7 +2,7 @@ use Rattle.std.proofs.Common.{◌≡◌, ◌<◌, ◌≤◌, ℕ, List, ◌++◌
 use Rattle.ti_layout.specs.declared.layout.Format.TheVariants.{Legacy}
 use Rattle.ti_layout.specs.Layout.{number_bytes, number_section}
 use Rattle.ti_layout.proofs.Below.{below-same}
-use Rattle.ti_compiled.specs.inside.Parts.{Replaces}
+use Rattle.ti_compiled.specs.inside.Bytes.{Replaces}
 use Rattle.ti_compiled.proofs.Numbering.{place-set}
 use Rattle.ti_compiled.proofs.texts.put_offset.Goals as goal
 

@@ -1,5 +1,5 @@
 use Rattle.std.proofs.Common.{length, arith}
-use Rattle.ti_index.specs.Labels.{IsGap}
+use Rattle.ti_index.specs.inside.Labels.{IsGap}
 use Rattle.ti_index.proofs.Labelling.{AreSpaced, gap_below, gap_fits, spaced_labelled}
 use Rattle.ti_index.proofs.labels.make_label.Goals as goal
 

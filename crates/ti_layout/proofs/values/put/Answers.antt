@@ -1,7 +1,8 @@
 -- the value is written over the one there, or placed in the gap
 use Rattle.std.proofs.Common.{◌≡◌, true, subst}
 use Rattle.std.specs.Option.{is_some}
-use Rattle.ti_layout.specs.Values.{IsAt, IsGapFor, entries_of}
+use Rattle.ti_layout.specs.inside.Values.{IsAt, IsGapFor}
+use Rattle.ti_layout.specs.Values.{entries_of}
 use Rattle.ti_layout.proofs.KeptEntries.{contents_nowhere}
 use Rattle.ti_layout.proofs.Places.{nowhere, kept-written, sets-written, kept-placed, sets-placed}
 use Rattle.ti_layout.proofs.values.put.Goals as goal

@@ -1,8 +1,9 @@
 -- what stands at the place stays, and a gap takes the value
 use Rattle.std.proofs.Common.{◌≡◌, true, subst}
 use Rattle.std.specs.Option.{is_some}
-use Rattle.ti_layout.specs.Values.{IsAt, IsGapFor, content_of, entries_of}
-use Rattle.ti_layout.proofs.Absent.{laid_in_gap, laid_behind}
+use Rattle.ti_layout.specs.inside.Values.{IsAt, IsGapFor}
+use Rattle.ti_layout.specs.Values.{content_of, entries_of}
+use Rattle.ti_layout.proofs.Absent.{added_in_gap, added_behind}
 use Rattle.ti_layout.proofs.KeptEntries.{contents_nowhere}
 use Rattle.ti_layout.proofs.Places.{nowhere, content_here, kept-placed, sets-placed}
 use Rattle.ti_layout.proofs.values.put_if_absent.Goals as goal
@@ -10,7 +11,7 @@ use Rattle.ti_layout.proofs.values.put_if_absent.Goals as goal
 pub returns-in-Ok-clause-ok : goal.returns-in-Ok-clause-ok
 returns-in-Ok-clause-ok c =
     let at = subst (λ xs. IsAt (entries_of xs) c.args.cap c.in-Ok.field-0) c.deref.ensures.value c.in-Ok.ensures.found in
-    laid_behind _ _ _ (content_of c.args.value) (content_here _ c.requires.kept _ _ (c.args.cap, c.args.value) at)
+    added_behind _ _ _ (content_of c.args.value) (content_here _ c.requires.kept _ _ (c.args.cap, c.args.value) at)
 
 pub returns-in_ok-insert-in-Err-clause-kept : goal.returns-in_ok-insert-in-Err-clause-kept
 returns-in_ok-insert-in-Err-clause-kept c =
@@ -21,7 +22,7 @@ pub returns-in_ok-insert-in-Err-clause-ok : goal.returns-in_ok-insert-in-Err-cla
 returns-in_ok-insert-in-Err-clause-ok c =
     let gap = subst (λ xs. IsGapFor (entries_of xs) c.args.cap c.in-Err.at) c.deref.ensures.value c.in-Err.ensures.absent in
     rw c.in_ok-insert-in-Err.ensures.items
-    (laid_in_gap _ _ _ _ (contents_nowhere _ _ (nowhere _ c.requires.kept _ _ gap)) (sets-placed _ c.requires.kept _ _ _ c.place.ensures.valid c.requires.agrees gap))
+    (added_in_gap _ _ _ _ (contents_nowhere _ _ (nowhere _ c.requires.kept _ _ gap)) (sets-placed _ c.requires.kept _ _ _ c.place.ensures.valid c.requires.agrees gap))
 
 pub returns-in_err-insert-in-Err-clause-in_place : goal.returns-in_err-insert-in-Err-clause-in_place
 returns-in_err-insert-in-Err-clause-in_place c found =

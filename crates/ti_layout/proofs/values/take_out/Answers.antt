@@ -1,6 +1,7 @@
 -- what stands at the place is taken away, and a gap has nothing
 use Rattle.std.proofs.Common.{subst}
-use Rattle.ti_layout.specs.Values.{IsAt, IsGapFor, entries_of}
+use Rattle.ti_layout.specs.inside.Values.{IsAt, IsGapFor}
+use Rattle.ti_layout.specs.Values.{entries_of}
 use Rattle.ti_layout.proofs.Places.{kept-taken, sets-taken, sets-nothing}
 use Rattle.ti_layout.proofs.values.take_out.Goals as goal
 

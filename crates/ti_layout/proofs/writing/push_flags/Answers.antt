@@ -2,7 +2,7 @@ use Rattle.std.proofs.Common.{ap, sym, subst}
 use Rattle.ti_caps.specs.declared.capability.Kind.TheVariants.{Flag}
 use Rattle.ti_layout.specs.Values.{content_of}
 use Rattle.ti_layout.proofs.Walked.{is_of}
-use Rattle.ti_layout.proofs.WrittenSections.{HasFlags, flags_begun, flags_done, flag_laid, no_flag, passed, behind, all_past}
+use Rattle.ti_layout.proofs.WrittenSections.{HasFlags, flags_begun, flags_done, flag_put, no_flag, passed, behind, all_past}
 use Rattle.ti_layout.proofs.writing.push_flags.Goals.{in-True+in_ok-push_fill+in_ok-push, in_default}
 use Rattle.ti_layout.proofs.writing.push_flags.Goals as goal
 
@@ -15,7 +15,7 @@ overflow_sub-index c = behind _ c.requires _ _ _ c.loop-entry-test.true c.entry-
 pub loop-entry-preserved : goal.loop-entry-preserved
 loop-entry-preserved c = elim c.match-entry.branch [
   | in-True+in_ok-push_fill+in_ok-push w ↦
-      subst (λ im. HasFlags _ _ im.items _ _) (sym w.image-is) (flag_laid _ c.requires _ _ _ c.loop-entry-test.true c.entry-item.is _ _ _ _ _ _ _ w.index.ensures.value w.index-places.ensures.value w.places-is w.in-True.is c.loop-entry.invariant w.in_ok-push_fill.ensures w.in_ok-push.ensures.items)
+      subst (λ im. HasFlags _ _ im.items _ _) (sym w.image-is) (flag_put _ c.requires _ _ _ c.loop-entry-test.true c.entry-item.is _ _ _ _ _ _ _ w.index.ensures.value w.index-places.ensures.value w.places-is w.in-True.is c.loop-entry.invariant w.in_ok-push_fill.ensures w.in_ok-push.ensures.items)
   | in_default w ↦
       record {
         walked = passed _ c.requires _ _ _ c.loop-entry-test.true c.entry-item.is Flag _ c.loop-entry.invariant.walked (no_flag _ w.in_default.not-True) w.places-is;

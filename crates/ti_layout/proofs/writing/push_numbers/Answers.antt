@@ -2,7 +2,7 @@ use Rattle.std.proofs.Common.{ap, sym, subst}
 use Rattle.ti_caps.specs.declared.capability.Kind.TheVariants.{Number}
 use Rattle.ti_layout.specs.Values.{content_of}
 use Rattle.ti_layout.proofs.Walked.{is_of}
-use Rattle.ti_layout.proofs.WrittenSections.{HasNumbers, numbers_begun, numbers_done, number_laid, no_number, passed, behind, all_past}
+use Rattle.ti_layout.proofs.WrittenSections.{HasNumbers, numbers_begun, numbers_done, number_put, no_number, passed, behind, all_past}
 use Rattle.ti_layout.proofs.writing.push_numbers.Goals.{in-Number+in_ok-push_fill+in_ok-push_number, in_default}
 use Rattle.ti_layout.proofs.writing.push_numbers.Goals as goal
 
@@ -15,7 +15,7 @@ overflow_sub-index c = behind _ c.requires _ _ _ c.loop-entry-test.true c.entry-
 pub loop-entry-preserved : goal.loop-entry-preserved
 loop-entry-preserved c = elim c.match-entry.branch [
   | in-Number+in_ok-push_fill+in_ok-push_number w ↦
-      subst (λ im. HasNumbers _ _ _ im.items _ _) (sym w.image-is) (number_laid _ c.requires _ _ _ c.loop-entry-test.true c.entry-item.is _ _ _ _ _ _ _ w.index.ensures.value w.index-places.ensures.value w.places-is _ _ _ w.in-Number.is c.loop-entry.invariant
+      subst (λ im. HasNumbers _ _ _ im.items _ _) (sym w.image-is) (number_put _ c.requires _ _ _ c.loop-entry-test.true c.entry-item.is _ _ _ _ _ _ _ w.index.ensures.value w.index-places.ensures.value w.places-is _ _ _ w.in-Number.is c.loop-entry.invariant
       w.width.ensures.value w.in_ok-push_fill.ensures w.in_ok-push_number.ensures)
   | in_default w ↦
       record {

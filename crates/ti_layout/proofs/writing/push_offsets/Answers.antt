@@ -2,7 +2,7 @@ use Rattle.std.proofs.Common.{◌+◌, ap, sym, subst, ◌∙◌, arith}
 use Rattle.ti_caps.specs.declared.capability.Kind.TheVariants.{Text}
 use Rattle.ti_layout.specs.Values.{content_of}
 use Rattle.ti_layout.proofs.Walked.{is_of}
-use Rattle.ti_layout.proofs.WrittenSections.{HasOffsets, offsets_begun, offsets_done, offset_laid, no_text, passed, behind, all_past, text_within}
+use Rattle.ti_layout.proofs.WrittenSections.{HasOffsets, offsets_begun, offsets_done, offset_put, no_text, passed, behind, all_past, text_within}
 use Rattle.ti_layout.proofs.writing.push_offsets.Goals.{in-Text+in_ok-push_fill+in_ok-push_number, in_default}
 use Rattle.ti_layout.proofs.writing.push_offsets.Goals as goal
 
@@ -15,7 +15,7 @@ overflow_sub-index c = behind _ c.requires.kept _ _ _ c.loop-entry-test.true c.e
 pub loop-entry-preserved : goal.loop-entry-preserved
 loop-entry-preserved c = elim c.match-entry.branch [
   | in-Text+in_ok-push_fill+in_ok-push_number w ↦
-      subst (λ im. HasOffsets _ _ im.items _ _ _) (sym w.image-is) (offset_laid _ c.requires.kept _ _ _ c.loop-entry-test.true c.entry-item.is _ _ _ _ _ _ _ w.index.ensures.value w.index-places.ensures.value w.places-is _ _ _ (ap content_of w.in-Text.is) c.loop-entry.invariant
+      subst (λ im. HasOffsets _ _ im.items _ _ _) (sym w.image-is) (offset_put _ c.requires.kept _ _ _ c.loop-entry-test.true c.entry-item.is _ _ _ _ _ _ _ w.index.ensures.value w.index-places.ensures.value w.places-is _ _ _ (ap content_of w.in-Text.is) c.loop-entry.invariant
       w.in_ok-push_fill.ensures w.in_ok-push_number.ensures (w.offset-is ∙ ap (λ n. c.loop-entry.offset + (n + 1)) w.len.ensures))
   | in_default w ↦
       record {

@@ -5,7 +5,7 @@ use Rattle.ti_meaning.specs.Faults.{is_kept}
 use Rattle.ti_slots.specs.Settled.{fault_at}
 use Rattle.ti_slots.specs.Slots.{blocks_of}
 use Rattle.ti_plan.proofs.ItemLists.{slice_get-map_item, map-drop_item}
-use Rattle.ti_plan.proofs.ItemFaults.{one_more_item, wrong_item, sound_more, uses_sound, told}
+use Rattle.ti_plan.proofs.ItemFaults.{one_more_item, wrong_item, sound_more, uses_sound, found}
 use Rattle.ti_plan.proofs.faults.add_item_faults.Goals as goal
 use Rattle.ti_plan.proofs.faults.add_item_faults.Goals.{then-branch, else-branch}
 
@@ -41,18 +41,18 @@ loop-index-preserved g c =
           before.added c.in_ok-add_item_fault.ensures.added before.rest;
       within = before.within;
       wrong = elim c.if-branch.branch [
-        | then-branch w ↦ λ _. wrong_item bs g.at c.loop-index.index block (item_of c.item-item.result) c.in_ok-add_item_fault.field-0 stands c.in_ok-add_item_fault.ensures.told w.if-branch.true
+        | then-branch w ↦ λ _. wrong_item bs g.at c.loop-index.index block (item_of c.item-item.result) c.in_ok-add_item_fault.field-0 stands c.in_ok-add_item_fault.ensures.found w.if-branch.true
         | else-branch w ↦ λ e. c.loop-index.invariant.wrong (sym w.is_wrong-is ∙ e)
       ];
       sound = elim c.if-branch.branch [
         | then-branch w ↦ λ e. (let f = sym w.is_wrong-is ∙ e in cc)
-        | else-branch w ↦ λ e. sound_more bs g.at block.items c.loop-index.index (item_of c.item-item.result) c.in_ok-add_item_fault.field-0 (c.loop-index.invariant.sound (sym w.is_wrong-is ∙ e)) stands c.in_ok-add_item_fault.ensures.told w.if-branch.false
+        | else-branch w ↦ λ e. sound_more bs g.at block.items c.loop-index.index (item_of c.item-item.result) c.in_ok-add_item_fault.field-0 (c.loop-index.invariant.sound (sym w.is_wrong-is ∙ e)) stands c.in_ok-add_item_fault.ensures.found w.if-branch.false
       ];
     }
 
-pub returns-clause-told : goal.returns-clause-told
-returns-clause-told g c =
+pub returns-clause-found : goal.returns-clause-found
+returns-clause-found g c =
     let block = reading_of c.args.block.now in
     let past : length c.args.block.now.items.items ≤ c.loop-index.index = rw c.deref-item-items.ensures.value at c.loop-index-test.false in
     let all : length block.items ≤ c.loop-index.index = rw (length-map c.args.block.now.items.items item_of) past in
-    told c.loop-index.is_wrong _ _ c.loop-index.invariant.wrong (λ e. uses_sound (blocks_of c.args.known.now.slots.now) g.at block c.loop-index.index c.requires.1 all (c.loop-index.invariant.sound e))
+    found c.loop-index.is_wrong _ _ c.loop-index.invariant.wrong (λ e. uses_sound (blocks_of c.args.known.now.slots.now) g.at block c.loop-index.index c.requires.1 all (c.loop-index.invariant.sound e))

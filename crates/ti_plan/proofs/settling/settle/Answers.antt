@@ -27,4 +27,4 @@ pub find_state-requires : goal.find_state-requires
 find_state-requires g c =
     let slot = c.slot_of-slot.result.now in
     let room = rw (length-map slot.block.items.items item_of) at (c.requires.1 (reading_of slot.block) c.slot_of-slot.ensures) in
-    (c.requires.0, (c.slot_of-slot.ensures, (c.in_ok-is_wrong.ensures.told, room)))
+    (c.requires.0, (c.slot_of-slot.ensures, (c.in_ok-is_wrong.ensures.found, room)))

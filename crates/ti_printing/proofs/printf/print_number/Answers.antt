@@ -1,7 +1,8 @@
 use Rattle.std.proofs.Common.{arith, ◌≡◌, ◌++◌, ◌∙◌, ◌-◌, ap, drop, OnOk, subst, FitsSigned, w32}
 use Rattle.std.proofs.lemmas.Int.{to_z-of_z}
 use Rattle.std.proofs.lemmas.List.{length-drop, take_all}
-use Rattle.ti_printing.specs.Printf.{parts_text, printed_number, numeral, digits_in, in_width}
+use Rattle.ti_printing.specs.inside.Printf.{parts_text}
+use Rattle.ti_printing.specs.Printf.{printed_number, numeral, digits_in, in_width}
 use Rattle.ti_printing.proofs.printf.print_number.Goals as goal
 
 pub returns-clause-ok : goal.returns-clause-ok

@@ -2,7 +2,7 @@ use Rattle.std.proofs.Common.{take}
 use Rattle.std.specs.List.{flat_map}
 use Rattle.ti_devices.specs.Counted.{observation}
 use Rattle.ti_devices.specs.Writing.{TakesAll}
-use Rattle.ti_session.specs.Places.{next_place}
+use Rattle.ti_session.specs.Replies.{next_place}
 use Rattle.ti_session.proofs.replies.write_next_places.Given as goal
 
 -- the positions before this one were written

@@ -3,7 +3,7 @@ use Rattle.std.specs.Fmt.{decimal}
 use Rattle.std.specs.List.{flat_map}
 use Rattle.std.proofs.lemmas.Result.{err_from_is_err_and}
 use Rattle.ti_devices.proofs.Written.{TakesAll-then, Wrote-over, Wrote-short, Wrote-whole}
-use Rattle.ti_session.specs.Places.{next_place}
+use Rattle.ti_session.specs.Replies.{next_place}
 use Rattle.ti_session.proofs.Printed.{places_text-some}
 use Rattle.ti_session.proofs.replies.write_places.Goals as goal
 

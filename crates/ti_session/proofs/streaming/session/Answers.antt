@@ -1,6 +1,6 @@
 use Rattle.std.proofs.lemmas.Result.{err_from_is_err_and}
 use Rattle.ti_devices.specs.Counted.{observation}
-use Rattle.ti_session.proofs.Ending.{Ends-end, Ends-fault, Ends-last, Ends-last_cut, Ends-line, Progress-line, Progress-start}
+use Rattle.ti_session.proofs.Ending.{ScriptEnds-end, ScriptEnds-fault, ScriptEnds-last, ScriptEnds-last_cut, ScriptEnds-line, Progress-line, Progress-start}
 use Rattle.ti_session.proofs.streaming.session.Goals as goal
 
 pub loop-editor-init : goal.loop-editor-init
@@ -10,7 +10,7 @@ loop-editor-init g c =
 pub returns-in_err-read_line-clause-ends : goal.returns-in_err-read_line-clause-ends
 returns-in_err-read_line-clause-ends g c =
     let p = err_from_is_err_and c.from_residual-in_err-read_line.result c.from_residual-in_err-read_line.ensures.1 in
-    rw (p.1, p.2) (Ends-fault _ _ c.loop-editor.lines c.loop-editor.editor _ _ c.loop-editor.invariant c.read_line.new.self _ _
+    rw (p.1, p.2) (ScriptEnds-fault _ _ c.loop-editor.lines c.loop-editor.editor _ _ c.loop-editor.invariant c.read_line.new.self _ _
     c.in_err-read_line.ensures.next c.in_err-read_line.ensures.spends)
 
 pub loop-editor-preserved : goal.loop-editor-preserved
@@ -24,7 +24,7 @@ pub returns-in_err-take_line-in-Line-clause-ends : goal.returns-in_err-take_line
 returns-in_err-take_line-in-Line-clause-ends g c =
     let p = c.loop-editor.invariant in
     let e = err_from_is_err_and c.from_residual-in_err-take_line-in-Line.result c.from_residual-in_err-take_line-in-Line.ensures.1 in
-    rw (e.1, e.2) (Ends-line _ _ c.loop-editor.lines c.loop-editor.editor _ _ p c.read_line.new.self (observation g.R.Read.remaining c.read_line.new.reader)
+    rw (e.1, e.2) (ScriptEnds-line _ _ c.loop-editor.lines c.loop-editor.editor _ _ p c.read_line.new.self (observation g.R.Read.remaining c.read_line.new.reader)
     (rw c.in-Line.is at c.in_ok-read_line.ensures.next) c.take_line.new.self (observation g.W.Write.contents c.take_line.new.writer) _
     (rw c.line.ensures at (c.in_err-take_line-in-Line.ensures p.state p.holds)))
 
@@ -32,18 +32,18 @@ pub returns-in_err-take_line-in-LastLine-clause-ends : goal.returns-in_err-take_
 returns-in_err-take_line-in-LastLine-clause-ends g c =
     let p = c.loop-editor.invariant in
     let e = err_from_is_err_and c.from_residual-in_err-take_line-in-LastLine.result c.from_residual-in_err-take_line-in-LastLine.ensures.1 in
-    rw (e.1, e.2) (Ends-last_cut _ _ c.loop-editor.lines c.loop-editor.editor _ _ p c.read_line.new.self (observation g.R.Read.remaining c.read_line.new.reader)
+    rw (e.1, e.2) (ScriptEnds-last_cut _ _ c.loop-editor.lines c.loop-editor.editor _ _ p c.read_line.new.self (observation g.R.Read.remaining c.read_line.new.reader)
     (rw c.in-LastLine.is at c.in_ok-read_line.ensures.next) c.take_line-in-LastLine.new.self (observation g.W.Write.contents c.take_line-in-LastLine.new.writer) _
     (rw c.line-in-LastLine.ensures at (c.in_err-take_line-in-LastLine.ensures p.state p.holds)))
 
 pub returns-in-LastLine-clause-ends : goal.returns-in-LastLine-clause-ends
 returns-in-LastLine-clause-ends g c =
     let p = c.loop-editor.invariant in
-    Ends-last _ _ c.loop-editor.lines c.loop-editor.editor _ _ p c.read_line.new.self (observation g.R.Read.remaining c.read_line.new.reader)
+    ScriptEnds-last _ _ c.loop-editor.lines c.loop-editor.editor _ _ p c.read_line.new.self (observation g.R.Read.remaining c.read_line.new.reader)
     (rw c.in-LastLine.is at c.in_ok-read_line.ensures.next) c.take_line-in-LastLine.new.self (observation g.W.Write.contents c.take_line-in-LastLine.new.writer)
     (rw c.line-in-LastLine.ensures at (c.in_ok-take_line-in-LastLine.ensures p.state p.holds)) _ _ c.close.ensures
 
 pub returns-in-End-clause-ends : goal.returns-in-End-clause-ends
 returns-in-End-clause-ends g c =
-    Ends-end _ _ c.loop-editor.lines c.loop-editor.editor _ _ c.loop-editor.invariant c.read_line.new.self (observation g.R.Read.remaining c.read_line.new.reader)
+    ScriptEnds-end _ _ c.loop-editor.lines c.loop-editor.editor _ _ c.loop-editor.invariant c.read_line.new.self (observation g.R.Read.remaining c.read_line.new.reader)
     (rw c.in-End.is at c.in_ok-read_line.ensures.next) _ _ c.close-in-End.ensures

@@ -1,5 +1,5 @@
 use Rattle.std.proofs.Common.{◌≡◌, length, drop, ◌+◌, ◌-◌, ◌≤◌}
-use Rattle.ti_source.specs.inside.Blocks.{to_next_head}
+use Rattle.ti_source.specs.inside.Cutting.{to_next_head}
 use Rattle.ti_source.proofs.heads.next_head.Given as goal
 
 abbrev pub invariant-loop-newline : goal.invariant-loop-newline

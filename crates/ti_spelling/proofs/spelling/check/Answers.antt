@@ -1,6 +1,6 @@
 use Rattle.std.proofs.Common.{◌++◌, ◌∷◌, [], false, sym, ap, ◌∙◌}
 use Rattle.std.specs.Prelude.{◌||◌}
-use Rattle.ti_spelling.specs.inside.Pieces.{left_of, with_front}
+use Rattle.ti_spelling.specs.inside.Spelling.{left_of, with_front}
 use Rattle.ti_spelling.proofs.PieceLemmas.{moves_on, with_no_front}
 use Rattle.ti_spelling.proofs.spelling.check.Goals as goal
 

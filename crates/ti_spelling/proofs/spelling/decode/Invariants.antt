@@ -1,6 +1,5 @@
 use Rattle.std.proofs.Common.{◌≡◌, length}
-use Rattle.ti_spelling.specs.inside.Spelling.{unescape_result}
-use Rattle.ti_spelling.specs.inside.Pieces.{left_of, with_front}
+use Rattle.ti_spelling.specs.inside.Spelling.{unescape_result, left_of, with_front}
 use Rattle.ti_spelling.proofs.spelling.decode.Given as goal
 
 abbrev pub invariant-loop-bytes : goal.invariant-loop-bytes

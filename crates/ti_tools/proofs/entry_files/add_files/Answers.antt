@@ -3,7 +3,7 @@ use Rattle.std.specs.Rc.{rc_slice_items}
 use Rattle.ti_meaning.specs.Owner.{is_among, readings}
 use Rattle.ti_meaning.specs.inside.Reaching.{is_owner}
 use Rattle.ti_devices.specs.Placing.{entries}
-use Rattle.ti_tools.specs.EntryFiles.{is_seen}
+use Rattle.ti_tools.specs.inside.EntryFiles.{is_seen}
 use Rattle.ti_tools.proofs.Filing.{All-at, files_joined, front_more, left_by_none, left_by_one, name_at}
 use Rattle.ti_tools.proofs.Seeing.{AreSeen, new_by_seen, seen_more}
 use Rattle.ti_tools.proofs.entry_files.add_files.Goals as goal

@@ -4,7 +4,8 @@ use Rattle.ti_meaning.specs.Owner.{readings}
 use Rattle.ti_meaning.specs.inside.Reaching.{is_owner}
 use Rattle.ti_tools.proofs.Filing.{files_left}
 use Rattle.ti_tools.proofs.Seeing.{AreSeen}
-use Rattle.ti_tools.specs.EntryFiles.{files_for, is_seen, own_names}
+use Rattle.ti_tools.specs.inside.EntryFiles.{is_seen}
+use Rattle.ti_tools.specs.EntryFiles.{files_for, own_names}
 use Rattle.ti_devices.specs.Placing.{entries}
 use Rattle.ti_tools.proofs.entry_files.add_files.Given as goal
 

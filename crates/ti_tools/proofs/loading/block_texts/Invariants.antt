@@ -1,5 +1,5 @@
 use Rattle.std.proofs.Common.{◌≡◌, ◌++◌, map}
-use Rattle.ti_source.specs.Blocks.{blocks_from_head}
+use Rattle.ti_source.specs.Cutting.{blocks_from_head}
 use Rattle.ti_tools.proofs.loading.block_texts.Given as goal
 
 -- what was cut off and what is left are the blocks

@@ -1,6 +1,6 @@
 use Rattle.std.proofs.Common.{map, All, ◌∙◌, ap}
 use Rattle.std.proofs.lemmas.Result.{IfErr-weaker, on_ok_weaker}
-use Rattle.ti_source.specs.Blocks.{OneBlock, blocks_from_head}
+use Rattle.ti_source.specs.Cutting.{OneBlock, blocks_from_head}
 use Rattle.ti_tools.proofs.Inserting.{load_refused, load_sound}
 use Rattle.ti_tools.proofs.loading.database_of.Goals as goal
 

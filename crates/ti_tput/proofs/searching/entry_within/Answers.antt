@@ -1,6 +1,6 @@
 use Rattle.std.proofs.Common.{◌+◌, ◌<◌, ◌≤◌, ℕ, List, length, take, add-one, inl, inr, refl, sym, subst, arith}
 use Rattle.std.proofs.lemmas.List.{length-take-le}
-use Rattle.ti_layout.specs.Reading.{Reads, Refused}
+use Rattle.ti_layout.specs.Reading.{Reads, FailsToRead}
 use Rattle.ti_layout.specs.View.{names_of, view_contents}
 use Rattle.ti_layout.specs.Values.{Contents}
 use Rattle.ti_layout.specs.declared.fault.ReadError.{ReadError}
@@ -9,8 +9,8 @@ use Rattle.ti_tput.specs.Searching.{IsTooLong}
 use Rattle.ti_tput.proofs.searching.entry_within.Goals as goal
 
 -- the first bytes of a file that is too long are refused, or are an entry
-refused_front : (limit : ℕ) (bytes : List ℕ) (error : ReadError) → limit < length bytes → Refused (take (limit + 1) bytes) error → IsTooLong limit bytes error
-refused_front limit bytes error past refused = (past, inl (subst (λ (n : ℕ). Refused (take n bytes) error) (add-one limit) refused))
+refused_front : (limit : ℕ) (bytes : List ℕ) (error : ReadError) → limit < length bytes → FailsToRead (take (limit + 1) bytes) error → IsTooLong limit bytes error
+refused_front limit bytes error past refused = (past, inl (subst (λ (n : ℕ). FailsToRead (take n bytes) error) (add-one limit) refused))
 
 read_front : (limit : ℕ) (bytes names : List ℕ) (contents : Contents) → limit < length bytes → Reads (take (limit + 1) bytes) names contents → IsTooLong limit bytes Counts
 read_front limit bytes names contents past reads =

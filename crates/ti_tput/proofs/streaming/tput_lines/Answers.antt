@@ -1,14 +1,14 @@
 use Rattle.std.proofs.Common.{Ok, Err}
 use Rattle.std.proofs.lemmas.Result.{err_from_is_err_and}
 use Rattle.ti_devices.specs.Counted.{observation}
-use Rattle.ti_tput.specs.Entries.{shown_entry}
-use Rattle.ti_tput.proofs.Ending.{Ends-end, Ends-fault, Ends-last, Ends-last_cut, Ends-line, Ends-start, Progress-line, Progress-start, Took-same, after_lines}
+use Rattle.ti_layout.specs.View.{shown_entry}
+use Rattle.ti_tput.proofs.Ending.{CommandsEnd-end, CommandsEnd-fault, CommandsEnd-last, CommandsEnd-last_cut, CommandsEnd-line, CommandsEnd-start, Progress-line, Progress-start, Took-same, after_lines}
 use Rattle.ti_tput.proofs.streaming.tput_lines.Goals as goal
 
 pub returns-in_err-lines-clause-ends : goal.returns-in_err-lines-clause-ends
 returns-in_err-lines-clause-ends g c =
     let p = err_from_is_err_and c.from_residual.result c.from_residual.ensures.1 in
-    rw (p.1, p.2) (Ends-start (shown_entry c.args.view.now) c.args.rate _ _)
+    rw (p.1, p.2) (CommandsEnd-start (shown_entry c.args.view.now) c.args.rate _ _)
 
 pub loop-lines-init : goal.loop-lines-init
 loop-lines-init g c =
@@ -18,7 +18,7 @@ loop-lines-init g c =
 pub returns-in_err-read_line-clause-ends : goal.returns-in_err-read_line-clause-ends
 returns-in_err-read_line-clause-ends g c =
     let p = err_from_is_err_and c.from_residual-in_err-read_line.result c.from_residual-in_err-read_line.ensures.1 in
-    rw (p.1, p.2) (Ends-fault (shown_entry c.args.view.now) c.args.rate _ _ c.loop-lines.lines c.loop-lines.terminal _ _ c.loop-lines.invariant c.read_line.new.self _ _
+    rw (p.1, p.2) (CommandsEnd-fault (shown_entry c.args.view.now) c.args.rate _ _ c.loop-lines.lines c.loop-lines.terminal _ _ c.loop-lines.invariant c.read_line.new.self _ _
     c.in_err-read_line.ensures.next c.in_err-read_line.ensures.spends)
 
 pub loop-lines-preserved : goal.loop-lines-preserved
@@ -34,7 +34,7 @@ pub returns-in_err-take_line-in-Line-clause-ends : goal.returns-in_err-take_line
 returns-in_err-take_line-in-Line-clause-ends g c =
     let p = c.loop-lines.invariant in
     let e = err_from_is_err_and c.from_residual-in_err-take_line-in-Line.result c.from_residual-in_err-take_line-in-Line.ensures.1 in
-    rw (e.1, e.2) (Ends-line (shown_entry c.args.view.now) c.args.rate _ _ c.loop-lines.lines c.loop-lines.terminal _ _ p c.read_line.new.self (observation g.R.Read.remaining c.read_line.new.reader)
+    rw (e.1, e.2) (CommandsEnd-line (shown_entry c.args.view.now) c.args.rate _ _ c.loop-lines.lines c.loop-lines.terminal _ _ p c.read_line.new.self (observation g.R.Read.remaining c.read_line.new.reader)
     (rw c.in-Line.is at c.in_ok-read_line.ensures.next) c.take_line.new.self (observation g.W.Write.contents c.take_line.new.writer) _ (Took-same (shown_entry c.args.view.now) c.args.rate (after_lines (shown_entry c.args.view.now) c.args.rate p.lines) _ _ c.take_line.new.self
     (observation g.W.Write.contents c.loop-lines.writer) (observation g.W.Write.contents c.take_line.new.writer) (Err c.in_err-take_line-in-Line.field-0.0) c.line.ensures
     (c.in_err-take_line-in-Line.ensures (shown_entry c.args.view.now) c.args.rate _ p.holds)))
@@ -43,7 +43,7 @@ pub returns-in_err-take_line-in-LastLine-clause-ends : goal.returns-in_err-take_
 returns-in_err-take_line-in-LastLine-clause-ends g c =
     let p = c.loop-lines.invariant in
     let e = err_from_is_err_and c.from_residual-in_err-take_line-in-LastLine.result c.from_residual-in_err-take_line-in-LastLine.ensures.1 in
-    rw (e.1, e.2) (Ends-last_cut (shown_entry c.args.view.now) c.args.rate _ _ c.loop-lines.lines c.loop-lines.terminal _ _ p c.read_line.new.self (observation g.R.Read.remaining c.read_line.new.reader)
+    rw (e.1, e.2) (CommandsEnd-last_cut (shown_entry c.args.view.now) c.args.rate _ _ c.loop-lines.lines c.loop-lines.terminal _ _ p c.read_line.new.self (observation g.R.Read.remaining c.read_line.new.reader)
     (rw c.in-LastLine.is at c.in_ok-read_line.ensures.next) c.take_line-in-LastLine.new.self (observation g.W.Write.contents c.take_line-in-LastLine.new.writer) _ (Took-same (shown_entry c.args.view.now) c.args.rate (after_lines (shown_entry c.args.view.now) c.args.rate p.lines) _ _ c.take_line-in-LastLine.new.self
     (observation g.W.Write.contents c.loop-lines.writer) (observation g.W.Write.contents c.take_line-in-LastLine.new.writer) (Err c.in_err-take_line-in-LastLine.field-0.0) c.line-in-LastLine.ensures
     (c.in_err-take_line-in-LastLine.ensures (shown_entry c.args.view.now) c.args.rate _ p.holds)))
@@ -51,7 +51,7 @@ returns-in_err-take_line-in-LastLine-clause-ends g c =
 pub returns-in-LastLine-clause-ends : goal.returns-in-LastLine-clause-ends
 returns-in-LastLine-clause-ends g c =
     let p = c.loop-lines.invariant in
-    Ends-last (shown_entry c.args.view.now) c.args.rate _ _ c.loop-lines.lines c.loop-lines.terminal _ _ p c.read_line.new.self (observation g.R.Read.remaining c.read_line.new.reader)
+    CommandsEnd-last (shown_entry c.args.view.now) c.args.rate _ _ c.loop-lines.lines c.loop-lines.terminal _ _ p c.read_line.new.self (observation g.R.Read.remaining c.read_line.new.reader)
     (rw c.in-LastLine.is at c.in_ok-read_line.ensures.next) c.take_line-in-LastLine.new.self (observation g.W.Write.contents c.take_line-in-LastLine.new.writer)
     _ (Took-same (shown_entry c.args.view.now) c.args.rate (after_lines (shown_entry c.args.view.now) c.args.rate p.lines) _ _ c.take_line-in-LastLine.new.self
     (observation g.W.Write.contents c.loop-lines.writer) (observation g.W.Write.contents c.take_line-in-LastLine.new.writer) (Ok tt) c.line-in-LastLine.ensures
@@ -59,5 +59,5 @@ returns-in-LastLine-clause-ends g c =
 
 pub returns-in-End-clause-ends : goal.returns-in-End-clause-ends
 returns-in-End-clause-ends g c =
-    Ends-end (shown_entry c.args.view.now) c.args.rate _ _ c.loop-lines.lines c.loop-lines.terminal _ _ c.loop-lines.invariant c.read_line.new.self (observation g.R.Read.remaining c.read_line.new.reader)
+    CommandsEnd-end (shown_entry c.args.view.now) c.args.rate _ _ c.loop-lines.lines c.loop-lines.terminal _ _ c.loop-lines.invariant c.read_line.new.self (observation g.R.Read.remaining c.read_line.new.reader)
     (rw c.in-End.is at c.in_ok-read_line.ensures.next) _ (c.status-in-End.ensures (shown_entry c.args.view.now) c.args.rate)

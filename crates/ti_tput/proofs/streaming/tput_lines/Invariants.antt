@@ -1,6 +1,6 @@
 use Rattle.ti_devices.specs.Counted.{observation}
 use Rattle.ti_devices.specs.LineReader.{bytes_left}
-use Rattle.ti_tput.specs.Entries.{shown_entry}
+use Rattle.ti_layout.specs.View.{shown_entry}
 use Rattle.ti_tput.proofs.Ending.{Progress}
 use Rattle.ti_tput.proofs.streaming.tput_lines.Given as goal
 

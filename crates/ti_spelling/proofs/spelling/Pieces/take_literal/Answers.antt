@@ -1,5 +1,5 @@
 use Rattle.std.proofs.Common.{◌<◌, ◌≤◌, length, arith}
-use Rattle.ti_spelling.specs.inside.Pieces.{left_of}
+use Rattle.ti_spelling.specs.inside.Spelling.{left_of}
 use Rattle.ti_spelling.proofs.PieceLemmas.{takes_literals, with_no_front}
 use Rattle.ti_spelling.proofs.spelling.Pieces.take_literal.Goals as goal
 

@@ -1,12 +1,9 @@
--- What clap reads of a tool that stands in a table: its name and its arguments in turn (own).
+-- What clap reads of an argument that stands in a table (own).
 use Rattle.std.specs.Prelude.{◌≡◌, ⊤}
-use Rattle.std.specs.List.{fold}
-use Rattle.clap.specs.Simple.{App, new_app, with_rule, with_subcommand}
 use Rattle.clap.specs.Walk.{Rule, Text}
 use Rattle.clap.specs.declared.builder.texts.Texts.{Texts}
 use Rattle.clap.specs.declared.builder.texts.Texts.TheVariants.{One}
 use Rattle.ti_commands.specs.Rules.{flag_rule, long_option_rule, number_rule, operand_rule, operands_rule, option_rule}
-use Rattle.ti_commands.specs.declared.commands.Tool.{Tool}
 use Rattle.ti_commands.specs.declared.rules.Argument.{Argument}
 use Rattle.ti_commands.specs.declared.rules.Form.{Form}
 use Rattle.ti_commands.specs.declared.rules.Form.TheVariants.{Flag, LongValue, Number, Operand, Operands, Value}
@@ -32,15 +29,3 @@ ShowsValue (LongValue value) names = names ≡ One value
 ShowsValue (Operand value) names = names ≡ One value
 ShowsValue (Operands value) names = names ≡ One value
 ShowsValue _ names = ⊤
-
--- one more argument
-abbrev pub with_argument : App → Argument → App
-with_argument app argument = with_rule app (rule_for argument)
-
--- the command line of a tool alone
-abbrev pub app_for : Tool → App
-app_for tool = fold with_argument (new_app tool.name.now) tool.arguments.now
-
--- one more tool of the program
-abbrev pub with_tool : App → Tool → App
-with_tool app tool = with_subcommand app (app_for tool).top

@@ -7,24 +7,15 @@ use Rattle.std.specs.Str.{bytes_eq}
 use Rattle.ti_text.specs.Ascii as ascii
 use Rattle.ti_source.specs.Reading.{said_import}
 use Rattle.ti_layout.specs.declared.view.View.{View}
-use Rattle.ti_layout.specs.View.{names_of, view_contents}
+use Rattle.ti_layout.specs.View.{Entry, shown_entry}
 use Rattle.ti_layout.specs.Values.{Content, content_true, content_number, content_text, content_cancelled, Contents}
 use Rattle.ti_list.specs.declared.layout.Layout.{Layout}
 use Rattle.ti_list.specs.Items.{item_text}
 use Rattle.ti_list.specs.Listing.{source_lines, listing}
 
--- an entry as it is shown: its names field, and what it has of each capability
-pub record Shown : Type 0 where
-  pub field : List ℕ
-  pub table : Contents
-
--- an entry in memory, as it is shown
-abbrev pub entry_shown : View → Shown
-entry_shown view = record { field = names_of view; table = view_contents view }
-
 -- entries in memory, as they are shown
-abbrev pub entries_shown : List View → List Shown
-entries_shown views = map (λ view. entry_shown view) views
+abbrev pub entries_shown : List View → List Entry
+entries_shown views = map (λ view. shown_entry view) views
 
 -- the first name of a names field: all before the first `|`
 abbrev pub first_name : List ℕ → List ℕ
@@ -39,9 +30,9 @@ same_content content_cancelled content_cancelled = true
 same_content _ _ = false
 
 -- what the first of the entries that has the capability has of it
-abbrev pub first_of : List Shown → Contents
+abbrev pub first_of : List Entry → Contents
 first_of [] c = None
-first_of (other ∷ others) c = option_or (other.table c) (first_of others c)
+first_of (other ∷ others) c = option_or (other.contents c) (first_of others c)
 
 -- what a relative source says of a capability, given what the entry has and what the others give it: nothing where these are one, what the entry has
 -- where they are not, and a cancel where only the others have it
@@ -52,18 +43,18 @@ difference (Some own) None = Some own
 difference (Some own) (Some theirs) = if same_content own theirs then None else Some own
 
 -- the same of each capability
-abbrev pub differing_contents : Contents → List Shown → Contents
+abbrev pub differing_contents : Contents → List Entry → Contents
 differing_contents table others c = difference (table c) (first_of others c)
 
 -- a use of each of the entries, by its first name, on a line of its own, and then the rest
-abbrev pub use_lines : List Shown → List ℕ → List ℕ
+abbrev pub use_lines : List Entry → List ℕ → List ℕ
 use_lines [] rest = rest
-use_lines (other ∷ others) rest = ascii.newline ∷ ascii.tab ∷ item_text (said_import (first_name other.field)) ++ ascii.comma ∷ use_lines others rest
+use_lines (other ∷ others) rest = ascii.newline ∷ ascii.tab ∷ item_text (said_import (first_name other.names)) ++ ascii.comma ∷ use_lines others rest
 
 -- the relative source of an entry: the items that differ, as in a listing, and then the uses
-abbrev pub relative : Shown → List Shown → Layout → List ℕ
-relative entry others layout = source_lines entry.field (differing_contents entry.table others) layout (use_lines others (ascii.newline ∷ []))
+abbrev pub relative : Entry → List Entry → Layout → List ℕ
+relative entry others layout = source_lines entry.names (differing_contents entry.contents others) layout (use_lines others (ascii.newline ∷ []))
 
 -- the relative source of an entry and the listings of the others, each the text of a block
-abbrev pub with_others : Shown → List Shown → Layout → List (List ℕ)
-with_others entry others layout = relative entry others layout ∷ map (λ (other : Shown). listing other.field other.table layout) others
+abbrev pub with_others : Entry → List Entry → Layout → List (List ℕ)
+with_others entry others layout = relative entry others layout ∷ map (λ (other : Entry). listing other.names other.contents layout) others

@@ -1,0 +1,60 @@
+-- What can be listed so that it compiles to itself, and that it does (own).
+use Rattle.ti_text.specs.Ascii as ascii
+use Rattle.std.specs.Prelude.{◌≢◌, ℕ, List, All, Option, Some, None, ◌≡◌, suc, slice_get}
+use Rattle.ti_caps.specs.Tables.{Capability, IsCapability}
+use Rattle.ti_spelling.specs.Spelling.{AreBytes}
+use Rattle.ti_source.specs.Header.{IsLookupName}
+use Rattle.ti_layout.specs.Values.{Content, content_true, content_number, content_text, content_cancelled, Contents, Agrees}
+use Rattle.ti_list.specs.Items.{IsListable}
+use Rattle.ti_layout.specs.View.{Entry}
+use Rattle.ti_list.specs.RelativeSource.{first_name, with_others}
+use Rattle.ti_layout.specs.Image.{image, ImageFits}
+use Rattle.ti_meaning.specs.Owner.{readings, owner}
+use Rattle.ti_meaning.specs.Compiled.{compiled}
+use Rattle.ti_list.specs.declared.layout.Layout.{Layout}
+use Rattle.ti_list.specs.Listing.{listing}
+
+-- a source can give the capability this, if it is something: a value that fits it, a text of bytes, or a cancel
+abbrev pub CanHave : Capability → Option Content → Type 0
+CanHave c None = Unit {0}
+CanHave c (Some content_true) = Agrees c content_true
+CanHave c (Some (content_number n)) = Agrees c (content_number n)
+CanHave c (Some (content_text t)) = Agrees c (content_text t) × AreBytes t
+CanHave c (Some content_cancelled) = Unit {0}
+
+-- each capability can have what it has there
+abbrev pub CanHaveAll : Contents → Type 0
+CanHaveAll table = (c : Capability) → IsCapability c → CanHave c (table c)
+
+-- an entry whose names field and contents can be listed
+pub record CanBeShown (entry : Entry) : Type 0 where
+  pub names : List (List ℕ)
+  pub listable : IsListable entry.names names
+  pub holds : CanHaveAll entry.contents
+
+-- a name that `use=` can give: a lookup name with no backslash
+pub record IsUsableName (name : List ℕ) : Type 0 where
+  pub lookup : IsLookupName name
+  pub bare : All (λ byte. byte ≢ ascii.backslash) name
+
+-- one that another entry can use by its first name
+pub record CanBeUsed (entry : Entry) : Type 0 where
+  pub shown : CanBeShown entry
+  pub first : IsUsableName (first_name entry.names)
+
+-- The listing of what can be listed compiles to its image, in whatever source it stands.
+abbrev pub ListingsCompile : Type 0
+ListingsCompile =
+    (field : List ℕ) (names : List (List ℕ)) (table : Contents) (layout : Layout) → IsListable field names → CanHaveAll table → ImageFits field table
+    → (texts : List (List ℕ)) (at : ℕ) → slice_get texts at ≡ Some (listing field table layout) → compiled texts at ≡ Some (image field table)
+
+-- the first name of each of the others belongs to its listing, which stands behind the relative source of the entry
+abbrev pub OwnTheirNames : Entry → List Entry → Layout → Type 0
+OwnTheirNames entry others layout =
+    (i : ℕ) (other : Entry) → slice_get others i ≡ Some other → owner (readings (with_others entry others layout)) (first_name other.names) ≡ Some (suc i)
+
+-- The relative source of an entry compiles to the image of the entry, with the listings of the others behind it.
+abbrev pub RelativesCompile : Type 0
+RelativesCompile =
+    (entry : Entry) (others : List Entry) (layout : Layout) → CanBeShown entry → All CanBeUsed others → OwnTheirNames entry others layout → ImageFits entry.names entry.contents
+    → compiled (with_others entry others layout) 0 ≡ Some (image entry.names entry.contents)
