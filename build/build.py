@@ -7,10 +7,9 @@ standard error which crate of how many is proved.
 JOBS processors are used; what `rt` says is added to the file LOG. The status is 1 where a crate is not proved.
 
 Only one `rt` works in a crate and in those below it at a time. So libraries are proved side by side in copies of their
-sources, one for each processor, in the folder COPIES. A library is begun once those that it stands on are proved. The one
-with the most code behind it is proved on all processors, the others on what it leaves: with fewer jobs, and at a higher
-nice value. What earlier runs kept of a library is copied there and what is made is moved back; the libraries below it are
-linked there, and `rt` knows them by the sums of their texts.
+sources, one for each processor, in the folder COPIES. A library is begun once those that it stands on are proved, first the
+one with the most code behind it, on the processors that no other one waits for. What earlier runs kept of it is copied there
+and what is made is moved back; the libraries below it are linked there, and `rt` knows them by the sums of their texts.
 """
 import fcntl
 import os
@@ -26,8 +25,6 @@ PARTS = ("src", "specs", "proofs")
 PROGRAM = "ti"
 # More do not shorten the proof of one crate.
 JOBS_OF_ONE = 4
-# A library that others wait for longer than for any other leaves those at this value a tenth of a processor.
-NICE = 10
 
 
 def read_needs():
@@ -90,14 +87,14 @@ def link(one, other):
         shutil.copyfile(one, other)
 
 
-def run_rt(folder, *words, nice=0):
+def run_rt(folder, *words):
     """Runs rt in a folder. Gives whether it ended well, and what it said."""
     how = {"stdin": subprocess.DEVNULL, "stdout": subprocess.PIPE, "stderr": subprocess.STDOUT}
-    ran = subprocess.run(["nice", "-n", str(nice), "rt", *words], cwd=folder, errors="replace", **how)
+    ran = subprocess.run(["rt", *words], cwd=folder, errors="replace", **how)
     return ran.returncode == 0, ran.stdout
 
 
-def prove(name, below, copy, jobs, nice):
+def prove(name, below, copy, jobs):
     """Proves a library in a copy. Gives whether it is proved, and what rt said."""
     for it in below:
         if not os.path.isdir(f"{copy}/crates/{it}/out/rlib"):
@@ -105,7 +102,7 @@ def prove(name, below, copy, jobs, nice):
     here, there = f"{TOP}/crates/{name}", f"{copy}/crates/{name}"
     if os.path.isdir(f"{here}/out"):
         shutil.copytree(f"{here}/out", f"{there}/out")
-    ended = run_rt(there, "lib", "--jobs", str(jobs), nice=nice)
+    ended = run_rt(there, "lib", "--jobs", str(jobs))
     if os.path.isdir(f"{there}/out"):
         held = os.open(here, os.O_RDONLY)
         try:
@@ -121,19 +118,17 @@ def prove(name, below, copy, jobs, nice):
 def prove_all(needs, libraries, jobs, log):
     """Proves the libraries, and gives whether all are proved."""
     behind = lines_behind(needs, libraries)
-    copies = [make_copy(number, needs, libraries) for number in range(jobs)]
-    left, proved, running, idle = sorted(libraries, key=lambda it: -behind[it]), [], {}, 2 * jobs
-    with ThreadPoolExecutor(jobs) as pool:
+    copies = [make_copy(number, needs, libraries) for number in range(min(jobs, len(libraries)))]
+    left, proved, running, idle = sorted(libraries, key=lambda it: -behind[it]), [], {}, jobs
+    with ThreadPoolExecutor(len(copies)) as pool:
         while left or running:
             ready = [it for it in left if all(below in proved for below in all_below(needs, it))]
             while ready and idle and copies:
-                name = ready[0]
-                is_first = all(behind[name] >= behind[it] for it, _, _ in running.values())
-                share = min(jobs if is_first else max(idle // len(ready) // 2, 1), JOBS_OF_ONE, idle)
+                name, share = ready[0], min(max(idle // len(ready), 1), JOBS_OF_ONE)
                 left.remove(name)
                 ready.remove(name)
                 copy, idle = copies.pop(), idle - share
-                run = pool.submit(prove, name, all_below(needs, name), copy, share, 0 if is_first else NICE)
+                run = pool.submit(prove, name, all_below(needs, name), copy, share)
                 running[run] = name, copy, share
             for run in wait(running, return_when=FIRST_COMPLETED).done:
                 name, copy, share = running.pop(run)

@@ -12,6 +12,8 @@ install      what `make install` puts into a folder runs from there, and `make u
              takes all of it away
 copies       what cases of tests/cli hold of the repository's own files is still the same; with
              the word `renew` behind it, it is made so
+build        ./ti builds each crate behind those that it stands on, and ends where one is refused
+             (tried with a stand-in for rt)
 tarball      `make dist` makes a tarball of every file of the commit
 tarball-builds
              the program is built from that tarball, every proof anew: half an hour
@@ -433,6 +435,11 @@ def check_build():
         for jobs in ("0", "x", "-1"):
             if build(TI_JOBS=jobs, REFUSED="")[0] != 1:
                 yield f"TI_JOBS={jobs} is taken"
+        for jobs in ("1", "1000"):
+            os.utime(os.path.join(made, "crates", "ti_text", "src", "lib.rt"))
+            status, printed, said = build(TI_JOBS=jobs, REFUSED="")
+            if status or printed != "built\n":
+                yield f"TI_JOBS={jobs}: status {status}, printed {printed!r}, said {said!r}"
 
 
 CHECKS = {

@@ -26,7 +26,7 @@ fn owns(database: &Database, name: &[u8], at: usize) -> bool
     }
 }
 
-// Puts a name among those seen, and tells whether it is new there.
+// Puts a name among those seen, and answers whether it is new there.
 fn see<'a>(seen: &mut BTreeSet<&'a [u8]>, name: &'a [u8]) -> Result<bool, AllocError>
     ensures new { IfOk result (λ is_new. is_new ≡ not (is_seen seen.old name.now)) }
     ensures seen { OnOk result ((other : List ℕ) → is_seen seen.new other ≡ (bytes_eq other name.now || is_seen seen.old other)) }
