@@ -136,7 +136,7 @@ def prove_all(needs, libraries, jobs, log):
                 idle += share
                 try:
                     is_proved, said = run.result()
-                except (OSError, shutil.Error) as error:
+                except Exception as error:  # a full disk, or whatever else: the others still end, and the log has it
                     is_proved, said = False, f"{error}\n"
                 log.write(f"== {name}\n{said}")
                 if is_proved:
