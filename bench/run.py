@@ -166,7 +166,7 @@ def entries(path):
         "1,800 entries of 1.1 KB, no text twice": differing_entries(1800),
         "1,800 entries, 1,500 with a use": entries_with_uses(300, 1500),
         "2,000 small entries": small_entries(2000),
-        "1,000 entries in a chain of uses": chained_entries(1000),
+        "1,000 entries, all but the first with a use": chained_entries(1000),
     }
     for what, text in works.items():
         name, out = path("many.ti"), path("out")

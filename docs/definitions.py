@@ -3,8 +3,8 @@
 
 Each crate's specs/ has one file a subject. The comment at its head says what it is
 about and where it comes from; the comment above a definition says what it is. This
-lists those that public contracts cite, and those that these name, by the section of
-the manual that they come from, each with its file and with the calls that cite it.
+lists those that public contracts cite, those that these name, and those that the latter name where the cited one is
+a record of them, by the section of the manual that they come from, each with its file and with the calls that cite it.
 With --check nothing is written, and the status is 1 where the page is out of date.
 """
 
@@ -194,7 +194,8 @@ def page():
         for call, cited in contracts(crate):
             for it in cited:
                 users.setdefault(home_of(it, given), []).append(f"`{call}`")
-    files, named = {}, set()
+    files, named, below = {}, set(), {}
+    in_records = set()
     for crate in sorted(order):
         for name, path in files_of(crate):
             head, found = definitions(path)
@@ -203,8 +204,12 @@ def page():
             reach = names_in_reach(path, crate, name)
             reach.update({word: (at, word) for word, _, _ in found})
             for word, _, lines in found:
+                below[at, word] = {home_of(reach[it], given) for it in words_of(lines) if it in reach}
                 if (at, word) in users:
-                    named |= {home_of(reach[it], given) for it in words_of(lines) if it in reach}
+                    named |= below[at, word]
+                    if lines[0].lstrip().startswith("pub record"):
+                        in_records |= below[at, word]
+    named |= {it for of in in_records for it in below.get(of, ())}
     out, sections, rules = [HEAD], {}, []
     for at, (crate, name, head, found) in files.items():
         rows = [(word, says) for word, says, _ in found if (at, word) in users or (at, word) in named]

@@ -14,6 +14,7 @@ copies       what cases of tests/cli hold of the repository's own files is still
              the word `renew` behind it, it is made so
 build        ./ti builds each crate behind those that it stands on, and ends where one is refused
              (tried with a stand-in for rt)
+readme       the first command of README, as it stands there, writes what is said behind it, and the second is what CI runs
 tarball      `make dist` makes a tarball of every file of the commit
 tarball-builds
              the program is built from that tarball, every proof anew: half an hour
@@ -442,9 +443,29 @@ def check_build():
                 yield f"TI_JOBS={jobs}: status {status}, printed {printed!r}, said {said!r}"
 
 
+def check_readme():
+    """Whether README's first command, on the built program, writes what is said behind it; the second is what CI runs."""
+    block = text_of("README.md").split("```sh\n")[1].split("```")[0]
+    first, second = (line.split(" # ")[0].strip() for line in block.strip().split("\n"))
+    name, size = re.search(r"writes (\S+), (\d+) bytes", block).groups()
+    with tempfile.TemporaryDirectory(prefix="ti-package-") as folder:
+        for it in ("ti", "examples"):
+            os.symlink(os.path.join(TOP, it), os.path.join(folder, it))
+        printed = output(["sh", "-c", first], cwd=folder)
+        if printed:
+            yield f"{first}: printed {printed!r}"
+        made = files_below(os.path.join(folder, "out"))
+        if made != [os.path.relpath(name, "out")]:
+            yield f"{first}: made {made}"
+        elif os.path.getsize(os.path.join(folder, name)) != int(size):
+            yield f"{first}: {name} has {os.path.getsize(os.path.join(folder, name))} bytes"
+    if second != "make test" or "exec make -s test" not in text_of(".ci", "run").split("\n"):
+        yield f"{second} is not what .ci/run runs"
+
+
 CHECKS = {
     "build": check_build, "options": check_options, "pages": check_pages, "bash": check_bash, "fish": check_fish, "zsh": check_zsh,
-    "install": check_install, "copies": check_copies, "tarball": check_tarball, "tarball-builds": check_tarball_builds,
+    "install": check_install, "copies": check_copies, "readme": check_readme, "tarball": check_tarball, "tarball-builds": check_tarball_builds,
 }
 
 

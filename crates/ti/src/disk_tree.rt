@@ -1,6 +1,6 @@
 //! The files of the system, as a tree.
-ghost use Rattle.std.specs.Prelude.{◌≡◌, ◌<◌, ◌≤◌};
-ghost use Rattle.ti_devices.specs.declared.tree.TreeFault.TheVariants.{Failed};
+ghost use Rattle.std.specs.Prelude.{◌≡◌, ◌+◌};
+ghost use Rattle.ti_devices.specs.Tree.{failures_by};
 
 use crate::whole::read_whole;
 use std::alloc::Global;
@@ -33,19 +33,18 @@ impl<'a, R: Files + AllocGlobal> DiskTree<'a, R> {
     pub fn new(rt: &'a R) -> DiskTree<'a, R> {
         DiskTree {
             rt,
-            failures: Tally::none(),
+            failures: Tally::zero(),
         }
     }
 
     // What a failure of the system is to the tools.
     fn fault(&mut self, error: io::Error) -> TreeFault
-        ensures later { self.old.failures.count ≤ self.new.failures.count }
-        ensures failed { result ≡ Failed → self.old.failures.count < self.new.failures.count }
+        ensures { self.new.failures.count ≡ self.old.failures.count + failures_by result }
     {
         if error.kind() == ErrorKind::OutOfMemory {
             return TreeFault::Memory;
         }
-        self.failures = self.failures.and_one();
+        self.failures = self.failures.plus_one();
         TreeFault::Failed
     }
 }

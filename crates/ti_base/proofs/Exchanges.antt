@@ -14,7 +14,7 @@ use Rattle.ti_meaning.proofs.EditedLists.{map-insert, map-remove, insert-remove,
 use Rattle.ti_meaning.proofs.Exchanging.{list_any-append}
 use Rattle.ti_meaning.proofs.ExchangeLaws.{exchanged}
 use Rattle.ti_meaning.proofs.Placing.{get-insert, get-insert_at, split-insert}
-use Rattle.ti_index.specs.Labels.{IsDistinct}
+use Rattle.ti_index.specs.Labels.{AreDistinct}
 use Rattle.ti_slots.specs.declared.slots.Settled.{Settled}
 use Rattle.ti_slots.specs.declared.slots.Slot.{Slot}
 use Rattle.ti_slots.specs.declared.slots.Slots.{Slots}
@@ -23,7 +23,7 @@ use Rattle.ti_slots.specs.Changes.{HasRoomFor, PutsIn, TakesOut, ShowsSame, Chan
 use Rattle.ti_slots.specs.Settled.{IsSettled}
 use Rattle.ti_dependents.specs.Dependents.{IsExchangeOf}
 use Rattle.ti_plan.specs.Plans.{OthersAreSettled, IsReady}
-use Rattle.ti_base.specs.inside.KeptSlots.{AreKept, SlotsAreSettled, SlotsAreSound, IsSoundSlot, PlacedSlot, slots_of, reading_seen, text_seen, with_slot, block_seen, exchange_with, HasId, with_settled}
+use Rattle.ti_base.specs.inside.Database.{AreKept, SlotsAreSettled, SlotsAreSound, IsSoundSlot, PlacedSlot, slots_of, reading_seen, text_seen, with_slot, block_seen, exchange_with, HasId, with_settled}
 use Rattle.ti_base.proofs.SlotLists.{blocks_seen, texts_seen, length_slots, length_texts, slot_there, blocks_read, readings_with}
 use Rattle.ti_base.proofs.Untouched.{others_settled, settled_in}
 
@@ -127,7 +127,7 @@ gone (y ∷ ys) zero k x e = (suc k, (λ z. omega arith), e)
 gone (y ∷ ys) (suc at) zero x e = (0, (λ z. omega arith), e)
 gone (y ∷ ys) (suc at) (suc k) x e = let r = gone ys at k x e in (suc r.0, (λ z. r.1 (omega arith)), r.2)
 
-pub slots_taken : (old new : Slots) (at : ℕ) (slot : Slot) → IsDistinct old.order.listed → TakesOut old new at slot → slots_of new ≡ remove (slots_of old) at
+pub slots_taken : (old new : Slots) (at : ℕ) (slot : Slot) → AreDistinct old.order.listed → TakesOut old new at slot → slots_of new ≡ remove (slots_of old) at
 slots_taken old new at slot once h =
     let f = slot_at new.slots.items in
     let g = slot_at old.slots.items in

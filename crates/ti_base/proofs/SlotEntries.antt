@@ -1,18 +1,18 @@
--- What the slot of a block tells of its text and its entry.
+-- What the slot of a block says of its text and its entry.
 use Rattle.std.proofs.Common.{◌≡◌, ℕ, Bool, true, false, cond, List, Option, Some, None, option_and_then, slice_get, refl, sym, ◌∙◌, ap}
 use Rattle.std.proofs.lemmas.Option.{slice_get-map}
 use Rattle.ti_source.specs.Reading.{Reading, reading_of}
 use Rattle.ti_meaning.specs.Owner.{readings}
 use Rattle.ti_meaning.specs.Expansion.{Mention, expansion}
 use Rattle.ti_meaning.specs.Compiled.{EntryState, unresolved, oversized, written, image_of, is_too_large, entry, entry_of, state_with, state_of, compiled}
-use Rattle.ti_slots.specs.declared.entries.Entry.{Entry}
+use Rattle.ti_slots.specs.declared.entries.BlockEntry.{BlockEntry}
 use Rattle.ti_slots.specs.declared.slots.Slot.{Slot}
 use Rattle.ti_slots.specs.declared.slots.Slots.{Slots}
 use Rattle.ti_slots.specs.declared.slots.State.{State}
 use Rattle.ti_slots.specs.declared.slots.State.TheVariants as s
 use Rattle.ti_slots.specs.Slots.{slot_texts}
 use Rattle.ti_slots.specs.Settled.{state_seen}
-use Rattle.ti_base.specs.inside.KeptSlots.{AreKept, slots_of, text_seen}
+use Rattle.ti_base.specs.inside.Database.{AreKept, slots_of, text_seen}
 use Rattle.ti_base.proofs.SlotLists.{blocks_seen, texts_seen, blocks_read}
 use Rattle.ti_base.proofs.SlotFaults.{block_of_slot}
 
@@ -43,7 +43,7 @@ entry_of_slot slots at slot h e =
     ap shown_entry state ∙ (shown_with block (expansion (readings (slot_texts slots)) block) ∙ sym there)
 
 -- what is no entry shows none
-pub shown_other : (e : State) → ((entry : Entry) → e ≡ s.Compiled entry → ⊥) → None ≡ shown_entry (state_seen e)
+pub shown_other : (e : State) → ((entry : BlockEntry) → e ≡ s.Compiled entry → ⊥) → None ≡ shown_entry (state_seen e)
 shown_other s.Unresolved h = refl
 shown_other (s.TooLarge table) h = refl
 shown_other (s.Compiled entry) h = absurd (h entry refl)

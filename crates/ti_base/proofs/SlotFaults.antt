@@ -1,4 +1,4 @@
--- What the slot of a block tells of its faults.
+-- What the slot of a block says of its faults.
 use Rattle.std.proofs.Common.{◌≡◌, ℕ, map, Some, slice_get, refl, sym, ◌∙◌, ap, subst}
 use Rattle.std.proofs.lemmas.Option.{slice_get-map}
 use Rattle.ti_source.specs.Reading.{reading_of}
@@ -7,7 +7,7 @@ use Rattle.ti_slots.specs.declared.slots.Slot.{Slot}
 use Rattle.ti_slots.specs.declared.slots.Slots.{Slots}
 use Rattle.ti_slots.specs.Slots.{blocks_of}
 use Rattle.ti_slots.specs.Settled.{fault_at}
-use Rattle.ti_base.specs.inside.KeptSlots.{AreKept, slots_of, reading_seen}
+use Rattle.ti_base.specs.inside.Database.{AreKept, slots_of, reading_seen}
 use Rattle.ti_base.proofs.SlotLists.{blocks_seen}
 use Rattle.ti_meaning.proofs.NoDuplicates.{AreOthers, read_others}
 

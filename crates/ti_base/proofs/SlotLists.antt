@@ -12,7 +12,7 @@ use Rattle.ti_index.proofs.Lists.{item_at}
 use Rattle.ti_slots.specs.declared.slots.Slot.{Slot}
 use Rattle.ti_slots.specs.declared.slots.Slots.{Slots}
 use Rattle.ti_slots.specs.Slots.{IsIndexed, StandsAt, slot_at, reading_at, text_at, blocks_of, slot_texts}
-use Rattle.ti_base.specs.inside.KeptSlots.{slots_of, reading_seen, text_seen, SlotsAreSound, PlacedSlot, with_slot, block_seen}
+use Rattle.ti_base.specs.inside.Database.{slots_of, reading_seen, text_seen, SlotsAreSound, PlacedSlot, with_slot, block_seen}
 
 map-map : {X Y Z : Type 0} (f : Y → Z) (g : X → Y) (xs : List X) → map (λ x. f (g x)) xs ≡ map f (map g xs)
 map-map f g [] = refl

@@ -13,7 +13,7 @@ use Rattle.ti_slots.specs.declared.slots.Slots.{Slots}
 use Rattle.ti_slots.specs.Slots.{IsIndexed, slot_texts}
 use Rattle.ti_slots.specs.Changes.{ShowsSame}
 use Rattle.ti_base.specs.inside.Texts.{IsBlockText, IsTextRefusal}
-use Rattle.ti_base.specs.inside.KeptSlots.{AreRead, SlotsAreSound, IsSoundSlot, slots_of}
+use Rattle.ti_base.specs.inside.Database.{AreRead, SlotsAreSound, IsSoundSlot, slots_of}
 use Rattle.ti_base.specs.Loading.{AreTaken, IsLoadRefusal}
 use Rattle.ti_index.proofs.Lists.{get-take, take_get}
 use Rattle.ti_base.proofs.Exchanges.{slots_same, sound_put}

@@ -16,7 +16,7 @@ use Rattle.ti_slots.specs.declared.slots.KeptFault.{KeptFault}
 use Rattle.ti_slots.specs.declared.slots.Settled.{Settled}
 use Rattle.ti_slots.specs.declared.slots.Slot.{Slot}
 use Rattle.ti_slots.specs.Settled.{IsSettled, fault_at, table_of}
-use Rattle.ti_base.specs.inside.KeptSlots.{reading_seen, SlotsAreSettled, PlacedSlot, with_slot, exchange_with}
+use Rattle.ti_base.specs.inside.Database.{reading_seen, SlotsAreSettled, PlacedSlot, with_slot, exchange_with}
 use Rattle.ti_base.proofs.SlotLists.{readings_with, get-with_slot}
 
 table_stays : (bs cs : List Reading) (b : Reading) (o : Option Table) → expansion cs b ≡ expansion bs b → HasTable contents bs b o → HasTable contents cs b o

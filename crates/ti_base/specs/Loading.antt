@@ -1,5 +1,5 @@
 -- Which lists of texts a source is made of in one go, and why another is refused (own).
-use Rattle.std.specs.Prelude.{ℕ, ◌≡◌, ◌≢◌, List, take, Some, slice_get}
+use Rattle.std.specs.Prelude.{ℕ, ◌≡◌, ◌≢◌, ◌⊎◌, List, take, Some, slice_get}
 use Rattle.ti_meaning.specs.declared.edits.EditError.{EditError}
 use Rattle.ti_meaning.specs.declared.edits.EditError.TheVariants.{Memory}
 use Rattle.ti_meaning.specs.Edits.{insertion, IsRefusal, IsSoundEdit}
@@ -15,6 +15,10 @@ pub record IsLoadRefusal (texts : List (List ℕ)) (error : EditError) : Type 0 
   pub stands : slice_get texts at ≡ Some text
   pub before : AreTaken (take at texts)
   pub refused : IsRefusal (take at texts) (insertion at text) error
+
+-- why these blocks are no source: a text of them is refused, or memory
+abbrev pub IsLoadError : List (List ℕ) → EditError → Type 0
+IsLoadError texts error = (error ≡ Memory) ⊎ IsLoadRefusal texts error
 
 -- ---- the refusal is determined
 

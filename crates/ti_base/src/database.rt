@@ -1,9 +1,8 @@
 // The edited source: its blocks under stable ids, with what was found out about each.
-ghost use Rattle.std.specs.Prelude.{◌≡◌, ◌<◌, ◌≤◌, ◌⊎◌, [], length, map, slice_get, Some, option_map, IfOk, IfErr, OnOk};
+ghost use Rattle.std.specs.Prelude.{◌≡◌, ◌<◌, ◌≤◌, [], length, map, slice_get, Some, option_map, IfOk, IfErr, OnOk};
 ghost use Rattle.std.specs.Rc.{rc_slice_items};
-ghost use Rattle.ti_base.specs.Loading.{AreTaken, IsLoadRefusal};
-ghost use Rattle.ti_meaning.specs.Edits.{Run, change_of};
-ghost use Rattle.ti_meaning.specs.declared.edits.EditError.TheVariants.{Memory};
+ghost use Rattle.ti_base.specs.Loading.{AreTaken, IsLoadError};
+ghost use Rattle.ti_meaning.specs.Edits.{EditRun, change_of};
 
 use crate::faults::source_faults;
 use crate::loading::load_slots;
@@ -33,7 +32,7 @@ impl Model for Database {
     ghost Value = { List (List ℕ) };
 
     ghost use Rattle.ti_slots.specs.Slots.{slot_texts};
-    ghost use Rattle.ti_base.specs.inside.KeptSlots.{AreKept};
+    ghost use Rattle.ti_base.specs.inside.Database.{AreKept};
 
     ghost view = { λ d. slot_texts d.slots };
 
@@ -45,7 +44,7 @@ impl Database {
     ghost use Rattle.ti_meaning.specs.Compiled.{compiled};
     ghost use Rattle.ti_meaning.specs.Faults.{fault_seen, faults};
     ghost use Rattle.ti_meaning.specs.Report.{report};
-    ghost use Rattle.ti_meaning.specs.Edits.{Step, change_of, insertion, removal, relocation, replacement, outcome_of};
+    ghost use Rattle.ti_meaning.specs.Edits.{EditStep, change_of, insertion, removal, relocation, replacement, outcome_of};
     ghost use Rattle.ti_meaning.specs.Dependents.{Rebuilds};
 
     /// A source with no blocks. It takes no memory.
@@ -66,7 +65,7 @@ impl Database {
     pub fn load(alloc: Global, texts: &[&[u8]]) -> Result<Database, EditError>
         ensures loaded { IfOk result (λ d. d ≡ map (λ text. text.now) texts.now) }
         ensures taken { OnOk result (AreTaken (map (λ text. text.now) texts.now)) }
-        ensures refused { IfErr result (λ error. (error ≡ Memory) ⊎ IsLoadRefusal (map (λ text. text.now) texts.now) error) }
+        ensures refused { IfErr result (IsLoadError (map (λ text. text.now) texts.now)) }
     {
         let slots = load_slots(alloc, texts)?;
         Ok(Database { alloc, slots })
@@ -149,7 +148,7 @@ impl Database {
     /// `Position` where `at` is past the end, `TooLong`, `NotOneBlock`, `TooMany`, and `Memory`
     /// where a growth was refused. After a refusal all is as before.
     pub fn insert(&mut self, at: usize, text: &[u8]) -> Result<Edited, EditError>
-        ensures step { Step self.old (insertion at text.now) (outcome_of result) self.new }
+        ensures step { EditStep self.old (insertion at text.now) (outcome_of result) self.new }
         ensures rebuilds { IfOk result (λ edited. Rebuilds self.old (insertion at text.now) edited.rebuilt.items edited.work) }
     {
         if at > self.len() {
@@ -168,7 +167,7 @@ impl Database {
     /// no such block, `TooLong`, `NotOneBlock`, and `Memory` where a growth was refused. After a
     /// refusal all is as before.
     pub fn replace(&mut self, at: usize, text: &[u8]) -> Result<Edited, EditError>
-        ensures step { Step self.old (replacement at text.now) (outcome_of result) self.new }
+        ensures step { EditStep self.old (replacement at text.now) (outcome_of result) self.new }
         ensures rebuilds { IfOk result (λ edited. Rebuilds self.old (replacement at text.now) edited.rebuilt.items edited.work) }
     {
         if at >= self.len() {
@@ -183,7 +182,7 @@ impl Database {
     /// Takes the block at `at` out. The refusals: `Position` where there is no such block, and
     /// `Memory` where a growth was refused. After a refusal all is as before.
     pub fn remove(&mut self, at: usize) -> Result<Edited, EditError>
-        ensures step { Step self.old (removal at) (outcome_of result) self.new }
+        ensures step { EditStep self.old (removal at) (outcome_of result) self.new }
         ensures rebuilds { IfOk result (λ edited. Rebuilds self.old (removal at) edited.rebuilt.items edited.work) }
     {
         if at >= self.len() {
@@ -197,7 +196,7 @@ impl Database {
     /// block stands at `from` or none at `to`, and `Memory` where a growth was refused. After a
     /// refusal all is as before.
     pub fn relocate(&mut self, from: usize, to: usize) -> Result<Edited, EditError>
-        ensures step { Step self.old (relocation from to) (outcome_of result) self.new }
+        ensures step { EditStep self.old (relocation from to) (outcome_of result) self.new }
         ensures rebuilds { IfOk result (λ edited. Rebuilds self.old (relocation from to) edited.rebuilt.items edited.work) }
     {
         if from >= self.len() || to >= self.len() {
@@ -209,7 +208,7 @@ impl Database {
 
     /// Makes an edit: `insert`, `replace`, `remove` or `relocate`, with the refusals of that call.
     pub fn apply(&mut self, edit: &Edit<'_>) -> Result<Edited, EditError>
-        ensures step { Step self.old (change_of edit.now) (outcome_of result) self.new }
+        ensures step { EditStep self.old (change_of edit.now) (outcome_of result) self.new }
         ensures rebuilds { IfOk result (λ edited. Rebuilds self.old (change_of edit.now) edited.rebuilt.items edited.work) }
     {
         match *edit {
@@ -221,11 +220,11 @@ impl Database {
     }
 }
 
-/// Makes the edits in order, beginning with no blocks, and tells what came of each: a refused edit
+/// Makes the edits in order, beginning with no blocks, and says what came of each: a refused edit
 /// leaves the list, and the next one follows. Memory may be wanting for the outcomes, before the
 /// first edit.
 pub fn run(alloc: Global, edits: &[Edit<'_>]) -> Result<(Database, Vec<Outcome>), AllocError>
-    ensures { IfOk result (λ r. Run [] (map change_of edits.now) r.1.items r.0) }
+    ensures { IfOk result (λ r. EditRun [] (map change_of edits.now) r.1.items r.0) }
 {
     let mut outcomes = Vec::with_capacity(alloc, edits.len())?;
     let mut database = Database::new(alloc);

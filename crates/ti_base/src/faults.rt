@@ -6,7 +6,7 @@ ghost use Rattle.ti_source.specs.Reading.{Reading, fault_of};
 ghost use Rattle.ti_meaning.specs.Faults.{block_faults, fault_seen, faults, is_kept, is_owned_before, name_fault, name_faults};
 ghost use Rattle.ti_slots.specs.Slots.{IsIndexed, blocks_of};
 ghost use Rattle.ti_slots.specs.Settled.{fault_at};
-ghost use Rattle.ti_base.specs.inside.KeptSlots.{AreKept};
+ghost use Rattle.ti_base.specs.inside.Database.{AreKept};
 ghost use Rattle.ti_base.specs.inside.Faults.{is_named};
 
 use crate::owners::{is_owned_before, slot_of};

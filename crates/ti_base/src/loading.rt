@@ -1,11 +1,10 @@
 // The blocks of a source taken in one go: all are read and indexed, and then what there is to find out
 // about them is found once.
-ghost use Rattle.std.specs.Prelude.{◌≡◌, ◌<◌, ◌⊎◌, ◌++◌, ◌∷◌, [], length, map, IfErr, IfOk, OnOk};
+ghost use Rattle.std.specs.Prelude.{◌≡◌, ◌<◌, ◌++◌, ◌∷◌, [], length, map, IfErr, IfOk, OnOk};
 ghost use Rattle.ti_text.specs.Limits.{blocks_max};
-ghost use Rattle.ti_meaning.specs.declared.edits.EditError.TheVariants.{Memory};
 ghost use Rattle.ti_slots.specs.Slots.{slot_texts};
-ghost use Rattle.ti_base.specs.inside.KeptSlots.{AreKept, AreRead, IsSoundSlot};
-ghost use Rattle.ti_base.specs.Loading.{AreTaken, IsLoadRefusal};
+ghost use Rattle.ti_base.specs.inside.Database.{AreKept, AreRead, IsSoundSlot};
+ghost use Rattle.ti_base.specs.Loading.{AreTaken, IsLoadError};
 
 use crate::rebuilding::rebuild_all;
 use crate::slot_edits::put_slot;
@@ -35,7 +34,7 @@ fn read_slots(alloc: Global, texts: &[&[u8]]) -> Result<Slots, EditError>
     ensures read { IfOk result AreRead }
     ensures texts { IfOk result (λ slots. slot_texts slots ≡ map (λ text. text.now) texts.now) }
     ensures taken { OnOk result (AreTaken (map (λ text. text.now) texts.now)) }
-    ensures refused { IfErr result (λ error. (error ≡ Memory) ⊎ IsLoadRefusal (map (λ text. text.now) texts.now) error) }
+    ensures refused { IfErr result (IsLoadError (map (λ text. text.now) texts.now)) }
 {
     let mut slots = Slots::new(alloc);
     let mut shared = SharedTexts::new(alloc)?;
@@ -55,7 +54,7 @@ pub(crate) fn load_slots(alloc: Global, texts: &[&[u8]]) -> Result<Slots, EditEr
     ensures kept { IfOk result AreKept }
     ensures texts { IfOk result (λ slots. slot_texts slots ≡ map (λ text. text.now) texts.now) }
     ensures taken { OnOk result (AreTaken (map (λ text. text.now) texts.now)) }
-    ensures refused { IfErr result (λ error. (error ≡ Memory) ⊎ IsLoadRefusal (map (λ text. text.now) texts.now) error) }
+    ensures refused { IfErr result (IsLoadError (map (λ text. text.now) texts.now)) }
 {
     let mut slots = read_slots(alloc, texts)?;
     rebuild_all(alloc, &mut slots)?;

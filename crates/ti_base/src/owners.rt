@@ -3,7 +3,7 @@ ghost use Rattle.std.specs.Prelude.{◌≡◌, ◌<◌, Some, length, slice_get}
 ghost use Rattle.ti_meaning.specs.Owner.{owner};
 ghost use Rattle.ti_meaning.specs.Faults.{is_owned_before};
 ghost use Rattle.ti_slots.specs.Slots.{IsIndexed, blocks_of};
-ghost use Rattle.ti_base.specs.inside.KeptSlots.{slots_of};
+ghost use Rattle.ti_base.specs.inside.Database.{slots_of};
 
 use ti_slots::{Slot, Slots};
 

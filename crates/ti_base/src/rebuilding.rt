@@ -8,7 +8,7 @@ ghost use Rattle.ti_meaning.specs.Dependents.{AreDependents, work};
 ghost use Rattle.ti_slots.specs.Slots.{IsIndexed, StandsAt, slot_at, blocks_of, slot_texts};
 ghost use Rattle.ti_dependents.specs.Dependents.{IsExchangeOf};
 ghost use Rattle.ti_plan.specs.Plans.{IsReady};
-ghost use Rattle.ti_base.specs.inside.KeptSlots.{AreKept, AreRead, SlotsAreSound, slots_of, settled_at, settled_all};
+ghost use Rattle.ti_base.specs.inside.Database.{AreKept, AreRead, SlotsAreSound, slots_of, settled_at, settled_all};
 
 use std::alloc::{AllocError, Global};
 use std::mem;

@@ -7,7 +7,7 @@ ghost use Rattle.ti_meaning.specs.Report.{shown_byte, shown_detail, fault_line, 
 ghost use Rattle.ti_meaning.specs.Faults.{fault_seen};
 ghost use Rattle.ti_meaning.specs.inside.Bounds.{IsPlaced};
 ghost use Rattle.ti_slots.specs.Slots.{slot_texts};
-ghost use Rattle.ti_base.specs.inside.KeptSlots.{AreKept};
+ghost use Rattle.ti_base.specs.inside.Database.{AreKept};
 
 use crate::owners::slot_of;
 use std::alloc::{AllocError, Global};

@@ -7,7 +7,7 @@ ghost use Rattle.ti_meaning.specs.Edits.{insertion, removal, relocation, with_it
 ghost use Rattle.ti_meaning.specs.Dependents.{Rebuilds};
 ghost use Rattle.ti_slots.specs.Slots.{IsIndexed, StandsAt, slot_texts};
 ghost use Rattle.ti_slots.specs.Changes.{HasForgotten, HasRoomFor, PutsIn, TakesOut};
-ghost use Rattle.ti_base.specs.inside.KeptSlots.{AreKept, IsSoundSlot, HasId, slots_of, with_settled};
+ghost use Rattle.ti_base.specs.inside.Database.{AreKept, IsSoundSlot, HasId, slots_of, with_settled};
 
 use crate::rebuilding::rebuild;
 use std::alloc::{AllocError, Global};

@@ -4,7 +4,7 @@ ghost use Rattle.ti_source.specs.Reading.{reading_of};
 ghost use Rattle.ti_source.specs.Sound.{IsWellRead};
 ghost use Rattle.ti_source.specs.Parsing.{reading_of_text};
 ghost use Rattle.ti_base.specs.inside.Texts.{IsBlockText, IsTextRefusal};
-ghost use Rattle.ti_base.specs.inside.KeptSlots.{IsSoundSlot};
+ghost use Rattle.ti_base.specs.inside.Database.{IsSoundSlot};
 
 use std::alloc::{AllocError, Global};
 use ti_meaning::EditError;

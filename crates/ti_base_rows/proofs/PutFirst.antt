@@ -3,7 +3,7 @@ use Rattle.std.proofs.Common.{ℕ, ◌<◌, List, [], length, Some, None, Contai
 use Rattle.std.proofs.lemmas.Option.{same_Some, slice_get_within}
 use Rattle.ti_source.specs.Reading.{reading_of}
 use Rattle.ti_meaning.specs.Exchange.{Exchange}
-use Rattle.ti_index.specs.Labels.{IsDistinct}
+use Rattle.ti_index.specs.Labels.{AreDistinct}
 use Rattle.ti_slots.specs.declared.slots.Slot.{Slot}
 use Rattle.ti_slots.specs.declared.slots.Slots.{Slots}
 use Rattle.ti_slots.specs.Slots.{blocks_of, StandsAt}
@@ -14,7 +14,7 @@ use Rattle.ti_plan.specs.Plans.{IsReady}
 pub stands_first : (old new : Slots) (slot : Slot) (id : ℕ) → PutsIn old new 0 slot id → StandsAt new 0 id
 stands_first old new slot id h = ap (λ xs. slice_get xs 0) h.listed
 
-pub put_first : (old new : Slots) (slot : Slot) (id : ℕ) → PutsIn old new 0 slot id → IsDistinct new.order.listed → (exchange : Exchange) × IsExchangeOf new (Some id) [] exchange
+pub put_first : (old new : Slots) (slot : Slot) (id : ℕ) → PutsIn old new 0 slot id → AreDistinct new.order.listed → (exchange : Exchange) × IsExchangeOf new (Some id) [] exchange
 put_first old new slot id h distinct = (
   record { rest = blocks_of old; out = None; put = Some (record { at = 0; block = reading_of slot.block }) },
   record {

@@ -6,13 +6,13 @@ use Rattle.ti_caps.specs.declared.keys.TheConstants.{KEYS}
 use Rattle.ti_caps.specs.declared.tables.TheConstants.{BY_NAME}
 use Rattle.ti_caps.specs.Names.{flag_names, number_names, text_names}
 use Rattle.ti_caps.specs.Tables.{Capability, IsCapability, name_of, names}
-use Rattle.ti_caps.specs.ByName.{Row, capability_numbered, row_of, by_name}
-use Rattle.ti_caps.specs.inside.ByName.{IsTableRow, IsOfAnother, HasNoRow}
+use Rattle.ti_caps.specs.Lookup.{NameRow, capability_numbered, row_of, by_name}
+use Rattle.ti_caps.specs.inside.Lookup.{IsTableRow, IsOfAnother, HasNoRow}
 use Rattle.ti_caps.specs.inside.Keys.{key_of}
 use Rattle.ti_caps.proofs.Table.{row_names}
 
 -- each key is that of the name at its place
-keys_are : KEYS ≡ map (λ (r : Row). key_of r.0) by_name
+keys_are : KEYS ≡ map (λ (r : NameRow). key_of r.0) by_name
 unfolding by_name key_of names flag_names number_names text_names
 keys_are = refl
 
@@ -62,11 +62,11 @@ unfolding by_name
 as_long = refl
 
 -- the key at the place of a row is that of its name
-key_at : (x : List ℕ) (k : ℕ) (d : Row) → k < length by_name → (get_or by_name k d).0 ≡ x → get_or KEYS k 0 ≡ key_of x
-key_at x k d within same = ap (λ ks. get_or ks k 0) keys_are ∙ get_or-map (λ (r : Row). key_of r.0) by_name k d 0 within ∙ ap key_of same
+key_at : (x : List ℕ) (k : ℕ) (d : NameRow) → k < length by_name → (get_or by_name k d).0 ≡ x → get_or KEYS k 0 ≡ key_of x
+key_at x k d within same = ap (λ ks. get_or ks k 0) keys_are ∙ get_or-map (λ (r : NameRow). key_of r.0) by_name k d 0 within ∙ ap key_of same
 
 -- where the one row of that key has another name, no row has the name
-pub only_place : (x : List ℕ) (i : ℕ) → i < length KEYS → get_or KEYS i 0 ≡ key_of x → ((d : Row) → (get_or by_name i d).0 ≢ x) → HasNoRow by_name x
+pub only_place : (x : List ℕ) (i : ℕ) → i < length KEYS → get_or KEYS i 0 ≡ key_of x → ((d : NameRow) → (get_or by_name i d).0 ≢ x) → HasNoRow by_name x
 only_place x i there here other = λ k d within same.
     let at : get_or KEYS k 0 ≡ key_of x = key_at x k d within same in
     let inside : k < length KEYS = rw as_long within in
@@ -94,7 +94,7 @@ unfolding by_name
 numbers_as_long = sym (length-map BY_NAME (λ n. row_of (capability_numbered n)))
 
 -- the row at a place is that of the capability whose number stands there
-row_at_place : (i n : ℕ) (d : Row) → i < length by_name → n ≡ get_or BY_NAME i 0 → get_or by_name i d ≡ row_of (capability_numbered n)
+row_at_place : (i n : ℕ) (d : NameRow) → i < length by_name → n ≡ get_or BY_NAME i 0 → get_or by_name i d ≡ row_of (capability_numbered n)
 unfolding by_name
 row_at_place i n d within at = get_or-map (λ m. row_of (capability_numbered m)) BY_NAME i 0 d (rw numbers_as_long within) ∙ ap (λ m. row_of (capability_numbered m)) (sym at)
 
@@ -109,7 +109,7 @@ module _ (i n : ℕ) (c : Capability) (within : i < length by_name) (at : n ≡ 
 
   -- and one whose name isn't is of another
   pub other_here : (x : List ℕ) → name_of c ≢ x → IsOfAnother by_name i x
-  other_here x other = λ d same. other (ap name_of is ∙ sym (ap (λ (r : Row). r.0) (row_at_place i n d within at)) ∙ same)
+  other_here x other = λ d same. other (ap name_of is ∙ sym (ap (λ (r : NameRow). r.0) (row_at_place i n d within at)) ∙ same)
 
 -- what follows where there is none
 pub none_then : {X P Q : Type 0} → (o : Option X) → (P → Q) → IfNone o P → IfNone o Q

@@ -14,7 +14,7 @@ use Rattle.ti_caps.specs.declared.capability.Kind.TheVariants.{Flag, Number, Tex
 use Rattle.ti_caps.specs.declared.name_order.TheConstants.{FLAGS_BY_NAME, NUMBERS_BY_NAME, TEXTS_BY_NAME}
 use Rattle.ti_caps.specs.Names.{flag_names, number_names, text_names}
 use Rattle.ti_caps.specs.Tables.{same_kind, Capability, IsCapability, capability, count_of, name_of, names}
-use Rattle.ti_caps.specs.ByName.{Row, by_name}
+use Rattle.ti_caps.specs.Lookup.{NameRow, by_name}
 use Rattle.ti_caps.specs.inside.NameOrder.{rows_of_kind, in_name_order}
 use Rattle.ti_caps.specs.NameOrder.{EachKindIsInOrder}
 use Rattle.ti_caps.proofs.Same.{same_kind-true, same_kind-itself}
@@ -64,13 +64,13 @@ is_of-true : (k : Kind) (c : Capability) → is_of k c ≡ true → (c.kind ≡ 
 is_of-true k c h = let parts = and_parts _ _ h in (same_kind-true c.kind k parts.0, ltb-true _ _ parts.1)
 
 -- each capability of the kind stands in it
-kept_by : (k : Kind) (q : Row) (rest : List Row) (r : Row) (b : Bool) → same_kind q.1 k ≡ b → same_kind r.1 k ≡ true → Contains (q ∷ rest) r → (Contains rest r → Contains (rows_of_kind k rest) (capability r.1 r.2)) → Contains (rows_of_kind k (q ∷ rest)) (capability r.1 r.2)
-kept_by k q rest r true e same (zero, l, at) later = let cap : Row → Capability = λ (x : Row). capability x.1 x.2 in rw e (0, omega arith, ap cap at)
+kept_by : (k : Kind) (q : NameRow) (rest : List NameRow) (r : NameRow) (b : Bool) → same_kind q.1 k ≡ b → same_kind r.1 k ≡ true → Contains (q ∷ rest) r → (Contains rest r → Contains (rows_of_kind k rest) (capability r.1 r.2)) → Contains (rows_of_kind k (q ∷ rest)) (capability r.1 r.2)
+kept_by k q rest r true e same (zero, l, at) later = let cap : NameRow → Capability = λ (x : NameRow). capability x.1 x.2 in rw e (0, omega arith, ap cap at)
 kept_by k q rest r true e same (suc i, l, at) later = rw e (Contains-cons _ _ _ (later (i, omega arith, at)))
-kept_by k q rest r false e same (zero, l, at) later = let kind : Row → Bool = λ (x : Row). same_kind x.1 k in let both = ap kind at in absurd (cc)
+kept_by k q rest r false e same (zero, l, at) later = let kind : NameRow → Bool = λ (x : NameRow). same_kind x.1 k in let both = ap kind at in absurd (cc)
 kept_by k q rest r false e same (suc i, l, at) later = rw e (later (i, omega arith, at))
 
-contains_kept : (k : Kind) (rows : List Row) (r : Row) → same_kind r.1 k ≡ true → Contains rows r → Contains (rows_of_kind k rows) (capability r.1 r.2)
+contains_kept : (k : Kind) (rows : List NameRow) (r : NameRow) → same_kind r.1 k ≡ true → Contains rows r → Contains (rows_of_kind k rows) (capability r.1 r.2)
 contains_kept k [] r same (i, l, at) = absurd (omega arith)
 contains_kept k (q ∷ rest) r same among = kept_by k q rest r (same_kind q.1 k) refl same among (contains_kept k rest r same)
 

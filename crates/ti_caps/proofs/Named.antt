@@ -1,11 +1,12 @@
 -- The capability that has a name, as the definition computes it, is the one with that name.
+use Rattle.std.specs.Option.{option_or}
 use Rattle.std.proofs.Common.{◌≡◌, ◌≢◌, ◌↔◌, ◌⊎◌, inl, inr, ℕ, zero, suc, ◌<◌, Bool, true, false, if◌then◌else◌, List, [], ◌∷◌, length, get_or, refl, sym, ◌∙◌, ap, subst, arith, bytes_eq, Option, Some, None, MatchOption, IfSome, IsSome, option_map}
 use Rattle.std.proofs.lemmas.Slice.Eq.{bytes_eq-Decides}
 use Rattle.ti_caps.specs.declared.capability.Kind.{Kind}
 use Rattle.ti_caps.specs.declared.capability.Kind.TheVariants.{Flag, Number, Text}
-use Rattle.ti_caps.specs.Tables.{Capability, IsCapability, capability, count_of, name_of, names, EveryNameIsFound, place_of, named_in, first_of_two, capability_named}
-use Rattle.ti_caps.specs.ByName.{by_name}
-use Rattle.ti_caps.specs.inside.ByName.{IsTableRow}
+use Rattle.ti_caps.specs.Tables.{Capability, IsCapability, capability, count_of, name_of, names, EveryNameIsFound, place_of, named_in, capability_named}
+use Rattle.ti_caps.specs.Lookup.{by_name}
+use Rattle.ti_caps.specs.inside.Lookup.{IsTableRow}
 use Rattle.ti_caps.proofs.Table.{length-names, row_names, distinct_names}
 
 -- a place of a name, or that there is none
@@ -45,7 +46,7 @@ of_place x k (Some i) says = (rw (← length-names) says.0, says.1)
 named_in_says : (x : List ℕ) (k : Kind) → Says (λ l. l ≡ k) x (named_in x k)
 named_in_says x k = of_place x k _ (place_says x (names k))
 
-both_say : (K L : Kind → Type 0) (x : List ℕ) (o p : Option Capability) → Says K x o → Says L x p → Says (λ k. K k ⊎ L k) x (first_of_two o p)
+both_say : (K L : Kind → Type 0) (x : List ℕ) (o p : Option Capability) → Says K x o → Says L x p → Says (λ k. K k ⊎ L k) x (option_or o p)
 unfolding Says
 both_say K L x None None first second = λ c either within. elim either [ inl k ↦ first c k within | inr l ↦ second c l within ]
 both_say K L x None (Some d) first second = second

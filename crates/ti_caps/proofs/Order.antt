@@ -9,7 +9,8 @@ use Rattle.std.proofs.lemmas.List.{get_or-map, length-map}
 use Rattle.std.proofs.lemmas.Map.Keys.{Less-from_sorted, sorted_from_all_adjacent}
 use Rattle.std.proofs.lemmas.Slice.Eq.{bytes_eq-Decides}
 use native.Mathlib.Numerals.{unary_clauses}
-use Rattle.ti_caps.specs.ByName.{Row, IsInNameOrder}
+use Rattle.ti_caps.specs.Lookup.{NameRow}
+use Rattle.ti_caps.specs.inside.Lookup.{IsInNameOrder}
 
 -- texts that compare as equal are equal, and no text is below itself
 pub text_from_equal : (x y : List ℕ) → slice_cmp nat_cmp x y ≡ Equal → x ≡ y
@@ -34,13 +35,13 @@ adjacent_from_rising x [] h k l = absurd (omega arith)
 adjacent_from_rising x (y ∷ ys) h zero l = less_from_test x y (and_parts _ _ h).0
 adjacent_from_rising x (y ∷ ys) h (suc k) l = simp unary_clauses (simp unary_clauses at (adjacent_from_rising y ys (and_parts _ _ h).1 k (omega arith)))
 
-pub order_from_rising : (r : Row) (rs : List Row) → rising_from r.0 (map (λ q. q.0) rs) ≡ true → IsInNameOrder (r ∷ rs)
+pub order_from_rising : (r : NameRow) (rs : List NameRow) → rising_from r.0 (map (λ q. q.0) rs) ≡ true → IsInNameOrder (r ∷ rs)
 order_from_rising r rs h = record { sorted = sorted_from_all_adjacent nat_list_cmp_total (map (λ q. q.0) (r ∷ rs)) [] (adjacent_from_rising r.0 (map (λ q. q.0) rs) h) }
 
 -- in rows that are in order, a name stands in one place
-pub names_apart : (rows : List Row) → IsInNameOrder rows → (i j : ℕ) (d : Row) → i < j → j < length rows → (get_or rows i d).0 ≢ (get_or rows j d).0
+pub names_apart : (rows : List NameRow) → IsInNameOrder rows → (i j : ℕ) (d : NameRow) → i < j → j < length rows → (get_or rows i d).0 ≢ (get_or rows j d).0
 names_apart rows order i j d l within =
-    let name = λ (r : Row). r.0 in
+    let name = λ (r : NameRow). r.0 in
     let low : i < length rows = omega arith in
     unequal_from_less _ _ (rw (← get_or-map name rows i d d.0 low, ← get_or-map name rows j d d.0 within)
     (Less-from_sorted _ (map name rows) i j d.0 order.sorted l (rw length-map within)))

@@ -9,8 +9,8 @@ use Rattle.ti_caps.specs.declared.capability.Kind.{Kind}
 use Rattle.ti_caps.specs.declared.capability.Kind.TheVariants.{Flag, Number, Text}
 use Rattle.ti_caps.specs.Tables.{same_kind, Capability, IsCapability, capability, count_of, name_of, names, CapabilityNamesAreDistinct}
 use Rattle.ti_caps.specs.Names.{flag_names, number_names, text_names}
-use Rattle.ti_caps.specs.ByName.{Row, by_name, IsInNameOrder}
-use Rattle.ti_caps.specs.inside.ByName.{IsTableRow, HasNoRow}
+use Rattle.ti_caps.specs.Lookup.{NameRow, by_name}
+use Rattle.ti_caps.specs.inside.Lookup.{IsInNameOrder, IsTableRow, HasNoRow}
 use Rattle.ti_caps.proofs.Same.{same_kind-true}
 use Rattle.ti_caps.proofs.Order.{order_from_rising, names_apart}
 
@@ -27,7 +27,7 @@ unfolding by_name names flag_names number_names text_names
 in_name_order = order_from_rising _ _ refl
 
 -- each row is that of a capability
-abbrev row_is_right : Row → Bool
+abbrev row_is_right : NameRow → Bool
 row_is_right r = nat_lt r.2 (count_of r.1) && bytes_eq (get_or (names r.1) r.2 []) r.0
 
 rows_are_right : list_all row_is_right by_name ≡ true
@@ -35,7 +35,7 @@ unfolding by_name names flag_names number_names text_names
 rows_are_right = refl
 
 -- each capability has a row
-abbrev has_row : Kind → ℕ → List Row → Bool
+abbrev has_row : Kind → ℕ → List NameRow → Bool
 has_row k i [] = false
 has_row k i (r ∷ rs) = elim (same_kind r.1 k && nat_eq r.2 i) [ true ↦ true | false ↦ has_row k i rs ]
 
@@ -51,7 +51,7 @@ all_covered Text = refl
 
 -- the row of a capability, where the table holds one
 -- what each row says
-pub row_names : (r : Row) → Contains by_name r → (r.2 < count_of r.1) × (name_of (capability r.1 r.2) ≡ r.0)
+pub row_names : (r : NameRow) → Contains by_name r → (r.2 < count_of r.1) × (name_of (capability r.1 r.2) ≡ r.0)
 row_names r among =
     let parts = and_parts _ _ (All-contains (λ q. row_is_right q ≡ true) by_name r (AllPass-from_list_all row_is_right by_name rows_are_right) among) in
     (ltb-true _ _ parts.0, (bytes_eq-Decides _ _).0 parts.1)
@@ -59,15 +59,15 @@ row_names r among =
 pub Contains-cons : {X : Type 0} (y : X) (xs : List X) (x : X) → Contains xs x → Contains (y ∷ xs) x
 Contains-cons y xs x (j, l, e) = (suc j, omega arith, e)
 
-row_cases : (k : Kind) (i : ℕ) (r : Row) (rs : List Row) (b : Bool) → (same_kind r.1 k && nat_eq r.2 i) ≡ b → (has_row k i rs ≡ true → (n : List ℕ) × Contains rs (n, k, i)) → elim b [ true ↦ true | false ↦ has_row k i rs ] ≡ true → (n : List ℕ) × Contains (r ∷ rs) (n, k, i)
+row_cases : (k : Kind) (i : ℕ) (r : NameRow) (rs : List NameRow) (b : Bool) → (same_kind r.1 k && nat_eq r.2 i) ≡ b → (has_row k i rs ≡ true → (n : List ℕ) × Contains rs (n, k, i)) → elim b [ true ↦ true | false ↦ has_row k i rs ] ≡ true → (n : List ℕ) × Contains (r ∷ rs) (n, k, i)
 row_cases k i r rs true e rest h =
     let parts = and_parts _ _ e in
-    let with_kind : Kind → Row = λ m. (r.0, m, r.2) in
-    let with_index : ℕ → Row = λ m. (r.0, k, m) in
+    let with_kind : Kind → NameRow = λ m. (r.0, m, r.2) in
+    let with_index : ℕ → NameRow = λ m. (r.0, k, m) in
     (r.0, (0, omega arith, ap with_kind (same_kind-true r.1 k parts.0) ∙ ap with_index (eqb-true r.2 i parts.1)))
 row_cases k i r rs false e rest h = let there = rest h in (there.0, Contains-cons r rs _ there.1)
 
-row_from_test : (k : Kind) (i : ℕ) (rs : List Row) → has_row k i rs ≡ true → (n : List ℕ) × Contains rs (n, k, i)
+row_from_test : (k : Kind) (i : ℕ) (rs : List NameRow) → has_row k i rs ≡ true → (n : List ℕ) × Contains rs (n, k, i)
 row_from_test k i [] h = cc
 row_from_test k i (r ∷ rs) h = row_cases k i r rs (same_kind r.1 k && nat_eq r.2 i) refl (λ g. row_from_test k i rs g) h
 
@@ -94,9 +94,9 @@ pub distinct_names : CapabilityNamesAreDistinct
 distinct_names c d here there same =
     let (p, low, at_p) = at_from_Contains by_name _ (row_of_capability c here) in
     let (q, high, at_q) = at_from_Contains by_name _ (row_of_capability d there) in
-    let row : Row = (name_of c, c.kind, c.index) in
-    let name : Row → List ℕ = λ r. r.0 in
-    let cap : Row → Capability = λ r. capability r.1 r.2 in
+    let row : NameRow = (name_of c, c.kind, c.index) in
+    let name : NameRow → List ℕ = λ r. r.0 in
+    let cap : NameRow → Capability = λ r. capability r.1 r.2 in
     let one_name : (get_or by_name p row).0 ≡ (get_or by_name q row).0 = ap name (at_p row) ∙ same ∙ sym (ap name (at_q row)) in
     elim (cases_lt p q) [
       | inl below ↦ absurd (names_apart by_name in_name_order p q row below high one_name)

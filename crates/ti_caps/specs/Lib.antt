@@ -1,5 +1,5 @@
 pub mod Names
 pub mod Tables
-pub mod ByName
+pub mod Lookup
 pub mod NameOrder
 pub mod inside

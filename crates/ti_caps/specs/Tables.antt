@@ -1,5 +1,7 @@
 -- The capabilities and their names, and the capability of a name (own, over the lists of the names).
-use Rattle.std.specs.Prelude.{◌≡◌, ℕ, ◌<◌, Bool, true, false, ◌&&◌, nat_eq, List, [], ◌∷◌, map, slice_index_or, Option, Some, None, option_map, if◌then◌else◌, bytes_eq, suc, codes, ◌+◌}
+use Rattle.std.specs.Option.{option_or}
+use Rattle.std.specs.Prelude.{◌≡◌, ℕ, ◌<◌, Bool, true, false, ◌&&◌, nat_eq, List, [], ◌∷◌, map, slice_index_or, Option, Some, None, option_map, if◌then◌else◌}
+use Rattle.std.specs.Prelude.{bytes_eq, suc, codes, ◌+◌}
 use Rattle.ti_caps.specs.declared.capability.Kind.{Kind}
 use Rattle.ti_caps.specs.declared.capability.Kind.TheVariants.{Flag, Number, Text}
 use Rattle.ti_caps.specs.Names.{flag_names, number_names, text_names}
@@ -63,14 +65,9 @@ place_of x (n ∷ ns) = if bytes_eq n x then Some 0 else option_map (λ i. suc i
 abbrev pub named_in : List ℕ → Kind → Option Capability
 named_in x k = option_map (capability k) (place_of x (names k))
 
--- the first of two that is there
-abbrev pub first_of_two : Option Capability → Option Capability → Option Capability
-first_of_two (Some c) d = Some c
-first_of_two None d = d
-
 -- the capability that has the name, if one has it
 unfoldable pub capability_named : List ℕ → Option Capability
-capability_named x = first_of_two (named_in x Flag) (first_of_two (named_in x Number) (named_in x Text))
+capability_named x = option_or (named_in x Flag) (option_or (named_in x Number) (named_in x Text))
 
 -- no two capabilities have one name, over all three lists
 abbrev pub CapabilityNamesAreDistinct : Type 0

@@ -1,6 +1,6 @@
 -- What the words of a command line ask for: the job that stands for the matches that clap defines
 -- for the words. (tic(1), tput(1), infocmp(1); the session is own)
-use Rattle.std.specs.Prelude.{ℕ, ◌^◌, ◌&&◌, ◌==◌, nat_lt, Bool, if◌then◌else◌, List, [], length, map, codes, String}
+use Rattle.std.specs.Prelude.{ℕ, ◌+◌, ◌^◌, ◌&&◌, ◌==◌, nat_lt, Bool, if◌then◌else◌, List, [], length, map, codes, String}
 use Rattle.std.specs.Prelude.{Option, Some, None, option_and_then, option_map, unwrap_or}
 use Rattle.std.specs.String.{string_bytes}
 use Rattle.std.specs.declared.alloc.Global.{Global}
@@ -11,6 +11,7 @@ use Rattle.clap.specs.Kinds.{Kinds}
 use Rattle.clap.specs.Simple.{subcommand_of}
 use Rattle.clap.specs.Takes.{takes}
 use Rattle.clap.specs.Walk.{Row, Text, all_of, first_of}
+use Rattle.ti_text.specs.Limits.{parameters_max}
 use Rattle.ti_commands.specs.Commands.{ti_app}
 use Rattle.ti_commands.specs.InfocmpWords.{InfocmpTask, infocmp_task}
 use Rattle.ti_commands.specs.Matches.{is_on}
@@ -31,7 +32,7 @@ abbrev pub tic_task : List Row → Task
 tic_task rows =
     task_tic (is_on (codes "check") rows) (first_of (codes "dir") rows) (first_of (codes "file") rows)
 
--- a number of 32 bits as decimal digits, after which a plus may stand in front
+-- the number of 32 bits that decimal digits spell; a plus may stand before them
 unfoldable pub spelled_rate : Text → Option ℕ
 spelled_rate text =
     let digits = without_leading_plus text in
@@ -47,9 +48,9 @@ rate_in (Some text) = spelled_rate text
 abbrev pub words_in : List Row → List Text
 words_in rows = unwrap_or (all_of (codes "words") rows) []
 
--- whether there are so many words as may be: none with `-S`, else a name and at most nine parameters
+-- whether there are so many words as may be: none with `-S`, else a name, and `parameters_max` parameters at most
 abbrev pub is_word_count : Bool → ℕ → Bool
-is_word_count lines count = if lines then count == 0 else nat_lt 0 count && nat_lt count 11
+is_word_count lines count = if lines then count == 0 else nat_lt 0 count && nat_lt count (parameters_max + 2)
 
 -- the job of `tput` with such a rate and such words, if they may be
 abbrev pub tput_at : Bool → Option Text → Option ℕ → List Text → Option Task

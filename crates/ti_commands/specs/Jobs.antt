@@ -1,10 +1,11 @@
 -- The jobs of the program, as plain data, and why words ask for none (own).
-use Rattle.std.specs.Prelude.{◌≡◌, ◌⊎◌, [], None, Option, map, option_map}
+use Rattle.std.specs.Prelude.{◌≡◌, ◌⊎◌, List, [], Some, None, Option, map, option_map}
 use Rattle.std.specs.String.{string_bytes}
 use Rattle.clap.specs.Kinds.{IsAmong, Kinds}
 use Rattle.clap.specs.declared.error.kind.ErrorKind.{ErrorKind}
 use Rattle.clap.specs.declared.error.kind.ErrorKind.TheVariants as kind
-use Rattle.ti_commands.specs.Arguments.{Task, task_infocmp, task_session, task_tic, task_tput}
+use Rattle.clap.specs.Walk.{Text}
+use Rattle.ti_commands.specs.Arguments.{Task, faults_of, job_of, task_infocmp, task_session, task_tic, task_tput}
 use Rattle.ti_commands.specs.declared.arguments.UsageError.{UsageError}
 use Rattle.ti_commands.specs.declared.arguments.UsageError.TheVariants as usage
 use Rattle.ti_commands.specs.declared.arguments.Refusal.{Refusal}
@@ -44,3 +45,13 @@ abbrev pub IsUsageRefusal : Kinds → Option Task → UsageError → Type 0
 IsUsageRefusal faults job e =
     (e ≡ usage.Memory) ⊎ ((k : ErrorKind) × IsAmong k faults × (e ≡ refusal_of k))
     ⊎ ((faults ≡ []) × (job ≡ None) × (e ≡ usage.Usage))
+
+-- the job is what the words ask for, in which clap's definition finds no fault
+abbrev pub IsJobOf : List Text → Job → Type 0
+IsJobOf words job = (job_of words ≡ Some (task_of job)) × (faults_of words ≡ [])
+
+-- why the words ask for no job; nothing is said of wrong usage only where there is no fault in them either
+abbrev pub IsRefusalOf : List Text → Refusal → Type 0
+IsRefusalOf words refused =
+    IsUsageRefusal (faults_of words) (job_of words) (cause_of refused)
+    × (refused ≡ refusal.Usage None → (faults_of words ≡ []) × (job_of words ≡ None))

@@ -1,8 +1,8 @@
 //! What the words of a command line ask for.
-ghost use Rattle.std.specs.Prelude.{◌≡◌, ◌≢◌, ◌⊎◌, [], IfErr, IfOk, IfSome, None, OnOk, Some, codes, map, true};
+ghost use Rattle.std.specs.Prelude.{◌≡◌, ◌≢◌, ◌⊎◌, [], IfErr, IfOk, IfSome, None, Some, codes, map, true};
 ghost use Rattle.clap.specs.Words.{first_of, kind_of, subcommand_rows_of};
 ghost use Rattle.ti_commands.specs.Arguments.{Task, faults_of, is_word_count, job_of, rate_in, takes_words, task_at, task_in, tic_task, tput_task, tput_with, word_texts};
-ghost use Rattle.ti_commands.specs.Jobs.{IsUsageRefusal, cause_of, refusal_of, task_of};
+ghost use Rattle.ti_commands.specs.Jobs.{IsJobOf, IsRefusalOf, IsUsageRefusal, cause_of, refusal_of, task_of};
 ghost use Rattle.ti_commands.specs.declared.arguments.Refusal.TheVariants.{Memory};
 ghost use Rattle.ti_commands.specs.Matches.{matched_rows};
 
@@ -14,6 +14,7 @@ use clap::ArgMatches;
 use clap::error::ErrorKind;
 use std::alloc::{AllocError, Global};
 use thiserror::Error;
+use ti_text::limits::PARAMETERS_MAX;
 
 /// Why the words of a command line ask for no job.
 #[derive(Clone, Copy, Debug, PartialEq, Eq, Error)]
@@ -100,7 +101,7 @@ fn is_word_count(lines: bool, count: usize) -> bool
     if lines {
         count == 0
     } else {
-        0 < count && count < 11
+        0 < count && count <= 1 + PARAMETERS_MAX
     }
 }
 
@@ -170,8 +171,7 @@ fn used_job(alloc: Global, matches: &ArgMatches<'_>) -> Result<Job, Refusal>
 // The job that the words ask for, read by the command of their tool alone, which takes about half as long as by all. `None`
 // where that finds no job: only the whole command says why.
 fn job_of_tool(alloc: Global, words: &[String]) -> Result<Option<Job>, AllocError>
-    ensures { IfOk result (λ found. IfSome found (λ job. (job_of (word_texts words.now) ≡ Some (task_of job))
-        × (faults_of (word_texts words.now) ≡ []))) }
+    ensures { IfOk result (λ found. IfSome found (IsJobOf (word_texts words.now))) }
 {
     let Some(name) = words.get(1) else {
         return Ok(None);
@@ -189,15 +189,11 @@ fn job_of_tool(alloc: Global, words: &[String]) -> Result<Option<Job>, AllocErro
 
 // The job that the words ask for, read by the command of all tools.
 fn job_of_program(alloc: Global, words: &[String]) -> Result<Job, Refusal>
-    ensures right { IfOk result (λ job. job_of (word_texts words.now) ≡ Some (task_of job)) }
+    ensures right { IfOk result (IsJobOf (word_texts words.now)) }
     ensures answered { (task : Task) → job_of (word_texts words.now) ≡ Some task
         → takes_words (word_texts words.now) ≡ true
         → IfErr result (λ refused. refused ≡ Refusal.Memory) }
-    ensures accepted { OnOk result (faults_of (word_texts words.now) ≡ []) }
-    ensures refused { IfErr result (λ refused. IsUsageRefusal (faults_of (word_texts words.now))
-        (job_of (word_texts words.now)) (cause_of refused)) }
-    ensures silent { IfErr result (λ refused. refused ≡ Refusal.Usage None
-        → (faults_of (word_texts words.now) ≡ []) × (job_of (word_texts words.now) ≡ None)) }
+    ensures refused { IfErr result (IsRefusalOf (word_texts words.now)) }
 {
     let command = command(alloc)?;
     match command.try_get_matches_from(words) {
@@ -213,15 +209,11 @@ fn job_of_program(alloc: Global, words: &[String]) -> Result<Job, Refusal>
 /// `Usage` where the words are no command line of the program, and `Help` where they ask for help;
 /// then `Memory`. `Usage` has no text only where clap finds no fault in them.
 pub fn job_or_refusal(alloc: Global, words: &[String]) -> Result<Job, Refusal>
-    ensures right { IfOk result (λ job. job_of (word_texts words.now) ≡ Some (task_of job)) }
+    ensures right { IfOk result (IsJobOf (word_texts words.now)) }
     ensures answered { (task : Task) → job_of (word_texts words.now) ≡ Some task
         → takes_words (word_texts words.now) ≡ true
         → IfErr result (λ refused. refused ≡ Refusal.Memory) }
-    ensures accepted { OnOk result (faults_of (word_texts words.now) ≡ []) }
-    ensures refused { IfErr result (λ refused. IsUsageRefusal (faults_of (word_texts words.now))
-        (job_of (word_texts words.now)) (cause_of refused)) }
-    ensures silent { IfErr result (λ refused. refused ≡ Refusal.Usage None
-        → (faults_of (word_texts words.now) ≡ []) × (job_of (word_texts words.now) ≡ None)) }
+    ensures refused { IfErr result (IsRefusalOf (word_texts words.now)) }
 {
     match job_of_tool(alloc, words)? {
         Some(job) => Ok(job),
@@ -235,11 +227,10 @@ pub fn job_or_refusal(alloc: Global, words: &[String]) -> Result<Job, Refusal>
 /// `Usage` where the words are no command line of the program, and `Help` where they ask for help;
 /// then `Memory`.
 pub fn job(alloc: Global, words: &[String]) -> Result<Job, UsageError>
-    ensures right { IfOk result (λ job. job_of (word_texts words.now) ≡ Some (task_of job)) }
+    ensures right { IfOk result (IsJobOf (word_texts words.now)) }
     ensures answered { (task : Task) → job_of (word_texts words.now) ≡ Some task
         → takes_words (word_texts words.now) ≡ true
         → IfErr result (λ error. error ≡ UsageError.Memory) }
-    ensures accepted { OnOk result (faults_of (word_texts words.now) ≡ []) }
     ensures refused { IfErr result (IsUsageRefusal (faults_of (word_texts words.now))
         (job_of (word_texts words.now))) }
 {

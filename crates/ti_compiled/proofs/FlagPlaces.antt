@@ -6,7 +6,7 @@ use Rattle.ti_caps.specs.declared.capability.Kind.TheVariants.{Flag, Text}
 use Rattle.ti_layout.specs.declared.layout.Header.{Header}
 use Rattle.ti_layout.specs.Image.{image, is_there, of_kind, flag_value, flags_below, written_count, texts_below}
 use Rattle.ti_layout.specs.Layout.{entry_size}
-use Rattle.ti_layout.specs.Sizes.{HasSizes, at_most_max}
+use Rattle.ti_layout.specs.Writing.{HasSizes, at_most_max}
 use Rattle.ti_layout.specs.Values.{Content, content_true, content_number, content_text, content_cancelled, Contents, AgreesIfSome}
 use Rattle.ti_layout.specs.Reading.{names_size, flag_count}
 use Rattle.ti_layout.proofs.Below.{get_or-below, length-below}
@@ -24,7 +24,7 @@ pub length_sized : (names : List ℕ) (c : Contents) (h : Header) → HasSizes n
     → length (image names c) ≡ entry_size h.format h.names h.flags h.numbers h.texts (length (texts_below c (written_count c Text)))
 length_sized names c h has = rw (has.format, has.names, has.flags, has.numbers, has.texts) (length-image names c)
 
--- a flag's byte tells whether it is there
+-- a flag's byte says whether it is there
 pub flag_absent : (i : ℕ) (o : Option Content) → AgreesIfSome (capability Flag i) o → flag_value o ≡ 0 → is_there o ≡ false
 flag_absent i None a e = refl
 flag_absent i (Some content_true) a e = absurd (omega arith)

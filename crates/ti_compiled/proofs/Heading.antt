@@ -5,7 +5,7 @@ use Rattle.ti_caps.specs.declared.capability.Kind.TheVariants.{Flag, Number, Tex
 use Rattle.ti_layout.specs.declared.layout.Header.{Header}
 use Rattle.ti_layout.specs.Image.{image, format_of, sections_of, written_count, texts_below}
 use Rattle.ti_layout.specs.Reading.{names_section, names_size, word_at}
-use Rattle.ti_layout.specs.Sizes.{HasSizes, at_most_max}
+use Rattle.ti_layout.specs.Writing.{HasSizes, at_most_max}
 use Rattle.ti_layout.specs.Values.{Contents}
 use Rattle.ti_layout.proofs.Below.{length-below}
 use Rattle.ti_layout.proofs.ImageReading.{Sound, sections-sound, counts}
@@ -74,7 +74,7 @@ module _ (b : List ℕ) (h : Header) (is : IsImage b) (at : IsHeaderAt b h) wher
       let nn = n.numbers in
       let nt = n.texts in
       record {
-        format = at.format ∙ f.told;
+        format = at.format ∙ f.format_is;
         names = at.names ∙ f.names_size;
         flags = flags;
         numbers = numbers;

@@ -10,15 +10,15 @@ use Rattle.ti_caps.proofs.Same.{same_capability-true}
 use Rattle.ti_caps.specs.declared.capability.Kind.{Kind}
 use Rattle.ti_caps.specs.declared.capability.Kind.TheVariants.{Flag, Number, Text}
 use Rattle.ti_layout.specs.declared.layout.Format.{Format}
-use Rattle.ti_layout.specs.Image.{image, image_limit, ImageFits, ImageIsTooLarge}
+use Rattle.ti_layout.specs.Image.{image, image_limit, ImageFits}
 use Rattle.ti_layout.specs.Laws.{without_cancel}
 use Rattle.ti_layout.specs.Reading.{Reads, says, stored_flag, stored_number, stored_text}
 use Rattle.ti_layout.specs.Values.{Content, content_true, content_number, content_text, content_cancelled, Contents, AgreesIfSome, HasNoNul}
 use Rattle.ti_layout.proofs.OneReading.{read_names, read_contents}
 use Rattle.ti_layout.proofs.ImageReading.{images_are_read}
 use Rattle.ti_layout.proofs.OfValues.{images_are_of_values, limits_are_of_values}
-use Rattle.ti_layout.specs.declared.writing.WriteError.TheVariants.{TooLarge}
-use Rattle.ti_compiled.specs.Changes.{HoldsGiven}
+use Rattle.ti_layout.specs.declared.writing.WriteError.TheVariants.{NamesTooLong, TooLarge, Memory}
+use Rattle.ti_compiled.specs.Changes.{FitsWith, HoldsGiven, IsOverWith, SetsContent, image_with}
 use Rattle.ti_compiled.specs.Image.{names_in, contents_in, with_content, IsImage}
 use Rattle.ti_compiled.proofs.Carried.{carried}
 
@@ -122,22 +122,26 @@ given_contents (Err x) b new is k v agrees present made within = tt
 -- what is so where a value was given by its kind and place, or was refused
 pub record AfterGiving (r : Result (Unit {0}) WriteError) (b new : List ℕ) (k : Capability) (v : Option Content) : Type 0 where
   pub kept : IsImage new
-  pub within : OnOk r (ImageFits (names_in b) (with_content (contents_in b) k v))
-  pub too_large : IsErrOf r TooLarge ↔ ImageIsTooLarge (names_in b) (with_content (contents_in b) k v)
-  pub names : OnOk r (names_in new ≡ names_in b)
-  pub contents : OnOk r (HoldsGiven b new k v)
+  pub sets : SetsContent b new k v r
 
 pub after_giving : (r : Result (Unit {0}) WriteError) (x b new : List ℕ) (k : Capability) (kind : Kind) (i : ℕ) (v : Option Content) → x ≡ b → k.kind ≡ kind → i ≡ k.index
-    → IsImage x → AgreesIfSome (capability kind i) v → without_cancel v ≡ v → OnOk r (new ≡ image (names_in x) (with_content (contents_in x) (capability kind i) v))
-    → OnOk r (ImageFits (names_in x) (with_content (contents_in x) (capability kind i) v)) → (IsErrOf r TooLarge ↔ ImageIsTooLarge (names_in x) (with_content (contents_in x) (capability kind i) v)) → OnErr r (new ≡ x)
+    → IsImage x → AgreesIfSome (capability kind i) v → without_cancel v ≡ v → OnOk r (new ≡ image_with x (capability kind i) v)
+    → OnOk r (FitsWith x (capability kind i) v) → (IsErrOf r TooLarge ↔ IsOverWith x (capability kind i) v)
+    → (IsErrOf r Memory → FitsWith x (capability kind i) v) → (IsErrOf r NamesTooLong → ⊥) → OnErr r (new ≡ x)
     → AfterGiving r b new k v
-after_giving r x b new k kind i v same e f is agrees present made within over left =
+after_giving r x b new k kind i v same e f is agrees present made within over wanting fit left =
     carried (λ y d. AfterGiving r y new d v) x b k kind i same e f (record {
       kept = kept_after r x new is (capability kind i) v agrees made within left;
-      within = within;
-      too_large = over;
-      names = given_names r x new is (capability kind i) v agrees made within;
-      contents = given_contents r x new is (capability kind i) v agrees present made within;
+      sets = record {
+        ok = made;
+        names = given_names r x new is (capability kind i) v agrees made within;
+        contents = given_contents r x new is (capability kind i) v agrees present made within;
+        within = within;
+        too_large = over;
+        memory = wanting;
+        names_fit = fit;
+        err = left;
+      };
     })
 
 -- an image of the same names and values is the image of any contents that say them

@@ -11,7 +11,7 @@ use Rattle.ti_layout.specs.Image.{image, below, even_gap, flags_below, format_of
 use Rattle.ti_layout.specs.Layout.{absent_mark, first_negative, number_section, width}
 use Rattle.ti_layout.specs.Laws.{without_cancel}
 use Rattle.ti_layout.specs.Reading.{number_at}
-use Rattle.ti_layout.specs.Sizes.{HasSizes}
+use Rattle.ti_layout.specs.Writing.{HasSizes}
 use Rattle.ti_layout.specs.Values.{Content, content_true, content_number, content_text, content_cancelled, Contents, AgreesIfSome}
 use Rattle.ti_layout.proofs.Below.{length-below, below-none, below-filled, below-same}
 use Rattle.ti_layout.proofs.ImageReading.{number-plain}
@@ -31,7 +31,7 @@ void_number void (Some (content_number n)) e = absurd cc
 void_number void (Some (content_text t)) e = refl
 void_number void (Some content_cancelled) e = refl
 
--- what a number in the bytes tells
+-- what a number in the bytes says
 pub record NumberFacts (w : Format) (o : Option Content) : Type 0 where
   pub fits : number_value (absent_mark w) o ≤ absent_mark w
   pub plain : number_value (absent_mark w) o < first_negative w → number_value 4294967295 o ≡ number_value (absent_mark w) o

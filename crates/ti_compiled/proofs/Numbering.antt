@@ -57,7 +57,7 @@ module _ (w : Format) (p r : List ℕ) (place : ℕ) (long : length p ≡ place)
       replaces (p ++ number_section w (take j xs)) (number_bytes w (get_or xs j 0)) (number_section w (drop (suc j) xs) ++ r) (around b xs j lt whole) (before xs j lt) (length-number_bytes w (get_or xs j 0))
       ∙ sym (within xs j n) ∙ ap (λ t. p ++ (number_section w t ++ r)) (sym (set_split xs j n lt))
 
-  -- the same of values that are told place by place
+  -- the same of values that are given place by place
   pub place-set : (b b' : List ℕ) (f g : ℕ → ℕ) (to j n : ℕ) → j < to → g j ≡ n → ((i : ℕ) → i ≢ j → g i ≡ f i) → b ≡ p ++ (number_section w (below f to) ++ r)
       → Replaces b b' (place + width w * j) (width w) (λ _. number_bytes w n) → b' ≡ p ++ (number_section w (below g to) ++ r)
   place-set b b' f g to j n lt here others whole replaces =

@@ -1,4 +1,4 @@
--- Bytes put in, taken out and written over, told of three lists one after the other.
+-- Bytes put in, taken out and written over, in terms of three lists one after the other.
 use Rattle.std.proofs.Common.{◌≡◌, ℕ, ◌+◌, ◌-◌, List, [], ◌∷◌, ◌++◌, length, take, drop, replicate, sym, ap, ◌∙◌, append_assoc, append-nil, arith}
 use Rattle.std.proofs.lemmas.List.{length-append, length-take, take_at, drop_at, take_all, take-append-drop, length-drop, length-replicate}
 use Rattle.ti_compiled.specs.inside.Bytes.{Replaces, with_bytes_in, with_bytes_out, with_length}

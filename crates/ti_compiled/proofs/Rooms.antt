@@ -3,7 +3,7 @@ use Rattle.std.proofs.Common.{◌≡◌, ◌<◌, ◌≤◌, ℕ, suc, List, len
 use Rattle.std.specs.Prelude.{OnOk, OnErr, IsErrOf, is_ok}
 use Rattle.ti_layout.specs.declared.layout.Header.{Header}
 use Rattle.ti_layout.specs.declared.writing.WriteError.{WriteError}
-use Rattle.ti_layout.specs.Sizes.{HasSizes}
+use Rattle.ti_layout.specs.Writing.{HasSizes}
 use Rattle.ti_layout.specs.Values.{Contents}
 use Rattle.ti_compiled.specs.Image.{names_in, contents_in, IsImage}
 
@@ -31,7 +31,7 @@ pub no_fault : (r : Result (Unit {0}) WriteError) (f : WriteError) (P : Type 0) 
 no_fault (Ok x) f P e is = absurd cc
 no_fault (Err x) f P e is = absurd cc
 
--- what is told of bytes is told of the bytes that are lent to a call, or that it leaves
+-- what holds of bytes holds of the bytes that are lent to a call, or that it leaves
 pub image_again : (b x : List ℕ) → x ≡ b → IsImage b → IsImage x
 image_again b x e image = subst IsImage (sym e) image
 

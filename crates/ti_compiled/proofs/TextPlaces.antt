@@ -10,7 +10,7 @@ use Rattle.ti_layout.specs.Image.{image, below, even_gap, flags_below, format_of
 use Rattle.ti_layout.specs.Layout.{header, number_section, width}
 use Rattle.ti_layout.specs.Laws.{without_cancel}
 use Rattle.ti_layout.specs.Reading.{word_at}
-use Rattle.ti_layout.specs.Sizes.{HasSizes}
+use Rattle.ti_layout.specs.Writing.{HasSizes}
 use Rattle.ti_layout.specs.Values.{Content, content_true, content_number, content_text, content_cancelled, Contents, AgreesIfSome}
 use Rattle.ti_layout.proofs.Below.{length-below}
 use Rattle.ti_layout.proofs.Parts.{length-header}
@@ -40,7 +40,7 @@ void_offset n (Some (content_number m)) e = absurd cc
 void_offset n (Some (content_text t)) e = absurd cc
 void_offset n (Some content_cancelled) e = refl
 
--- what an offset tells
+-- what an offset says
 pub record OffsetFacts (n : ℕ) (o : Option Content) : Type 0 where
   pub fits : offset_value n o ≤ 65535
   pub there : offset_value n o ≢ 65535 → (is_there o ≡ true) × (offset_value n o ≡ n)

@@ -16,7 +16,8 @@ names_in bytes = take (length (names_section bytes) - 1) (names_section bytes)
 -- what the sections of an entry say of each capability
 abbrev pub contents_in : List ℕ → Contents
 contents_in bytes =
-    contents_of (format_in bytes) (flags_section bytes) (numbers_in (format_in bytes) (numbers_section bytes)) (numbers_in Legacy (offsets_section bytes)) (strings_section bytes)
+    contents_of (format_in bytes) (flags_section bytes) (numbers_in (format_in bytes) (numbers_section bytes)) (numbers_in Legacy (offsets_section bytes))
+    (strings_section bytes)
 
 -- Names of 1 to 127 bytes without NUL, contents that agree with their capabilities, none of them cancelled, nothing but of
 -- the 497 capabilities, and an image within the limit.

@@ -1,12 +1,12 @@
 // A compiled entry, and one capability of it changed where it lies.
-ghost use Rattle.std.specs.Prelude.{None, ◌≡◌, ◌≢◌, ◌<◌, ◌≤◌, ◌↔◌, [], List, length, option_map, IfOk, IfSome, IsErrOf, OnOk, OnErr};
+ghost use Rattle.std.specs.Prelude.{None, ◌≡◌, ◌≢◌, ◌<◌, ◌≤◌, ◌↔◌, [], List, length, option_map, IfOk, IfSome, IsErrOf};
 ghost use Rattle.ti_text.specs.Limits.{names_max, number_max};
 ghost use Rattle.ti_caps.specs.Tables.{Capability, IsCapability};
 ghost use Rattle.ti_caps.specs.declared.capability.Kind.TheVariants.{Flag, Number, Text};
 ghost use Rattle.ti_layout.specs.Image.{image, image_limit, HasNoNul, ImageFits};
 ghost use Rattle.ti_layout.specs.Laws.{without_cancel};
 ghost use Rattle.ti_layout.specs.Values.{content_of, contents, AgreesIfSome};
-ghost use Rattle.ti_compiled.specs.Changes.{image_with, FitsWith, HoldsGiven, IsOverWith};
+ghost use Rattle.ti_compiled.specs.Changes.{SetsContent};
 ghost use Rattle.ti_compiled.specs.inside.Changes.{flag_content, number_content, text_lent, content_lent};
 ghost use Rattle.ti_compiled.specs.Image.{names_in, contents_in};
 
@@ -120,14 +120,7 @@ impl Image {
     // Sets a flag or takes it away. A refused change leaves the image.
     fn set_flag(&mut self, cap: Cap, on: bool) -> Result<(), WriteError>
         requires kind { cap.kind ≡ Flag }
-        ensures ok { OnOk result (self.new ≡ image_with self.old cap (flag_content on)) }
-        ensures names { OnOk result (names_in self.new ≡ names_in self.old) }
-        ensures contents { OnOk result (HoldsGiven self.old self.new cap (flag_content on)) }
-        ensures within { OnOk result (FitsWith self.old cap (flag_content on)) }
-        ensures too_large { IsErrOf result WriteError.TooLarge ↔ IsOverWith self.old cap (flag_content on) }
-        ensures memory { IsErrOf result WriteError.Memory → FitsWith self.old cap (flag_content on) }
-        ensures names_fit { IsErrOf result WriteError.NamesTooLong → ⊥ }
-        ensures err { OnErr result (self.new ≡ self.old) }
+        ensures { SetsContent self.old self.new cap (flag_content on) result }
     {
         set_flag(&mut self.bytes, cap.index(), on)
     }
@@ -136,14 +129,7 @@ impl Image {
     fn set_number(&mut self, cap: Cap, number: Option<u32>) -> Result<(), WriteError>
         requires kind { cap.kind ≡ Number }
         requires fits { IfSome number (λ n. n ≤ number_max) }
-        ensures ok { OnOk result (self.new ≡ image_with self.old cap (number_content number)) }
-        ensures names { OnOk result (names_in self.new ≡ names_in self.old) }
-        ensures contents { OnOk result (HoldsGiven self.old self.new cap (number_content number)) }
-        ensures within { OnOk result (FitsWith self.old cap (number_content number)) }
-        ensures too_large { IsErrOf result WriteError.TooLarge ↔ IsOverWith self.old cap (number_content number) }
-        ensures memory { IsErrOf result WriteError.Memory → FitsWith self.old cap (number_content number) }
-        ensures names_fit { IsErrOf result WriteError.NamesTooLong → ⊥ }
-        ensures err { OnErr result (self.new ≡ self.old) }
+        ensures { SetsContent self.old self.new cap (number_content number) result }
     {
         set_number(&mut self.bytes, cap.index(), number)
     }
@@ -152,28 +138,14 @@ impl Image {
     fn set_text(&mut self, cap: Cap, text: Option<&[u8]>) -> Result<(), WriteError>
         requires kind { cap.kind ≡ Text }
         requires no_nul { IfSome text (λ t. HasNoNul t.now) }
-        ensures ok { OnOk result (self.new ≡ image_with self.old cap (text_lent text.entry)) }
-        ensures names { OnOk result (names_in self.new ≡ names_in self.old) }
-        ensures contents { OnOk result (HoldsGiven self.old self.new cap (text_lent text.entry)) }
-        ensures within { OnOk result (FitsWith self.old cap (text_lent text.entry)) }
-        ensures too_large { IsErrOf result WriteError.TooLarge ↔ IsOverWith self.old cap (text_lent text.entry) }
-        ensures memory { IsErrOf result WriteError.Memory → FitsWith self.old cap (text_lent text.entry) }
-        ensures names_fit { IsErrOf result WriteError.NamesTooLong → ⊥ }
-        ensures err { OnErr result (self.new ≡ self.old) }
+        ensures { SetsContent self.old self.new cap (text_lent text.entry) result }
     {
         set_text(&mut self.bytes, cap.index(), text)
     }
 
     // Takes away what a capability has. A refused change leaves the image.
     fn take_away(&mut self, cap: Cap) -> Result<(), WriteError>
-        ensures ok { OnOk result (self.new ≡ image_with self.old cap None) }
-        ensures names { OnOk result (names_in self.new ≡ names_in self.old) }
-        ensures contents { OnOk result (HoldsGiven self.old self.new cap None) }
-        ensures within { OnOk result (FitsWith self.old cap None) }
-        ensures too_large { IsErrOf result WriteError.TooLarge ↔ IsOverWith self.old cap None }
-        ensures memory { IsErrOf result WriteError.Memory → FitsWith self.old cap None }
-        ensures names_fit { IsErrOf result WriteError.NamesTooLong → ⊥ }
-        ensures err { OnErr result (self.new ≡ self.old) }
+        ensures { SetsContent self.old self.new cap None result }
     {
         match cap.kind() {
             Kind::Flag => self.set_flag(cap, false),
@@ -186,14 +158,7 @@ impl Image {
     /// change leaves the image.
     pub(crate) fn set_value(&mut self, cap: Cap, value: Option<&Value>) -> Result<(), WriteError>
         requires agrees { AgreesIfSome cap (option_map (λ v. content_of v.now) value) }
-        ensures ok { OnOk result (self.new ≡ image_with self.old cap (without_cancel (content_lent value.entry))) }
-        ensures names { OnOk result (names_in self.new ≡ names_in self.old) }
-        ensures contents { OnOk result (HoldsGiven self.old self.new cap (without_cancel (content_lent value.entry))) }
-        ensures within { OnOk result (FitsWith self.old cap (without_cancel (content_lent value.entry))) }
-        ensures too_large { IsErrOf result WriteError.TooLarge ↔ IsOverWith self.old cap (without_cancel (content_lent value.entry)) }
-        ensures memory { IsErrOf result WriteError.Memory → FitsWith self.old cap (without_cancel (content_lent value.entry)) }
-        ensures names_fit { IsErrOf result WriteError.NamesTooLong → ⊥ }
-        ensures err { OnErr result (self.new ≡ self.old) }
+        ensures { SetsContent self.old self.new cap (without_cancel (content_lent value.entry)) result }
     {
         match value {
             Some(Value::True) => self.set_flag(cap, true),
@@ -211,14 +176,7 @@ impl Image {
     /// and [`WriteError::Memory`]; never [`WriteError::NamesTooLong`].
     pub fn set(&mut self, cap: Cap, value: Option<Value>) -> Result<(), WriteError>
         requires agrees { AgreesIfSome cap (option_map content_of value) }
-        ensures ok { OnOk result (self.new ≡ image_with self.old cap (without_cancel (option_map content_of value))) }
-        ensures names { OnOk result (names_in self.new ≡ names_in self.old) }
-        ensures contents { OnOk result (HoldsGiven self.old self.new cap (without_cancel (option_map content_of value))) }
-        ensures within { OnOk result (FitsWith self.old cap (without_cancel (option_map content_of value))) }
-        ensures too_large { IsErrOf result WriteError.TooLarge ↔ IsOverWith self.old cap (without_cancel (option_map content_of value)) }
-        ensures memory { IsErrOf result WriteError.Memory → FitsWith self.old cap (without_cancel (option_map content_of value)) }
-        ensures names_fit { IsErrOf result WriteError.NamesTooLong → ⊥ }
-        ensures err { OnErr result (self.new ≡ self.old) }
+        ensures { SetsContent self.old self.new cap (without_cancel (option_map content_of value)) result }
     {
         self.set_value(cap, value.as_ref())
     }

@@ -7,7 +7,7 @@ ghost use Rattle.ti_caps.specs.declared.capability.Kind.TheVariants.{Number};
 ghost use Rattle.ti_layout.specs.Image.{image, below, format_of};
 ghost use Rattle.ti_layout.specs.Layout as layout;
 ghost use Rattle.ti_layout.specs.Layout.{FitsTwoBytes, number_section, number_bytes};
-ghost use Rattle.ti_layout.specs.Sizes.{HasSizes};
+ghost use Rattle.ti_layout.specs.Writing.{HasSizes};
 ghost use Rattle.ti_layout.specs.Values.{Contents};
 ghost use Rattle.ti_compiled.specs.Changes.{image_with, FitsWith, IsOverWith};
 ghost use Rattle.ti_compiled.specs.inside.Changes.{number_content, wide_value, with_number, HasNumbers};

@@ -1,13 +1,14 @@
 // A text of an image given, replaced or taken away: the string table holds the texts one after the
 // other, and an offset for each text up to the last that is there leads into it.
 ghost use Rattle.std.specs.Prelude.{◌≡◌, ◌≢◌, ℕ, suc, ◌+◌, ◌-◌, ◌*◌, ◌%◌, ◌<◌, ◌≤◌, List, ◌++◌, length, vec_len, vec_capacity, Option, option_map, ◌↔◌, IsErrOf, OnOk, OnErr};
+ghost use Rattle.ti_text.specs.Limits.{two_byte_count};
 ghost use Rattle.ti_caps.specs.Tables.{capability, count_of};
 ghost use Rattle.ti_caps.specs.declared.capability.Kind.TheVariants.{Text};
 ghost use Rattle.ti_layout.specs.Image.{image, below, texts_below};
 ghost use Rattle.ti_layout.specs.Layout as layout;
 ghost use Rattle.ti_layout.specs.Layout.{FitsTwoBytes, number_section};
 ghost use Rattle.ti_layout.specs.Reading.{word_at};
-ghost use Rattle.ti_layout.specs.Sizes.{HasSizes};
+ghost use Rattle.ti_layout.specs.Writing.{HasSizes};
 ghost use Rattle.ti_compiled.specs.Changes.{image_with, FitsWith, IsOverWith};
 ghost use Rattle.ti_compiled.specs.inside.Changes.{text_lent};
 ghost use Rattle.ti_compiled.specs.Image.{names_in, contents_in, with_content, IsImage};
@@ -92,7 +93,7 @@ fn move_later(
     added: usize,
 )
     requires within { place + 2 * to ≤ vec_len bytes.old }
-    requires added { added ≤ 65536 }
+    requires added { added ≤ two_byte_count }
     ensures moved { (p r : List ℕ) (f : ℕ → ℕ) → bytes.old.items ≡ p ++ (number_section Format.Legacy (below f to) ++ r)
         → length p ≡ place → ((j : ℕ) → f j ≤ layout.absent_mark Format.Legacy)
         → bytes.new.items ≡ p ++ (number_section Format.Legacy (below (moved_later f from removed added) to) ++ r) }
@@ -109,7 +110,7 @@ fn move_later(
 
 // How many bytes a text takes in the table.
 fn piece_len(text: Option<&[u8]>) -> usize
-    requires { length (ended_text (option_map (λ t. t.now) text)) ≤ 65536 }
+    requires { length (ended_text (option_map (λ t. t.now) text)) ≤ two_byte_count }
     ensures { result ≡ length (ended_text (option_map (λ t. t.now) text.entry)) }
 {
     match text {

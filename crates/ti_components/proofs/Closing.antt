@@ -3,7 +3,7 @@ use Rattle.std.proofs.Common.{◌≡◌, ℕ, suc, ◌+◌, ◌-◌, ◌<◌, �
 use Rattle.std.proofs.lemmas.Bool.{cases_lt, cases_eq}
 use Rattle.std.proofs.lemmas.Option.{slice_get_within}
 use Rattle.ti_components.specs.Graph.{Rows, HasEdge}
-use Rattle.ti_components.specs.Components.{Has}
+use Rattle.ti_text.specs.Lists.{Has}
 use Rattle.ti_components.specs.inside.Search.{IsPath, AreGroups, IsOrderSoFar, IsWalk, IsMarked}
 use Rattle.ti_components.specs.declared.search.Progress.{Progress}
 use Rattle.ti_components.specs.declared.search.Progress.TheVariants.{Unseen, OnPath, Closed}

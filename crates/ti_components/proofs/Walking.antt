@@ -4,7 +4,7 @@ use Rattle.std.proofs.lemmas.Bool.{cases_lt, cases_eq}
 use Rattle.std.proofs.lemmas.Option.{same_Some, slice_get_within}
 use Rattle.ti_components.specs.Graph.{Rows, HasEdge}
 use Rattle.ti_components.specs.Leading.{Leads}
-use Rattle.ti_components.specs.Components.{Has}
+use Rattle.ti_text.specs.Lists.{Has}
 use Rattle.ti_components.specs.inside.Search.{Rises, IsExplored, IsPath, AreGroups, IsOrderSoFar, IsWalk, IsCutOffAt}
 use Rattle.ti_components.specs.declared.search.Progress.{Progress}
 use Rattle.ti_components.specs.declared.search.Progress.TheVariants.{Unseen, OnPath, Closed}

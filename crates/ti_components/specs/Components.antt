@@ -1,11 +1,8 @@
 -- Strongly connected components, by a number for each node, and an order of the nodes in which components close.
 use Rattle.std.specs.Prelude.{ℕ, ◌≡◌, ◌<◌, ◌≤◌, ◌⊎◌, ◌↔◌, List, length, Some, slice_get}
+use Rattle.ti_text.specs.Lists.{Has}
 use Rattle.ti_components.specs.Graph.{Rows, HasEdge}
 use Rattle.ti_components.specs.Leading.{Leads}
-
--- it stands in the list
-abbrev pub Has : List ℕ → ℕ → Type 0
-Has xs x = (i : ℕ) × (slice_get xs i ≡ Some x)
 
 -- the node has a number, which is that of exactly those nodes that it leads to and that lead to it; along an edge no
 -- number rises
@@ -20,6 +17,7 @@ pub record IsClosingOrder (graph : Rows) (component_of order : List ℕ) : Type 
   pub listed : (u : ℕ) → u < length graph → Has order u
   pub nodes : (i u : ℕ) → slice_get order i ≡ Some u → u < length graph
   pub once : (i j u : ℕ) → slice_get order i ≡ Some u → slice_get order j ≡ Some u → i ≡ j
-  pub before : (i j u w c d : ℕ) → slice_get order i ≡ Some u → slice_get order j ≡ Some w → slice_get component_of u ≡ Some c → slice_get component_of w ≡ Some d → HasEdge graph u w → (c ≡ d) ⊎ (j < i)
+  pub before : (i j u w c d : ℕ) → slice_get order i ≡ Some u → slice_get order j ≡ Some w → slice_get component_of u ≡ Some c
+      → slice_get component_of w ≡ Some d → HasEdge graph u w → (c ≡ d) ⊎ (j < i)
   pub starts : (i u c : ℕ) → slice_get order i ≡ Some u → slice_get component_of u ≡ Some c → c ≤ i
   pub first : (u c : ℕ) → slice_get component_of u ≡ Some c → (v : ℕ) × (slice_get order c ≡ Some v) × (slice_get component_of v ≡ Some c)

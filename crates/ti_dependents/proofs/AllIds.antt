@@ -4,12 +4,12 @@ use Rattle.std.specs.List.{list_any}
 use Rattle.std.proofs.lemmas.Bool.{cases_Bool}
 use Rattle.std.proofs.lemmas.List.{take_more}
 use Rattle.std.proofs.lemmas.Option.{slice_get-get_or}
-use Rattle.ti_index.specs.Labels.{IsDistinct}
+use Rattle.ti_index.specs.Labels.{AreDistinct}
 use Rattle.ti_index.proofs.Lists.{take_get}
 use Rattle.ti_dependents.proofs.Lists.{Has_from_any}
 
 -- an id does not stand before its place
-not_before : (ids : List ℕ) (at id : ℕ) → IsDistinct ids → slice_get ids at ≡ Some id → list_any (nat_eq id) (take at ids) ≡ false
+not_before : (ids : List ℕ) (at id : ℕ) → AreDistinct ids → slice_get ids at ≡ Some id → list_any (nat_eq id) (take at ids) ≡ false
 not_before ids at id once e =
     elim (cases_Bool (list_any (nat_eq id) (take at ids))) [
       | inl there ↦
@@ -21,7 +21,7 @@ not_before ids at id once e =
     ]
 
 -- one more id is put behind the others
-pub listed_more : (ids old new : List ℕ) (at : ℕ) → IsDistinct ids → at < length ids → old ≡ take at ids
+pub listed_more : (ids old new : List ℕ) (at : ℕ) → AreDistinct ids → at < length ids → old ≡ take at ids
     → new ≡ cond (list_any (nat_eq (get_or ids at 0)) old) old (old ++ get_or ids at 0 ∷ []) → new ≡ take (at + 1) ids
 listed_more ids old new at once l e grown =
     let id = get_or ids at 0 in

@@ -45,4 +45,5 @@ pub record IsEdgeRowOf (slots : Slots) (ids : List ℕ) (items : List ReadItem) 
 -- a row for each of the ids
 pub record IsGraphOfUses (slots : Slots) (ids : List ℕ) (graph : Rows) : Type 0 where
   pub as_many : length graph ≡ length ids
-  pub rows : (i id : ℕ) (row : List (Option ℕ)) → slice_get ids i ≡ Some id → slice_get graph i ≡ Some row → IsEdgeRowOf slots ids (reading_at slots.slots.items id).items row
+  pub rows : (i id : ℕ) (row : List (Option ℕ)) → slice_get ids i ≡ Some id → slice_get graph i ≡ Some row
+      → IsEdgeRowOf slots ids (reading_at slots.slots.items id).items row

@@ -1,6 +1,6 @@
 // All blocks of a list, in its order.
 ghost use Rattle.std.specs.Prelude.{◌≡◌, ◌<◌, ℕ, Some, length, slice_get, IfOk};
-ghost use Rattle.ti_index.specs.Labels.{IsDistinct};
+ghost use Rattle.ti_index.specs.Labels.{AreDistinct};
 
 use indexmap::IndexSet;
 use std::alloc::{AllocError, Global};
@@ -9,7 +9,7 @@ use ti_index::Order;
 /// The ids of a list, in its order. None stands twice.
 pub(crate) fn listed_ids(alloc: Global, order: &Order) -> Result<IndexSet<u32>, AllocError>
     ensures ids { IfOk result (λ found. found.keys ≡ order.now.listed) }
-    ensures distinct { IsDistinct order.now.listed }
+    ensures distinct { AreDistinct order.now.listed }
 {
     let ids = order.ids();
     let mut found = IndexSet::with_capacity(alloc, ids.len())?;

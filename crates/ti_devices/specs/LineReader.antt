@@ -3,7 +3,7 @@ use Rattle.std.specs.Prelude.{◌≡◌, ℕ, ◌+◌, ◌*◌, ◌<◌, List, [
 use Rattle.std.specs.Io.KnownBytes.{Consumes, IsAtEnd}
 use Rattle.ti_devices.specs.Counted.{Observed}
 use Rattle.ti_devices.specs.Lines.{IsOneLine, IsWithin, with_newline}
-use Rattle.ti_devices.specs.Reading.{Gives}
+use Rattle.ti_devices.specs.Reading.{Gives, read_bytes_max}
 use Rattle.ti_devices.specs.declared.line_reader.LineReader.{LineReader}
 use Rattle.ti_devices.specs.declared.line_reader.Next.{Next}
 use Rattle.ti_devices.specs.declared.line_reader.Next.TheVariants.{Line, LastLine, End}
@@ -26,9 +26,9 @@ ahead_of lines = lines.ahead
 abbrev pub reads_left_of : LineReader → ℕ
 reads_left_of lines = lines.reads_left
 
--- at most so many bytes are still to be used: those ahead, and 4,096 a read
+-- at most so many bytes are still to be used: those ahead, and `read_bytes_max` a read
 abbrev pub bytes_left : LineReader → ℕ
-bytes_left lines = reads_left_of lines * 4096 + length (ahead_of lines)
+bytes_left lines = reads_left_of lines * read_bytes_max + length (ahead_of lines)
 
 -- the greatest number of reads
 abbrev pub reads_max : ℕ

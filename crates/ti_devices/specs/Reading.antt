@@ -5,6 +5,10 @@ use Rattle.ti_devices.specs.Counted.{Observed}
 use Rattle.ti_devices.specs.declared.tool_error.ToolError.{ToolError}
 use Rattle.ti_devices.specs.declared.tool_error.ToolError.TheVariants.{ReadFault}
 
+-- the most bytes that are asked for at a time
+abbrev pub read_bytes_max : ℕ
+read_bytes_max = 4096
+
 -- the reader gave these bytes, and did not fail
 pub record Gives (given left : Observed) (taken : List ℕ) : Type 0 where
   pub bytes : Consumes given.bytes left.bytes taken

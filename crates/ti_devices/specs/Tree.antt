@@ -1,8 +1,10 @@
 -- Trees of files. Where it is known what a tree holds, it is a map from paths to bytes; of a real
 -- disk that is not known, so what a tree holds is an option of such a map. (own)
-use Rattle.std.specs.Prelude.{◌≡◌, ◌≢◌, ℕ, List, [], ◌∷◌, Option, Some, None, take, drop, option_map}
+use Rattle.std.specs.Prelude.{◌≡◌, ◌≢◌, ℕ, List, [], ◌∷◌, Option, Some, None, Result, Ok, Err, take, drop, option_map}
 use Rattle.std.specs.Map.{update}
 use Rattle.std.specs.Str.{bytes_eq}
+use Rattle.ti_devices.specs.declared.tree.TreeFault.{TreeFault}
+use Rattle.ti_devices.specs.declared.tree.TreeFault.TheVariants.{Failed, Memory}
 
 -- the bytes of the file at each path, and none where there is no such file
 abbrev pub Files : Type 0
@@ -47,3 +49,15 @@ abbrev pub WritesUpTo : ℕ → List FileAt → Option Files → Option Files �
 WritesUpTo count entries old new = (mid : Option Files) × (next : FileAt) × (rest : List FileAt)
     × (drop count entries ≡ next ∷ rest) × Writes (take count entries) old mid
     × ChangesOnly next.0 mid new
+
+-- ---- failures
+
+-- a fault of what holds the files is one failure, and want of memory none
+abbrev pub failures_by : TreeFault → ℕ
+failures_by Failed = 1
+failures_by Memory = 0
+
+-- the failures of a call, by its answer
+abbrev pub failures_in : {X : Type 0} → Result X TreeFault → ℕ
+failures_in (Ok x) = 0
+failures_in (Err fault) = failures_by fault

@@ -30,8 +30,8 @@ impl<D> Counted<D> {
     {
         Counted {
             device,
-            failures: Tally::none(),
-            reads: Tally::none(),
+            failures: Tally::zero(),
+            reads: Tally::zero(),
         }
     }
 
@@ -62,10 +62,10 @@ impl<R: Read> Read for Counted<R> {
         ensures failures { failures_of self.new ≡ failures_of self.old + failed_read result }
         ensures reads { reads_of self.new ≡ reads_of self.old + 1 }
     {
-        self.reads = self.reads.and_one();
+        self.reads = self.reads.plus_one();
         let result = self.device.read(buf);
         if result.is_err() {
-            self.failures = self.failures.and_one();
+            self.failures = self.failures.plus_one();
         }
         result
     }
@@ -87,10 +87,10 @@ impl<W: Write> Write for Counted<W> {
         match &result {
             Ok(count) => {
                 if *count == 0 && !buf.is_empty() {
-                    self.failures = self.failures.and_one();
+                    self.failures = self.failures.plus_one();
                 }
             }
-            Err(_) => self.failures = self.failures.and_one(),
+            Err(_) => self.failures = self.failures.plus_one(),
         }
         result
     }
@@ -102,7 +102,7 @@ impl<W: Write> Write for Counted<W> {
     {
         let result = self.device.flush();
         if result.is_err() {
-            self.failures = self.failures.and_one();
+            self.failures = self.failures.plus_one();
         }
         result
     }

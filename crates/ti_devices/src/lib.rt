@@ -7,15 +7,15 @@
 //! - `reading` and `writing`: bytes read as they come, and bytes written to their end
 //! - `buffer`: bytes with a limit, for which the room was made at the start
 //! - `line_reader`: lines read one at a time, with a limit on their length and on the reads; `read_ahead`
-//!   holds what was read and not used yet. `line_laws`: bytes are cut into lines in one way alone
+//!   holds what was read and not used yet. `lines`: bytes are cut into lines in one way alone
 //! - `paths`: where the entries of terminals stand below a folder
 //! - `tree`: what a tree of files is; `memory_tree` is one in memory, and `placing` writes files into a tree
 #![tactic(auto)]
 
 pub mod buffer;
 pub mod counted;
-pub mod line_laws;
 pub mod line_reader;
+pub mod lines;
 pub mod memory_tree;
 pub mod paths;
 pub mod placing;
@@ -28,8 +28,8 @@ pub mod writing;
 
 pub use buffer::Buffer;
 pub use counted::Counted;
-pub use line_laws::one_split;
 pub use line_reader::{LineReader, Next};
+pub use lines::one_split;
 pub use memory_tree::MemTree;
 pub use paths::entry_path;
 pub use placing::{File, place};

@@ -32,7 +32,7 @@ impl MemTree {
             alloc,
             held: BTreeMap::new(alloc),
             due: 0,
-            failures: Tally::none(),
+            failures: Tally::zero(),
         }
     }
 
@@ -64,7 +64,7 @@ impl MemTree {
         let due = self.due == 1;
         self.due = self.due.saturating_sub(1);
         if due {
-            self.failures = self.failures.and_one();
+            self.failures = self.failures.plus_one();
             return Err(TreeFault::Failed);
         }
         Ok(())

@@ -1,7 +1,7 @@
 //! Writing the files that a tool made.
-ghost use Rattle.std.specs.Prelude.{◌≡◌, ◌<◌, ◌≤◌, IfErr, IsErrOf, OnErr, OnOk};
+ghost use Rattle.std.specs.Prelude.{◌≡◌, ◌+◌, IfErr, OnErr, OnOk};
 ghost use Rattle.ti_devices.specs.Placing.{entries, placed_entry};
-ghost use Rattle.ti_devices.specs.Tree.{ChangesOnly, Sets, Writes, WritesUpTo};
+ghost use Rattle.ti_devices.specs.Tree.{ChangesOnly, Sets, Writes, WritesUpTo, failures_by};
 
 use crate::tree::{Tree, TreeFault};
 
@@ -19,9 +19,8 @@ fn place_one<T: Tree>(tree: &mut T, file: &File) -> Result<(), TreeFault>
     ensures written { OnOk result (Sets (placed_entry file.now) (T.files tree.old) (T.files tree.new)) }
     ensures others { OnErr result (ChangesOnly (placed_entry file.now).0 (T.files tree.old)
         (T.files tree.new)) }
-    ensures later { T.failures tree.old ≤ T.failures tree.new }
-    ensures failed { IsErrOf result TreeFault.Failed
-        → T.failures tree.old < T.failures tree.new }
+    ensures steady { OnOk result (T.failures tree.new ≡ T.failures tree.old) }
+    ensures counted { IfErr result (λ fault. T.failures tree.new ≡ T.failures tree.old + failures_by fault) }
 {
     tree.write(file.path.as_str(), file.bytes.as_slice())
 }
@@ -35,9 +34,8 @@ pub fn place<T: Tree>(tree: &mut T, files: &[File]) -> Result<(), (usize, TreeFa
     ensures all { OnOk result (Writes (entries files.now) (T.files tree.old) (T.files tree.new)) }
     ensures some { IfErr result (λ stop. WritesUpTo stop.0 (entries files.now) (T.files tree.old)
         (T.files tree.new)) }
-    ensures later { T.failures tree.old ≤ T.failures tree.new }
-    ensures failed { IfErr result (λ stop. stop.1 ≡ TreeFault.Failed
-        → T.failures tree.old < T.failures tree.new) }
+    ensures steady { OnOk result (T.failures tree.new ≡ T.failures tree.old) }
+    ensures counted { IfErr result (λ stop. T.failures tree.new ≡ T.failures tree.old + failures_by stop.1) }
 {
     for (count, file) in files.iter().enumerate() {
         if let Err(fault) = place_one(tree, file) {

@@ -1,6 +1,7 @@
 //! Bytes that were read at once and are used one after another.
 ghost use Rattle.std.specs.Prelude.{◌≡◌, ◌+◌, ◌-◌, ◌≤◌, [], ℕ, List, drop, length, take};
 ghost use Rattle.ti_devices.specs.Counted.{observation, reads_of};
+ghost use Rattle.ti_devices.specs.Reading.{read_bytes_max};
 ghost use Rattle.ti_devices.specs.inside.Reading.{Refill};
 
 use crate::counted::Counted;
@@ -21,11 +22,14 @@ pub struct ReadAhead {
 }
 
 impl Model for ReadAhead {
+    ghost use Rattle.std.specs.Prelude.{◌-◌, ◌≤◌, ℕ, List, drop, take};
+    ghost use Rattle.ti_devices.specs.Reading.{read_bytes_max};
+
     ghost Value = { List ℕ };
 
     ghost view = { λ a. take (a.to - a.from) (drop a.from a.piece) };
 
-    ghost invariant = { λ a. (a.from ≤ a.to) × (a.to ≤ 4096) };
+    ghost invariant = { λ a. (a.from ≤ a.to) × (a.to ≤ read_bytes_max) };
 }
 
 impl ReadAhead {
@@ -43,7 +47,7 @@ impl ReadAhead {
     /// The bytes.
     pub fn as_slice(&self) -> &[u8]
         ensures bytes { result.now ≡ self.now }
-        ensures bound { length result.now ≤ 4096 }
+        ensures bound { length result.now ≤ read_bytes_max }
     {
         &self.piece[self.from..self.to]
     }
@@ -64,7 +68,7 @@ impl ReadAhead {
         ensures bytes { Refill (observation R.remaining reader.old) (observation R.remaining reader.new)
             self.new result }
         ensures reads { reads_of reader.new ≡ reads_of reader.old + 1 }
-        ensures bound { length self.new ≤ 4096 }
+        ensures bound { length self.new ≤ read_bytes_max }
     {
         self.from = 0;
         self.to = 0;

@@ -17,14 +17,14 @@ impl Model for Tally {
 
 impl Tally {
     /// Not yet.
-    pub fn none() -> Tally
+    pub fn zero() -> Tally
         ensures { result.count ≡ 0 }
     {
         Tally {}
     }
 
     /// Once more than this.
-    pub fn and_one(&self) -> Tally
+    pub fn plus_one(&self) -> Tally
         ensures { result.count ≡ self.now.count + 1 }
     {
         Tally {}

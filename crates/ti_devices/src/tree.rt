@@ -1,6 +1,6 @@
 //! The trees of files that the tools read and write.
-ghost use Rattle.std.specs.Prelude.{◌≡◌, ◌+◌, ◌<◌, ◌≤◌, ℕ, Option, None, IfOk, IsErrOf, OnErr, OnOk, option_map};
-ghost use Rattle.ti_devices.specs.Tree.{ChangesOnly, Files, FindsFile, Sets};
+ghost use Rattle.std.specs.Prelude.{◌≡◌, ◌+◌, ℕ, Option, None, IfOk, OnErr, OnOk, option_map};
+ghost use Rattle.ti_devices.specs.Tree.{ChangesOnly, Files, FindsFile, Sets, failures_in};
 
 use std::alloc::Global;
 use thiserror::Error;
@@ -8,7 +8,7 @@ use thiserror::Error;
 /// Why a tree did not read or write a file.
 #[derive(Clone, Copy, Debug, PartialEq, Eq, Error)]
 pub enum TreeFault {
-    /// What holds the files failed. It comes only where the tree's count of failures rose.
+    /// What holds the files failed. The tree counts one failure more.
     #[error("the file could not be read or written")]
     Failed,
     /// A growth of memory was refused.
@@ -39,8 +39,7 @@ pub trait Tree {
         ensures found { IfOk result (λ found. FindsFile path.now (limit + 1) (files self.old)
             (option_map (λ bytes. bytes.items) found)) }
         ensures kept { files self.new ≡ files self.old }
-        ensures later { failures self.old ≤ failures self.new }
-        ensures failed { IsErrOf result TreeFault.Failed → failures self.old < failures self.new };
+        ensures counted { failures self.new ≡ failures self.old + failures_in result };
 
     /// Writes a file of these bytes, in place of the one at `path` where there is one.
     ///
@@ -50,6 +49,5 @@ pub trait Tree {
     fn write(&mut self, path: &str, bytes: &[u8]) -> Result<(), TreeFault>
         ensures written { OnOk result (Sets (path.now, bytes.now) (files self.old) (files self.new)) }
         ensures others { OnErr result (ChangesOnly path.now (files self.old) (files self.new)) }
-        ensures later { failures self.old ≤ failures self.new }
-        ensures failed { IsErrOf result TreeFault.Failed → failures self.old < failures self.new };
+        ensures counted { failures self.new ≡ failures self.old + failures_in result };
 }

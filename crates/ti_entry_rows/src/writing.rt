@@ -215,7 +215,7 @@ fn merges_what_is_absent(rt: HostRuntime) -> Result<(), AllocError> {
 }
 
 // A cancel of a flag, and behind it the flag, which the cancel keeps out.
-fn cancel_then_lay_flag(table: &mut Table, index: usize) -> Result<(), AllocError> {
+fn cancel_then_offer_flag(table: &mut Table, index: usize) -> Result<(), AllocError> {
     match Cap::at(Kind::Flag, index) {
         Some(cap) => {
             table.set(cap, Some(Value::Cancelled))?;
@@ -225,7 +225,7 @@ fn cancel_then_lay_flag(table: &mut Table, index: usize) -> Result<(), AllocErro
     }
 }
 
-fn lay_text(
+fn set_text_if_absent(
     table: &mut Table,
     alloc: Global,
     index: usize,
@@ -240,12 +240,12 @@ fn lay_text(
 }
 
 #[test]
-fn lays_what_is_absent(rt: HostRuntime) -> Result<(), AllocError> {
+fn a_value_is_set_where_none_is(rt: HostRuntime) -> Result<(), AllocError> {
     let alloc = rt.alloc();
     let mut table = table_of(alloc, &[Given::Text(1, b"B")])?;
-    cancel_then_lay_flag(&mut table, 1)?;
-    lay_text(&mut table, alloc, 0, b"A")?;
-    lay_text(&mut table, alloc, 1, b"C")?;
+    cancel_then_offer_flag(&mut table, 1)?;
+    set_text_if_absent(&mut table, alloc, 0, b"A")?;
+    set_text_if_absent(&mut table, alloc, 1, b"C")?;
     let want = b"\x1a\x01\x02\0\0\0\0\0\x02\0\x04\0x\0\0\0\x02\0A\0B\0";
     assert!(rt; is_written(alloc, b"x", &table, want));
     Ok(())

@@ -72,7 +72,7 @@ fn files_of(alloc: Global, database: &Database, place: &str) -> Result<Vec<File>
     Ok(files)
 }
 
-/// Writes the files of the entries that are not in the tree yet, or other there, and tells how many
+/// Writes the files of the entries that are not in the tree yet, or other there, and says how many
 /// these were.
 ///
 /// # Errors

@@ -4,9 +4,10 @@ use Rattle.std.proofs.lemmas.Bool.{cases_lt, cases_eq, cases_Bool, false≢true,
 use Rattle.std.proofs.lemmas.List.Elements.{filter-append}
 use Rattle.std.proofs.lemmas.Option.{same_Some, none-some}
 use Rattle.ti_index.specs.inside.Labels.{AreLabelled}
-use Rattle.ti_index.specs.Labels.{Has, AreKnown, IsDistinct}
+use Rattle.ti_text.specs.Lists.{Has}
+use Rattle.ti_index.specs.Labels.{AreKnown, AreDistinct}
 use Rattle.ti_index.specs.Listing.{Lists, ListsBefore, ListsToo, ListsNoMore}
-use Rattle.ti_index.proofs.Placing.{before_told}
+use Rattle.ti_index.proofs.Placing.{labels_decide_before}
 use Rattle.ti_index.proofs.Lists.{get_back, take_get, drop_get}
 
 -- ---- the place of an element that passes
@@ -73,29 +74,29 @@ counted_begun listed list id = record {
 }
 
 -- what a comparison with the id says of an element's place
-abbrev pub IsToldBefore : List ℕ → ℕ → ℕ → Bool → Type 0
-IsToldBefore listed x id told = (i j : ℕ) → slice_get listed i ≡ Some x → slice_get listed j ≡ Some id → (told ≡ true → i < j) × (i < j → told ≡ true)
+abbrev pub IsDecidedBefore : List ℕ → ℕ → ℕ → Bool → Type 0
+IsDecidedBefore listed x id decided = (i j : ℕ) → slice_get listed i ≡ Some x → slice_get listed j ≡ Some id → (decided ≡ true → i < j) × (i < j → decided ≡ true)
 
-pub counted_above : (listed list : List ℕ) (id low high middle x : ℕ) → IsCounted listed list id low high → low ≤ middle → middle < high → slice_get list middle ≡ Some x → IsToldBefore listed x id true → IsCounted listed list id (middle + 1) high
-counted_above listed list id low high middle x h l m e told = record {
+pub counted_above : (listed list : List ℕ) (id low high middle x : ℕ) → IsCounted listed list id low high → low ≤ middle → middle < high → slice_get list middle ≡ Some x → IsDecidedBefore listed x id true → IsCounted listed list id (middle + 1) high
+counted_above listed list id low high middle x h l m e decided = record {
   order = omega arith;
   within = h.within;
   between = λ test place f g.
       let p = filter_place test listed middle x (ap (λ xs. slice_get xs middle) (sym f) ∙ e) in
-      let first = (told p.0 place p.1 g).0 refl in
+      let first = (decided p.0 place p.1 g).0 refl in
       let less = (p.2 place).0 first in
       (omega arith, (h.between test place f g).1);
 }
 
-pub counted_below : (listed list : List ℕ) (id low high middle x : ℕ) → IsCounted listed list id low high → low ≤ middle → middle < high → slice_get list middle ≡ Some x → IsToldBefore listed x id false → IsCounted listed list id low middle
-counted_below listed list id low high middle x h l m e told = record {
+pub counted_below : (listed list : List ℕ) (id low high middle x : ℕ) → IsCounted listed list id low high → low ≤ middle → middle < high → slice_get list middle ≡ Some x → IsDecidedBefore listed x id false → IsCounted listed list id low middle
+counted_below listed list id low high middle x h l m e decided = record {
   order = l;
   within = (let w = h.within in omega arith);
   between = λ test place f g.
       let p = filter_place test listed middle x (ap (λ xs. slice_get xs middle) (sym f) ∙ e) in (
         (h.between test place f g).0,
         elim (cases_lt middle (length (filter test (take place listed)))) [
-          | inl less ↦ absurd (false≢true ((told p.0 place p.1 g).1 ((p.2 place).1 less)))
+          | inl less ↦ absurd (false≢true ((decided p.0 place p.1 g).1 ((p.2 place).1 less)))
           | inr more ↦ more
         ],
       );
@@ -141,10 +142,10 @@ filter_has t (y ∷ xs) k x e =
 filter_split : (t : ℕ → Bool) (xs : List ℕ) (p x : ℕ) → slice_get xs p ≡ Some x → filter t xs ≡ filter t (take p xs) ++ filter t (x ∷ drop (suc p) xs)
 filter_split t xs p x e = ap (filter t) (split_place xs p x e) ∙ filter-append t (take p xs) (x ∷ drop (suc p) xs)
 
-lacks_front : (xs : List ℕ) (p x : ℕ) → IsDistinct xs → slice_get xs p ≡ Some x → Has (take p xs) x → ⊥
+lacks_front : (xs : List ℕ) (p x : ℕ) → AreDistinct xs → slice_get xs p ≡ Some x → Has (take p xs) x → ⊥
 lacks_front xs p x d e h = let f = take_get p xs h.0 x h.1 in let same = d h.0 p x f.1 e in let l = f.0 in omega arith
 
-lacks_back : (xs : List ℕ) (p x : ℕ) → IsDistinct xs → slice_get xs p ≡ Some x → Has (drop (suc p) xs) x → ⊥
+lacks_back : (xs : List ℕ) (p x : ℕ) → AreDistinct xs → slice_get xs p ≡ Some x → Has (drop (suc p) xs) x → ⊥
 lacks_back xs p x d e h = let same = d (suc p + h.0) p x (drop_get (suc p) xs h.0 x h.1) e in omega arith
 
 insert_at : (xs ys : List ℕ) (x : ℕ) → insert (xs ++ ys) (length xs) x ≡ xs ++ x ∷ ys
@@ -184,7 +185,7 @@ put_there listed list id k h t e =
       | inr other ↦ sym (with_id t id x other)
     ])
 
-pub put_new : (listed list : List ℕ) (id count place : ℕ) → IsDistinct listed → slice_get listed place ≡ Some id → ListsBefore listed list id count → (slice_get list count ≡ Some id → ⊥) → ListsToo listed list (insert list count id) id
+pub put_new : (listed list : List ℕ) (id count place : ℕ) → AreDistinct listed → slice_get listed place ≡ Some id → ListsBefore listed list id count → (slice_get list count ≡ Some id → ⊥) → ListsToo listed list (insert list count id) id
 put_new listed list id count place d f before lacks t e =
     elim (cases_Bool (t id)) [
       | inl passes ↦ absurd (lacks (passing_at listed list t id count place e f before passes))
@@ -211,7 +212,7 @@ take_not listed list id count place f before lacks t e =
       ])
     ]
 
-pub take_there : (listed list : List ℕ) (id count place : ℕ) → IsDistinct listed → slice_get listed place ≡ Some id → ListsBefore listed list id count → slice_get list count ≡ Some id → ListsNoMore listed list (remove list count) id
+pub take_there : (listed list : List ℕ) (id count place : ℕ) → AreDistinct listed → slice_get listed place ≡ Some id → ListsBefore listed list id count → slice_get list count ≡ Some id → ListsNoMore listed list (remove list count) id
 take_there listed list id count place d f before h t e =
     let u : ℕ → Bool = λ x. not (nat_eq x id) && t x in
     let front = filter t (take place listed) in
@@ -227,12 +228,12 @@ take_there listed list id count place d f before h t e =
 
 -- ---- a comparison by labels
 
-pub told_true : (ids labels : List ℕ) (x id : ℕ) → AreLabelled ids labels → AreKnown ids (length labels) → get_or labels x 0 < get_or labels id 0 → IsToldBefore ids x id true
-told_true ids labels x id labelled known less i j e f =
-    let told = before_told ids labels i j x id labelled known e f in
-    ((λ t. told.0 less), λ l. refl)
+pub decided_true : (ids labels : List ℕ) (x id : ℕ) → AreLabelled ids labels → AreKnown ids (length labels) → get_or labels x 0 < get_or labels id 0 → IsDecidedBefore ids x id true
+decided_true ids labels x id labelled known less i j e f =
+    let decided = labels_decide_before ids labels i j x id labelled known e f in
+    ((λ t. decided.0 less), λ l. refl)
 
-pub told_false : (ids labels : List ℕ) (x id : ℕ) → AreLabelled ids labels → AreKnown ids (length labels) → get_or labels id 0 ≤ get_or labels x 0 → IsToldBefore ids x id false
-told_false ids labels x id labelled known more i j e f =
-    let told = before_told ids labels i j x id labelled known e f in
-    ((λ t. absurd (false≢true t)), λ l. (let less = told.1 l in absurd (omega arith)))
+pub decided_false : (ids labels : List ℕ) (x id : ℕ) → AreLabelled ids labels → AreKnown ids (length labels) → get_or labels id 0 ≤ get_or labels x 0 → IsDecidedBefore ids x id false
+decided_false ids labels x id labelled known more i j e f =
+    let decided = labels_decide_before ids labels i j x id labelled known e f in
+    ((λ t. absurd (false≢true t)), λ l. (let less = decided.1 l in absurd (omega arith)))

@@ -3,7 +3,7 @@ use Rattle.std.proofs.Common.{◌≡◌, ℕ, zero, suc, ◌+◌, ◌^◌, ◌<�
 use Rattle.std.specs.List.{insert, remove}
 use Rattle.std.proofs.lemmas.Option.{same_Some, none-some, slice_get_within}
 use Rattle.ti_index.specs.inside.Labels.{HasLabel, AreLabelled, FitsAt}
-use Rattle.ti_index.specs.Labels.{Has}
+use Rattle.ti_text.specs.Lists.{Has}
 use Rattle.ti_index.specs.inside.Order.{IsOrder}
 use Rattle.ti_index.proofs.Lists.{get_front, get_last, push_cases, get-set_same, get-set_other, item_at}
 

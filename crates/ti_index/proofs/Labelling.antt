@@ -3,7 +3,7 @@ use Rattle.std.proofs.Common.{◌≡◌, ℕ, ◌+◌, ◌*◌, ◌^◌, ◌<◌
 use Rattle.std.proofs.lemmas.Bool.{cases_lt, cases_eq}
 use Rattle.std.proofs.lemmas.Option.{same_Some, slice_get_within}
 use Rattle.ti_index.specs.inside.Labels.{HasLabel, AreLabelled, IsGap, FitsAt}
-use Rattle.ti_index.specs.Labels.{IsDistinct}
+use Rattle.ti_index.specs.Labels.{AreDistinct}
 use Rattle.ti_index.proofs.Lists.{get-set_same, get-set_other, item_at}
 
 -- the first ids have labels that are multiples of the step
@@ -13,7 +13,7 @@ pub record AreSpaced (ids labels : List ℕ) (step count : ℕ) : Type 0 where
 pub spaced_none : (ids labels : List ℕ) (step : ℕ) → AreSpaced ids labels step 0
 spaced_none ids labels step = record { spaced = λ i id l. absurd (omega arith) }
 
-pub spaced_more : (ids labels : List ℕ) (step i id : ℕ) → AreSpaced ids labels step i → slice_get ids i ≡ Some id → id < length labels → IsDistinct ids → AreSpaced ids (set labels id ((i + 1) * step)) step (i + 1)
+pub spaced_more : (ids labels : List ℕ) (step i id : ℕ) → AreSpaced ids labels step i → slice_get ids i ≡ Some id → id < length labels → AreDistinct ids → AreSpaced ids (set labels id ((i + 1) * step)) step (i + 1)
 spaced_more ids labels step i id h here within distinct =
     let x = item_at labels id within in
     let new = get-set_same labels id x.0 ((i + 1) * step) x.1 in

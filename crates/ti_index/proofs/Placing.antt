@@ -3,7 +3,8 @@ use Rattle.std.proofs.Common.{◌≡◌, ℕ, ◌+◌, ◌<◌, ◌≤◌, inl, 
 use Rattle.std.proofs.lemmas.Bool.{cases_lt, cases_eq}
 use Rattle.std.proofs.lemmas.Option.{same_Some, slice_get_within, slice_get-get_or}
 use Rattle.ti_index.specs.inside.Labels.{HasLabel, AreLabelled}
-use Rattle.ti_index.specs.Labels.{Has, AreKnown}
+use Rattle.ti_text.specs.Lists.{Has}
+use Rattle.ti_index.specs.Labels.{AreKnown}
 
 -- the id stands in the list, and between the bounds
 pub record IsBetween (ids : List ℕ) (id low high : ℕ) : Type 0 where
@@ -72,9 +73,9 @@ between_found ids id low high h l =
     let same : h.place ≡ low = omega arith in
     rw same at h.stands
 
--- which of two stands first is told by their labels
-pub before_told : (ids labels : List ℕ) (i j one other : ℕ) → AreLabelled ids labels → AreKnown ids (length labels) → slice_get ids i ≡ Some one → slice_get ids j ≡ Some other → (get_or labels one 0 < get_or labels other 0 → i < j) × (i < j → get_or labels one 0 < get_or labels other 0)
-before_told ids labels i j one other labelled known e f =
+-- labels say which of two stands first
+pub labels_decide_before : (ids labels : List ℕ) (i j one other : ℕ) → AreLabelled ids labels → AreKnown ids (length labels) → slice_get ids i ≡ Some one → slice_get ids j ≡ Some other → (get_or labels one 0 < get_or labels other 0 → i < j) × (i < j → get_or labels one 0 < get_or labels other 0)
+labels_decide_before ids labels i j one other labelled known e f =
     let a = label_read ids labels i one known e in
     let b = label_read ids labels j other known f in (
       (λ less. elim (cases_lt i j) [

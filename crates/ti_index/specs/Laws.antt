@@ -11,11 +11,13 @@ ListsAreAmong = (listed : List ℕ) (test : ℕ → Bool) → AreAmong (filter t
 -- an id that fails the test comes and goes without a change of the list
 pub record ListsStay : Type 0 where
   pub inserted : (listed : List ℕ) (position id : ℕ) (test : ℕ → Bool) → test id ≡ false → filter test (insert listed position id) ≡ filter test listed
-  pub removed : (listed : List ℕ) (position id : ℕ) (test : ℕ → Bool) → slice_get listed position ≡ Some id → test id ≡ false → filter test (remove listed position) ≡ filter test listed
+  pub removed : (listed : List ℕ) (position id : ℕ) (test : ℕ → Bool) → slice_get listed position ≡ Some id → test id ≡ false
+      → filter test (remove listed position) ≡ filter test listed
 
 -- tests that agree on all ids give one list
 abbrev pub ListsAgree : Type 0
-ListsAgree = (listed : List ℕ) (test other : ℕ → Bool) → ((i id : ℕ) → slice_get listed i ≡ Some id → test id ≡ other id) → filter test listed ≡ filter other listed
+ListsAgree = (listed : List ℕ) (test other : ℕ → Bool) → ((i id : ℕ) → slice_get listed i ≡ Some id → test id ≡ other id)
+    → filter test listed ≡ filter other listed
 
 -- the id stands at that position and passes, and none before it does
 pub record IsFirstPassing (listed : List ℕ) (test : ℕ → Bool) (position id : ℕ) : Type 0 where

@@ -1,7 +1,8 @@
 // Labels that rise along a list of ids, with room between for labels of ids that are put in.
 ghost use Rattle.std.specs.Prelude.{◌≡◌, ◌<◌, ◌≤◌, ◌*◌, ◌+◌, ◌^◌, ℕ, Some, slice_get, length, vec_len};
 ghost use Rattle.ti_index.specs.inside.Labels.{AreLabelled, FitsAt, IsGap};
-ghost use Rattle.ti_index.specs.Labels.{AreKnown, Has, IsDistinct};
+ghost use Rattle.ti_text.specs.Lists.{Has};
+ghost use Rattle.ti_index.specs.Labels.{AreKnown, AreDistinct};
 
 /// Labels stay below this.
 const LABEL_END: u64 = 1 << 63;
@@ -13,7 +14,7 @@ const LABEL_STEP: u64 = 1 << 32;
 /// Gives the ids labels anew, far apart.
 fn relabel(ids: &[u32], labels: &mut Vec<u64>)
     requires known { AreKnown ids.now (vec_len labels.old) }
-    requires distinct { IsDistinct ids.now }
+    requires distinct { AreDistinct ids.now }
     requires few { length ids.now < 2 ^ 31 }
     ensures len { vec_len labels.new ≡ vec_len labels.old }
     ensures spaced { (i id : ℕ) → slice_get ids.now i ≡ Some id → slice_get labels.new.items id ≡ Some ((i + 1) * LABEL_STEP) }
@@ -47,7 +48,7 @@ fn gap_at(ids: &[u32], labels: &[u64], position: usize) -> (u64, u64)
 /// ids get labels anew.
 pub(crate) fn make_label(ids: &[u32], labels: &mut Vec<u64>, position: usize) -> u64
     requires known { AreKnown ids.now (vec_len labels.old) }
-    requires distinct { IsDistinct ids.now }
+    requires distinct { AreDistinct ids.now }
     requires labelled { AreLabelled ids.now labels.old.items }
     requires few { length ids.now < 2 ^ 31 }
     requires within { position ≤ length ids.now }

@@ -1,6 +1,6 @@
 // Names, each with the blocks that have it and those that use it.
 ghost use Rattle.std.specs.Prelude.{◌≡◌, ◌⊎◌, ℕ, List, [], IsSome, OnOk};
-ghost use Rattle.ti_index.specs.Labels.{Has};
+ghost use Rattle.ti_text.specs.Lists.{Has};
 ghost use Rattle.ti_index.specs.Listing.{AreAmong, Lists, ListsNoMore, ListsToo};
 ghost use Rattle.ti_index.specs.Names.{holders_at, users_at, mentions_at, HasHolderRoom, HasUserRoom, IsForgotten, IsSeenSame, KeepsCapacity, KeepsOthers};
 

@@ -1,6 +1,7 @@
 // The ids of blocks in the order of their list.
 ghost use Rattle.std.specs.Prelude.{◌≡◌, ◌<◌, ◌≤◌, ◌+◌, ◌^◌, ◌++◌, ◌∷◌, ◌↔◌, [], ℕ, Some, slice_get, length, insert, remove, vec_capacity, IsTrue, OnOk, OnErr};
-ghost use Rattle.ti_index.specs.Labels.{AreKnown, Has, IsDistinct};
+ghost use Rattle.ti_text.specs.Lists.{Has};
+ghost use Rattle.ti_index.specs.Labels.{AreKnown, AreDistinct};
 ghost use Rattle.ti_index.specs.Listing.{AreAmong, ListsBefore};
 
 use crate::labels::{find_place, make_label};
@@ -47,7 +48,7 @@ impl Order {
     /// The ids in the order of the list.
     pub fn ids(&self) -> &[u32]
         ensures ids { result.now ≡ self.now.listed }
-        ensures distinct { IsDistinct self.now.listed }
+        ensures distinct { AreDistinct self.now.listed }
     {
         &self.ids
     }
@@ -86,7 +87,7 @@ impl Order {
         requires among { AreAmong list.now self.now.listed }
         ensures within { result ≤ length list.now }
         ensures count { ListsBefore self.now.listed list.now id result }
-        ensures distinct { IsDistinct self.now.listed }
+        ensures distinct { AreDistinct self.now.listed }
     {
         let label = self.labels[id as usize];
         let mut low = 0;

@@ -1,6 +1,6 @@
 // An order of ids and an index of names at work, with room made and checked at run time.
 ghost use Rattle.std.specs.Prelude.{IsTrue};
-ghost use Rattle.ti_index.specs.Labels.{Has};
+ghost use Rattle.ti_text.specs.Lists.{Has};
 ghost use Rattle.ti_index.specs.Listing.{AreAmong};
 
 use std::alloc::AllocError;

@@ -59,12 +59,12 @@ text-in strings offset t rest no_nul e =
 -- ---- the format holds each number
 
 wide_or_not : (c : Contents) (k n : ℕ) → k < 39 → c (capability Number k) ≡ Some (content_number n) → n ≤ 2147483647 → (b : Bool) → some_below (λ i. is_wide (of_kind c Number i)) 39 ≡ b → n < first_negative (cond b Extended Legacy)
-wide_or_not c k n lt e fits true told = omega arith
-wide_or_not c k n lt e fits false told = elim (cases_lt 32767 n) [
+wide_or_not c k n lt e fits true format_is = omega arith
+wide_or_not c k n lt e fits false format_is = elim (cases_lt 32767 n) [
   | inl wide ↦
       let passes : is_wide (of_kind c Number k) ≡ true = ap is_wide e ∙ lt-ltb 32767 n wide in
       let some = some_below-true (λ i. is_wide (of_kind c Number i)) 39 k lt passes in
-      let never : true ≡ false = sym some ∙ told in
+      let never : true ≡ false = sym some ∙ format_is in
       absurd cc
   | inr narrow ↦ omega arith
 ]

@@ -46,7 +46,7 @@ pub read_contents : (b m : List ℕ) (c : Contents) → Reads b m c
 read_contents b m c r =
     let f = found_of b m c r in
     let s = r.sections in
-    let e0 = f.told in
+    let e0 = f.format_is in
     let e1 = f.flags in
     let e2 : numbers_in r.format (numbers_section b) ≡ s.numbers = ap (numbers_in r.format) f.numbers ∙ numbers-again r.format s.numbers (λ k d lt. number_fits r.format _ (r.sound.numbers k d lt)) in
     let e3 : numbers_in Legacy (offsets_section b) ≡ s.offsets = ap (numbers_in Legacy) f.offsets ∙ numbers-again Legacy s.offsets (λ k d lt. offset_fits s.strings _ (r.sound.offsets k d lt)) in
@@ -150,7 +150,7 @@ never_of b w s sound f BadFlag h =
     let p = subst HasBadFlag f.flags h in
     elim (sound.flags p.0 0 p.1) [ inl low ↦ omega (arith, low, p.2) | inr high ↦ omega (arith, high, p.3) ]
 never_of b w s sound f BadNumber h =
-    let p = subst (HasBadNumber w) f.numbers (subst (λ (x : Format). HasBadNumber x (numbers_section b)) f.told h) in
+    let p = subst (HasBadNumber w) f.numbers (subst (λ (x : Format). HasBadNumber x (numbers_section b)) f.format_is h) in
     good_number w _ (spelled_number w s.numbers p.0 (IsStoredNumber w) (number_fits w) sound.numbers p.1) p.2.0 p.2.1
 never_of b w s sound f BadOffset h =
     let p = subst (λ (x : List ℕ). HasBadOffset x s.strings) f.offsets (subst (λ (x : List ℕ). HasBadOffset (offsets_section b) x) f.strings h) in

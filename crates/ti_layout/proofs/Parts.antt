@@ -36,7 +36,7 @@ numbers-of w s sound = record {
   strings = omega arith;
 }
 
--- the magic number tells the format
+-- the magic number says the format
 pub format_told : (b : List ℕ) (w : Format) → word_at 0 b ≡ magic w → format_in b ≡ w
 format_told b Legacy e = rw e refl
 format_told b Extended e = rw e refl
@@ -49,7 +49,7 @@ length-header w n f m t s = refl
 pub record Found (b : List ℕ) (w : Format) (s : Sections) : Type 0 where
   pub long : 12 ≤ length b
   pub known : word_at 0 b ≡ magic w
-  pub told : format_in b ≡ w
+  pub format_is : format_in b ≡ w
   pub names_size : names_size b ≡ suc (length s.names)
   pub flag_count : flag_count b ≡ length s.flags
   pub number_count : number_count b ≡ length s.numbers
@@ -113,18 +113,18 @@ found w s sound =
     let b = entry_bytes w s in
     let h = header w (suc (length s.names)) (length s.flags) (length s.numbers) (length s.offsets) (length s.strings) in
     let n = numbers-of w s sound in
-    let told = format_told b w n.known in
+    let format_is = format_told b w n.known in
     let size : length (s.names ++ 0 ∷ []) ≡ names_size b = omega (arith, length-append s.names (0 ∷ []), n.names) in
     let gap : length s.gap ≡ (names_size b + flag_count b) % 2 = sound.gap_size ∙ ap (λ (x : ℕ). x % 2) (omega (arith, n.names, n.flags)) in
     let numbers : length (number_section w s.numbers) ≡ width (format_in b) * number_count b =
-    length-spelled w s.numbers ∙ ap (λ (k : ℕ). width w * k) (sym n.numbers) ∙ ap (λ (f : Format). width f * number_count b) (sym told) in
+    length-spelled w s.numbers ∙ ap (λ (k : ℕ). width w * k) (sym n.numbers) ∙ ap (λ (f : Format). width f * number_count b) (sym format_is) in
     let offsets : length (number_section Legacy s.offsets) ≡ 2 * text_count b = length-spelled Legacy s.offsets ∙ ap (λ (k : ℕ). 2 * k) (sym n.offsets) in
     let parts = cut_again b h (s.names ++ 0 ∷ []) s.flags s.gap (number_section w s.numbers) (number_section Legacy s.offsets) s.strings s.rest (middles-of s h (number_section w s.numbers) (number_section Legacy s.offsets) b refl) (length-header w _ _ _ _ _)
     (names_size b) (flag_count b) (width (format_in b) * number_count b) (2 * text_count b) (strings_size b) size (sym n.flags) numbers offsets (sym n.strings) gap in
     record {
       long = omega (arith, parts.5);
       known = n.known;
-      told = told;
+      format_is = format_is;
       names_size = n.names;
       flag_count = n.flags;
       number_count = n.numbers;

@@ -7,7 +7,7 @@ use Rattle.ti_layout.specs.declared.layout.Format.TheVariants.{Legacy}
 use Rattle.ti_layout.specs.Layout.{Sections, header, entry_bytes, magic, number_bytes, number_section, width}
 use Rattle.ti_layout.specs.Reading.{word_at, number_at, count_in, numbers_in, AreSound, IsStoredNumber, IsOffset, Reads, contents_of, format_in, names_size, flag_count, number_count, text_count, strings_size, flags_place, numbers_place, offsets_place, strings_place, end_place, names_section, flags_section, numbers_section, offsets_section, strings_section}
 use Rattle.ti_layout.specs.inside.Sections.{AreNames, AreFlags, AreStoredNumbers, AreOffsets, EachNumber}
-use Rattle.ti_layout.specs.inside.Sound.{OffsetsEnd}
+use Rattle.ti_layout.specs.inside.View.{OffsetsEnd}
 use Rattle.ti_layout.proofs.Below.{length-below, get_or-below}
 use Rattle.ti_layout.proofs.Spelled.{IsBytes, part-number, spelled-again, length-numbers_in}
 
@@ -220,7 +220,7 @@ reads b w names flags numbers offsets strings r e n f m o s =
 no_longer : (x n l place size : ℕ) → x ≡ min n l → n ≡ place + size - place → size < 32768 → x < 32768
 no_longer x n l place size same cut fits = omega arith
 
--- the string table is no longer than the header tells
+-- the string table is no longer than the header says
 pub few_strings : (b strings : List ℕ) → strings_size b < 32768 → strings ≡ strings_section b → length strings < 32768
 few_strings b strings fits cut =
     let place = strings_place b in

@@ -1,7 +1,8 @@
 -- The bytes of a compiled entry as they are written (term(5)): the layout of a names field and of what the capabilities have.
 use Rattle.ti_text.specs.Ascii as ascii
 use Rattle.ti_text.specs.Limits.{legacy_number_max}
-use Rattle.std.specs.Prelude.{ℕ, zero, suc, ◌+◌, ◌<◌, ◌≤◌, ◌%◌, Bool, true, false, nat_lt, if◌then◌else◌, List, [], ◌∷◌, ◌++◌, length, replicate, Option, Some, None}
+use Rattle.std.specs.Prelude.{ℕ, zero, suc, ◌+◌, ◌<◌, ◌≤◌, ◌%◌, Bool, true, false, nat_lt, if◌then◌else◌, List, [], ◌∷◌, ◌++◌, length, replicate, Option, Some}
+use Rattle.std.specs.Prelude.{None}
 use Rattle.ti_caps.specs.Tables.{capability, count_of}
 use Rattle.ti_caps.specs.declared.capability.Kind.{Kind}
 use Rattle.ti_caps.specs.declared.capability.Kind.TheVariants.{Flag, Number, Text}

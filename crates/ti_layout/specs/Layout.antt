@@ -1,14 +1,14 @@
 -- The layout of a compiled entry (term(5), "Legacy storage format" and "Extended number format"): six numbers, and then the
 -- sections that they size. The two formats differ in the first number and in the bytes that the number of a capability takes.
 use Rattle.ti_text.specs.Ascii as ascii
-use Rattle.ti_text.specs.Limits.{entry_max, extended_entry_max}
+use Rattle.ti_text.specs.Limits.{entry_max, extended_entry_max, legacy_number_max, number_max, two_byte_count}
 use Rattle.std.specs.Prelude.{ℕ, suc, ◌<◌, ◌+◌, ◌*◌, ◌/◌, ◌%◌, List, [], ◌∷◌, ◌++◌, length}
 use Rattle.ti_layout.specs.declared.layout.Format.{Format}
 use Rattle.ti_layout.specs.declared.layout.Format.TheVariants.{Legacy, Extended}
 
 -- two bytes can hold the number, as each of the header's
 abbrev pub FitsTwoBytes : ℕ → Type 0
-FitsTwoBytes number = number < 65536
+FitsTwoBytes number = number < two_byte_count
 
 -- ---- the two formats
 
@@ -24,8 +24,8 @@ width Extended = 4
 
 -- the first number that is negative as a signed number
 abbrev pub first_negative : Format → ℕ
-first_negative Legacy = 32768
-first_negative Extended = 2147483648
+first_negative Legacy = legacy_number_max + 1
+first_negative Extended = number_max + 1
 
 -- -2, which stands for cancelled
 abbrev pub cancelled_mark : Format → ℕ

@@ -5,4 +5,4 @@ pub mod Reading
 pub mod inside
 pub mod View
 pub mod Laws
-pub mod Sizes
+pub mod Writing

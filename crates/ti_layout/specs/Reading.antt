@@ -1,6 +1,7 @@
 -- What the bytes of a compiled entry say (term(5), "Legacy storage format" and "Extended number format"), and why bytes are refused.
 use Rattle.ti_text.specs.Ascii as ascii
-use Rattle.std.specs.Prelude.{◌≡◌, ◌≢◌, ℕ, suc, ◌+◌, ◌*◌, ◌-◌, ◌/◌, ◌%◌, ◌<◌, ◌≤◌, ◌==◌, nat_lt, if◌then◌else◌, List, length, drop, slice_index, slice_range, slice_get, All, Option, Some, None, option_and_then, ◌⊎◌}
+use Rattle.std.specs.Prelude.{◌≡◌, ◌≢◌, ℕ, suc, ◌+◌, ◌*◌, ◌-◌, ◌/◌, ◌%◌, ◌<◌, ◌≤◌, ◌==◌, nat_lt, if◌then◌else◌, List, length, drop, slice_index, slice_range}
+use Rattle.std.specs.Prelude.{slice_get, All, Option, Some, None, option_and_then, ◌⊎◌}
 use Rattle.std.specs.List.{before_first}
 use Rattle.ti_caps.specs.Tables.{count_of}
 use Rattle.ti_caps.specs.declared.capability.Kind.{Kind}
@@ -116,7 +117,7 @@ pub record Reads (bytes names : List ℕ) (contents : Contents) : Type 0 where
 
 -- ---- why bytes are refused (own order)
 
--- the format that the first number tells, where it is one of the two
+-- the format that the first number says, where it is one of the two
 abbrev pub format_in : List ℕ → Format
 format_in bytes = if word_at 0 bytes == magic Extended then Extended else Legacy
 

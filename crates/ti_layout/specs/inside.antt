@@ -2,5 +2,5 @@
 pub mod Sections
 pub mod Mentions
 pub mod Merging
-pub mod Sound
+pub mod View
 pub mod Values

@@ -1,7 +1,7 @@
 // The two formats of a compiled entry, and the numbers of its header.
 ghost use Rattle.std.specs.Prelude.{◌≡◌, ◌≤◌, ◌<◌};
 ghost use Rattle.ti_layout.specs.Layout as layout;
-ghost use Rattle.ti_layout.specs.Sizes.{at_most_max};
+ghost use Rattle.ti_layout.specs.Writing.{at_most_max};
 
 use ti_text::limits::{ENTRY_MAX, EXTENDED_ENTRY_MAX};
 

@@ -2,7 +2,8 @@
 ghost use Rattle.std.specs.Prelude.{◌≡◌, ◌<◌, ◌≤◌, [], length, All, Some, None, IfOk, OnOk, if◌then◌else◌};
 ghost use Rattle.std.specs.Option.{option_or};
 ghost use Rattle.ti_caps.specs.Tables.{Capability, IsCapability, same_capability};
-ghost use Rattle.ti_layout.specs.inside.Mentions.{AreMentionPlaces};
+ghost use Rattle.ti_layout.specs.Layout.{FitsTwoBytes};
+ghost use Rattle.ti_layout.specs.inside.Mentions.{AreMentionPlaces, recent_max};
 ghost use Rattle.ti_layout.specs.Values.{contents, content_of, entries_of, Agrees, IsKept};
 
 use crate::merging::{copy_of, push_copy};
@@ -20,7 +21,7 @@ const MANY: usize = 24;
 // For each capability, by its place in the order of the entry, one more than the place of its first mention; 0 where there
 // is none.
 fn first_places(mentions: &[(Cap, Value)]) -> [u16; CAPABILITIES]
-    requires few { length mentions.now < 65536 }
+    requires few { FitsTwoBytes (length mentions.now) }
     ensures { AreMentionPlaces (entries_of mentions.now) result }
 {
     let mut places = [0; CAPABILITIES];
@@ -35,7 +36,7 @@ fn first_places(mentions: &[(Cap, Value)]) -> [u16; CAPABILITIES]
 
 /// The first mention of each capability, in the order of the entry, its text shared.
 fn first_mentions(alloc: Global, mentions: &[(Cap, Value)]) -> Result<Vec<(Cap, Value)>, AllocError>
-    requires few { length mentions.now < 65536 }
+    requires few { FitsTwoBytes (length mentions.now) }
     requires agree { All (λ e. Agrees e.0 e.1) (entries_of mentions.now) }
     ensures kept { IfOk result (λ v. IsKept (entries_of v.items)) }
     ensures said { IfOk result (λ v. (c : Capability) → IsCapability c → contents (entries_of v.items) c ≡ contents (entries_of mentions.now) c) }
@@ -67,7 +68,7 @@ fn insert_each(table: &mut Table, mentions: &[(Cap, Value)]) -> Result<(), Alloc
 
 // Adds what a table does not have yet, of mentions that are brought into order first.
 fn merge_all(alloc: Global, table: &mut Table, mentions: &[(Cap, Value)]) -> Result<(), AllocError>
-    requires few { length mentions.now < 65536 }
+    requires few { FitsTwoBytes (length mentions.now) }
     requires agree { All (λ e. Agrees e.0 e.1) (entries_of mentions.now) }
     ensures { OnOk result ((c : Capability) → IsCapability c → contents table.new c
         ≡ option_or (contents table.old c) (contents (entries_of mentions.now) c)) }
@@ -82,10 +83,10 @@ fn merge_all(alloc: Global, table: &mut Table, mentions: &[(Cap, Value)]) -> Res
 
 // Adds what a table does not have yet, whichever way is shorter, and leaves no mention.
 fn settle(table: &mut Table, recent: &mut Vec<(Cap, Value)>) -> Result<(), AllocError>
-    requires few { length recent.old.items ≤ 1000 }
+    requires few { length recent.old.items ≤ recent_max }
     requires agree { All (λ e. Agrees e.0 e.1) (entries_of recent.old.items) }
     ensures none { OnOk result (recent.new.items ≡ []) }
-    ensures few { length recent.new.items ≤ 1000 }
+    ensures few { length recent.new.items ≤ recent_max }
     ensures agree { All (λ e. Agrees e.0 e.1) (entries_of recent.new.items) }
     ensures merged { OnOk result ((c : Capability) → IsCapability c → contents table.new c
         ≡ option_or (contents table.old c) (contents (entries_of recent.old.items) c)) }
@@ -110,13 +111,14 @@ pub struct Mentions {
 
 impl Model for Mentions {
     ghost use Rattle.std.specs.Prelude.{◌≤◌, ◌++◌, length, All, List};
+    ghost use Rattle.ti_layout.specs.inside.Mentions.{recent_max};
     ghost use Rattle.ti_layout.specs.Values.{Agrees, TableEntry, entries_of};
 
     ghost Value = { List TableEntry };
 
     ghost view = { λ m. m.table ++ entries_of m.recent.items };
 
-    ghost invariant = { λ m. (length m.recent.items ≤ 1000) × All (λ e. Agrees e.0 e.1) (entries_of m.recent.items) };
+    ghost invariant = { λ m. (length m.recent.items ≤ recent_max) × All (λ e. Agrees e.0 e.1) (entries_of m.recent.items) };
 }
 
 impl Mentions {

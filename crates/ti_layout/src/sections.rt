@@ -35,7 +35,7 @@ pub struct Sections<'a> {
 pub fn word(bytes: &[u8], at: usize) -> usize
     requires { at + 2 ≤ length bytes.now }
     ensures value { result ≡ word_at at bytes.now }
-    ensures fits { result < 65536 }
+    ensures fits { layout.FitsTwoBytes result }
 {
     LittleEndian::read_u16(&bytes[at..]) as usize
 }

@@ -6,7 +6,7 @@ ghost use Rattle.ti_caps.specs.declared.capability.Kind.TheVariants.{Flag, Numbe
 ghost use Rattle.ti_layout.specs.Layout.{first_negative};
 ghost use Rattle.ti_layout.specs.declared.layout.Format.TheVariants.{Legacy};
 ghost use Rattle.ti_layout.specs.Reading.{Reads, FailsToRead};
-ghost use Rattle.ti_layout.specs.inside.Sound.{OffsetsEnd};
+ghost use Rattle.ti_layout.specs.inside.View.{OffsetsEnd};
 
 use crate::fault::ReadError;
 use crate::layout::Format;

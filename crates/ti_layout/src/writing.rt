@@ -8,7 +8,7 @@ ghost use Rattle.ti_layout.specs.Image.{is_wide as is_wide_content};
 ghost use Rattle.ti_layout.specs.Image.{image, format_of, image_limit, written_count, flags_below, numbers_below, texts_below, offsets_below, HasNoNul};
 ghost use Rattle.ti_layout.specs.Layout as layout;
 ghost use Rattle.ti_layout.specs.Layout.{FitsTwoBytes, number_section, number_bytes};
-ghost use Rattle.ti_layout.specs.Sizes.{HasSizes};
+ghost use Rattle.ti_layout.specs.Writing.{HasSizes};
 ghost use Rattle.ti_layout.specs.Values.{contents, content_of, entries_of, IsKept};
 ghost use Rattle.ti_layout.specs.declared.writing.WriteError.TheVariants.{Memory};
 
@@ -229,7 +229,7 @@ fn push_numbers(
 // Adds where each text begins in the string table, up to the last that is there.
 fn push_offsets(image: &mut Vec<u8>, entries: &[(Cap, Value)]) -> Result<(), AllocError>
     requires kept { IsKept (entries_of entries.now) }
-    requires fits { length (texts_below (contents (entries_of entries.now)) (written_count (contents (entries_of entries.now)) Text)) < 65536 }
+    requires fits { FitsTwoBytes (length (texts_below (contents (entries_of entries.now)) (written_count (contents (entries_of entries.now)) Text))) }
     ensures { OnOk result (image.new.items
         ≡ image.old.items
         ++ number_section Format.Legacy (offsets_below (contents (entries_of entries.now)) (written_count (contents (entries_of entries.now)) Text))) }

@@ -5,7 +5,7 @@ use Rattle.std.proofs.lemmas.List.FromFn.{length-range_with_len, get_or-range_wi
 use Rattle.std.proofs.lemmas.Option.{slice_get-map, slice_get-get_or}
 use Rattle.ti_caps.specs.declared.capability.Kind.{Kind}
 use Rattle.ti_caps.specs.declared.capability.Kind.TheVariants.{Flag, Number, Text}
-use Rattle.ti_caps.specs.ByName.{by_name}
+use Rattle.ti_caps.specs.Lookup.{by_name}
 use Rattle.ti_caps.specs.inside.NameOrder.{in_name_order}
 use Rattle.ti_caps.specs.Tables.{Capability, capability, count_of}
 use Rattle.ti_list.specs.declared.layout.Order.{Order}

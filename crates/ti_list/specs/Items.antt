@@ -24,7 +24,7 @@ item_text (said_import name) = codes "use=" ++ name
 -- what stands behind the comma of the names field: the items in their order, each behind a space or on a new line that a tab begins; then a newline
 pub data IsTail : (items : List Said) (tail : List ℕ) → Type 0 where
   no_more : IsTail [] (ascii.newline ∷ [])
-  on_line : (item : Said) (items : List Said) (tail : List ℕ) → IsTail items tail → IsTail (item ∷ items) (ascii.space ∷ item_text item ++ ascii.comma ∷ tail)
+  same_line : (item : Said) (items : List Said) (tail : List ℕ) → IsTail items tail → IsTail (item ∷ items) (ascii.space ∷ item_text item ++ ascii.comma ∷ tail)
   new_line : (item : Said) (items : List Said) (tail : List ℕ)
       → IsTail items tail → IsTail (item ∷ items) (ascii.newline ∷ ascii.tab ∷ item_text item ++ ascii.comma ∷ tail)
 

@@ -20,7 +20,7 @@ pub struct Layout {
     pub order: Order,
 }
 
-/// Which capabilities a comparison of two entries tells of, as infocmp(1)'s `-d`, `-c` and `-n`.
+/// Which capabilities a comparison of two entries speaks of, as infocmp(1)'s `-d`, `-c` and `-n`.
 #[derive(Clone, Copy, PartialEq, Eq, Debug)]
 pub enum Mode {
     /// Those whose values are not equal.

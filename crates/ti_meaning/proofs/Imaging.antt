@@ -21,12 +21,12 @@ uncancelled-twice (Some content_cancelled) = refl
 show_same : (t : Contents) (ms : List Mention) → IsTableOfMentions t ms → ShowSame t (values ms)
 show_same t ms h c valid = ap without_cancel (h c valid) ∙ sym (uncancelled-twice (leftmost_content ms c))
 
--- a table that tells what the mentions say has their image, and its limit
-pub image_tells : (names : List ℕ) (t : Contents) (ms : List Mention) → IsTableOfMentions t ms → image names t ≡ image names (values ms)
-image_tells names t ms h = images_are_of_values names t (values ms) (show_same t ms h)
+-- a table that says what the mentions say has their image, and its limit
+pub image_says : (names : List ℕ) (t : Contents) (ms : List Mention) → IsTableOfMentions t ms → image names t ≡ image names (values ms)
+image_says names t ms h = images_are_of_values names t (values ms) (show_same t ms h)
 
-pub limit_tells : (t : Contents) (ms : List Mention) → IsTableOfMentions t ms → image_limit t ≡ image_limit (values ms)
-limit_tells t ms h = limits_are_of_values t (values ms) (show_same t ms h)
+pub limit_says : (t : Contents) (ms : List Mention) → IsTableOfMentions t ms → image_limit t ≡ image_limit (values ms)
+limit_says t ms h = limits_are_of_values t (values ms) (show_same t ms h)
 
 pub within_limit : (b : Reading) (ms : List Mention) (bytes : List ℕ) → bytes ≡ image_of b ms → length bytes ≤ image_limit (values ms) → ◌≡◌ {A = Option (List ℕ)} (Some bytes) (entry_of b ms)
 within_limit b ms bytes e l =

@@ -6,7 +6,7 @@ use Rattle.ti_caps.specs.Tables.{Capability, IsCapability, same_capability}
 use Rattle.ti_source.specs.Reading.{Reading, ReadItem, Said, said_flag, said_number, said_text, said_cancel, said_import}
 use Rattle.ti_layout.specs.Values.{Contents, Content}
 use Rattle.ti_meaning.specs.Owner.{owner_block}
-use Rattle.ti_text.specs.Texts.{both_lists}
+use Rattle.ti_text.specs.Lists.{both_lists}
 use Rattle.ti_meaning.specs.Expansion.{Mention, leftmost_content, is_broken, mentions_of, expand_items}
 use Rattle.ti_meaning.specs.Reaching.{used_name, Uses}
 use Rattle.ti_meaning.specs.inside.ValueTables.{names_at, IsTableOf, IsTableOfItems, AddsSaid}

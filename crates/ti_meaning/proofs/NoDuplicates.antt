@@ -10,7 +10,7 @@ use Rattle.ti_source.specs.declared.numbers.NumberError.{NumberError}
 use Rattle.ti_source.specs.declared.numbers.NumberError.TheVariants.{Bad, TooLarge}
 use Rattle.ti_source.specs.inside.Verdicts.{unescape_result}
 use Rattle.ti_source.specs.inside.Numbers.{number_read}
-use Rattle.ti_source.specs.Folding.{Placed}
+use Rattle.ti_source.specs.Folding.{PlacedByte}
 use Rattle.ti_source.specs.Items.{Claim, claims_flag, claims_number, claims_text, claims_cancel, Statement, piece_of, without_outer_space}
 use Rattle.ti_source.specs.inside.Items.{statement_of}
 use Rattle.ti_source.specs.inside.Header.{header_names}
@@ -76,7 +76,7 @@ statement_other ordinal line None = tt
 statement_other ordinal line (Some s) =
     faults_other ordinal line s.name (code_by (verdict_of s.name s.claim)) (verdict_other (is_import s.name s.claim) s.claim (capability_named s.name))
 
-from_other : (ordinal : ℕ) (items : List (List Placed)) → AreOthers (faults_from_ordinal ordinal items)
+from_other : (ordinal : ℕ) (items : List (List PlacedByte)) → AreOthers (faults_from_ordinal ordinal items)
 from_other ordinal [] = tt
 from_other ordinal (item ∷ items) =
     others-append (faults_at ordinal (piece_of item).line (statement_of (piece_of item).text)) (faults_from_ordinal (ordinal + 1) items)

@@ -13,7 +13,7 @@ use Rattle.ti_source.specs.declared.numbers.NumberError.{NumberError}
 use Rattle.ti_source.specs.declared.numbers.NumberError.TheVariants.{Bad, TooLarge}
 use Rattle.ti_source.specs.inside.Verdicts.{unescape_result}
 use Rattle.ti_source.specs.inside.Numbers.{number_read}
-use Rattle.ti_source.specs.Folding.{Placed}
+use Rattle.ti_source.specs.Folding.{PlacedByte}
 use Rattle.ti_source.specs.Items.{Claim, claims_flag, claims_number, claims_text, claims_cancel, Statement, piece_of, without_outer_space}
 use Rattle.ti_source.specs.inside.Items.{statement_of}
 use Rattle.ti_source.specs.inside.Header.{header_names}
@@ -104,7 +104,7 @@ apart_at o k line (Some s) =
 not_both : (a b : Bool) → a ≡ false → b ≡ false → (a || b) ≡ false
 not_both a b e f = or_from a b e f
 
-later_faults : (o k : ℕ) (items : List (List Placed)) → o < k → has_fault o (faults_from_ordinal k items) ≡ false
+later_faults : (o k : ℕ) (items : List (List PlacedByte)) → o < k → has_fault o (faults_from_ordinal k items) ≡ false
 later_faults o k [] l = refl
 later_faults o k (i ∷ is) l =
     let here = faults_at k (piece_of i).line (statement_of (piece_of i).text) in
@@ -113,7 +113,7 @@ later_faults o k (i ∷ is) l =
     (other_faults_at o k (piece_of i).line (statement_of (piece_of i).text) (ne_eqb k o (λ e. omega arith)))
     (later_faults o (k + 1) is (omega arith))
 
-later_items : (o k : ℕ) (items : List (List Placed)) → o < k → has_use o (items_from k items) ≡ false
+later_items : (o k : ℕ) (items : List (List PlacedByte)) → o < k → has_use o (items_from k items) ≡ false
 later_items o k [] l = refl
 later_items o k (i ∷ is) l =
     let here = items_at k (piece_of i).line (statement_of (piece_of i).text) in
@@ -122,7 +122,7 @@ later_items o k (i ∷ is) l =
     (other_items_at o k (piece_of i).line (statement_of (piece_of i).text) (ne_eqb k o (λ e. omega arith)))
     (later_items o (k + 1) is (omega arith))
 
-apart_from : (o k : ℕ) (items : List (List Placed)) → has_fault o (faults_from_ordinal k items) ≡ true → has_use o (items_from k items) ≡ false
+apart_from : (o k : ℕ) (items : List (List PlacedByte)) → has_fault o (faults_from_ordinal k items) ≡ true → has_use o (items_from k items) ≡ false
 apart_from o k [] t = refl
 apart_from o k (i ∷ is) t =
     let line = (piece_of i).line in
@@ -169,11 +169,11 @@ front_items_at : (k line : ℕ) (s : Option Statement) (is : List ReadItem) → 
 front_items_at k line None is c = climbs-lower k (k + 1) (map (λ (i : ReadItem). i.ordinal) is) (omega arith) c
 front_items_at k line (Some s) is c = front_items k line (said_by (verdict_of s.name s.claim)) is c
 
-faults_climb : (k : ℕ) (items : List (List Placed)) → Climbs k (map (λ (f : ReadFault). f.ordinal) (faults_from_ordinal k items))
+faults_climb : (k : ℕ) (items : List (List PlacedByte)) → Climbs k (map (λ (f : ReadFault). f.ordinal) (faults_from_ordinal k items))
 faults_climb k [] = tt
 faults_climb k (i ∷ is) = front_faults_at k (piece_of i).line (statement_of (piece_of i).text) (faults_from_ordinal (k + 1) is) (faults_climb (k + 1) is)
 
-items_climb : (k : ℕ) (items : List (List Placed)) → Climbs k (map (λ (i : ReadItem). i.ordinal) (items_from k items))
+items_climb : (k : ℕ) (items : List (List PlacedByte)) → Climbs k (map (λ (i : ReadItem). i.ordinal) (items_from k items))
 items_climb k [] = tt
 items_climb k (i ∷ is) = front_items_at k (piece_of i).line (statement_of (piece_of i).text) (items_from (k + 1) is) (items_climb (k + 1) is)
 
@@ -211,7 +211,7 @@ fault_filter test o (f ∷ fs) t =
 kept_faults : (header faults : List ReadFault) → filter (is_kept false) header ≡ [] → filter (is_kept false) (header ++ faults) ≡ filter (is_kept false) faults
 kept_faults header faults e = filter-append (is_kept false) header faults ∙ ap (λ xs. xs ++ filter (is_kept false) faults) e
 
-ordered_from : (header : List ReadFault) (items : List (List Placed)) → filter (is_kept false) header ≡ [] → AreOrdered (filter (is_kept false) (header ++ faults_from_ordinal 0 items)) (items_from 0 items)
+ordered_from : (header : List ReadFault) (items : List (List PlacedByte)) → filter (is_kept false) header ≡ [] → AreOrdered (filter (is_kept false) (header ++ faults_from_ordinal 0 items)) (items_from 0 items)
 ordered_from header items none =
     let e = kept_faults header (faults_from_ordinal 0 items) none in
     record {

@@ -1,4 +1,4 @@
--- What is wrong with a use, told from whether its owner is there, leads back and resolves; and what a state tells of an
+-- What is wrong with a use, found from whether its owner is there, leads back and resolves; and what a state says of an
 -- expansion.
 use Rattle.std.proofs.Common.{◌≡◌, ℕ, Bool, true, false, cond, List, Option, Some, None, is_some, slice_get, refl, sym, ◌∙◌, ap}
 use Rattle.std.proofs.lemmas.Option.{same_Some, none-some}
@@ -33,7 +33,7 @@ use_fault_open bs at name b o l x = open_between (owner_block bs name) (leads_to
 pub use_fault_none : (bs : List Reading) (at : ℕ) (name : List ℕ) (b : Reading) (ms : List Mention) → owner_block bs name ≡ Some b → leads_to bs name at ≡ false → expansion bs b ≡ Some ms → ◌≡◌ {A = Option Code} None (use_fault bs at name)
 use_fault_none bs at name b ms o l x = none_between (owner_block bs name) (leads_to bs name at) (resolves bs) b o l (ap (λ e. is_some e) x)
 
--- ---- what a state tells of the expansion
+-- ---- what a state says of the expansion
 
 if_resolved : (large : Bool) (i : List ℕ) → unresolved ≡ cond large oversized (written i) → ⊥
 if_resolved true i e = cc

@@ -5,7 +5,7 @@ use Rattle.std.proofs.lemmas.Option.{same_Some, none-some, slice_get_within}
 use Rattle.ti_source.specs.declared.code.Code.TheVariants.{Unresolved}
 use Rattle.ti_source.specs.Reading.{Reading, ReadItem, Said, said_flag, said_number, said_text, said_cancel, said_import}
 use Rattle.ti_meaning.specs.Owner.{owner, owner_block}
-use Rattle.ti_text.specs.Texts.{both_lists}
+use Rattle.ti_text.specs.Lists.{both_lists}
 use Rattle.ti_meaning.specs.Expansion.{Mention, is_broken, mentions_of, expand_items, expand, expansion, resolves}
 use Rattle.ti_meaning.specs.Reaching.{used_name, Uses, IsUseWay, LeadsTo}
 use Rattle.ti_meaning.specs.inside.Reaching.{leads_to}

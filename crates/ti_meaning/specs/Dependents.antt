@@ -64,7 +64,8 @@ UsersOfDependentsDepend =
 -- among these positions are that of the block put in, those of the users of touched names, and with each block its users
 pub record AreClosed (exchange : Exchange) (found : List ℕ) : Type 0 where
   pub put : (at : ℕ) → IsPutAt exchange.put at → Contains found at
-  pub touching : (user : ℕ) (block : Reading) (name : List ℕ) → slice_get (new_list exchange) user ≡ Some block → Uses block.items name → IsTrue (is_among name (touched_names exchange)) → Contains found user
+  pub touching : (user : ℕ) (block : Reading) (name : List ℕ) → slice_get (new_list exchange) user ≡ Some block → Uses block.items name
+      → IsTrue (is_among name (touched_names exchange)) → Contains found user
   pub using : (user at : ℕ) → UsesBlock (new_list exchange) user at → Contains found at → Contains found user
 
 -- where they are, all dependents are among them

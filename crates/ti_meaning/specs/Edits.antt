@@ -61,7 +61,7 @@ pub record IsSoundEdit (texts : List (List ℕ)) (change : Change) : Type 0 wher
   pub block : IsBlock change
   pub room : HasRoom texts change
 
--- the edit is refused so: each cause is the first that holds, and memory is wanting only where there is none
+-- the edit is refused so: each cause is the first that holds, and want of memory comes only where there is none
 abbrev pub IsRefusal : List (List ℕ) → Change → EditError → Type 0
 IsRefusal texts change Position = ¬ (IsInPlace texts change)
 IsRefusal texts change TooLong = IsInPlace texts change × (¬ (IsShort change))
@@ -86,19 +86,19 @@ list_after texts (removal at) = remove texts at
 list_after texts (relocation from to) = with_item_moved texts from to
 
 -- one edit leads from one list to the next: accepted where nothing is wrong with it, and else the list stays
-abbrev pub Step : List (List ℕ) → Change → Outcome → List (List ℕ) → Type 0
-Step texts change Accepted next = IsSoundEdit texts change × (next ≡ list_after texts change)
-Step texts change (Refused error) next = IsRefusal texts change error × (next ≡ texts)
+abbrev pub EditStep : List (List ℕ) → Change → Outcome → List (List ℕ) → Type 0
+EditStep texts change Accepted next = IsSoundEdit texts change × (next ≡ list_after texts change)
+EditStep texts change (Refused error) next = IsRefusal texts change error × (next ≡ texts)
 
 -- edits in their order lead from one list to another, with an outcome each
-abbrev pub Run : List (List ℕ) → List Change → List Outcome → List (List ℕ) → Type 0
-Run texts [] [] last = last ≡ texts
-Run texts [] (outcome ∷ outcomes) last = ⊥
-Run texts (change ∷ changes) [] last = ⊥
-Run texts (change ∷ changes) (outcome ∷ outcomes) last =
-    (next : List (List ℕ)) × Step texts change outcome next × Run next changes outcomes last
+abbrev pub EditRun : List (List ℕ) → List Change → List Outcome → List (List ℕ) → Type 0
+EditRun texts [] [] last = last ≡ texts
+EditRun texts [] (outcome ∷ outcomes) last = ⊥
+EditRun texts (change ∷ changes) [] last = ⊥
+EditRun texts (change ∷ changes) (outcome ∷ outcomes) last =
+    (next : List (List ℕ)) × EditStep texts change outcome next × EditRun next changes outcomes last
 
--- the outcome that an answer to an edit tells of
+-- the outcome of an edit, by its answer
 abbrev pub outcome_of : Result Edited EditError → Outcome
 outcome_of (Ok edited) = Accepted
 outcome_of (Err error) = Refused error

@@ -60,9 +60,11 @@ block_from blocks from to = option_map (λ block. record { at = to; block = bloc
 -- out and put one in
 abbrev pub exchange_of : List (List ℕ) → Change → Exchange
 exchange_of texts (insertion at text) = record { rest = readings texts; out = None; put = Some (record { at = at; block = reading_of_text text }) }
-exchange_of texts (replacement at text) = record { rest = remove (readings texts) at; out = block_from (readings texts) at at; put = Some (record { at = at; block = reading_of_text text }) }
+exchange_of texts (replacement at text) =
+    record { rest = remove (readings texts) at; out = block_from (readings texts) at at; put = Some (record { at = at; block = reading_of_text text }) }
 exchange_of texts (removal at) = record { rest = remove (readings texts) at; out = block_from (readings texts) at at; put = None }
-exchange_of texts (relocation from to) = record { rest = remove (readings texts) from; out = block_from (readings texts) from from; put = block_from (readings texts) from to }
+exchange_of texts (relocation from to) =
+    record { rest = remove (readings texts) from; out = block_from (readings texts) from from; put = block_from (readings texts) from to }
 
 -- the exchange leads from the blocks of the one source to those of the other
 pub record LeadsOn (exchange : Exchange) (texts next : List (List ℕ)) : Type 0 where

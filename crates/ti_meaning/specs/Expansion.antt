@@ -1,8 +1,8 @@
 -- What a block says once its uses are expanded (terminfo(5), "Similar Terminals"): a use stands for all that the owner of
 -- the name says, in order, expanded in the same way, and the leftmost mention of a capability decides.
-use Rattle.std.specs.Prelude.{ℕ, zero, suc, List, [], ◌∷◌, length, Option, Some, None, IsSome, is_some, option_and_then, Bool, if◌then◌else◌}
+use Rattle.std.specs.Prelude.{ℕ, zero, suc, List, [], ◌∷◌, length, Option, Some, None, is_some, option_and_then, Bool, if◌then◌else◌}
 use Rattle.std.specs.List.{list_any}
-use Rattle.ti_text.specs.Texts.{both_lists}
+use Rattle.ti_text.specs.Lists.{both_lists}
 use Rattle.ti_caps.specs.Tables.{Capability, same_capability}
 use Rattle.ti_source.specs.Code.{is_error}
 use Rattle.ti_source.specs.Reading.{Reading, ReadItem, ReadFault, Said, said_flag, said_number, said_text, said_cancel, said_import}
@@ -48,10 +48,6 @@ abbrev pub expand : (List ℕ → Option Reading) → ℕ → Reading → Option
 expand env zero block = None
 expand env (suc depth) block =
     if is_broken block then None else expand_items (λ name. option_and_then (expand env depth) (env name)) block.items
-
--- some depth suffices
-abbrev pub Resolves : (List ℕ → Option Reading) → Reading → Type 0
-Resolves env block = (depth : ℕ) × IsSome (expand env depth block)
 
 -- what a block of the list says with all its uses expanded, if it resolves: no way through owners that comes to no block
 -- twice is longer than the list, so one depth serves

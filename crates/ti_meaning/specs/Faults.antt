@@ -1,6 +1,7 @@
 -- The faults of a source (own): for each block those of its header, of its names, of its items in their order and of its
 -- entry.
-use Rattle.std.specs.Prelude.{option_map, ℕ, suc, List, [], ◌∷◌, ◌++◌, map, filter, Option, Some, None, slice_get, Bool, true, false, not, nat_lt, if◌then◌else◌}
+use Rattle.std.specs.Prelude.{option_map, ℕ, suc, List, [], ◌∷◌, ◌++◌, map, filter, Option, Some, None, slice_get, Bool, true, false, not, nat_lt}
+use Rattle.std.specs.Prelude.{if◌then◌else◌}
 use Rattle.std.specs.Option.{option_map_or}
 use Rattle.std.specs.Rc.{rc_slice_items}
 use Rattle.ti_meaning.specs.declared.faults.Fault.{Fault}
@@ -49,7 +50,7 @@ is_kept false fault = not (is_of_header fault.code)
 abbrev pub local_faults : Bool → ℕ → List ReadFault → List SourceFault
 local_faults of_header at faults = map (local_fault at) (filter (is_kept of_header) faults)
 
--- the names that stand not among those before them
+-- the names, but for those that stand before too
 abbrev pub distinct_after : List (List ℕ) → List (List ℕ) → List (List ℕ)
 distinct_after before [] = []
 distinct_after before (name ∷ names) =

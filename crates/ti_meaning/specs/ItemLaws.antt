@@ -65,6 +65,6 @@ pub record IsDistinctOf (names each : List (List ℕ)) : Type 0 where
   pub order : (i j : ℕ) (name other : List ℕ) (at behind : ℕ) → i < j → slice_get each i ≡ Some name → slice_get each j ≡ Some other
       → IsFirstPlace names name at → IsFirstPlace names other behind → at < behind
 
--- so are the names that duplicates are sought for
+-- the names that duplicates are sought for are so: each once, in the order of their first places
 abbrev pub DistinctHasEachOnce : Type 0
 DistinctHasEachOnce = (names : List (List ℕ)) → IsDistinctOf names (distinct names)

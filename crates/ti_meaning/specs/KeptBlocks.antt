@@ -35,9 +35,12 @@ pub record IsKeptBlock (exchange : Exchange) (at : ℕ) (block : Reading) : Type
   pub mentions : expansion (new_list exchange) block ≡ expansion (old_list exchange) block
   pub entry : entry (new_list exchange) block ≡ entry (old_list exchange) block
   pub state : state_of (new_list exchange) block ≡ state_of (old_list exchange) block
-  pub faults : lasting_faults (new_list exchange) (shifted_position exchange.put at) block ≡ map (moved_to (shifted_position exchange.put at)) (lasting_faults (old_list exchange) (shifted_position exchange.out at) block)
-  pub old_owners : (name : List ℕ) → Uses block.items name → owner (old_list exchange) name ≡ option_map (shifted_position exchange.out) (owner exchange.rest name)
-  pub new_owners : (name : List ℕ) → Uses block.items name → owner (new_list exchange) name ≡ option_map (shifted_position exchange.put) (owner exchange.rest name)
+  pub faults : lasting_faults (new_list exchange) (shifted_position exchange.put at) block
+      ≡ map (moved_to (shifted_position exchange.put at)) (lasting_faults (old_list exchange) (shifted_position exchange.out at) block)
+  pub old_owners : (name : List ℕ) → Uses block.items name
+      → owner (old_list exchange) name ≡ option_map (shifted_position exchange.out) (owner exchange.rest name)
+  pub new_owners : (name : List ℕ) → Uses block.items name
+      → owner (new_list exchange) name ≡ option_map (shifted_position exchange.put) (owner exchange.rest name)
 
 -- a block other than the one taken out or put in that reaches no touched name keeps all that
 abbrev pub UntouchedBlocksAreKept : Type 0

@@ -1,10 +1,10 @@
 -- Laws of the definitions, by which the computing ones say what the relations say.
-use Rattle.std.specs.Prelude.{[], ◌∷◌, ◌++◌, map, ℕ, ◌≡◌, ◌≤◌, ◌<◌, ◌↔◌, List, Option, Some, None, IsTrue, slice_get}
+use Rattle.std.specs.Prelude.{[], ◌∷◌, ◌++◌, map, ℕ, ◌≡◌, ◌≤◌, ◌<◌, ◌↔◌, List, Option, Some, None, IsSome, IsTrue, slice_get}
 use Rattle.ti_source.specs.declared.code.Code.{Code}
 use Rattle.ti_source.specs.declared.code.Code.TheVariants.{MissingUse, Circular, Unresolved}
 use Rattle.ti_source.specs.Reading.{Reading, ReadItem, ReadFault}
 use Rattle.ti_meaning.specs.Owner.{is_among, owner, owner_block}
-use Rattle.ti_meaning.specs.Expansion.{Mention, expand, Resolves, expansion, resolves}
+use Rattle.ti_meaning.specs.Expansion.{Mention, expand, expansion, resolves}
 use Rattle.ti_meaning.specs.Reaching.{used_name, LeadsTo}
 use Rattle.ti_meaning.specs.inside.Reaching.{leads_to}
 use Rattle.ti_meaning.specs.Faults.{SourceFault, local_fault, use_fault, fault_of_item, faults_before, faults_from, item_faults}
@@ -19,7 +19,12 @@ pub record IsFirstWith (blocks : List Reading) (name : List ℕ) (at : ℕ) : Ty
 -- a name belongs to the first block that has it, and to none where none has it
 pub record OwnersAreFirst : Type 0 where
   pub some : (blocks : List Reading) (name : List ℕ) (at : ℕ) → owner blocks name ≡ Some at → IsFirstWith blocks name at
-  pub none : (blocks : List Reading) (name : List ℕ) → owner blocks name ≡ None → (at : ℕ) (block : Reading) → slice_get blocks at ≡ Some block → ¬ (IsTrue (is_among name block.names))
+  pub none : (blocks : List Reading) (name : List ℕ) → owner blocks name ≡ None → (at : ℕ) (block : Reading) → slice_get blocks at ≡ Some block
+      → ¬ (IsTrue (is_among name block.names))
+
+-- a block resolves where some depth suffices for its expansion; `env` gives the block that a name belongs to
+abbrev pub Resolves : (List ℕ → Option Reading) → Reading → Type 0
+Resolves env block = (depth : ℕ) × IsSome (expand env depth block)
 
 -- an expansion is the same at each greater depth
 abbrev pub ExpansionsStay : Type 0
@@ -29,8 +34,10 @@ ExpansionsStay =
 
 -- a block of the list has the expansion that some depth gives it, and resolves exactly where some depth gives it one
 pub record ExpansionsAreFound : Type 0 where
-  pub found : (blocks : List Reading) (at depth : ℕ) (block : Reading) (mentions : List Mention) → slice_get blocks at ≡ Some block → expand (owner_block blocks) depth block ≡ Some mentions → expansion blocks block ≡ Some mentions
-  pub resolves : (blocks : List Reading) (at : ℕ) (block : Reading) → slice_get blocks at ≡ Some block → IsTrue (resolves blocks block) ↔ Resolves (owner_block blocks) block
+  pub found : (blocks : List Reading) (at depth : ℕ) (block : Reading) (mentions : List Mention) → slice_get blocks at ≡ Some block
+      → expand (owner_block blocks) depth block ≡ Some mentions → expansion blocks block ≡ Some mentions
+  pub resolves : (blocks : List Reading) (at : ℕ) (block : Reading) → slice_get blocks at ≡ Some block
+      → IsTrue (resolves blocks block) ↔ Resolves (owner_block blocks) block
 
 -- the search for a way finds one exactly where there is one
 abbrev pub WaysAreFound : Type 0
@@ -41,8 +48,10 @@ WaysAreFound = (blocks : List Reading) (from : List ℕ) (at : ℕ) → IsTrue (
 pub data IsUseFault (blocks : List Reading) (at : ℕ) (name : List ℕ) : Option Code → Type 0 where
   nobody_owns : owner blocks name ≡ None → IsUseFault blocks at name (Some MissingUse)
   leads_back : LeadsTo blocks name at → IsUseFault blocks at name (Some Circular)
-  owner_unresolved : (block : Reading) → owner_block blocks name ≡ Some block → (LeadsTo blocks name at → ⊥) → (Resolves (owner_block blocks) block → ⊥) → IsUseFault blocks at name (Some Unresolved)
-  owner_resolved : (block : Reading) → owner_block blocks name ≡ Some block → (LeadsTo blocks name at → ⊥) → Resolves (owner_block blocks) block → IsUseFault blocks at name None
+  owner_unresolved : (block : Reading) → owner_block blocks name ≡ Some block → (LeadsTo blocks name at → ⊥) → (Resolves (owner_block blocks) block → ⊥)
+      → IsUseFault blocks at name (Some Unresolved)
+  owner_resolved : (block : Reading) → owner_block blocks name ≡ Some block → (LeadsTo blocks name at → ⊥) → Resolves (owner_block blocks) block
+      → IsUseFault blocks at name None
 
 -- each use has the fault that is computed
 abbrev pub UseFaultsAreFound : Type 0
@@ -57,7 +66,8 @@ abbrev pub numbered_faults : List Reading → ℕ → List ReadFault → List Re
 numbered_faults blocks at faults [] = map (fault_with_ordinal at) faults
 numbered_faults blocks at faults (item ∷ items) =
     map (fault_with_ordinal at) (faults_before item.ordinal faults)
-    ++ (map (λ fault. (item.ordinal, fault)) (fault_of_item blocks at item.line (used_name item.said)) ++ numbered_faults blocks at (faults_from item.ordinal faults) items)
+    ++ (map (λ fault. (item.ordinal, fault)) (fault_of_item blocks at item.line (used_name item.said))
+    ++ numbered_faults blocks at (faults_from item.ordinal faults) items)
 
 -- numbers from a least one on, none below the one before it
 abbrev pub Climbs : ℕ → List ℕ → Type 0
@@ -66,7 +76,8 @@ Climbs least (n ∷ ns) = (least ≤ n) × Climbs n ns
 
 -- the faults of the items stand in the order of their items, where reading gives items and faults in their order
 pub record ItemFaultsAreInOrder : Type 0 where
-  pub same : (blocks : List Reading) (at : ℕ) (faults : List ReadFault) (items : List ReadItem) → map (λ (f : ℕ × SourceFault). f.1) (numbered_faults blocks at faults items) ≡ item_faults blocks at faults items
+  pub same : (blocks : List Reading) (at : ℕ) (faults : List ReadFault) (items : List ReadItem)
+      → map (λ (f : ℕ × SourceFault). f.1) (numbered_faults blocks at faults items) ≡ item_faults blocks at faults items
   pub climbs : (blocks : List Reading) (at : ℕ) (faults : List ReadFault) (items : List ReadItem)
       → Climbs 0 (map (λ (f : ReadFault). f.ordinal) faults) → Climbs 0 (map (λ (i : ReadItem). i.ordinal) items)
       → Climbs 0 (map (λ (f : ℕ × SourceFault). f.0) (numbered_faults blocks at faults items))

@@ -4,7 +4,7 @@ use Rattle.std.specs.Prelude.{ℕ, ◌+◌, ◌-◌, List, [], ◌∷◌, ◌++�
 use Rattle.std.specs.Fmt.{decimal}
 use Rattle.std.specs.List.{flat_map}
 use Rattle.ti_text.specs.Ascii as ascii
-use Rattle.ti_text.specs.Texts.{line_count}
+use Rattle.ti_text.specs.Lines.{line_count}
 use Rattle.ti_source.specs.declared.code.Code.{Code}
 use Rattle.ti_source.specs.Code.{code_text}
 use Rattle.ti_meaning.specs.Owner.{readings}

@@ -35,7 +35,8 @@ EdgesLead Edge from to = (way : List ℕ) × IsEdgeWalk Edge from way to
 
 -- a name leads to a block exactly where from its owner the uses of blocks do
 abbrev pub LeadingIsWalking : Type 0
-LeadingIsWalking = (blocks : List Reading) (name : List ℕ) (at : ℕ) → LeadsTo blocks name at ↔ ((from : ℕ) × (owner blocks name ≡ Some from) × EdgesLead (UsesBlock blocks) from at)
+LeadingIsWalking = (blocks : List Reading) (name : List ℕ) (at : ℕ)
+    → LeadsTo blocks name at ↔ ((from : ℕ) × (owner blocks name ≡ Some from) × EdgesLead (UsesBlock blocks) from at)
 
 -- ---- circular uses among blocks that were found
 

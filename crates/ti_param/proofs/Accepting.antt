@@ -7,7 +7,7 @@ use Rattle.ti_param.specs.declared.acceptor.Phase.TheVariants.{Testing, Taken}
 use Rattle.ti_param.specs.declared.codes.Token.{Token}
 use Rattle.ti_param.specs.declared.codes.Token.TheVariants.{Literal, Operation, If, Then, Else, EndIf}
 use Rattle.ti_param.specs.declared.lexer.Placed.{Placed}
-use Rattle.ti_param.specs.Formats.{Tree, nothing, byte, code, group, choice, placed_token, Closes, by_mark, by_end, IsSequence, no_piece, byte_piece, code_piece, conditional_piece, IsConditional, test_alone, test_then, test_then_else, AreTokensOf}
+use Rattle.ti_param.specs.Formats.{FormatTree, nothing, byte, code, group, choice, placed_token, Closes, by_mark, by_end, IsSequence, no_piece, byte_piece, code_piece, conditional_piece, IsConditional, test_alone, test_then, test_then_else, AreTokensOf}
 use Rattle.ti_param.specs.inside.Formats.{phases_after, refusal}
 use Rattle.ti_param.proofs.Fronts.{chosen}
 
@@ -71,7 +71,7 @@ closing_accepted inner after phase phases by_end rest = (phase ∷ phases, refl)
 mutual
   unfolding advanced_all
 
-  pub sequence_accepted : {depth : ℕ} {tokens left : List Placed} {t : Tree} → IsSequence depth tokens left t →
+  pub sequence_accepted : {depth : ℕ} {tokens left : List Placed} {t : FormatTree} → IsSequence depth tokens left t →
       (phases : List Phase) → length phases ≡ depth → Accepts phases left → Accepts phases tokens
   sequence_accepted no_piece phases deep rest = rest
   sequence_accepted (byte_piece place b next) phases deep rest = sequence_accepted next phases deep rest
@@ -81,7 +81,7 @@ mutual
       let room : nat_lt (length phases) 64 ≡ true = few_open (length phases) (subst (λ n. n < 64) (sym deep) few) in
       (opened, rw room all)
 
-  pub conditional_accepted : {depth : ℕ} {tokens inner : List Placed} {t : Tree} → IsConditional depth tokens inner t →
+  pub conditional_accepted : {depth : ℕ} {tokens inner : List Placed} {t : FormatTree} → IsConditional depth tokens inner t →
       (phases : List Phase) (after : List Placed) → suc (length phases) ≡ depth → Closes inner after → Accepts phases after →
       Accepts (Testing ∷ phases) tokens
   conditional_accepted (test_alone {left = inner} test) phases after deep closes rest =
@@ -93,7 +93,7 @@ mutual
       sequence_accepted tested (Testing ∷ phases) deep
       (sequence_accepted took (Taken ∷ phases) deep (conditional_accepted other phases after deep closes rest))
 
-pub parses_accepted : (tokens : List Placed) (t : Tree) → AreTokensOf tokens t → Accepts [] tokens
+pub parses_accepted : (tokens : List Placed) (t : FormatTree) → AreTokensOf tokens t → Accepts [] tokens
 unfolding advanced_all
 parses_accepted tokens t parses = sequence_accepted parses [] refl ([], refl)
 
@@ -101,21 +101,21 @@ parses_accepted tokens t parses = sequence_accepted parses [] refl ([], refl)
 
 -- what is left of a part taken: S, or S `%e` and again what stands in a conditional
 abbrev IsTaken : ℕ → List Placed → List Placed → Type 0
-IsTaken depth tokens left = ((taken : Tree) × IsSequence depth tokens left taken)
-    ⊎ ((taken rest : Tree) × (at : ℕ) × (others : List Placed) × IsSequence depth tokens (placed_token at Else ∷ others) taken × IsConditional depth others left rest)
+IsTaken depth tokens left = ((taken : FormatTree) × IsSequence depth tokens left taken)
+    ⊎ ((taken rest : FormatTree) × (at : ℕ) × (others : List Placed) × IsSequence depth tokens (placed_token at Else ∷ others) taken × IsConditional depth others left rest)
 
 -- what is left of each open conditional, the innermost first, and of the format after them
 abbrev IsLeft : List Phase → List Placed → Type 0
-IsLeft [] tokens = (t : Tree) × IsSequence 0 tokens [] t
-IsLeft (Testing ∷ phases) tokens = (inner after : List Placed) × (t : Tree) × IsConditional (suc (length phases)) tokens inner t × Closes inner after × IsLeft phases after
+IsLeft [] tokens = (t : FormatTree) × IsSequence 0 tokens [] t
+IsLeft (Testing ∷ phases) tokens = (inner after : List Placed) × (t : FormatTree) × IsConditional (suc (length phases)) tokens inner t × Closes inner after × IsLeft phases after
 IsLeft (Taken ∷ phases) tokens = (inner after : List Placed) × IsTaken (suc (length phases)) tokens inner × Closes inner after × IsLeft phases after
 
 -- pieces in front of a sequence
 abbrev Fronts : ℕ → List Placed → List Placed → Type 0
-Fronts depth tokens longer = (left : List Placed) (t : Tree) → IsSequence depth tokens left t → (u : Tree) × IsSequence depth longer left u
+Fronts depth tokens longer = (left : List Placed) (t : FormatTree) → IsSequence depth tokens left t → (u : FormatTree) × IsSequence depth longer left u
 
-fronts_conditional : (depth : ℕ) (tokens longer left : List Placed) (t : Tree) → Fronts depth tokens longer → IsConditional depth tokens left t →
-    (u : Tree) × IsConditional depth longer left u
+fronts_conditional : (depth : ℕ) (tokens longer left : List Placed) (t : FormatTree) → Fronts depth tokens longer → IsConditional depth tokens left t →
+    (u : FormatTree) × IsConditional depth longer left u
 fronts_conditional depth tokens longer left t front (test_alone {test} tested) =
     let (u, sequence) = front left test tested in (u, test_alone sequence)
 fronts_conditional depth tokens longer left t front (test_then place {more} {test} {taken} tested took) =
@@ -178,5 +178,5 @@ all_left : (tokens : List Placed) (phases : List Phase) → Accepts phases token
 all_left [] phases accepts = nothing_left phases
 all_left (p ∷ tokens) phases accepts = left_before p.place p.token tokens phases accepts (λ opened rest. all_left tokens opened rest)
 
-pub accepted_parses : (tokens : List Placed) → Accepts [] tokens → (t : Tree) × AreTokensOf tokens t
+pub accepted_parses : (tokens : List Placed) → Accepts [] tokens → (t : FormatTree) × AreTokensOf tokens t
 accepted_parses tokens accepts = all_left tokens [] accepts

@@ -3,9 +3,9 @@ use Rattle.std.proofs.Common.{◌≡◌, ℕ, List, refl, ap, sym, ◌∙◌, su
 use Rattle.std.specs.Prelude.{Some, None, Result, Ok, Err, IsErrOf, ◌↔◌, ℤ}
 use Rattle.ti_param.specs.declared.errors.ParamError.{ParamError}
 use Rattle.ti_param.specs.declared.errors.ParamError.TheVariants.{BadFormat, StackFull, Memory}
-use Rattle.ti_param.specs.Formats.{Tree, IsTree, IsStuck}
+use Rattle.ti_param.specs.Formats.{FormatTree, IsTree, IsStuck}
 use Rattle.ti_param.specs.inside.Formats.{stuck_place, tree_of}
-use Rattle.ti_param.specs.Meaning.{Argument, State, Outcome, start, meaning}
+use Rattle.ti_param.specs.Meaning.{FormatArgument, MachineState, MachineOutcome, start, meaning}
 use Rattle.ti_param.specs.Expansion.{Expands, Overflows}
 use Rattle.ti_param.specs.inside.Expansion.{expanded, expansion_by, unless_stuck, format_expansion, EndsWith, HasOutcome, IsStuckError}
 use Rattle.ti_param.proofs.Laws.{is_computed}
@@ -25,7 +25,7 @@ refused-bad_format format (BadFormat at) refusal place = (
 refused-bad_format format (StackFull at) refusal place = absurd refusal
 refused-bad_format format Memory refusal place = absurd refusal
 
-pub refused-computed : (format : List ℕ) (parameters : List Argument) (statics : List ℤ) (e : ParamError) → IsStuckError e (stuck_place format) →
+pub refused-computed : (format : List ℕ) (parameters : List FormatArgument) (statics : List ℤ) (e : ParamError) → IsStuckError e (stuck_place format) →
     EndsWith e (format_expansion format parameters statics)
 unfolding format_expansion
 refused-computed format parameters statics (BadFormat at) refusal = ap (λ stuck. unless_stuck stuck (meaning (tree_of format) (start parameters statics))) refusal
@@ -35,17 +35,17 @@ refused-computed format parameters statics Memory refusal = absurd refusal
 -- ---- the format is run
 
 -- a run from a state to another
-abbrev pub Runs : List ℕ → State → Result (Unit {0}) ParamError → State → Type 0
-Runs format before result after = (t : Tree) → IsTree format t → HasOutcome result after (meaning t before)
+abbrev pub Runs : List ℕ → MachineState → Result (Unit {0}) ParamError → MachineState → Type 0
+Runs format before result after = (t : FormatTree) → IsTree format t → HasOutcome result after (meaning t before)
 
-pub run-bad_format : {T : Type 0} (format : List ℕ) (before after : State) (e : ParamError) → stuck_place format ≡ None → Runs format before (Err e) after →
+pub run-bad_format : {T : Type 0} (format : List ℕ) (before after : MachineState) (e : ParamError) → stuck_place format ≡ None → Runs format before (Err e) after →
     (place : ℕ) → IsErrOf {T = T} {E = ParamError} (Err e) (BadFormat place) ↔ IsStuck format place
 run-bad_format format before after e none runs place = (
   λ is. let same : e ≡ BadFormat place = cc is in absurd (subst (λ f. HasOutcome (Err f) after (meaning (tree_of format) before)) same (runs (tree_of format) (whole format none))),
   λ stuck. absurd (cc (sym none ∙ ((is_computed format).stuck place).0 stuck)),
 )
 
-pub run-stack_full : {T : Type 0} (format : List ℕ) (parameters : List Argument) (statics : List ℤ) (before after : State) (e : ParamError) →
+pub run-stack_full : {T : Type 0} (format : List ℕ) (parameters : List FormatArgument) (statics : List ℤ) (before after : MachineState) (e : ParamError) →
     stuck_place format ≡ None → before ≡ start parameters statics → Runs format before (Err e) after →
     (place : ℕ) → IsErrOf {T = T} {E = ParamError} (Err e) (StackFull place) → Overflows format parameters statics place
 run-stack_full format parameters statics before after e none begins runs place is =
@@ -57,22 +57,22 @@ run-stack_full format parameters statics before after e none begins runs place i
           ∙ subst (λ f. HasOutcome (Err f) after (meaning (tree_of format) before)) same (runs (tree_of format) (whole format none));
     }
 
-pub run-memory : (format : List ℕ) → stuck_place format ≡ None → (t : Tree) × IsTree format t
+pub run-memory : (format : List ℕ) → stuck_place format ≡ None → (t : FormatTree) × IsTree format t
 run-memory format none = (tree_of format, whole format none)
 
-pub run-computed : (format : List ℕ) (parameters : List Argument) (statics : List ℤ) (before after : State) (e : ParamError) →
+pub run-computed : (format : List ℕ) (parameters : List FormatArgument) (statics : List ℤ) (before after : MachineState) (e : ParamError) →
     stuck_place format ≡ None → before ≡ start parameters statics → Runs format before (Err e) after → EndsWith e (format_expansion format parameters statics)
 unfolding format_expansion
 run-computed format parameters statics before after e none begins runs =
     rw none (subst (λ s. EndsWith e (expansion_by (meaning (tree_of format) s))) begins (ends e (meaning (tree_of format) before) (runs (tree_of format) (whole format none))))
   where
-    ends : (e : ParamError) (o : Outcome) → HasOutcome (Err e) after o → EndsWith e (expansion_by o)
+    ends : (e : ParamError) (o : MachineOutcome) → HasOutcome (Err e) after o → EndsWith e (expansion_by o)
     ends (BadFormat place) o ran = absurd ran
     ends (StackFull place) o ran = ap expansion_by ran
     ends Memory (Ok final) ran = tt
     ends Memory (Err place) ran = tt
 
-pub done-expands : (format : List ℕ) (parameters : List Argument) (statics : List ℤ) (before final : State) (output : List ℕ) (after : List ℤ) →
+pub done-expands : (format : List ℕ) (parameters : List FormatArgument) (statics : List ℤ) (before final : MachineState) (output : List ℕ) (after : List ℤ) →
     stuck_place format ≡ None → before ≡ start parameters statics → Runs format before (Ok tt) final → output ≡ final.output → after ≡ final.statics →
     Expands format parameters statics output after
 done-expands format parameters statics before final output after none begins runs output_is statics_are = record {
@@ -84,7 +84,7 @@ done-expands format parameters statics before final output after none begins run
   statics_are = statics_are;
 }
 
-pub done-computed : (format : List ℕ) (parameters : List Argument) (statics : List ℤ) (before final : State) (output : List ℕ) (after : List ℤ) →
+pub done-computed : (format : List ℕ) (parameters : List FormatArgument) (statics : List ℤ) (before final : MachineState) (output : List ℕ) (after : List ℤ) →
     stuck_place format ≡ None → before ≡ start parameters statics → Runs format before (Ok tt) final → output ≡ final.output → after ≡ final.statics →
     format_expansion format parameters statics ≡ expanded output after
 unfolding format_expansion

@@ -9,9 +9,9 @@ use Rattle.ti_param.specs.declared.codes.Token.TheVariants.{Literal}
 use Rattle.ti_param.specs.declared.lexer.Placed.{Placed}
 use Rattle.ti_param.specs.Codes.{IsCode}
 use Rattle.ti_param.specs.inside.Codes.{Front, token_after}
-use Rattle.ti_param.specs.Formats.{Tree, placed_token, IsCutIntoTokens, no_tokens, then_byte, then_code, AreTokensOf, IsTree, BeginsFormat, IsStuck, HasOneTree}
+use Rattle.ti_param.specs.Formats.{FormatTree, placed_token, IsCutIntoTokens, no_tokens, then_byte, then_code, AreTokensOf, IsTree, BeginsFormat, IsStuck, HasOneTree}
 use Rattle.ti_param.specs.inside.Formats.{Scan, with_token, scan, scan_of, phases_after, refusal, stuck_place, tree_and_marks, tree_of, IsFormatComputed}
-use Rattle.ti_param.specs.Meaning.{State, Outcome, and_then, meaning}
+use Rattle.ti_param.specs.Meaning.{MachineState, MachineOutcome, and_then, meaning}
 use Rattle.ti_param.proofs.Reading.{code_read, code_so}
 use Rattle.ti_param.proofs.Scanning.{scan-byte, scan-stop, scan-code}
 use Rattle.ti_param.proofs.Parsing.{sequence_parsed}
@@ -163,7 +163,7 @@ read_from (suc n) place (b ∷ text) phases few =
 
 -- ---- the laws
 
-tree_computed : (format : List ℕ) (t : Tree) → IsTree format t → (stuck_place format ≡ None) × (tree_of format ≡ t)
+tree_computed : (format : List ℕ) (t : FormatTree) → IsTree format t → (stuck_place format ≡ None) × (tree_of format ≡ t)
 unfolding stuck_place refusal tree_and_marks
 tree_computed format t tree =
     let scanned : scan_of format ≡ record { tokens = tree.tokens; stop = None } = cut_whole tree.cut in
@@ -250,16 +250,16 @@ one_reading format = record {
     some_is : {i j : ℕ} → Some i ≡ Some j → i ≡ j
     some_is e = cc e
 
-    either : (o : Option ℕ) → stuck_place format ≡ o → ((t : Tree) × IsTree format t) ⊎ ((place : ℕ) × IsStuck format place)
+    either : (o : Option ℕ) → stuck_place format ≡ o → ((t : FormatTree) × IsTree format t) ⊎ ((place : ℕ) × IsStuck format place)
     either None is = inl (tree_of format, computed_tree format is)
     either (Some place) is = inr (place, computed_stuck format place is)
 
 -- the tokens of a format that has a tree do what the tree means
-pub format_runs : (format : List ℕ) (t : Tree) → IsTree format t → (s : State) → executed None (scan_of format).tokens s ≡ meaning t s
+pub format_runs : (format : List ℕ) (t : FormatTree) → IsTree format t → (s : MachineState) → executed None (scan_of format).tokens s ≡ meaning t s
 unfolding executed
 format_runs format t tree s =
     ap (λ scanned. executed None scanned.tokens s) (cut_whole tree.cut) ∙ sequence_runs tree.parses s ∙ expansion_by (meaning t s)
   where
-    expansion_by : (o : Outcome) → and_then o (executed None []) ≡ o
+    expansion_by : (o : MachineOutcome) → and_then o (executed None []) ≡ o
     expansion_by (Ok final) = refl
     expansion_by (Err place) = refl

@@ -6,9 +6,9 @@ use Rattle.ti_param.specs.declared.codes.Token.TheVariants.{Literal, Operation, 
 use Rattle.ti_param.specs.declared.errors.ParamError.{ParamError}
 use Rattle.ti_param.specs.declared.errors.ParamError.TheVariants.{BadFormat, StackFull, Memory}
 use Rattle.ti_param.specs.declared.lexer.Placed.{Placed}
-use Rattle.ti_param.specs.Formats.{Tree, nothing, placed_token, Closes, by_mark, by_end, IsSequence, no_piece, byte_piece, code_piece, conditional_piece, IsConditional, test_alone, test_then, test_then_else}
+use Rattle.ti_param.specs.Formats.{FormatTree, nothing, placed_token, Closes, by_mark, by_end, IsSequence, no_piece, byte_piece, code_piece, conditional_piece, IsConditional, test_alone, test_then, test_then_else}
 use Rattle.ti_param.specs.inside.Formats.{level_after, after_part}
-use Rattle.ti_param.specs.Meaning.{State, Outcome, and_then, with_output, without_top, top_number, is_zero, code_outcome, meaning}
+use Rattle.ti_param.specs.Meaning.{MachineState, MachineOutcome, and_then, with_output, without_top, top_number, is_zero, code_outcome, meaning}
 use Rattle.ti_param.specs.inside.Expansion.{HasOutcome}
 
 -- ---- the tokens in order: with a part to skip, or none
@@ -16,7 +16,7 @@ use Rattle.ti_param.specs.inside.Expansion.{HasOutcome}
 abbrev pub Skip : Type 0
 Skip = Option (ℕ × Bool)
 
-unfoldable pub executed : Skip → List Placed → State → Outcome
+unfoldable pub executed : Skip → List Placed → MachineState → MachineOutcome
 executed skip [] s = Ok s
 executed (Some part) (p ∷ tokens) s =
     elim (level_after part.0 part.1 p.token) [ None ↦ executed None tokens s | Some next ↦ executed (Some (next, part.1)) tokens s ]
@@ -30,12 +30,12 @@ executed None (p ∷ tokens) s = elim p.token [
 ]
 
 -- what is skipped is not run
-pub executed-after_part : (level : ℕ) (to_else : Bool) (tokens : List Placed) (s : State) →
+pub executed-after_part : (level : ℕ) (to_else : Bool) (tokens : List Placed) (s : MachineState) →
     executed (Some (level, to_else)) tokens s ≡ executed None (after_part level to_else tokens) s
 unfolding executed after_part
 executed-after_part level to_else [] s = refl
 executed-after_part level to_else (p ∷ tokens) s =
-    elim (level_after level to_else p.token) as (λ d. elim d as (λ _. Outcome) [ None ↦ executed None tokens s | Some next ↦ executed (Some (next, to_else)) tokens s ]
+    elim (level_after level to_else p.token) as (λ d. elim d as (λ _. MachineOutcome) [ None ↦ executed None tokens s | Some next ↦ executed (Some (next, to_else)) tokens s ]
     ≡ executed None (elim d as (λ _. List Placed) [ None ↦ tokens | Some next ↦ after_part next to_else tokens ]) s) [
       | None ↦ refl
       | Some next ↦ executed-after_part next to_else tokens s
@@ -56,7 +56,7 @@ closed_here to_else inner after by_end = refl
 mutual
   unfolding after_part
 
-  pub sequence_skipped : {depth : ℕ} {tokens left : List Placed} {t : Tree} → IsSequence depth tokens left t →
+  pub sequence_skipped : {depth : ℕ} {tokens left : List Placed} {t : FormatTree} → IsSequence depth tokens left t →
       (level : ℕ) (to_else : Bool) → after_part level to_else tokens ≡ after_part level to_else left
   sequence_skipped no_piece level to_else = refl
   sequence_skipped (byte_piece place b next) level to_else = sequence_skipped next level to_else
@@ -64,7 +64,7 @@ mutual
   sequence_skipped (conditional_piece place few inner closes next) level to_else =
       conditional_skipped inner level to_else ∙ closed_inside level to_else _ _ closes ∙ sequence_skipped next level to_else
 
-  pub conditional_skipped : {depth : ℕ} {tokens left : List Placed} {t : Tree} → IsConditional depth tokens left t →
+  pub conditional_skipped : {depth : ℕ} {tokens left : List Placed} {t : FormatTree} → IsConditional depth tokens left t →
       (level : ℕ) (to_else : Bool) → after_part (suc level) to_else tokens ≡ after_part (suc level) to_else left
   conditional_skipped (test_alone test) level to_else = sequence_skipped test (suc level) to_else
   conditional_skipped (test_then place test taken) level to_else = sequence_skipped test (suc level) to_else ∙ sequence_skipped taken (suc level) to_else
@@ -72,7 +72,7 @@ mutual
       sequence_skipped test (suc level) to_else ∙ sequence_skipped taken (suc level) to_else ∙ conditional_skipped rest level to_else
 
 -- what stands after an `%e` is passed over whole where no other `%e` may end it
-pub rest_skipped : {depth : ℕ} {tokens left : List Placed} {t : Tree} → IsConditional depth tokens left t → after_part 0 false tokens ≡ after_part 0 false left
+pub rest_skipped : {depth : ℕ} {tokens left : List Placed} {t : FormatTree} → IsConditional depth tokens left t → after_part 0 false tokens ≡ after_part 0 false left
 unfolding after_part
 rest_skipped (test_alone test) = sequence_skipped test 0 false
 rest_skipped (test_then place test taken) = sequence_skipped test 0 false ∙ sequence_skipped taken 0 false
@@ -80,33 +80,33 @@ rest_skipped (test_then_else place at test taken rest) = sequence_skipped test 0
 
 -- ---- outcomes one after another
 
-pub and_then-same : (o : Outcome) (f g : State → Outcome) → ((s : State) → f s ≡ g s) → and_then o f ≡ and_then o g
+pub and_then-same : (o : MachineOutcome) (f g : MachineState → MachineOutcome) → ((s : MachineState) → f s ≡ g s) → and_then o f ≡ and_then o g
 and_then-same (Ok s) f g h = h s
 and_then-same (Err place) f g h = refl
 
-and_then-assoc : (o : Outcome) (f g : State → Outcome) → and_then (and_then o f) g ≡ and_then o (λ s. and_then (f s) g)
+and_then-assoc : (o : MachineOutcome) (f g : MachineState → MachineOutcome) → and_then (and_then o f) g ≡ and_then o (λ s. and_then (f s) g)
 and_then-assoc (Ok s) f g = refl
 and_then-assoc (Err place) f g = refl
 
-executed_closed : (inner after : List Placed) → Closes inner after → (s : State) → executed None inner s ≡ executed None after s
+executed_closed : (inner after : List Placed) → Closes inner after → (s : MachineState) → executed None inner s ≡ executed None after s
 unfolding executed
 executed_closed inner after (by_mark place) s = refl
 executed_closed inner after by_end s = refl
 
 -- after a `%t`: the part taken, or what is left where it is skipped
-chosen_part : (b : Bool) (more : List Placed) (taken rest : Tree) (s : State) (left : List Placed) →
+chosen_part : (b : Bool) (more : List Placed) (taken rest : FormatTree) (s : MachineState) (left : List Placed) →
     (executed None more s ≡ and_then (meaning taken s) (executed None left)) →
     (executed (Some (0, true)) more s ≡ and_then (meaning rest s) (executed None left)) →
     cond b (executed (Some (0, true)) more s) (executed None more s)
-    ≡ and_then (elim b as (λ _. Outcome) [ true ↦ meaning rest s | false ↦ meaning taken s ]) (executed None left)
+    ≡ and_then (elim b as (λ _. MachineOutcome) [ true ↦ meaning rest s | false ↦ meaning taken s ]) (executed None left)
 chosen_part true more taken rest s left run skip = skip
 chosen_part false more taken rest s left run skip = run
 
 mutual
   unfolding executed meaning after_part
 
-  pub sequence_runs : {depth : ℕ} {tokens left : List Placed} {t : Tree} → IsSequence depth tokens left t →
-      (s : State) → executed None tokens s ≡ and_then (meaning t s) (executed None left)
+  pub sequence_runs : {depth : ℕ} {tokens left : List Placed} {t : FormatTree} → IsSequence depth tokens left t →
+      (s : MachineState) → executed None tokens s ≡ and_then (meaning t s) (executed None left)
   sequence_runs no_piece s = refl
   sequence_runs (byte_piece place b next) s = sequence_runs next (with_output (b ∷ []) s)
   sequence_runs (code_piece place c {tokens} {left} {next} piece) s =
@@ -117,8 +117,8 @@ mutual
       ∙ and_then-same (meaning conditional s) (executed None after) _ (λ t. sequence_runs piece t)
       ∙ sym (and_then-assoc (meaning conditional s) (meaning next) (executed None left))
 
-  pub conditional_runs : {depth : ℕ} {tokens inner : List Placed} {t : Tree} → IsConditional depth tokens inner t →
-      (after : List Placed) → Closes inner after → (s : State) → executed None tokens s ≡ and_then (meaning t s) (executed None after)
+  pub conditional_runs : {depth : ℕ} {tokens inner : List Placed} {t : FormatTree} → IsConditional depth tokens inner t →
+      (after : List Placed) → Closes inner after → (s : MachineState) → executed None tokens s ≡ and_then (meaning t s) (executed None after)
   conditional_runs (test_alone {left = inner} {test = t} test) after closes s =
       sequence_runs test s ∙ and_then-same (meaning t s) (executed None inner) (executed None after) (executed_closed inner after closes)
   conditional_runs (test_then place {more} {left = inner} {test} {taken} tested took) after closes s =
@@ -140,67 +140,67 @@ mutual
 
 -- ---- one token more
 
-run-literal : (tokens rest : List Placed) (p : Placed) (b : ℕ) (s : State) → tokens ≡ p ∷ rest → p.token ≡ Literal b →
+run-literal : (tokens rest : List Placed) (p : Placed) (b : ℕ) (s : MachineState) → tokens ≡ p ∷ rest → p.token ≡ Literal b →
     executed None tokens s ≡ executed None rest (with_output (b ∷ []) s)
 unfolding executed
 run-literal tokens rest p b s is token = rw is (rw (token, executed) refl)
 
-run-operation : (tokens rest : List Placed) (p : Placed) (c : Code) (s : State) → tokens ≡ p ∷ rest → p.token ≡ Operation c →
+run-operation : (tokens rest : List Placed) (p : Placed) (c : Code) (s : MachineState) → tokens ≡ p ∷ rest → p.token ≡ Operation c →
     executed None tokens s ≡ and_then (code_outcome p.place c s) (executed None rest)
 unfolding executed
 run-operation tokens rest p c s is token = rw is (rw (token, executed) refl)
 
 -- a byte, a code that ends well, a code at which the stack is full
-pub literal-done : (tokens rest : List Placed) (p : Placed) (b : ℕ) (s t : State) → tokens ≡ p ∷ rest → p.token ≡ Literal b →
-    ◌≡◌ {A = Outcome} (Ok (with_output (b ∷ []) s)) (Ok t) → executed None rest t ≡ executed None tokens s
+pub literal-done : (tokens rest : List Placed) (p : Placed) (b : ℕ) (s t : MachineState) → tokens ≡ p ∷ rest → p.token ≡ Literal b →
+    ◌≡◌ {A = MachineOutcome} (Ok (with_output (b ∷ []) s)) (Ok t) → executed None rest t ≡ executed None tokens s
 literal-done tokens rest p b s t is token done =
     let same : with_output (b ∷ []) s ≡ t = cc done in ap (executed None rest) (sym same) ∙ sym (run-literal tokens rest p b s is token)
 
-pub operation-done : (tokens rest : List Placed) (p : Placed) (c : Code) (s t : State) → tokens ≡ p ∷ rest → p.token ≡ Operation c →
+pub operation-done : (tokens rest : List Placed) (p : Placed) (c : Code) (s t : MachineState) → tokens ≡ p ∷ rest → p.token ≡ Operation c →
     code_outcome p.place c s ≡ Ok t → executed None rest t ≡ executed None tokens s
 operation-done tokens rest p c s t is token done =
     sym (run-operation tokens rest p c s is token ∙ ap (λ o. and_then o (executed None rest)) done)
 
-pub operation-full : (tokens rest : List Placed) (p : Placed) (c : Code) (s : State) (place : ℕ) → tokens ≡ p ∷ rest → p.token ≡ Operation c →
+pub operation-full : (tokens rest : List Placed) (p : Placed) (c : Code) (s : MachineState) (place : ℕ) → tokens ≡ p ∷ rest → p.token ≡ Operation c →
     code_outcome p.place c s ≡ Err place → executed None tokens s ≡ Err place
 operation-full tokens rest p c s place is token full =
     run-operation tokens rest p c s is token ∙ ap (λ o. and_then o (executed None rest)) full
 
-pub if-done : (tokens rest : List Placed) (p : Placed) (s : State) → tokens ≡ p ∷ rest → p.token ≡ If → executed None rest s ≡ executed None tokens s
+pub if-done : (tokens rest : List Placed) (p : Placed) (s : MachineState) → tokens ≡ p ∷ rest → p.token ≡ If → executed None rest s ≡ executed None tokens s
 unfolding executed
 if-done tokens rest p s is token = rw is (rw (token, executed) refl)
 
-pub end-done : (tokens rest : List Placed) (p : Placed) (s : State) → tokens ≡ p ∷ rest → p.token ≡ EndIf → executed None rest s ≡ executed None tokens s
+pub end-done : (tokens rest : List Placed) (p : Placed) (s : MachineState) → tokens ≡ p ∷ rest → p.token ≡ EndIf → executed None rest s ≡ executed None tokens s
 unfolding executed
 end-done tokens rest p s is token = rw is (rw (token, executed) refl)
 
-run-then : (tokens rest : List Placed) (p : Placed) (s : State) (b : Bool) → tokens ≡ p ∷ rest → p.token ≡ Then → is_zero (top_number s) ≡ b →
+run-then : (tokens rest : List Placed) (p : Placed) (s : MachineState) (b : Bool) → tokens ≡ p ∷ rest → p.token ≡ Then → is_zero (top_number s) ≡ b →
     cond b (executed (Some (0, true)) rest (without_top s)) (executed None rest (without_top s)) ≡ executed None tokens s
 unfolding executed
 run-then tokens rest p s b is token test = rw is (rw (token, executed) (rw test refl))
 
-pub then-taken : (tokens rest : List Placed) (p : Placed) (s t : State) → tokens ≡ p ∷ rest → p.token ≡ Then → is_zero (top_number s) ≡ false →
+pub then-taken : (tokens rest : List Placed) (p : Placed) (s t : MachineState) → tokens ≡ p ∷ rest → p.token ≡ Then → is_zero (top_number s) ≡ false →
     t ≡ without_top s → executed None rest t ≡ executed None tokens s
 then-taken tokens rest p s t is token test same = ap (executed None rest) same ∙ run-then tokens rest p s false is token test
 
-pub then-after_part : (tokens rest left : List Placed) (p : Placed) (s t : State) → tokens ≡ p ∷ rest → p.token ≡ Then → is_zero (top_number s) ≡ true →
+pub then-after_part : (tokens rest left : List Placed) (p : Placed) (s t : MachineState) → tokens ≡ p ∷ rest → p.token ≡ Then → is_zero (top_number s) ≡ true →
     t ≡ without_top s → left ≡ after_part 0 true rest → executed None left t ≡ executed None tokens s
 then-after_part tokens rest left p s t is token test same gone =
     ap (executed None left) same ∙ ap (λ l. executed None l (without_top s)) gone ∙ sym (executed-after_part 0 true rest (without_top s))
     ∙ run-then tokens rest p s true is token test
 
-pub else-after_part : (tokens rest left : List Placed) (p : Placed) (s : State) → tokens ≡ p ∷ rest → p.token ≡ Else →
+pub else-after_part : (tokens rest left : List Placed) (p : Placed) (s : MachineState) → tokens ≡ p ∷ rest → p.token ≡ Else →
     left ≡ after_part 0 false rest → executed None left s ≡ executed None tokens s
 unfolding executed
 else-after_part tokens rest left p s is token gone =
     ap (λ l. executed None l s) gone ∙ sym (executed-after_part 0 false rest s) ∙ rw is (rw (token, executed) refl)
 
-pub run-end : (tokens : List Placed) (s : State) → tokens ≡ [] → executed None tokens s ≡ Ok s
+pub run-end : (tokens : List Placed) (s : MachineState) → tokens ≡ [] → executed None tokens s ≡ Ok s
 unfolding executed
 run-end tokens s none = rw none refl
 
 -- an error of a step is the error of the whole, where the step's full stack is the whole's
-pub error-kept : (e : ParamError) (a b : State) (o whole : Outcome) → ((place : ℕ) → o ≡ Err place → whole ≡ Err place) → HasOutcome (Err e) a o → HasOutcome (Err e) b whole
+pub error-kept : (e : ParamError) (a b : MachineState) (o whole : MachineOutcome) → ((place : ℕ) → o ≡ Err place → whole ≡ Err place) → HasOutcome (Err e) a o → HasOutcome (Err e) b whole
 error-kept (BadFormat place) a b o whole full ran = ran
 error-kept (StackFull place) a b o whole full ran = full place ran
 error-kept Memory a b o whole full ran = tt

@@ -1,12 +1,14 @@
 -- The codes of a parameter string: the table under "Parameterized Strings" of terminfo(5), after the `%`. A text has
 -- at most one of them at its front, `IsCode` says which, and `token_after` computes it.
-use Rattle.std.specs.Prelude.{◌≡◌, ℕ, ◌-◌, ◌<◌, ◌≤◌, Bool, true, false, ◌&&◌, ◌||◌, List, [], ◌∷◌, ◌++◌, length, map, pos, if◌then◌else◌, ◌==◌, nat_le, Option, Some, None}
+use Rattle.std.specs.Prelude.{◌≡◌, ℕ, ◌-◌, ◌<◌, ◌≤◌, Bool, true, false, ◌&&◌, ◌||◌, List, [], ◌∷◌, ◌++◌, length, map, pos, if◌then◌else◌, ◌==◌, nat_le, Option}
+use Rattle.std.specs.Prelude.{Some, None}
 use Rattle.ti_text.specs.Ascii.{byte_of}
 use Rattle.ti_text.specs.Ascii as ascii
 use Rattle.ti_text.specs.Digits.{is_decimal_digit, decimal_value}
 use Rattle.ti_text.specs.Limits.{number_max}
-use Rattle.std.specs.List.{AllByRecursion}
-use Rattle.ti_param.specs.declared.codes.Code.TheVariants.{Percent, Character, Print, Parameter, Store, Fetch, Constant, Length, Binary, Not, Complement, Increment}
+use Rattle.ti_text.specs.Lists.{AllAre}
+use Rattle.ti_param.specs.declared.codes.Code.TheVariants.{Percent, Character, Print, Parameter, Store, Fetch, Constant, Length, Binary, Not, Complement}
+use Rattle.ti_param.specs.declared.codes.Code.TheVariants.{Increment}
 use Rattle.ti_param.specs.declared.codes.Operator.{Operator}
 use Rattle.ti_param.specs.declared.codes.Operator.TheVariants.{Add, Subtract, Multiply, Divide, Remainder, BitAnd, BitOr, BitXor, Equal, Greater, Less, And, Or}
 use Rattle.ti_param.specs.declared.codes.Token.{Token}
@@ -24,10 +26,6 @@ use Rattle.ti_printing.specs.declared.printf.Flags.{Flags}
 abbrev pub row_for : {T : Type 0} → ℕ → List (ℕ × T) → Option T
 row_for x [] = None
 row_for x (row ∷ rows) = if x == row.0 then Some row.1 else row_for x rows
-
--- each byte passes the test
-abbrev pub AllAre : (ℕ → Bool) → List ℕ → Type 0
-AllAre p xs = AllByRecursion (λ x. p x ≡ true) xs
 
 -- the longest front whose bytes pass the test, and what follows it
 abbrev pub span : (ℕ → Bool) → List ℕ → List ℕ × List ℕ

@@ -31,12 +31,12 @@ most_open = 64
 
 -- What a format is made of. A conditional with a `%t` is a choice in a group: its test, the part taken, and the rest that
 -- is run where the test is 0, which is a choice again where it has a `%t` of its own.
-pub data Tree : Type 0 where
-  nothing : Tree
-  byte : ℕ → Tree → Tree
-  code : (place : ℕ) → Code → Tree → Tree
-  group : (conditional next : Tree) → Tree
-  choice : (test taken rest : Tree) → Tree
+pub data FormatTree : Type 0 where
+  nothing : FormatTree
+  byte : ℕ → FormatTree → FormatTree
+  code : (place : ℕ) → Code → FormatTree → FormatTree
+  group : (conditional next : FormatTree) → FormatTree
+  choice : (test taken rest : FormatTree) → FormatTree
 
 -- A conditional is closed by a `%;`, or by the end of the format: what is left after it.
 pub data Closes : List Placed → List Placed → Type 0 where
@@ -45,39 +45,39 @@ pub data Closes : List Placed → List Placed → Type 0 where
 
 mutual
   -- IsSequence depth tokens left t: the tokens begin with a sequence of bytes, codes and conditionals inside so many open ones
-  pub data IsSequence : ℕ → List Placed → List Placed → Tree → Type 0 where
+  pub data IsSequence : ℕ → List Placed → List Placed → FormatTree → Type 0 where
     no_piece : {depth : ℕ} {left : List Placed} → IsSequence depth left left nothing
-    byte_piece : {depth : ℕ} (place b : ℕ) {tokens left : List Placed} {next : Tree} →
+    byte_piece : {depth : ℕ} (place b : ℕ) {tokens left : List Placed} {next : FormatTree} →
         IsSequence depth tokens left next → IsSequence depth (placed_token place (Literal b) ∷ tokens) left (byte b next)
-    code_piece : {depth : ℕ} (place : ℕ) (c : Code) {tokens left : List Placed} {next : Tree} →
+    code_piece : {depth : ℕ} (place : ℕ) (c : Code) {tokens left : List Placed} {next : FormatTree} →
         IsSequence depth tokens left next → IsSequence depth (placed_token place (Operation c) ∷ tokens) left (code place c next)
-    conditional_piece : {depth : ℕ} (place : ℕ) {tokens inner after left : List Placed} {conditional next : Tree} → depth < most_open →
+    conditional_piece : {depth : ℕ} (place : ℕ) {tokens inner after left : List Placed} {conditional next : FormatTree} → depth < most_open →
         IsConditional (suc depth) tokens inner conditional → Closes inner after → IsSequence depth after left next →
         IsSequence depth (placed_token place If ∷ tokens) left (group conditional next)
 
   -- what stands in a conditional: S, or S `%t` S, or S `%t` S `%e` and again what stands in a conditional
-  pub data IsConditional : ℕ → List Placed → List Placed → Tree → Type 0 where
-    test_alone : {depth : ℕ} {tokens left : List Placed} {test : Tree} → IsSequence depth tokens left test → IsConditional depth tokens left test
-    test_then : {depth : ℕ} (place : ℕ) {tokens more left : List Placed} {test taken : Tree} →
+  pub data IsConditional : ℕ → List Placed → List Placed → FormatTree → Type 0 where
+    test_alone : {depth : ℕ} {tokens left : List Placed} {test : FormatTree} → IsSequence depth tokens left test → IsConditional depth tokens left test
+    test_then : {depth : ℕ} (place : ℕ) {tokens more left : List Placed} {test taken : FormatTree} →
         IsSequence depth tokens (placed_token place Then ∷ more) test → IsSequence depth more left taken →
         IsConditional depth tokens left (choice test taken nothing)
-    test_then_else : {depth : ℕ} (place at : ℕ) {tokens more others left : List Placed} {test taken rest : Tree} →
+    test_then_else : {depth : ℕ} (place at : ℕ) {tokens more others left : List Placed} {test taken rest : FormatTree} →
         IsSequence depth tokens (placed_token place Then ∷ more) test → IsSequence depth more (placed_token at Else ∷ others) taken →
         IsConditional depth others left rest → IsConditional depth tokens left (choice test taken rest)
 
 -- the tree of a list of tokens
-abbrev pub AreTokensOf : List Placed → Tree → Type 0
+abbrev pub AreTokensOf : List Placed → FormatTree → Type 0
 AreTokensOf tokens t = IsSequence 0 tokens [] t
 
 -- the tree of a format
-pub record IsTree (format : List ℕ) (t : Tree) : Type 0 where
+pub record IsTree (format : List ℕ) (t : FormatTree) : Type 0 where
   pub tokens : List Placed
   pub cut : IsCutIntoTokens 0 format tokens
   pub parses : AreTokensOf tokens t
 
 -- the tokens begin some list of tokens that has a tree
 abbrev pub BeginsFormat : List Placed → Type 0
-BeginsFormat tokens = (more : List Placed) × (t : Tree) × AreTokensOf (tokens ++ more) t
+BeginsFormat tokens = (more : List Placed) × (t : FormatTree) × AreTokensOf (tokens ++ more) t
 
 -- Own, since the manual says nothing of bad formats: the text before the place is whole tokens that begin some format, a `%`
 -- stands there, and no code that may stand there begins there.
@@ -94,7 +94,7 @@ pub record IsStuck (format : List ℕ) (place : ℕ) : Type 0 where
 
 -- the law of formats: each has exactly one tree, or exactly one place where it is stuck
 pub record HasOneTree (format : List ℕ) : Type 0 where
-  pub some : ((t : Tree) × IsTree format t) ⊎ ((place : ℕ) × IsStuck format place)
-  pub one_tree : (t u : Tree) → IsTree format t → IsTree format u → t ≡ u
+  pub some : ((t : FormatTree) × IsTree format t) ⊎ ((place : ℕ) × IsStuck format place)
+  pub one_tree : (t u : FormatTree) → IsTree format t → IsTree format u → t ≡ u
   pub one_place : (i j : ℕ) → IsStuck format i → IsStuck format j → i ≡ j
-  pub not_both : (t : Tree) (i : ℕ) → IsTree format t → IsStuck format i → ⊥
+  pub not_both : (t : FormatTree) (i : ℕ) → IsTree format t → IsStuck format i → ⊥

@@ -1,5 +1,7 @@
 //! The codes of a format: the table under "Parameterized Strings" in terminfo(5).
 ghost use Rattle.std.specs.Prelude.{◌≡◌, ◌<◌};
+ghost use Rattle.ti_text.specs.Limits.{parameters_max};
+ghost use Rattle.ti_param.specs.Limits.{letter_count};
 ghost use Rattle.ti_param.specs.Codes.{variable_named, parameter_numbered};
 
 use std::marker::Model;
@@ -13,12 +15,13 @@ pub(crate) struct Letter {
 
 impl Model for Letter {
     ghost use Rattle.std.specs.Prelude.{ℕ, ◌<◌};
+    ghost use Rattle.ti_param.specs.Limits.{letter_count};
 
     ghost Value = { ℕ };
 
     ghost view = { λ letter. letter.index };
 
-    ghost invariant = { λ letter. letter.index < 26 };
+    ghost invariant = { λ letter. letter.index < letter_count };
 
     ghost inverse = { λ index. record { index = index } };
 }
@@ -31,12 +34,13 @@ pub(crate) struct Ordinal {
 
 impl Model for Ordinal {
     ghost use Rattle.std.specs.Prelude.{ℕ, ◌<◌};
+    ghost use Rattle.ti_text.specs.Limits.{parameters_max};
 
     ghost Value = { ℕ };
 
     ghost view = { λ ordinal. ordinal.index };
 
-    ghost invariant = { λ ordinal. ordinal.index < 9 };
+    ghost invariant = { λ ordinal. ordinal.index < parameters_max };
 
     ghost inverse = { λ index. record { index = index } };
 }
@@ -118,7 +122,7 @@ impl Letter {
     /// The place in the alphabet.
     pub(crate) fn index(self) -> usize
         ensures value { result ≡ self }
-        ensures bound { result < 26 }
+        ensures bound { result < letter_count }
     {
         usize::from(self.index)
     }
@@ -128,7 +132,7 @@ impl Ordinal {
     /// The parameter's place.
     pub(crate) fn index(self) -> usize
         ensures value { result ≡ self }
-        ensures bound { result < 9 }
+        ensures bound { result < parameters_max }
     {
         usize::from(self.index)
     }

@@ -1,6 +1,6 @@
 //! The bytes that a parameter string sends to the terminal.
 ghost use Rattle.std.specs.Prelude.{◌≡◌, ℕ, ◌+◌, ◌^◌, ◌<◌, ◌≤◌, ◌↔◌, IfOk, OnErr, IsErrOf, map, length, MatchResult};
-ghost use Rattle.ti_param.specs.Formats.{Tree, IsTree, IsStuck};
+ghost use Rattle.ti_param.specs.Formats.{FormatTree, IsTree, IsStuck};
 ghost use Rattle.ti_param.specs.inside.Formats.{after_part, level_after};
 ghost use Rattle.ti_param.specs.Meaning.{argument_of, meaning};
 ghost use Rattle.ti_param.specs.Expansion.{Expands, Overflows};
@@ -13,6 +13,7 @@ use crate::lexer::{Lexer, Placed};
 use crate::machine::Machine;
 use crate::values::{Statics, Value};
 use std::alloc::Global;
+use ti_text::limits::PARAMETERS_MAX;
 
 /// The bytes of a format for its parameters: what the format's tree means.
 ///
@@ -30,13 +31,13 @@ use std::alloc::Global;
 pub fn expand(
     alloc: Global,
     format: &[u8],
-    params: &[Value<'_>; 9],
+    params: &[Value<'_>; PARAMETERS_MAX],
     statics: &mut Statics,
 ) -> Result<Vec<u8>, ParamError>
     ensures ok { IfOk result (λ output. Expands format.now (map argument_of params.now) statics.old output.items statics.new) }
     ensures bad_format { (place : ℕ) → IsErrOf result (ParamError.BadFormat place) ↔ IsStuck format.now place }
     ensures stack_full { (place : ℕ) → IsErrOf result (ParamError.StackFull place) → Overflows format.now (map argument_of params.now) statics.old place }
-    ensures memory { IsErrOf result ParamError.Memory → (t : Tree) × IsTree format.now t }
+    ensures memory { IsErrOf result ParamError.Memory → (t : FormatTree) × IsTree format.now t }
     ensures err { OnErr result (statics.new ≡ statics.old) }
 
     // the same, computed
@@ -52,7 +53,7 @@ pub fn expand(
 
 /// Runs a format that was accepted.
 fn run(format: &[u8], machine: &mut Machine<'_>) -> Result<(), ParamError>
-    ensures { (t : Tree) → IsTree format.now t → HasOutcome result machine.new (meaning t machine.old) }
+    ensures { (t : FormatTree) → IsTree format.now t → HasOutcome result machine.new (meaning t machine.old) }
 {
     let mut lexer = Lexer::new(format);
     while let Some(Placed { place, token }) = lexer.next_token() {

@@ -1,7 +1,7 @@
 //! Parameter strings and padding of a terminal's capabilities, as terminfo(5) has them under
 //! "Parameterized Strings" and "Delays and Padding".
 //!
-//! - `values`: what is handed to a parameter string, and the static variables.
+//! - `values`: what is handed to a parameter string, and the static variables; `specs/Limits.antt` says how many.
 //! - `expansion`: the bytes that a parameter string sends to the terminal; `errors`: why there are none.
 //! - `codes`: the codes of a format; `reader`, `directives` and `decimals`: reading one; `lexer`: a format as its tokens.
 //! - `acceptor`: whether a format is whole, before any of it is run.

@@ -1,16 +1,17 @@
 //! The machine that runs a format: its stack, its parameters and variables, and what each code does to them.
 ghost use Rattle.std.specs.Prelude.{◌≡◌, ◌∷◌, [], map};
-ghost use Rattle.ti_param.specs.Meaning.{State, argument_of, start, with_print, with_output, push_outcome, without_top, top, top_number, with_variable, code_outcome, variable_value, with_increment};
+ghost use Rattle.ti_param.specs.Meaning.{MachineState, argument_of, start, with_print, with_output, push_outcome, without_top, top, top_number, with_variable, code_outcome, variable_value, with_increment};
 ghost use Rattle.ti_param.specs.inside.Expansion.{HasOutcome};
 
 use crate::arithmetic::{bitwise_not, character, logical_not, operate, wrapped_length};
 use crate::codes::{Code, Variable};
 use crate::errors::ParamError;
-use crate::values::{Statics, Value};
+use crate::values::{LETTERS, Statics, Value};
 use arrayvec::ArrayVec;
 use std::alloc::Global;
 use std::marker::Model;
 use ti_printing::printf::{self, Directive};
+use ti_text::limits::PARAMETERS_MAX;
 
 /// How many values the stack holds.
 const DEPTH: usize = 20;
@@ -20,16 +21,16 @@ const DEPTH: usize = 20;
 pub(crate) struct Machine<'a> {
     output: Vec<u8>,
     stack: ArrayVec<Value<'a>, DEPTH>,
-    parameters: [Value<'a>; 9],
-    dynamics: [i32; 26],
-    statics: [i32; 26],
+    parameters: [Value<'a>; PARAMETERS_MAX],
+    dynamics: [i32; LETTERS],
+    statics: [i32; LETTERS],
 }
 
 impl<'a> Model for Machine<'a> {
     ghost use Rattle.std.specs.Prelude.{map, reverse};
-    ghost use Rattle.ti_param.specs.Meaning.{State, argument_of};
+    ghost use Rattle.ti_param.specs.Meaning.{MachineState, argument_of};
 
-    ghost Value = { State };
+    ghost Value = { MachineState };
 
     ghost view = { λ machine. record {
       output = machine.output.items;
@@ -42,14 +43,18 @@ impl<'a> Model for Machine<'a> {
 
 impl<'a> Machine<'a> {
     /// At the start of an expansion.
-    pub(crate) fn new(alloc: Global, parameters: &[Value<'a>; 9], statics: &Statics) -> Self
+    pub(crate) fn new(
+        alloc: Global,
+        parameters: &[Value<'a>; PARAMETERS_MAX],
+        statics: &Statics,
+    ) -> Self
         ensures { result ≡ start (map argument_of parameters.now) statics.now }
     {
         Machine {
             output: Vec::new(alloc),
             stack: ArrayVec::new(),
             parameters: *parameters,
-            dynamics: [0; 26],
+            dynamics: [0; LETTERS],
             statics: statics.values,
         }
     }

@@ -1,7 +1,11 @@
 //! What is handed to a parameter string, and the variables that outlive it.
-ghost use Rattle.std.specs.Prelude.{◌≡◌, pos, replicate};
+ghost use Rattle.std.specs.Prelude.{◌≡◌};
+ghost use Rattle.ti_param.specs.Meaning.{no_variables};
 
 use std::marker::Model;
+
+/// How many letters name variables of a kind.
+pub(crate) const LETTERS: usize = 26;
 
 /// A parameter, or a value on the stack of a parameter string.
 #[derive(Clone, Copy, Debug, PartialEq, Eq)]
@@ -62,7 +66,7 @@ impl<'a> Value<'a> {
 /// The 26 static variables `A` to `Z`: each expansion finds them as the last one left them.
 #[derive(Clone, Copy, Debug, PartialEq, Eq)]
 pub struct Statics {
-    pub(crate) values: [i32; 26],
+    pub(crate) values: [i32; LETTERS],
 }
 
 impl Model for Statics {
@@ -78,14 +82,16 @@ impl Model for Statics {
 impl Statics {
     /// All of them 0.
     pub fn new() -> Self
-        ensures { result ≡ replicate 26 (pos 0) }
+        ensures { result ≡ no_variables }
     {
-        Statics { values: [0; 26] }
+        Statics {
+            values: [0; LETTERS],
+        }
     }
 }
 
 impl Default for Statics {
-    ghost is_default = { λ statics. statics ≡ replicate 26 (pos 0) };
+    ghost is_default = { λ statics. statics ≡ no_variables };
 
     fn default() -> Self {
         Statics::new()

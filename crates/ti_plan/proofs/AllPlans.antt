@@ -4,7 +4,7 @@ use Rattle.std.proofs.lemmas.List.{length-map}
 use Rattle.std.proofs.lemmas.Option.{same_Some, slice_get_within}
 use Rattle.ti_meaning.specs.Usable.{IsUsable}
 use Rattle.ti_components.specs.Graph.{IsGraph}
-use Rattle.ti_index.specs.Labels.{IsDistinct}
+use Rattle.ti_index.specs.Labels.{AreDistinct}
 use Rattle.ti_slots.specs.declared.slots.Slots.{Slots}
 use Rattle.ti_slots.specs.Slots.{blocks_of, reading_at, StandsAt, IsIndexed}
 use Rattle.ti_dependents.specs.declared.dependents.Dependents.{Dependents}
@@ -33,7 +33,7 @@ module _ (slots : Slots) (d : Dependents) (all : AreAllIds slots d.ids.items d.p
   stands_within at id s = slice_get_within slots.order.listed at id s
 
   -- they are closed, and there are no others
-  pub all_found : IsIndexed slots → All IsUsable (blocks_of slots) → IsDistinct slots.order.listed → IsGraphOfUses slots d.ids.items d.uses → IsGraph d.uses → AreFoundIn slots d
+  pub all_found : IsIndexed slots → All IsUsable (blocks_of slots) → AreDistinct slots.order.listed → IsGraphOfUses slots d.ids.items d.uses → IsGraph d.uses → AreFoundIn slots d
   all_found indexed usable distinct graph whole = record {
     indexed = indexed;
     usable = usable;
@@ -47,7 +47,7 @@ module _ (slots : Slots) (d : Dependents) (all : AreAllIds slots d.ids.items d.p
     others = λ at id s absent. absurd (absent (at_contains d.places.items at at (placed at (stands_within at id s))));
   }
 
-  pub all_planned : (plan : Plan) → IsDistinct slots.order.listed → IsPlanOf slots d plan → IsPlanOfAll slots plan
+  pub all_planned : (plan : Plan) → AreDistinct slots.order.listed → IsPlanOf slots d plan → IsPlanOfAll slots plan
   all_planned plan distinct p = record {
     listed = ap (λ ids. ids.items) p.ids ∙ all.listed;
     as_many = p.as_many ∙ ap (λ ids. length ids.items) (sym p.ids);

@@ -11,7 +11,7 @@ use Rattle.ti_components.proofs.Lists.{item_at}
 use Rattle.ti_slots.specs.declared.slots.Slots.{Slots}
 use Rattle.ti_slots.specs.declared.slots.Settled.{Settled}
 use Rattle.ti_slots.specs.Slots.{blocks_of, IsIndexed}
-use Rattle.ti_index.specs.Labels.{IsDistinct}
+use Rattle.ti_index.specs.Labels.{AreDistinct}
 use Rattle.ti_components.specs.Graph.{IsGraph}
 use Rattle.ti_meaning.specs.Usable.{IsUsable}
 use Rattle.ti_dependents.specs.Dependents.{AreDependentIds, IsGraphOfUses}
@@ -85,7 +85,7 @@ module _ (slots : Slots) (d : Dependents) (component_of order : List ℕ) (found
 
 -- ---- the blocks found are those that depend on the edit
 
-pub found_in : (slots : Slots) (put : Option ℕ) (out : List (List ℕ)) (d : Dependents) → IsIndexed slots → All IsUsable (blocks_of slots) → IsReady slots put out → IsDistinct slots.order.listed
+pub found_in : (slots : Slots) (put : Option ℕ) (out : List (List ℕ)) (d : Dependents) → IsIndexed slots → All IsUsable (blocks_of slots) → IsReady slots put out → AreDistinct slots.order.listed
     → AreDependentIds slots put out d.ids.items d.places.items → IsGraphOfUses slots d.ids.items d.uses → IsGraph d.uses → AreFoundIn slots d
 found_in slots put out d indexed usable ready distinct h graph whole = record {
   indexed = indexed;

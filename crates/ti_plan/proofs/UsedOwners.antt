@@ -1,4 +1,4 @@
--- What is wrong with a use, told from its edge, the components and the owner's state.
+-- What is wrong with a use, found from its edge, the components and the owner's state.
 use Rattle.std.proofs.Common.{◌≡◌, ℕ, ◌<◌, inl, inr, false, List, length, Option, Some, None, slice_get, slice_index_or, Contains, refl, sym, ◌∙◌, ap, arith, subst}
 use Rattle.std.proofs.lemmas.Bool.{cases_Bool}
 use Rattle.std.proofs.lemmas.Option.{same_Some, none-some, slice_get_within, get_or_from_slice_get, slice_get-get_or}

@@ -13,7 +13,8 @@ use Rattle.ti_plan.specs.declared.plans.Plan.{Plan}
 
 -- what the slot of a block holds is right for its position in the list
 abbrev pub HoldsSettled : Slots → ℕ → ℕ → Type 0
-HoldsSettled slots at id = (slot : Slot) → slot_at slots.slots.items id ≡ Some slot → IsSettled (blocks_of slots) at (reading_at slots.slots.items id) slot.settled
+HoldsSettled slots at id = (slot : Slot) → slot_at slots.slots.items id ≡ Some slot
+    → IsSettled (blocks_of slots) at (reading_at slots.slots.items id) slot.settled
 
 -- what the slots hold of blocks that do not depend on the edit is right
 abbrev pub OthersAreSettled : Slots → Exchange → Type 0

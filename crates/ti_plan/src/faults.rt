@@ -80,7 +80,7 @@ fn add_before(
 }
 
 /// Adds what is wrong with a use of the block at a node, an item on that line, if something is, and
-/// tells whether something is.
+/// says whether something is.
 fn add_use_fault(
     known: &Known,
     node: usize,
@@ -108,7 +108,7 @@ fn add_use_fault(
 }
 
 /// Adds what is wrong with an item of the block at a node, if it is a use and something is, and
-/// tells whether something is.
+/// says whether something is.
 fn add_item_fault(
     known: &Known,
     node: usize,
@@ -129,7 +129,7 @@ fn add_item_fault(
     }
 }
 
-/// Adds the faults of the items of the block at a node, in their order, and tells whether one of its
+/// Adds the faults of the items of the block at a node, in their order, and says whether one of its
 /// uses is at fault.
 pub(crate) fn add_item_faults(
     known: &Known,

@@ -20,7 +20,7 @@ use ti_dependents::{Dependents, find_all, find_dependents};
 use ti_slots::{Settled, Slots};
 
 /// Nothing found out yet about so many blocks.
-fn nothing_settled(alloc: Global, count: usize) -> Result<Vec<Option<Settled>>, AllocError>
+fn unsettled_nodes(alloc: Global, count: usize) -> Result<Vec<Option<Settled>>, AllocError>
     ensures len { IfOk result (λ all. length all.items ≡ count) }
     ensures none { IfOk result (λ all. All (λ one. one ≡ None) all.items) }
 {
@@ -46,7 +46,7 @@ fn settle_all(
     ensures settled { IfOk result (λ all. AreAllSettled slots.now dependents.now all.items) }
     ensures work { OnOk result (steps.new ≡ steps.old + work (blocks_of slots.now) (map (node_position dependents.now) components.now.order.items)) }
 {
-    let mut settled = nothing_settled(alloc, dependents.ids.len())?;
+    let mut settled = unsettled_nodes(alloc, dependents.ids.len())?;
     for node in &components.order {
         let known = Known {
             slots,

@@ -21,7 +21,7 @@ use crate::owners::{Known, used_table};
 use std::alloc::{AllocError, Global};
 use ti_caps::Cap;
 use ti_compiled::{Image, Mentions, Table, Value, WriteError};
-use ti_slots::{Entry, Slot, State};
+use ti_slots::{BlockEntry, Slot, State};
 use ti_source::{Parsed, What};
 
 /// Adds a value behind the mentions: a value or a cancel of the capability that is there stays.
@@ -138,7 +138,7 @@ fn make_state(alloc: Global, slot: &Slot, table: Table) -> Result<State, AllocEr
         → state_seen state ≡ state_with (reading_of slot.now.block) (Some mentions)) }
 {
     match make_image(alloc, slot, &table) {
-        Ok(image) => Ok(State::Compiled(Entry { table, image })),
+        Ok(image) => Ok(State::Compiled(BlockEntry { table, image })),
         Err(WriteError::TooLarge) => Ok(State::TooLarge(table)),
         Err(WriteError::Memory) => Err(AllocError),
         Err(WriteError::NamesTooLong) => unreachable!(),

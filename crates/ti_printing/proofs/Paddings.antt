@@ -1,24 +1,21 @@
 -- What `padding_at` finds is a padding, and it finds each.
-use Rattle.ti_text.specs.Digits.{is_decimal_digit, IsDecimalDigit, decimal_value, decimal_from}
+use Rattle.ti_text.specs.Digits.{is_decimal_digit, decimal_value, decimal_from}
+use Rattle.ti_text.specs.Lists.{AllAre}
 use Rattle.std.proofs.Common.{◌≡◌, ℕ, zero, suc, ◌+◌, ◌-◌, ◌*◌, ◌^◌, ◌<◌, ◌≤◌, Bool, true, false, List, [], ◌∷◌, ◌++◌, length, drop, take, get_or, eqb, Option, Some, None, cond, refl, sym, ap, subst, ◌∙◌, arith, add-one}
 use Rattle.std.proofs.lemmas.Bool.Decides.{nat_tests}
 use Rattle.std.proofs.lemmas.List.Elements.{All-from_recursion}
 use Rattle.std.proofs.lemmas.List.{take_more, append_assoc, take-append-drop, length-take}
 use Rattle.std.proofs.Math.Nat.{pow-suc}
 use Rattle.std.proofs.Math.Seq.{drop-cons, drop-append_seam, take-append_seam}
-use Rattle.std.specs.List.{AllByRecursion}
 use Rattle.std.specs.Option.{option_and_then}
 use Rattle.ti_printing.specs.declared.padding.Padding.{Padding}
-use Rattle.ti_printing.specs.Padding.{AreMilliseconds, AreTenths, no_tenths, some_tenths, AreMarks, no_mark, star, slash, star_slash, slash_star, IsPadding}
+use Rattle.ti_printing.specs.Padding.{AreMilliseconds, AreTenths, no_tenths, some_tenths, AreMarks, no_mark, star_alone, slash_alone, star_slash, slash_star, IsPadding}
 use Rattle.ti_printing.specs.inside.Padding.{after_byte, digits_len, milliseconds_at, tenths_in, tenths_at, mark_in, mark_at, marks_at, padding_with, padding_from, padding_at}
 
 -- ---- digits
 
-decimal_is : (byte : ℕ) → is_decimal_digit byte ≡ true → IsDecimalDigit byte
-decimal_is byte h = grind (arith, nat_tests)
-
-is_decimal_of : (byte : ℕ) → IsDecimalDigit byte → is_decimal_digit byte ≡ true
-is_decimal_of byte h = grind (arith, nat_tests)
+digit_is_low : (byte : ℕ) → is_decimal_digit byte ≡ true → byte ≤ 57
+digit_is_low byte h = grind (arith, nat_tests)
 
 pub digits_len-le_most : (most : ℕ) (text : List ℕ) → digits_len most text ≤ most
 digits_len-le_most zero text = omega arith
@@ -34,12 +31,12 @@ digits_len-le (suc most) (byte ∷ text) =
     let more = digits_len-le most text in
     elim (is_decimal_digit byte) as (λ b. cond b (suc (digits_len most text)) 0 ≤ suc (length text)) [ true ↦ omega arith | false ↦ omega arith ]
 
-pub decimal_digits : (most : ℕ) (text : List ℕ) → AllByRecursion IsDecimalDigit (take (digits_len most text) text)
+pub decimal_digits : (most : ℕ) (text : List ℕ) → AllAre is_decimal_digit (take (digits_len most text) text)
 decimal_digits zero text = tt
 decimal_digits (suc most) [] = tt
 decimal_digits (suc most) (byte ∷ text) =
-    elim (is_decimal_digit byte) as (λ b. is_decimal_digit byte ≡ b → AllByRecursion IsDecimalDigit (take (cond b (suc (digits_len most text)) 0) (byte ∷ text))) [
-      | true ↦ λ e. (decimal_is byte e, decimal_digits most text)
+    elim (is_decimal_digit byte) as (λ b. is_decimal_digit byte ≡ b → AllAre is_decimal_digit (take (cond b (suc (digits_len most text)) 0) (byte ∷ text))) [
+      | true ↦ λ e. (e, decimal_digits most text)
       | false ↦ λ e. tt
     ] refl
 
@@ -48,13 +45,13 @@ abbrev BeginsNoDigit : List ℕ → Type 0
 BeginsNoDigit [] = Unit {0}
 BeginsNoDigit (byte ∷ text) = is_decimal_digit byte ≡ false
 
-digits_len-append : (most : ℕ) (digits text : List ℕ) → AllByRecursion IsDecimalDigit digits → length digits ≤ most → BeginsNoDigit text → digits_len most (digits ++ text) ≡ length digits
+digits_len-append : (most : ℕ) (digits text : List ℕ) → AllAre is_decimal_digit digits → length digits ≤ most → BeginsNoDigit text → digits_len most (digits ++ text) ≡ length digits
 digits_len-append zero [] text all few other = refl
 digits_len-append zero (digit ∷ digits) text all few other = absurd (omega arith)
 digits_len-append (suc most) [] [] all few other = refl
 digits_len-append (suc most) [] (byte ∷ text) all few other = ap (λ b. cond b (suc (digits_len most text)) 0) other
 digits_len-append (suc most) (digit ∷ digits) text all few other =
-    ap (λ b. cond b (suc (digits_len most (digits ++ text))) 0) (is_decimal_of digit all.0) ∙
+    ap (λ b. cond b (suc (digits_len most (digits ++ text))) 0) all.0 ∙
     ap (λ n. suc n) (digits_len-append most digits text all.1 (omega arith) other)
 
 -- ---- what is found is a padding
@@ -90,7 +87,7 @@ some_is : (text rest : List ℕ) → text ≡ 46 ∷ rest → (tenths : List ℕ
 some_is text [] spelled = ([], refl, no_tenths)
 some_is text (digit ∷ rest) spelled =
     elim (is_decimal_digit digit) as (λ b. is_decimal_digit digit ≡ b → (tenths : List ℕ) × (text ≡ tenths ++ (cond {A = ℕ × List ℕ} b (digit - 48, rest) (0, text)).1) × AreTenths tenths (cond {A = ℕ × List ℕ} b (digit - 48, rest) (0, text)).0) [
-      | true ↦ λ e. (46 ∷ (digit ∷ []), spelled, some_tenths (decimal_is digit e))
+      | true ↦ λ e. (46 ∷ (digit ∷ []), spelled, some_tenths e)
       | false ↦ λ e. ([], refl, no_tenths)
     ] refl
 
@@ -112,10 +109,10 @@ mark_at-is byte text =
 three_marks : (a b c : Bool) (text s t u : List ℕ) → text ≡ cond a (42 ∷ []) [] ++ s → s ≡ cond b (47 ∷ []) [] ++ t → t ≡ cond c (42 ∷ []) [] ++ u
     → (marks : List ℕ) × (text ≡ marks ++ (cond {A = Bool × List ℕ} a (true, t) (c, u)).1) × AreMarks marks (cond {A = Bool × List ℕ} a (true, t) (c, u)).0 b
 three_marks true true c text s t u e f g = (42 ∷ (47 ∷ []), e ∙ ap (λ l. 42 ∷ l) f, star_slash)
-three_marks true false c text s t u e f g = (42 ∷ [], e ∙ ap (λ l. 42 ∷ l) f, star)
+three_marks true false c text s t u e f g = (42 ∷ [], e ∙ ap (λ l. 42 ∷ l) f, star_alone)
 three_marks false true true text s t u e f g = (47 ∷ (42 ∷ []), e ∙ f ∙ ap (λ l. 47 ∷ l) g, slash_star)
-three_marks false true false text s t u e f g = (47 ∷ [], e ∙ f ∙ ap (λ l. 47 ∷ l) g, slash)
-three_marks false false true text s t u e f g = (42 ∷ [], e ∙ f ∙ g, star)
+three_marks false true false text s t u e f g = (47 ∷ [], e ∙ f ∙ ap (λ l. 47 ∷ l) g, slash_alone)
+three_marks false false true text s t u e f g = (42 ∷ [], e ∙ f ∙ g, star_alone)
 three_marks false false false text s t u e f g = ([], e ∙ f ∙ g, no_mark)
 
 marks_at-is : (text : List ℕ) → (marks : List ℕ) × (text ≡ marks ++ (marks_at text).2) × AreMarks marks (marks_at text).0 (marks_at text).1
@@ -155,26 +152,26 @@ padding_at-some text found h =
 
 no_digit_after : (tenths marks rest : List ℕ) (part : ℕ) (star' slash' : Bool) → AreTenths tenths part → AreMarks marks star' slash' → BeginsNoDigit (tenths ++ (marks ++ (62 ∷ rest)))
 no_digit_after _ _ rest _ _ _ no_tenths no_mark = refl
-no_digit_after _ _ rest _ _ _ no_tenths star = refl
-no_digit_after _ _ rest _ _ _ no_tenths slash = refl
+no_digit_after _ _ rest _ _ _ no_tenths star_alone = refl
+no_digit_after _ _ rest _ _ _ no_tenths slash_alone = refl
 no_digit_after _ _ rest _ _ _ no_tenths star_slash = refl
 no_digit_after _ _ rest _ _ _ no_tenths slash_star = refl
 no_digit_after _ _ rest _ _ _ (some_tenths h) m = refl
 
 marks_at-found : (marks rest : List ℕ) (proportional mandatory : Bool) → AreMarks marks proportional mandatory → marks_at (marks ++ (62 ∷ rest)) ≡ (proportional, mandatory, 62 ∷ rest)
 marks_at-found _ rest _ _ no_mark = refl
-marks_at-found _ rest _ _ star = refl
-marks_at-found _ rest _ _ slash = refl
+marks_at-found _ rest _ _ star_alone = refl
+marks_at-found _ rest _ _ slash_alone = refl
 marks_at-found _ rest _ _ star_slash = refl
 marks_at-found _ rest _ _ slash_star = refl
 
 tenths_at-found : (tenths marks rest : List ℕ) (part : ℕ) (proportional mandatory : Bool) → AreTenths tenths part → AreMarks marks proportional mandatory → tenths_at (tenths ++ (marks ++ (62 ∷ rest))) ≡ (part, marks ++ (62 ∷ rest))
 tenths_at-found _ _ rest _ _ _ no_tenths no_mark = refl
-tenths_at-found _ _ rest _ _ _ no_tenths star = refl
-tenths_at-found _ _ rest _ _ _ no_tenths slash = refl
+tenths_at-found _ _ rest _ _ _ no_tenths star_alone = refl
+tenths_at-found _ _ rest _ _ _ no_tenths slash_alone = refl
 tenths_at-found _ _ rest _ _ _ no_tenths star_slash = refl
 tenths_at-found _ _ rest _ _ _ no_tenths slash_star = refl
-tenths_at-found _ marks rest _ _ _ (some_tenths {digit} h) m = ap (λ b. cond {A = ℕ × List ℕ} b (digit - 48, marks ++ (62 ∷ rest)) (0, 46 ∷ (digit ∷ (marks ++ (62 ∷ rest))))) (is_decimal_of digit h)
+tenths_at-found _ marks rest _ _ _ (some_tenths {digit} h) m = ap (λ b. cond {A = ℕ × List ℕ} b (digit - 48, marks ++ (62 ∷ rest)) (0, 46 ∷ (digit ∷ (marks ++ (62 ∷ rest))))) h
 
 not_none : (digits : List ℕ) → 0 < length digits → eqb (length digits) 0 ≡ false
 not_none digits some = grind (arith, nat_tests)
@@ -222,8 +219,8 @@ decimal_value-next digits i within =
 -- each byte that is counted is a digit
 pub digit_in_range : (text digits : List ℕ) (i : ℕ) → digits ≡ take (digits_len 5 text) text → i < length digits → get_or digits i 0 ≤ 57
 digit_in_range text digits i e within =
-    let all = All-from_recursion IsDecimalDigit (take (digits_len 5 text) text) (decimal_digits 5 text) in
-    (subst (λ ds. IsDecimalDigit (get_or ds i 0)) (sym e) (all i 0 (omega (arith, ap length e)))).1
+    let all = All-from_recursion (λ byte. is_decimal_digit byte ≡ true) (take (digits_len 5 text) text) (decimal_digits 5 text) in
+    digit_is_low (get_or digits i 0) (subst (λ ds. is_decimal_digit (get_or ds i 0) ≡ true) (sym e) (all i 0 (omega (arith, ap length e))))
 
 pub ten_times : (whole digit i : ℕ) → whole < 10 ^ i → digit < 10 → 10 * whole + digit < 10 ^ (i + 1)
 ten_times whole digit i small low = let power = pow-suc 10 i in rw add-one (omega (arith, power))

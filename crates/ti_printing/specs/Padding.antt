@@ -1,34 +1,35 @@
 -- Padding: terminfo(5), "Delays and Padding". A delay is written as so many pad bytes, by the line's speed.
-use Rattle.std.specs.Prelude.{◌≡◌, ℕ, ◌+◌, ◌*◌, ◌<◌, ◌≤◌, Bool, true, false, not, ◌&&◌, ◌||◌, List, [], ◌∷◌, ◌++◌, length, replicate, if◌then◌else◌, nat_le, is_some, unwrap_or, ◌↔◌}
+use Rattle.std.specs.Prelude.{◌≡◌, ℕ, ◌+◌, ◌*◌, ◌<◌, ◌≤◌, Bool, true, false, not, ◌&&◌, ◌||◌, List, [], ◌∷◌, ◌++◌, length, replicate, if◌then◌else◌, nat_le}
+use Rattle.std.specs.Prelude.{is_some, unwrap_or, ◌↔◌}
 use Rattle.std.specs.Int.{div_ceil}
 use Rattle.ti_text.specs.Ascii as ascii
-use Rattle.ti_text.specs.Digits.{IsDecimalDigit, decimal_digit_value, decimal_value}
-use Rattle.std.specs.List.{AllByRecursion}
+use Rattle.ti_text.specs.Digits.{is_decimal_digit, decimal_digit_value, decimal_value}
+use Rattle.ti_text.specs.Lists.{AllAre}
 use Rattle.ti_printing.specs.declared.padding.Line.{Line}
 use Rattle.ti_printing.specs.declared.padding.Padding.{Padding}
 use Rattle.ti_printing.specs.declared.padding.Part.{Part}
-use Rattle.ti_printing.specs.inside.Padding.{parts_of}
+use Rattle.ti_printing.specs.inside.Padding.{delay_digits_max, parts_of}
 use Rattle.ti_printing.specs.declared.padding.Part.TheVariants.{Literal, Delay}
 
 -- ---- what a padding is
 
--- one to five decimal digits, which are the milliseconds
+-- decimal digits, at least one and `delay_digits_max` at most, which are the milliseconds
 pub record AreMilliseconds (text : List ℕ) (number : ℕ) : Type 0 where
-  pub digits : AllByRecursion IsDecimalDigit text
+  pub digits : AllAre is_decimal_digit text
   pub some : 0 < length text
-  pub few : length text ≤ 5
+  pub few : length text ≤ delay_digits_max
   pub value : number ≡ decimal_value text
 
 -- nothing, or `.` and a digit, which is the tenths of a millisecond
 pub data AreTenths : List ℕ → ℕ → Type 0 where
   no_tenths : AreTenths [] 0
-  some_tenths : {digit : ℕ} → IsDecimalDigit digit → AreTenths (ascii.dot ∷ (digit ∷ [])) (decimal_digit_value digit)
+  some_tenths : {digit : ℕ} → is_decimal_digit digit ≡ true → AreTenths (ascii.dot ∷ (digit ∷ [])) (decimal_digit_value digit)
 
 -- `*` (the time is for each line) and `/` (the padding is mandatory), each at most once in either order
 pub data AreMarks : List ℕ → Bool → Bool → Type 0 where
   no_mark : AreMarks [] false false
-  star : AreMarks (ascii.asterisk ∷ []) true false
-  slash : AreMarks (ascii.slash ∷ []) false true
+  star_alone : AreMarks (ascii.asterisk ∷ []) true false
+  slash_alone : AreMarks (ascii.slash ∷ []) false true
   star_slash : AreMarks (ascii.asterisk ∷ (ascii.slash ∷ [])) true true
   slash_star : AreMarks (ascii.slash ∷ (ascii.asterisk ∷ [])) true true
 
@@ -54,7 +55,8 @@ BeginsNoPadding text = (front rest : List ℕ) (padding : Padding) → text ≡ 
 -- the text, cut from the left into paddings and bytes at which none begins
 pub data IsCutIntoParts : List ℕ → List Part → Type 0 where
   cut_nothing : IsCutIntoParts [] []
-  cut_literal : {byte : ℕ} {rest : List ℕ} {parts : List Part} → BeginsNoPadding (byte ∷ rest) → IsCutIntoParts rest parts → IsCutIntoParts (byte ∷ rest) (Literal byte ∷ parts)
+  cut_literal : {byte : ℕ} {rest : List ℕ} {parts : List Part} → BeginsNoPadding (byte ∷ rest) → IsCutIntoParts rest parts
+      → IsCutIntoParts (byte ∷ rest) (Literal byte ∷ parts)
   cut_padding : {text rest : List ℕ} {padding : Padding} {parts : List Part} → IsPadding text padding → IsCutIntoParts rest parts
       → IsCutIntoParts (text ++ rest) (Delay padding ∷ parts)
 

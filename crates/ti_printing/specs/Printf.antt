@@ -1,6 +1,7 @@
 -- What a printf form of a parameter string prints: terminfo(5), "Parameterized Strings", and printf(3) for
 -- the flags, the width and the precision that it takes over.
-use Rattle.std.specs.Prelude.{◌≡◌, ℕ, ◌-◌, ◌^◌, ◌<◌, ◌≤◌, Bool, true, false, not, ◌&&◌, List, [], ◌∷◌, ◌++◌, length, map, take, replicate, ℤ, pos, negsuc, if◌then◌else◌, ◌==◌, unsigned_abs, Option, Some, None, unwrap_or, is_none, ◌↔◌}
+use Rattle.std.specs.Prelude.{◌≡◌, ℕ, ◌-◌, ◌^◌, ◌<◌, ◌≤◌, Bool, true, false, not, ◌&&◌, List, [], ◌∷◌, ◌++◌, length, map, take, replicate, ℤ, pos, negsuc}
+use Rattle.std.specs.Prelude.{if◌then◌else◌, ◌==◌, unsigned_abs, Option, Some, None, unwrap_or, is_none, ◌↔◌}
 use Rattle.std.specs.Fmt.{digit_glyph}
 use Rattle.ti_text.specs.Ascii.{byte_of}
 use Rattle.ti_text.specs.Ascii as ascii

@@ -2,7 +2,7 @@
 ghost use Rattle.std.specs.Prelude.{◌≡◌, ◌+◌, ◌<◌, ◌≤◌, ◌++◌, ◌↔◌, length, IfOk, IfSome, SomeIff, MatchOption, vec_len, vec_capacity};
 ghost use Rattle.std.specs.Iterator.{YieldsFirst, item_count};
 ghost use Rattle.ti_printing.specs.Padding.{TextsHaveOneCut, with_pad_bytes, pad_bytes_max, padding_of, pad_count};
-ghost use Rattle.ti_printing.specs.inside.Padding.{parts_of, padding_at, after_byte, digits_len, milliseconds_at, tenths_at, mark_at, marks_at};
+ghost use Rattle.ti_printing.specs.inside.Padding.{parts_of, padding_at, after_byte, delay_digits_max, digits_len, milliseconds_at, tenths_at, mark_at, marks_at};
 
 use memchr::memchr;
 use std::alloc::{AllocError, Global};
@@ -35,6 +35,9 @@ pub enum PadError {
 
 /// The most pad bytes of one text.
 const MOST_PAD_BYTES: u128 = 65536;
+
+/// The most digits of the milliseconds of a padding.
+const DELAY_DIGITS_MAX: usize = 5;
 
 impl From<AllocError> for PadError {
     ghost use Rattle.ti_printing.specs.declared.padding.PadError.TheVariants.{Memory};
@@ -241,10 +244,10 @@ fn milliseconds_at(text: &[u8]) -> Option<(u32, &[u8])>
 
 /// How many of the first five bytes, from the left, are digits.
 fn digits_len(text: &[u8]) -> usize
-    ensures { result ≡ digits_len 5 text.now }
+    ensures { result ≡ digits_len delay_digits_max text.now }
 {
     let mut len = 0;
-    while len < 5 && len < text.len() && text[len].is_ascii_digit() {
+    while len < DELAY_DIGITS_MAX && len < text.len() && text[len].is_ascii_digit() {
         len += 1;
     }
     len

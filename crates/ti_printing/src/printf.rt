@@ -2,7 +2,7 @@
 ghost use Rattle.std.specs.Prelude.{◌≡◌, ◌≢◌, ◌+◌, ◌^◌, ◌<◌, ◌≤◌, ◌++◌, length, map, drop, replicate, slice_index, OnOk, OnErr};
 ghost use Rattle.std.specs.Fmt.{digit_glyph};
 ghost use Rattle.std.specs.Int.Digits.{digits_of};
-ghost use Rattle.ti_printing.specs.inside.Printf.{parts_text};
+ghost use Rattle.ti_printing.specs.inside.Printf.{digits_max, parts_text};
 ghost use Rattle.ti_printing.specs.Printf.{form_bytes, printed_text, printed_number, numeral, digits_in, in_width, sign_in, prefix_in, OneNumeral};
 ghost use Rattle.ti_text.specs.Ascii as ascii;
 
@@ -224,7 +224,7 @@ fn zeros_before(directive: &Directive, digits: &[u8]) -> usize
 
 /// Writes the number's digits to the end of the buffer, and answers where they begin.
 fn write_numeral(buffer: &mut [u8; MOST_DIGITS], conversion: Conversion, number: i32) -> usize
-    ensures bound { result ≤ 11 }
+    ensures bound { result ≤ digits_max }
     ensures digits { drop result buffer.new ≡ numeral conversion number }
     ensures plain { slice_index (drop result buffer.new) 0 ≢ ascii.digit_0 }
 {
@@ -240,7 +240,7 @@ fn write_numeral(buffer: &mut [u8; MOST_DIGITS], conversion: Conversion, number:
 /// Writes the digits of a number to a base to the end of the buffer, none for 0, and answers where they begin.
 fn write_digits(buffer: &mut [u8; MOST_DIGITS], number: u32, base: u32, upper: bool) -> usize
     requires { (8 ≤ base) × (base ≤ 16) }
-    ensures bound { result ≤ 11 }
+    ensures bound { result ≤ digits_max }
     ensures digits { drop result buffer.new ≡ map (digit_glyph upper) (digits_of base number) }
     ensures plain { slice_index (drop result buffer.new) 0 ≢ ascii.digit_0 }
 {

@@ -19,7 +19,7 @@ fn layout(order: Order) -> Layout {
     }
 }
 
-/// Two entries listed, compared, and told by one another.
+/// Two entries listed, compared, and one given by the other.
 ///
 /// # Errors
 /// As of a scenario.

@@ -5,7 +5,7 @@ use mathlib.Core.Bool.{beq}
 use Rattle.std.proofs.lemmas.List.Elements.{All-head, All-tail}
 use Rattle.std.proofs.lemmas.List.Folds.{list_all-append}
 use Rattle.std.proofs.lemmas.Bool.{cases_Bool, eqb-false, and_parts, and_from, or_parts, and_right, agree_below_at, not-true}
-use Rattle.ti_source.specs.Folding.{Placed}
+use Rattle.ti_source.specs.Folding.{PlacedByte}
 use Rattle.ti_source.specs.Items.{bytes, takes, AreItems, item_ends, pair_of_bytes, single_byte}
 use Rattle.ti_spelling.specs.Spelling.{AreBytes, byte_text, is_percent, is_empty, last_byte, written_from}
 
@@ -90,7 +90,7 @@ no_cut-whole before (x ∷ y ∷ w) h =
     ]
 
 -- what is whole is one item before a comma
-pub whole-cut : (before line : ℕ) (p rest : List Placed) (items : List (List Placed)) → is_whole before (bytes p) ≡ true → AreItems 44 rest items
+pub whole-cut : (before line : ℕ) (p rest : List PlacedByte) (items : List (List PlacedByte)) → is_whole before (bytes p) ≡ true → AreItems 44 rest items
     → AreItems before (p ++ (44, line) ∷ rest) (p ∷ items)
 whole-cut before line [] rest items w are = item_ends before line rest items are
 whole-cut before line (x ∷ []) rest items w are =

@@ -10,7 +10,7 @@ use Rattle.ti_source.specs.Sound.{SetsItsKind}
 use Rattle.ti_layout.specs.Values.{Content, content_true, content_number, content_text, content_cancelled, AgreesIfSome}
 use Rattle.ti_layout.specs.Laws.{without_cancel}
 use Rattle.ti_meaning.specs.Owner.{is_among, owner_block}
-use Rattle.ti_text.specs.Texts.{both_lists}
+use Rattle.ti_text.specs.Lists.{both_lists}
 use Rattle.ti_meaning.specs.Expansion.{Mention, leftmost_content, is_broken, mentions_of, expand_items, expand}
 use Rattle.ti_relisting.specs.Relisting.{CanHave}
 use Rattle.ti_relisting.proofs.TextBytes.{SaysBytes, ItemSaysBytes}

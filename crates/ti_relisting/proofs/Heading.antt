@@ -4,11 +4,11 @@ use Rattle.std.specs.List.{list_all, list_any, All, Contains, before_first, join
 use Rattle.std.proofs.lemmas.Bool.{cases_Bool, and_parts, and_from, or_parts, not-true, not_from_false, ne_eqb, true≢false}
 use Rattle.std.proofs.lemmas.List.Elements.{All-head, All-from_get_or, All-weaker}
 use Rattle.std.proofs.lemmas.List.Sums.{list_all-from_AllPass}
-use Rattle.ti_source.specs.WhiteSpace.{is_white_space}
+use Rattle.ti_text.specs.WhiteSpace.{is_white_space}
 use Rattle.ti_source.specs.Cutting.{HasOneHead, OneBlock}
 use Rattle.ti_source.specs.Code.{is_error}
 use Rattle.ti_source.specs.Header.{IsLookupName, lookup_parts, HeaderNames}
-use Rattle.ti_source.specs.Folding.{Placed, folding_of}
+use Rattle.ti_source.specs.Folding.{PlacedByte, folding_of}
 use Rattle.ti_source.specs.Items.{bytes, HasNoComma, Begins, all_field, field_and_rest}
 use Rattle.ti_source.specs.Reading.{ReadFault}
 use Rattle.ti_source.specs.Parsing.{ReadsHeader, bad_header, long_header, good_header, Parses, reading_of_text}
@@ -42,11 +42,11 @@ good-header _ _ _ (good_header field names header short) e = record { header = h
 
 -- ---- one line, without a comma
 
-no_comma-bytes : (p : List Placed) → HasNoComma p → list_all (λ b. not (b == 44)) (bytes p) ≡ true
+no_comma-bytes : (p : List PlacedByte) → HasNoComma p → list_all (λ b. not (b == 44)) (bytes p) ≡ true
 no_comma-bytes [] h = refl
 no_comma-bytes (x ∷ xs) h = and_from (not (x.0 == 44)) (list_all (λ b. not (b == 44)) (bytes xs)) (not_from_false (x.0 == 44) h.0) (no_comma-bytes xs h.1)
 
-field-no_comma : (s field rest : List Placed) → Begins s field rest → HasNoComma field
+field-no_comma : (s field rest : List PlacedByte) → Begins s field rest → HasNoComma field
 field-no_comma _ _ _ (all_field field none) = none
 field-no_comma _ _ _ (field_and_rest field rest line none) = none
 
@@ -60,13 +60,13 @@ unbroken-line joining (x ∷ xs) =
           rw f (and_from (not (x == 10)) (is_inline (unbroken false xs)) (not_from_false (x == 10) parts.0) (unbroken-line false xs))
     ]
 
-front-line : (p q : List Placed) → is_inline (bytes (p ++ q)) ≡ true → is_inline (bytes p) ≡ true
+front-line : (p q : List PlacedByte) → is_inline (bytes (p ++ q)) ≡ true → is_inline (bytes p) ≡ true
 front-line [] q h = refl
 front-line (x ∷ p) q h =
     let parts = and_parts (not (x.0 == 10)) (is_inline (bytes (p ++ q))) h in
     and_from (not (x.0 == 10)) (is_inline (bytes p)) parts.0 (front-line p q parts.1)
 
-field-line : (s field rest : List Placed) → Begins s field rest → is_inline (bytes s) ≡ true → is_inline (bytes field) ≡ true
+field-line : (s field rest : List PlacedByte) → Begins s field rest → is_inline (bytes s) ≡ true → is_inline (bytes field) ≡ true
 field-line _ _ _ (all_field field none) h = h
 field-line _ _ _ (field_and_rest field rest line none) h = front-line field ((44, line) ∷ rest) h
 
@@ -77,11 +77,11 @@ abbrev first_or : ℕ → List ℕ → ℕ
 first_or d [] = d
 first_or d (x ∷ xs) = x
 
-front-first : (p q : List Placed) (first : ℕ) (others : List ℕ) → bytes p ≡ first ∷ others → first_or 0 (bytes (p ++ q)) ≡ first
+front-first : (p q : List PlacedByte) (first : ℕ) (others : List ℕ) → bytes p ≡ first ∷ others → first_or 0 (bytes (p ++ q)) ≡ first
 front-first [] q first others e = cc
 front-first (x ∷ p) q first others e = ap (first_or 0) e
 
-field-first : (s field rest : List Placed) (first : ℕ) (others : List ℕ) → Begins s field rest → bytes field ≡ first ∷ others → first_or 0 (bytes s) ≡ first
+field-first : (s field rest : List PlacedByte) (first : ℕ) (others : List ℕ) → Begins s field rest → bytes field ≡ first ∷ others → first_or 0 (bytes s) ≡ first
 field-first _ _ _ first others (all_field field none) e = ap (first_or 0) e
 field-first _ _ _ first others (field_and_rest field rest line none) e = front-first field ((44, line) ∷ rest) first others e
 

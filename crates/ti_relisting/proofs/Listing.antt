@@ -11,10 +11,10 @@ use Rattle.ti_caps.proofs.Same.{same_capability-true}
 use Rattle.ti_caps.specs.declared.capability.Kind.TheVariants.{Flag, Number, Text}
 use Rattle.ti_source.specs.Reading.{Said, said_flag, said_number, said_text, said_cancel, said_import, ReadItem}
 use Rattle.ti_layout.specs.Values.{Content, content_true, content_number, content_text, content_cancelled, Contents}
-use Rattle.ti_text.specs.Texts.{both_lists}
+use Rattle.ti_text.specs.Lists.{both_lists}
 use Rattle.ti_meaning.specs.Expansion.{Mention, leftmost_content, mentions_of, expand_items}
 use Rattle.ti_list.specs.declared.layout.Layout.{Layout}
-use Rattle.ti_list.specs.Items.{item_text, IsTail, no_more, on_line, new_line, IsListing, CanBeListed}
+use Rattle.ti_list.specs.Items.{item_text, IsTail, no_more, same_line, new_line, IsListing, CanBeListed}
 use Rattle.ti_list.specs.Listing.{item_for, items_for, kind_items, in_order, size_of, further_items, lines_of, source_lines, listing}
 use Rattle.ti_layout.specs.View.{Entry}
 use Rattle.ti_list.specs.RelativeSource.{first_name, differing_contents, use_lines}
@@ -32,7 +32,7 @@ further-tail layout column (item ∷ items) more rest laid =
     elim (layout.one_per_line || nat_lt layout.width (column + 1 + size_of item))
     as (λ b. IsTail (item ∷ (items ++ more)) (cond b (10 ∷ 9 ∷ item_text item ++ 44 ∷ further_items layout (8 + size_of item) items rest) (32 ∷ item_text item ++ 44 ∷ further_items layout (column + 1 + size_of item) items rest))) [
       | true ↦ new_line item (items ++ more) (further_items layout (8 + size_of item) items rest) broken
-      | false ↦ on_line item (items ++ more) (further_items layout (column + 1 + size_of item) items rest) same
+      | false ↦ same_line item (items ++ more) (further_items layout (column + 1 + size_of item) items rest) same
     ]
 
 pub lines-tail : (layout : Layout) (items more : List Said) (rest : List ℕ) → IsTail more rest → IsTail (items ++ more) (lines_of layout items rest)

@@ -4,13 +4,13 @@ use Rattle.std.specs.List.{list_all, All}
 use Rattle.std.proofs.lemmas.Bool.{and_parts, or_parts, not-true}
 use Rattle.std.proofs.lemmas.List.Elements.{All-head, All-tail}
 use Rattle.ti_caps.specs.Tables.{EveryNameIsFound}
-use Rattle.ti_source.specs.WhiteSpace.{is_white_space}
-use Rattle.ti_source.specs.Folding.{Placed, folding_of}
+use Rattle.ti_text.specs.WhiteSpace.{is_white_space}
+use Rattle.ti_source.specs.Folding.{PlacedByte, folding_of}
 use Rattle.ti_source.specs.Items.{bytes, HasNoComma, Begins, field_and_rest, AreItems, last_item, piece_of, without_white_front, States, empty_item}
 use Rattle.ti_source.specs.Reading.{Said, said_flag, said_number, said_text, said_cancel, said_import, ReadItem, Reading}
 use Rattle.ti_source.specs.Parsing.{accepted, ReadsItems, reads_nothing, reads_ignored, reads_judged, items_by, good_header, Parses, reading_of_text, HasReading, BlocksHaveOneReading}
 use Rattle.ti_spelling.specs.Spelling.{WrittenSpells}
-use Rattle.ti_list.specs.Items.{item_text, IsTail, no_more, on_line, new_line, IsListing, CanBeListed, IsListable, IsReadAs}
+use Rattle.ti_list.specs.Items.{item_text, IsTail, no_more, same_line, new_line, IsListing, CanBeListed, IsListable, IsReadAs}
 use Rattle.ti_relisting.specs.ReadingBack.{PartsAreRead}
 use Rattle.ti_relisting.proofs.Bytes.{uncommented, unbroken, bytes-folded, bytes-without_front}
 use Rattle.ti_relisting.proofs.Cutting.{is_whole, is_inline, whole-cons, whole-cut}
@@ -25,8 +25,8 @@ item-readable found spells (said_cancel c) can = cancel-readable found c can
 item-readable found spells (said_import name) can = import-readable name can.0 can.1
 
 -- a folded text is cut into items that are read as these, the first of which has the place `ordinal`
-pub record AreRead (ordinal : ℕ) (s : List Placed) (says : List Said) : Type 0 where
-  pub pieces : List (List Placed)
+pub record AreRead (ordinal : ℕ) (s : List PlacedByte) (says : List Said) : Type 0 where
+  pub pieces : List (List PlacedByte)
   pub found : List ReadItem
   pub cut : AreItems 44 s pieces
   pub reads : ReadsItems ordinal pieces found []
@@ -37,8 +37,8 @@ dark-front [] h = refl
 dark-front (x ∷ xs) h = rw (or_parts (x == 10) (is_white_space x) (not-true (x == 10 || is_white_space x) h)).1 refl
 
 -- the text after the first comma is read in its turn
-item-read : (ordinal : ℕ) (item : Said) (items : List Said) (u w rest : List ℕ) (s : List Placed) → bytes s ≡ u ++ 44 ∷ rest → is_whole 44 u ≡ true → without_white_front u ≡ w
-    → IsReadable w item → ((later : List Placed) → bytes later ≡ rest → AreRead (ordinal + 1) later items) → AreRead ordinal s (item ∷ items)
+item-read : (ordinal : ℕ) (item : Said) (items : List Said) (u w rest : List ℕ) (s : List PlacedByte) → bytes s ≡ u ++ 44 ∷ rest → is_whole 44 u ≡ true → without_white_front u ≡ w
+    → IsReadable w item → ((later : List PlacedByte) → bytes later ≡ rest → AreRead (ordinal + 1) later items) → AreRead ordinal s (item ∷ items)
 item-read ordinal item items u w rest s e whole front readable more =
     let parts = split-bytes s u (44 ∷ rest) e in
     let comma = split-byte parts.rest 44 rest parts.is_rest in
@@ -55,12 +55,12 @@ item-read ordinal item items u w rest s e whole front readable more =
       is = ap (λ l. item ∷ l) next.is;
     }
 
-none-left : (s : List Placed) → bytes s ≡ [] → s ≡ []
+none-left : (s : List PlacedByte) → bytes s ≡ [] → s ≡ []
 none-left [] e = refl
 none-left (x ∷ xs) e = cc
 
 tail-read : EveryNameIsFound → WrittenSpells → (ordinal : ℕ) (items : List Said) (tail : List ℕ) → All CanBeListed items → IsTail items tail
-    → (s : List Placed) → bytes s ≡ unbroken false tail → AreRead ordinal s items
+    → (s : List PlacedByte) → bytes s ≡ unbroken false tail → AreRead ordinal s items
 tail-read found spells ordinal _ _ can no_more s e = record {
   pieces = [] ∷ [];
   found = [];
@@ -68,7 +68,7 @@ tail-read found spells ordinal _ _ can no_more s e = record {
   reads = reads_ignored ordinal [] [] [] [] empty_item (reads_nothing (ordinal + 1));
   is = refl;
 }
-tail-read found spells ordinal _ _ can (on_line item items tail laid) s e =
+tail-read found spells ordinal _ _ can (same_line item items tail laid) s e =
     let w = item_text item in
     let readable = item-readable found spells item (All-head CanBeListed item items can) in
     let bare : unbroken false (w ++ 44 ∷ tail) ≡ w ++ 44 ∷ unbroken false tail = unbroken-inline w (44 ∷ tail) readable.inline in
@@ -83,7 +83,7 @@ tail-read found spells ordinal _ _ can (new_line item items tail laid) s e =
 
 tail-calm : EveryNameIsFound → WrittenSpells → (items : List Said) (tail : List ℕ) → All CanBeListed items → IsTail items tail → is_calm 44 tail ≡ true
 tail-calm found spells _ _ can no_more = refl
-tail-calm found spells _ _ can (on_line item items tail laid) =
+tail-calm found spells _ _ can (same_line item items tail laid) =
     calm-inline 32 (item_text item) tail refl (item-readable found spells item (All-head CanBeListed item items can)).inline (tail-calm found spells items tail (All-tail CanBeListed item items can) laid)
 tail-calm found spells _ _ can (new_line item items tail laid) =
     calm-inline 9 (item_text item) tail refl (item-readable found spells item (All-head CanBeListed item items can)).inline (tail-calm found spells items tail (All-tail CanBeListed item items can) laid)
@@ -94,11 +94,11 @@ text-calm (x ∷ xs) tail plain inline calm =
     let parts = and_parts (not (x == 10)) (is_inline xs) inline in
     rw (plain x xs refl) (calm-inline x xs tail (not-true (x == 10) parts.0) parts.1 calm)
 
-no_comma-of : (p : List Placed) → list_all (λ b. not (b == 44)) (bytes p) ≡ true → HasNoComma p
+no_comma-of : (p : List PlacedByte) → list_all (λ b. not (b == 44)) (bytes p) ≡ true → HasNoComma p
 no_comma-of [] h = tt
 no_comma-of (x ∷ xs) h = let parts = and_parts (not (x.0 == 44)) (list_all (λ b. not (b == 44)) (bytes xs)) h in (not-true (x.0 == 44) parts.0, no_comma-of xs parts.1)
 
-begins-at : (s field rest : List Placed) (line : ℕ) → s ≡ field ++ (44, line) ∷ rest → HasNoComma field → Begins s field rest
+begins-at : (s field rest : List PlacedByte) (line : ℕ) → s ≡ field ++ (44, line) ∷ rest → HasNoComma field → Begins s field rest
 begins-at s field rest line e none = subst (λ t. Begins t field rest) (sym e) (field_and_rest field rest line none)
 
 -- the text has a reading of that field and those items

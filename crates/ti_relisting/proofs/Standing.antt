@@ -4,13 +4,14 @@ use Rattle.std.specs.List.{All, concat, prefix_len}
 use Rattle.std.proofs.lemmas.Bool.{cases_Bool, and_parts, and_left, not-true, ne_eqb}
 use Rattle.std.proofs.lemmas.List.{append-nil}
 use Rattle.std.proofs.lemmas.List.Elements.{All-head, All-tail}
+use Rattle.ti_text.proofs.Texts.{last_byte-append}
 use Rattle.ti_caps.specs.Tables.{EveryNameIsFound}
-use Rattle.ti_source.specs.WhiteSpace.{is_white_space}
+use Rattle.ti_text.specs.WhiteSpace.{is_white_space}
 use Rattle.ti_source.specs.Cutting.{begins_head, last_byte, HasNoHead, HasOneHead, AreBlocks, Cut, OneBlock}
 use Rattle.ti_source.specs.Header.{IsNameByte, IsLookupName}
 use Rattle.ti_source.specs.Reading.{Said}
 use Rattle.ti_spelling.specs.Spelling.{WrittenSpells}
-use Rattle.ti_list.specs.Items.{item_text, IsTail, no_more, on_line, new_line, CanBeListed, IsListable}
+use Rattle.ti_list.specs.Items.{item_text, IsTail, no_more, same_line, new_line, CanBeListed, IsListable}
 use Rattle.ti_list.specs.RelativeSource.{first_name}
 use Rattle.ti_relisting.specs.ReadingBack.{PartsAreBlocks}
 use Rattle.ti_relisting.proofs.Cutting.{is_inline}
@@ -26,20 +27,16 @@ inline-headless before (x ∷ xs) rest b h none =
 
 tail-headless : EveryNameIsFound → WrittenSpells → (items : List Said) (tail : List ℕ) → All CanBeListed items → IsTail items tail → HasNoHead 44 tail
 tail-headless found spells _ _ can no_more = (refl, tt)
-tail-headless found spells _ _ can (on_line item items tail laid) =
+tail-headless found spells _ _ can (same_line item items tail laid) =
     let readable = item-readable found spells item (All-head CanBeListed item items can) in
     (refl, inline-headless 32 (item_text item) tail refl readable.inline (tail-headless found spells items tail (All-tail CanBeListed item items can) laid))
 tail-headless found spells _ _ can (new_line item items tail laid) =
     let readable = item-readable found spells item (All-head CanBeListed item items can) in
     (refl, (refl, inline-headless 9 (item_text item) tail refl readable.inline (tail-headless found spells items tail (All-tail CanBeListed item items can) laid)))
 
-last_byte-append : (before : ℕ) (u v : List ℕ) → last_byte before (u ++ v) ≡ last_byte (last_byte before u) v
-last_byte-append before [] v = refl
-last_byte-append before (x ∷ u) v = last_byte-append x u v
-
 tail-ends : (items : List Said) (tail : List ℕ) → IsTail items tail → last_byte 44 tail ≡ 10
 tail-ends _ _ no_more = refl
-tail-ends _ _ (on_line item items tail laid) = last_byte-append 32 (item_text item) (44 ∷ tail) ∙ tail-ends items tail laid
+tail-ends _ _ (same_line item items tail laid) = last_byte-append 32 (item_text item) (44 ∷ tail) ∙ tail-ends items tail laid
 tail-ends _ _ (new_line item items tail laid) = last_byte-append 9 (item_text item) (44 ∷ tail) ∙ tail-ends items tail laid
 
 -- the first byte of a names field is one of its first name

@@ -2,8 +2,8 @@
 use Rattle.std.proofs.Common.{ℕ, ◌+◌, ◌<◌, Bool, true, false, ◌==◌, ◌||◌, ◌&&◌, List, [], ◌∷◌, ◌++◌, cond, Option, Some, None}
 use Rattle.std.specs.List.{All, AllByRecursion}
 use Rattle.std.proofs.lemmas.List.Elements.{All-from_recursion, recursion_from_All, All-nil, All-cons}
-use Rattle.ti_source.specs.WhiteSpace.{is_white_space}
-use Rattle.ti_source.specs.Folding.{Placed, in_comment, folding_of}
+use Rattle.ti_text.specs.WhiteSpace.{is_white_space}
+use Rattle.ti_source.specs.Folding.{PlacedByte, in_comment, folding_of}
 use Rattle.ti_source.specs.Items.{bytes, Begins, all_field, field_and_rest, AreItems, last_item, item_ends, pair_of_bytes, single_byte, without_front, piece_of, Claim, claims_flag, claims_number, claims_text, claims_cancel, Statement, States, empty_item, disabled_item, number_item, text_item, cancel_item, flag_item}
 use Rattle.ti_source.specs.Reading.{Said, said_flag, said_number, said_text, said_cancel, said_import, ReadItem, ReadFault}
 use Rattle.ti_source.specs.Parsing.{Verdict, accepted, accepted_odd, refused, Judges, judged_import, judged_unknown, judged_wrong_kind, judged_flag, judged_cancel, judged_number, judged_bad_number, judged_large_number, judged_text, judged_odd_text, judged_bad_text, items_by, ReadsItems, reads_nothing, reads_ignored, reads_judged, reading_of_text, HasReading}
@@ -15,7 +15,7 @@ abbrev pub OfBytes : List ℕ → Type 0
 OfBytes s = AllByRecursion (λ b. b < 256) s
 
 -- the same of bytes that stand on lines
-abbrev ArePlacedBytes : List Placed → Type 0
+abbrev ArePlacedBytes : List PlacedByte → Type 0
 ArePlacedBytes s = OfBytes (bytes s)
 
 uncommented-bytes : (comment : Bool) (before : ℕ) (s : List ℕ) → OfBytes s → OfBytes (uncommented comment before s)
@@ -42,15 +42,15 @@ pub behind-bytes : (s t : List ℕ) → OfBytes (s ++ t) → OfBytes t
 behind-bytes [] t h = h
 behind-bytes (x ∷ s) t h = behind-bytes s t h.1
 
-behind-placed : (s t : List Placed) → ArePlacedBytes (s ++ t) → ArePlacedBytes t
+behind-placed : (s t : List PlacedByte) → ArePlacedBytes (s ++ t) → ArePlacedBytes t
 behind-placed [] t h = h
 behind-placed (x ∷ s) t h = behind-placed s t h.1
 
-rest-bytes : (s field rest : List Placed) → Begins s field rest → ArePlacedBytes s → ArePlacedBytes rest
+rest-bytes : (s field rest : List PlacedByte) → Begins s field rest → ArePlacedBytes s → ArePlacedBytes rest
 rest-bytes _ _ _ (all_field field none) h = tt
 rest-bytes _ _ _ (field_and_rest field rest line none) h = (behind-placed field ((44, line) ∷ rest) h).1
 
-items-bytes : (before : ℕ) (text : List Placed) (items : List (List Placed)) → AreItems before text items → ArePlacedBytes text → AllByRecursion ArePlacedBytes items
+items-bytes : (before : ℕ) (text : List PlacedByte) (items : List (List PlacedByte)) → AreItems before text items → ArePlacedBytes text → AllByRecursion ArePlacedBytes items
 items-bytes _ _ _ (last_item before) h = (tt, tt)
 items-bytes _ _ _ (item_ends before line text items are) h = (tt, items-bytes 44 text items are h.1)
 items-bytes _ _ _ (pair_of_bytes before x y text item items t are) h =
@@ -60,7 +60,7 @@ items-bytes _ _ _ (single_byte before x text item items no_comma alone are) h =
     let later = items-bytes x.0 text (item ∷ items) are h.1 in
     ((h.0, later.0), later.1)
 
-front-bytes : (item : List Placed) → ArePlacedBytes item → ArePlacedBytes (without_front item)
+front-bytes : (item : List PlacedByte) → ArePlacedBytes item → ArePlacedBytes (without_front item)
 front-bytes [] h = tt
 front-bytes (x ∷ xs) h = elim (is_white_space x.0) as (λ b. ArePlacedBytes (cond b (without_front xs) (x ∷ xs))) [ true ↦ front-bytes xs h.1 | false ↦ h ]
 
@@ -120,7 +120,7 @@ verdict-items ordinal line (accepted said) found h later = All-cons ItemSaysByte
 verdict-items ordinal line (accepted_odd said) found h later = All-cons ItemSaysBytes (record { ordinal = ordinal; line = line; said = said }) found h later
 verdict-items ordinal line (refused code) found h later = later
 
-reads-bytes : UnescapedAgrees → ValuesAreSound → (ordinal : ℕ) (items : List (List Placed)) (found : List ReadItem) (faults : List ReadFault) → ReadsItems ordinal items found faults
+reads-bytes : UnescapedAgrees → ValuesAreSound → (ordinal : ℕ) (items : List (List PlacedByte)) (found : List ReadItem) (faults : List ReadFault) → ReadsItems ordinal items found faults
     → AllByRecursion ArePlacedBytes items → All ItemSaysBytes found
 reads-bytes agrees sound _ _ _ _ (reads_nothing ordinal) h = All-nil ItemSaysBytes
 reads-bytes agrees sound _ _ _ _ (reads_ignored ordinal item items found faults states later) h = reads-bytes agrees sound (ordinal + 1) items found faults later h.1

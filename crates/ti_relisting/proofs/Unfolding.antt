@@ -2,8 +2,8 @@
 use Rattle.std.proofs.Common.{◌≡◌, ℕ, Bool, true, false, not, ◌==◌, ◌||◌, ◌&&◌, List, [], ◌∷◌, ◌++◌, refl, ap, subst, inl, inr}
 use Rattle.std.specs.List.{list_all}
 use Rattle.std.proofs.lemmas.Bool.{cases_Bool, and_parts, or_parts, not-true}
-use Rattle.ti_source.specs.WhiteSpace.{is_white_space}
-use Rattle.ti_source.specs.Folding.{Placed}
+use Rattle.ti_text.specs.WhiteSpace.{is_white_space}
+use Rattle.ti_source.specs.Folding.{PlacedByte}
 use Rattle.ti_source.specs.Items.{bytes}
 use Rattle.ti_relisting.proofs.Bytes.{uncommented, unbroken}
 
@@ -67,14 +67,14 @@ calm-inline before (x ∷ xs) rest b h r =
     rw b (calm-inline x xs rest (not-true (x == 10) parts.0) parts.1 r)
 
 -- a text whose bytes are parted in two is parted so itself
-pub record Parted (s : List Placed) (u v : List ℕ) : Type 0 where
-  pub front : List Placed
-  pub rest : List Placed
+pub record Parted (s : List PlacedByte) (u v : List ℕ) : Type 0 where
+  pub front : List PlacedByte
+  pub rest : List PlacedByte
   pub whole : s ≡ front ++ rest
   pub is_front : bytes front ≡ u
   pub is_rest : bytes rest ≡ v
 
-part-cons : (x : Placed) (s : List Placed) (u v : List ℕ) → Parted s u v → Parted (x ∷ s) (x.0 ∷ u) v
+part-cons : (x : PlacedByte) (s : List PlacedByte) (u v : List ℕ) → Parted s u v → Parted (x ∷ s) (x.0 ∷ u) v
 part-cons x s u v p = record {
   front = x ∷ p.front;
   rest = p.rest;
@@ -83,7 +83,7 @@ part-cons x s u v p = record {
   is_rest = p.is_rest;
 }
 
-pub split-bytes : (s : List Placed) (u v : List ℕ) → bytes s ≡ u ++ v → Parted s u v
+pub split-bytes : (s : List PlacedByte) (u v : List ℕ) → bytes s ≡ u ++ v → Parted s u v
 split-bytes s [] v e = record { front = []; rest = s; whole = refl; is_front = refl; is_rest = e }
 split-bytes [] (y ∷ u) v e = absurd (nil≢cons e)
 split-bytes (x ∷ s) (y ∷ u) v e =
@@ -91,13 +91,13 @@ split-bytes (x ∷ s) (y ∷ u) v e =
     subst P (head-same e) (part-cons x s u v (split-bytes s u v (tail-same e)))
 
 -- a text that begins with this byte
-pub record BeginsWith (s : List Placed) (b : ℕ) (v : List ℕ) : Type 0 where
+pub record BeginsWith (s : List PlacedByte) (b : ℕ) (v : List ℕ) : Type 0 where
   pub line : ℕ
-  pub rest : List Placed
+  pub rest : List PlacedByte
   pub whole : s ≡ (b, line) ∷ rest
   pub is_rest : bytes rest ≡ v
 
-pub split-byte : (s : List Placed) (b : ℕ) (v : List ℕ) → bytes s ≡ b ∷ v → BeginsWith s b v
+pub split-byte : (s : List PlacedByte) (b : ℕ) (v : List ℕ) → bytes s ≡ b ∷ v → BeginsWith s b v
 split-byte [] b v e = absurd (nil≢cons e)
 split-byte (x ∷ s) b v e =
     let P : ℕ → Type 0 = λ b. BeginsWith (x ∷ s) b v in

@@ -9,7 +9,7 @@ use Rattle.std.proofs.lemmas.Fmt.{decimal_by_steps}
 use Rattle.std.proofs.lemmas.List.Elements.{All-get_or, All-nil, All-cons, All-push}
 use Rattle.std.proofs.lemmas.List.Sums.{AllPass-from_list_all, fold_push}
 use Rattle.std.proofs.lemmas.List.{append-nil}
-use Rattle.ti_source.specs.WhiteSpace.{is_white_space}
+use Rattle.ti_text.specs.WhiteSpace.{is_white_space}
 use Rattle.std.proofs.lemmas.List.Folds.{list_all-append}
 use Rattle.ti_caps.specs.Names.{flag_names, number_names, text_names}
 use Rattle.ti_caps.specs.Tables.{Capability, IsCapability, names, name_of, count_of}

@@ -31,7 +31,8 @@ pub record IsUsedEntry (shown : Entry) : Type 0 where
 -- Each entry of a source is such an entry: a source is bytes, and is empty or ends with a newline.
 abbrev pub EntriesOfSources : Type 0
 EntriesOfSources =
-    (source preface : List ℕ) (texts : List (List ℕ)) (at : ℕ) (entry : List ℕ) (shown : Entry) → AreBytes source → last_byte ascii.newline source ≡ ascii.newline → Cut source preface texts
+    (source preface : List ℕ) (texts : List (List ℕ)) (at : ℕ) (entry : List ℕ) (shown : Entry) → AreBytes source
+    → last_byte ascii.newline source ≡ ascii.newline → Cut source preface texts
     → compiled texts at ≡ Some entry → Reads entry shown.names shown.contents → IsEntry entry shown
 
 -- the source has these texts for its blocks and nothing before them, and each of them is a block by itself

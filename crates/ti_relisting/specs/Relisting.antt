@@ -56,5 +56,6 @@ OwnTheirNames entry others layout =
 -- The relative source of an entry compiles to the image of the entry, with the listings of the others behind it.
 abbrev pub RelativesCompile : Type 0
 RelativesCompile =
-    (entry : Entry) (others : List Entry) (layout : Layout) → CanBeShown entry → All CanBeUsed others → OwnTheirNames entry others layout → ImageFits entry.names entry.contents
+    (entry : Entry) (others : List Entry) (layout : Layout) → CanBeShown entry → All CanBeUsed others → OwnTheirNames entry others layout
+    → ImageFits entry.names entry.contents
     → compiled (with_others entry others layout) 0 ≡ Some (image entry.names entry.contents)

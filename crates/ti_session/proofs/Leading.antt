@@ -7,7 +7,7 @@ use Prim.{yes, no}
 use Rattle.std.specs.declared.vec.Vec.{Vec}
 use Rattle.std.specs.declared.alloc.Global.{Global}
 use Rattle.ti_text.specs.Limits.{block_bytes_max}
-use Rattle.ti_meaning.specs.Edits.{Change, Step}
+use Rattle.ti_meaning.specs.Edits.{Change, EditStep}
 use Rattle.ti_meaning.specs.declared.edits.EditError.TheVariants.{Position, TooLong, NotOneBlock, TooMany, Memory}
 use Rattle.ti_meaning.specs.declared.edits.Outcome.{Outcome}
 use Rattle.ti_meaning.specs.declared.edits.Outcome.TheVariants.{Accepted, Refused}
@@ -22,7 +22,7 @@ use Rattle.ti_devices.specs.Lines.{with_newline}
 use Rattle.ti_devices.specs.Writing.{Wrote}
 use Rattle.ti_session.specs.inside.Replies.{CarriesOut, WroteReport}
 use Rattle.ti_session.specs.inside.Requests.{mode_of, opened_change, opened_mode}
-use Rattle.ti_session.specs.Script.{AnswersCommand, Command, EditsSource, LineLeads, Meaning, Mode, Shows, Source, SessionState, meaning_outside, asks, edits, goes_on, meaning_in, outcome_text, outside, print_reply, prints, rebuilds, reports, source, state}
+use Rattle.ti_session.specs.Script.{AnswersCommand, Command, EditsSource, LineLeads, Meaning, ScriptMode, Shows, Source, SessionState, meaning_outside, asks, edits, goes_on, meaning_in, outcome_text, outside, print_reply, prints, rebuilds, reports, source, state}
 use Rattle.ti_devices.proofs.Written.{TakesAll-none}
 
 -- ---- a block of which only the front is held
@@ -37,24 +37,24 @@ take-none zero = refl
 take-none (suc n) = refl
 
 -- a text that is longer than a block may be is refused as its front is
-Step-of_long : (opened : Opened) (texts next : List (List ℕ)) (text front : List ℕ) (outcome : Outcome) → block_bytes_max < length front
-    → block_bytes_max < length text → Step texts (opened_change opened front) outcome next → Step texts (opened_change opened text) outcome next
-Step-of_long (Insert at) texts next text front Accepted long over step = let short = step.0.short in absurd (omega arith)
-Step-of_long (Insert at) texts next text front (Refused Position) long over step = step
-Step-of_long (Insert at) texts next text front (Refused TooLong) long over step = ((step.0.0, λ short. omega arith), step.1)
-Step-of_long (Insert at) texts next text front (Refused NotOneBlock) long over step = let short = step.0.1 in absurd (omega arith)
-Step-of_long (Insert at) texts next text front (Refused TooMany) long over step = let short = step.0.1 in absurd (omega arith)
-Step-of_long (Insert at) texts next text front (Refused Memory) long over step = let short = step.0.short in absurd (omega arith)
-Step-of_long (Replace at) texts next text front Accepted long over step = let short = step.0.short in absurd (omega arith)
-Step-of_long (Replace at) texts next text front (Refused Position) long over step = step
-Step-of_long (Replace at) texts next text front (Refused TooLong) long over step = ((step.0.0, λ short. omega arith), step.1)
-Step-of_long (Replace at) texts next text front (Refused NotOneBlock) long over step = let short = step.0.1 in absurd (omega arith)
-Step-of_long (Replace at) texts next text front (Refused TooMany) long over step = let short = step.0.1 in absurd (omega arith)
-Step-of_long (Replace at) texts next text front (Refused Memory) long over step = let short = step.0.short in absurd (omega arith)
+EditStep-of_long : (opened : Opened) (texts next : List (List ℕ)) (text front : List ℕ) (outcome : Outcome) → block_bytes_max < length front
+    → block_bytes_max < length text → EditStep texts (opened_change opened front) outcome next → EditStep texts (opened_change opened text) outcome next
+EditStep-of_long (Insert at) texts next text front Accepted long over step = let short = step.0.short in absurd (omega arith)
+EditStep-of_long (Insert at) texts next text front (Refused Position) long over step = step
+EditStep-of_long (Insert at) texts next text front (Refused TooLong) long over step = ((step.0.0, λ short. omega arith), step.1)
+EditStep-of_long (Insert at) texts next text front (Refused NotOneBlock) long over step = let short = step.0.1 in absurd (omega arith)
+EditStep-of_long (Insert at) texts next text front (Refused TooMany) long over step = let short = step.0.1 in absurd (omega arith)
+EditStep-of_long (Insert at) texts next text front (Refused Memory) long over step = let short = step.0.short in absurd (omega arith)
+EditStep-of_long (Replace at) texts next text front Accepted long over step = let short = step.0.short in absurd (omega arith)
+EditStep-of_long (Replace at) texts next text front (Refused Position) long over step = step
+EditStep-of_long (Replace at) texts next text front (Refused TooLong) long over step = ((step.0.0, λ short. omega arith), step.1)
+EditStep-of_long (Replace at) texts next text front (Refused NotOneBlock) long over step = let short = step.0.1 in absurd (omega arith)
+EditStep-of_long (Replace at) texts next text front (Refused TooMany) long over step = let short = step.0.1 in absurd (omega arith)
+EditStep-of_long (Replace at) texts next text front (Refused Memory) long over step = let short = step.0.short in absurd (omega arith)
 
 -- what is shown of an edit goes by its outcome, and a text that is too long is never accepted
 Shows-of_long : (opened : Opened) (texts next : List (List ℕ)) (text front : List ℕ) (outcome : Outcome) (before now : List ℕ)
-    → block_bytes_max < length front → Step texts (opened_change opened front) outcome next
+    → block_bytes_max < length front → EditStep texts (opened_change opened front) outcome next
     → Shows texts (opened_change opened front) outcome before now → Shows texts (opened_change opened text) outcome before now
 Shows-of_long (Insert at) texts next text front Accepted before now long step shows = let short = step.0.short in absurd (omega arith)
 Shows-of_long (Replace at) texts next text front Accepted before now long step shows = let short = step.0.short in absurd (omega arith)
@@ -67,7 +67,7 @@ EditsSource-of_front opened source next text limit outcome room edited = elim (d
   | no over ↦
       let front : length (take limit text) ≡ limit = length-take-le limit text (omega arith) in
       record {
-        step = Step-of_long opened source.texts next.texts text (take limit text) outcome (omega arith) (omega arith) edited.step;
+        step = EditStep-of_long opened source.texts next.texts text (take limit text) outcome (omega arith) (omega arith) edited.step;
         shows = Shows-of_long opened source.texts next.texts text (take limit text) outcome source.rebuilt next.rebuilt (omega arith) edited.step edited.shows;
       }
 ]
@@ -129,24 +129,24 @@ meaning_in-opened : (opened : Opened) (text line : List ℕ) → meaning_in (ope
 meaning_in-opened (Insert at) text line = refl
 meaning_in-opened (Replace at) text line = refl
 
-pub meaning_in-at_end : (mode : Mode) (now : Option Opened) (opened : Opened) (text line : List ℕ) → mode ≡ mode_of now text → now ≡ Some opened
+pub meaning_in-at_end : (mode : ScriptMode) (now : Option Opened) (opened : Opened) (text line : List ℕ) → mode ≡ mode_of now text → now ≡ Some opened
     → bytes_eq line (codes ".") ≡ true → meaning_in mode line ≡ asks (edits (opened_change opened text))
 meaning_in-at_end mode now opened text line is held dot =
-    ap (λ (m : Mode). meaning_in m line) (is ∙ ap (λ (o : Option Opened). mode_of o text) held) ∙ meaning_in-opened opened text line
+    ap (λ (m : ScriptMode). meaning_in m line) (is ∙ ap (λ (o : Option Opened). mode_of o text) held) ∙ meaning_in-opened opened text line
     ∙ ap (λ (b : Bool). if b then asks (edits (opened_change opened text)) else goes_on (opened_mode opened (text ++ with_newline line))) dot
 
-pub meaning_in-in_block : (mode : Mode) (now : Option Opened) (opened : Opened) (text line : List ℕ) → mode ≡ mode_of now text → now ≡ Some opened
+pub meaning_in-in_block : (mode : ScriptMode) (now : Option Opened) (opened : Opened) (text line : List ℕ) → mode ≡ mode_of now text → now ≡ Some opened
     → bytes_eq line (codes ".") ≡ false → meaning_in mode line ≡ goes_on (opened_mode opened (text ++ with_newline line))
 meaning_in-in_block mode now opened text line is held other =
-    ap (λ (m : Mode). meaning_in m line) (is ∙ ap (λ (o : Option Opened). mode_of o text) held) ∙ meaning_in-opened opened text line
+    ap (λ (m : ScriptMode). meaning_in m line) (is ∙ ap (λ (o : Option Opened). mode_of o text) held) ∙ meaning_in-opened opened text line
     ∙ ap (λ (b : Bool). if b then asks (edits (opened_change opened text)) else goes_on (opened_mode opened (text ++ with_newline line))) other
 
-pub meaning_in-meaning_outside : (mode : Mode) (line : List ℕ) → mode ≡ outside → meaning_in mode line ≡ meaning_outside line
-meaning_in-meaning_outside mode line is = ap (λ (m : Mode). meaning_in m line) is
+pub meaning_in-meaning_outside : (mode : ScriptMode) (line : List ℕ) → mode ≡ outside → meaning_in mode line ≡ meaning_outside line
+meaning_in-meaning_outside mode line is = ap (λ (m : ScriptMode). meaning_in m line) is
 
 -- ---- what a line leads to
 
-pub ActsOn-on : (meaning : Meaning) (s : SessionState) (d : Editor) (now : Observed) (mode : Mode) → meaning ≡ goes_on mode
+pub ActsOn-on : (meaning : Meaning) (s : SessionState) (d : Editor) (now : Observed) (mode : ScriptMode) → meaning ≡ goes_on mode
     → HasState d (state s.source mode) → ActsOn meaning s d now now (Ok tt)
 ActsOn-on meaning s d now mode is held = record {
   next = state s.source mode;

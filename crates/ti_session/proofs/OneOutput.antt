@@ -1,57 +1,57 @@
 -- The lines of a script, and the answers to them, are determined but for want of memory.
 use Rattle.std.proofs.Common.{◌≡◌, ◌⊎◌, ℕ, List, [], ◌∷◌, ◌++◌, refl, sym, ap, ◌∙◌, subst, append_assoc, inl, inr}
-use Rattle.ti_meaning.specs.Edits.{Change, Step}
+use Rattle.ti_meaning.specs.Edits.{Change, EditStep}
 use Rattle.ti_meaning.specs.declared.edits.EditError.TheVariants.{Position, TooLong, NotOneBlock, TooMany, Memory}
 use Rattle.ti_meaning.specs.declared.edits.Outcome.{Outcome}
 use Rattle.ti_meaning.specs.declared.edits.Outcome.TheVariants.{Accepted, Refused}
 use Rattle.ti_session.specs.ScriptLaws.{OneAnswer, OneOutput, DifferAtMemory, SaysMemory}
 use Rattle.ti_devices.proofs.CutLines.{one_split-law}
 use Rattle.ti_devices.specs.Lines.{with_last}
-use Rattle.ti_session.specs.Script.{AnswersCommand, Mode, Runs, Shows, Source, SessionState, asks, closing_reply, edits, goes_on, meaning_in, outcome_text, outside, prints, rebuilds, refused_text, reports, source, session_start, state, nothing_known}
+use Rattle.ti_session.specs.Script.{AnswersCommand, ScriptMode, Runs, Shows, Source, SessionState, asks, closing_reply, edits, goes_on, meaning_in, outcome_text, outside, prints, rebuilds, refused_text, reports, source, session_start, state, nothing_known}
 use Rattle.ti_meaning.proofs.ExchangeLaws.{one_rebuilt}
 
 -- ---- answers
 
-Step-one : (texts next later : List (List ℕ)) (change : Change) (outcome other : Outcome) → Step texts change outcome next
-    → Step texts change other later
+EditStep-one : (texts next later : List (List ℕ)) (change : Change) (outcome other : Outcome) → EditStep texts change outcome next
+    → EditStep texts change other later
     → (outcome ≡ Refused Memory) ⊎ (other ≡ Refused Memory) ⊎ ((outcome ≡ other) × (next ≡ later))
-Step-one texts next later change (Refused Memory) other x y = inl refl
-Step-one texts next later change Accepted (Refused Memory) x y = inr (inl refl)
-Step-one texts next later change Accepted Accepted x y = inr (inr (refl, x.1 ∙ sym y.1))
-Step-one texts next later change Accepted (Refused Position) x y = absurd (y.0 x.0.in_place)
-Step-one texts next later change Accepted (Refused TooLong) x y = absurd (y.0.1 x.0.short)
-Step-one texts next later change Accepted (Refused NotOneBlock) x y = absurd (y.0.2 x.0.block)
-Step-one texts next later change Accepted (Refused TooMany) x y = absurd (y.0.3 x.0.room)
-Step-one texts next later change (Refused Position) (Refused Memory) x y = inr (inl refl)
-Step-one texts next later change (Refused Position) Accepted x y = absurd (x.0 y.0.in_place)
-Step-one texts next later change (Refused Position) (Refused Position) x y = inr (inr (refl, x.1 ∙ sym y.1))
-Step-one texts next later change (Refused Position) (Refused TooLong) x y = absurd (x.0 y.0.0)
-Step-one texts next later change (Refused Position) (Refused NotOneBlock) x y = absurd (x.0 y.0.0)
-Step-one texts next later change (Refused Position) (Refused TooMany) x y = absurd (x.0 y.0.0)
-Step-one texts next later change (Refused TooLong) (Refused Memory) x y = inr (inl refl)
-Step-one texts next later change (Refused TooLong) Accepted x y = absurd (x.0.1 y.0.short)
-Step-one texts next later change (Refused TooLong) (Refused Position) x y = absurd (y.0 x.0.0)
-Step-one texts next later change (Refused TooLong) (Refused TooLong) x y = inr (inr (refl, x.1 ∙ sym y.1))
-Step-one texts next later change (Refused TooLong) (Refused NotOneBlock) x y = absurd (x.0.1 y.0.1)
-Step-one texts next later change (Refused TooLong) (Refused TooMany) x y = absurd (x.0.1 y.0.1)
-Step-one texts next later change (Refused NotOneBlock) (Refused Memory) x y = inr (inl refl)
-Step-one texts next later change (Refused NotOneBlock) Accepted x y = absurd (x.0.2 y.0.block)
-Step-one texts next later change (Refused NotOneBlock) (Refused Position) x y = absurd (y.0 x.0.0)
-Step-one texts next later change (Refused NotOneBlock) (Refused TooLong) x y = absurd (y.0.1 x.0.1)
-Step-one texts next later change (Refused NotOneBlock) (Refused NotOneBlock) x y = inr (inr (refl, x.1 ∙ sym y.1))
-Step-one texts next later change (Refused NotOneBlock) (Refused TooMany) x y = absurd (x.0.2 y.0.2)
-Step-one texts next later change (Refused TooMany) (Refused Memory) x y = inr (inl refl)
-Step-one texts next later change (Refused TooMany) Accepted x y = absurd (x.0.3 y.0.room)
-Step-one texts next later change (Refused TooMany) (Refused Position) x y = absurd (y.0 x.0.0)
-Step-one texts next later change (Refused TooMany) (Refused TooLong) x y = absurd (y.0.1 x.0.1)
-Step-one texts next later change (Refused TooMany) (Refused NotOneBlock) x y = absurd (y.0.2 x.0.2)
-Step-one texts next later change (Refused TooMany) (Refused TooMany) x y = inr (inr (refl, x.1 ∙ sym y.1))
+EditStep-one texts next later change (Refused Memory) other x y = inl refl
+EditStep-one texts next later change Accepted (Refused Memory) x y = inr (inl refl)
+EditStep-one texts next later change Accepted Accepted x y = inr (inr (refl, x.1 ∙ sym y.1))
+EditStep-one texts next later change Accepted (Refused Position) x y = absurd (y.0 x.0.in_place)
+EditStep-one texts next later change Accepted (Refused TooLong) x y = absurd (y.0.1 x.0.short)
+EditStep-one texts next later change Accepted (Refused NotOneBlock) x y = absurd (y.0.2 x.0.block)
+EditStep-one texts next later change Accepted (Refused TooMany) x y = absurd (y.0.3 x.0.room)
+EditStep-one texts next later change (Refused Position) (Refused Memory) x y = inr (inl refl)
+EditStep-one texts next later change (Refused Position) Accepted x y = absurd (x.0 y.0.in_place)
+EditStep-one texts next later change (Refused Position) (Refused Position) x y = inr (inr (refl, x.1 ∙ sym y.1))
+EditStep-one texts next later change (Refused Position) (Refused TooLong) x y = absurd (x.0 y.0.0)
+EditStep-one texts next later change (Refused Position) (Refused NotOneBlock) x y = absurd (x.0 y.0.0)
+EditStep-one texts next later change (Refused Position) (Refused TooMany) x y = absurd (x.0 y.0.0)
+EditStep-one texts next later change (Refused TooLong) (Refused Memory) x y = inr (inl refl)
+EditStep-one texts next later change (Refused TooLong) Accepted x y = absurd (x.0.1 y.0.short)
+EditStep-one texts next later change (Refused TooLong) (Refused Position) x y = absurd (y.0 x.0.0)
+EditStep-one texts next later change (Refused TooLong) (Refused TooLong) x y = inr (inr (refl, x.1 ∙ sym y.1))
+EditStep-one texts next later change (Refused TooLong) (Refused NotOneBlock) x y = absurd (x.0.1 y.0.1)
+EditStep-one texts next later change (Refused TooLong) (Refused TooMany) x y = absurd (x.0.1 y.0.1)
+EditStep-one texts next later change (Refused NotOneBlock) (Refused Memory) x y = inr (inl refl)
+EditStep-one texts next later change (Refused NotOneBlock) Accepted x y = absurd (x.0.2 y.0.block)
+EditStep-one texts next later change (Refused NotOneBlock) (Refused Position) x y = absurd (y.0 x.0.0)
+EditStep-one texts next later change (Refused NotOneBlock) (Refused TooLong) x y = absurd (y.0.1 x.0.1)
+EditStep-one texts next later change (Refused NotOneBlock) (Refused NotOneBlock) x y = inr (inr (refl, x.1 ∙ sym y.1))
+EditStep-one texts next later change (Refused NotOneBlock) (Refused TooMany) x y = absurd (x.0.2 y.0.2)
+EditStep-one texts next later change (Refused TooMany) (Refused Memory) x y = inr (inl refl)
+EditStep-one texts next later change (Refused TooMany) Accepted x y = absurd (x.0.3 y.0.room)
+EditStep-one texts next later change (Refused TooMany) (Refused Position) x y = absurd (y.0 x.0.0)
+EditStep-one texts next later change (Refused TooMany) (Refused TooLong) x y = absurd (y.0.1 x.0.1)
+EditStep-one texts next later change (Refused TooMany) (Refused NotOneBlock) x y = absurd (y.0.2 x.0.2)
+EditStep-one texts next later change (Refused TooMany) (Refused TooMany) x y = inr (inr (refl, x.1 ∙ sym y.1))
 
 Source-same : (a b : Source) → a.texts ≡ b.texts → a.rebuilt ≡ b.rebuilt → a ≡ b
 Source-same a b texts rebuilt = ap (λ (t : List (List ℕ)). source t a.rebuilt) texts ∙ ap (λ (r : List ℕ). source b.texts r) rebuilt
 
 State-same : (a b : SessionState) → a.source ≡ b.source → a.mode ≡ b.mode → a ≡ b
-State-same a b same mode = ap (λ (x : Source). state x a.mode) same ∙ ap (λ (m : Mode). state b.source m) mode
+State-same a b same mode = ap (λ (x : Source). state x a.mode) same ∙ ap (λ (m : ScriptMode). state b.source m) mode
 
 Leads-same : (after other : SessionState) → after.mode ≡ outside → other.mode ≡ outside → after.source ≡ other.source → after ≡ other
 Leads-same after other a b same = State-same after other same (a ∙ sym b)
@@ -65,7 +65,7 @@ edits-one : (source : Source) (after other : SessionState) (reply answer : List 
     → AnswersCommand source (edits change) after.source reply → AnswersCommand source (edits change) other.source answer
     → (reply ≡ refused_text Memory) ⊎ (answer ≡ refused_text Memory) ⊎ ((after ≡ other) × (reply ≡ answer))
 edits-one source after other reply answer change a b x y =
-    elim (Step-one source.texts after.source.texts other.source.texts change x.0 y.0 x.1.step y.1.step) [
+    elim (EditStep-one source.texts after.source.texts other.source.texts change x.0 y.0 x.1.step y.1.step) [
       | inl memory ↦ inl (x.2 ∙ ap outcome_text memory)
       | inr (inl memory) ↦ inr (inl (y.2 ∙ ap outcome_text memory))
       | inr (inr same) ↦

@@ -6,7 +6,7 @@ use Rattle.ti_text.specs.Ascii as ascii
 use Rattle.ti_text.specs.Digits.{decimal_value, is_decimal_digit}
 use Rattle.ti_meaning.specs.Compiled.{compiled}
 use Rattle.ti_meaning.specs.Report.{report}
-use Rattle.ti_meaning.specs.Edits.{Change, insertion, replacement, removal, relocation, Step}
+use Rattle.ti_meaning.specs.Edits.{Change, insertion, replacement, removal, relocation, EditStep}
 use Rattle.ti_meaning.specs.Dependents.{Rebuilds}
 use Rattle.ti_meaning.specs.declared.edits.EditError.{EditError}
 use Rattle.ti_meaning.specs.declared.edits.EditError.TheVariants.{Position, TooLong, NotOneBlock, TooMany, Memory}
@@ -28,10 +28,10 @@ IsShortScriptLine line = IsWithin script_line_max line
 -- ---- what a line says
 
 -- between commands, or within a block that is to be put in or to take another's place: its position, and its text so far
-pub data Mode : Type 0 where
-  outside : Mode
-  in_insertion : ℕ → List ℕ → Mode
-  in_replacement : ℕ → List ℕ → Mode
+pub data ScriptMode : Type 0 where
+  outside : ScriptMode
+  in_insertion : ℕ → List ℕ → ScriptMode
+  in_replacement : ℕ → List ℕ → ScriptMode
 
 -- what is asked for: an edit; the entry of the block at a position; the report; which blocks the last accepted edit rebuilt;
 -- or nothing that is known
@@ -44,12 +44,18 @@ pub data Command : Type 0 where
 
 -- a line leads to another mode, or it completes a command, and then the mode is outside
 pub data Meaning : Type 0 where
-  goes_on : Mode → Meaning
+  goes_on : ScriptMode → Meaning
   asks : Command → Meaning
 
--- one to nine decimal digits
-abbrev pub number : List ℕ → Option ℕ
-number text = if nat_lt 0 (length text) && nat_lt (length text) 10 && list_all is_decimal_digit text then Some (decimal_value text) else None
+-- the most digits of a number in a script
+abbrev pub script_digits_max : ℕ
+script_digits_max = 9
+
+-- the number that decimal digits spell, one at least and `script_digits_max` at most
+abbrev pub script_number : List ℕ → Option ℕ
+script_number text =
+    if nat_lt 0 (length text) && nat_lt (length text) (script_digits_max + 1) && list_all is_decimal_digit text
+    then Some (decimal_value text) else None
 
 -- a letter with a number: `i N`, `r N`, `d N`, `p N`
 abbrev pub meaning_with_number : ℕ → Option ℕ → Meaning
@@ -69,7 +75,7 @@ both_numbers _ _ = None
 -- the numbers before a place of the text and behind it
 abbrev pub numbers_around : List ℕ → Option ℕ → Option (ℕ × ℕ)
 numbers_around text None = None
-numbers_around text (Some place) = both_numbers (number (take place text)) (number (drop (place + 1) text))
+numbers_around text (Some place) = both_numbers (script_number (take place text)) (script_number (drop (place + 1) text))
 
 -- two numbers with one space between them
 abbrev pub two_numbers : List ℕ → Option (ℕ × ℕ)
@@ -90,11 +96,11 @@ meaning_outside [] = goes_on outside
 meaning_outside (letter ∷ []) = meaning_alone letter
 meaning_outside (letter ∷ space ∷ rest) =
     if space == ascii.space
-    then (if letter == ascii.byte_of "m" then moves (two_numbers rest) else meaning_with_number letter (number rest))
+    then (if letter == ascii.byte_of "m" then moves (two_numbers rest) else meaning_with_number letter (script_number rest))
     else asks nothing_known
 
 -- a line in a mode: within a block, a line `.` ends it and any other belongs to it
-abbrev pub meaning_in : Mode → List ℕ → Meaning
+abbrev pub meaning_in : ScriptMode → List ℕ → Meaning
 meaning_in outside line = meaning_outside line
 meaning_in (in_insertion at block) line =
     if bytes_eq line (codes ".") then asks (edits (insertion at block)) else goes_on (in_insertion at (block ++ with_newline line))
@@ -154,7 +160,7 @@ Shows texts change (Refused error) before now = now ≡ before
 
 -- an edit with that outcome leads from one source to the next
 pub record EditsSource (source : Source) (change : Change) (outcome : Outcome) (next : Source) : Type 0 where
-  pub step : Step source.texts change outcome next.texts
+  pub step : EditStep source.texts change outcome next.texts
   pub shows : Shows source.texts change outcome source.rebuilt next.rebuilt
 
 -- A command leads from one source to the next, with its reply. An edit without cause, and a report, may be refused for want
@@ -169,10 +175,10 @@ AnswersCommand source nothing_known next reply = (next ≡ source) × (reply ≡
 -- between two lines: the source and the mode
 pub record SessionState : Type 0 where
   pub source : Source
-  pub mode : Mode
+  pub mode : ScriptMode
 
 -- the state of this source and that mode
-abbrev pub state : Source → Mode → SessionState
+abbrev pub state : Source → ScriptMode → SessionState
 state source mode = record { source = source; mode = mode }
 
 -- what a line of that meaning leads to, with its reply
@@ -188,7 +194,7 @@ Runs (line ∷ lines) before after output =
     × LineLeads (meaning_in before.mode line) before next reply × Runs lines next after later × (output ≡ reply ++ later)
 
 -- a script that ends inside a block is answered so
-abbrev pub closing_reply : Mode → List ℕ
+abbrev pub closing_reply : ScriptMode → List ℕ
 closing_reply outside = []
 closing_reply (in_insertion at block) = with_newline (codes "unfinished")
 closing_reply (in_replacement at block) = with_newline (codes "unfinished")

@@ -1,9 +1,9 @@
--- What the definition of a session leaves open (own): nothing but where memory is wanting.
+-- What the definition of a session leaves open (own): nothing but when memory is refused.
 use Rattle.std.specs.Prelude.{◌≡◌, ℕ, List, ◌++◌, ◌⊎◌}
 use Rattle.ti_meaning.specs.declared.edits.EditError.TheVariants.{Memory}
 use Rattle.ti_session.specs.Script.{LineLeads, Meaning, Session, SessionState, refused_text}
 
--- a line leads from a state to one state, with one reply, unless one of two replies is that memory is wanting
+-- a line leads from a state to one state, with one reply, unless one of two replies is a refusal for want of memory
 abbrev pub OneAnswer : Type 0
 OneAnswer = (meaning : Meaning) (before after other : SessionState) (reply answer : List ℕ) → LineLeads meaning before after reply
     → LineLeads meaning before other answer

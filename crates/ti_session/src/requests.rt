@@ -2,9 +2,9 @@
 ghost use Rattle.std.specs.Prelude.{◌≡◌, ◌==◌, ◌<◌, length, position, IfSome, Some};
 ghost use Rattle.ti_text.specs.Ascii as ascii;
 ghost use Rattle.ti_session.specs.inside.Requests.{request_meaning};
-ghost use Rattle.ti_session.specs.Script.{meaning_alone, meaning_outside, moves, number, meaning_with_number, two_numbers};
+ghost use Rattle.ti_session.specs.Script.{meaning_alone, meaning_outside, moves, script_number, meaning_with_number, two_numbers};
 
-/// A block that lines are to follow for, and the position that it is for.
+/// What is to be done with the block whose lines follow, and at which position.
 #[derive(Clone, Copy)]
 pub enum Opened {
     /// It is to be put in.
@@ -52,8 +52,8 @@ pub enum Request {
 }
 
 // The number that one to nine decimal digits spell.
-fn number(text: &[u8]) -> Option<usize>
-    ensures { result ≡ number text.now }
+fn script_number(text: &[u8]) -> Option<usize>
+    ensures { result ≡ script_number text.now }
 {
     if text.is_empty() || text.len() > 9 {
         return None;
@@ -81,8 +81,8 @@ fn two_numbers(text: &[u8]) -> Option<(usize, usize)>
     ensures { result ≡ two_numbers text.now }
 {
     let space = first_space(text)?;
-    let from = number(&text[..space])?;
-    let to = number(&text[space + 1..])?;
+    let from = script_number(&text[..space])?;
+    let to = script_number(&text[space + 1..])?;
     Some((from, to))
 }
 
@@ -137,7 +137,7 @@ pub fn read_request(line: &[u8]) -> Request
     if *letter == b'm' {
         return relocation(digits);
     }
-    match number(digits) {
+    match script_number(digits) {
         Some(at) => request_with_number(*letter, at),
         None => Request::Unknown,
     }

@@ -1,7 +1,7 @@
-//! What the definition of a session leaves open: nothing but where memory is wanting.
+//! What the definition of a session leaves open: nothing but when memory is refused.
 ghost use Rattle.ti_session.specs.ScriptLaws.{OneAnswer, OneOutput};
 
-/// A line leads from a state to one state, with one reply, unless memory is wanting.
+/// A line leads from a state to one state, with one reply, unless memory is refused.
 pub fn one_answer()
     ensures { OneAnswer }
 {}

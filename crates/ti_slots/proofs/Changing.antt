@@ -7,7 +7,8 @@ use Rattle.std.proofs.lemmas.Option.{slice_get_past, slice_get_read}
 use Rattle.ti_source.specs.Reading.{reading_of}
 use Rattle.ti_meaning.specs.Owner.{is_among}
 use Rattle.ti_meaning.specs.inside.Reaching.{any_use}
-use Rattle.ti_index.specs.Labels.{Has, IsDistinct}
+use Rattle.ti_text.specs.Lists.{Has}
+use Rattle.ti_index.specs.Labels.{AreDistinct}
 use Rattle.ti_index.specs.declared.names.NameIndex.{NameIndex}
 use Rattle.ti_index.specs.Names.{holders_at, users_at, holder_capacity, user_capacity, KeepsCapacity}
 use Rattle.ti_slots.specs.declared.slots.Slot.{Slot}
@@ -129,7 +130,7 @@ put_done a b mid at id slot i h =
 
 pub record HasTaken (a b : Slots) (mid : NameIndex) (at id : ℕ) (slot : Slot) : Type 0 where
   pub stood : StandsAt a at id
-  pub distinct : IsDistinct a.order.listed
+  pub distinct : AreDistinct a.order.listed
   pub listed : b.order.listed ≡ remove a.order.listed at
   pub free : b.order.free ≡ a.order.free ++ id ∷ []
   pub was : slot_at a.slots.items id ≡ Some slot
@@ -187,15 +188,15 @@ no_longer id has = rw (eq-eqb id id refl) refl
 taken_room : (a b : Slots) (mid : NameIndex) (at id : ℕ) (slot : Slot) → IsIndexed a → HasTaken a b mid at id slot → ((name : List ℕ) → length (holders_at a.names name) ≤ holder_capacity a.names name) → ((name : List ℕ) → length (users_at a.names name) ≤ user_capacity a.names name) → ((name : List ℕ) → KeepsCapacity a.names b.names name) → HasRoomFor b (reading_of slot.block)
 taken_room a b mid at id slot i h holders_fit users_fit capacity = record {
   id = omega (arith, ap length h.free, length-append a.order.free (id ∷ []));
-  holders = λ name told.
+  holders = λ name stated.
       let has = has_name a.slots.items name in
       let less = one_less has (λ x. not (nat_eq x id) && has x) a.order.listed at id (λ x. and_right (not (nat_eq x id)) (has x)) h.stood
-      (name_by_slot a.slots.items name id (Some slot) h.was ∙ told) (no_longer id has) in
+      (name_by_slot a.slots.items name id (Some slot) h.was ∙ stated) (no_longer id has) in
       omega (arith, less, ap length (i.holders name), ap length (holders_after a b mid at id slot i h name), holders_fit name, (capacity name).holders);
-  users = λ name told.
+  users = λ name stated.
       let has = uses_name a.slots.items name in
       let less = one_less has (λ x. not (nat_eq x id) && has x) a.order.listed at id (λ x. and_right (not (nat_eq x id)) (has x)) h.stood
-      (use_by_slot a.slots.items name id (Some slot) h.was ∙ told) (no_longer id has) in
+      (use_by_slot a.slots.items name id (Some slot) h.was ∙ stated) (no_longer id has) in
       omega (arith, less, ap length (i.users name), ap length (users_after a b mid at id slot i h name), users_fit name, (capacity name).users);
 }
 
@@ -203,14 +204,14 @@ taken_room a b mid at id slot i h holders_fit users_fit capacity = record {
 taken_rooms : (a b : Slots) (mid : NameIndex) (at id : ℕ) (slot : Slot) → IsIndexed a → HasTaken a b mid at id slot → ((name : List ℕ) → KeepsCapacity a.names b.names name) → KeepsRooms a b
 taken_rooms a b mid at id slot i h capacity block room = record {
   id = omega (arith, ap length h.free, length-append a.order.free (id ∷ []));
-  holders = λ name told.
+  holders = λ name stated.
       let has = has_name a.slots.items name in
       let less = fewer_pass has (λ x. not (nat_eq x id) && has x) a.order.listed (λ x. and_right (not (nat_eq x id)) (has x)) in
-      omega (arith, less, ap length (i.holders name), ap length (holders_after a b mid at id slot i h name), room.holders name told, (capacity name).holders);
-  users = λ name told.
+      omega (arith, less, ap length (i.holders name), ap length (holders_after a b mid at id slot i h name), room.holders name stated, (capacity name).holders);
+  users = λ name stated.
       let has = uses_name a.slots.items name in
       let less = fewer_pass has (λ x. not (nat_eq x id) && has x) a.order.listed (λ x. and_right (not (nat_eq x id)) (has x)) in
-      omega (arith, less, ap length (i.users name), ap length (users_after a b mid at id slot i h name), room.users name told, (capacity name).users);
+      omega (arith, less, ap length (i.users name), ap length (users_after a b mid at id slot i h name), room.users name stated, (capacity name).users);
 }
 
 pub taken_done : (a b : Slots) (mid : NameIndex) (at id : ℕ) (slot : Slot) → IsIndexed a → HasTaken a b mid at id slot → ((name : List ℕ) → length (holders_at a.names name) ≤ holder_capacity a.names name) → ((name : List ℕ) → length (users_at a.names name) ≤ user_capacity a.names name) → TakesOut a b at slot

@@ -2,7 +2,8 @@
 use Rattle.std.proofs.Common.{◌≡◌, ◌≢◌, ◌<◌, ◌≤◌, ℕ, suc, zero, inl, inr, List, [], ◌∷◌, map, length, set, Bool, true, false, not, nat_eq, ◌&&◌, ◌||◌, Some, slice_get, filter, insert, remove, refl, sym, ◌∙◌, ap, arith, eq-eqb}
 use Rattle.std.proofs.lemmas.Bool.{cases_Bool, cases_eq, eqb-true, false≢true}
 use Rattle.std.proofs.lemmas.Option.{same_Some, none-some}
-use Rattle.ti_index.specs.Labels.{Has, IsDistinct}
+use Rattle.ti_text.specs.Lists.{Has}
+use Rattle.ti_index.specs.Labels.{AreDistinct}
 use Rattle.ti_index.proofs.LawProofs.{agreeing_lists, staying_lists}
 use Rattle.ti_index.proofs.Keeping.{insert_cases, remove_cases}
 
@@ -139,7 +140,7 @@ stood_before xs at id pos x within e apart = elim (insert_cases xs at id pos x w
 ]
 
 -- an id that is left stood before, and is not the one taken out
-pub left_before : (xs : List ℕ) (at id pos x : ℕ) → IsDistinct xs → slice_get xs at ≡ Some id → slice_get (remove xs at) pos ≡ Some x → Has xs x × (x ≢ id)
+pub left_before : (xs : List ℕ) (at id pos x : ℕ) → AreDistinct xs → slice_get xs at ≡ Some id → slice_get (remove xs at) pos ≡ Some x → Has xs x × (x ≢ id)
 left_before xs at id pos x distinct stood e = elim (remove_cases xs at pos x e) [
   | inl before ↦ ((pos, before.1), λ same. (let one = distinct pos at id (rw same at before.1) stood in let l = before.0 in omega arith))
   | inr behind ↦ ((suc pos, behind.1), λ same. (let one = distinct (suc pos) at id (rw same at behind.1) stood in let l = behind.0 in omega arith))

@@ -66,8 +66,8 @@ users_again a b one two again name =
 rooms_again : (a b : Slots) → IsIndexed a → IsIndexed b → IsAgain a b → KeepsRooms a b
 rooms_again a b one two again block room = record {
   id = omega (arith, room.id, ap length again.free);
-  holders = λ name told. omega (arith, room.holders name told, ap length (holders_again a b one two again name), (again.capacity name).holders);
-  users = λ name told. omega (arith, room.users name told, ap length (users_again a b one two again name), (again.capacity name).users);
+  holders = λ name stated. omega (arith, room.holders name stated, ap length (holders_again a b one two again name), (again.capacity name).holders);
+  users = λ name stated. omega (arith, room.users name stated, ap length (users_again a b one two again name), (again.capacity name).users);
 }
 
 pub undone_changes : ChangesAreUndone

@@ -4,7 +4,7 @@ use Rattle.std.specs.Str.{bytes_eq}
 use Rattle.ti_source.specs.Reading.{Reading, reading_of}
 use Rattle.ti_meaning.specs.Owner.{is_among}
 use Rattle.ti_meaning.specs.inside.Reaching.{any_use}
-use Rattle.ti_index.specs.Labels.{Has}
+use Rattle.ti_text.specs.Lists.{Has}
 use Rattle.ti_index.specs.Names.{holders_at, users_at, HasHolderRoom, HasUserRoom, IsForgotten, KeepsCapacity}
 use Rattle.ti_slots.specs.declared.slots.Slot.{Slot}
 use Rattle.ti_slots.specs.declared.slots.Slots.{Slots}
@@ -75,8 +75,10 @@ pub record IsAgain (old new : Slots) : Type 0 where
 
 -- a change is undone by its opposite, and each block that had room before has it again
 pub record ChangesAreUndone : Type 0 where
-  pub put : (a b c : Slots) (at : ℕ) (slot gone : Slot) (id : ℕ) → at ≤ length a.order.listed → PutsIn a b at slot id → TakesOut b c at gone → (gone ≡ slot) × IsAgain a c
-  pub taken : (a b c d : Slots) (at : ℕ) (slot : Slot) (id : ℕ) → (taken : TakesOut a b at slot) → IsAgain b c → PutsIn c d at slot id → (id ≡ taken.id) × IsAgain a d
+  pub put : (a b c : Slots) (at : ℕ) (slot gone : Slot) (id : ℕ) → at ≤ length a.order.listed → PutsIn a b at slot id → TakesOut b c at gone
+      → (gone ≡ slot) × IsAgain a c
+  pub taken : (a b c d : Slots) (at : ℕ) (slot : Slot) (id : ℕ) → (taken : TakesOut a b at slot) → IsAgain b c → PutsIn c d at slot id
+      → (id ≡ taken.id) × IsAgain a d
   pub rooms : (a b : Slots) → IsIndexed a → IsIndexed b → IsAgain a b → KeepsRooms a b
   pub blocks : (a b : Slots) → IsAgain a b → blocks_of b ≡ blocks_of a
   pub texts : (a b : Slots) → IsAgain a b → slot_texts b ≡ slot_texts a

@@ -8,7 +8,7 @@ use Rattle.ti_meaning.specs.Compiled.{EntryState, unresolved, oversized, written
 use Rattle.ti_meaning.specs.Faults.{SourceFault}
 use Rattle.ti_meaning.specs.KeptBlocks.{lasting_faults}
 use Rattle.ti_meaning.specs.ValueTables.{HasTable}
-use Rattle.ti_slots.specs.declared.entries.Entry.{Entry}
+use Rattle.ti_slots.specs.declared.entries.BlockEntry.{BlockEntry}
 use Rattle.ti_slots.specs.declared.slots.KeptFault.{KeptFault}
 use Rattle.ti_slots.specs.declared.slots.Settled.{Settled}
 use Rattle.ti_slots.specs.declared.slots.State.{State}
@@ -27,7 +27,7 @@ table_of (s.TooLarge table) = Some table
 table_of (s.Compiled entry) = Some entry.table
 
 -- the entry, where the block has one
-abbrev pub slot_entry : State → Option Entry
+abbrev pub slot_entry : State → Option BlockEntry
 slot_entry s.Unresolved = None
 slot_entry (s.TooLarge table) = None
 slot_entry (s.Compiled entry) = Some entry

@@ -9,7 +9,7 @@ use ti_compiled::{Image, Table};
 
 /// The entry of a block, as term(5) lays it out, and the values that it has.
 #[derive(Drop)]
-pub struct Entry {
+pub struct BlockEntry {
     /// The values.
     pub table: Table,
     /// The entry.

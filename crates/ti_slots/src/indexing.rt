@@ -1,6 +1,6 @@
 // The index of names as a block comes or goes.
 ghost use Rattle.std.specs.Prelude.{◌≡◌, ℕ, List, OnOk, true};
-ghost use Rattle.ti_index.specs.Labels.{Has};
+ghost use Rattle.ti_text.specs.Lists.{Has};
 ghost use Rattle.ti_index.specs.Names.{holders_at, users_at, HasHolderRoom, HasUserRoom};
 ghost use Rattle.ti_slots.specs.inside.Indexing.{is_name_of, is_used_by, AddsId, Forgets, HasRoomAt, IsGrown, IsPart, Removes};
 

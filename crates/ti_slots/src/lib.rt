@@ -15,6 +15,6 @@ mod indexing;
 mod laws;
 mod slots;
 
-pub use entries::Entry;
+pub use entries::BlockEntry;
 pub use laws::changes_are_undone;
 pub use slots::{KeptFault, Settled, Slot, Slots, State, copy_detail};

@@ -4,7 +4,7 @@ ghost use Rattle.std.specs.Rc.{rc_slice_items};
 ghost use Rattle.ti_meaning.specs.Owner.{owner};
 ghost use Rattle.ti_slots.specs.Slots.{blocks_of, slot_at, IsIndexed, IsOwnerId};
 
-use crate::entries::Entry;
+use crate::entries::BlockEntry;
 use std::alloc::{AllocError, Global};
 use std::rc::RcSlice;
 use ti_compiled::Table;
@@ -41,14 +41,14 @@ pub enum State {
     /// It resolves to these values, and its entry is over the limit.
     TooLarge(Table),
     /// It resolves, and this is its entry.
-    Compiled(Entry),
+    Compiled(BlockEntry),
 }
 
 impl State {
     ghost use Rattle.ti_slots.specs.Settled.{slot_entry};
 
     /// The entry, where the block has one.
-    pub fn entry(&self) -> Option<&Entry>
+    pub fn entry(&self) -> Option<&BlockEntry>
         ensures { option_map (λ entry. entry.now) result ≡ slot_entry self.now }
     {
         match self {

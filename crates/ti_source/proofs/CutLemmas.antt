@@ -4,18 +4,10 @@ use Rattle.std.specs.List.{concat}
 use Rattle.std.proofs.lemmas.Bool.{cases_Bool, and_parts, and_from, eqb-true, eq-eqb}
 use Rattle.std.proofs.lemmas.List.{append-nil}
 use Rattle.std.proofs.lemmas.List.Elements.{All-nil, All-cons}
-use Rattle.std.proofs.lemmas.List.Sums.{sum_by-append}
-use Rattle.ti_source.specs.Lines.{LinesAdd}
+use Rattle.ti_text.proofs.Texts.{last_byte-append}
 use Rattle.ti_source.specs.Cutting.{last_byte, HasNoHead, HasOneHead, AreBlocks, Cut, OneBlock, EachHasCut, IsOnlyCut, BlocksAreSingle, BlocksAreSingleOnceEnded}
 use Rattle.ti_source.specs.inside.Cutting.{front_of, blocks_from_head}
 use Rattle.ti_source.specs.Heads.{begins_head, is_head}
-
-pub lines_add : LinesAdd
-lines_add a b = sum_by-append (λ x. cond (x == 10) 1 0) a b
-
-pub last_byte-append : (before : ℕ) (s t : List ℕ) → last_byte before (s ++ t) ≡ last_byte (last_byte before s) t
-last_byte-append before [] t = refl
-last_byte-append before (x ∷ xs) t = last_byte-append x xs t
 
 -- a head line begins where a newline stands before a byte that may begin one
 pub is_head_from : (before x : ℕ) → before ≡ 10 → begins_head x ≡ true → is_head before x ≡ true

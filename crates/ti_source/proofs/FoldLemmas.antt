@@ -3,8 +3,8 @@ use Rattle.std.proofs.Common.{◌≡◌, ℕ, zero, suc, ◌+◌, ◌-◌, ◌<�
 use Rattle.std.proofs.lemmas.Bool.{cases_Bool, and_parts, and_right, eqb-true}
 use Rattle.std.proofs.lemmas.List.{take_rest, drop-drop}
 use Rattle.memchr.specs.Find.{IsFirstByte, is_byte}
-use Rattle.ti_source.specs.WhiteSpace.{is_white_space}
-use Rattle.ti_source.specs.Folding.{Placed, bytes_on_lines, in_comment, without_comments, without_breaks, folding_of}
+use Rattle.ti_text.specs.WhiteSpace.{is_white_space}
+use Rattle.ti_source.specs.Folding.{PlacedByte, bytes_on_lines, in_comment, without_comments, without_breaks, folding_of}
 use Rattle.ti_source.specs.declared.items.Taken.{Taken}
 use Rattle.ti_source.specs.inside.Folding.{after_line, SkipsWhiteSpace, skips_byte}
 use Rattle.ti_source.specs.inside.Items.{after_field, on_line, PassesRun, takes_no_byte, takes_byte, IsWholeItem, TakesWholeItem}
@@ -14,7 +14,7 @@ length-placed : (line : ℕ) (s : List ℕ) → length (bytes_on_lines line s) �
 length-placed line [] = refl
 length-placed line (b ∷ bs) = omega (arith, length-placed (cond (b == 10) (line + 1) line) bs)
 
-length-without_comments : (comment : Bool) (before : ℕ) (s : List Placed) → length (without_comments comment before s) ≤ length s
+length-without_comments : (comment : Bool) (before : ℕ) (s : List PlacedByte) → length (without_comments comment before s) ≤ length s
 length-without_comments comment before [] = omega arith
 length-without_comments comment before (x ∷ xs) =
     let kept = length-without_comments false x.0 xs in
@@ -24,7 +24,7 @@ length-without_comments comment before (x ∷ xs) =
       | false ↦ omega arith
     ]
 
-length-joined : (joining : Bool) (s : List Placed) → length (without_breaks joining s) ≤ length s
+length-joined : (joining : Bool) (s : List PlacedByte) → length (without_breaks joining s) ≤ length s
 length-joined joining [] = omega arith
 length-joined joining (x ∷ xs) =
     let kept = length-joined false xs in
@@ -38,7 +38,7 @@ pub length-folded : (block : List ℕ) → length (folding_of block) ≤ length 
 length-folded block =
     omega (arith, length-joined false (without_comments false 10 (bytes_on_lines 1 block)), length-without_comments false 10 (bytes_on_lines 1 block), length-placed 1 block)
 
-pub length-after_field : (s : List Placed) → length (after_field s) ≤ length s
+pub length-after_field : (s : List PlacedByte) → length (after_field s) ≤ length s
 length-after_field [] = omega arith
 length-after_field (x ∷ xs) =
     let later = length-after_field xs in
@@ -47,23 +47,23 @@ length-after_field (x ∷ xs) =
 -- ---- a run without a newline folds to itself
 
 -- which byte stands before a text does not matter where neither is a newline
-before_any : (one other : ℕ) (s : List Placed) → (one == 10) ≡ false → (other == 10) ≡ false → without_comments false one s ≡ without_comments false other s
+before_any : (one other : ℕ) (s : List PlacedByte) → (one == 10) ≡ false → (other == 10) ≡ false → without_comments false one s ≡ without_comments false other s
 before_any one other [] e f = refl
 before_any one other (x ∷ xs) e f = rw (e, f) refl
 
-abbrev straight : (line before : ℕ) → List ℕ → List Placed
+abbrev straight : (line before : ℕ) → List ℕ → List PlacedByte
 straight line before s = without_breaks false (without_comments false before (bytes_on_lines line s))
 
 -- one byte that is no newline
 straight-byte : (line before x : ℕ) (rest : List ℕ) → (before == 10) ≡ false → (x == 10) ≡ false → straight line before (x ∷ rest) ≡ (x, line) ∷ straight line before rest
-straight-byte line before x rest e f = rw (e, f) (ap (λ (s : List Placed). (x, line) ∷ without_breaks false s) (before_any x before (bytes_on_lines line rest) f e))
+straight-byte line before x rest e f = rw (e, f) (ap (λ (s : List PlacedByte). (x, line) ∷ without_breaks false s) (before_any x before (bytes_on_lines line rest) f e))
 
 straight-run : {by next : Taken} {before last : ℕ} {run : List ℕ} (line at : ℕ) (rest : List ℕ) → (at == 10) ≡ false → PassesRun by before run next last
     → straight line at (run ++ rest) ≡ on_line line run ++ straight line at rest
 straight-run line at rest e takes_no_byte = refl
 straight-run line at rest e (takes_byte {run = run} x goes plain inner) =
     rw (append_assoc run (x ∷ []) rest, on_line-append line run (x ∷ []), append_assoc (on_line line run) ((x, line) ∷ []) (straight line at rest))
-    (straight-run line at (x ∷ rest) e goes ∙ ap (λ (s : List Placed). on_line line run ++ s) (straight-byte line at x rest e plain))
+    (straight-run line at (x ∷ rest) e goes ∙ ap (λ (s : List PlacedByte). on_line line run ++ s) (straight-byte line at x rest e plain))
 
 -- the view of a folded text, of which a run is taken
 pub run_taken : {by next : Taken} {before last : ℕ} {run : List ℕ} (joining : Bool) (at line : ℕ) (text rest : List ℕ)
@@ -76,11 +76,11 @@ item_taken : {by next : Taken} {before last : ℕ} {item : List ℕ} (joining : 
     → joining ≡ false → (at == 10) ≡ false → text ≡ item ++ 44 ∷ rest → PassesRun by before item next last
     → without_breaks joining (without_comments false at (bytes_on_lines line text)) ≡ on_line line item ++ (44, line) ∷ without_breaks joining (without_comments false at (bytes_on_lines line rest))
 item_taken {item = item} joining at line text rest ej e whole goes =
-    rw (ej, whole) (straight-run line at (44 ∷ rest) e goes ∙ ap (λ (s : List Placed). on_line line item ++ s) (straight-byte line at 44 rest e refl))
+    rw (ej, whole) (straight-run line at (44 ∷ rest) e goes ∙ ap (λ (s : List PlacedByte). on_line line item ++ s) (straight-byte line at 44 rest e refl))
 
 -- ---- one byte at the front of a text that is read
 
-abbrev folded : (joining : Bool) (before line : ℕ) → List ℕ → List Placed
+abbrev folded : (joining : Bool) (before line : ℕ) → List ℕ → List PlacedByte
 folded joining before line text = without_breaks joining (without_comments false before (bytes_on_lines line text))
 
 not_comment : (before x : ℕ) → (before == 10 && x == 35) ≡ false → in_comment false before x ≡ false
@@ -102,25 +102,25 @@ white_is x w =
       | inr f ↦ rw (eqb-true x 9 (rw f at w)) (refl, refl)
     ]
 
-joined_white : (x : Placed) (t : List Placed) → (x.0 == 10) ≡ false → is_white_space x.0 ≡ true → without_breaks true (x ∷ t) ≡ without_breaks true t
+joined_white : (x : PlacedByte) (t : List PlacedByte) → (x.0 == 10) ≡ false → is_white_space x.0 ≡ true → without_breaks true (x ∷ t) ≡ without_breaks true t
 joined_white x t n w = rw (n, w) refl
 
-kept_byte : (x : Placed) (t : List Placed) → (x.0 == 10) ≡ false → without_breaks false (x ∷ t) ≡ x ∷ without_breaks false t
+kept_byte : (x : PlacedByte) (t : List PlacedByte) → (x.0 == 10) ≡ false → without_breaks false (x ∷ t) ≡ x ∷ without_breaks false t
 kept_byte x t n = rw n refl
 
-break_ends : (x : Placed) (t : List Placed) → (x.0 == 10) ≡ false → is_white_space x.0 ≡ false → without_breaks true (x ∷ t) ≡ without_breaks false (x ∷ t)
+break_ends : (x : PlacedByte) (t : List PlacedByte) → (x.0 == 10) ≡ false → is_white_space x.0 ≡ false → without_breaks true (x ∷ t) ≡ without_breaks false (x ∷ t)
 break_ends x t n v = rw (n, v) refl
 
-pub skips-white : {old : List Placed} (joining : Bool) (before line x : ℕ) (rest : List ℕ) → is_white_space x ≡ true
+pub skips-white : {old : List PlacedByte} (joining : Bool) (before line x : ℕ) (rest : List ℕ) → is_white_space x ≡ true
     → SkipsWhiteSpace old (folded joining before line (x ∷ rest)) → SkipsWhiteSpace old (folded joining x line rest)
 skips-white {old = old} true before line x rest w s =
     let other = white_is x w in
     let left = placed_first true before line x rest (and_right (before == 10) _ other.1) other.0 ∙ joined_white (x, line) (without_comments false x (bytes_on_lines line rest)) other.0 w in
-    subst (λ (t : List Placed). SkipsWhiteSpace old t) left s
+    subst (λ (t : List PlacedByte). SkipsWhiteSpace old t) left s
 skips-white {old = old} false before line x rest w s =
     let other = white_is x w in
     let left = placed_first false before line x rest (and_right (before == 10) _ other.1) other.0 ∙ kept_byte (x, line) (without_comments false x (bytes_on_lines line rest)) other.0 in
-    skips_byte (x, line) (subst (λ (t : List Placed). SkipsWhiteSpace old t) left s) w
+    skips_byte (x, line) (subst (λ (t : List PlacedByte). SkipsWhiteSpace old t) left s) w
 
 -- a byte that is no white space and begins no comment ends a break
 pub folded-visible : (joining : Bool) (before line x : ℕ) (rest : List ℕ) → (before == 10 && x == 35) ≡ false → (x == 10) ≡ false → is_white_space x ≡ false
@@ -131,7 +131,7 @@ folded-visible true before line x rest c n v =
 
 -- ---- a comment, up to the end of its line
 
-line_begins : (s : List Placed) → without_comments true 10 s ≡ without_comments false 10 s
+line_begins : (s : List PlacedByte) → without_comments true 10 s ≡ without_comments false 10 s
 line_begins [] = refl
 line_begins (x ∷ xs) = refl
 
@@ -148,7 +148,7 @@ pub folded-comment : (joining : Bool) (before line x : ℕ) (rest : List ℕ) �
     → folded joining before line (x ∷ rest) ≡ folded joining before (line + 1) (after_line rest)
 folded-comment joining before line x rest t =
     let both = and_parts (before == 10) (x == 35) t in
-    rw (eqb-true before 10 both.0, eqb-true x 35 both.1) (ap (λ (s : List Placed). without_breaks joining s) (comment_left 35 line rest refl))
+    rw (eqb-true before 10 both.0, eqb-true x 35 both.1) (ap (λ (s : List PlacedByte). without_breaks joining s) (comment_left 35 line rest refl))
 
 pub length-after_line : (s : List ℕ) → length (after_line s) ≤ length s
 length-after_line [] = omega arith

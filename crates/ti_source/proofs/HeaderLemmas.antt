@@ -110,11 +110,11 @@ parts_are_computed field parts p =
 
 -- ---- the reading of a field
 Any-from_false : {A : Type 0} (test : A → Bool) (P : A → Type 0) → ((x : A) → test x ≡ false → P x) → (xs : List A) → list_all test xs ≡ false → Any P xs
-Any-from_false test P tells [] e = (let clash : true ≡ false = e in cc)
-Any-from_false test P tells (x ∷ xs) e =
+Any-from_false test P holds [] e = (let clash : true ≡ false = e in cc)
+Any-from_false test P holds (x ∷ xs) e =
     elim (and_cases (test x) (list_all test xs) e) [
-      | inl f ↦ (0, x, omega arith, refl, tells x f)
-      | inr f ↦ let later = Any-from_false test P tells xs f in (suc later.0, later.1, omega (arith, later.2), later.3, later.4)
+      | inl f ↦ (0, x, omega arith, refl, holds x f)
+      | inr f ↦ let later = Any-from_false test P holds xs f in (suc later.0, later.1, omega (arith, later.2), later.3, later.4)
     ]
 
 fails : {P : Type 0} (r : Bool) → Decides r P → r ≡ false → P → ⊥

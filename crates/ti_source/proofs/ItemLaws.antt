@@ -4,9 +4,10 @@ use Rattle.std.proofs.lemmas.List.{append-nil}
 use Rattle.std.proofs.lemmas.Bool.{cases_Bool, eqb-true, eq-eqb, ne_eqb, and_parts, false≢true}
 use Rattle.std.proofs.lemmas.Bool.Decides.{eqb_tells}
 use Rattle.ti_source.specs.declared.items.Taken.TheVariants as taken
-use Rattle.ti_source.specs.WhiteSpace.{is_white_space, without_trailing_space}
+use Rattle.ti_text.specs.WhiteSpace.{is_white_space}
+use Rattle.ti_source.specs.WhiteSpace.{without_trailing_space}
 use Rattle.ti_source.specs.Cutting.{last_byte}
-use Rattle.ti_source.specs.Folding.{Placed}
+use Rattle.ti_source.specs.Folding.{PlacedByte}
 use Rattle.ti_source.specs.Items.{HasNoComma, Begins, all_field, field_and_rest, takes, stands_alone, AreItems, last_item, item_ends, pair_of_bytes, single_byte, is_mark, HasNoMark, IsWhite, IsEnabled, States, empty_item, disabled_item, number_item, text_item, cancel_item, flag_item, Statement, claims_flag, claims_number, claims_text, claims_cancel}
 use Rattle.ti_source.specs.inside.Items.{field_of, after_field, taken_after, cuts, with_first, items_of, before_mark, from_mark, without_last, plain_statement, statement_with_value, statement_by_mark, statement_of}
 use Rattle.ti_source.proofs.ItemLemmas.{items_of-plain}
@@ -22,11 +23,11 @@ not_not false e = absurd (false≢true e)
 
 -- ---- the names field
 
-begins-more : (x : Placed) (s f r : List Placed) → (x.0 == 44) ≡ false → Begins s f r → Begins (x ∷ s) (x ∷ f) r
+begins-more : (x : PlacedByte) (s f r : List PlacedByte) → (x.0 == 44) ≡ false → Begins s f r → Begins (x ∷ s) (x ∷ f) r
 begins-more x _ _ _ h (all_field field none) = all_field (x ∷ field) (h, none)
 begins-more x _ _ _ h (field_and_rest field rest line none) = field_and_rest (x ∷ field) rest line (h, none)
 
-pub has_field : (s : List Placed) → Begins s (field_of s) (after_field s)
+pub has_field : (s : List PlacedByte) → Begins s (field_of s) (after_field s)
 has_field [] = all_field [] tt
 has_field (x ∷ xs) =
     elim (cases_Bool (x.0 == 44)) [
@@ -36,15 +37,15 @@ has_field (x ∷ xs) =
       | inr f ↦ rw f (begins-more x xs (field_of xs) (after_field xs) f (has_field xs))
     ]
 
-all_before : (field : List Placed) → HasNoComma field → (field ≡ field_of field) × ([] ≡ after_field field)
+all_before : (field : List PlacedByte) → HasNoComma field → (field ≡ field_of field) × ([] ≡ after_field field)
 all_before [] none = (refl, refl)
 all_before (x ∷ xs) none = let later = all_before xs none.1 in rw none.0 (ap (λ s. x ∷ s) later.0, later.1)
 
-before_comma : (field rest : List Placed) (line : ℕ) → HasNoComma field → (field ≡ field_of (field ++ (44, line) ∷ rest)) × (rest ≡ after_field (field ++ (44, line) ∷ rest))
+before_comma : (field rest : List PlacedByte) (line : ℕ) → HasNoComma field → (field ≡ field_of (field ++ (44, line) ∷ rest)) × (rest ≡ after_field (field ++ (44, line) ∷ rest))
 before_comma [] rest line none = (refl, refl)
 before_comma (x ∷ xs) rest line none = let later = before_comma xs rest line none.1 in rw none.0 (ap (λ s. x ∷ s) later.0, later.1)
 
-pub one_field : (s f r : List Placed) → Begins s f r → (f ≡ field_of s) × (r ≡ after_field s)
+pub one_field : (s f r : List PlacedByte) → Begins s f r → (f ≡ field_of s) × (r ≡ after_field s)
 one_field _ _ _ (all_field field none) = all_before field none
 one_field _ _ _ (field_and_rest field rest line none) = before_comma field rest line none
 
@@ -63,7 +64,7 @@ taken_after-takes before x y t =
           rw (eqb-true x 94 caret.0, caret.1) (refl, no_comma, refl)
     ]
 
-items_of-pair : (before : ℕ) (x y : Placed) (text : List Placed) → takes before x.0 y.0 ≡ true
+items_of-pair : (before : ℕ) (x y : PlacedByte) (text : List PlacedByte) → takes before x.0 y.0 ≡ true
     → items_of taken.Nothing before (x ∷ y ∷ text) ≡ with_first x (with_first y (items_of taken.Nothing y.0 text))
 items_of-pair before x y text t =
     let facts = taken_after-takes before x.0 y.0 t in
@@ -71,7 +72,7 @@ items_of-pair before x y text t =
     ∙ ap (with_first x) (items_of-plain (taken_after taken.Nothing before x.0) x.0 y text facts.1 ∙ ap (λ by. with_first y (items_of by y.0 text)) facts.2)
 
 -- a byte that takes nothing stands by itself
-alone-same : (before x : ℕ) (text : List Placed) → stands_alone before x text ≡ true → items_of (taken_after taken.Nothing before x) x text ≡ items_of taken.Nothing x text
+alone-same : (before x : ℕ) (text : List PlacedByte) → stands_alone before x text ≡ true → items_of (taken_after taken.Nothing before x) x text ≡ items_of taken.Nothing x text
 alone-same before x [] alone = refl
 alone-same before x (y ∷ ys) alone =
     elim (cases_Bool (x == 92)) [
@@ -83,36 +84,36 @@ alone-same before x (y ∷ ys) alone =
           ]
     ]
 
-items_of-alone : (before : ℕ) (x : Placed) (text : List Placed) → x.0 ≢ 44 → stands_alone before x.0 text ≡ true
+items_of-alone : (before : ℕ) (x : PlacedByte) (text : List PlacedByte) → x.0 ≢ 44 → stands_alone before x.0 text ≡ true
     → items_of taken.Nothing before (x ∷ text) ≡ with_first x (items_of taken.Nothing x.0 text)
 items_of-alone before x text h alone = items_of-plain taken.Nothing before x text (ne_eqb x.0 44 h) ∙ ap (with_first x) (alone-same before x.0 text alone)
 
 -- there is an item in every text
-AreItems-cons : (before : ℕ) (text : List Placed) (all : List (List Placed)) → AreItems before text all → (item : List Placed) × (items : List (List Placed)) × (all ≡ item ∷ items)
+AreItems-cons : (before : ℕ) (text : List PlacedByte) (all : List (List PlacedByte)) → AreItems before text all → (item : List PlacedByte) × (items : List (List PlacedByte)) × (all ≡ item ∷ items)
 AreItems-cons _ _ _ (last_item _) = ([], [], refl)
 AreItems-cons _ _ _ (item_ends _ _ _ items _) = ([], items, refl)
 AreItems-cons _ _ _ (pair_of_bytes _ x y _ item items _ _) = (x ∷ y ∷ item, items, refl)
 AreItems-cons _ _ _ (single_byte _ x _ item items _ _ _) = (x ∷ item, items, refl)
 
-more_pair : (before : ℕ) (x y : Placed) (text : List Placed) (all : List (List Placed)) → takes before x.0 y.0 ≡ true → AreItems y.0 text all
+more_pair : (before : ℕ) (x y : PlacedByte) (text : List PlacedByte) (all : List (List PlacedByte)) → takes before x.0 y.0 ≡ true → AreItems y.0 text all
     → AreItems before (x ∷ y ∷ text) (with_first x (with_first y all))
 more_pair before x y text all t are =
     let c = AreItems-cons y.0 text all are in
     rw c.2 (pair_of_bytes before x y text c.0 c.1 t (rw c.2 at are))
 
-more_single : (before : ℕ) (x : Placed) (text : List Placed) (all : List (List Placed)) → x.0 ≢ 44 → stands_alone before x.0 text ≡ true → AreItems x.0 text all
+more_single : (before : ℕ) (x : PlacedByte) (text : List PlacedByte) (all : List (List PlacedByte)) → x.0 ≢ 44 → stands_alone before x.0 text ≡ true → AreItems x.0 text all
     → AreItems before (x ∷ text) (with_first x all)
 more_single before x text all h alone are =
     let c = AreItems-cons x.0 text all are in
     rw c.2 (single_byte before x text c.0 c.1 h alone (rw c.2 at are))
 
-more_cut : (before : ℕ) (x : Placed) (text : List Placed) → x.0 ≡ 44 → AreItems 44 text (items_of taken.Nothing 44 text) → AreItems before (x ∷ text) (items_of taken.Nothing before (x ∷ text))
+more_cut : (before : ℕ) (x : PlacedByte) (text : List PlacedByte) → x.0 ≡ 44 → AreItems 44 text (items_of taken.Nothing 44 text) → AreItems before (x ∷ text) (items_of taken.Nothing before (x ∷ text))
 more_cut before x text e are =
     let items = items_of taken.Nothing 44 text in
     let P : ℕ → Type 0 = λ b. AreItems before ((b, x.1) ∷ text) ([] ∷ items) in
     rw (eq-eqb x.0 44 e) (subst P (sym e) (item_ends before x.1 text items are))
 
-pub has_items : (before : ℕ) (text : List Placed) → AreItems before text (items_of taken.Nothing before text)
+pub has_items : (before : ℕ) (text : List PlacedByte) → AreItems before text (items_of taken.Nothing before text)
 has_items before [] = last_item before
 has_items before (x ∷ []) =
     elim (eqb_tells x.0 44) [
@@ -131,7 +132,7 @@ has_items before (x ∷ y ∷ text) =
           ]
     ]
 
-pub one_items : (before : ℕ) (text : List Placed) (items : List (List Placed)) → AreItems before text items → items ≡ items_of taken.Nothing before text
+pub one_items : (before : ℕ) (text : List PlacedByte) (items : List (List PlacedByte)) → AreItems before text items → items ≡ items_of taken.Nothing before text
 one_items _ _ _ (last_item before) = refl
 one_items _ _ _ (item_ends before line text items are) = ap (λ later. [] ∷ later) (one_items 44 text items are)
 one_items _ _ _ (pair_of_bytes before x y text item items t are) = ap (λ all. with_first x (with_first y all)) (one_items y.0 text (item ∷ items) are) ∙ sym (items_of-pair before x y text t)

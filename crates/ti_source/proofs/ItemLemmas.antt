@@ -7,23 +7,23 @@ use Rattle.memchr.specs.Find.{NoneBefore, is_byte2}
 use Rattle.std.proofs.lemmas.List.{append-nil, length-append, length-take-le}
 use Rattle.ti_source.specs.declared.items.Taken.{Taken}
 use Rattle.ti_source.specs.declared.items.Taken.TheVariants as taken
-use Rattle.ti_source.specs.WhiteSpace.{is_white_space}
-use Rattle.ti_source.specs.Folding.{Placed}
-use Rattle.ti_source.specs.Items.{bytes, Piece, item_piece, without_front, line_of, piece_of}
+use Rattle.ti_text.specs.WhiteSpace.{is_white_space}
+use Rattle.ti_source.specs.Folding.{PlacedByte}
+use Rattle.ti_source.specs.Items.{bytes, ItemPiece, item_piece, without_front, line_of, piece_of}
 use Rattle.ti_source.specs.inside.Folding.{SkipsWhiteSpace, skips_nothing, skips_byte}
 use Rattle.ti_source.specs.inside.Items.{taken_after, cuts, with_first, with_text_before, items_of, with_byte, on_line, PassesRun, takes_no_byte, takes_byte, begins_visible, IsWholeItem, TakesWholeItem, ReadsSoFar, TakesItem}
 
-pub items_of-plain : (by : Taken) (before : ℕ) (x : Placed) (xs : List Placed) → cuts by x.0 ≡ false → items_of by before (x ∷ xs) ≡ with_first x (items_of (taken_after by before x.0) x.0 xs)
+pub items_of-plain : (by : Taken) (before : ℕ) (x : PlacedByte) (xs : List PlacedByte) → cuts by x.0 ≡ false → items_of by before (x ∷ xs) ≡ with_first x (items_of (taken_after by before x.0) x.0 xs)
 items_of-plain by before x xs f = rw f
 
-items_of-cut : (by : Taken) (before : ℕ) (x : Placed) (xs : List Placed) → cuts by x.0 ≡ true → items_of by before (x ∷ xs) ≡ [] ∷ items_of taken.Nothing 44 xs
+items_of-cut : (by : Taken) (before : ℕ) (x : PlacedByte) (xs : List PlacedByte) → cuts by x.0 ≡ true → items_of by before (x ∷ xs) ≡ [] ∷ items_of taken.Nothing 44 xs
 items_of-cut by before x xs t = rw t
 
-with_front-with_first : (x : Placed) (items : List (List Placed)) → with_first x items ≡ with_text_before [] (with_first x items)
+with_front-with_first : (x : PlacedByte) (items : List (List PlacedByte)) → with_first x items ≡ with_text_before [] (with_first x items)
 with_front-with_first x [] = refl
 with_front-with_first x (i ∷ is) = refl
 
-with_front-nil : (by : Taken) (before : ℕ) (source : List Placed) → items_of by before source ≡ with_text_before [] (items_of by before source)
+with_front-nil : (by : Taken) (before : ℕ) (source : List PlacedByte) → items_of by before source ≡ with_text_before [] (items_of by before source)
 with_front-nil by before [] = refl
 with_front-nil by before (x ∷ xs) =
     let later = items_of (taken_after by before x.0) x.0 xs in
@@ -33,25 +33,25 @@ with_front-nil by before (x ∷ xs) =
       | false ↦ with_front-with_first x later
     ]
 
-with_front-push : (seen : List Placed) (x : Placed) (items : List (List Placed)) → with_text_before seen (with_first x items) ≡ with_text_before (seen ++ x ∷ []) items
+with_front-push : (seen : List PlacedByte) (x : PlacedByte) (items : List (List PlacedByte)) → with_text_before seen (with_first x items) ≡ with_text_before (seen ++ x ∷ []) items
 with_front-push seen x [] = refl
 with_front-push seen x (i ∷ is) = ap (λ item. item ∷ is) (sym (append_assoc seen (x ∷ []) i))
 
 -- an item with one more byte shows one more byte
-without_front-push : (s : List Placed) (x : Placed) → (without_front s ≡ [] → without_front (s ++ x ∷ []) ≡ without_front (x ∷ [])) × ((y : Placed) (ys : List Placed) → without_front s ≡ y ∷ ys → without_front (s ++ x ∷ []) ≡ y ∷ (ys ++ x ∷ []))
+without_front-push : (s : List PlacedByte) (x : PlacedByte) → (without_front s ≡ [] → without_front (s ++ x ∷ []) ≡ without_front (x ∷ [])) × ((y : PlacedByte) (ys : List PlacedByte) → without_front s ≡ y ∷ ys → without_front (s ++ x ∷ []) ≡ y ∷ (ys ++ x ∷ []))
 without_front-push [] x = (λ e. refl, λ y ys e. cc)
 without_front-push (z ∷ zs) x =
     elim (is_white_space z.0) as (λ b. (cond b (without_front zs) (z ∷ zs) ≡ [] → cond b (without_front (zs ++ x ∷ [])) (z ∷ (zs ++ x ∷ [])) ≡ without_front (x ∷ []))
-    × ((y : Placed) (ys : List Placed) → cond b (without_front zs) (z ∷ zs) ≡ y ∷ ys → cond b (without_front (zs ++ x ∷ [])) (z ∷ (zs ++ x ∷ [])) ≡ y ∷ (ys ++ x ∷ []))) [
+    × ((y : PlacedByte) (ys : List PlacedByte) → cond b (without_front zs) (z ∷ zs) ≡ y ∷ ys → cond b (without_front (zs ++ x ∷ [])) (z ∷ (zs ++ x ∷ [])) ≡ y ∷ (ys ++ x ∷ []))) [
       | true ↦ without_front-push zs x
       | false ↦ (λ e. cc, λ y ys e. ap (λ s. s ++ x ∷ []) e)
     ]
 
-bytes-push : (s : List Placed) (x : Placed) → bytes (s ++ x ∷ []) ≡ bytes s ++ x.0 ∷ []
+bytes-push : (s : List PlacedByte) (x : PlacedByte) → bytes (s ++ x ∷ []) ≡ bytes s ++ x.0 ∷ []
 bytes-push [] x = refl
 bytes-push (y ∷ ys) x = ap (λ s. y.0 ∷ s) (bytes-push ys x)
 
-piece_of-push-by : (seen : List Placed) (x : Placed) (shown : List Placed) → without_front seen ≡ shown → piece_of (seen ++ x ∷ []) ≡ with_byte (item_piece (bytes shown) (line_of shown)) x
+piece_of-push-by : (seen : List PlacedByte) (x : PlacedByte) (shown : List PlacedByte) → without_front seen ≡ shown → piece_of (seen ++ x ∷ []) ≡ with_byte (item_piece (bytes shown) (line_of shown)) x
 piece_of-push-by seen x [] e =
     rw ((without_front-push seen x).0 e)
     (elim (is_white_space x.0) as (λ b. item_piece (bytes (cond b [] (x ∷ []))) (line_of (cond b [] (x ∷ []))) ≡ cond b (item_piece [] 0) (item_piece (x.0 ∷ []) x.1)) [ true ↦ refl | false ↦ refl ])
@@ -59,13 +59,13 @@ piece_of-push-by seen x (y ∷ ys) e =
     rw ((without_front-push seen x).1 y ys e)
     (ap (λ text. item_piece (y.0 ∷ text) y.1) (bytes-push ys x))
 
-pub piece_of-push : (seen : List Placed) (x : Placed) → piece_of (seen ++ x ∷ []) ≡ with_byte (piece_of seen) x
+pub piece_of-push : (seen : List PlacedByte) (x : PlacedByte) → piece_of (seen ++ x ∷ []) ≡ with_byte (piece_of seen) x
 piece_of-push seen x = piece_of-push-by seen x (without_front seen) refl
 
-pub so_far-start : (start : List Placed) → ReadsSoFar start taken.Nothing 44 start (item_piece [] 0)
+pub so_far-start : (start : List PlacedByte) → ReadsSoFar start taken.Nothing 44 start (item_piece [] 0)
 so_far-start start = record { seen = []; is_piece = refl; items = with_front-nil taken.Nothing 44 start; shorter = omega arith }
 
-pub so_far-more : (start : List Placed) (by : Taken) (before : ℕ) (x : Placed) (source : List Placed) (shown : Piece)
+pub so_far-more : (start : List PlacedByte) (by : Taken) (before : ℕ) (x : PlacedByte) (source : List PlacedByte) (shown : ItemPiece)
     → ReadsSoFar start by before (x ∷ source) shown → cuts by x.0 ≡ false → ReadsSoFar start (taken_after by before x.0) x.0 source (with_byte shown x)
 so_far-more start by before x source shown r f = record {
   seen = r.seen ++ x ∷ [];
@@ -75,28 +75,28 @@ so_far-more start by before x source shown r f = record {
 }
 
 -- a text that has a byte, with one more
-pushes : (text : List ℕ) (line : ℕ) (x : Placed) → 0 < length text → with_byte (item_piece text line) x ≡ item_piece (text ++ x.0 ∷ []) line
+pushes : (text : List ℕ) (line : ℕ) (x : PlacedByte) → 0 < length text → with_byte (item_piece text line) x ≡ item_piece (text ++ x.0 ∷ []) line
 pushes [] line x some = absurd (omega arith)
 pushes (y ∷ ys) line x some = refl
 
 pub on_line-append : (line : ℕ) (run more : List ℕ) → on_line line (run ++ more) ≡ on_line line run ++ on_line line more
 on_line-append line [] more = refl
-on_line-append line (b ∷ bs) more = ap (λ (s : List Placed). (b, line) ∷ s) (on_line-append line bs more)
+on_line-append line (b ∷ bs) more = ap (λ (s : List PlacedByte). (b, line) ∷ s) (on_line-append line bs more)
 
 -- an item whose text has a byte, read over a run
-pub so_far-run : (start : List Placed) {by next : Taken} {before last : ℕ} {run : List ℕ} (line at : ℕ) (source : List Placed) (text : List ℕ)
+pub so_far-run : (start : List PlacedByte) {by next : Taken} {before last : ℕ} {run : List ℕ} (line at : ℕ) (source : List PlacedByte) (text : List ℕ)
     → PassesRun by before run next last → 0 < length text → ReadsSoFar start by before (on_line at run ++ source) (item_piece text line)
     → ReadsSoFar start next last source (item_piece (text ++ run) line)
 so_far-run start line at source text takes_no_byte some r = rw append-nil r
 so_far-run start {run = all} line at source text (takes_byte {by = by} {next = next} {before = before} {last = last} {run = run} x goes plain inner) some r =
     let regrouped : on_line at (run ++ x ∷ []) ++ source ≡ on_line at run ++ ((x, at) ∷ source) =
     rw on_line-append (append_assoc (on_line at run) ((x, at) ∷ []) source) in
-    let earlier = so_far-run start line at ((x, at) ∷ source) text goes some (subst (λ (s : List Placed). ReadsSoFar start by before s (item_piece text line)) regrouped r) in
+    let earlier = so_far-run start line at ((x, at) ∷ source) text goes some (subst (λ (s : List PlacedByte). ReadsSoFar start by before s (item_piece text line)) regrouped r) in
     let longer : with_byte (item_piece (text ++ run) line) (x, at) ≡ item_piece (text ++ (run ++ x ∷ [])) line =
     pushes (text ++ run) line (x, at) (omega (arith, length-append text run)) ∙ ap (λ (t : List ℕ). item_piece t line) (append_assoc text run (x ∷ [])) in
-    subst (λ (shown : Piece). ReadsSoFar start (taken_after next last x) x source shown) longer (so_far-more start next last (x, at) source (item_piece (text ++ run) line) earlier inner)
+    subst (λ (shown : ItemPiece). ReadsSoFar start (taken_after next last x) x source shown) longer (so_far-more start next last (x, at) source (item_piece (text ++ run) line) earlier inner)
 
-pub takes-cut : (start : List Placed) (by : Taken) (before : ℕ) (x : Placed) (source : List Placed) (shown : Piece)
+pub takes-cut : (start : List PlacedByte) (by : Taken) (before : ℕ) (x : PlacedByte) (source : List PlacedByte) (shown : ItemPiece)
     → ReadsSoFar start by before (x ∷ source) shown → cuts by x.0 ≡ true → TakesItem start shown false source
 takes-cut start by before x source shown r t = record {
   item = r.seen;
@@ -105,7 +105,7 @@ takes-cut start by before x source shown r t = record {
   shorter = λ e. omega (arith, r.shorter);
 }
 
-pub takes-last : (start : List Placed) (by : Taken) (before : ℕ) (shown : Piece) → ReadsSoFar start by before [] shown → TakesItem start shown true []
+pub takes-last : (start : List PlacedByte) (by : Taken) (before : ℕ) (shown : ItemPiece) → ReadsSoFar start by before [] shown → TakesItem start shown true []
 takes-last start by before shown r = record {
   item = r.seen;
   is_piece = r.is_piece;
@@ -122,25 +122,25 @@ white_cases x w =
       | inr f ↦ inr (eqb-true x 9 (rw f at w))
     ]
 
-items_of-space : (line : ℕ) (xs : List Placed) → items_of taken.Nothing 44 ((32, line) ∷ xs) ≡ with_first (32, line) (items_of taken.Nothing 44 xs)
+items_of-space : (line : ℕ) (xs : List PlacedByte) → items_of taken.Nothing 44 ((32, line) ∷ xs) ≡ with_first (32, line) (items_of taken.Nothing 44 xs)
 items_of-space line [] = refl
 items_of-space line (x ∷ xs) = refl
 
-items_of-tab : (line : ℕ) (xs : List Placed) → items_of taken.Nothing 44 ((9, line) ∷ xs) ≡ with_first (9, line) (items_of taken.Nothing 44 xs)
+items_of-tab : (line : ℕ) (xs : List PlacedByte) → items_of taken.Nothing 44 ((9, line) ∷ xs) ≡ with_first (9, line) (items_of taken.Nothing 44 xs)
 items_of-tab line [] = refl
 items_of-tab line (x ∷ xs) = refl
 
-items_of-white : (x : Placed) (xs : List Placed) → is_white_space x.0 ≡ true → items_of taken.Nothing 44 (x ∷ xs) ≡ with_first x (items_of taken.Nothing 44 xs)
+items_of-white : (x : PlacedByte) (xs : List PlacedByte) → is_white_space x.0 ≡ true → items_of taken.Nothing 44 (x ∷ xs) ≡ with_first x (items_of taken.Nothing 44 xs)
 items_of-white x xs w =
     elim (white_cases x.0 w) [
       | inl e ↦ subst (λ b. items_of taken.Nothing 44 ((b, x.1) ∷ xs) ≡ with_first (b, x.1) (items_of taken.Nothing 44 xs)) (sym e) (items_of-space x.1 xs)
       | inr e ↦ subst (λ b. items_of taken.Nothing 44 ((b, x.1) ∷ xs) ≡ with_first (b, x.1) (items_of taken.Nothing 44 xs)) (sym e) (items_of-tab x.1 xs)
     ]
 
-white_unseen : (x : Placed) → is_white_space x.0 ≡ true → with_byte (item_piece [] 0) x ≡ item_piece [] 0
+white_unseen : (x : PlacedByte) → is_white_space x.0 ≡ true → with_byte (item_piece [] 0) x ≡ item_piece [] 0
 white_unseen x w = rw w refl
 
-pub so_far-white : (start : List Placed) {old new : List Placed} → SkipsWhiteSpace old new
+pub so_far-white : (start : List PlacedByte) {old new : List PlacedByte} → SkipsWhiteSpace old new
     → ReadsSoFar start taken.Nothing 44 old (item_piece [] 0) → ReadsSoFar start taken.Nothing 44 new (item_piece [] 0)
 so_far-white start skips_nothing r = r
 so_far-white start (skips_byte {new = new} x skips w) r =
@@ -173,25 +173,25 @@ visible_more line x [] v =
 visible_more line x (y ∷ ys) v = refl
 
 -- an item of which nothing shows, read over a run that begins with no white space
-so_far-item : (start : List Placed) {by next : Taken} {before last : ℕ} {run : List ℕ} (line : ℕ) (source : List Placed)
+so_far-item : (start : List PlacedByte) {by next : Taken} {before last : ℕ} {run : List ℕ} (line : ℕ) (source : List PlacedByte)
     → PassesRun by before run next last → begins_visible run ≡ true → ReadsSoFar start by before (on_line line run ++ source) (item_piece [] 0)
     → ReadsSoFar start next last source (item_piece run (line_at line run))
 so_far-item start line source takes_no_byte v r = r
 so_far-item start line source (takes_byte {by = by} {next = next} {before = before} {last = last} {run = run} x goes plain inner) v r =
     let regrouped : on_line line (run ++ x ∷ []) ++ source ≡ on_line line run ++ ((x, line) ∷ source) =
     rw on_line-append (append_assoc (on_line line run) ((x, line) ∷ []) source) in
-    let earlier = so_far-item start line ((x, line) ∷ source) goes (begins_earlier run x v) (subst (λ (s : List Placed). ReadsSoFar start by before s (item_piece [] 0)) regrouped r) in
-    subst (λ (shown : Piece). ReadsSoFar start (taken_after next last x) x source shown) (visible_more line x run v)
+    let earlier = so_far-item start line ((x, line) ∷ source) goes (begins_earlier run x v) (subst (λ (s : List PlacedByte). ReadsSoFar start by before s (item_piece [] 0)) regrouped r) in
+    subst (λ (shown : ItemPiece). ReadsSoFar start (taken_after next last x) x source shown) (visible_more line x run v)
     (so_far-more start next last (x, line) source (item_piece run (line_at line run)) earlier inner)
 
 line_at-some : (line : ℕ) (text : List ℕ) → 0 < length text → line_at line text ≡ line
 line_at-some line [] some = absurd (omega arith)
 line_at-some line (x ∷ xs) some = refl
 
-pub takes-whole : (start old : List Placed) (text : List ℕ) (line : ℕ) (new : List Placed)
+pub takes-whole : (start old : List PlacedByte) (text : List ℕ) (line : ℕ) (new : List PlacedByte)
     → ReadsSoFar start taken.Nothing 44 old (item_piece [] 0) → TakesWholeItem old text line new → TakesItem start (item_piece text line) false new
 takes-whole start old text line new r whole =
-    let from_item = subst (λ (s : List Placed). ReadsSoFar start taken.Nothing 44 s (item_piece [] 0)) whole.whole r in
+    let from_item = subst (λ (s : List PlacedByte). ReadsSoFar start taken.Nothing 44 s (item_piece [] 0)) whole.whole r in
     let read = so_far-item start line ((44, line) ∷ new) whole.item.passes_run whole.item.visible from_item in
     subst (λ (n : ℕ). TakesItem start (item_piece text n) false new) (line_at-some line text whole.item.some)
     (takes-cut start whole.item.next whole.item.last (44, line) new (item_piece text (line_at line text)) read whole.item.ends)

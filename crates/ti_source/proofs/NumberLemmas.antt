@@ -8,7 +8,8 @@ use Rattle.std.proofs.lemmas.List.Elements.{All-nil, All-head, All-tail}
 use Rattle.std.proofs.lemmas.List.Sums.{AllPass-from_list_all, list_all-from_AllPass}
 use Rattle.ti_source.specs.declared.numbers.NumberError.{NumberError}
 use Rattle.ti_source.specs.declared.numbers.NumberError.TheVariants.{Bad, TooLarge}
-use Rattle.ti_source.specs.WhiteSpace.{is_white_space, without_trailing_space}
+use Rattle.ti_text.specs.WhiteSpace.{is_white_space}
+use Rattle.ti_source.specs.WhiteSpace.{without_trailing_space}
 use Rattle.ti_source.specs.Numbers.{digit_value, IsDigit, value_in, IsNumber, octal, hexadecimal, decimal, IsNumeral, ReadsAs, NumeralsHaveOneValue}
 use Rattle.ti_text.specs.Limits.{number_max}
 use Rattle.ti_source.specs.inside.Numbers.{digits_read, after_zero_read, value_read, within_limit, number_read, EachTextIsRead, NumbersHaveOneReading}

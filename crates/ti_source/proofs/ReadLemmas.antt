@@ -1,13 +1,13 @@
 -- Items added to a reading one by one.
 use Rattle.std.proofs.Common.{◌≡◌, ℕ, ◌+◌, ◌<◌, ◌^◌, List, ◌++◌, length}
 use Rattle.ti_source.specs.declared.items.Taken.TheVariants as taken
-use Rattle.ti_source.specs.Folding.{Placed}
+use Rattle.ti_source.specs.Folding.{PlacedByte}
 use Rattle.ti_source.specs.inside.Items.{items_of}
 use Rattle.ti_source.specs.Reading.{Reading}
 use Rattle.ti_source.specs.inside.Parsing.{items_from, faults_from_ordinal}
 
 -- The items of `start` were added to `old` up to here, with `ordinal` items, and those of `source` are still to come.
-pub record AddsSoFar (start : List Placed) (old : Reading) (ordinal : ℕ) (source : List Placed) (now : Reading) : Type 0 where
+pub record AddsSoFar (start : List PlacedByte) (old : Reading) (ordinal : ℕ) (source : List PlacedByte) (now : Reading) : Type 0 where
   pub same_field : now.field ≡ old.field
   pub same_names : now.names ≡ old.names
   pub items : now.items ++ items_from ordinal (items_of taken.Nothing 44 source) ≡ old.items ++ items_from 0 (items_of taken.Nothing 44 start)

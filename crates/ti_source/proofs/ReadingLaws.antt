@@ -9,12 +9,12 @@ use Rattle.ti_source.specs.declared.items.Taken.TheVariants as taken
 use Rattle.ti_source.specs.declared.numbers.NumberError.{NumberError}
 use Rattle.ti_source.specs.declared.numbers.NumberError.TheVariants.{Bad, TooLarge}
 use Rattle.ti_spelling.specs.declared.spelling.UnescapeError.{UnescapeError}
-use Rattle.ti_source.specs.WhiteSpace.{is_white_space}
+use Rattle.ti_text.specs.WhiteSpace.{is_white_space}
 use Rattle.ti_spelling.specs.inside.Spelling.{unescape_result, UnescapedAgrees}
 use Rattle.ti_source.specs.inside.Header.{header_names}
 use Rattle.ti_source.specs.Numbers.{ReadsAs}
 use Rattle.ti_source.specs.inside.Numbers.{number_read}
-use Rattle.ti_source.specs.Folding.{Placed, folding_of}
+use Rattle.ti_source.specs.Folding.{PlacedByte, folding_of}
 use Rattle.ti_source.specs.Items.{Claim, claims_flag, claims_number, claims_text, claims_cancel, Statement, States, bytes, piece_of}
 use Rattle.ti_source.specs.inside.Items.{field_of, after_field, items_of, statement_of}
 use Rattle.ti_source.specs.Reading.{ReadItem, ReadFault, Reading}
@@ -106,23 +106,23 @@ has_verdict agrees name claim = judged_by_import agrees name claim (is_import na
 
 -- ---- all items
 
-piece-visible : (item : List Placed) → BeginsVisible (piece_of item).text
+piece-visible : (item : List PlacedByte) → BeginsVisible (piece_of item).text
 piece-visible [] = tt
 piece-visible (x ∷ xs) = elim (cases_Bool (is_white_space x.0)) [ inl w ↦ rw w (piece-visible xs) | inr v ↦ rw v v ]
 
-item_reads : UnescapedAgrees → (n : ℕ) (item : List Placed) (items : List (List Placed)) (o : Option Statement) → States (piece_of item).text o
+item_reads : UnescapedAgrees → (n : ℕ) (item : List PlacedByte) (items : List (List PlacedByte)) (o : Option Statement) → States (piece_of item).text o
     → ReadsItems (n + 1) items (items_from (n + 1) items) (faults_from_ordinal (n + 1) items)
     → ReadsItems n (item ∷ items) (items_at n (piece_of item).line o ++ items_from (n + 1) items) (faults_at n (piece_of item).line o ++ faults_from_ordinal (n + 1) items)
 item_reads agrees n item items None states later = reads_ignored n item items (items_from (n + 1) items) (faults_from_ordinal (n + 1) items) states later
 item_reads agrees n item items (Some s) states later =
     reads_judged n item items (items_from (n + 1) items) (faults_from_ordinal (n + 1) items) s (verdict_of s.name s.claim) states (has_verdict agrees s.name s.claim) later
 
-pub has_read : UnescapedAgrees → (n : ℕ) (items : List (List Placed)) → ReadsItems n items (items_from n items) (faults_from_ordinal n items)
+pub has_read : UnescapedAgrees → (n : ℕ) (items : List (List PlacedByte)) → ReadsItems n items (items_from n items) (faults_from_ordinal n items)
 has_read agrees n [] = reads_nothing n
 has_read agrees n (item ∷ items) =
     item_reads agrees n item items (statement_of (piece_of item).text) (has_statement (piece_of item).text (piece-visible item)) (has_read agrees (n + 1) items)
 
-pub one_read : UnescapedAgrees → (n : ℕ) (items : List (List Placed)) (found : List ReadItem) (faults : List ReadFault) → ReadsItems n items found faults
+pub one_read : UnescapedAgrees → (n : ℕ) (items : List (List PlacedByte)) (found : List ReadItem) (faults : List ReadFault) → ReadsItems n items found faults
     → (found ≡ items_from n items) × (faults ≡ faults_from_ordinal n items)
 one_read agrees _ _ _ _ (reads_nothing n) = (refl, refl)
 one_read agrees _ _ _ _ (reads_ignored n item items found faults states later) =
@@ -200,7 +200,7 @@ pub one_reading : UnescapedAgrees → BlocksHaveOneReading
 one_reading agrees block one other p q = is_parsed agrees block one p ∙ sym (is_parsed agrees block other q)
 
 -- a block that is read part by part
-pub parsed_by_parts : (block field : List ℕ) (source rest : List Placed) (header reading : Reading) → source ≡ folding_of block → field ≡ bytes (field_of source) → rest ≡ after_field source
+pub parsed_by_parts : (block field : List ℕ) (source rest : List PlacedByte) (header reading : Reading) → source ≡ folding_of block → field ≡ bytes (field_of source) → rest ≡ after_field source
     → ReadsField field header → AddsItems rest header reading → reading ≡ reading_of_text block
 unfolding reading_of_text
 parsed_by_parts block field source rest header reading at_start is_field at_rest reads adds =

@@ -1,4 +1,5 @@
 -- What is known of every block as it is read.
+use Rattle.std.specs.Option.{option_or}
 use Rattle.std.proofs.Common.{◌≡◌, ◌≢◌, ℕ, suc, ◌+◌, ◌<◌, ◌≤◌, Bool, true, false, ◌==◌, ◌||◌, ◌&&◌, List, [], ◌∷◌, ◌++◌, length, cond, Option, Some, None, MatchOption, option_map, map, Result, Ok, Err, All, nat_lt, refl, sym, subst, ◌∙◌, inl, inr, arith}
 use Rattle.std.specs.List.{list_any, AllByRecursion}
 use Rattle.std.proofs.lemmas.Bool.{cases_Bool, ltb-false}
@@ -6,7 +7,7 @@ use Rattle.std.specs.Str.{bytes_eq}
 use Rattle.std.proofs.lemmas.List.{get_or_default}
 use Rattle.std.proofs.lemmas.List.Folds.{list_any-append}
 use Rattle.std.proofs.lemmas.List.Elements.{All-nil, All-from_recursion}
-use Rattle.ti_caps.specs.Tables.{Capability, IsCapability, capability, capability_named, names, count_of, place_of, named_in, first_of_two}
+use Rattle.ti_caps.specs.Tables.{Capability, IsCapability, capability, capability_named, names, count_of, place_of, named_in}
 use Rattle.ti_caps.specs.declared.capability.Kind.{Kind}
 use Rattle.ti_caps.specs.declared.capability.Kind.TheVariants as kind
 use Rattle.ti_source.specs.declared.code.Code.TheVariants as code
@@ -15,16 +16,16 @@ use Rattle.ti_source.specs.declared.items.Taken.TheVariants as taken
 use Rattle.ti_source.specs.declared.numbers.NumberError.{NumberError}
 use Rattle.ti_source.specs.declared.numbers.NumberError.TheVariants.{Bad, TooLarge}
 use Rattle.ti_spelling.specs.declared.spelling.UnescapeError.{UnescapeError}
-use Rattle.ti_source.specs.WhiteSpace.{is_white_space}
+use Rattle.ti_text.specs.WhiteSpace.{is_white_space}
 use Rattle.ti_source.specs.Cutting.{last_byte}
-use Rattle.ti_source.specs.Lines.{line_count}
+use Rattle.ti_text.specs.Lines.{line_count}
 use Rattle.ti_source.specs.Code.{is_error, is_of_header}
 use Rattle.ti_source.specs.Header.{IsBadHeader, HeaderNames, IsLookupName}
 use Rattle.ti_source.specs.inside.Header.{header_names}
 use Rattle.ti_source.specs.Numbers.{ReadsAs}
 use Rattle.ti_source.specs.inside.Numbers.{number_read}
 use Rattle.ti_spelling.specs.inside.Spelling.{unescape_result, ValuesAreSound}
-use Rattle.ti_source.specs.Folding.{Placed, bytes_on_lines, in_comment, without_comments, without_breaks, folding_of}
+use Rattle.ti_source.specs.Folding.{PlacedByte, bytes_on_lines, in_comment, without_comments, without_breaks, folding_of}
 use Rattle.ti_source.specs.Items.{Claim, claims_flag, claims_number, claims_text, claims_cancel, Statement, bytes, without_front, line_of, piece_of}
 use Rattle.ti_source.specs.inside.Items.{after_field, taken_after, cuts, with_first, items_of, statement_of}
 use Rattle.ti_source.specs.Reading.{ReadItem, ReadFault}
@@ -33,7 +34,7 @@ use Rattle.ti_source.specs.inside.Verdicts.{number_verdict, text_verdict, fittin
 use Rattle.ti_text.specs.Limits.{names_max}
 use Rattle.ti_source.specs.Verdicts.{Verdict, accepted, accepted_odd, refused, is_import, items_by, faults_by, header_fault}
 use Rattle.ti_source.specs.Sound.{SetsItsKind, IsLineOf, IsWritable, IsRising, EachIsWellRead}
-use Rattle.ti_source.proofs.CutLemmas.{lines_add}
+use Rattle.ti_text.proofs.LineLaws.{lines_add}
 use Rattle.ti_source.proofs.HeaderLemmas.{each_header}
 use Rattle.ti_source.proofs.NumberLemmas.{each_text}
 
@@ -99,7 +100,7 @@ items_at-sets : NamedIsCapability → ValuesAreSound → (n line : ℕ) (o : Opt
 items_at-sets valid sound n line None = tt
 items_at-sets valid sound n line (Some s) = items_by-sets n line (verdict_of s.name s.claim) (verdict_sets valid sound s.name s.claim)
 
-items_from-sets : NamedIsCapability → ValuesAreSound → (n : ℕ) (items : List (List Placed)) → AllByRecursion Sets (items_from n items)
+items_from-sets : NamedIsCapability → ValuesAreSound → (n : ℕ) (items : List (List PlacedByte)) → AllByRecursion Sets (items_from n items)
 items_from-sets valid sound n [] = tt
 items_from-sets valid sound n (item ∷ items) =
     let p = piece_of item in
@@ -110,39 +111,39 @@ items_from-sets valid sound n (item ∷ items) =
 
 -- what holds of the bytes of a text holds of those that are kept of it
 
-module _ (P : Placed → Type 0) where
-  without_comments-all : (comment : Bool) (before : ℕ) (s : List Placed) → AllByRecursion P s → AllByRecursion P (without_comments comment before s)
+module _ (P : PlacedByte → Type 0) where
+  without_comments-all : (comment : Bool) (before : ℕ) (s : List PlacedByte) → AllByRecursion P s → AllByRecursion P (without_comments comment before s)
   without_comments-all comment before [] all = tt
   without_comments-all comment before (x ∷ xs) all =
       let kept = without_comments-all false x.0 xs all.1 in
       let left_out = without_comments-all true x.0 xs all.1 in
       elim (in_comment comment before x.0) as (λ b. AllByRecursion P (cond b (without_comments true x.0 xs) (x ∷ without_comments false x.0 xs))) [ true ↦ left_out | false ↦ (all.0, kept) ]
 
-  joined-all : (joining : Bool) (s : List Placed) → AllByRecursion P s → AllByRecursion P (without_breaks joining s)
+  joined-all : (joining : Bool) (s : List PlacedByte) → AllByRecursion P s → AllByRecursion P (without_breaks joining s)
   joined-all joining [] all = tt
   joined-all joining (x ∷ xs) all =
       let kept = joined-all false xs all.1 in
       let left_out = joined-all true xs all.1 in
       elim (x.0 == 10 || (joining && is_white_space x.0)) as (λ b. AllByRecursion P (cond b (without_breaks true xs) (x ∷ without_breaks false xs))) [ true ↦ left_out | false ↦ (all.0, kept) ]
 
-  after_field-all : (s : List Placed) → AllByRecursion P s → AllByRecursion P (after_field s)
+  after_field-all : (s : List PlacedByte) → AllByRecursion P s → AllByRecursion P (after_field s)
   after_field-all [] all = tt
   after_field-all (x ∷ xs) all =
       let later = after_field-all xs all.1 in
       elim (x.0 == 44) as (λ b. AllByRecursion P (cond b xs (after_field xs))) [ true ↦ all.1 | false ↦ later ]
 
-  with_first-all : (x : Placed) (items : List (List Placed)) → P x → AllByRecursion (AllByRecursion P) items → AllByRecursion (AllByRecursion P) (with_first x items)
+  with_first-all : (x : PlacedByte) (items : List (List PlacedByte)) → P x → AllByRecursion (AllByRecursion P) items → AllByRecursion (AllByRecursion P) (with_first x items)
   with_first-all x [] p all = ((p, tt), tt)
   with_first-all x (item ∷ items) p all = ((p, all.0), all.1)
 
-  items_of-all : (by : Taken) (before : ℕ) (s : List Placed) → AllByRecursion P s → AllByRecursion (AllByRecursion P) (items_of by before s)
+  items_of-all : (by : Taken) (before : ℕ) (s : List PlacedByte) → AllByRecursion P s → AllByRecursion (AllByRecursion P) (items_of by before s)
   items_of-all by before [] all = (tt, tt)
   items_of-all by before (x ∷ xs) all =
       let cut = items_of-all taken.Nothing 44 xs all.1 in
       let plain = with_first-all x (items_of (taken_after by before x.0) x.0 xs) all.0 (items_of-all (taken_after by before x.0) x.0 xs all.1) in
       elim (cuts by x.0) as (λ b. AllByRecursion (AllByRecursion P) (cond b ([] ∷ items_of taken.Nothing 44 xs) (with_first x (items_of (taken_after by before x.0) x.0 xs)))) [ true ↦ (tt, cut) | false ↦ plain ]
 
-  without_front-all : (s : List Placed) → AllByRecursion P s → AllByRecursion P (without_front s)
+  without_front-all : (s : List PlacedByte) → AllByRecursion P s → AllByRecursion P (without_front s)
   without_front-all [] all = tt
   without_front-all (x ∷ xs) all =
       let later = without_front-all xs all.1 in
@@ -185,7 +186,7 @@ faults_by-lines Q n line name (accepted said) q = tt
 faults_by-lines Q n line name (accepted_odd said) q = (q, tt)
 faults_by-lines Q n line name (refused code) q = (q, tt)
 
-shown-lines : (Q : ℕ → Type 0) (n : ℕ) (shown : List Placed) → AllByRecursion (λ (x : Placed). Q x.1) shown
+shown-lines : (Q : ℕ → Type 0) (n : ℕ) (shown : List PlacedByte) → AllByRecursion (λ (x : PlacedByte). Q x.1) shown
     → AllByRecursion (λ (i : ReadItem). Q i.line) (items_at n (line_of shown) (statement_of (bytes shown))) × AllByRecursion (λ (f : ReadFault). Q f.line) (faults_at n (line_of shown) (statement_of (bytes shown)))
 shown-lines Q n [] all = (tt, tt)
 shown-lines Q n (x ∷ xs) all = by_statement (statement_of (bytes (x ∷ xs)))
@@ -194,7 +195,7 @@ shown-lines Q n (x ∷ xs) all = by_statement (statement_of (bytes (x ∷ xs)))
     by_statement None = (tt, tt)
     by_statement (Some s) = (items_by-lines Q n x.1 (verdict_of s.name s.claim) all.0, faults_by-lines Q n x.1 s.name (verdict_of s.name s.claim) all.0)
 
-from-lines : (Q : ℕ → Type 0) (n : ℕ) (items : List (List Placed)) → AllByRecursion (AllByRecursion (λ (x : Placed). Q x.1)) items
+from-lines : (Q : ℕ → Type 0) (n : ℕ) (items : List (List PlacedByte)) → AllByRecursion (AllByRecursion (λ (x : PlacedByte). Q x.1)) items
     → AllByRecursion (λ (i : ReadItem). Q i.line) (items_from n items) × AllByRecursion (λ (f : ReadFault). Q f.line) (faults_from_ordinal n items)
 from-lines Q n [] all = (tt, tt)
 from-lines Q n (item ∷ items) all =
@@ -205,9 +206,9 @@ from-lines Q n (item ∷ items) all =
       AllByRecursion-append (λ (f : ReadFault). Q f.line) (faults_at n p.line (statement_of p.text)) (faults_from_ordinal (n + 1) items) here.1 later.1,
     )
 
-block_items-lines : (block : List ℕ) → last_byte 10 block ≡ 10 → AllByRecursion (AllByRecursion (λ (x : Placed). IsBetween 1 (1 + line_count block) x.1)) (block_items block)
+block_items-lines : (block : List ℕ) → last_byte 10 block ≡ 10 → AllByRecursion (AllByRecursion (λ (x : PlacedByte). IsBetween 1 (1 + line_count block) x.1)) (block_items block)
 block_items-lines block ends =
-    let P : Placed → Type 0 = λ x. IsBetween 1 (1 + line_count block) x.1 in
+    let P : PlacedByte → Type 0 = λ x. IsBetween 1 (1 + line_count block) x.1 in
     items_of-all P taken.Nothing 44 (after_field (folding_of block))
     (after_field-all P (folding_of block)
     (joined-all P false (without_comments false 10 (bytes_on_lines 1 block))
@@ -287,7 +288,7 @@ faults_at-at : (n line : ℕ) (o : Option Statement) → IsAt (λ (f : ReadFault
 faults_at-at n line None = tt
 faults_at-at n line (Some s) = faults_by-at n line s.name (verdict_of s.name s.claim)
 
-items_from-rise : (n : ℕ) (items : List (List Placed))
+items_from-rise : (n : ℕ) (items : List (List PlacedByte))
     → AllByRecursion (λ (i : ReadItem). n ≤ i.ordinal) (items_from n items) × IsRising (map (λ (i : ReadItem). i.ordinal) (items_from n items))
 items_from-rise n [] = (tt, tt)
 items_from-rise n (item ∷ items) =
@@ -295,7 +296,7 @@ items_from-rise n (item ∷ items) =
     let later = items_from-rise (n + 1) items in
     rising-at (λ (i : ReadItem). i.ordinal) n (items_at n p.line (statement_of p.text)) (items_from (n + 1) items) (items_at-at n p.line (statement_of p.text)) later.0 later.1
 
-faults_from-rise : (n : ℕ) (items : List (List Placed))
+faults_from-rise : (n : ℕ) (items : List (List PlacedByte))
     → AllByRecursion (λ (f : ReadFault). n ≤ f.ordinal) (faults_from_ordinal n items) × IsRising (map (λ (f : ReadFault). f.ordinal) (faults_from_ordinal n items))
 faults_from-rise n [] = (tt, tt)
 faults_from-rise n (item ∷ items) =
@@ -316,7 +317,7 @@ faults_at-item : NamedIsCapability → ValuesAreSound → (n line : ℕ) (o : Op
 faults_at-item valid sound n line None = tt
 faults_at-item valid sound n line (Some s) = faults_by-item n line s.name (verdict_of s.name s.claim) (verdict_sets valid sound s.name s.claim)
 
-faults_from-item : NamedIsCapability → ValuesAreSound → (n : ℕ) (items : List (List Placed)) → AllByRecursion IsOfItem (faults_from_ordinal n items)
+faults_from-item : NamedIsCapability → ValuesAreSound → (n : ℕ) (items : List (List PlacedByte)) → AllByRecursion IsOfItem (faults_from_ordinal n items)
 faults_from-item valid sound n [] = tt
 faults_from-item valid sound n (item ∷ items) =
     let p = piece_of item in
@@ -387,12 +388,12 @@ named_in-valid name k c count e = placed_at (place_of name (names k)) refl e
         subst IsCapability same (omega (arith, place_of-within name (names k) i is, count))
 
 first-valid : (one other : Option Capability) → ((c : Capability) → one ≡ Some c → IsCapability c) → ((c : Capability) → other ≡ Some c → IsCapability c)
-    → (c : Capability) → first_of_two one other ≡ Some c → IsCapability c
+    → (c : Capability) → option_or one other ≡ Some c → IsCapability c
 first-valid None other p q c e = q c e
 first-valid (Some d) other p q c e = p c e
 
 pub named_valid : count_of kind.Flag ≡ length (names kind.Flag) → count_of kind.Number ≡ length (names kind.Number) → count_of kind.Text ≡ length (names kind.Text) → NamedIsCapability
 unfolding capability_named
 named_valid flags numbers texts name c e =
-    first-valid (named_in name kind.Flag) (first_of_two (named_in name kind.Number) (named_in name kind.Text)) (λ d. named_in-valid name kind.Flag d flags)
+    first-valid (named_in name kind.Flag) (option_or (named_in name kind.Number) (named_in name kind.Text)) (λ d. named_in-valid name kind.Flag d flags)
     (first-valid (named_in name kind.Number) (named_in name kind.Text) (λ d. named_in-valid name kind.Number d numbers) (λ d. named_in-valid name kind.Text d texts)) c e

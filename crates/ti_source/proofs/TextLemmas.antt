@@ -3,7 +3,8 @@ use Rattle.std.proofs.Common.{◌≡◌, ◌≢◌, ℕ, zero, suc, ◌+◌, ◌
 use Rattle.std.specs.List.{list_all}
 use Rattle.std.proofs.lemmas.Bool.{ne_eqb, cases_Bool, and_parts}
 use Rattle.memchr.specs.Find.{NoneBefore}
-use Rattle.ti_source.specs.WhiteSpace.{is_white_space, without_trailing_space}
+use Rattle.ti_text.specs.WhiteSpace.{is_white_space}
+use Rattle.ti_source.specs.WhiteSpace.{without_trailing_space}
 use Rattle.ti_source.specs.Cutting.{last_byte}
 use Rattle.ti_source.specs.Items.{is_mark}
 use Rattle.ti_source.specs.inside.Items.{before_mark, from_mark, without_last, plain_statement, statement_with_value, statement_by_mark, statement_of}

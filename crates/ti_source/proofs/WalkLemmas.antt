@@ -168,7 +168,7 @@ takes_block (x ∷ xs) n h f e =
       | inr g ↦ let clash = sym (front_of-plain 10 x xs g) ∙ f in cc
     ]
 
--- one block, told by its first byte, its last, and the place of the next head line
+-- one block, known by its first byte, its last, and the place of the next head line
 front_of-HasNoHead : (before : ℕ) (s : List ℕ) → HasNoHead before s → front_of before s ≡ s
 front_of-HasNoHead before [] n = refl
 front_of-HasNoHead before (x ∷ xs) n = front_of-plain before x xs n.0 ∙ ap (λ r. x ∷ r) (front_of-HasNoHead x xs n.1)
@@ -205,7 +205,7 @@ one_block_rule s n b e is = (
   λ o. eq-eqb n (length s) (is ∙ (one_block_parts s o).alone),
 )
 
--- a text that has an end of its line and a head line is told apart from others
+-- a block ends with a newline
 pub ends_of_block : (s : List ℕ) → OneBlock s → (last_byte 0 s == 10) ≡ true
 ends_of_block s o = eq-eqb (last_byte 0 s) 10 (one_block_parts s o).ends
 

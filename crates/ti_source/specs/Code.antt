@@ -2,7 +2,8 @@
 use Rattle.ti_text.specs.Ascii as ascii
 use Rattle.std.specs.Prelude.{ℕ, Bool, true, false, List, ◌∷◌, ◌++◌, codes}
 use Rattle.ti_source.specs.declared.code.Code.{Code}
-use Rattle.ti_source.specs.declared.code.Code.TheVariants.{BadHeader, NamesTooLong, BadNumber, NumberTooLarge, BadString, MissingUse, Circular, Unresolved, TooLarge, UnknownCapability, WrongKind, UnknownEscape, DuplicateName}
+use Rattle.ti_source.specs.declared.code.Code.TheVariants.{BadHeader, NamesTooLong, BadNumber, NumberTooLarge, BadString, MissingUse, Circular, Unresolved}
+use Rattle.ti_source.specs.declared.code.Code.TheVariants.{TooLarge, UnknownCapability, WrongKind, UnknownEscape, DuplicateName}
 
 -- the label of a code: `E` and a digit for an error, `W` and a digit for a warning
 abbrev pub label_of : Code → List ℕ

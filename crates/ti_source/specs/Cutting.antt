@@ -1,7 +1,7 @@
 -- The blocks of a source (terminfo(5); X/Open Curses Issue 7, "Terminfo Source Format"): an entry begins at a line that is not empty and begins
 -- with neither white space nor `#`, and reaches to the next such line.
 pub use Rattle.ti_source.specs.Heads.{begins_head, is_head}
-pub use Rattle.ti_source.specs.inside.Cutting.{front_of, blocks_from_head, Pieces}
+pub use Rattle.ti_source.specs.inside.Cutting.{front_of, blocks_from_head, BlockPieces}
 use Rattle.ti_text.specs.Ascii as ascii
 pub use Rattle.ti_text.specs.Texts.{last_byte}
 use Rattle.std.specs.Prelude.{◌≡◌, ℕ, true, false, ◌==◌, if◌then◌else◌, List, [], ◌∷◌, ◌++◌, All}

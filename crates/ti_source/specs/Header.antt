@@ -34,7 +34,7 @@ pub record HeaderNames (field : List ℕ) (names : List (List ℕ)) : Type 0 whe
   pub no_nul : ¬ Contains field ascii.nul
   pub lookup : All IsLookupName names
 
--- a field in which a part is empty (as the one part of an empty field is), a NUL stands, or a lookup name is none
+-- a field with an empty part (as the one part of an empty field is), with a NUL, or with a part that is to be a lookup name and is not
 pub record IsBadHeader (field : List ℕ) : Type 0 where
   pub parts : List (List ℕ)
   pub cut : PartsOf field parts

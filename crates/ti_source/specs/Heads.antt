@@ -1,7 +1,7 @@
 -- Head lines (terminfo(5); X/Open Curses Issue 7, "Terminfo Source Format"): lines that are not empty and begin with neither white space nor `#`.
 use Rattle.ti_text.specs.Ascii as ascii
 use Rattle.std.specs.Prelude.{ℕ, Bool, not, ◌||◌, ◌&&◌, ◌==◌}
-use Rattle.ti_source.specs.WhiteSpace.{is_white_space}
+use Rattle.ti_text.specs.WhiteSpace.{is_white_space}
 
 -- a byte that may begin a head line: no white space, no `#`, and no newline, which would make the line empty
 abbrev pub begins_head : ℕ → Bool

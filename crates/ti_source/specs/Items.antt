@@ -1,25 +1,26 @@
 -- The names field and the items of a folded text, and what an item's text states (terminfo(5); X/Open Curses Issue 7, "Terminfo Source Format").
 use Rattle.ti_text.specs.Ascii as ascii
 use Rattle.std.specs.Prelude.{◌≡◌, ◌≢◌, ℕ, Bool, true, false, not, ◌||◌, ◌&&◌, ◌==◌, if◌then◌else◌, List, [], ◌∷◌, ◌++◌, map, Option, Some, None}
-use Rattle.ti_source.specs.WhiteSpace.{is_white_space, without_trailing_space}
+use Rattle.ti_text.specs.WhiteSpace.{is_white_space}
+use Rattle.ti_source.specs.WhiteSpace.{without_trailing_space}
 use Rattle.ti_source.specs.Cutting.{last_byte}
-use Rattle.ti_source.specs.Folding.{Placed}
+use Rattle.ti_source.specs.Folding.{PlacedByte}
 
 -- the bytes alone
-abbrev pub bytes : List Placed → List ℕ
+abbrev pub bytes : List PlacedByte → List ℕ
 bytes text = map (λ x. x.0) text
 
 -- ---- the names field: the bytes before the first comma, or all of them where there is none; pairs mean nothing in it
 
 -- no byte is a comma
-abbrev pub HasNoComma : List Placed → Type 0
+abbrev pub HasNoComma : List PlacedByte → Type 0
 HasNoComma [] = Unit {0}
 HasNoComma (x ∷ xs) = ((x.0 == ascii.comma) ≡ false) × HasNoComma xs
 
 -- a folded text is a field without a comma, and either nothing more, or a comma and a rest
-pub data Begins : (text field rest : List Placed) → Type 0 where
-  all_field : (field : List Placed) → HasNoComma field → Begins field field []
-  field_and_rest : (field rest : List Placed) (line : ℕ) → HasNoComma field → Begins (field ++ (ascii.comma, line) ∷ rest) field rest
+pub data Begins : (text field rest : List PlacedByte) → Type 0 where
+  all_field : (field : List PlacedByte) → HasNoComma field → Begins field field []
+  field_and_rest : (field rest : List PlacedByte) (line : ℕ) → HasNoComma field → Begins (field ++ (ascii.comma, line) ∷ rest) field rest
 
 -- ---- items: the rest is cut at each comma that no backslash takes
 
@@ -29,45 +30,45 @@ abbrev pub takes : (before x next : ℕ) → Bool
 takes before x next = x == ascii.backslash || (x == ascii.caret && not (before == ascii.percent) && not (next == ascii.comma))
 
 -- whether a byte takes nothing of the text after it
-abbrev pub stands_alone : (before x : ℕ) → List Placed → Bool
+abbrev pub stands_alone : (before x : ℕ) → List PlacedByte → Bool
 stands_alone before x [] = true
 stands_alone before x (y ∷ ys) = not (takes before x y.0)
 
 -- a text, which stands just after the byte `before`, is these items with a comma between each two
-pub data AreItems : (before : ℕ) (text : List Placed) (items : List (List Placed)) → Type 0 where
+pub data AreItems : (before : ℕ) (text : List PlacedByte) (items : List (List PlacedByte)) → Type 0 where
   last_item : (before : ℕ) → AreItems before [] ([] ∷ [])
-  item_ends : (before line : ℕ) (text : List Placed) (items : List (List Placed)) → AreItems ascii.comma text items
+  item_ends : (before line : ℕ) (text : List PlacedByte) (items : List (List PlacedByte)) → AreItems ascii.comma text items
       → AreItems before ((ascii.comma, line) ∷ text) ([] ∷ items)
-  pair_of_bytes : (before : ℕ) (x y : Placed) (text item : List Placed) (items : List (List Placed)) → takes before x.0 y.0 ≡ true
+  pair_of_bytes : (before : ℕ) (x y : PlacedByte) (text item : List PlacedByte) (items : List (List PlacedByte)) → takes before x.0 y.0 ≡ true
       → AreItems y.0 text (item ∷ items)
       → AreItems before (x ∷ y ∷ text) ((x ∷ y ∷ item) ∷ items)
-  single_byte : (before : ℕ) (x : Placed) (text item : List Placed) (items : List (List Placed)) → x.0 ≢ ascii.comma
+  single_byte : (before : ℕ) (x : PlacedByte) (text item : List PlacedByte) (items : List (List PlacedByte)) → x.0 ≢ ascii.comma
       → stands_alone before x.0 text ≡ true → AreItems x.0 text (item ∷ items)
       → AreItems before (x ∷ text) ((x ∷ item) ∷ items)
 
 -- ---- an item: white space at its front is dropped, and it stands on the line of its first byte
 
 -- an item as it is read: its bytes, and the line that the first of them stands on
-pub record Piece : Type 0 where
+pub record ItemPiece : Type 0 where
   pub text : List ℕ
   pub line : ℕ
 
 -- the item of this text on this line
-abbrev pub item_piece : List ℕ → ℕ → Piece
+abbrev pub item_piece : List ℕ → ℕ → ItemPiece
 item_piece text line = record { text = text; line = line }
 
 -- the bytes of an item without the white space at its front
-abbrev pub without_front : List Placed → List Placed
+abbrev pub without_front : List PlacedByte → List PlacedByte
 without_front [] = []
 without_front (x ∷ xs) = if is_white_space x.0 then without_front xs else x ∷ xs
 
 -- the line of the first byte, 0 where there is none
-abbrev pub line_of : List Placed → ℕ
+abbrev pub line_of : List PlacedByte → ℕ
 line_of [] = 0
 line_of (x ∷ xs) = x.1
 
 -- an item's bytes from the first that is no white space on, with the line of that one
-abbrev pub piece_of : List Placed → Piece
+abbrev pub piece_of : List PlacedByte → ItemPiece
 piece_of item = item_piece (bytes (without_front item)) (line_of (without_front item))
 
 -- ---- what an item states: a name, and a flag, a number or a text of that name, or that it is cancelled

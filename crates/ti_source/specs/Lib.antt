@@ -1,5 +1,4 @@
 pub mod WhiteSpace
-pub mod Lines
 pub mod Heads
 pub mod Cutting
 pub mod Header

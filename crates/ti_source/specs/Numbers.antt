@@ -6,7 +6,7 @@ use Rattle.std.specs.Prelude.{◌≡◌, ◌≢◌, ℕ, ◌+◌, ◌-◌, ◌*�
 use Rattle.std.specs.List.{fold, AllPass}
 use Rattle.ti_source.specs.declared.numbers.NumberError.{NumberError}
 use Rattle.ti_source.specs.declared.numbers.NumberError.TheVariants.{Bad, TooLarge}
-use Rattle.ti_source.specs.WhiteSpace.{is_white_space}
+use Rattle.ti_text.specs.WhiteSpace.{is_white_space}
 
 -- what a byte counts for as a digit: `0` to `9`, and `a` to `f` or `A` to `F` from 10 on; a byte that is a digit of no base counts for 16
 abbrev pub digit_value : ℕ → ℕ

@@ -4,7 +4,7 @@ use Rattle.std.specs.List.{list_any, AllByRecursion}
 use Rattle.ti_caps.specs.Tables.{IsCapability}
 use Rattle.ti_caps.specs.declared.capability.Kind.TheVariants.{Flag, Number, Text}
 use Rattle.ti_source.specs.Cutting.{OneBlock}
-use Rattle.ti_source.specs.Lines.{line_count}
+use Rattle.ti_text.specs.Lines.{line_count}
 use Rattle.ti_source.specs.Code.{is_error, is_of_header}
 use Rattle.ti_source.specs.Header.{IsLookupName}
 use Rattle.ti_text.specs.Limits.{number_max, names_max}

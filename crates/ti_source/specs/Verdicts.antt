@@ -67,7 +67,7 @@ said_by (accepted said) = Some said
 said_by (accepted_odd said) = Some said
 said_by (refused code) = None
 
--- the fault that a verdict tells of, none where it accepts without an odd escape
+-- the fault that a verdict gives, none where it accepts without an odd escape
 abbrev pub code_by : Verdict → Option Code
 code_by (accepted said) = None
 code_by (accepted_odd said) = Some code.UnknownEscape

@@ -7,9 +7,9 @@ ghost use Rattle.ti_source.specs.inside.Folding.{SkipsWhiteSpace, after_line};
 ghost use Rattle.ti_source.specs.inside.Items.{TakesRun, TakesWholeItem};
 
 use crate::items::{Run, Taken, front_run, whole_item_size};
-use crate::white_space::is_white_space;
 use memchr::memchr;
 use std::marker::Model;
+use ti_text::is_white_space;
 
 /// What is left of a folded text: its bytes, each with its line in the block, counted from 1.
 #[derive(Drop)]
@@ -126,7 +126,8 @@ fn after_line(text: &[u8]) -> &[u8]
     }
 }
 
-// What stands behind the comment that `text` ends, and how many newlines were passed by then, where so many stand before it.
+// What stands behind the comment that `text` begins with, and how many newlines stand before that, where `newlines` stand before
+// `text`.
 fn after_comment(text: &[u8], newlines: usize) -> (&[u8], usize)
     requires { newlines + 1 < 2 ^ 64 }
     ensures rest { result.0.now ≡ after_line text.now }

@@ -6,9 +6,10 @@ ghost use Rattle.ti_source.specs.Items.{bytes, is_mark, item_piece, without_oute
 ghost use Rattle.ti_source.specs.inside.Items.{taken_after, cuts, field_of, after_field, PassesRun, ReadsOn, TakesItem, EndsItem, IsWholeItem, with_byte, statement_in_memory, statement_of, statement_with_value, plain_statement};
 
 use crate::folding::Folded;
-use crate::white_space::{is_white_space, trim_end};
+use crate::white_space::trim_end;
 use memchr::memchr2;
 use std::alloc::{AllocError, Global};
+use ti_text::is_white_space;
 
 /// What takes the byte that comes next.
 #[derive(Clone, Copy, PartialEq, Eq, Debug)]
@@ -73,8 +74,8 @@ pub(crate) fn front_run(text: &[u8], taken: Taken, before: u8) -> Run<'_>
     }
 }
 
-/// The size of the item at the front of `text`, where it is not empty, begins with no white space and ends with a comma on
-/// the same line, before which no backslash stands; none where it is another.
+/// The size of the item at the front of `text`, where it is not empty, begins with no white space, and ends on the same line
+/// with a comma that no backslash stands before; `None` for any other item.
 pub(crate) fn whole_item_size(text: &[u8]) -> Option<usize>
     ensures { IfSome result (λ size. IsWholeItem text.now size) }
 {

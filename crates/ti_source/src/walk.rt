@@ -17,9 +17,9 @@ pub struct Blocks<'a> {
 impl<'a> Model for Blocks<'a> {
     ghost use Rattle.ti_text.specs.Ascii as ascii;
     ghost use Rattle.std.specs.Prelude.{◌≡◌, []};
-    ghost use Rattle.ti_source.specs.inside.Cutting.{Pieces, front_of, blocks_from_head};
+    ghost use Rattle.ti_source.specs.inside.Cutting.{BlockPieces, front_of, blocks_from_head};
 
-    ghost Value = { Pieces };
+    ghost Value = { BlockPieces };
 
     ghost view = { λ b. record { preface = b.preface.now; blocks = blocks_from_head ascii.newline b.rest.now } };
 

@@ -1,13 +1,8 @@
-//! White space of the source format: spaces and tabs.
+//! White space at the end of a text.
 ghost use Rattle.std.specs.Prelude.{◌≡◌};
 ghost use Rattle.ti_source.specs.WhiteSpace as spec;
 
-/// Whether `byte` is a space or a tab.
-pub(crate) fn is_white_space(byte: u8) -> bool
-    ensures { result ≡ spec.is_white_space byte }
-{
-    matches!(byte, b' ' | b'\t')
-}
+use ti_text::is_white_space;
 
 /// `text` without the white space at its end.
 pub(crate) fn trim_end(text: &[u8]) -> &[u8]

@@ -21,7 +21,7 @@ fn cuts_a_source(rt: HostRuntime) {
 }
 
 #[test]
-fn tells_blocks(rt: HostRuntime) {
+fn one_block_is_known(rt: HostRuntime) {
     for text in [
         b"x,\n".as_slice(),
         b"a|b,\n\tam,\n# end\n".as_slice(),

@@ -36,7 +36,7 @@ fn reads_headers(rt: HostRuntime) -> Result<(), Fail> {
 }
 
 #[test]
-fn tells_lookup_names(rt: HostRuntime) {
+fn lookup_names_are_known(rt: HostRuntime) {
     for name in [
         b"xterm-256color".as_slice(),
         b"!~".as_slice(),

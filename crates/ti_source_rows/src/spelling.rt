@@ -85,7 +85,7 @@ fn spells_bytes(rt: HostRuntime) -> Result<(), Fail> {
 }
 
 #[test]
-fn tells_odd_escapes(rt: HostRuntime) -> Result<(), Fail> {
+fn odd_escapes_are_known(rt: HostRuntime) -> Result<(), Fail> {
     check_rows(&rt, &ODD, true)?;
     Ok(())
 }

@@ -4,7 +4,8 @@
 --   Spells, Fails       what a text spells, and its first fault, one constructor for each row of the manual's table
 --   written value       the text that `escape` writes
 -- The laws: OneOutcome, WrittenSpells.
-use Rattle.std.specs.Prelude.{◌≡◌, ◌≢◌, ℕ, zero, suc, ◌+◌, ◌-◌, ◌*◌, ◌/◌, ◌%◌, ◌<◌, ◌≤◌, ◌==◌, Bool, true, false, ◌&&◌, ◌||◌, ◌⊎◌, if◌then◌else◌, nat_le, nat_lt, List, [], ◌∷◌, ◌++◌, bit_and}
+use Rattle.std.specs.Prelude.{◌≡◌, ◌≢◌, ℕ, zero, suc, ◌+◌, ◌-◌, ◌*◌, ◌/◌, ◌%◌, ◌<◌, ◌≤◌, ◌==◌, Bool, true, false, ◌&&◌, ◌||◌, ◌⊎◌, if◌then◌else◌, nat_le}
+use Rattle.std.specs.Prelude.{nat_lt, List, [], ◌∷◌, ◌++◌, bit_and}
 use Rattle.std.specs.Prelude.{Option, Some, None}
 use Rattle.std.specs.Map.{lookup}
 use Rattle.ti_text.specs.Ascii.{byte_of}

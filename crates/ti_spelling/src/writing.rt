@@ -91,7 +91,7 @@ fn write_byte(text: &mut Vec<u8>, percent: bool, edge: bool, byte: u8)
     }
 }
 
-/// How many bytes the text of one byte has, where `percent` and `edge` are as in [`push_byte`].
+/// How many bytes the text of one byte has, where `percent` and `edge` are as in [`write_byte`].
 #[tactic(auto, unfolding(crate::specs::Spelling::byte_text))]
 fn byte_len(percent: bool, edge: bool, byte: u8) -> usize
     ensures value { result ≡ length (byte_text percent edge byte) }

@@ -1,14 +1,10 @@
 -- Decimal digits, and the number that they write (own).
-use Rattle.std.specs.Prelude.{ℕ, ◌+◌, ◌-◌, ◌*◌, ◌≤◌, Bool, ◌&&◌, nat_le, List, [], ◌∷◌}
+use Rattle.std.specs.Prelude.{ℕ, ◌+◌, ◌-◌, ◌*◌, Bool, ◌&&◌, nat_le, List, [], ◌∷◌}
 use Rattle.ti_text.specs.Ascii as ascii
 
 -- whether a byte is a decimal digit
 abbrev pub is_decimal_digit : ℕ → Bool
 is_decimal_digit byte = nat_le ascii.digit_0 byte && nat_le byte ascii.digit_9
-
--- a byte is a decimal digit
-abbrev pub IsDecimalDigit : ℕ → Type 0
-IsDecimalDigit byte = (ascii.digit_0 ≤ byte) × (byte ≤ ascii.digit_9)
 
 -- the number that a digit writes
 abbrev pub decimal_digit_value : ℕ → ℕ

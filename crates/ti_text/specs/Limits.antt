@@ -28,3 +28,11 @@ legacy_number_max = 32767
 -- the greatest number that the extended number format has room for
 abbrev pub number_max : ℕ
 number_max = 2147483647
+
+-- how many numbers two bytes have room for (own)
+abbrev pub two_byte_count : ℕ
+two_byte_count = 65536
+
+-- the most parameters of a format, `%p1` to `%p9` (terminfo(5), "Parameterized Strings")
+abbrev pub parameters_max : ℕ
+parameters_max = 9

@@ -20,3 +20,6 @@ pub const LEGACY_NUMBER_MAX: u32 = 32_767;
 
 /// The greatest number that the extended number format has room for (term(5)).
 pub const NUMBER_MAX: u32 = 2_147_483_647;
+
+/// The most parameters of a format, `%p1` to `%p9` (terminfo(5), "Parameterized Strings").
+pub const PARAMETERS_MAX: usize = 9;

@@ -1,6 +1,6 @@
 //! Counting the lines of a text, and the law of it.
 ghost use Rattle.std.specs.Prelude.{◌≡◌, ◌≤◌, length};
-ghost use Rattle.ti_text.specs.Texts.{line_count, LinesAdd};
+ghost use Rattle.ti_text.specs.Lines.{line_count, LinesAdd};
 
 /// How many lines of a text end, each with a newline.
 pub fn count_lines(text: &[u8]) -> usize

@@ -7,7 +7,7 @@ use Rattle.std.proofs.lemmas.Option.{none-some, same_Some, slice_get_within}
 use Rattle.std.proofs.lemmas.List.Elements.{All-head, All-tail}
 use Rattle.std.proofs.Math.Seq.{drop-length, take-length}
 use Rattle.ti_source.specs.Cutting.{OneBlock, blocks_from_head, front_of, last_byte}
-use Rattle.ti_source.specs.Lines.{line_count}
+use Rattle.ti_text.specs.Lines.{line_count}
 use Rattle.ti_meaning.specs.Edits.{IsRefusal, IsSoundEdit, list_after, insertion}
 use Rattle.ti_meaning.specs.declared.edits.EditError.{EditError}
 use Rattle.ti_meaning.specs.declared.edits.EditError.TheVariants.{Position, TooLong, NotOneBlock, TooMany, Memory}

@@ -48,7 +48,7 @@ seen_more test seen now before x more h name t =
           ∙ (sym (or_false (is_among name before)) ∙ (ap (λ b. is_among name before || b) (sym other) ∙ sym (among_more name x before))))))
     ]
 
--- that a name is new is told by the set
+-- the set says whether a name is new
 pub new_by_seen : (test seen : List ℕ → Bool) (before : List (List ℕ)) (x : List ℕ) → AreSeen test seen before
     → (test x && not (seen x)) ≡ (not (is_among x before) && test x)
 new_by_seen test seen before x h =

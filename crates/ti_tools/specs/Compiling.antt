@@ -49,7 +49,7 @@ compilation_of outcome = record {
   status = outcome.status;
 }
 
--- the answer is what comes of the source; memory is wanting only where there is no refusal
+-- the answer is what comes of the source; want of memory comes only where there is no other refusal
 abbrev pub IsTicAnswer : Result Compilation ToolError → Result TicOutcome ToolError → Type 0
 IsTicAnswer wanted (Ok outcome) = wanted ≡ Ok (compilation_of outcome)
 IsTicAnswer wanted (Err error) = (wanted ≡ Err error) ⊎ ((error ≡ Memory) × IsOk wanted)

@@ -4,7 +4,7 @@ use Rattle.std.specs.Prelude.{ℕ, suc, ◌+◌, ◌==◌, List, [], ◌∷◌, 
 use Rattle.ti_text.specs.Ascii as ascii
 use Rattle.ti_text.specs.Limits.{block_bytes_max, blocks_max}
 use Rattle.ti_source.specs.Cutting.{blocks_from_head, front_of, last_byte}
-use Rattle.ti_source.specs.Lines.{line_count}
+use Rattle.ti_text.specs.Lines.{line_count}
 use Rattle.ti_devices.specs.declared.tool_error.ToolError.{ToolError}
 use Rattle.ti_devices.specs.declared.tool_error.ToolError.TheVariants.{BlockTooLong, TooManyBlocks}
 

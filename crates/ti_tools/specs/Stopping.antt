@@ -72,7 +72,7 @@ plain_text Memory = codes "out of memory"
 abbrev pub is_known : List ℕ → Bool
 is_known name = is_some (capability_named name) || bytes_eq name (codes "init") || bytes_eq name (codes "reset")
 
--- the bytes that lead to a name, those behind it, a detail and the end, in a line that begins with the name of the tool
+-- the parts of a line: the name of the tool, the bytes before a name, the name, the bytes behind it, a detail, and the end
 abbrev pub line_parts : List ℕ → List ℕ → List ℕ → List ℕ → List ℕ → List ℕ → List (List ℕ)
 line_parts tool head subject link detail end = tool ∷ head ∷ subject ∷ link ∷ detail ∷ end ∷ []
 

@@ -5,7 +5,7 @@ ghost use Rattle.std.specs.String.{string_bytes};
 ghost use Rattle.ti_text.specs.Ascii as ascii;
 ghost use Rattle.ti_source.specs.Cutting.{front_of, last_byte};
 ghost use Rattle.ti_source.specs.Code.{is_error};
-ghost use Rattle.ti_source.specs.Lines.{line_count};
+ghost use Rattle.ti_text.specs.Lines.{line_count};
 ghost use Rattle.ti_meaning.specs.Faults.{fault_seen};
 ghost use Rattle.ti_tools.specs.Compiling.{IsTicAnswer, compilation, compilation_of, fault_status, tic_result};
 

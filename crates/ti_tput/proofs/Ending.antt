@@ -109,7 +109,7 @@ module _ (entry : Entry) (rate : ℕ) where
     reads = ap (λ (n : ℕ). n + given.reads) reads;
   }
 
-  -- memory is wanting before the first read
+  -- memory is refused before the first read
   pub CommandsEnd-start : (given before : Observed) → CommandsEnd entry rate given given before before (Err Memory)
   unfolding steps
   CommandsEnd-start given before = record {

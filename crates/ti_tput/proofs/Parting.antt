@@ -6,7 +6,7 @@ use Rattle.std.proofs.lemmas.Bool.{lt-ltb, not-true, ltb-true, ltb-false}
 use Rattle.std.proofs.lemmas.List.{drop_all, get_or-drop, length-map, take_all, length-drop, length-take}
 use Rattle.std.proofs.Math.Seq.{take-append_seam}
 use Rattle.std.proofs.lemmas.List.Sums.{passes_at_first}
-use Rattle.ti_source.specs.WhiteSpace.{is_white_space}
+use Rattle.ti_text.specs.WhiteSpace.{is_white_space}
 use Rattle.ti_tput.specs.Runs.{has_bytes, words_of}
 
 -- ---- the first place that passes

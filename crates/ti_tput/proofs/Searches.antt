@@ -1,17 +1,18 @@
 -- Looking for a file at one place after another.
+use Rattle.std.specs.Option.{option_or}
 use Rattle.std.proofs.Common.{◌≡◌, ℕ, ◌+◌, ◌<◌, List, [], ◌∷◌, length, map, take, drop, get_or, Option, Some, None, refl}
 use Rattle.std.specs.Prelude.{option_map}
 use Rattle.std.proofs.lemmas.List.{drop_more}
 use Rattle.ti_devices.specs.Paths.{path_of}
 use Rattle.ti_devices.specs.Tree.{Files, FindsFile}
-use Rattle.ti_tput.specs.Searching.{Finds, first_file, found_or}
+use Rattle.ti_tput.specs.Searching.{Finds, first_file}
 
-at_some : (count : ℕ) (o later : Option (List ℕ)) (b : List ℕ) → Some b ≡ option_map (take count) o → Some b ≡ option_map (take count) (found_or o later)
+at_some : (count : ℕ) (o later : Option (List ℕ)) (b : List ℕ) → Some b ≡ option_map (take count) o → Some b ≡ option_map (take count) (option_or o later)
 at_some count None later b e = absurd (cc)
 at_some count (Some x) later b e = e
 
 at_none : (count : ℕ) (o later r : Option (List ℕ)) → None ≡ option_map (take count) o → r ≡ option_map (take count) later
-    → r ≡ option_map (take count) (found_or o later)
+    → r ≡ option_map (take count) (option_or o later)
 at_none count None later r e is = is
 at_none count (Some x) later r e is = absurd (cc)
 

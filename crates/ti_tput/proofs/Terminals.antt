@@ -5,7 +5,7 @@ use Rattle.ti_layout.specs.View.{Entry, shown_entry}
 use Rattle.ti_tput.specs.Entries.{line_at_rate}
 use Rattle.ti_tput.specs.Replies.{reply_of}
 use Rattle.ti_tput.specs.Results.{Reply, tput_result}
-use Rattle.ti_tput.specs.Runs.{Course, LineStep, line_step, words_of}
+use Rattle.ti_tput.specs.Runs.{Course, LineStep, line_step, words_of, words_seen}
 use Rattle.ti_tput.specs.inside.Terminal.{HasCourse}
 use Rattle.ti_tput.specs.declared.replies.TputOutcome.{TputOutcome}
 use Rattle.ti_tput.specs.declared.terminal.Terminal.{Terminal}
@@ -15,7 +15,7 @@ pub of_rate : (entry : Entry) (rate : ℕ) (t : Terminal) (course : Course) → 
 of_rate entry rate t course holds = holds.of_rate ∙ ap (λ (e : Entry). line_at_rate e rate) (sym holds.of_entry)
 
 module _ (entry : Entry) (rate : ℕ) (course : Course) (t u : Terminal) (holds : HasCourse entry rate t course) (line : List ℕ) (words : List (List ℕ))
-    (front : words ≡ take 11 (words_of line)) (some : 0 < length words) (same_view : u.view ≡ t.view) (same_line : u.line ≡ t.line) where
+    (front : words ≡ take words_seen (words_of line)) (some : 0 < length words) (same_view : u.view ≡ t.view) (same_line : u.line ≡ t.line) where
   -- what the terminal's answer says of the course
   of_course : (r : Option Reply) → tput_result (shown_entry t.view) words rate t.statics ≡ r → tput_result entry words rate course.statics ≡ r
   of_course r is =

@@ -4,7 +4,7 @@ use Rattle.std.specs.Prelude.{List, [], ◌∷◌, length, codes, bytes_eq, slic
 use Rattle.std.specs.Str.{all_ascii_digits}
 use Rattle.std.specs.Str.Parse.{digits_value}
 use Rattle.ti_text.specs.Ascii as ascii
-use Rattle.ti_param.specs.Meaning.{Argument, number, text}
+use Rattle.ti_param.specs.Meaning.{FormatArgument, number, text}
 
 -- ---- numbers
 
@@ -40,21 +40,21 @@ is_text_place cap (suc (suc zero)) = bytes_eq cap (codes "pfxl")
 is_text_place cap (suc (suc (suc place))) = false
 
 -- a word that spells a number is a number, any other a text
-abbrev pub spelled_argument : List ℕ → Option ℤ → Argument
+abbrev pub spelled_argument : List ℕ → Option ℤ → FormatArgument
 spelled_argument word None = text word
 spelled_argument word (Some n) = number n
 
 -- the word at a place as a parameter of the capability; one that is not given is the number 0
-abbrev pub parameter : List ℕ → ℕ → Option (List ℕ) → Argument
+abbrev pub parameter : List ℕ → ℕ → Option (List ℕ) → FormatArgument
 parameter cap place None = number (pos 0)
 parameter cap place (Some word) = if is_text_place cap place then text word else spelled_argument word (word_number word)
 
 -- the parameter that stands at a place
-abbrev pub parameter_at : List ℕ → List (List ℕ) → ℕ → Argument
+abbrev pub parameter_at : List ℕ → List (List ℕ) → ℕ → FormatArgument
 parameter_at cap words place = parameter cap place (slice_get words place)
 
 -- the nine parameters that the words after a capability's name are
-unfoldable pub parameters : List ℕ → List (List ℕ) → List Argument
+unfoldable pub parameters : List ℕ → List (List ℕ) → List FormatArgument
 parameters cap words =
     parameter_at cap words 0 ∷ parameter_at cap words 1 ∷ parameter_at cap words 2 ∷ parameter_at cap words 3 ∷ parameter_at cap words 4
     ∷ parameter_at cap words 5 ∷ parameter_at cap words 6 ∷ parameter_at cap words 7 ∷ parameter_at cap words 8 ∷ []

@@ -4,7 +4,8 @@ use Rattle.std.specs.Prelude.{List, [], ◌∷◌, ◌++◌, length, codes, byte
 use Rattle.std.specs.Fmt.{decimal}
 use Rattle.std.specs.List.{after_last}
 use Rattle.ti_text.specs.Ascii as ascii
-use Rattle.ti_text.specs.Texts.{both_lists}
+use Rattle.ti_text.specs.Lists.{both_lists}
+use Rattle.ti_text.specs.Limits.{parameters_max}
 use Rattle.ti_param.specs.inside.Expansion.{Expansion, expanded, bad_format, stack_full, format_expansion}
 use Rattle.ti_printing.specs.declared.padding.Line.{Line}
 use Rattle.ti_printing.specs.Padding.{with_pad_bytes, padding_of, pad_bytes_max}
@@ -101,4 +102,4 @@ named_reply entry rate cap words statics =
 unfoldable pub tput_result : Entry → List (List ℕ) → ℕ → List ℤ → Option Reply
 tput_result entry [] rate statics = None
 tput_result entry (cap ∷ words) rate statics =
-    if nat_lt 9 (length words) then None else Some (named_reply entry rate cap words statics)
+    if nat_lt parameters_max (length words) then None else Some (named_reply entry rate cap words statics)

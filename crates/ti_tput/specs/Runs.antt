@@ -1,9 +1,10 @@
 -- What `tput -S` answers to the lines of its input (tput(1); the count of bad lines and the status are own).
-use Rattle.std.specs.Prelude.{◌≡◌, ℕ, zero, suc, ◌+◌, ◌==◌, nat_lt, min, Bool, if◌then◌else◌, Option, Some, None, ℤ, pos}
-use Rattle.std.specs.Prelude.{List, [], ◌∷◌, ◌++◌, length, filter, replicate}
+use Rattle.std.specs.Prelude.{◌≡◌, ℕ, zero, suc, ◌+◌, ◌==◌, nat_lt, min, Bool, if◌then◌else◌, Option, Some, None, ℤ}
+use Rattle.std.specs.Prelude.{List, [], ◌∷◌, ◌++◌, length, filter}
 use Rattle.std.specs.List.{slice_split}
-use Rattle.ti_source.specs.WhiteSpace.{is_white_space}
+use Rattle.ti_text.specs.WhiteSpace.{is_white_space}
 use Rattle.ti_layout.specs.View.{Entry}
+use Rattle.ti_param.specs.Meaning.{no_variables}
 use Rattle.ti_tput.specs.Results.{Reply, tput_result}
 
 -- ---- words
@@ -15,6 +16,10 @@ has_bytes word = nat_lt 0 (length word)
 -- the words of a line, which white space parts
 unfoldable pub words_of : List ℕ → List (List ℕ)
 words_of line = filter has_bytes (slice_split is_white_space line)
+
+-- so many words of a line are looked at: a name and nine parameters are the most that a command may have, and one more is too many
+abbrev pub words_seen : ℕ
+words_seen = 11
 
 -- ---- lines
 
@@ -58,7 +63,7 @@ steps entry rate course (line ∷ lines) =
 
 -- at the start no line was bad, and each static variable is 0
 abbrev pub lines_start : Course
-lines_start = record { bad = 0; statics = replicate 26 (pos 0) }
+lines_start = record { bad = 0; statics = no_variables }
 
 -- 0 where no line was bad, else 4 and the count of bad lines, at most 255
 abbrev pub run_status : ℕ → ℕ

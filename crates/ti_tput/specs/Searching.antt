@@ -1,4 +1,5 @@
 -- Where the entry of a terminal is looked for, and what its file says (term(5), "Storage location"; tput(1)).
+use Rattle.std.specs.Option.{option_or}
 use Rattle.std.specs.Prelude.{◌≡◌, ◌⊎◌, ℕ, suc, ◌≤◌, ◌<◌, ◌==◌, true, false, if◌then◌else◌, Option, Some, None, option_map, Result, Ok, Err}
 use Rattle.std.specs.Prelude.{List, [], ◌∷◌, ◌++◌, length, map, take, codes}
 use Rattle.std.specs.List.{slice_split}
@@ -47,15 +48,10 @@ places_of terminfo dirs = own_place terminfo ++ listed_places dirs ++ system_pla
 
 -- ---- the file of a name
 
--- the first of two that is there
-abbrev pub found_or : Option (List ℕ) → Option (List ℕ) → Option (List ℕ)
-found_or (Some bytes) later = Some bytes
-found_or None later = later
-
 -- the file of a name at the first place that has it
 unfoldable pub first_file : Files → List ℕ → List (List ℕ) → Option (List ℕ)
 first_file files name [] = None
-first_file files name (place ∷ places) = found_or (files (path_of place name)) (first_file files name places)
+first_file files name (place ∷ places) = option_or (files (path_of place name)) (first_file files name places)
 
 -- what was found of a name at these places, where it is known what the tree holds: so many bytes of the first file
 abbrev pub Finds : ℕ → Option Files → List ℕ → List (List ℕ) → Option (List ℕ) → Type 0
@@ -85,3 +81,8 @@ abbrev pub Opens : ℕ → List ℕ → Result View ToolError → Type 0
 Opens limit bytes (Ok view) = (length bytes ≤ limit) × Reads bytes (names_of view) (view_contents view)
 Opens limit bytes (Err (BadEntry error)) = ((length bytes ≤ limit) × FailsToRead bytes error) ⊎ IsTooLong limit bytes error
 Opens limit bytes (Err _) = ⊥
+
+-- the failures of a search, by its answer: one where the tree failed
+abbrev pub search_failures : {X : Type 0} → Result X ToolError → ℕ
+search_failures (Err ReadFault) = 1
+search_failures _ = 0

@@ -1,6 +1,7 @@
 //! `tput` of one command: a capability's name, and the words after it.
-ghost use Rattle.std.specs.Prelude.{◌≡◌, ℕ, OnErr, map, pos, replicate};
+ghost use Rattle.std.specs.Prelude.{◌≡◌, ℕ, OnErr, map};
 ghost use Rattle.ti_layout.specs.View.{shown_entry};
+ghost use Rattle.ti_param.specs.Meaning.{no_variables};
 ghost use Rattle.ti_tput.specs.Entries.{line_at_rate};
 ghost use Rattle.ti_tput.specs.Commands.{AnswersWords, AnswersAlone};
 ghost use Rattle.ti_tput.specs.Results.{tput_result};
@@ -12,9 +13,7 @@ use std::alloc::Global;
 use ti_devices::ToolError;
 use ti_layout::View;
 use ti_param::{Line, Statics};
-
-/// The most parameters that a command may have.
-const MOST_PARAMETERS: usize = 9;
+use ti_text::limits::PARAMETERS_MAX;
 
 /// What a command is answered on the line of its terminal, with the static variables of the commands before it.
 #[tactic(auto, unfolding(crate::specs::Results::tput_result))]
@@ -32,7 +31,7 @@ pub(crate) fn answer(
     let Some((cap, params)) = words.split_first() else {
         return Err(ToolError::Usage);
     };
-    if params.len() > MOST_PARAMETERS {
+    if params.len() > PARAMETERS_MAX {
         return Err(ToolError::Usage);
     }
     match answer_name(alloc, view, cap, params, line, statics) {
@@ -60,7 +59,7 @@ pub fn tput(
     words: &[&[u8]],
     rate: u32,
 ) -> Result<TputOutcome, ToolError>
-    ensures { AnswersAlone result (tput_result (shown_entry view.now) (map (λ word. word.now) words.now) rate (replicate 26 (pos 0))) }
+    ensures { AnswersAlone result (tput_result (shown_entry view.now) (map (λ word. word.now) words.now) rate no_variables) }
 {
     let line = terminal_line(view, rate);
     let mut statics = Statics::new();

@@ -5,6 +5,7 @@ ghost use Rattle.ti_tput.specs.Parameters.{is_text_place, parameter_at, paramete
 
 use std::str::from_utf8;
 use ti_param::Value;
+use ti_text::limits::PARAMETERS_MAX;
 
 /// The number that a word spells: an optional `-` and decimal digits, from -2,147,483,648 to 2,147,483,647.
 fn spelled_number(word: &[u8]) -> Option<i32>
@@ -49,7 +50,7 @@ fn parameter_at<'a>(cap: &[u8], words: &[&'a [u8]], place: usize) -> Value<'a>
 /// The words after a capability's name as its parameters: a word that spells a number is a number and any other a text, as is
 /// the second word of `pfkey`, `pfloc`, `pfx` and `pln`, and the second and third of `pfxl`.
 #[tactic(auto, unfolding(crate::specs::Parameters::parameters))]
-pub fn parameters<'a>(cap: &[u8], words: &[&'a [u8]]) -> [Value<'a>; 9]
+pub fn parameters<'a>(cap: &[u8], words: &[&'a [u8]]) -> [Value<'a>; PARAMETERS_MAX]
     ensures { map argument_of result ≡ parameters cap.now (map (λ word. word.now) words.now) }
 {
     [

@@ -27,7 +27,7 @@ pub struct TputOutcome {
 }
 
 // A string padded for one line; `None` where that is too much padding.
-fn padded_once(alloc: Global, text: &[u8], line: &Line) -> Result<Option<Vec<u8>>, AllocError>
+fn pad_once(alloc: Global, text: &[u8], line: &Line) -> Result<Option<Vec<u8>>, AllocError>
     ensures { IfOk result (λ found. made_bytes found ≡ padded_text line.now text.now) }
 {
     match pad(alloc, text, 1, line) {
@@ -38,7 +38,7 @@ fn padded_once(alloc: Global, text: &[u8], line: &Line) -> Result<Option<Vec<u8>
 }
 
 // The same of a string that an expansion made.
-fn padded_output(alloc: Global, output: Vec<u8>, line: &Line) -> Result<Option<Vec<u8>>, AllocError>
+fn pad_output(alloc: Global, output: Vec<u8>, line: &Line) -> Result<Option<Vec<u8>>, AllocError>
     ensures { IfOk result (λ found. made_bytes found ≡ padded_text line.now output.items) }
 {
     match pad_owned(alloc, output, 1, line) {
@@ -49,7 +49,7 @@ fn padded_output(alloc: Global, output: Vec<u8>, line: &Line) -> Result<Option<V
 }
 
 // Those of the strings that are present, each padded for itself; `None` where one has too much padding.
-fn padded_all(
+fn pad_each(
     alloc: Global,
     texts: &[Option<&[u8]>],
     line: &Line,
@@ -59,7 +59,7 @@ fn padded_all(
     let mut bytes = Vec::new(alloc);
     for text in texts {
         if let Some(text) = text {
-            let Some(more) = padded_once(alloc, text, line)? else {
+            let Some(more) = pad_once(alloc, text, line)? else {
                 return Ok(None);
             };
             bytes.extend_from_slice(more.as_slice())?;
@@ -82,12 +82,12 @@ fn string(
     ensures err { OnErr result (statics.new ≡ statics.old) }
 {
     if words.is_empty() {
-        return padded_once(alloc, text, line);
+        return pad_once(alloc, text, line);
     }
     let mut after = *statics;
     match expand(alloc, text, &parameters(cap, words), &mut after) {
         Ok(output) => {
-            let bytes = padded_output(alloc, output, line)?;
+            let bytes = pad_output(alloc, output, line)?;
             if bytes.is_some() {
                 *statics = after;
             }
@@ -178,7 +178,7 @@ fn answer_strings(
     ensures { (statics : List ℤ)
         → IfOk result (λ outcome. reply_of outcome statics ≡ sent_reply (padded_texts line.now (given_texts texts.now)) statics statics) }
 {
-    let made = padded_all(alloc, texts, line)?;
+    let made = pad_each(alloc, texts, line)?;
     Ok(outcome_of(alloc, made))
 }
 

@@ -1,10 +1,10 @@
 //! Where the entry of a terminal is looked for, its file, and the entry in it.
-ghost use Rattle.std.specs.Prelude.{◌≡◌, ◌+◌, ◌^◌, ◌<◌, ◌≤◌, ◌==◌, ◌++◌, ◌∷◌, ◌⊎◌, [], All, IfErr, IfOk, IsErrOf, OnOk, Some, map, length, option_map, suc};
+ghost use Rattle.std.specs.Prelude.{◌≡◌, ◌+◌, ◌^◌, ◌<◌, ◌==◌, ◌++◌, ◌∷◌, ◌⊎◌, [], All, IfErr, IfOk, OnOk, Some, map, length, option_map, suc};
 ghost use Rattle.std.specs.List.{slice_split};
 ghost use Rattle.std.specs.String.{string_bytes};
 ghost use Rattle.ti_text.specs.Ascii as ascii;
 ghost use Rattle.ti_devices.specs.declared.tool_error.ToolError.TheVariants.{Memory, ReadFault};
-ghost use Rattle.ti_tput.specs.Searching.{Finds, Locates, Opens, file_bytes_max, listed_places, place_of_part, places_of};
+ghost use Rattle.ti_tput.specs.Searching.{Finds, Locates, Opens, file_bytes_max, listed_places, place_of_part, places_of, search_failures};
 
 use std::alloc::{AllocError, Global};
 use ti_devices::{ToolError, Tree, TreeFault, entry_path};
@@ -95,8 +95,7 @@ fn search<T: Tree>(
     ensures found { IfOk result (λ found. Finds (limit + 1) (T.files tree.old) name.now (map string_bytes places.now)
         (option_map (λ bytes. bytes.items) found)) }
     ensures kept { T.files tree.new ≡ T.files tree.old }
-    ensures later { T.failures tree.old ≤ T.failures tree.new }
-    ensures failed { IsErrOf result ToolError.ReadFault → T.failures tree.old < T.failures tree.new }
+    ensures counted { T.failures tree.new ≡ T.failures tree.old + search_failures result }
     ensures faults { IfErr result (λ e. (e ≡ ReadFault) ⊎ (e ≡ Memory)) }
 {
     for place in places {
@@ -125,8 +124,7 @@ pub fn locate<T: Tree>(
 ) -> Result<Vec<u8>, ToolError>
     ensures located { Locates (suc file_bytes_max) (T.files tree.old) name.now (map string_bytes places.now) result }
     ensures kept { T.files tree.new ≡ T.files tree.old }
-    ensures later { T.failures tree.old ≤ T.failures tree.new }
-    ensures failed { IsErrOf result ToolError.ReadFault → T.failures tree.old < T.failures tree.new }
+    ensures counted { T.failures tree.new ≡ T.failures tree.old + search_failures result }
 {
     let name = name.as_bytes();
     if !is_lookup_name(name) {

@@ -1,19 +1,13 @@
 //! The words of a line.
 ghost use Rattle.std.specs.Prelude.{◌≡◌, ◌∷◌, ◌<◌, [], MatchOption, length, map, not, position, take};
-ghost use Rattle.ti_source.specs.WhiteSpace.{is_white_space};
-ghost use Rattle.ti_tput.specs.Runs.{words_of};
+ghost use Rattle.ti_text.specs.WhiteSpace.{is_white_space};
+ghost use Rattle.ti_tput.specs.Runs.{words_of, words_seen};
 
 use arrayvec::ArrayVec;
+use ti_text::is_white_space;
 
 /// One word more than a command may have: with so many it has too many.
 const MOST_WORDS: usize = 11;
-
-// Whether a byte parts words.
-fn is_white_space(byte: u8) -> bool
-    ensures { result ≡ is_white_space byte }
-{
-    byte == b' ' || byte == b'\t'
-}
 
 // Where the first word of a text begins.
 fn word_start(text: &[u8]) -> Option<usize>
@@ -43,7 +37,7 @@ fn next_word(text: &[u8]) -> Option<(&[u8], &[u8])>
 
 /// The words of a line, up to the eleventh.
 pub fn split_words(line: &[u8]) -> ArrayVec<&[u8], MOST_WORDS>
-    ensures { map (λ word. word.now) result.items ≡ take 11 (words_of line.now) }
+    ensures { map (λ word. word.now) result.items ≡ take words_seen (words_of line.now) }
 {
     let mut words = ArrayVec::new();
     let mut rest = line;

@@ -2,10 +2,10 @@
 use Rattle.std.specs.Prelude.{List, map, filter}
 use Rattle.ti_caps.specs.declared.capability.Kind.{Kind}
 use Rattle.ti_caps.specs.Tables.{same_kind, Capability, capability}
-use Rattle.ti_caps.specs.ByName.{Row, by_name}
+use Rattle.ti_caps.specs.Lookup.{NameRow, by_name}
 
 -- the capabilities of a kind that have a row, in the order of the rows
-abbrev pub rows_of_kind : Kind → List Row → List Capability
+abbrev pub rows_of_kind : Kind → List NameRow → List Capability
 rows_of_kind kind rows = map (λ row. capability row.1 row.2) (filter (λ row. same_kind row.1 kind) rows)
 
 -- the capabilities of a kind by the bytes of their names

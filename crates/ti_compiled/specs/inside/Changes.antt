@@ -5,7 +5,7 @@ use Rattle.ti_caps.specs.Tables.{Capability, IsCapability, capability, count_of}
 use Rattle.ti_caps.specs.declared.capability.Kind.TheVariants.{Number}
 use Rattle.ti_layout.specs.Layout.{absent_mark}
 use Rattle.ti_layout.specs.declared.layout.Format.TheVariants.{Extended}
-use Rattle.ti_layout.specs.Image.{image_limit, number_value, of_kind}
+use Rattle.ti_layout.specs.Image.{number_value, of_kind}
 use Rattle.ti_compiled.specs.Image.{contents_in, with_content}
 use Rattle.ti_layout.specs.Laws.{without_cancel}
 use Rattle.ti_layout.specs.Values.{Content, content_true, content_number, content_text, content_of, Contents, AgreesIfSome}
@@ -40,10 +40,6 @@ pub record IsSameBut (old new : List ℕ) (cap : Capability) : Type 0 where
 pub record IsLeft (old new held : Option Content) : Type 0 where
   pub same : old ≡ new → held ≡ without_cancel new
   pub gone : old ≢ new → held ≡ None
-
--- the most bytes that the entry may have once the capability has this
-abbrev pub limit_with : List ℕ → Capability → Option Content → ℕ
-limit_with bytes cap content = image_limit (with_content (contents_in bytes) cap content)
 
 -- what the bytes hold, with a number given or taken away
 abbrev pub with_number : List ℕ → ℕ → Option ℕ → Contents

@@ -3,7 +3,7 @@
 use Rattle.std.specs.Prelude.{ℕ, suc, ◌≡◌, ◌<◌, ◌≤◌, ◌+◌, ◌-◌, ◌*◌, ◌⊎◌, ◌++◌, List, [], ◌∷◌, length, take, drop, Option, Some, slice_get, slice_set}
 use Rattle.ti_components.specs.Graph.{Rows, HasEdge}
 use Rattle.ti_components.specs.Leading.{Leads}
-use Rattle.ti_components.specs.Components.{Has}
+use Rattle.ti_text.specs.Lists.{Has}
 use Rattle.ti_components.specs.declared.search.Progress.{Progress}
 use Rattle.ti_components.specs.declared.search.Progress.TheVariants.{Unseen, OnPath, Closed}
 use Rattle.ti_components.specs.declared.search.Search.{Search}
@@ -33,10 +33,12 @@ pub record IsPath (graph : Rows) (progress : List Progress) (cursors path starts
   pub active_rises : Rises active
   pub held : (s : ℕ) → Has starts s → Has active s
   pub within : (k : ℕ) → Has active k → k < length path
-  pub spent : (k v i : ℕ) (row : List (Option ℕ)) → slice_get path k ≡ Some v → (Has active k → ⊥) → slice_get cursors v ≡ Some i → slice_get graph v ≡ Some row → length row ≤ i
+  pub spent : (k v i : ℕ) (row : List (Option ℕ)) → slice_get path k ≡ Some v → (Has active k → ⊥) → slice_get cursors v ≡ Some i
+      → slice_get graph v ≡ Some row → length row ≤ i
   pub forward : (j k u v : ℕ) → j ≤ k → slice_get path j ≡ Some u → slice_get path k ≡ Some v → Leads graph u v
   pub back : (j k u v : ℕ) → j ≤ k → slice_get path j ≡ Some u → slice_get path k ≡ Some v → ((s : ℕ) → Has starts s → j < s → k < s) → Leads graph v u
-  pub explored : (k u i place w : ℕ) (row : List (Option ℕ)) → slice_get path k ≡ Some u → slice_get cursors u ≡ Some i → place < i → slice_get graph u ≡ Some row → slice_get row place ≡ Some (Some w) → IsExplored progress path starts k w
+  pub explored : (k u i place w : ℕ) (row : List (Option ℕ)) → slice_get path k ≡ Some u → slice_get cursors u ≡ Some i → place < i
+      → slice_get graph u ≡ Some row → slice_get row place ≡ Some (Some w) → IsExplored progress path starts k w
 
 -- the closed components, all below a number
 pub record AreGroups (graph : Rows) (progress : List Progress) (count : ℕ) : Type 0 where
@@ -111,11 +113,13 @@ pub record Follows (old new : Search) (edge : Option ℕ) : Type 0 where
   pub cursors : new.cursors.items ≡ old.cursors.items
   pub met : KeepsMet old new
   pub few : length new.active.items ≤ length old.active.items + 1
-  pub followed : (graph : Rows) (place node : ℕ) → IsWalkOf graph old → IsTop old.active.items place → slice_get old.path.items place ≡ Some node → ((target : ℕ) → edge ≡ Some target → HasEdge graph node target) → IsFollowed graph new place node edge
+  pub followed : (graph : Rows) (place node : ℕ) → IsWalkOf graph old → IsTop old.active.items place → slice_get old.path.items place ≡ Some node
+      → ((target : ℕ) → edge ≡ Some target → HasEdge graph node target) → IsFollowed graph new place node edge
 
 -- no edge is left of the node at the place
 abbrev pub IsSpent : Rows → Search → ℕ → Type 0
-IsSpent graph s place = (v i : ℕ) (row : List (Option ℕ)) → slice_get s.path.items place ≡ Some v → slice_get s.cursors.items v ≡ Some i → slice_get graph v ≡ Some row → length row ≤ i
+IsSpent graph s place = (v i : ℕ) (row : List (Option ℕ)) → slice_get s.path.items place ≡ Some v → slice_get s.cursors.items v ≡ Some i
+    → slice_get graph v ≡ Some row → length row ≤ i
 
 -- the last active place was left
 pub record Leaves (old new : Search) : Type 0 where

@@ -1,6 +1,6 @@
 -- How far a search for the blocks that depend on an edit has come, and what each of its steps adds (own).
 use Rattle.std.specs.Prelude.{ℕ, ◌≡◌, ◌<◌, ◌⊎◌, ◌++◌, List, Option, Some, None, slice_get}
-use Rattle.ti_index.specs.Labels.{Has}
+use Rattle.ti_text.specs.Lists.{Has}
 use Rattle.ti_index.specs.Names.{users_at}
 use Rattle.ti_meaning.specs.Exchange.{Exchange}
 use Rattle.ti_meaning.specs.Dependents.{IsDependent}
@@ -33,7 +33,7 @@ IsUserOfOwned slots holder names id =
 abbrev pub IsPutOrUser : Slots → ℕ → ℕ → Type 0
 IsPutOrUser slots put id = (id ≡ put) ⊎ IsUserOfOne slots (reading_at slots.slots.items put).names id
 
--- so it is, if a block was put in
+-- the same where a block was put in; nothing where none was
 abbrev pub IsPutOrUserIn : Slots → Option ℕ → ℕ → Type 0
 IsPutOrUserIn slots None id = ⊥
 IsPutOrUserIn slots (Some put) id = IsPutOrUser slots put id
@@ -50,4 +50,5 @@ pub record IsSearch (slots : Slots) (put : Option ℕ) (out : List (List ℕ)) (
   pub sound : (id : ℕ) → Has found id → Depends slots put out id
   pub has_put : (id : ℕ) → IsPutOrUserIn slots put id → Has found id
   pub has_out : (id : ℕ) → IsUserOfOne slots out id → Has found id
-  pub closed : (i holder : ℕ) → i < next → slice_get found i ≡ Some holder → (id : ℕ) → IsUserOfOwned slots holder (reading_at slots.slots.items holder).names id → Has found id
+  pub closed : (i holder : ℕ) → i < next → slice_get found i ≡ Some holder → (id : ℕ)
+      → IsUserOfOwned slots holder (reading_at slots.slots.items holder).names id → Has found id

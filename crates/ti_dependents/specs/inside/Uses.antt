@@ -20,4 +20,5 @@ pub record AddsRow (slots : Slots) (ids : List ℕ) (items : List ReadItem) (old
 -- a row for each of the blocks `done`, with edges to the places among the ids
 pub record AreRowsOf (slots : Slots) (ids done : List ℕ) (graph : Rows) : Type 0 where
   pub as_many : length graph ≡ length done
-  pub rows : (i id : ℕ) (row : List (Option ℕ)) → slice_get done i ≡ Some id → slice_get graph i ≡ Some row → IsEdgeRowOf slots ids (reading_at slots.slots.items id).items row
+  pub rows : (i id : ℕ) (row : List (Option ℕ)) → slice_get done i ≡ Some id → slice_get graph i ≡ Some row
+      → IsEdgeRowOf slots ids (reading_at slots.slots.items id).items row

@@ -12,3 +12,7 @@ pub record AreMentionPlaces (es : List TableEntry) (places : List ℕ) : Type 0 
   pub all : length places ≡ capability_count
   pub none : (c : Capability) → IsCapability c → slice_index places (rank_of c) ≡ 0 → contents es c ≡ None
   pub first : (rank p : ℕ) → slice_index places rank ≡ suc p → (p < length es) × ((e : TableEntry) → Decides es rank (slice_index_or es p e))
+
+-- after how many mentions a table is made of them
+abbrev pub recent_max : ℕ
+recent_max = 1000

@@ -8,7 +8,8 @@ use Rattle.ti_layout.specs.declared.layout.Format.TheVariants.{Legacy}
 use Rattle.ti_layout.specs.declared.layout.Header.{Header}
 use Rattle.ti_layout.specs.declared.sections.Sections.{Sections}
 use Rattle.ti_layout.specs.Layout.{first_negative, header_size, magic, width}
-use Rattle.ti_layout.specs.Reading.{word_at, number_at, count_in, format_in, names_size, flag_count, number_count, text_count, strings_size, end_place, names_section, flags_section, numbers_section, offsets_section, strings_section, IsFlagByte, IsStoredNumber, IsOffset}
+use Rattle.ti_layout.specs.Reading.{word_at, number_at, count_in, format_in, names_size, flag_count, number_count, text_count, strings_size, end_place}
+use Rattle.ti_layout.specs.Reading.{names_section, flags_section, numbers_section, offsets_section, strings_section, IsFlagByte, IsStoredNumber, IsOffset}
 
 -- the header has the sizes and counts with which the bytes begin
 pub record IsHeaderAt (bytes : List ℕ) (h : Header) : Type 0 where

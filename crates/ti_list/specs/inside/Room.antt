@@ -29,5 +29,6 @@ uses_room (o ∷ os) = length (first_name o.names) + 7 + uses_room os
 -- enough for the source of an entry that uses the others, whatever its layout
 abbrev pub source_room : Entry → List Entry → Order → ℕ
 source_room entry others order =
-    length entry.names + 2 + items_room (items_for (differing_contents entry.contents others) (in_order order Flag)) + items_room (items_for (differing_contents entry.contents others) (in_order order Number))
+    length entry.names + 2 + items_room (items_for (differing_contents entry.contents others) (in_order order Flag)) + items_room
+    (items_for (differing_contents entry.contents others) (in_order order Number))
     + items_room (items_for (differing_contents entry.contents others) (in_order order Text)) + uses_room others

@@ -16,7 +16,7 @@ names_at env depth name = option_and_then (expand env depth) (env name)
 abbrev pub AddsBehind : Contents → List Mention → Contents → Type 0
 AddsBehind old mentions new = (c : Capability) → IsCapability c → new c ≡ option_or (old c) (leftmost_content mentions c)
 
--- the table of a block of the list: some depth expands the block, and the table tells what the mentions say
+-- the table of a block of the list: some depth expands the block, and the table says what the mentions say
 pub record IsTableOf (blocks : List Reading) (block : Reading) (table : Contents) : Type 0 where
   pub depth : ℕ
   pub mentions : List Mention
@@ -35,11 +35,4 @@ pub record AddsSaid (blocks : List Reading) (item : Said) (old new : Contents) :
   pub depth : ℕ
   pub mentions : List Mention
   pub expands : mentions_of (names_at (owner_block blocks) depth) item ≡ Some mentions
-  pub adds : AddsBehind old mentions new
-
--- a table that takes from the owner of a name what it did not have
-pub record AddsNamed (blocks : List Reading) (name : List ℕ) (old new : Contents) : Type 0 where
-  pub depth : ℕ
-  pub mentions : List Mention
-  pub expands : names_at (owner_block blocks) depth name ≡ Some mentions
   pub adds : AddsBehind old mentions new

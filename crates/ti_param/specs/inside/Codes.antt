@@ -1,5 +1,6 @@
 -- The code at the front of a text, and the text after it, computed; and the law that this is the table of `Codes` (own).
-use Rattle.std.specs.Prelude.{◌≡◌, ℕ, Bool, true, false, ◌&&◌, ◌||◌, List, [], ◌∷◌, ◌++◌, length, pos, if◌then◌else◌, ◌==◌, nat_lt, nat_le, Option, Some, None, option_map, is_some}
+use Rattle.std.specs.Prelude.{◌≡◌, ℕ, Bool, true, false, ◌&&◌, ◌||◌, List, [], ◌∷◌, ◌++◌, length, pos, if◌then◌else◌, ◌==◌, nat_lt, nat_le, Option, Some, None}
+use Rattle.std.specs.Prelude.{option_map, is_some}
 use Rattle.ti_text.specs.Ascii.{byte_of}
 use Rattle.ti_text.specs.Ascii as ascii
 use Rattle.ti_text.specs.Digits.{is_decimal_digit, decimal_value}
@@ -9,7 +10,8 @@ use Rattle.ti_param.specs.declared.codes.Token.{Token}
 use Rattle.ti_param.specs.declared.codes.Token.TheVariants.{Operation}
 use Rattle.ti_printing.specs.declared.printf.Directive.{Directive}
 use Rattle.ti_printing.specs.declared.printf.Flags.{Flags}
-use Rattle.ti_param.specs.Codes.{IsCode, begins_zero, conversions, flags_from, greatest_size, is_flag, no_flags, parameter_numbered, row_for, simple_tokens, span, variable_named}
+use Rattle.ti_param.specs.Codes.{IsCode, begins_zero, conversions, flags_from, greatest_size, is_flag, no_flags, parameter_numbered, row_for, simple_tokens}
+use Rattle.ti_param.specs.Codes.{span, variable_named}
 
 -- what a text has at its front, and the text after it, if it has such a thing there
 abbrev pub Front : Type 0 → Type 0

@@ -3,7 +3,7 @@ use Rattle.std.specs.Prelude.{◌≡◌, ℕ, List, Option, Some, None, ℤ, Res
 use Rattle.ti_param.specs.declared.errors.ParamError.{ParamError}
 use Rattle.ti_param.specs.declared.errors.ParamError.TheVariants.{BadFormat, StackFull, Memory}
 use Rattle.ti_param.specs.inside.Formats.{stuck_place, tree_of}
-use Rattle.ti_param.specs.Meaning.{Argument, State, Outcome, start, meaning}
+use Rattle.ti_param.specs.Meaning.{FormatArgument, MachineState, MachineOutcome, start, meaning}
 
 -- what an expansion gives: output and static variables, or the place where the format is bad or the stack full
 pub data Expansion : Type 0 where
@@ -12,17 +12,17 @@ pub data Expansion : Type 0 where
   stack_full : (place : ℕ) → Expansion
 
 -- the expansion whose run has this outcome
-abbrev pub expansion_by : Outcome → Expansion
+abbrev pub expansion_by : MachineOutcome → Expansion
 expansion_by (Ok final) = expanded final.output final.statics
 expansion_by (Err place) = stack_full place
 
 -- a bad format where there is a place at which it is stuck, else the expansion by the run's outcome
-abbrev pub unless_stuck : Option ℕ → Outcome → Expansion
+abbrev pub unless_stuck : Option ℕ → MachineOutcome → Expansion
 unless_stuck None outcome = expansion_by outcome
 unless_stuck (Some place) outcome = bad_format place
 
 -- what a format expands to with these parameters and static variables
-unfoldable pub format_expansion : List ℕ → List Argument → List ℤ → Expansion
+unfoldable pub format_expansion : List ℕ → List FormatArgument → List ℤ → Expansion
 format_expansion format parameters statics = unless_stuck (stuck_place format) (meaning (tree_of format) (start parameters statics))
 
 -- the error that an expansion ends with; want of memory may come where the format is not stuck
@@ -34,8 +34,8 @@ EndsWith Memory e = Unit {0}
 
 -- ---- its parts
 
--- how a step of the machine ended and left it, where this is what it is to do; want of memory leaves it anyhow
-abbrev pub HasOutcome : Result (Unit {0}) ParamError → State → Outcome → Type 0
+-- the step did what it is to do and left the machine so, or it was refused; for want of memory the machine may be left in any way
+abbrev pub HasOutcome : Result (Unit {0}) ParamError → MachineState → MachineOutcome → Type 0
 HasOutcome (Ok done) after outcome = outcome ≡ Ok after
 HasOutcome (Err (StackFull place)) after outcome = outcome ≡ Err place
 HasOutcome (Err Memory) after outcome = Unit {0}

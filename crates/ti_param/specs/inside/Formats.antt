@@ -7,7 +7,7 @@ use Rattle.ti_param.specs.declared.codes.Token.TheVariants.{Literal, Operation, 
 use Rattle.ti_param.specs.declared.lexer.Placed.{Placed}
 use Rattle.ti_text.specs.Ascii as ascii
 use Rattle.ti_param.specs.inside.Codes.{Front, token_after}
-use Rattle.ti_param.specs.Formats.{IsStuck, IsTree, Tree, byte, choice, code, group, most_open, nothing, placed_token}
+use Rattle.ti_param.specs.Formats.{IsStuck, IsTree, FormatTree, byte, choice, code, group, most_open, nothing, placed_token}
 
 -- the tokens up to the first `%` that begins no code, and that place, where there is one
 pub record Scan : Type 0 where
@@ -67,10 +67,10 @@ stuck_place format = refusal [] (scan_of format).tokens (scan_of format).stop
 -- the tree of the pieces up to the first `%t`, `%e` or `%;` that belongs to a conditional begun before, and such marks with
 -- the trees between them
 abbrev pub Marks : Type 0
-Marks = List (Token × Tree)
+Marks = List (Token × FormatTree)
 
 -- what stands in a conditional that begins with this test, the tree of what follows the conditional, and the marks after it
-abbrev pub conditional_of : Tree → Marks → Tree × Tree × Marks
+abbrev pub conditional_of : FormatTree → Marks → FormatTree × FormatTree × Marks
 conditional_of test [] = (test, nothing, [])
 conditional_of test ((EndIf, next) ∷ marks) = (test, next, marks)
 conditional_of test ((Then, taken) ∷ []) = (choice test taken nothing, nothing, [])
@@ -80,11 +80,11 @@ conditional_of test ((Then, taken) ∷ ((Else, other) ∷ marks)) =
 conditional_of test (mark ∷ marks) = (test, nothing, [])
 
 -- a conditional and what follows it as one tree, and the marks after them
-abbrev pub grouped_tree : Tree × Tree × Marks → Tree × Marks
+abbrev pub grouped_tree : FormatTree × FormatTree × Marks → FormatTree × Marks
 grouped_tree parts = (group parts.0 parts.1, parts.2)
 
 -- the tree and the marks of a list of tokens, by its first token and those of the others
-abbrev pub with_first_token : Placed → Tree × Marks → Tree × Marks
+abbrev pub with_first_token : Placed → FormatTree × Marks → FormatTree × Marks
 with_first_token p (next, marks) = elim p.token [
   | Literal b ↦ (byte b next, marks)
   | Operation c ↦ (code p.place c next, marks)
@@ -95,17 +95,17 @@ with_first_token p (next, marks) = elim p.token [
 ]
 
 -- the tree of a list of tokens up to its first mark, and the marks from there on
-unfoldable pub tree_and_marks : List Placed → Tree × Marks
+unfoldable pub tree_and_marks : List Placed → FormatTree × Marks
 tree_and_marks [] = (nothing, [])
 tree_and_marks (p ∷ tokens) = with_first_token p (tree_and_marks tokens)
 
 -- the tree of a format that is not stuck
-abbrev pub tree_of : List ℕ → Tree
+abbrev pub tree_of : List ℕ → FormatTree
 tree_of format = (tree_and_marks (scan_of format).tokens).0
 
 -- the law of the computing reader: it gives the tree, and the place, that there are
 pub record IsFormatComputed (format : List ℕ) : Type 0 where
-  pub tree : (t : Tree) → IsTree format t ↔ ((stuck_place format ≡ None) × (tree_of format ≡ t))
+  pub tree : (t : FormatTree) → IsTree format t ↔ ((stuck_place format ≡ None) × (tree_of format ≡ t))
   pub stuck : (place : ℕ) → IsStuck format place ↔ (stuck_place format ≡ Some place)
 
 -- How many conditionals are open in a skipped part after one more token. None where the token ends the part: its `%;`, or

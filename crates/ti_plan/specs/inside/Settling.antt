@@ -14,7 +14,7 @@ use Rattle.ti_meaning.specs.UseLaws.{AreFound, HaveOneNumber}
 use Rattle.ti_meaning.specs.ValueTables.{HasTable, IsTableOfMentions}
 use Rattle.ti_components.specs.Graph.{Rows, HasEdge, IsGraph}
 use Rattle.ti_components.specs.Components.{AreComponents}
-use Rattle.ti_index.specs.Labels.{IsDistinct}
+use Rattle.ti_index.specs.Labels.{AreDistinct}
 use Rattle.ti_slots.specs.declared.slots.Slots.{Slots}
 use Rattle.ti_slots.specs.declared.slots.Settled.{Settled}
 use Rattle.ti_slots.specs.declared.slots.State.{State}
@@ -30,7 +30,7 @@ use Rattle.ti_plan.specs.Plans.{HoldsSettled}
 pub record AreFoundIn (slots : Slots) (dependents : Dependents) : Type 0 where
   pub indexed : IsIndexed slots
   pub usable : All IsUsable (blocks_of slots)
-  pub distinct : IsDistinct slots.order.listed
+  pub distinct : AreDistinct slots.order.listed
   pub as_many : length dependents.places.items ≡ length dependents.ids.items
   pub stands : (i id at : ℕ) → slice_get dependents.ids.items i ≡ Some id → slice_get dependents.places.items i ≡ Some at → StandsAt slots at id
   pub once : (i j id : ℕ) → slice_get dependents.ids.items i ≡ Some id → slice_get dependents.ids.items j ≡ Some id → i ≡ j
@@ -47,7 +47,8 @@ node_position dependents node = slice_index dependents.places.items node
 pub record IsPlanOf (slots : Slots) (dependents : Dependents) (plan : Plan) : Type 0 where
   pub ids : plan.ids ≡ dependents.ids
   pub as_many : length plan.settled.items ≡ length dependents.ids.items
-  pub settled : (node at : ℕ) (block : Reading) (one : Settled) → slice_get plan.settled.items node ≡ Some one → slice_get dependents.places.items node ≡ Some at
+  pub settled : (node at : ℕ) (block : Reading) (one : Settled) → slice_get plan.settled.items node ≡ Some one
+      → slice_get dependents.places.items node ≡ Some at
       → slice_get (blocks_of slots) at ≡ Some block → IsSettled (blocks_of slots) at block one
   pub rising : IsRising plan.rebuilt.items
   pub members : (at : ℕ) → Contains plan.rebuilt.items at ↔ Contains dependents.places.items at
@@ -130,4 +131,5 @@ pub record IsOwnerState (blocks : List Reading) (at : ℕ) (name : List ℕ) (st
 -- the table is that of the owner of the name
 abbrev pub IsUsedTable : List Reading → List ℕ → Contents → Type 0
 IsUsedTable blocks name table =
-    (block : Reading) × (owner_block blocks name ≡ Some block) × ((mentions : List Mention) × (expansion blocks block ≡ Some mentions) × IsTableOfMentions table mentions)
+    (block : Reading) × (owner_block blocks name ≡ Some block)
+    × ((mentions : List Mention) × (expansion blocks block ≡ Some mentions) × IsTableOfMentions table mentions)

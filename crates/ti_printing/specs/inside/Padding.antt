@@ -1,10 +1,15 @@
 -- The cut of a text into paddings and other bytes, computed (own).
-use Rattle.std.specs.Prelude.{ℕ, zero, suc, ◌+◌, ◌-◌, ◌*◌, Bool, true, false, List, [], ◌∷◌, length, drop, take, if◌then◌else◌, ◌==◌, Option, Some, None, option_and_then}
+use Rattle.std.specs.Prelude.{ℕ, zero, suc, ◌+◌, ◌-◌, ◌*◌, Bool, true, false, List, [], ◌∷◌, length, drop, take, if◌then◌else◌, ◌==◌, Option, Some, None}
+use Rattle.std.specs.Prelude.{option_and_then}
 use Rattle.ti_text.specs.Ascii as ascii
 use Rattle.ti_text.specs.Digits.{is_decimal_digit, decimal_digit_value, decimal_value}
 use Rattle.ti_printing.specs.declared.padding.Padding.{Padding}
 use Rattle.ti_printing.specs.declared.padding.Part.{Part}
 use Rattle.ti_printing.specs.declared.padding.Part.TheVariants.{Literal, Delay}
+
+-- the most digits of the milliseconds (own)
+abbrev pub delay_digits_max : ℕ
+delay_digits_max = 5
 
 -- what follows the byte, where the text begins with it
 abbrev pub after_byte : ℕ → List ℕ → Option (List ℕ)
@@ -19,7 +24,7 @@ digits_len (suc most) (byte ∷ text) = if is_decimal_digit byte then suc (digit
 
 -- the number and what follows it
 abbrev pub milliseconds_at : List ℕ → Option (ℕ × List ℕ)
-milliseconds_at text = let len = digits_len 5 text in
+milliseconds_at text = let len = digits_len delay_digits_max text in
     if len == 0 then None else Some (decimal_value (take len text), drop len text)
 
 -- the tenths and what follows them, given what follows a `.`, if one is there
@@ -61,7 +66,8 @@ padding_from whole = let part = tenths_at whole.1 in padding_with (10 * whole.0 
 -- the padding that the text begins with, and what follows it
 unfoldable pub padding_at : List ℕ → Option (Padding × List ℕ)
 padding_at text =
-    option_and_then (λ opened. option_and_then (λ inner. option_and_then padding_from (milliseconds_at inner)) (after_byte ascii.less_than opened)) (after_byte ascii.dollar text)
+    option_and_then (λ opened. option_and_then (λ inner. option_and_then padding_from (milliseconds_at inner)) (after_byte ascii.less_than opened))
+    (after_byte ascii.dollar text)
 
 -- the first part of a text: the padding that it begins with, else its first byte
 abbrev pub first_part : Option (Padding × List ℕ) → ℕ → Part

@@ -5,15 +5,15 @@ use Rattle.ti_session.specs.declared.requests.Opened.{Opened}
 use Rattle.ti_session.specs.declared.requests.Opened.TheVariants.{Insert, Replace}
 use Rattle.ti_session.specs.declared.requests.Request.{Request}
 use Rattle.ti_session.specs.declared.requests.Request.TheVariants.{Nothing, Open, Remove, Relocate, Print, Report, Rebuilt, Unknown}
-use Rattle.ti_session.specs.Script.{Mode, outside, in_insertion, in_replacement, Meaning, goes_on, asks, edits, prints, rebuilds, reports, nothing_known}
+use Rattle.ti_session.specs.Script.{ScriptMode, outside, in_insertion, in_replacement, Meaning, goes_on, asks, edits, prints, rebuilds, reports, nothing_known}
 
 -- the mode of a block that was opened, with this text so far
-abbrev pub opened_mode : Opened → List ℕ → Mode
+abbrev pub opened_mode : Opened → List ℕ → ScriptMode
 opened_mode (Insert at) text = in_insertion at text
 opened_mode (Replace at) text = in_replacement at text
 
 -- the mode where such a block is open, or none is
-abbrev pub mode_of : Option Opened → List ℕ → Mode
+abbrev pub mode_of : Option Opened → List ℕ → ScriptMode
 mode_of None text = outside
 mode_of (Some opened) text = opened_mode opened text
 

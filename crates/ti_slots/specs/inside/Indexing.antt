@@ -25,14 +25,16 @@ IsPart listed list = (test : ℕ → Bool) × (list ≡ filter test listed)
 
 -- the id has come to the lists of the names that pass a test. `lists` are those lists, `rest` the others
 pub record AddsId (lists rest : NameIndex → List ℕ → List ℕ) (listed : List ℕ) (passes : List ℕ → Bool) (id : ℕ) (old new : NameIndex) : Type 0 where
-  pub added : (name : List ℕ) (test : ℕ → Bool) → lists old name ≡ filter test listed → lists new name ≡ filter (λ x. (nat_eq x id && passes name) || test x) listed
+  pub added : (name : List ℕ) (test : ℕ → Bool) → lists old name ≡ filter test listed
+      → lists new name ≡ filter (λ x. (nat_eq x id && passes name) || test x) listed
   pub elsewhere : (name : List ℕ) → passes name ≡ false → mentions_at new name ≡ mentions_at old name
   pub kept : (name : List ℕ) → rest new name ≡ rest old name
   pub capacity : (name : List ℕ) → KeepsCapacity old new name
 
 -- the id has gone from the lists of the names that pass a test
 pub record Removes (lists rest : NameIndex → List ℕ → List ℕ) (listed : List ℕ) (passes : List ℕ → Bool) (id : ℕ) (old new : NameIndex) : Type 0 where
-  pub removed : (name : List ℕ) (test : ℕ → Bool) → lists old name ≡ filter test listed → lists new name ≡ filter (λ x. not (nat_eq x id && passes name) && test x) listed
+  pub removed : (name : List ℕ) (test : ℕ → Bool) → lists old name ≡ filter test listed
+      → lists new name ≡ filter (λ x. not (nat_eq x id && passes name) && test x) listed
   pub kept : (name : List ℕ) → rest new name ≡ rest old name
   pub capacity : (name : List ℕ) → KeepsCapacity old new name
 
@@ -49,7 +51,7 @@ pub record IsGrown (old new : NameIndex) : Type 0 where
 abbrev pub HasRoomAt : (List ℕ → Bool) → NameIndex → Type 0
 HasRoomAt passes index = (name : List ℕ) → passes name ≡ true → HasHolderRoom index name × HasUserRoom index name
 
--- the index shows the same, and nothing is kept of those of the names that pass a test which no block has or uses
+-- the index shows the same; of the names that pass a test, those that no block has or uses are forgotten
 pub record Forgets (passes : List ℕ → Bool) (old new : NameIndex) : Type 0 where
   pub same : ShowsSameNames old new
   pub gone : (name : List ℕ) → passes name ≡ true → IsForgotten new name

@@ -23,6 +23,6 @@ to_next_head [] = []
 to_next_head (x ∷ xs) = x ∷ front_of x xs
 
 -- a source as it is cut: what a walk over its blocks has kept and has still to give
-pub record Pieces : Type 0 where
+pub record BlockPieces : Type 0 where
   pub preface : List ℕ
   pub blocks : List (List ℕ)

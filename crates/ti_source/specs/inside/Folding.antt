@@ -1,14 +1,14 @@
 -- The folded text of a block, computed (own).
 use Rattle.ti_text.specs.Ascii as ascii
 use Rattle.std.specs.Prelude.{◌≡◌, ℕ, ◌+◌, Bool, true, false, ◌||◌, ◌&&◌, ◌==◌, if◌then◌else◌, List, [], ◌∷◌}
-use Rattle.ti_source.specs.WhiteSpace.{is_white_space}
+use Rattle.ti_text.specs.WhiteSpace.{is_white_space}
 
 -- a byte, and the line that it stands on
-abbrev pub Placed : Type 0
-Placed = ℕ × ℕ
+abbrev pub PlacedByte : Type 0
+PlacedByte = ℕ × ℕ
 
 -- the bytes of a text that begins on a line
-abbrev pub bytes_on_lines : ℕ → List ℕ → List Placed
+abbrev pub bytes_on_lines : ℕ → List ℕ → List PlacedByte
 bytes_on_lines line [] = []
 bytes_on_lines line (b ∷ bs) = (b, line) ∷ bytes_on_lines (if b == ascii.newline then line + 1 else line) bs
 
@@ -17,7 +17,7 @@ abbrev pub in_comment : Bool → ℕ → ℕ → Bool
 in_comment comment before b = if before == ascii.newline then b == ascii.number_sign else comment
 
 -- the bytes that stand in no comment
-abbrev pub without_comments : Bool → ℕ → List Placed → List Placed
+abbrev pub without_comments : Bool → ℕ → List PlacedByte → List PlacedByte
 without_comments comment before [] = []
 without_comments comment before (x ∷ xs) =
     if in_comment comment before x.0
@@ -25,7 +25,7 @@ without_comments comment before (x ∷ xs) =
     else x ∷ without_comments false x.0 xs
 
 -- the bytes without each newline and the run of white space and newlines after it, where `joining` says that such a run stands just before
-abbrev pub without_breaks : Bool → List Placed → List Placed
+abbrev pub without_breaks : Bool → List PlacedByte → List PlacedByte
 without_breaks joining [] = []
 without_breaks joining (x ∷ xs) =
     if x.0 == ascii.newline || (joining && is_white_space x.0)
@@ -33,7 +33,7 @@ without_breaks joining (x ∷ xs) =
     else x ∷ without_breaks false xs
 
 -- the folded text of a block: comments are left out first, then line breaks; a newline stands before a block, and its lines are counted from 1
-abbrev pub folding_of : List ℕ → List Placed
+abbrev pub folding_of : List ℕ → List PlacedByte
 folding_of block = without_breaks false (without_comments false ascii.newline (bytes_on_lines 1 block))
 
 -- what stands behind the first line of a text
@@ -42,6 +42,6 @@ after_line [] = []
 after_line (b ∷ bs) = if b == ascii.newline then bs else after_line bs
 
 -- White space was passed over at the front of `old`, and `new` is left.
-pub data SkipsWhiteSpace : (old new : List Placed) → Type 0 where
-  skips_nothing : {old : List Placed} → SkipsWhiteSpace old old
-  skips_byte : {old new : List Placed} (x : Placed) → SkipsWhiteSpace old (x ∷ new) → is_white_space x.0 ≡ true → SkipsWhiteSpace old new
+pub data SkipsWhiteSpace : (old new : List PlacedByte) → Type 0 where
+  skips_nothing : {old : List PlacedByte} → SkipsWhiteSpace old old
+  skips_byte : {old new : List PlacedByte} (x : PlacedByte) → SkipsWhiteSpace old (x ∷ new) → is_white_space x.0 ≡ true → SkipsWhiteSpace old new

@@ -1,24 +1,26 @@
 -- The names field, the items and what an item states, computed; what a reader of a folded text takes, and statements in memory (own).
 use Rattle.ti_text.specs.Ascii as ascii
-use Rattle.std.specs.Prelude.{◌≡◌, ℕ, Bool, true, false, not, ◌&&◌, ◌==◌, if◌then◌else◌, List, [], ◌∷◌, ◌++◌, map, length, take, slice_index, ◌<◌, ◌≤◌, Option, Some, None}
-use Rattle.ti_source.specs.WhiteSpace.{is_white_space, without_trailing_space}
+use Rattle.std.specs.Prelude.{◌≡◌, ℕ, Bool, true, false, not, ◌&&◌, ◌==◌, if◌then◌else◌, List, [], ◌∷◌, ◌++◌, map, length, take, slice_index, ◌<◌, ◌≤◌, Option}
+use Rattle.std.specs.Prelude.{Some, None}
+use Rattle.ti_text.specs.WhiteSpace.{is_white_space}
+use Rattle.ti_source.specs.WhiteSpace.{without_trailing_space}
 use Rattle.ti_source.specs.Cutting.{last_byte}
-use Rattle.ti_source.specs.Folding.{Placed}
+use Rattle.ti_source.specs.Folding.{PlacedByte}
 use Rattle.ti_source.specs.declared.items.Taken.{Taken}
 use Rattle.ti_source.specs.declared.items.Taken.TheVariants as taken
 use Rattle.ti_source.specs.declared.items.Run.{Run}
 use Rattle.ti_source.specs.declared.items.Claim.{Claim as ClaimInMemory}
 use Rattle.ti_source.specs.declared.items.Claim.TheVariants as claims
 use Rattle.ti_source.specs.declared.items.Statement.{Statement as StatementInMemory}
-use Rattle.ti_source.specs.Items.{Claim, Piece, Statement, claims_cancel, claims_flag, claims_number, claims_text, is_mark, item_piece, piece_of}
+use Rattle.ti_source.specs.Items.{Claim, ItemPiece, Statement, claims_cancel, claims_flag, claims_number, claims_text, is_mark, item_piece, piece_of}
 
 -- what stands before the first comma, all where there is none
-abbrev pub field_of : List Placed → List Placed
+abbrev pub field_of : List PlacedByte → List PlacedByte
 field_of [] = []
 field_of (x ∷ xs) = if x.0 == ascii.comma then [] else x ∷ field_of xs
 
 -- what stands after the first comma, nothing where there is none
-abbrev pub after_field : List Placed → List Placed
+abbrev pub after_field : List PlacedByte → List PlacedByte
 after_field [] = []
 after_field (x ∷ xs) = if x.0 == ascii.comma then xs else after_field xs
 
@@ -38,12 +40,12 @@ cuts taken.Backslash x = false
 cuts taken.Caret x = x == ascii.comma
 
 -- the items with a byte at the front of the first of them, which is a new one where there is none
-abbrev pub with_first : Placed → List (List Placed) → List (List Placed)
+abbrev pub with_first : PlacedByte → List (List PlacedByte) → List (List PlacedByte)
 with_first x [] = (x ∷ []) ∷ []
 with_first x (item ∷ items) = (x ∷ item) ∷ items
 
 -- the items of a text, from left to right
-abbrev pub items_of : Taken → ℕ → List Placed → List (List Placed)
+abbrev pub items_of : Taken → ℕ → List PlacedByte → List (List PlacedByte)
 items_of by before [] = [] ∷ []
 items_of by before (x ∷ xs) =
     if cuts by x.0
@@ -88,7 +90,7 @@ statement_of [] = None
 statement_of (x ∷ xs) = if x == ascii.dot then None else Some (statement_by_mark (x ∷ xs) (from_mark (x ∷ xs)))
 
 -- an item with one more byte at its end
-abbrev pub with_byte : Piece → Placed → Piece
+abbrev pub with_byte : ItemPiece → PlacedByte → ItemPiece
 with_byte p x =
     elim p.text [
       | [] ↦ if is_white_space x.0 then p else item_piece (x.0 ∷ []) x.1
@@ -96,20 +98,20 @@ with_byte p x =
     ]
 
 -- The item at the front of a text was taken: `piece` has its text and line, and `rest` is left, or the item was the last, and nothing is left.
-pub record TakesItem (text : List Placed) (piece : Piece) (last : Bool) (rest : List Placed) : Type 0 where
-  pub item : List Placed
+pub record TakesItem (text : List PlacedByte) (piece : ItemPiece) (last : Bool) (rest : List PlacedByte) : Type 0 where
+  pub item : List PlacedByte
   pub is_piece : piece_of item ≡ piece
   pub is_first : items_of taken.Nothing ascii.comma text ≡ item ∷ (if last then [] else items_of taken.Nothing ascii.comma rest)
   pub shorter : last ≡ false → length rest < length text
 
 -- a text in front of the first of some items
-abbrev pub with_text_before : List Placed → List (List Placed) → List (List Placed)
+abbrev pub with_text_before : List PlacedByte → List (List PlacedByte) → List (List PlacedByte)
 with_text_before front [] = front ∷ []
 with_text_before front (item ∷ items) = (front ++ item) ∷ items
 
 -- An item is read up to here: `seen` of it, which shows as `shown`, and `source` is left.
-pub record ReadsSoFar (start : List Placed) (by : Taken) (before : ℕ) (source : List Placed) (shown : Piece) : Type 0 where
-  pub seen : List Placed
+pub record ReadsSoFar (start : List PlacedByte) (by : Taken) (before : ℕ) (source : List PlacedByte) (shown : ItemPiece) : Type 0 where
+  pub seen : List PlacedByte
   pub is_piece : piece_of seen ≡ shown
   pub items : items_of taken.Nothing ascii.comma start ≡ with_text_before seen (items_of by before source)
   pub shorter : length source ≤ length start
@@ -118,23 +120,25 @@ pub record ReadsSoFar (start : List Placed) (by : Taken) (before : ℕ) (source 
 -- `next` the byte after the run, which stands just after `last`.
 pub data PassesRun : (by : Taken) (before : ℕ) (run : List ℕ) (next : Taken) (last : ℕ) → Type 0 where
   takes_no_byte : {by : Taken} {before : ℕ} → PassesRun by before [] by before
-  takes_byte : {by next : Taken} {before last : ℕ} {run : List ℕ} (x : ℕ) → PassesRun by before run next last → (x == ascii.newline) ≡ false → cuts next x ≡ false
+  takes_byte : {by next : Taken} {before last : ℕ} {run : List ℕ} (x : ℕ) → PassesRun by before run next last → (x == ascii.newline) ≡ false
+      → cuts next x ≡ false
       → PassesRun by before (run ++ x ∷ []) (taken_after next last x) x
 
 -- the bytes of a run, all on one line
-abbrev pub on_line : ℕ → List ℕ → List Placed
+abbrev pub on_line : ℕ → List ℕ → List PlacedByte
 on_line line run = map (λ b. (b, line)) run
 
 -- A run over which an item goes on was taken from the front of `old`, and `new` is left.
-pub record TakesRun (old : List Placed) (by : Taken) (before : ℕ) (run : Run) (new : List Placed) : Type 0 where
+pub record TakesRun (old : List PlacedByte) (by : Taken) (before : ℕ) (run : Run) (new : List PlacedByte) : Type 0 where
   pub line : ℕ
   pub whole : old ≡ on_line line run.bytes.now ++ new
   pub passes_run : PassesRun by before run.bytes.now run.taken run.last
 
 -- However an item with this text was read up to `old`, it is read up to `new` with this longer text.
-abbrev pub ReadsOn : (old : List Placed) (by : Taken) (before : ℕ) (text : List ℕ) (new : List Placed) (next : Taken) (last : ℕ) (longer : List ℕ) → Type 0
+abbrev pub ReadsOn : (old : List PlacedByte) (by : Taken) (before : ℕ) (text : List ℕ) (new : List PlacedByte) (next : Taken) (last : ℕ) (longer : List ℕ)
+    → Type 0
 ReadsOn old by before text new next last longer =
-    (start : List Placed) (line : ℕ) → ReadsSoFar start by before old (item_piece text line) → ReadsSoFar start next last new (item_piece longer line)
+    (start : List PlacedByte) (line : ℕ) → ReadsSoFar start by before old (item_piece text line) → ReadsSoFar start next last new (item_piece longer line)
 
 -- whether a text is empty or begins with no white space
 abbrev pub begins_visible : List ℕ → Bool
@@ -157,14 +161,14 @@ pub record IsWholeItem (text : List ℕ) (size : ℕ) : Type 0 where
   pub item : IsItemText (take size text)
 
 -- An item of this text was taken with its comma from the front of `old`, all on one line, and `new` is left.
-pub record TakesWholeItem (old : List Placed) (text : List ℕ) (line : ℕ) (new : List Placed) : Type 0 where
+pub record TakesWholeItem (old : List PlacedByte) (text : List ℕ) (line : ℕ) (new : List PlacedByte) : Type 0 where
   pub whole : old ≡ on_line line text ++ (ascii.comma, line) ∷ new
   pub item : IsItemText text
 
 -- Wherever an item begins with white space up to `old`, it is taken: `piece` has its text and line, and `new` is left, or the item was the last.
-abbrev pub EndsItem : (old : List Placed) (piece : Piece) (last : Bool) (new : List Placed) → Type 0
+abbrev pub EndsItem : (old : List PlacedByte) (piece : ItemPiece) (last : Bool) (new : List PlacedByte) → Type 0
 EndsItem old piece last new =
-    (start : List Placed) → ReadsSoFar start taken.Nothing ascii.comma old (item_piece [] 0) → TakesItem start piece last new
+    (start : List PlacedByte) → ReadsSoFar start taken.Nothing ascii.comma old (item_piece [] 0) → TakesItem start piece last new
 
 -- a claim that holds its text in memory, as plain data
 abbrev pub claim_of : ClaimInMemory → Claim

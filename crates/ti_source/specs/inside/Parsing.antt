@@ -7,8 +7,8 @@ use Rattle.std.specs.Prelude.{◌≡◌, ℕ, ◌+◌, nat_lt, if◌then◌else�
 use Rattle.ti_source.specs.declared.code.Code.TheVariants as code
 use Rattle.ti_source.specs.declared.items.Taken.TheVariants as taken
 use Rattle.ti_source.specs.inside.Header.{header_names}
-use Rattle.ti_source.specs.Folding.{Placed, folding_of}
-use Rattle.ti_source.specs.Items.{Statement, Piece, bytes, piece_of}
+use Rattle.ti_source.specs.Folding.{PlacedByte, folding_of}
+use Rattle.ti_source.specs.Items.{Statement, ItemPiece, bytes, piece_of}
 use Rattle.ti_source.specs.inside.Items.{field_of, after_field, items_of, statement_of}
 use Rattle.ti_source.specs.Reading.{ReadItem, ReadFault, Reading}
 
@@ -23,14 +23,15 @@ faults_at ordinal line None = []
 faults_at ordinal line (Some s) = faults_by ordinal line s.name (verdict_of s.name s.claim)
 
 -- the accepted items among items in a row, of which the first has the place `ordinal`
-abbrev pub items_from : ℕ → List (List Placed) → List ReadItem
+abbrev pub items_from : ℕ → List (List PlacedByte) → List ReadItem
 items_from ordinal [] = []
 items_from ordinal (item ∷ items) = items_at ordinal (piece_of item).line (statement_of (piece_of item).text) ++ items_from (ordinal + 1) items
 
 -- the faults of items in a row, of which the first has the place `ordinal`
-abbrev pub faults_from_ordinal : ℕ → List (List Placed) → List ReadFault
+abbrev pub faults_from_ordinal : ℕ → List (List PlacedByte) → List ReadFault
 faults_from_ordinal ordinal [] = []
-faults_from_ordinal ordinal (item ∷ items) = faults_at ordinal (piece_of item).line (statement_of (piece_of item).text) ++ faults_from_ordinal (ordinal + 1) items
+faults_from_ordinal ordinal (item ∷ items) =
+    faults_at ordinal (piece_of item).line (statement_of (piece_of item).text) ++ faults_from_ordinal (ordinal + 1) items
 
 -- the lookup names of a names field, none where a fault stands in it
 abbrev pub names_found : Option (List (List ℕ)) → List (List ℕ)
@@ -47,7 +48,7 @@ abbrev pub block_field : List ℕ → List ℕ
 block_field block = bytes (field_of (folding_of block))
 
 -- the items behind the names field of a block
-abbrev pub block_items : List ℕ → List (List Placed)
+abbrev pub block_items : List ℕ → List (List PlacedByte)
 block_items block = items_of taken.Nothing ascii.comma (after_field (folding_of block))
 
 -- how a block is read
@@ -74,9 +75,10 @@ pub record AddsToReading (found : List ReadItem) (faults : List ReadFault) (old 
   pub more_faults : new.faults ≡ old.faults ++ faults
 
 -- what an item with this place says, and its faults, were added to a reading
-abbrev pub AddsItem : ℕ → Piece → Reading → Reading → Type 0
+abbrev pub AddsItem : ℕ → ItemPiece → Reading → Reading → Type 0
 AddsItem ordinal p old new = AddsToReading (items_at ordinal p.line (statement_of p.text)) (faults_at ordinal p.line (statement_of p.text)) old new
 
 -- what the items of a text say, and their faults, were added to a reading
-abbrev pub AddsItems : List Placed → Reading → Reading → Type 0
-AddsItems source old new = AddsToReading (items_from 0 (items_of taken.Nothing ascii.comma source)) (faults_from_ordinal 0 (items_of taken.Nothing ascii.comma source)) old new
+abbrev pub AddsItems : List PlacedByte → Reading → Reading → Type 0
+AddsItems source old new =
+    AddsToReading (items_from 0 (items_of taken.Nothing ascii.comma source)) (faults_from_ordinal 0 (items_of taken.Nothing ascii.comma source)) old new

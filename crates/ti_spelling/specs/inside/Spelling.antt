@@ -2,7 +2,8 @@
 --   unescape_result raw  what the text spells, `Ok (bytes, odd)`, or its first fault
 --   GivesUnescaped       an answer of `unescape` is that, or Memory where the text spells something
 -- The laws: UnescapedAgrees, ValuesAreSound, WrittenReadsBack.
-use Rattle.std.specs.Prelude.{◌≡◌, ℕ, zero, suc, ◌+◌, ◌-◌, ◌≤◌, ◌==◌, Bool, true, false, not, ◌&&◌, ◌||◌, ◌↔◌, if◌then◌else◌, nat_le, List, [], ◌∷◌, length, bit_and, IsOk}
+use Rattle.std.specs.Prelude.{◌≡◌, ℕ, zero, suc, ◌+◌, ◌-◌, ◌≤◌, ◌==◌, Bool, true, false, not, ◌&&◌, ◌||◌, ◌↔◌, if◌then◌else◌, nat_le, List, [], ◌∷◌, length}
+use Rattle.std.specs.Prelude.{bit_and, IsOk}
 use Rattle.std.specs.Prelude.{Option, Some, None, Result, Ok, Err}
 use Rattle.ti_text.specs.Ascii as ascii
 use Rattle.ti_text.specs.Texts.{HasNoNul, AreBytes}

@@ -1,6 +1,6 @@
 use Rattle.std.proofs.Common.{◌≡◌, map, take}
 use Rattle.ti_slots.specs.Slots.{slot_texts}
-use Rattle.ti_base.specs.inside.KeptSlots.{AreRead}
+use Rattle.ti_base.specs.inside.Database.{AreRead}
 use Rattle.ti_base.specs.Loading.{AreTaken}
 use Rattle.ti_base.proofs.loading.read_slots.Given as goal
 

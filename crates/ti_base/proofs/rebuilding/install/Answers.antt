@@ -1,6 +1,6 @@
 use Rattle.std.proofs.Common.{◌≡◌, ◌<◌, ◌+◌, length, drop, set, ap, ◌∙◌, arith}
 use Rattle.std.proofs.lemmas.List.{length-set}
-use Rattle.ti_base.specs.inside.KeptSlots.{settled_all}
+use Rattle.ti_base.specs.inside.Database.{settled_all}
 use Rattle.ti_base.proofs.Installing.{one_more_settled, all_at}
 use Rattle.ti_base.proofs.rebuilding.install.Goals as goal
 

@@ -1,7 +1,7 @@
 use Rattle.std.proofs.Common.{◌≡◌, All, length, drop}
 use Rattle.std.specs.Option.{IsSome}
 use Rattle.ti_slots.specs.Slots.{slot_at}
-use Rattle.ti_base.specs.inside.KeptSlots.{settled_all}
+use Rattle.ti_base.specs.inside.Database.{settled_all}
 use Rattle.ti_base.proofs.rebuilding.install.Given as goal
 
 -- what was done and what is to be done is all that the plan says

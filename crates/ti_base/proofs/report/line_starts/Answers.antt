@@ -1,7 +1,7 @@
 use Rattle.std.proofs.Common.{◌≡◌, ◌≤◌, length, map, ap, ◌∙◌, arith}
 use Rattle.std.specs.List.{range_with_len}
 use Rattle.std.proofs.lemmas.List.Elements.{All-push}
-use Rattle.ti_text.specs.Texts.{line_count}
+use Rattle.ti_text.specs.Lines.{line_count}
 use Rattle.ti_meaning.specs.Report.{lines_before}
 use Rattle.ti_slots.specs.Slots.{slot_texts}
 use Rattle.ti_base.proofs.Counting.{lines_more, starts_more}

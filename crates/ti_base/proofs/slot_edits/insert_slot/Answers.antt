@@ -3,7 +3,7 @@ use Rattle.std.specs.List.{insert}
 use Rattle.ti_meaning.specs.Edits.{insertion}
 use Rattle.ti_meaning.specs.Dependents.{Rebuilds}
 use Rattle.ti_slots.specs.declared.slots.Slots.{Slots}
-use Rattle.ti_base.specs.inside.KeptSlots.{PlacedSlot, slots_of}
+use Rattle.ti_base.specs.inside.Database.{PlacedSlot, slots_of}
 use Rattle.ti_base.proofs.Exchanges.{inserted, edit_ready, edit_rebuilds, sound_put, back_inserted, kept_back, texts_back}
 use Rattle.ti_base.proofs.slot_edits.insert_slot.Goals as goal
 

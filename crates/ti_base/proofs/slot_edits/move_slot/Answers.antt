@@ -1,6 +1,6 @@
 use Rattle.std.proofs.Common.{◌≤◌, Some, length, ap, ◌∙◌, arith}
 use Rattle.std.specs.List.{insert, remove}
-use Rattle.ti_base.specs.inside.KeptSlots.{slots_of}
+use Rattle.ti_base.specs.inside.Database.{slots_of}
 use Rattle.ti_base.proofs.Exchanges.{moved, moved_ready, moved_rebuilds, sound_moved, back_moved, kept_back, texts_back}
 use Rattle.ti_base.proofs.slot_edits.move_slot.Goals as goal
 

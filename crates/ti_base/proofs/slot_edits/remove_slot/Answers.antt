@@ -2,7 +2,7 @@ use Rattle.std.proofs.Common.{Some, None, map, ap, sym, ◌∙◌}
 use Rattle.std.specs.Rc.{rc_slice_items}
 use Rattle.std.specs.List.{remove}
 use Rattle.ti_meaning.specs.Edits.{removal}
-use Rattle.ti_base.specs.inside.KeptSlots.{PlacedSlot, slots_of}
+use Rattle.ti_base.specs.inside.Database.{PlacedSlot, slots_of}
 use Rattle.ti_base.proofs.Exchanges.{removed, edit_ready, edit_rebuilds, no_id, sound_taken, back_removed, kept_back, texts_back}
 use Rattle.ti_base.proofs.slot_edits.remove_slot.Goals as goal
 

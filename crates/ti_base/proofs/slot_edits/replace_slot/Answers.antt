@@ -8,7 +8,7 @@ use Rattle.ti_meaning.specs.Dependents.{Rebuilds}
 use Rattle.ti_slots.specs.declared.slots.Slot.{Slot}
 use Rattle.ti_slots.specs.declared.slots.Slots.{Slots}
 use Rattle.ti_slots.specs.Changes.{HasRoomFor, PutsIn}
-use Rattle.ti_base.specs.inside.KeptSlots.{PlacedSlot, slots_of, with_settled}
+use Rattle.ti_base.specs.inside.Database.{PlacedSlot, slots_of, with_settled}
 use Rattle.ti_base.proofs.Exchanges.{replaced, edit_ready, edit_rebuilds, sound_replaced, sound_settled, back_replaced, room_again, kept_back, texts_back}
 use Rattle.ti_base.proofs.slot_edits.replace_slot.Goals as goal
 

@@ -1,14 +1,14 @@
 use Rattle.std.proofs.Common.{◌≡◌, ◌≤◌, ℕ, List, length, sym, ap, ◌∙◌, subst, Option, arith, vec_capacity}
 use Rattle.ti_layout.specs.declared.layout.Header.{Header}
 use Rattle.ti_layout.specs.Image.{image, below, image_limit}
-use Rattle.ti_layout.specs.Sizes.{HasSizes}
+use Rattle.ti_layout.specs.Writing.{HasSizes}
 use Rattle.ti_compiled.specs.inside.Changes.{with_number, wide_value}
 use Rattle.ti_compiled.specs.Image.{names_in, contents_in}
 use Rattle.ti_compiled.proofs.Rooms.{when_ok, on_ok, on_err, none_ok, none_err, no_fault, image_again, sizes_again, names_room, flags_room, numbers_room, texts_room}
 use Rattle.ti_compiled.proofs.NumberChange.{number_room}
 use Rattle.ti_compiled.proofs.numbers.set_number.Goals as goal
 
--- what is told of the bytes that a call is given
+-- what holds of the bytes that a call is given
 old_sizes : (b x : List ℕ) (h : Header) → x ≡ b → HasSizes (names_in x) (contents_in x) h → HasSizes (names_in b) (contents_in b) h
 old_sizes b x h e has = subst (λ (y : List ℕ). HasSizes (names_in y) (contents_in y) h) e has
 

@@ -2,7 +2,7 @@ use Rattle.std.proofs.Common.{◌≤◌, ℕ, List, length, sym, ap, ◌∙◌, 
 use Rattle.ti_caps.specs.Tables.{capability}
 use Rattle.ti_caps.specs.declared.capability.Kind.TheVariants.{Text}
 use Rattle.ti_layout.specs.Image.{image, image_limit}
-use Rattle.ti_layout.specs.Sizes.{HasSizes}
+use Rattle.ti_layout.specs.Writing.{HasSizes}
 use Rattle.ti_compiled.specs.Changes.{image_with}
 use Rattle.ti_compiled.specs.inside.Changes.{text_content}
 use Rattle.ti_compiled.specs.Image.{names_in, contents_in, with_content}

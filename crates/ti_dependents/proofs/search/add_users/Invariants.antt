@@ -1,5 +1,5 @@
 use Rattle.std.proofs.Common.{take}
-use Rattle.ti_index.specs.Labels.{Has}
+use Rattle.ti_text.specs.Lists.{Has}
 use Rattle.ti_dependents.specs.inside.Search.{AddsPassing}
 use Rattle.ti_dependents.proofs.search.add_users.Given as goal
 

@@ -1,4 +1,4 @@
-use Rattle.std.proofs.Common.{arith}
+use Rattle.std.proofs.Common.{arith, ◌∙◌}
 use Rattle.ti_devices.proofs.Placed.{Writes-next, Writes-stop}
 use Rattle.ti_devices.proofs.placing.place.Goals as goal
 
@@ -11,5 +11,5 @@ pub loop-count-preserved : goal.loop-count-preserved
 loop-count-preserved g c = (
   Writes-next _ _ c.index-files-count.result _ _ _ (omega arith) c.index-files-count.is
       c.loop-count.invariant.0 c.in_default.ensures.written,
-  omega arith,
+  c.in_default.ensures.steady ∙ c.loop-count.invariant.1,
 )

@@ -5,12 +5,12 @@ use Rattle.ti_source.specs.Reading.{reading_of}
 use Rattle.ti_layout.specs.Image.{image, image_limit}
 use Rattle.ti_layout.specs.Values.{contents}
 use Rattle.ti_meaning.specs.Compiled.{image_of}
-use Rattle.ti_meaning.proofs.Imaging.{image_tells, limit_tells}
+use Rattle.ti_meaning.proofs.Imaging.{image_says, limit_says}
 use Rattle.ti_plan.proofs.BlockValues.{within, over}
 use Rattle.ti_plan.proofs.tables.make_state.Goals as goal
 
 pub returns-in-Ok-clause-state : goal.returns-in-Ok-clause-state
-returns-in-Ok-clause-state c = λ mentions tells.
+returns-in-Ok-clause-state c = λ mentions says.
     let field = c.args.slot.now.block.field.items in
     let t = contents c.args.table in
     let small : length (image field t) ≤ image_limit t =
@@ -19,12 +19,12 @@ returns-in-Ok-clause-state c = λ mentions tells.
       | inr fits ↦ fits
     ]
     in
-    within (reading_of c.args.slot.now.block) mentions c.in-Ok.image (c.in-Ok.ensures.image ∙ image_tells field t mentions tells)
-    (subst (λ n. length c.in-Ok.image ≤ n) (limit_tells t mentions tells) (subst (λ (i : List ℕ). length i ≤ image_limit t) (sym c.in-Ok.ensures.image) small))
+    within (reading_of c.args.slot.now.block) mentions c.in-Ok.image (c.in-Ok.ensures.image ∙ image_says field t mentions says)
+    (subst (λ n. length c.in-Ok.image ≤ n) (limit_says t mentions says) (subst (λ (i : List ℕ). length i ≤ image_limit t) (sym c.in-Ok.ensures.image) small))
 
 pub returns-in-Err-TooLarge-clause-state : goal.returns-in-Err-TooLarge-clause-state
-returns-in-Err-TooLarge-clause-state c = λ mentions tells.
+returns-in-Err-TooLarge-clause-state c = λ mentions says.
     let large = c.in-Err-TooLarge.ensures.too_large.0 (rw c.in-Err-TooLarge.field-0-is refl) in
-    let size = image_tells c.args.slot.now.block.field.items (contents c.args.table) mentions tells in
-    let limit = limit_tells (contents c.args.table) mentions tells in
+    let size = image_says c.args.slot.now.block.field.items (contents c.args.table) mentions says in
+    let limit = limit_says (contents c.args.table) mentions says in
     over (reading_of c.args.slot.now.block) mentions (subst (λ n. n < length (image_of (reading_of c.args.slot.now.block) mentions)) limit (subst (λ i. image_limit (contents c.args.table) < length i) size large))

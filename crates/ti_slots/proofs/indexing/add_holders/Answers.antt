@@ -12,9 +12,9 @@ add_holder-requires-clause-among c =
 pub add_holder-requires-clause-room : goal.add_holder-requires-clause-room
 add_holder-requires-clause-room c =
     let name = c.as_slice.result.now in
-    let told = named_here c.args.names.now c.loop-name.name-index c.name-item.result name c.loop-name-test.true c.name-item.is (sym c.as_slice.ensures.value) in
+    let stated = named_here c.args.names.now c.loop-name.name-index c.name-item.result name c.loop-name-test.true c.name-item.is (sym c.as_slice.ensures.value) in
     place_for holders_at users_at holder_capacity c.args.order.now.listed (is_name_of (take c.loop-name.name-index c.args.names.now)) c.args.id c.args.index.now c.loop-name.index name
-    holders_by holder_capacity_by c.loop-name.invariant (c.requires.parts name) (c.requires.room name told)
+    holders_by holder_capacity_by c.loop-name.invariant (c.requires.parts name) (c.requires.room name stated)
 
 pub loop-name-preserved : goal.loop-name-preserved
 loop-name-preserved c =

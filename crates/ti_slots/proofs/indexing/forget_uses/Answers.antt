@@ -8,12 +8,12 @@ pub loop-item-preserved : goal.loop-item-preserved
 loop-item-preserved c =
     let k = c.loop-item.item-index in
     let items = c.args.items.now in
-    let told = is_used_by (take k items) in
+    let stated = is_used_by (take k items) in
     let more = is_used_by (take (k + 1) items) in
     elim c.match-item.branch [
       | in-Import w ↦
           rw w.index-is
-          (forgets_more told more c.args.index.now c.loop-item.index w.forget_unused.new.self w.as_slice.result.now
+          (forgets_more stated more c.args.index.now c.loop-item.index w.forget_unused.new.self w.as_slice.result.now
           c.loop-item.invariant w.forget_unused.ensures.seen w.forget_unused.ensures.others w.forget_unused.ensures.gone
           (used_more items k c.item-item.result w.in-Import.name w.as_slice.result.now c.loop-item-test.true c.item-item.is w.in-Import.is (sym w.as_slice.ensures.value)))
       | in_default w ↦

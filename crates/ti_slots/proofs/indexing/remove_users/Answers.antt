@@ -14,16 +14,16 @@ pub loop-item-preserved : goal.loop-item-preserved
 loop-item-preserved c =
     let k = c.loop-item.item-index in
     let items = c.args.items.now in
-    let told = is_used_by (take k items) in
+    let stated = is_used_by (take k items) in
     let more = is_used_by (take (k + 1) items) in
     elim c.match-item.branch [
       | in-Import w ↦
           rw w.index-is
-          (removes_more users_at holders_at c.args.order.now.listed told more c.args.id c.args.index.now c.loop-item.index w.remove_user.new.self w.as_slice.result.now
+          (removes_more users_at holders_at c.args.order.now.listed stated more c.args.id c.args.index.now c.loop-item.index w.remove_user.new.self w.as_slice.result.now
           users_by holders_by c.loop-item.invariant (used_more items k c.item-item.result w.in-Import.name w.as_slice.result.now c.loop-item-test.true c.item-item.is w.in-Import.is (sym w.as_slice.ensures.value))
           w.remove_user.ensures.users w.remove_user.ensures.holders w.remove_user.ensures.capacity w.remove_user.ensures.others)
       | in_default w ↦
           rw w.index-is
-          (removes_same users_at holders_at c.args.order.now.listed told more c.args.id c.args.index.now c.loop-item.index c.loop-item.invariant
+          (removes_same users_at holders_at c.args.order.now.listed stated more c.args.id c.args.index.now c.loop-item.index c.loop-item.invariant
           (used_same items k c.item-item.result c.loop-item-test.true c.item-item.is w.in_default.not-Import))
     ]

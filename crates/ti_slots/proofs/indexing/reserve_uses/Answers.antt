@@ -8,7 +8,7 @@ pub loop-item-preserved : goal.loop-item-preserved
 loop-item-preserved c =
     let k = c.loop-item.item-index in
     let items = c.args.items.now in
-    let told = is_used_by (take k items) in
+    let stated = is_used_by (take k items) in
     let more = is_used_by (take (k + 1) items) in
     elim c.match-item.branch [
       | in-Import+in_ok-reserve w ↦
@@ -16,7 +16,7 @@ loop-item-preserved c =
           rw w.index-is
           (record {
             grown = grown_more c.args.index.now c.loop-item.index w.reserve.new.self c.loop-item.invariant.grown now;
-            room = room_more told more c.loop-item.index w.reserve.new.self w.as_slice.result.now c.loop-item.invariant.room now
+            room = room_more stated more c.loop-item.index w.reserve.new.self w.as_slice.result.now c.loop-item.invariant.room now
                 w.in_ok-reserve.ensures.holder_room w.in_ok-reserve.ensures.user_room
                 (used_more items k c.item-item.result w.in-Import.name w.as_slice.result.now c.loop-item-test.true c.item-item.is w.in-Import.is (sym w.as_slice.ensures.value));
           })

@@ -24,7 +24,7 @@ loop-place-preserved g c =
           (rw (places-from string_bytes c.args.places.now c.loop-place.place-index c.place-item.result (search rules) c.place-item.is)
           (Finds-later _ files _ _ _ found at later));
       kept = c.read.ensures.kept ∙ c.loop-place.invariant.kept;
-      later = search rules;
+      steady = search rules;
     }
 
 pub returns-clause-found : goal.returns-clause-found

@@ -1,8 +1,8 @@
 use Rattle.std.proofs.Common.{◌<◌, ◌+◌, ◌-◌, ◌/◌, length, get_or, arith}
 use Rattle.std.proofs.lemmas.List.{get_or_read}
 use Rattle.std.proofs.lemmas.Option.{slice_get-get_or}
-use Rattle.ti_index.specs.Labels.{Has}
-use Rattle.ti_index.proofs.Filtering.{counted_begun, counted_above, counted_below, told_true, told_false}
+use Rattle.ti_text.specs.Lists.{Has}
+use Rattle.ti_index.proofs.Filtering.{counted_begun, counted_above, counted_below, decided_true, decided_false}
 use Rattle.ti_index.proofs.order.Order.count_before.Goals as goal
 
 pub loop-low-init : goal.loop-low-init
@@ -31,8 +31,8 @@ loop-low-preserved-then-index-label c =
     let id_stands : Has o.ids.items c.args.id = rw (← c.self.view_is) at c.requires.stands in
     let label = get_or_read o.labels.items c.args.id c.index-label.result.now (c.self.invariant.ids_known id_stands.0 c.args.id id_stands.1) c.index-label.ensures 0 in
     let other = get_or_read o.labels.items x c.index.result.now known c.index.ensures 0 in
-    let told = told_true o.ids.items o.labels.items x c.args.id c.self.invariant.labelled c.self.invariant.ids_known (rw (← other, ← label) c.if-index-label.true) in
-    counted_above o.ids.items c.args.list.now c.args.id c.loop-low.low c.loop-low.high middle x c.loop-low.invariant (omega arith) (omega arith) here told
+    let decided = decided_true o.ids.items o.labels.items x c.args.id c.self.invariant.labelled c.self.invariant.ids_known (rw (← other, ← label) c.if-index-label.true) in
+    counted_above o.ids.items c.args.list.now c.args.id c.loop-low.low c.loop-low.high middle x c.loop-low.invariant (omega arith) (omega arith) here decided
 
 pub loop-low-preserved : goal.loop-low-preserved
 loop-low-preserved c =
@@ -46,5 +46,5 @@ loop-low-preserved c =
     let id_stands : Has o.ids.items c.args.id = rw (← c.self.view_is) at c.requires.stands in
     let label = get_or_read o.labels.items c.args.id c.index-label.result.now (c.self.invariant.ids_known id_stands.0 c.args.id id_stands.1) c.index-label.ensures 0 in
     let other = get_or_read o.labels.items x c.index.result.now known c.index.ensures 0 in
-    let told = told_false o.ids.items o.labels.items x c.args.id c.self.invariant.labelled c.self.invariant.ids_known (rw (← other, ← label) c.if-index-label.false) in
-    counted_below o.ids.items c.args.list.now c.args.id c.loop-low.low c.loop-low.high middle x c.loop-low.invariant (omega arith) (omega arith) here told
+    let decided = decided_false o.ids.items o.labels.items x c.args.id c.self.invariant.labelled c.self.invariant.ids_known (rw (← other, ← label) c.if-index-label.false) in
+    counted_below o.ids.items c.args.list.now c.args.id c.loop-low.low c.loop-low.high middle x c.loop-low.invariant (omega arith) (omega arith) here decided

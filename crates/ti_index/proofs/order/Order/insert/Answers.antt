@@ -2,7 +2,7 @@ use Rattle.std.proofs.Common.{◌≡◌, ◌≤◌, ◌++◌, ◌∷◌, [], len
 use Rattle.std.specs.Vec.{vec_capacity}
 use Rattle.std.specs.List.{insert}
 use Rattle.ti_index.specs.inside.Labels.{AreLabelled, FitsAt}
-use Rattle.ti_index.specs.Labels.{Has}
+use Rattle.ti_text.specs.Lists.{Has}
 use Rattle.ti_index.proofs.Keeping.{order_relabelled, order_inserted, order_fresh}
 use Rattle.ti_index.proofs.order.Order.insert.Goals as goal
 

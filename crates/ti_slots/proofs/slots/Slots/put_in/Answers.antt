@@ -1,6 +1,6 @@
 use Rattle.std.proofs.Common.{◌≡◌, ◌≤◌, ℕ, List, not, nat_eq, ◌&&◌, length, refl, ◌∙◌, arith}
 use Rattle.std.specs.List.{insert}
-use Rattle.ti_index.specs.Labels.{Has}
+use Rattle.ti_text.specs.Lists.{Has}
 use Rattle.ti_slots.specs.Slots.{has_name, uses_name}
 use Rattle.ti_slots.proofs.Listings.{get-inserted}
 use Rattle.ti_slots.proofs.Changing.{holders_before, users_before, put_done}

@@ -1,7 +1,7 @@
 use Rattle.std.proofs.Common.{◌≡◌, ◌<◌, ◌∙◌, List, ℕ, length, map, take, refl, rules, sym, subst, arith, Bor}
 use Rattle.std.proofs.lemmas.Bool.{eqb-false, eqb-true}
 use Rattle.std.proofs.lemmas.List.{length-map}
-use Rattle.ti_tput.specs.Runs.{line_step, words_of}
+use Rattle.ti_tput.specs.Runs.{line_step, words_of, words_seen}
 use Rattle.ti_tput.specs.inside.Terminal.{HasCourse}
 use Rattle.ti_tput.specs.declared.terminal.Terminal.{Terminal}
 use Rattle.ti_tput.proofs.Terminals.{HasCourse-bad, HasCourse-good, HasCourse-usage, of_rate}
@@ -13,7 +13,7 @@ returns-in-Err-Usage c = λ entry rate course holds.
     let words = map (λ (word : Bor (List ℕ)). word.now) c.as_slice.result.now in
     let few : 0 < length c.as_slice.result.now = search rules in
     let some : 0 < length words = omega (arith, length-map c.as_slice.result.now (λ (word : Bor (List ℕ)). word.now)) in
-    let front : words ≡ take 11 (words_of c.args.line.now) = rw c.as_slice.ensures.value c.split_words-words.ensures in
+    let front : words ≡ take words_seen (words_of c.args.line.now) = rw c.as_slice.ensures.value c.split_words-words.ensures in
     HasCourse-usage entry rate course c.args.self.now _ holds c.args.line.now words front some refl refl
     c.new-in-Err-Usage.result.items (rw c.in-Err-Usage.field-0-is at (c.in-Err-Usage.ensures.answer rate (of_rate entry rate _ course holds))) c.in-Err-Usage.ensures.err
     (search rules) c.new-in-Err-Usage.ensures.items
@@ -23,7 +23,7 @@ returns-after-is_bad c = λ entry rate course holds.
     let words = map (λ (word : Bor (List ℕ)). word.now) c.as_slice.result.now in
     let few : 0 < length c.as_slice.result.now = search rules in
     let some : 0 < length words = omega (arith, length-map c.as_slice.result.now (λ (word : Bor (List ℕ)). word.now)) in
-    let front : words ≡ take 11 (words_of c.args.line.now) = rw c.as_slice.ensures.value c.split_words-words.ensures in
+    let front : words ≡ take words_seen (words_of c.args.line.now) = rw c.as_slice.ensures.value c.split_words-words.ensures in
     let replied = c.in-Ok.ensures.answer rate (of_rate entry rate _ course holds) in
     let P : Terminal → Type 0 = λ u. HasCourse entry rate u (line_step entry rate course c.args.line.now).after
     × (c.in-Ok.outcome.bytes.items ≡ (line_step entry rate course c.args.line.now).bytes) in

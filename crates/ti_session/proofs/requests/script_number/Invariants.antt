@@ -1,7 +1,7 @@
 use Rattle.std.proofs.Common.{◌≡◌, ◌<◌, ◌^◌, take, drop, true}
 use Rattle.std.specs.List.{list_all}
 use Rattle.ti_text.specs.Digits.{decimal_value, decimal_from, is_decimal_digit}
-use Rattle.ti_session.proofs.requests.number.Given as goal
+use Rattle.ti_session.proofs.requests.script_number.Given as goal
 
 -- the digits before the next are read
 abbrev pub invariant-loop-byte : goal.invariant-loop-byte

@@ -37,7 +37,8 @@ SlotsAreSound listed = (at : ℕ) (slot : Slot) → slice_get listed at ≡ Some
 
 -- what each holds is right for its block in the list
 abbrev pub SlotsAreSettled : List (Option Slot) → Type 0
-SlotsAreSettled listed = (at : ℕ) (slot : Slot) → slice_get listed at ≡ Some (Some slot) → IsSettled (map reading_seen listed) at (reading_of slot.block) slot.settled
+SlotsAreSettled listed = (at : ℕ) (slot : Slot) → slice_get listed at ≡ Some (Some slot)
+    → IsSettled (map reading_seen listed) at (reading_of slot.block) slot.settled
 
 -- at most 65,535 blocks, indexed, each read from its text
 pub record AreRead (slots : Slots) : Type 0 where

@@ -1,2 +1,0 @@
--- Lines of a text, by their newlines.
-pub use Rattle.ti_text.specs.Texts.{line_count, LinesAdd}
