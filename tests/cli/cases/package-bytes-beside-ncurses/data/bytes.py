@@ -1,12 +1,15 @@
-"""Compiles the system's entries, as ncurses's infocmp lists them, and the examples, by `ti tic` and by
+"""Compiles entries of the system, as ncurses's infocmp lists them, and the examples, by `ti tic` and by
 ncurses's `tic -x`. Where ncurses writes no cancelled value the files are the same byte for byte, and
 else they say the same but for that. Prints what differs, and whether there was enough to compare."""
 
+import glob
 import os
 import struct
 import subprocess
 
-FOLDERS = ["/etc/terminfo", "/lib/terminfo", "/usr/share/terminfo"]
+# The first of these that has entries: where another package adds terminals, as Debian's ncurses-term, theirs are not compared.
+PLACES = ["/etc/terminfo", "/lib/terminfo", "/usr/share/terminfo"]
+FOLDERS = [it for it in PLACES if glob.glob(f"{it}/?/*")][:1]
 
 
 def run(*words):

@@ -1,16 +1,19 @@
-"""Compares `ti tput` with ncurses's on the system's entries: each capability that ncurses lists, with as many parameters as its
+"""Compares `ti tput` with ncurses's on entries of the system: each capability that ncurses lists, with as many parameters as its
 string takes, 0 to 2, alone and by `-S`. Prints what differs, and at the end how much there was to compare.
 
 Left out, since ncurses does not answer from the standard capability alone: `lines` and `cols`, where it asks the terminal and
 the environment, and `clear`, to which it adds the user-defined capability E3, which clears what has scrolled away.
 """
 
+import glob
 import os
 import re
 import subprocess
 import sys
 
-FOLDERS = ["/etc/terminfo", "/lib/terminfo", "/usr/share/terminfo"]
+# The first of these that has entries: where another package adds terminals, as Debian's ncurses-term, theirs are not compared.
+PLACES = ["/etc/terminfo", "/lib/terminfo", "/usr/share/terminfo"]
+FOLDERS = [it for it in PLACES if glob.glob(f"{it}/?/*")][:1]
 ASKED_ELSEWHERE = {"lines", "cols", "clear"}
 
 
