@@ -1,5 +1,5 @@
 // The faults of a source: those kept with each block, and between them those of its names.
-ghost use Rattle.std.specs.Prelude.{◌≡◌, ◌<◌, ◌++◌, ◌∷◌, [], List, ℕ, filter, map, length, slice_get, Some, true, not, ◌||◌, ◌&&◌, option_map, IfOk, OnOk};
+ghost use Rattle.std.specs.Prelude.{◌≡◌, ◌<◌, ◌++◌, ◌∷◌, [], List, ℕ, filter, map, length, slice_get, Some, true, not, ◌||◌, ◌&&◌, IfOk, OnOk};
 ghost use Rattle.std.specs.Str.{bytes_eq};
 ghost use Rattle.std.specs.Rc.{rc_slice_items};
 ghost use Rattle.ti_source.specs.Reading.{Reading, fault_of};

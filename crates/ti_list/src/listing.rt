@@ -1,5 +1,5 @@
 // An entry as source text.
-ghost use Rattle.std.specs.Prelude.{◌≡◌, ℕ, ◌+◌, ◌≤◌, ◌++◌, ◌∷◌, ◌↔◌, [], List, option_map, IfOk, IfSome, IsErrOf, ◌<◌, vec_len, vec_capacity};
+ghost use Rattle.std.specs.Prelude.{◌≡◌, ℕ, ◌+◌, ◌≤◌, ◌++◌, ◌∷◌, [], List, option_map, IfOk, IfSome, ◌<◌, vec_len, vec_capacity};
 ghost use Rattle.ti_text.specs.Ascii as ascii;
 ghost use Rattle.ti_layout.specs.View.{view_contents, names_of, shown_entry};
 ghost use Rattle.ti_source.specs.Reading.{Said};

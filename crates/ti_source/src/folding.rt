@@ -126,7 +126,7 @@ fn after_line(text: &[u8]) -> &[u8]
     }
 }
 
-// What stands behind the comment that `text` begins with, and how many newlines stand before that, where `newlines` stand before
+// What stands behind the comment that `text` begins in, and how many newlines stand before that, where `newlines` stand before
 // `text`.
 fn after_comment(text: &[u8], newlines: usize) -> (&[u8], usize)
     requires { newlines + 1 < 2 ^ 64 }

@@ -1,5 +1,5 @@
 //! Sources before they are compiled: whether they are refused.
-ghost use Rattle.std.specs.Prelude.{◌≡◌, ◌+◌, ◌==◌, ◌≤◌, length, MatchResult, None, Some};
+ghost use Rattle.std.specs.Prelude.{◌≡◌, ◌+◌, ◌==◌, length, MatchResult, None, Some};
 ghost use Rattle.ti_text.specs.Ascii as ascii;
 ghost use Rattle.ti_source.specs.Cutting.{last_byte};
 ghost use Rattle.ti_tools.specs.Sources.{source_refusal, with_last_newline};
