@@ -40,14 +40,14 @@ package: all
 	python3 tests/package/run.py
 
 hostile: all
-	cd crates/ti_probe && rt run >/dev/null
+	python3 build/build.py ti_probe
 	python3 tests/hostile/run.py --all
 
 wrong-bodies:
 	tests/wrong-bodies
 
 bench: all
-	cd crates/ti_bench && rt run >/dev/null 2>&1
+	python3 build/build.py ti_bench
 	python3 bench/run.py
 
 # A program that is built is installed as it is, so that root needs no toolchain.

@@ -12,8 +12,9 @@ install      what `make install` puts into a folder runs from there, and `make u
              takes all of it away
 copies       what cases of tests/cli hold of the repository's own files is still the same; with
              the word `renew` behind it, it is made so
-build        ./ti builds each crate behind those that it stands on, and ends where one is refused
-             (tried with a stand-in for rt)
+build        ./ti proves each crate behind those that it stands on, ends where one is refused, and proves again
+             what an edit reaches and nothing else (tried with a stand-in for the toolchain)
+small-build  ./ti proves, compiles and links with the toolchain itself, tried on one library and a small program
 readme       the first command of README, as it stands there, writes what is said behind it, and the second is what CI runs
 tarball      `make dist` makes a tarball of every file of the commit
 tarball-builds
@@ -23,6 +24,7 @@ What needs a program that is not installed is skipped, and said to be. The last 
 `package: N passed, M failed`.
 """
 
+import contextlib
 import os
 import pty
 import re
@@ -370,77 +372,152 @@ def check_tarball_builds():
             yield f"out/d/dumb has {size} bytes"
 
 
-# What stands for rt where only the order of a build is tried: it wants the libraries below a crate to be built beside it.
-STAND_IN = """#!/bin/sh
-name=$(basename "$PWD")
-if [ "$1" = run ]; then
-    mkdir -p out
-    printf '#!/bin/sh\\necho built\\n' >out/ti
-    chmod +x out/ti
-    exit 0
-fi
-for below in $(sed -n "s/^$name: *//p" ../../crates.txt); do
-    ! grep -q "^$below:" ../../crates.txt || [ -e "../$below/out/rlib/stamp" ] || {
-        echo "$below is not there"
+# What stands for the toolchain where only the order of a build is tried: its prover wants what a crate stands on to be there,
+# and its linker makes a program that prints the crates which were proved since the last one.
+STAND_IN = {
+    "rt": "exit 1\n",
+    "rattle": """
+for word in "$@"; do
+    [ "$before" != --crate-name ] || name=$word
+    [ "$before" != -o ] || made=$word
+    [ "$before" != --extern ] || [ -e "${word#*=}" ] || {
+        echo "${word#*=} is not there"
         exit 1
     }
+    before=$word
 done
 [ "$name" != "$REFUSED" ] || {
     echo "refused $name"
     exit 1
 }
 sleep 0.1
-mkdir -p out/rlib
-echo "$name" >out/rlib/stamp
-"""
+mkdir -p "${made%/*}"
+echo "$name" >>"$PROVED"
+echo "$name" >"$made"
+""",
+    "rattle-link": """
+for word in "$@"; do
+    [ "$before" != -o ] || made=$word
+    before=$word
+done
+printf '#!/bin/sh\\necho built\\n' >"$made"
+chmod +x "$made"
+""",
+}
+
+
+def make_stand_in(folder):
+    """Puts the stand-in for the toolchain into a folder, and gives the folder of its commands."""
+    kit = os.path.join(folder, "kit")
+    os.makedirs(os.path.join(kit, "bin"))
+    for library in ("std", "arrayvec", "byteorder", "clap", "indexmap", "itoa", "memchr", "thiserror"):
+        os.makedirs(os.path.join(kit, "rlibs", f"{library}.rlib"))
+    with open(os.path.join(kit, "WHAT"), "w") as file:
+        file.write("a stand-in\n")
+    for name, text in STAND_IN.items():
+        with open(os.path.join(kit, "bin", name), "w") as file:
+            file.write(f"#!/bin/sh\n{text}")
+        os.chmod(file.name, 0o755)
+    return os.path.join(kit, "bin")
 
 
 def check_build():
-    """Whether ./ti builds each crate behind those that it stands on, and ends where one is refused."""
+    """Whether ./ti proves each crate behind those that it stands on, ends where one is refused, and proves again what an edit reaches."""
     with tempfile.TemporaryDirectory(prefix="ti-package-") as folder:
         made, _ = unpacked(folder)
-        tools = os.path.join(folder, "tools")
-        os.mkdir(tools)
-        with open(os.path.join(tools, "rt"), "w") as file:
-            file.write(STAND_IN)
-        os.chmod(file.name, 0o755)
+        tools, log = make_stand_in(folder), os.path.join(folder, "proved")
         needs = {}
         for line in open(os.path.join(made, "crates.txt")):
             if ":" in line and not line.startswith("#"):
                 needs[line.split(":")[0]] = line.split(":")[1].split()
 
-        def build(**more):
-            given = {**os.environ, "PATH": f"{tools}:{os.environ['PATH']}", **more}
+        def build(jobs, refused=""):
+            """What ./ti came to, and which crates the stand-in proved for it, in order."""
+            with contextlib.suppress(FileNotFoundError):
+                os.remove(log)
+            given = {**os.environ, "PATH": f"{tools}:{os.environ['PATH']}", "PROVED": log, "TI_JOBS": jobs, "REFUSED": refused}
             ran = subprocess.run(["./ti"], cwd=made, env=given, capture_output=True, text=True)
-            return ran.returncode, ran.stdout, ran.stderr
+            proved = open(log).read().split() if os.path.exists(log) else []
+            return ran.returncode, ran.stdout, ran.stderr, proved
 
-        status, printed, said = build(TI_JOBS="3", REFUSED="")
-        proved = [line.split(": ")[2] for line in said.split("\n") if line.startswith("ti: proved, crate ")]
-        if status or printed != "built\n" or f"building crate {len(proved) + 1} of {len(proved) + 1}: ti" not in said:
+        def edit(*place):
+            with open(os.path.join(made, "crates", *place), "a") as file:
+                file.write("// edited\n")
+
+        def reaches(name):
+            return sorted(it for it in everything if it == name or name in below_all(needs, it))
+
+        status, printed, said, everything = build("3")
+        told = [line.split(": ")[2] for line in said.split("\n") if line.startswith("ti: proved, crate ")]
+        if status or printed != "built\n" or f"building crate {len(everything)} of {len(everything)}: ti" not in said:
             yield f"status {status}, printed {printed!r}, said {said!r}"
-        for at, name in enumerate(proved):
-            early = [it for it in needs[name] if it in needs and it not in proved[:at]]
+        if sorted([*told, "ti"]) != sorted(everything) or set(everything) != {"ti", *below_all(needs, "ti")}:
+            yield f"proved {everything}, said {told}"
+        for at, name in enumerate(everything):
+            early = [it for it in needs[name] if it in needs and it not in everything[:at]]
             if early:
-                yield f"{name} was built before {early}"
-            if not os.path.exists(os.path.join(made, "crates", name, "out", "rlib", "stamp")):
-                yield f"{name} is not there once all is built"
-        lacking = [it for it in needs["ti"] if it in needs and it not in proved]
-        if lacking or os.path.exists(os.path.join(made, ".ti-build")):
-            yield f"{lacking} were not built, or the copies are left"
+                yield f"{name} was proved before {early}"
+        edit("ti_tools", "src", "lib.rt")
+        status, printed, said, proved = build("2")
+        if status or printed != "built\n" or proved != ["ti_tools", "ti"]:
+            yield f"after an edit of ti_tools: status {status}, printed {printed!r}, proved {proved}"
         os.utime(os.path.join(made, "crates", "ti_text", "src", "lib.rt"))
-        status, printed, said = build(TI_JOBS="2", REFUSED="ti_layout")
-        if status != 1 or printed or "ti: not proved: ti_layout\n" not in said or "refused ti_layout" not in said:
+        status, printed, said, proved = build("2")
+        if status or printed != "built\n" or proved:
+            yield f"where a file only became newer: status {status}, printed {printed!r}, proved {proved}"
+        edit("ti_layout", "specs", sorted(os.listdir(os.path.join(made, "crates", "ti_layout", "specs")))[0])
+        status, printed, said, proved = build("2", refused="ti_compiled")
+        if status != 1 or printed or "ti: not proved: ti_compiled\n" not in said or "refused ti_compiled" not in said:
             yield f"where one is refused: status {status}, printed {printed!r}, said {said!r}"
-        if any(it in said for it in (": ti_compiled\n", ": ti_tools\n", "building crate")):
-            yield f"what stands on the refused one was built: {said!r}"
+        if "ti_layout" not in proved or set(proved) & {*reaches("ti_compiled")} or "building crate" in said:
+            yield f"where ti_compiled is refused, {proved} were proved"
+        status, printed, said, again = build("2")
+        if status or printed != "built\n" or sorted([*proved, *again]) != reaches("ti_layout"):
+            yield f"after a refusal: status {status}, printed {printed!r}, proved {proved} and then {again}"
         for jobs in ("0", "x", "-1"):
-            if build(TI_JOBS=jobs, REFUSED="")[0] != 1:
+            edit("ti_text", "src", "lib.rt")
+            if build(jobs)[0] != 1:
                 yield f"TI_JOBS={jobs} is taken"
         for jobs in ("1", "1000"):
-            os.utime(os.path.join(made, "crates", "ti_text", "src", "lib.rt"))
-            status, printed, said = build(TI_JOBS=jobs, REFUSED="")
-            if status or printed != "built\n":
-                yield f"TI_JOBS={jobs}: status {status}, printed {printed!r}, said {said!r}"
+            edit("ti_text", "src", "lib.rt")
+            status, printed, said, proved = build(jobs)
+            if status or printed != "built\n" or sorted(proved) != reaches("ti_text"):
+                yield f"TI_JOBS={jobs}: status {status}, printed {printed!r}, said {said!r}, proved {proved}"
+
+
+def below_all(needs, name):
+    """The crates of the repository that one stands on, directly or not."""
+    direct = {it for it in needs[name] if it in needs}
+    return direct.union(*(below_all(needs, it) for it in direct))
+
+
+# A program above one library of the repository.
+SMALL_PROGRAM = """#![tactic(auto)]
+
+use std::io;
+
+fn main(rt: HostRuntime) -> io::Result<()> {
+    let lines = ti_text::count_lines(b"one\\ntwo\\n");
+    println!(rt; "{lines} lines")
+}
+"""
+
+
+def check_small_build():
+    """Whether ./ti proves a library with the toolchain itself, and proves, compiles and links a program above it."""
+    need("rt")
+    with tempfile.TemporaryDirectory(prefix="ti-package-") as folder:
+        shutil.copy(os.path.join(TOP, "ti"), folder)
+        for it in ("build", os.path.join("crates", "ti_text")):
+            shutil.copytree(os.path.join(TOP, it), os.path.join(folder, it), ignore=shutil.ignore_patterns("out"))
+        os.makedirs(os.path.join(folder, "crates", "ti", "src"))
+        with open(os.path.join(folder, "crates", "ti", "src", "main.rt"), "w") as file:
+            file.write(SMALL_PROGRAM)
+        with open(os.path.join(folder, "crates.txt"), "w") as file:
+            file.write("ti_text:\nti: ti_text\n")
+        ran = subprocess.run(["./ti"], cwd=folder, env={**os.environ, "TI_JOBS": "1"}, capture_output=True, text=True)
+        if ran.returncode or ran.stdout != "2 lines\n" or "ti: proved, crate 1 of 2: ti_text\n" not in ran.stderr:
+            yield f"status {ran.returncode}, printed {ran.stdout!r}, said {ran.stderr!r}"
 
 
 def check_readme():
@@ -464,7 +541,7 @@ def check_readme():
 
 
 CHECKS = {
-    "build": check_build, "options": check_options, "pages": check_pages, "bash": check_bash, "fish": check_fish, "zsh": check_zsh,
+    "build": check_build, "small-build": check_small_build, "options": check_options, "pages": check_pages, "bash": check_bash, "fish": check_fish, "zsh": check_zsh,
     "install": check_install, "copies": check_copies, "readme": check_readme, "tarball": check_tarball, "tarball-builds": check_tarball_builds,
 }
 
