@@ -89,10 +89,10 @@ def mark_of(name):
     return f"{LIBRARIES}/{name}.sum"
 
 
-def is_proved(needs, name):
-    """Whether a library was proved before, or the program built, and nothing that it is made from differs since."""
+def is_proved(sums, name):
+    """Whether a library was proved before, or a program built, and nothing that it is made from differs since."""
     try:
-        return read(mark_of(name)).decode() == sum_of(needs, name)
+        return read(mark_of(name)).decode() == sums[name]
     except OSError:
         return False
 
@@ -101,7 +101,7 @@ def run(folder, *words):
     """Runs a command of the toolchain in a folder. Gives whether it ended well, and what it said."""
     how = {"stdin": subprocess.DEVNULL, "stdout": subprocess.PIPE, "stderr": subprocess.STDOUT}
     ran = subprocess.run([f"{KIT}/bin/{words[0]}", *words[1:]], cwd=folder, errors="replace", **how)
-    ended = "" if ran.returncode >= 0 else f"{words[0]} was ended by the signal {-ran.returncode}\n"
+    ended = "" if ran.returncode >= 0 else f"{words[0]} was ended by signal {-ran.returncode}; TI_JOBS=1 takes the least memory\n"
     return ran.returncode == 0, ran.stdout + ended
 
 
@@ -116,29 +116,28 @@ def prove(needs, name, jobs, root, *more):
     return run(f"{TOP}/crates/{name}", "rattle", "build", *words, *more)
 
 
-def prove_marked(needs, name, make):
+def prove_marked(needs, sums, name, make):
     """Calls what proves a crate and makes what is wanted of it. Gives whether it is proved, and what was said."""
-    made_from = sum_of(needs, name)
     if os.path.exists(mark_of(name)):
         os.remove(mark_of(name))
     proved, said = make()
-    # Where a file was edited meanwhile, nothing tells which text was proved.
-    if proved and sum_of(needs, name) == made_from:
+    # Where a file was edited since the build began, also of a library below, nothing tells which text was proved.
+    if proved and sum_of(needs, name) == sums[name]:
         with open(mark_of(name), "w", encoding="utf-8") as file:
-            file.write(made_from)
+            file.write(sums[name])
     return proved, said
 
 
-def prove_library(needs, name, jobs):
+def prove_library(needs, sums, name, jobs):
     """Proves a library and keeps what it states. Gives whether it is proved, and what was said."""
     words = ["lib", "--statements", "-o", f"{LIBRARIES}/{name}.rlib"]
-    return prove_marked(needs, name, lambda: prove(needs, name, jobs, *words))
+    return prove_marked(needs, sums, name, lambda: prove(needs, name, jobs, *words))
 
 
-def prove_all(needs, libraries, jobs, log):
+def prove_all(needs, sums, libraries, jobs, log):
     """Proves the libraries, and gives whether all are proved. What is said is added to the log."""
     behind = lines_behind(needs, libraries)
-    proved = [it for it in libraries if is_proved(needs, it)]
+    proved = [it for it in libraries if is_proved(sums, it)]
     left = sorted((it for it in libraries if it not in proved), key=lambda it: -behind[it])
     running, idle = {}, jobs
     with ThreadPoolExecutor(jobs) as pool:
@@ -149,7 +148,7 @@ def prove_all(needs, libraries, jobs, log):
                 left.remove(name)
                 ready.remove(name)
                 idle -= share
-                running[pool.submit(prove_library, needs, name, share)] = name, share
+                running[pool.submit(prove_library, needs, sums, name, share)] = name, share
             for done in wait(running, return_when=FIRST_COMPLETED).done:
                 name, share = running.pop(done)
                 idle += share
@@ -179,11 +178,11 @@ def link_program(needs, name, jobs):
     return linked, said + more
 
 
-def build_program(needs, name, jobs):
+def build_program(needs, sums, name, jobs):
     """Builds a program, unless it was built before. Gives whether it is built, and what was said."""
     built, said = True, ""
-    if not is_proved(needs, name):
-        built, said = prove_marked(needs, name, lambda: link_program(needs, name, jobs))
+    if not is_proved(sums, name):
+        built, said = prove_marked(needs, sums, name, lambda: link_program(needs, name, jobs))
     if built:
         # rt makes a program of this name too, perhaps from other text. One that runs is replaced whole.
         place = f"{TOP}/crates/{name}/out/{name}"
@@ -213,11 +212,12 @@ def build(program, jobs, log):
     """Builds a program, and gives whether it was built. What is said is added to the log."""
     needs = read_needs()
     libraries = all_below(needs, program)
+    sums = {it: sum_of(needs, it) for it in [*libraries, program]}
     os.makedirs(LIBRARIES, exist_ok=True)
-    if not prove_all(needs, libraries, jobs, log):
+    if not prove_all(needs, sums, libraries, jobs, log):
         return False
     tell(f"proving and building crate {len(libraries) + 1} of {len(libraries) + 1}: {program}")
-    is_built, said = build_program(needs, program, min(jobs, JOBS_OF_ONE))
+    is_built, said = build_program(needs, sums, program, min(jobs, JOBS_OF_ONE))
     log.append(f"== {program}\n{said}")
     return is_built
 
@@ -242,4 +242,7 @@ def main():
 
 
 if __name__ == "__main__":
-    sys.exit(main())
+    try:
+        sys.exit(main())
+    except KeyboardInterrupt:
+        sys.exit(130)

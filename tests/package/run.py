@@ -390,6 +390,7 @@ done
     echo "refused $name"
     exit 1
 }
+[ "$name" != "$EDITS" ] || echo "// edited" >>../ti_text/src/lib.rt
 sleep 0.1
 mkdir -p "${made%/*}"
 echo "$name" >>"$PROVED"
@@ -431,11 +432,12 @@ def check_build():
             if ":" in line and not line.startswith("#"):
                 needs[line.split(":")[0]] = line.split(":")[1].split()
 
-        def build(jobs, refused=""):
-            """What ./ti came to, and which crates the stand-in proved for it, in order."""
+        def build(jobs, refused="", edits=""):
+            """What ./ti came to, and which crates the stand-in proved for it, in order. With one of them it edits `ti_text`."""
             with contextlib.suppress(FileNotFoundError):
                 os.remove(log)
-            given = {**os.environ, "PATH": f"{tools}:{os.environ['PATH']}", "PROVED": log, "TI_JOBS": jobs, "REFUSED": refused}
+            given = {**os.environ, "PATH": f"{tools}:{os.environ['PATH']}", "PROVED": log, "TI_JOBS": jobs}
+            given.update(REFUSED=refused, EDITS=edits)
             ran = subprocess.run(["./ti"], cwd=made, env=given, capture_output=True, text=True)
             proved = open(log).read().split() if os.path.exists(log) else []
             return ran.returncode, ran.stdout, ran.stderr, proved
@@ -474,6 +476,13 @@ def check_build():
         status, printed, said, again = build("2")
         if status or printed != "built\n" or sorted([*proved, *again]) != reaches("ti_layout"):
             yield f"after a refusal: status {status}, printed {printed!r}, proved {proved} and then {again}"
+        edit("ti_source", "src", "lib.rt")
+        status, printed, said, proved = build("2", edits="ti_source")
+        if status or printed != "built\n" or sorted(proved) != reaches("ti_source"):
+            yield f"with an edit meanwhile: status {status}, printed {printed!r}, proved {proved}"
+        status, printed, said, proved = build("2")
+        if status or printed != "built\n" or sorted(proved) != reaches("ti_text"):
+            yield f"after an edit meanwhile: status {status}, printed {printed!r}, proved {proved}"
         for jobs in ("0", "x", "-1"):
             edit("ti_text", "src", "lib.rt")
             if build(jobs)[0] != 1:
