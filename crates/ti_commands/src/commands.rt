@@ -26,8 +26,9 @@ const TI_NOTES: &str = "\
 Exit status: 0 where all went well, 1 at a fault, 2 at wrong usage.
 'ti help TOOL' says more of each tool.
 
-Example:
-  ti tic -o ~/.terminfo dumb.ti";
+Examples:
+  ti tic -o ~/.terminfo dumb.ti
+  TERMINFO=~/.terminfo ti infocmp dumb";
 
 /// The tools, in the order in which help shows them.
 static TOOLS: [Tool<'static>; 4] = [TIC, TPUT, SESSION, INFOCMP];
@@ -55,7 +56,8 @@ const TIC: Tool<'static> = Tool {
     ],
     notes: "\
 The report of the faults in the source goes to standard error. A block without
-error gets its files also where another block has one.
+error gets its files also where another block has one. The tools look for an
+entry in $TERMINFO, $TERMINFO_DIRS and /usr/share/terminfo alone.
 
 Exit status:
   0  the source has no error, but perhaps warnings
@@ -93,6 +95,7 @@ const TPUT: Tool<'static> = Tool {
         },
     ],
     notes: "The first WORD is a capability of terminfo(5), longname, init or reset.
+The entry is looked for in $TERMINFO, $TERMINFO_DIRS and /usr/share/terminfo.
 
 Exit status: 0; 1 where a flag or a string is absent; 2 at bad usage; 3 at an
 unknown terminal; 4 at an unknown capability or a bad string; 255 at a fault.

@@ -87,7 +87,8 @@ pub(crate) const INFOCMP: Tool<'static> = Tool {
     ],
     notes: "\
 A listing is source that 'ti tic' compiles back to the same entry; with '-u' it
-is, where the entries that it uses stand beside it.
+is, where the entries that it uses stand beside it. Entries are looked for in
+$TERMINFO, $TERMINFO_DIRS and /usr/share/terminfo, where no folder is named.
 
 Exit status:
   0  all entries were read, and the text was written
@@ -95,7 +96,7 @@ Exit status:
   2  wrong usage
 
 Examples:
-  ti infocmp -1 xterm
+  ti infocmp -1 -A /lib/terminfo xterm
   ti infocmp -d xterm vt100
   ti infocmp -u xterm-256color xterm",
 };
