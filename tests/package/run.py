@@ -373,7 +373,8 @@ def check_tarball_builds():
 
 
 # What stands for the toolchain where only the order of a build is tried: its prover wants what a crate stands on to be there,
-# and its linker makes a program that prints the crates which were proved since the last one.
+# notes in the file PROVED what it proves, refuses the crate REFUSED and edits `ti_text` while it proves the crate EDITS; its
+# linker makes a program that prints `built`.
 STAND_IN = {
     "rt": "exit 1\n",
     "rattle": """
