@@ -7,7 +7,7 @@
 #   make hostile    malicious inputs of full size, and 20,000 made at random
 #   make wrong-bodies   the further wrong bodies, which the prover must refuse too
 #   make bench      counts and times the tools beside ncurses's, and edits of long lists
-#   make install    puts the program, its pages and its completions below
+#   make install    puts the program, its pages, completions and examples below
 #                   DESTDIR and PREFIX (which is /usr/local); with TOOLS=1 also
 #                   ti-tic, ti-infocmp and ti-tput
 #   make uninstall  takes all of that away again
@@ -19,9 +19,11 @@ MANDIR ?= $(PREFIX)/share/man
 BASHDIR ?= $(PREFIX)/share/bash-completion/completions
 ZSHDIR ?= $(PREFIX)/share/zsh/site-functions
 FISHDIR ?= $(PREFIX)/share/fish/vendor_completions.d
+EXAMPLESDIR ?= $(PREFIX)/share/doc/ti/examples
 VERSION ?= $(shell git log -1 --format=%cd --date=format:%Y%m%d 2>/dev/null || echo 0)
 
 PROGRAM = crates/ti/out/ti
+EXAMPLES = $(wildcard examples/*)
 PAGES = man/ti.1 man/ti-tic.1 man/ti-infocmp.1 man/ti-tput.1 man/ti-session.1 man/ti-report.7
 TOOL_NAMES = ti-tic ti-infocmp ti-tput
 
@@ -54,7 +56,7 @@ bench: all
 install:
 	test -x $(PROGRAM) || ./ti --help >/dev/null
 	install -d "$(DESTDIR)$(BINDIR)" "$(DESTDIR)$(MANDIR)/man1" "$(DESTDIR)$(MANDIR)/man7"
-	install -d "$(DESTDIR)$(BASHDIR)" "$(DESTDIR)$(ZSHDIR)" "$(DESTDIR)$(FISHDIR)"
+	install -d "$(DESTDIR)$(BASHDIR)" "$(DESTDIR)$(ZSHDIR)" "$(DESTDIR)$(FISHDIR)" "$(DESTDIR)$(EXAMPLESDIR)"
 	install -m 755 $(PROGRAM) "$(DESTDIR)$(BINDIR)/ti"
 	for page in $(PAGES); do \
 		install -m 644 "$$page" "$(DESTDIR)$(MANDIR)/man$${page##*.}/$${page##*/}" || exit 1; \
@@ -62,9 +64,10 @@ install:
 	install -m 644 completions/ti.bash "$(DESTDIR)$(BASHDIR)/ti"
 	install -m 644 completions/_ti "$(DESTDIR)$(ZSHDIR)/_ti"
 	install -m 644 completions/ti.fish "$(DESTDIR)$(FISHDIR)/ti.fish"
+	install -m 644 $(EXAMPLES) "$(DESTDIR)$(EXAMPLESDIR)"
 ifeq ($(TOOLS),1)
 	for tool in $(TOOL_NAMES); do \
-		printf '#!/bin/sh\nexec "$$(dirname -- "$$0")/ti" %s "$$@"\n' "$${tool#ti-}" \
+		printf '#!/bin/sh\nexec "$$(dirname -- "$$(readlink -f -- "$$0")")/ti" %s "$$@"\n' "$${tool#ti-}" \
 			>"$(DESTDIR)$(BINDIR)/$$tool" && chmod 755 "$(DESTDIR)$(BINDIR)/$$tool" || exit 1; \
 		ln -sf ti "$(DESTDIR)$(BASHDIR)/$$tool"; \
 		ln -sf ti.fish "$(DESTDIR)$(FISHDIR)/$$tool.fish"; \
@@ -77,6 +80,8 @@ uninstall:
 		rm -f "$(DESTDIR)$(MANDIR)/man$${page##*.}/$${page##*/}"; \
 	done
 	rm -f "$(DESTDIR)$(BASHDIR)/ti" "$(DESTDIR)$(ZSHDIR)/_ti" "$(DESTDIR)$(FISHDIR)/ti.fish"
+	for example in $(EXAMPLES); do rm -f "$(DESTDIR)$(EXAMPLESDIR)/$${example##*/}"; done
+	rmdir "$(DESTDIR)$(EXAMPLESDIR)" "$$(dirname "$(DESTDIR)$(EXAMPLESDIR)")" 2>/dev/null || true
 	for tool in $(TOOL_NAMES); do \
 		rm -f "$(DESTDIR)$(BINDIR)/$$tool" "$(DESTDIR)$(BASHDIR)/$$tool" "$(DESTDIR)$(FISHDIR)/$$tool.fish"; \
 	done

@@ -36,17 +36,19 @@ function __ti_capabilities
         'meml memu box1'
 end
 
-# The terminals of all places where entries are looked for.
+# The terminals of the places given, else of all places where entries are looked for.
 function __ti_terminals
-    set -l places
-    test -n "$TERMINFO"; and set -a places $TERMINFO
-    if set -q TERMINFO_DIRS
-        for part in (string split -- : "$TERMINFO_DIRS")
-            test -n "$part"; or set part /usr/share/terminfo
-            set -a places $part
+    set -l places $argv
+    if not set -q places[1]
+        test -n "$TERMINFO"; and set -a places $TERMINFO
+        if set -q TERMINFO_DIRS
+            for part in (string split -- : "$TERMINFO_DIRS")
+                test -n "$part"; or set part /usr/share/terminfo
+                set -a places $part
+            end
         end
+        set -a places /usr/share/terminfo
     end
-    set -a places /usr/share/terminfo
     for place in $places
         for path in $place/*/*
             test -f $path; and string split -r -m 1 -f 2 / -- $path
@@ -59,6 +61,37 @@ function __ti_is
     set -l words (commandline -opc)
     test "$words[1]" = ti; and test "$words[2]" = $argv[1]; and return
     test "$words[1]" = ti-$argv[1]
+end
+
+# The terminals that the next name of infocmp may be: the first name's are those of -A, all others' those of -B.
+function __ti_infocmp_names
+    set -l words (commandline -opc)
+    test "$words[1]" = ti; and set -e words[1]
+    set -e words[1]
+    set -l first
+    set -l other
+    set -l names 0
+    while set -q words[1]
+        switch $words[1]
+            case -A
+                set first $words[2]
+                set -e words[1]
+            case -B
+                set other $words[2]
+                set -e words[1]
+            case -w -s
+                set -e words[1]
+            case '-*'
+            case '*'
+                set names (math $names + 1)
+        end
+        set -e words[1]
+    end
+    if test $names -eq 0
+        __ti_terminals $first
+    else
+        __ti_terminals $other
+    end
 end
 
 # Whether no capability stands in the command line of tput yet, nor -S.
@@ -86,12 +119,18 @@ function __ti_wants_tool
     test (count $words) -eq 1
 end
 
+function __ti_wants_help_of_tool
+    set -l words (commandline -opc)
+    test (count $words) -eq 2; and test "$words[2]" = help
+end
+
 complete -c ti -n __ti_wants_tool -f -a tic -d 'Compile terminfo source into entries'
 complete -c ti -n __ti_wants_tool -f -a infocmp -d 'List and compare entries'
 complete -c ti -n __ti_wants_tool -f -a tput -d 'Write what drives a terminal'
 complete -c ti -n __ti_wants_tool -f -a session -d 'Edit a source by a script'
 complete -c ti -n __ti_wants_tool -f -a help -d 'Print the help of a tool'
-complete -c ti -n '__ti_is help' -f -a 'tic infocmp tput session'
+complete -c ti -n '__ti_is help' -f
+complete -c ti -n __ti_wants_help_of_tool -f -a 'tic infocmp tput session'
 
 for command in ti ti-tic ti-infocmp ti-tput
     complete -c $command -s h -l help -d 'Print help'
@@ -100,7 +139,7 @@ for command in ti ti-tic ti-infocmp ti-tput
     complete -c $command -n '__ti_is tic' -o o -x -a '(__fish_complete_directories)' -d 'Write below this folder'
     complete -c $command -n '__ti_is tic' -F
 
-    complete -c $command -n '__ti_is infocmp' -f -a '(__ti_terminals)'
+    complete -c $command -n '__ti_is infocmp' -f -a '(__ti_infocmp_names)'
     complete -c $command -n '__ti_is infocmp' -o I -d 'List each entry'
     complete -c $command -n '__ti_is infocmp' -o d -d 'Show where the first differs from each other'
     complete -c $command -n '__ti_is infocmp' -o c -d 'Show what the first and each other have in common'

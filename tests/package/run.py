@@ -56,6 +56,8 @@ CANDIDATES = [
     ("ti infocmp du", "dumb", "lantern3"),
     ("ti infocmp lantern3 lantern2", "lantern2-n", "dumb"),
     ("ti-tput -T du", "dumb", "lantern3"),
+    ("ti infocmp -A more lantern", "lantern-color", "lantern3"),
+    ("ti infocmp -A out -B more lantern3 lantern", "lantern-color", "lantern2"),
 ]
 
 
@@ -179,6 +181,8 @@ def with_entries(check):
         for name in ("dumb.ti", "lantern.ti"):
             shutil.copy(os.path.join(TOP, "examples", name), folder)
             subprocess.run([PROGRAM, "tic", "-o", "out", name], cwd=folder, check=True)
+        os.makedirs(os.path.join(folder, "more", "l"))
+        shutil.copy(os.path.join(folder, "out", "l", "lantern-color"), os.path.join(folder, "more", "l"))
         yield from check(folder)
 
 
@@ -294,14 +298,17 @@ def check_install():
         wanted += ["usr/share/bash-completion/completions/ti", "usr/share/fish/vendor_completions.d/ti.fish"]
         wanted += ["usr/share/zsh/site-functions/_ti", "usr/share/man/man7/ti-report.7"]
         wanted += [f"usr/share/man/man1/{it}" for it in PAGES if it.endswith(".1")]
+        wanted += [f"usr/share/doc/ti/examples/{it}" for it in os.listdir(os.path.join(TOP, "examples"))]
         for name in sorted(set(wanted) - set(installed)):
             yield f"make install puts no {name}"
         env = {"PATH": here("bin") + ":/usr/bin:/bin", "TERMINFO": os.path.join(folder, "out")}
         script = "ti tic dumb.ti && ti-tic -o again dumb.ti && cmp $TERMINFO/d/dumb again/d/dumb &&"
-        script += " ti-tput -T dumb cols && ti-infocmp dumb | head -n 1; ti-tput -T dumb bw; echo $?"
+        script += " ti-tput -T dumb cols && ti-infocmp dumb | head -n 1; ti-tput -T dumb bw; echo $?;"
+        # a link of another name in another folder
+        script += " ln -s usr/bin/ti-tput tput && ./tput -T dumb cols"
         shutil.copy(os.path.join(TOP, "examples", "dumb.ti"), folder)
         got = output(["sh", "-c", script], cwd=folder, env=env)
-        if got != "80\ndumb|80-column dumb tty,\n1\n":
+        if got != "80\ndumb|80-column dumb tty,\n1\n80\n":
             yield f"the installed program gives {got!r}"
         before = set(files_below(folder)) - set(installed)
         output([*words, "uninstall"], cwd=TOP)

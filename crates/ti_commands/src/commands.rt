@@ -23,7 +23,7 @@ pub(crate) struct Tool<'a> {
 
 /// What stands below the options in the help of the program.
 const TI_NOTES: &str = "\
-Exit status: 0 where all went well, 1 at a fault, 2 at wrong usage.
+Exit status: 0 where all went well, 1 at a fault, 2 at bad usage.
 'ti help TOOL' says more of each tool.
 
 Examples:
@@ -62,7 +62,7 @@ entry in $TERMINFO, $TERMINFO_DIRS and /usr/share/terminfo alone.
 Exit status:
   0  the source has no error, but perhaps warnings
   1  the source has an error, or a file or a stream failed
-  2  wrong usage
+  2  bad usage
 
 Example:
   ti tic -o ~/.terminfo dumb.ti",
@@ -126,7 +126,7 @@ An edit is answered 'ok' or 'refused' and why, what is no request 'unknown'.
 Exit status:
   0  the script was read to its end
   1  a stream failed, or a line of the script is too long
-  2  wrong usage
+  2  bad usage
 
 Example:
   ti session < script.txt",

@@ -93,7 +93,7 @@ $TERMINFO, $TERMINFO_DIRS and /usr/share/terminfo, where no folder is named.
 Exit status:
   0  all entries were read, and the text was written
   1  an entry is not there or is bad, or a file or a stream failed
-  2  wrong usage
+  2  bad usage
 
 Examples:
   ti infocmp -1 -A /lib/terminfo xterm

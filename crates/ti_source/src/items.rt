@@ -12,7 +12,7 @@ use std::alloc::{AllocError, Global};
 use ti_text::is_white_space;
 
 /// What takes the byte that comes next.
-#[derive(Clone, Copy, PartialEq, Eq, Debug)]
+#[derive(Clone, Copy)]
 pub(crate) enum Taken {
     Nothing,
     Backslash,
@@ -35,12 +35,12 @@ impl Taken {
     fn cuts(self, byte: u8) -> bool
         ensures { result ≡ cuts self byte }
     {
-        byte == b',' && self != Taken::Backslash
+        byte == b',' && !matches!(self, Taken::Backslash)
     }
 }
 
 /// A run of bytes on one line, over which an item goes on.
-#[derive(Clone, Copy, Debug)]
+#[derive(Clone, Copy)]
 pub(crate) struct Run<'a> {
     /// The bytes, none of which is a newline or ends the item.
     pub(crate) bytes: &'a [u8],
@@ -102,7 +102,7 @@ pub(crate) fn read_field(alloc: Global, source: &mut Folded<'_>) -> Result<Vec<u
 }
 
 /// Where an item stands, and whether the block ends with it.
-#[derive(Clone, Copy, Debug)]
+#[derive(Clone, Copy)]
 pub(crate) struct Reached<'a> {
     /// Its text, where it is part of the block as it stands.
     pub(crate) whole: Option<&'a [u8]>,
@@ -207,14 +207,14 @@ fn read_runs<'a>(source: &mut Folded<'a>, text: &mut Vec<u8>) -> Result<Reached<
 }
 
 /// What an item states of the capability of a name.
-#[derive(Clone, Copy, Debug)]
+#[derive(Clone, Copy)]
 pub(crate) struct Statement<'a> {
     pub(crate) name: &'a [u8],
     pub(crate) claim: Claim<'a>,
 }
 
 /// What is stated: that a flag is there, a number or a text by its spelling, or that the capability is cancelled.
-#[derive(Clone, Copy, Debug)]
+#[derive(Clone, Copy)]
 pub(crate) enum Claim<'a> {
     Flag,
     Number(&'a [u8]),

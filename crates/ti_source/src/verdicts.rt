@@ -16,7 +16,7 @@ use ti_caps::{Cap, Kind, find};
 use ti_spelling::{UnescapeError, unescape};
 
 /// What comes of a statement: it is accepted, accepted though an escape in it is odd, or refused by a fault.
-#[derive(Debug, Drop)]
+#[derive(Drop)]
 pub(crate) enum Verdict {
     Accepted(What),
     AcceptedOdd(What),

@@ -163,7 +163,7 @@ entry in $TERMINFO, $TERMINFO_DIRS and /usr/share/terminfo alone.
 Exit status:
   0  the source has no error, but perhaps warnings
   1  the source has an error, or a file or a stream failed
-  2  wrong usage
+  2  bad usage
 
 Example:
   ti tic -o ~/.terminfo dumb.ti
