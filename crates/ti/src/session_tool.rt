@@ -1,6 +1,6 @@
 //! `ti session`: answers a script.
 use std::io;
-use ti_session::{Counted, ToolError, session};
+use ti_tools::{Counted, ToolError, session};
 
 /// Answers the script on standard input, on standard output.
 ///

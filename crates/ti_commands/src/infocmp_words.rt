@@ -86,9 +86,10 @@ pub(crate) const INFOCMP: Tool<'static> = Tool {
         },
     ],
     notes: "\
-A listing is source that 'ti tic' compiles back to the same entry; with '-u' it
-is, where the entries that it uses stand beside it. Entries are looked for in
-$TERMINFO, $TERMINFO_DIRS and /usr/share/terminfo, where no folder is named.
+A listing of an entry that 'ti tic' wrote is source that it compiles back to the
+same entry; with '-u' it is, where the entries that it uses stand beside it.
+Entries are looked for in $TERMINFO, $TERMINFO_DIRS and /usr/share/terminfo,
+where no folder is named.
 
 Exit status:
   0  all entries were read, and the text was written

@@ -16,6 +16,9 @@ pub fn value<'a>(matches: &ArgMatches<'a>, id: &str) -> Option<&'a str>
 }
 
 /// The same as a text of its own.
+///
+/// # Errors
+/// Want of memory.
 pub fn text(alloc: Global, matches: &ArgMatches<'_>, id: &str) -> Result<Option<String>, AllocError>
     ensures { IfOk result (λ text. option_map string_bytes text
         ≡ first_of id.now (matched_rows matches.now)) }
@@ -44,6 +47,9 @@ pub fn values<'m, 'a>(matches: &'m ArgMatches<'a>, id: &str) -> Option<&'m [&'a 
 }
 
 /// Texts of their own.
+///
+/// # Errors
+/// Want of memory.
 pub fn texts(alloc: Global, words: &[&str]) -> Result<Vec<String>, AllocError>
     ensures { IfOk result (λ texts. map string_bytes texts.items ≡ map (λ word. word.now) words.now) }
 {

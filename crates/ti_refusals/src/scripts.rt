@@ -1,8 +1,7 @@
 //! Scripts that are answered as they are read.
 use crate::calls::entry_of;
 use std::alloc::Global;
-use ti_session::session;
-use ti_tools::{Counted, ToolError, entry, tput_lines};
+use ti_tools::{Counted, ToolError, entry, session, tput_lines};
 use ti_tried_edits::{Tried, Trouble};
 
 /// More bytes than any of the scripts is answered.

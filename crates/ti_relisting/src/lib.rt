@@ -1,4 +1,5 @@
-//! The laws of compiling what was listed. They compute nothing: each is the contract of a function with no code.
+//! The laws of compiling what was listed. They compute nothing: each is the contract of a
+//! function that has no code but calls of other laws.
 //!
 //! - `layouts`: listings and relative sources are laid out as items.
 //! - `reading_back`: what is laid out so is one block, and is read as what it lists.

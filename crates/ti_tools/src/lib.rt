@@ -7,9 +7,9 @@
 //! - `stopping`: how a tool that stops ends: its status, and the line on standard error
 //! - `laws`: that the listing of an entry, and its relative source, compile back to the entry
 //!
-//! The crate `ti_commands` below it has the command lines and their jobs, and `ti_devices` the counted devices,
-//! the trees of files and the errors of the tools; their calls are public here too. The session stands beside it, in
-//! `ti_session`.
+//! The crate `ti_commands` below it has the command lines and their jobs, `ti_session` the session, and
+//! `ti_devices` the counted devices, the trees of files and the errors of the tools; what users of the
+//! tools need of them is public here too, as is `ti_tput`.
 #![tactic(auto)]
 
 pub mod compiling;
@@ -28,4 +28,5 @@ pub use stopping::{message, status};
 pub use ti_commands::{InfocmpMode, Job, Refusal, UsageError, job, job_or_refusal};
 pub use ti_devices::{Counted, File, MemTree, Tally, ToolError, Tree, TreeFault, place};
 pub use ti_list::{Layout, Order};
+pub use ti_session::session;
 pub use ti_tput::{TputOutcome, entry, locate, places, tput, tput_lines};
