@@ -116,6 +116,9 @@ impl Database {
     /// All faults, in the order of the blocks: for each block those of its header, one for each
     /// lookup name that an earlier block owns, those of its items in their order, and one where its
     /// entry is over the limit.
+    ///
+    /// # Errors
+    /// Want of memory.
     pub fn faults(&self) -> Result<Vec<Fault>, AllocError>
         ensures { IfOk result (λ all. map fault_seen all.items ≡ faults (readings self.now)) }
     {
@@ -125,6 +128,9 @@ impl Database {
 
     /// The report of all faults: a line for each, with the line of the whole source that it stands
     /// on, where the first line of the source has the number `first_line`.
+    ///
+    /// # Errors
+    /// Want of memory.
     pub fn report(&self, first_line: u64) -> Result<Vec<u8>, AllocError>
         requires { first_line ≤ 9223372036854775808 }
         ensures { IfOk result (λ text. text.items ≡ report self.now first_line) }
@@ -135,6 +141,9 @@ impl Database {
     }
 
     /// The report, as `report` gives it, for who has the faults that `faults` gave of this source.
+    ///
+    /// # Errors
+    /// Want of memory.
     pub fn report_of(&self, found: &[Fault], first_line: u64) -> Result<Vec<u8>, AllocError>
         requires all { map fault_seen found.now ≡ faults (readings self.now) }
         requires first { first_line ≤ 9223372036854775808 }

@@ -71,6 +71,9 @@ fn change_flag(bytes: &mut Vec<u8>, old: &Header, new: &Header, index: usize, on
 }
 
 /// Sets a flag or takes it away. A refused change leaves the image.
+///
+/// # Errors
+/// `TooLarge` for an image over its limit, then `Memory`.
 pub fn set_flag(bytes: &mut Vec<u8>, index: usize, on: bool) -> Result<(), WriteError>
     requires image { IsImage bytes.old.items }
     requires index { index < count_of Flag }

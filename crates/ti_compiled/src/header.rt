@@ -57,6 +57,9 @@ pub fn names_of(bytes: &[u8]) -> &[u8]
 }
 
 /// Makes room for an image of these sizes, where it is within its limit.
+///
+/// # Errors
+/// `TooLarge` for an image over its limit, then `Memory`.
 pub fn make_room(bytes: &mut Vec<u8>, header: &Header) -> Result<(), WriteError>
     requires names { FitsTwoBytes header.now.names }
     requires flags { FitsTwoBytes header.now.flags }

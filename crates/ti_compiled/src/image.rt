@@ -78,8 +78,8 @@ impl Image {
     }
 
     /// The same entry with the values of another table: a copy in which first each value that changes
-    /// is taken away and then the new ones are given. Where a number of either table is over 32,767, or
-    /// the copy gets no memory, the entry is written anew.
+    /// is taken away and then the new ones are given. Where a number of either table is over 32,767, the
+    /// new entry is over the limit, or the copy gets no memory, the entry is written anew.
     ///
     /// # Errors
     /// [`WriteError::TooLarge`] exactly where [`write`] answers it, and [`WriteError::Memory`].
@@ -110,6 +110,9 @@ impl Image {
     }
 
     /// The same entry once more.
+    ///
+    /// # Errors
+    /// Want of memory.
     pub fn copy(&self, alloc: Global) -> Result<Image, AllocError>
         ensures { IfOk result (λ i. i ≡ self.now) }
     {

@@ -161,6 +161,9 @@ fn change_numbers(bytes: &mut Vec<u8>, old: &Header, new: &Header, values: &[u32
 }
 
 /// Gives a number or takes it away. A refused change leaves the image.
+///
+/// # Errors
+/// `TooLarge` for an image over its limit, then `Memory`.
 pub fn set_number(bytes: &mut Vec<u8>, index: usize, number: Option<u32>) -> Result<(), WriteError>
     requires image { IsImage bytes.old.items }
     requires index { index < count_of Number }

@@ -186,6 +186,9 @@ fn change_text(bytes: &mut Vec<u8>, old: &Header, new: &Header, index: usize, te
 }
 
 /// Gives a text or takes it away. A refused change leaves the image.
+///
+/// # Errors
+/// `TooLarge` for an image over its limit, then `Memory`.
 pub fn set_text(bytes: &mut Vec<u8>, index: usize, text: Option<&[u8]>) -> Result<(), WriteError>
     requires image { IsImage bytes.old.items }
     requires index { index < count_of Text }

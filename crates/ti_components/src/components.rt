@@ -22,6 +22,9 @@ pub struct Components {
 impl Components {
     /// The components of a graph, by the path search of Purdom and Munro (1970) and Gabow (2000), in
     /// time linear in its nodes and edges. Each edge leads to a node or nowhere.
+    ///
+    /// # Errors
+    /// Want of memory.
     pub fn find(alloc: Global, graph: &Graph) -> Result<Components, AllocError>
         requires { IsGraph graph.now }
         ensures components { IfOk result (λ c. AreComponents graph.now c.component_of.items) }

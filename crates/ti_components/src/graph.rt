@@ -27,6 +27,9 @@ impl Model for Graph {
 
 impl Graph {
     /// A graph without nodes, with room for so many nodes and edges in all.
+    ///
+    /// # Errors
+    /// Want of memory.
     pub fn with_capacity(alloc: Global, nodes: usize, edges: usize) -> Result<Graph, AllocError>
         ensures { IfOk result (λ graph. graph ≡ []) }
     {

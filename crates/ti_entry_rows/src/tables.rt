@@ -7,6 +7,7 @@ use std::rc::RcSlice;
 use ti_caps::{Cap, Kind};
 use ti_layout::{Table, Value};
 
+/// Whether none of the bytes is a NUL.
 pub fn has_no_nul(bytes: &[u8]) -> bool
     ensures { IsTrue result ↔ HasNoNul bytes.now }
 {
@@ -58,6 +59,10 @@ fn put(table: &mut Table, alloc: Global, given: Given<'_>) -> Result<(), AllocEr
     }
 }
 
+/// Gives a table what an image may be given, one after the other.
+///
+/// # Errors
+/// Want of memory.
 pub fn put_all(table: &mut Table, alloc: Global, all: &[Given<'_>]) -> Result<(), AllocError> {
     for given in all {
         put(table, alloc, *given)?;
@@ -65,6 +70,10 @@ pub fn put_all(table: &mut Table, alloc: Global, all: &[Given<'_>]) -> Result<()
     Ok(())
 }
 
+/// A table that is given these.
+///
+/// # Errors
+/// Want of memory.
 pub fn table_of(alloc: Global, all: &[Given<'_>]) -> Result<Table, AllocError> {
     let mut table = Table::new(alloc);
     put_all(&mut table, alloc, all)?;

@@ -123,6 +123,9 @@ impl Model for Mentions {
 
 impl Mentions {
     /// None yet, with room for so many.
+    ///
+    /// # Errors
+    /// Want of memory.
     #[tactic(auto, unfolding(crate::specs::Values::contents))]
     pub fn new(alloc: Global, room: usize) -> Result<Mentions, AllocError>
         ensures { IfOk result (λ m. (c : Capability) → contents m c ≡ None) }
@@ -135,6 +138,9 @@ impl Mentions {
 
     /// One more mention, behind the others: it decides where none of them is of the same capability. The kinds
     /// agree, a number is at most 2,147,483,647 and a text holds no NUL.
+    ///
+    /// # Errors
+    /// Want of memory.
     pub fn push(&mut self, cap: Cap, value: Value) -> Result<(), AllocError>
         requires { Agrees cap (content_of value) }
         ensures { OnOk result ((c : Capability) → IsCapability c → contents self.new c
@@ -148,6 +154,9 @@ impl Mentions {
     }
 
     /// A mention of each value of a table, behind the others.
+    ///
+    /// # Errors
+    /// Want of memory.
     pub fn merge(&mut self, used: &Table) -> Result<(), AllocError>
         ensures { OnOk result ((c : Capability) → IsCapability c → contents self.new c ≡ option_or (contents self.old c) (contents used.now c)) }
     {
@@ -156,6 +165,9 @@ impl Mentions {
     }
 
     /// The table of the first mentions.
+    ///
+    /// # Errors
+    /// Want of memory.
     pub fn into_table(mut self) -> Result<Table, AllocError>
         ensures { IfOk result (λ t. (c : Capability) → IsCapability c → contents t c ≡ contents self c) }
     {

@@ -71,6 +71,9 @@ pub(crate) fn push_copy(
 }
 
 /// What the first has, and of what it has nothing of, what the second has.
+///
+/// # Errors
+/// Want of memory.
 pub fn merge(
     alloc: Global,
     first: &[(Cap, Value)],

@@ -117,6 +117,7 @@ pub fn are_names(names: &[u8]) -> bool
     names.len() >= 2 && memchr(0, names) == Some(names.len() - 1)
 }
 
+/// Whether each byte of a section is a flag: 0 or 1, or that of a cancelled or absent one.
 pub fn are_flags(flags: &[u8]) -> bool
     ensures { MatchBool result (AreFlags flags.now) (HasBadFlag flags.now) }
 {
@@ -128,6 +129,7 @@ pub fn are_flags(flags: &[u8]) -> bool
     true
 }
 
+/// Whether each number of a section is one, cancelled or absent.
 pub fn are_numbers(numbers: &[u8], format: Format) -> bool
     ensures { MatchBool result (AreStoredNumbers format numbers.now) (HasBadNumber format numbers.now) }
 {

@@ -51,6 +51,9 @@ impl From<AllocError> for WriteError {
 /// capability that is there. A flag is 1 or 0; a number or an offset is -1 where the capability is
 /// absent or cancelled. The texts lie in table order without sharing, the first at offset 0. All
 /// sizes are known before memory is asked for.
+///
+/// # Errors
+/// `NamesTooLong` for names over 127 bytes, then `TooLarge` for an entry over its limit, then `Memory`.
 pub fn write(alloc: Global, names: &[u8], table: &Table) -> Result<Vec<u8>, WriteError>
     requires present { names.now ≢ [] }
     requires no_nul { HasNoNul names.now }

@@ -24,6 +24,9 @@ pub struct KeptFault {
 }
 
 /// The same detail once more, its bytes shared.
+///
+/// # Errors
+/// Want of memory.
 pub fn copy_detail(detail: &Option<RcSlice<u8>>) -> Result<Option<RcSlice<u8>>, AllocError>
     ensures { IfOk result (λ d. option_map rc_slice_items d ≡ option_map rc_slice_items detail.now) }
 {

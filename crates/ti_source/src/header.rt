@@ -76,6 +76,9 @@ fn parts(alloc: Global, joined: &[u8]) -> Result<Vec<RcSlice<u8>>, AllocError>
 /// The lookup names of the names field of a block, in order, or `None` where the field is bad: it or a part of it between
 /// bytes `|` is empty, it holds a NUL, or a lookup name breaks the rule of [`is_lookup_name`]. Of two or more parts the
 /// last is a description and no lookup name (X/Open Curses Issue 7, "Terminfo Source Format").
+///
+/// # Errors
+/// Want of memory.
 pub fn lookup_names(alloc: Global, field: &[u8]) -> Result<Option<Vec<RcSlice<u8>>>, AllocError>
     ensures { IfOk result (λ names. option_map (λ v. map rc_slice_items v.items) names ≡ computed.header_names field.now) }
 {

@@ -9,7 +9,7 @@
 //!   what an item states; `verdicts`: what comes of that; `sharing`: texts that blocks share; `parsing`: a block as it is
 //!   read, with its faults.
 //!
-//! The crate `ti_spelling` below it has the spelling of string values; its calls are public here too.
+//! The crate `ti_spelling` below it has the spelling of string values; what the layers above need of it is public here too.
 #![tactic(auto)]
 
 mod code;

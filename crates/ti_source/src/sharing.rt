@@ -29,7 +29,10 @@ pub struct SharedTexts {
 }
 
 impl SharedTexts {
-    /// No text yet, and a place for that of each capability.
+    /// No text yet, and a place for that of each string capability.
+    ///
+    /// # Errors
+    /// Want of memory.
     pub fn new(alloc: Global) -> Result<SharedTexts, AllocError>
         ensures places { IfOk result (λ shared. length shared.last.items ≡ count_of Text) }
         ensures none { IfOk result (λ shared. All (λ kept. kept ≡ None) shared.last.items) }
