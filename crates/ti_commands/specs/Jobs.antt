@@ -50,7 +50,7 @@ IsUsageRefusal faults job e =
 abbrev pub IsJobOf : List Text → Job → Type 0
 IsJobOf words job = (job_of words ≡ Some (task_of job)) × (faults_of words ≡ [])
 
--- why the words ask for no job; nothing is said of wrong usage only where there is no fault in them either
+-- why the words ask for no job; nothing is said of bad usage only where there is no fault in them either
 abbrev pub IsRefusalOf : List Text → Refusal → Type 0
 IsRefusalOf words refused =
     IsUsageRefusal (faults_of words) (job_of words) (cause_of refused)

@@ -11,14 +11,15 @@ use Rattle.ti_layout.specs.Values.{Content}
 pub record HoldsGiven (old new : List ℕ) (cap : Capability) (content : Option Content) : Type 0 where
   pub says : (c : Capability) → IsCapability c → contents_in new c ≡ with_content (contents_in old) cap content c
 
--- the image of what the bytes hold, with another content of a capability, and the most bytes that it may have
+-- the image of what the bytes hold, with another content of a capability
 abbrev pub image_with : List ℕ → Capability → Option Content → List ℕ
 image_with bytes cap content = image (names_in bytes) (with_content (contents_in bytes) cap content)
 
--- that image is within its limit, or is over it
+-- that image is within its limit
 abbrev pub FitsWith : List ℕ → Capability → Option Content → Type 0
 FitsWith bytes cap content = ImageFits (names_in bytes) (with_content (contents_in bytes) cap content)
 
+-- that image is over its limit
 abbrev pub IsOverWith : List ℕ → Capability → Option Content → Type 0
 IsOverWith bytes cap content = ImageIsTooLarge (names_in bytes) (with_content (contents_in bytes) cap content)
 

@@ -14,27 +14,31 @@ use Rattle.ti_index.specs.declared.names.NameIndex.{NameIndex}
 abbrev pub found_in : BTreeMap (Vec ℕ Global) Mentions → List ℕ → Option Mentions
 found_in map name = get_by (λ key. slice_cmp nat_cmp name key.items) map
 
+-- what an index has at a name
 abbrev pub mentions_at : NameIndex → List ℕ → Option Mentions
 mentions_at index name = found_in index.entries name
 
--- the blocks that have the name, and those that use it
+-- the blocks that have the name
 abbrev pub holders_at : NameIndex → List ℕ → List ℕ
 holders_at index name = option_map_or (λ m. m.holders.items) (mentions_at index name) []
 
+-- the blocks that use the name
 abbrev pub users_at : NameIndex → List ℕ → List ℕ
 users_at index name = option_map_or (λ m. m.users.items) (mentions_at index name) []
 
--- how many blocks each list can have without memory
+-- how many blocks that have the name can be listed without more memory
 abbrev pub holder_capacity : NameIndex → List ℕ → ℕ
 holder_capacity index name = option_map_or (λ m. vec_capacity m.holders) (mentions_at index name) 0
 
+-- how many blocks that use the name can be listed without more memory
 abbrev pub user_capacity : NameIndex → List ℕ → ℕ
 user_capacity index name = option_map_or (λ m. vec_capacity m.users) (mentions_at index name) 0
 
--- there is room for one more
+-- one more block that has the name can be listed
 abbrev pub HasHolderRoom : NameIndex → List ℕ → Type 0
 HasHolderRoom index name = length (holders_at index name) < holder_capacity index name
 
+-- one more block that uses the name can be listed
 abbrev pub HasUserRoom : NameIndex → List ℕ → Type 0
 HasUserRoom index name = length (users_at index name) < user_capacity index name
 

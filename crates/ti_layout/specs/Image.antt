@@ -140,9 +140,10 @@ sections_of format names contents = record {
 unfoldable pub image : List ℕ → Contents → List ℕ
 image names contents = entry_bytes (format_of contents) (sections_of (format_of contents) names contents)
 
--- the image of these names and contents is within its limit, or is over it
+-- the image of these names and contents is within its limit
 abbrev pub ImageFits : List ℕ → Contents → Type 0
 ImageFits names contents = length (image names contents) ≤ image_limit contents
 
+-- the image of these names and contents is over its limit
 abbrev pub ImageIsTooLarge : List ℕ → Contents → Type 0
 ImageIsTooLarge names contents = image_limit contents < length (image names contents)

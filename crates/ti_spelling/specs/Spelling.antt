@@ -3,7 +3,8 @@
 -- lone backslash at the end, a `^` just after a `%`). `inside/Spelling` has the same computed.
 --   Spells, Fails       what a text spells, and its first fault, one constructor for each row of the manual's table
 --   written value       the text that `escape` writes
--- The laws: OneOutcome, WrittenSpells.
+--   OneOutcome          a law: a text spells one value or has one first fault
+--   WrittenSpells       a law: the text that `escape` writes spells the value
 use Rattle.std.specs.Prelude.{◌≡◌, ◌≢◌, ℕ, zero, suc, ◌+◌, ◌-◌, ◌*◌, ◌/◌, ◌%◌, ◌<◌, ◌≤◌, ◌==◌, Bool, true, false, ◌&&◌, ◌||◌, ◌⊎◌, if◌then◌else◌, nat_le}
 use Rattle.std.specs.Prelude.{nat_lt, List, [], ◌∷◌, ◌++◌, bit_and}
 use Rattle.std.specs.Prelude.{Option, Some, None}
