@@ -121,11 +121,34 @@ fn repeat_piece(alloc: Global, piece: &[u8], count: usize) -> Result<Vec<u8>, Al
     Ok(text)
 }
 
+/// Whether a format sends this, with static variables that are 0.
+fn expands(
+    alloc: Global,
+    format: &[u8],
+    params: &[Value<'_>; 9],
+    wanted: &[u8],
+) -> Result<bool, ParamError> {
+    let mut statics = Statics::new();
+    Ok(expand(alloc, format, params, &mut statics)?.as_slice() == wanted)
+}
+
+/// Why a format is stuck, if it is.
+fn refusal(
+    alloc: Global,
+    format: &[u8],
+    params: &[Value<'_>; 9],
+    statics: &mut Statics,
+) -> Option<ParamError> {
+    expand(alloc, format, params, statics).err()
+}
+
 fn check_rows(rt: &(impl Abort + AllocGlobal), rows: &[Row]) -> Result<(), ParamError> {
     for (format, first, wanted) in rows {
-        let mut statics = Statics::new();
-        let bytes = expand(rt.alloc(), format.as_bytes(), &numbers(first), &mut statics)?;
-        assert_eq!(rt; bytes.as_slice(), wanted.as_bytes(), "at {format}");
+        let params = numbers(first);
+        assert!(rt;
+            expands(rt.alloc(), format.as_bytes(), &params, wanted.as_bytes())?,
+            "at {format}"
+        );
     }
     Ok(())
 }
@@ -136,61 +159,107 @@ fn expands_by_the_manual(rt: HostRuntime) -> Result<(), Fail> {
     Ok(())
 }
 
+/// Whether a format is stuck at a place.
+fn is_stuck(alloc: Global, format: &[u8], place: usize) -> bool {
+    let none = numbers(&[0, 0, 0]);
+    refusal(alloc, format, &none, &mut Statics::new()) == Some(ParamError::BadFormat(place))
+}
+
 #[test]
 fn names_the_place_where_a_format_is_stuck(rt: HostRuntime) {
-    let none = numbers(&[0, 0, 0]);
     for (format, place) in STUCK.iter() {
-        let mut statics = Statics::new();
-        let refused = expand(rt.alloc(), format.as_bytes(), &none, &mut statics).err();
-        assert_eq!(rt; refused, Some(ParamError::BadFormat(*place)), "at {format}");
+        assert!(rt;
+            is_stuck(rt.alloc(), format.as_bytes(), *place),
+            "at {format}"
+        );
     }
 }
 
 /// A width is at most 999 by its value, however many zeros stand before it.
 #[test]
 fn takes_a_width_with_many_zeros(rt: HostRuntime) -> Result<(), Fail> {
-    let mut statics = Statics::new();
-    let one = numbers(&[1, 0, 0]);
-    let bytes = expand(rt.alloc(), b"%p1%0000000999d", &one, &mut statics)?;
     let mut wanted = repeat_piece(rt.alloc(), b"0", 998)?;
     wanted.push(b'1')?;
-    assert_eq!(rt; bytes.as_slice(), wanted.as_slice());
+    assert!(rt;
+        expands(
+            rt.alloc(),
+            b"%p1%0000000999d",
+            &numbers(&[1, 0, 0]),
+            &wanted
+        )?
+    );
     Ok(())
 }
 
+/// A number, and its low byte, which is 128 where that would be 0.
+static LOW_BYTES: [(i32, u8); 4] = [(256, 0x80), (0, 0x80), (321, 65), (-1, 255)];
+
 #[test]
 fn writes_the_low_byte_of_a_number(rt: HostRuntime) -> Result<(), Fail> {
-    for (number, byte) in [(256, 0x80u8), (0, 0x80), (321, 65), (-1, 255)] {
-        let mut statics = Statics::new();
-        let bytes = expand(
-            rt.alloc(),
-            b"%p1%c",
-            &numbers(&[number, 0, 0]),
-            &mut statics,
-        )?;
-        assert_eq!(rt; bytes.as_slice(), [byte].as_slice(), "of {number}");
+    for (number, byte) in LOW_BYTES.iter() {
+        let params = numbers(&[*number, 0, 0]);
+        assert!(rt;
+            expands(rt.alloc(), b"%p1%c", &params, &[*byte])?,
+            "of {number}"
+        );
     }
     Ok(())
+}
+
+/// A format, and what it sends where its first two parameters are `abc`.
+static OF_TEXTS: [(&str, &str); 7] = [
+    ("%p1%s|%p1%l%d", "abc|3"),
+    ("%p1%5.2s|", "   ab|"),
+    ("%p1%05s|", "  abc|"),
+    ("%p3%s|%p3%l%d", "|0"),
+    ("%i%p1%s%p3%d", "abc0"),
+    ("%p1%p2%=%d", "1"),
+    ("%p1%d", "0"),
+];
+
+/// The first two parameters are `abc`.
+fn texts() -> [Value<'static>; 9] {
+    let mut params = numbers(&[0, 0, 0]);
+    params[0] = Value::Text(b"abc");
+    params[1] = Value::Text(b"abc");
+    params
 }
 
 #[test]
 fn takes_texts_as_parameters(rt: HostRuntime) -> Result<(), Fail> {
-    let zero = Value::Number(0);
-    let text = Value::Text(b"abc");
-    let params = [text, text, zero, zero, zero, zero, zero, zero, zero];
-    for (format, wanted) in [
-        ("%p1%s|%p1%l%d", "abc|3"),
-        ("%p1%5.2s|", "   ab|"),
-        ("%p1%05s|", "  abc|"),
-        ("%p3%s|%p3%l%d", "|0"),
-        ("%i%p1%s%p3%d", "abc0"),
-        ("%p1%p2%=%d", "1"),
-        ("%p1%d", "0"),
-    ] {
-        let mut statics = Statics::new();
-        let bytes = expand(rt.alloc(), format.as_bytes(), &params, &mut statics)?;
-        assert_eq!(rt; bytes.as_slice(), wanted.as_bytes(), "at {format}");
+    let params = texts();
+    for (format, wanted) in OF_TEXTS.iter() {
+        assert!(rt;
+            expands(rt.alloc(), format.as_bytes(), &params, wanted.as_bytes())?,
+            "at {format}"
+        );
     }
+    Ok(())
+}
+
+/// These pieces, the second so many times.
+fn join_pieces(
+    alloc: Global,
+    first: &[u8],
+    second: &[u8],
+    count: usize,
+) -> Result<Vec<u8>, AllocError> {
+    let mut text = Vec::from_slice(alloc, first)?;
+    text.extend_from_slice(repeat_piece(alloc, second, count)?.as_slice())?;
+    Ok(text)
+}
+
+/// `A` is 6, and stays so where a format that would change it is stuck.
+fn expect_refusals(
+    rt: &(impl Abort + AllocGlobal),
+    params: &[Value<'_>; 9],
+    statics: &mut Statics,
+) -> Result<(), AllocError> {
+    let full = join_pieces(rt.alloc(), b"%p1%PA", b"%p1", 21)?;
+    assert!(rt; refusal(rt.alloc(), &full, params, statics) == Some(ParamError::StackFull(66)));
+    assert!(rt;
+        refusal(rt.alloc(), b"%gA%PA%q", params, statics) == Some(ParamError::BadFormat(6))
+    );
     Ok(())
 }
 
@@ -198,43 +267,48 @@ fn takes_texts_as_parameters(rt: HostRuntime) -> Result<(), Fail> {
 fn keeps_static_variables_but_after_an_error(rt: HostRuntime) -> Result<(), Fail> {
     let mut statics = Statics::new();
     expand(rt.alloc(), b"%p1%PA", &numbers(&[6, 0, 0]), &mut statics)?;
-    let mut full = repeat_piece(rt.alloc(), b"%p1%PA", 1)?;
-    full.extend_from_slice(repeat_piece(rt.alloc(), b"%p1", 21)?.as_slice())?;
     let nine = numbers(&[9, 0, 0]);
-    assert_eq!(rt;
-        expand(rt.alloc(), full.as_slice(), &nine, &mut statics).err(),
-        Some(ParamError::StackFull(66))
-    );
-    assert_eq!(rt;
-        expand(rt.alloc(), b"%gA%PA%q", &nine, &mut statics).err(),
-        Some(ParamError::BadFormat(6))
-    );
+    expect_refusals(&rt, &nine, &mut statics)?;
     let bytes = expand(rt.alloc(), b"%gA%d%gB%d%ga%d", &nine, &mut statics)?;
-    assert_eq!(rt; bytes.as_slice(), b"600".as_slice());
+    assert!(rt; bytes.as_slice() == b"600".as_slice());
     Ok(())
+}
+
+/// A piece, how many times it stands in a format, and why that is stuck, if it is.
+static BOUNDS: [(&str, usize, Option<ParamError>); 4] = [
+    ("%p1", 20, None),
+    ("%p1", 21, Some(ParamError::StackFull(60))),
+    ("%?", 65, Some(ParamError::BadFormat(128))),
+    ("%?", 1_000_000, Some(ParamError::BadFormat(128))),
+];
+
+/// Why a format of one piece so many times is stuck, if it is.
+fn refusal_of_run(
+    alloc: Global,
+    piece: &[u8],
+    count: usize,
+) -> Result<Option<ParamError>, AllocError> {
+    let format = repeat_piece(alloc, piece, count)?;
+    Ok(refusal(alloc, &format, &numbers(&[0, 0, 0]), &mut Statics::new()))
 }
 
 #[test]
 fn bounds_the_stack_and_the_conditionals(rt: HostRuntime) -> Result<(), Fail> {
-    let none = numbers(&[0, 0, 0]);
-    for (piece, count, wanted) in [
-        ("%p1", 20, None),
-        ("%p1", 21, Some(ParamError::StackFull(60))),
-        ("%?", 65, Some(ParamError::BadFormat(128))),
-        ("%?", 1_000_000, Some(ParamError::BadFormat(128))),
-    ] {
-        let format = repeat_piece(rt.alloc(), piece.as_bytes(), count)?;
-        let mut statics = Statics::new();
-        let expansion = expand(rt.alloc(), format.as_slice(), &none, &mut statics);
-        assert_eq!(rt; expansion.err(), wanted, "at {count} times {piece}");
+    for (piece, count, wanted) in BOUNDS.iter() {
+        assert!(rt;
+            refusal_of_run(rt.alloc(), piece.as_bytes(), *count)? == *wanted,
+            "at {count} times {piece}"
+        );
     }
+    Ok(())
+}
+
+#[test]
+fn long_formats_send_nothing(rt: HostRuntime) -> Result<(), Fail> {
+    let none = numbers(&[0, 0, 0]);
     let opened = repeat_piece(rt.alloc(), b"%?", 64)?;
-    let mut statics = Statics::new();
-    let bytes = expand(rt.alloc(), opened.as_slice(), &none, &mut statics)?;
-    assert_eq!(rt; bytes.len(), 0);
-    let mut skipped = repeat_piece(rt.alloc(), b"%?%p1%t", 1)?;
-    skipped.extend_from_slice(repeat_piece(rt.alloc(), b"%%", 100_000)?.as_slice())?;
-    let bytes = expand(rt.alloc(), skipped.as_slice(), &none, &mut statics)?;
-    assert_eq!(rt; bytes.len(), 0);
+    assert!(rt; expands(rt.alloc(), &opened, &none, b"")?);
+    let skipped = join_pieces(rt.alloc(), b"%?%p1%t", b"%%", 100_000)?;
+    assert!(rt; expands(rt.alloc(), &skipped, &none, b"")?);
     Ok(())
 }

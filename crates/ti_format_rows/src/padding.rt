@@ -1,4 +1,5 @@
 //! Texts with their padding as pad bytes, and texts that ask for too much of it.
+use std::alloc::Global;
 use std::process::Abort;
 use std::test::Fail;
 use ti_printing::{Line, PadError, pad};
@@ -83,13 +84,33 @@ static ROWS: [Row; 24] = [
     ("", 1, PLAIN, "", 0),
 ];
 
+/// Whether a text is padded to these literal bytes and so many NUL bytes after them.
+fn is_padded(
+    alloc: Global,
+    text: &[u8],
+    lines: u32,
+    line: &Line,
+    literal: &[u8],
+    zeros: usize,
+) -> Result<bool, PadError> {
+    let padded = pad(alloc, text, lines, line)?;
+    let (front, rest) = padded.as_slice().split_at(literal.len().min(padded.len()));
+    Ok(front == literal && rest.len() == zeros && rest.iter().all(|byte| *byte == 0))
+}
+
 fn check_rows(rt: &(impl Abort + AllocGlobal), rows: &[Row]) -> Result<(), PadError> {
     for (text, lines, line, literal, zeros) in rows {
-        let padded = pad(rt.alloc(), text.as_bytes(), *lines, line)?;
-        let (front, rest) = padded.as_slice().split_at(literal.len().min(padded.len()));
-        assert_eq!(rt; front, literal.as_bytes(), "at {text}");
-        assert_eq!(rt; rest.len(), *zeros, "at {text}");
-        assert!(rt; rest.iter().all(|byte| *byte == 0), "at {text}");
+        assert!(rt;
+            is_padded(
+                rt.alloc(),
+                text.as_bytes(),
+                *lines,
+                line,
+                literal.as_bytes(),
+                *zeros
+            )?,
+            "at {text}"
+        );
     }
     Ok(())
 }
@@ -111,18 +132,24 @@ fn writes_the_pad_byte_between_the_pieces(rt: HostRuntime) -> Result<(), Fail> {
     Ok(())
 }
 
+/// A text that asks for too much, the lines and the line.
+static TOO_MUCH: [(&'static str, u32, Line); 3] = [
+    ("$<68266.7>", 1, PLAIN),
+    ("$<68266.6>$<0.1>", 1, PLAIN),
+    ("$<99999.9*/>", u32::MAX, FASTEST),
+];
+
+/// Whether a text asks for too much.
+fn is_too_much(alloc: Global, text: &[u8], lines: u32, line: &Line) -> bool {
+    pad(alloc, text, lines, line).err() == Some(PadError::TooMuch)
+}
+
 #[test]
 fn refuses_too_much(rt: HostRuntime) {
-    assert_eq!(rt;
-        pad(rt.alloc(), b"$<68266.7>", 1, &PLAIN).err(),
-        Some(PadError::TooMuch)
-    );
-    assert_eq!(rt;
-        pad(rt.alloc(), b"$<68266.6>$<0.1>", 1, &PLAIN).err(),
-        Some(PadError::TooMuch)
-    );
-    assert_eq!(rt;
-        pad(rt.alloc(), b"$<99999.9*/>", u32::MAX, &FASTEST).err(),
-        Some(PadError::TooMuch)
-    );
+    for (text, lines, line) in TOO_MUCH.iter() {
+        assert!(rt;
+            is_too_much(rt.alloc(), text.as_bytes(), *lines, line),
+            "at {text}"
+        );
+    }
 }

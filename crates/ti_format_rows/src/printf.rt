@@ -28,21 +28,30 @@ fn flags_of(text: &str) -> Flags {
     }
 }
 
+/// Whether a number or a text is printed so.
+fn is_printed(
+    out: &mut Vec<u8>,
+    directive: &Directive,
+    number: i32,
+    text: &[u8],
+    printed: &[u8],
+) -> Result<bool, AllocError> {
+    out.clear();
+    print(out, directive, number, text)?;
+    Ok(out.as_slice() == printed)
+}
+
 fn check_numbers(rt: &(impl Abort + AllocGlobal), rows: &[NumberRow]) -> Result<(), AllocError> {
     let mut out = Vec::new(rt.alloc());
     for (flags, width, precision, conversion, number, printed) in rows {
-        let flags = flags_of(flags);
         let directive = Directive {
-            flags,
+            flags: flags_of(flags),
             width: *width,
             precision: *precision,
             conversion: *conversion,
         };
-        out.clear();
-        print(&mut out, &directive, *number, b"")?;
-        assert_eq!(rt;
-            out.as_slice(),
-            printed.as_bytes(),
+        assert!(rt;
+            is_printed(&mut out, &directive, *number, b"", printed.as_bytes())?,
             "{directive:?} of {number}"
         );
     }
@@ -52,18 +61,14 @@ fn check_numbers(rt: &(impl Abort + AllocGlobal), rows: &[NumberRow]) -> Result<
 fn check_texts(rt: &(impl Abort + AllocGlobal), rows: &[TextRow]) -> Result<(), AllocError> {
     let mut out = Vec::new(rt.alloc());
     for (flags, width, precision, text, printed) in rows {
-        let flags = flags_of(flags);
         let directive = Directive {
-            flags,
+            flags: flags_of(flags),
             width: *width,
             precision: *precision,
             conversion: Conversion::Text,
         };
-        out.clear();
-        print(&mut out, &directive, 0, text.as_bytes())?;
-        assert_eq!(rt;
-            out.as_slice(),
-            printed.as_bytes(),
+        assert!(rt;
+            is_printed(&mut out, &directive, 0, text.as_bytes(), printed.as_bytes())?,
             "{directive:?} of {text}"
         );
     }

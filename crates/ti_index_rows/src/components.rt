@@ -25,35 +25,44 @@ fn components_of(alloc: Global, graph: &Graph) -> Result<Option<Components>, All
     Ok(Some(Components::find(alloc, graph)?))
 }
 
+/// A graph by its rows, the number of each node's component, and an order in which ends come first.
+struct Case<'a> {
+    rows: &'a [&'a [Option<usize>]],
+    numbers: &'a [usize],
+    order: &'a [usize],
+}
+
+#[rattlefmt::skip]
+const CASES: [Case<'static>; 6] = [
+    // No node.
+    Case { rows: &[], numbers: &[], order: &[] },
+    // A chain: the end closes first.
+    Case { rows: &[&[Some(1)], &[Some(2)], &[]], numbers: &[2, 1, 0], order: &[2, 1, 0] },
+    // A node with an edge to itself, and an edge that leads nowhere.
+    Case { rows: &[&[Some(0)], &[None, Some(0)]], numbers: &[0, 1], order: &[0, 1] },
+    // A cycle above a cycle.
+    Case { rows: &[&[Some(1)], &[Some(0), Some(2)], &[Some(3)], &[Some(2)]], numbers: &[2, 2, 0, 0], order: &[2, 3, 0, 1] },
+    // An edge between two cycles of one node each lies on no cycle.
+    Case { rows: &[&[Some(1), Some(0)], &[Some(1)]], numbers: &[1, 0], order: &[1, 0] },
+    // A node between two nodes of a cycle is of it, and one that only reaches it is not.
+    Case { rows: &[&[Some(2)], &[Some(2)], &[Some(3), Some(1)], &[Some(1)]], numbers: &[3, 0, 0, 0], order: &[2, 3, 1, 0] },
+];
+
+/// Whether the components of a graph are these.
+fn has_components(alloc: Global, case: &Case<'_>) -> Result<bool, AllocError> {
+    let graph = graph_of(alloc, case.rows)?;
+    match components_of(alloc, &graph)? {
+        Some(found) => Ok(
+            found.component_of.as_slice() == case.numbers && found.order.as_slice() == case.order,
+        ),
+        None => Ok(false),
+    }
+}
+
 #[test]
 fn components_of_small_graphs(rt: HostRuntime) -> Result<(), Fail> {
-    let cases: [(&[&[Option<usize>]], &[usize], &[usize]); 6] = [
-        // No node.
-        (&[], &[], &[]),
-        // A chain: the end closes first.
-        (&[&[Some(1)], &[Some(2)], &[]], &[2, 1, 0], &[2, 1, 0]),
-        // A node with an edge to itself, and an edge that leads nowhere.
-        (&[&[Some(0)], &[None, Some(0)]], &[0, 1], &[0, 1]),
-        // A cycle above a cycle.
-        (
-            &[&[Some(1)], &[Some(0), Some(2)], &[Some(3)], &[Some(2)]],
-            &[2, 2, 0, 0],
-            &[2, 3, 0, 1],
-        ),
-        // An edge between two cycles of one node each lies on no cycle.
-        (&[&[Some(1), Some(0)], &[Some(1)]], &[1, 0], &[1, 0]),
-        // A node between two nodes of a cycle is of it, and one that only reaches it is not.
-        (
-            &[&[Some(2)], &[Some(2)], &[Some(3), Some(1)], &[Some(1)]],
-            &[3, 0, 0, 0],
-            &[2, 3, 1, 0],
-        ),
-    ];
-    for (rows, numbers, order) in cases {
-        let graph = graph_of(rt.alloc(), rows)?;
-        let components = components_of(rt.alloc(), &graph)?.ok_or("not whole")?;
-        assert_eq!(rt; components.component_of.as_slice(), numbers);
-        assert_eq!(rt; components.order.as_slice(), order);
+    for (number, case) in CASES.iter().enumerate() {
+        assert!(rt; has_components(rt.alloc(), case)?, "case {number}");
     }
     Ok(())
 }
@@ -70,14 +79,19 @@ fn chain(alloc: Global, nodes: usize, first: Option<usize>) -> Result<Graph, All
     Ok(graph)
 }
 
+/// The number of each node's component in such a chain of 65,535 nodes.
+fn numbers_of_chain(alloc: Global, first: Option<usize>) -> Result<Vec<usize>, Fail> {
+    let graph = chain(alloc, 65_535, first)?;
+    let components = components_of(alloc, &graph)?.ok_or("not whole")?;
+    Ok(components.component_of)
+}
+
 #[test]
 fn long_chain_and_cycle(rt: HostRuntime) -> Result<(), Fail> {
-    let graph = chain(rt.alloc(), 65_535, None)?;
-    let components = components_of(rt.alloc(), &graph)?.ok_or("not whole")?;
-    assert_eq!(rt; components.component_of.last().copied(), Some(65_534));
-    let graph = chain(rt.alloc(), 65_535, Some(65_534))?;
-    let components = components_of(rt.alloc(), &graph)?.ok_or("not whole")?;
-    assert!(rt; components.component_of.iter().all(|number| *number == 0));
+    let numbers = numbers_of_chain(rt.alloc(), None)?;
+    assert!(rt; numbers.last() == Some(&65_534));
+    let numbers = numbers_of_chain(rt.alloc(), Some(65_534))?;
+    assert!(rt; numbers.len() == 65_535 && numbers.iter().all(|number| *number == 0));
     Ok(())
 }
 

@@ -1,159 +1,232 @@
 // The dependents of small lists, by what it means to depend on an edit.
-ghost use Rattle.std.specs.Prelude.{IfOk};
-ghost use Rattle.ti_slots.specs.Slots.{IsIndexed, StandsAt};
+ghost use Rattle.ti_slots.specs.Slots.{IsIndexed};
 
-use std::alloc::Global;
+use super::blocks::{Block, list_of};
+use std::alloc::{AllocError, Global};
 use std::process::Abort;
 use std::rc::RcSlice;
 use std::test::*;
 use ti_dependents::{Dependents, find_all, find_dependents};
-use ti_slots::{Settled, Slot, Slots, State};
-use ti_source::{Item, Parsed, What};
+use ti_slots::Slots;
 
-/// A block that has these lookup names, and uses those.
-fn block(alloc: Global, names: &[&[u8]], uses: &[&[u8]]) -> Result<Slot, Fail> {
-    let mut block = Parsed {
-        field: Vec::new(alloc),
-        names: Vec::new(alloc),
-        items: Vec::new(alloc),
-        faults: Vec::new(alloc),
-    };
-    for name in names {
-        block.names.push(RcSlice::from_slice(alloc, *name)?)?;
-    }
-    for (ordinal, name) in uses.iter().enumerate() {
-        let what = What::Import(RcSlice::from_slice(alloc, *name)?);
-        block.items.push(Item {
-            ordinal,
-            line: 1,
-            what,
-        })?;
-    }
-    let settled = Settled {
-        state: State::Unresolved,
-        faults: Vec::new(alloc),
-    };
-    Ok(Slot {
-        text: Vec::new(alloc),
-        block,
-        settled,
-    })
-}
-
-/// Puts a block in at the front that has these lookup names and uses those, and gives its id.
-fn put(slots: &mut Slots, alloc: Global, names: &[&[u8]], uses: &[&[u8]]) -> Result<u32, Fail>
-    requires indexed { IsIndexed slots.old }
-    ensures indexed { IsIndexed slots.new }
-    ensures stands { IfOk result (λ id. StandsAt slots.new 0 id) }
-{
-    if slots.order.ids().len() >= 100 {
-        return Err(Fail::new("too many blocks"));
-    }
-    let slot = block(alloc, names, uses)?;
-    slots.make_room(&slot.block)?;
-    Ok(slots.put_in(0, slot))
-}
-
-/// The blocks found stand at these places.
-fn expect_places(rt: &impl Abort, found: &Dependents, want: &[usize]) {
-    assert_eq!(rt; found.places.len(), want.len());
-    for place in want {
-        assert!(rt; found.places.contains(place));
-    }
-}
-
-/// The edges of the block with an id lead to the blocks with these ids, or nowhere.
-fn expect_edges(
-    rt: &impl Abort,
-    found: &Dependents,
+/// The blocks that own what a block uses, by their ids; `None` where no block does that is found.
+struct Owners<'a> {
     id: u32,
-    want: &[Option<u32>],
-) -> Result<(), Fail> {
-    let Some(node) = found.ids.iter().position(|other| *other == id) else {
-        return Err(Fail::new("not found"));
-    };
-    assert!(rt; node < found.uses.node_count());
-    let row = found.uses.row(node);
-    assert_eq!(rt; row.len(), want.len());
-    for (edge, owner) in row.iter().zip(want) {
-        let end = edge.and_then(|node| found.ids.get(node).copied());
-        assert_eq!(rt; end, *owner);
+    owners: &'a [Option<u32>],
+}
+
+/// What is to be found in a list of blocks.
+struct Wanted<'a> {
+    places: &'a [usize],
+    owners: &'a [Owners<'a>],
+}
+
+/// Whether the blocks found stand at these places.
+fn are_places(found: &Dependents, want: &[usize]) -> bool {
+    if found.places.len() != want.len() {
+        return false;
     }
+    for place in want {
+        if !found.places.contains(place) {
+            return false;
+        }
+    }
+    true
+}
+
+/// Whether an edge of what was found leads to the block with this id, or nowhere.
+fn leads_to(found: &Dependents, edge: Option<usize>, owner: Option<u32>) -> bool {
+    match edge {
+        Some(node) => node < found.ids.len() && owner == Some(found.ids[node]),
+        None => owner.is_none(),
+    }
+}
+
+/// Whether the edges of the block with an id lead to the blocks with these ids, or nowhere.
+fn has_owners(found: &Dependents, want: &Owners<'_>) -> bool {
+    let Some(node) = found.ids.iter().position(|id| *id == want.id) else {
+        return false;
+    };
+    if node >= found.uses.node_count() {
+        return false;
+    }
+    let row = found.uses.row(node);
+    if row.len() != want.owners.len() {
+        return false;
+    }
+    for at in 0..row.len() {
+        if !leads_to(found, row[at], want.owners[at]) {
+            return false;
+        }
+    }
+    true
+}
+
+/// What was found is what is wanted.
+fn expect_found(rt: &impl Abort, found: &Dependents, want: &Wanted<'_>) {
+    assert!(rt; are_places(found, want.places));
+    for owners in want.owners {
+        assert!(rt; has_owners(found, owners), "block {}", owners.id);
+    }
+}
+
+/// What depends on the block that was put in last.
+fn dependents_of_first(alloc: Global, slots: &Slots) -> Result<Dependents, Fail>
+    requires { IsIndexed slots.now }
+{
+    match slots.order.ids().first() {
+        Some(id) => Ok(find_dependents(alloc, slots, Some(*id), &[])?),
+        None => Err(Fail::new("no block")),
+    }
+}
+
+/// In a list of these blocks, what depends on the block that was put in last is as it is wanted.
+fn expect_put(
+    rt: &impl Abort,
+    alloc: Global,
+    blocks: &[Block<'_>],
+    want: &Wanted<'_>,
+) -> Result<(), Fail> {
+    let slots = list_of(alloc, blocks)?;
+    let found = dependents_of_first(alloc, &slots)?;
+    expect_found(rt, &found, want);
     Ok(())
 }
+
+#[rattlefmt::skip]
+const ALONE: [Block<'static>; 1] = [Block { names: &[b"d"], uses: &[] }];
 
 #[test]
 fn a_block_alone(rt: HostRuntime) -> Result<(), Fail> {
-    let alloc = rt.alloc();
-    let mut slots = Slots::new(alloc);
-    let d = put(&mut slots, alloc, &[b"d"], &[])?;
-    let found = find_dependents(alloc, &slots, Some(d), &[])?;
-    expect_places(&rt, &found, &[0]);
-    Ok(())
+    expect_put(
+        &rt,
+        rt.alloc(),
+        &ALONE,
+        &Wanted {
+            places: &[0],
+            owners: &[],
+        },
+    )
 }
+
+/// The list is a, b, c, d.
+#[rattlefmt::skip]
+const USERS: [Block<'static>; 4] = [
+    Block { names: &[b"d"], uses: &[] },
+    Block { names: &[b"c"], uses: &[b"b"] },
+    Block { names: &[b"b"], uses: &[b"a", b"d"] },
+    Block { names: &[b"a"], uses: &[] },
+];
+
+#[rattlefmt::skip]
+const FOUND_OF_USERS: Wanted<'static> = Wanted {
+    places: &[0, 1, 2],
+    owners: &[
+        Owners { id: 3, owners: &[] },
+        Owners { id: 2, owners: &[Some(3), None] },
+        Owners { id: 1, owners: &[Some(2)] },
+    ],
+};
 
 #[test]
 fn users_and_their_users(rt: HostRuntime) -> Result<(), Fail> {
-    let alloc = rt.alloc();
-    let mut slots = Slots::new(alloc);
-    put(&mut slots, alloc, &[b"d"], &[])?;
-    let c = put(&mut slots, alloc, &[b"c"], &[b"b"])?;
-    let b = put(&mut slots, alloc, &[b"b"], &[b"a", b"d"])?;
-    let a = put(&mut slots, alloc, &[b"a"], &[])?;
-    // The list is a, b, c, d.
-    let found = find_dependents(alloc, &slots, Some(a), &[])?;
-    expect_places(&rt, &found, &[0, 1, 2]);
-    expect_edges(&rt, &found, a, &[])?;
-    expect_edges(&rt, &found, b, &[Some(a), None])?;
-    expect_edges(&rt, &found, c, &[Some(b)])?;
-    Ok(())
+    expect_put(&rt, rt.alloc(), &USERS, &FOUND_OF_USERS)
 }
+
+/// The list is x, y, z.
+#[rattlefmt::skip]
+const CIRCULAR: [Block<'static>; 3] = [
+    Block { names: &[b"z"], uses: &[] },
+    Block { names: &[b"y"], uses: &[b"x", b"z"] },
+    Block { names: &[b"x"], uses: &[b"y"] },
+];
+
+#[rattlefmt::skip]
+const FOUND_OF_CIRCULAR: Wanted<'static> = Wanted {
+    places: &[0, 1],
+    owners: &[
+        Owners { id: 2, owners: &[Some(1)] },
+        Owners { id: 1, owners: &[Some(2), None] },
+    ],
+};
 
 #[test]
 fn circular_uses(rt: HostRuntime) -> Result<(), Fail> {
-    let alloc = rt.alloc();
-    let mut slots = Slots::new(alloc);
-    put(&mut slots, alloc, &[b"z"], &[])?;
-    let y = put(&mut slots, alloc, &[b"y"], &[b"x", b"z"])?;
-    let x = put(&mut slots, alloc, &[b"x"], &[b"y"])?;
-    let found = find_dependents(alloc, &slots, Some(x), &[])?;
-    expect_places(&rt, &found, &[0, 1]);
-    expect_edges(&rt, &found, x, &[Some(y)])?;
-    expect_edges(&rt, &found, y, &[Some(x), None])?;
-    Ok(())
+    expect_put(&rt, rt.alloc(), &CIRCULAR, &FOUND_OF_CIRCULAR)
 }
+
+/// The list is a, o, u, x. The name n is that of o, so who uses it does not use x.
+#[rattlefmt::skip]
+const TWO_OF_A_NAME: [Block<'static>; 4] = [
+    Block { names: &[b"x", b"n"], uses: &[b"a"] },
+    Block { names: &[b"u"], uses: &[b"n"] },
+    Block { names: &[b"o", b"n"], uses: &[] },
+    Block { names: &[b"a"], uses: &[] },
+];
 
 #[test]
 fn a_name_that_two_blocks_have(rt: HostRuntime) -> Result<(), Fail> {
-    let alloc = rt.alloc();
-    let mut slots = Slots::new(alloc);
-    put(&mut slots, alloc, &[b"x", b"n"], &[b"a"])?;
-    put(&mut slots, alloc, &[b"u"], &[b"n"])?;
-    put(&mut slots, alloc, &[b"o", b"n"], &[])?;
-    let a = put(&mut slots, alloc, &[b"a"], &[])?;
-    // The list is a, o, u, x. The name n is that of o, so who uses it does not use x.
-    let found = find_dependents(alloc, &slots, Some(a), &[])?;
-    expect_places(&rt, &found, &[0, 3]);
-    // A block with the name n was taken out, from before o: who uses the name used that block.
-    let out = [RcSlice::from_slice(alloc, b"n")?];
-    let found = find_dependents(alloc, &slots, None, &out)?;
-    expect_places(&rt, &found, &[2]);
+    expect_put(
+        &rt,
+        rt.alloc(),
+        &TWO_OF_A_NAME,
+        &Wanted {
+            places: &[0, 3],
+            owners: &[],
+        },
+    )
+}
+
+/// What depends on a block with this name that was taken out.
+fn dependents_of_name(alloc: Global, slots: &Slots, name: &[u8]) -> Result<Dependents, AllocError>
+    requires { IsIndexed slots.now }
+{
+    let out = [RcSlice::from_slice(alloc, name)?];
+    find_dependents(alloc, slots, None, &out)
+}
+
+// It was taken out from before o: who uses the name used that block.
+#[test]
+fn a_block_taken_out(rt: HostRuntime) -> Result<(), Fail> {
+    let slots = list_of(rt.alloc(), &TWO_OF_A_NAME)?;
+    let found = dependents_of_name(rt.alloc(), &slots, b"n")?;
+    expect_found(
+        &rt,
+        &found,
+        &Wanted {
+            places: &[2],
+            owners: &[],
+        },
+    );
     Ok(())
 }
 
+/// The list is a, b, d, and nothing depends on d but b and a.
+#[rattlefmt::skip]
+const THREE: [Block<'static>; 3] = [
+    Block { names: &[b"d"], uses: &[] },
+    Block { names: &[b"b"], uses: &[b"a", b"d", b"z"] },
+    Block { names: &[b"a"], uses: &[b"b"] },
+];
+
+#[rattlefmt::skip]
+const FOUND_OF_THREE: Wanted<'static> = Wanted {
+    places: &[0, 1, 2],
+    owners: &[
+        Owners { id: 2, owners: &[Some(1)] },
+        Owners { id: 1, owners: &[Some(2), Some(0), None] },
+        Owners { id: 0, owners: &[] },
+    ],
+};
+
 #[test]
 fn all_blocks(rt: HostRuntime) -> Result<(), Fail> {
-    let alloc = rt.alloc();
-    let mut slots = Slots::new(alloc);
-    let d = put(&mut slots, alloc, &[b"d"], &[])?;
-    let b = put(&mut slots, alloc, &[b"b"], &[b"a", b"d", b"z"])?;
-    let a = put(&mut slots, alloc, &[b"a"], &[b"b"])?;
-    // The list is a, b, d, and nothing depends on d but b and a.
-    let found = find_all(alloc, &slots)?;
-    assert_eq!(rt; found.ids.as_slice(), [a, b, d].as_slice());
-    assert_eq!(rt; found.places.as_slice(), [0, 1, 2].as_slice());
-    expect_edges(&rt, &found, a, &[Some(b)])?;
-    expect_edges(&rt, &found, b, &[Some(a), Some(d), None])?;
-    expect_edges(&rt, &found, d, &[])?;
+    let slots = list_of(rt.alloc(), &THREE)?;
+    let found = find_all(rt.alloc(), &slots)?;
+    assert!(rt;
+        found.ids.as_slice() == [2, 1, 0].as_slice()
+            && found.places.as_slice() == [0, 1, 2].as_slice()
+    );
+    expect_found(&rt, &found, &FOUND_OF_THREE);
     Ok(())
 }

@@ -3,7 +3,8 @@ ghost use Rattle.std.specs.Prelude.{IsTrue};
 ghost use Rattle.ti_text.specs.Lists.{Has};
 ghost use Rattle.ti_index.specs.Listing.{AreAmong};
 
-use std::alloc::AllocError;
+use std::alloc::{AllocError, Global};
+use std::process::Abort;
 use std::test::*;
 use ti_index::{NameIndex, Order};
 
@@ -49,28 +50,60 @@ fn all_stand(order: &Order, ids: &[u32]) -> bool
     true
 }
 
+/// Puts so many ids in at the front, and says whether each is the next number.
+fn are_numbered(order: &mut Order, count: u32) -> Result<bool, AllocError> {
+    for number in 0..count {
+        if put(order, 0)? != Some(number) {
+            return Ok(false);
+        }
+    }
+    Ok(true)
+}
+
+/// Whether an id stands at a position, and is found there.
+fn is_at(order: &Order, id: u32, position: usize) -> bool {
+    stands(order, id) && order.position(id) == position
+}
+
+/// Whether a list of so many ids has the last number first.
+fn is_turned(order: &Order, count: usize) -> bool {
+    if order.ids().len() != count {
+        return false;
+    }
+    for at in 0..count {
+        let id = order.ids()[at];
+        if id as usize != count - 1 - at || !is_at(order, id, at) {
+            return false;
+        }
+    }
+    true
+}
+
+/// Whether one id stands before another, and not the other way.
+fn is_before(order: &Order, one: u32, other: u32) -> bool {
+    stands(order, one)
+        && stands(order, other)
+        && order.is_before(one, other)
+        && !order.is_before(other, one)
+        && !order.is_before(one, one)
+}
+
 #[test]
 fn ids_in_order(rt: HostRuntime) -> Result<(), Fail> {
     let mut order = Order::new(rt.alloc());
     // So many at the front that there is no room between labels.
-    for number in 0..100u32 {
-        assert_eq!(rt; put(&mut order, 0)?, Some(number));
-    }
-    for (position, id) in order.ids().iter().enumerate() {
-        assert_eq!(rt; *id as usize + position, 99);
-        if stands(&order, *id) {
-            assert_eq!(rt; order.position(*id), position);
-        }
-    }
-    if stands(&order, 7) && stands(&order, 8) {
-        assert!(rt; order.is_before(8, 7) && !order.is_before(7, 8) && !order.is_before(7, 7));
-    }
-    // An id that was freed is used again.
-    assert_eq!(rt; take(&mut order, 40), Some(59));
-    assert_eq!(rt; order.count(), 100);
-    assert_eq!(rt; put(&mut order, 99)?, Some(59));
-    assert_eq!(rt; order.ids().last().copied(), Some(59));
-    assert_eq!(rt; take(&mut order, 100), None);
+    assert!(rt; are_numbered(&mut order, 100)?);
+    assert!(rt; is_turned(&order, 100) && is_before(&order, 8, 7));
+    Ok(())
+}
+
+#[test]
+fn an_id_that_was_freed_is_used_again(rt: HostRuntime) -> Result<(), Fail> {
+    let mut order = Order::new(rt.alloc());
+    assert!(rt; are_numbered(&mut order, 100)?);
+    assert!(rt; take(&mut order, 40) == Some(59) && order.count() == 100);
+    assert!(rt; put(&mut order, 99)? == Some(59));
+    assert!(rt; order.ids().last() == Some(&59) && take(&mut order, 100).is_none());
     Ok(())
 }
 
@@ -96,30 +129,65 @@ fn mention(
     Ok(())
 }
 
+/// Takes a block out of those that have the name `n`, or that use it, if it is one of them.
+fn remove(names: &mut NameIndex, order: &Order, id: u32, uses: bool) {
+    if !stands(order, id) {
+        return;
+    }
+    if uses {
+        if all_stand(order, names.users(b"n")) {
+            names.remove_user(order, b"n", id);
+        }
+    } else if all_stand(order, names.holders(b"n")) {
+        names.remove_holder(order, b"n", id);
+    }
+}
+
+/// Whether the name `n` has these holders and users.
+fn has(names: &NameIndex, holders: &[u32], users: &[u32]) -> bool {
+    names.holders(b"n") == holders && names.users(b"n") == users
+}
+
+/// The list 2, 1, 0.
+fn three_ids(alloc: Global) -> Result<Order, AllocError> {
+    let mut order = Order::new(alloc);
+    are_numbered(&mut order, 3)?;
+    Ok(order)
+}
+
+/// The ids that have the name `n`, one of them twice, and those that use it.
+const MENTIONS: [(u32, bool); 6] = [
+    (0, false),
+    (2, false),
+    (1, false),
+    (2, false),
+    (0, true),
+    (1, true),
+];
+
+/// An index of these.
+fn mentioned(alloc: Global, order: &Order) -> Result<NameIndex, AllocError> {
+    let mut names = NameIndex::new(alloc);
+    for (id, uses) in &MENTIONS {
+        mention(&mut names, order, b"n", *id, *uses)?;
+    }
+    Ok(names)
+}
+
+/// One of each is taken out.
+fn expect_removals(rt: &impl Abort, names: &mut NameIndex, order: &Order) {
+    remove(names, order, 1, true);
+    assert!(rt; has(names, &[2, 1, 0], &[0]));
+    remove(names, order, 2, false);
+    names.forget_unused(b"n");
+    assert!(rt; has(names, &[1, 0], &[0]));
+}
+
 #[test]
 fn names_with_holders_and_users(rt: HostRuntime) -> Result<(), Fail> {
-    let mut order = Order::new(rt.alloc());
-    for _ in 0..3u32 {
-        put(&mut order, 0)?;
-    }
-    // The list is 2, 1, 0.
-    let mut names = NameIndex::new(rt.alloc());
-    for id in [0, 2, 1, 2] {
-        mention(&mut names, &order, b"n", id, false)?;
-    }
-    mention(&mut names, &order, b"n", 0, true)?;
-    mention(&mut names, &order, b"n", 1, true)?;
-    assert_eq!(rt; names.holders(b"n"), [2, 1, 0].as_slice());
-    assert_eq!(rt; names.users(b"n"), [1, 0].as_slice());
-    if stands(&order, 1) && all_stand(&order, names.users(b"n")) {
-        names.remove_user(&order, b"n", 1);
-    }
-    assert_eq!(rt; names.users(b"n"), [0].as_slice());
-    if stands(&order, 2) && all_stand(&order, names.holders(b"n")) {
-        names.remove_holder(&order, b"n", 2);
-    }
-    names.forget_unused(b"n");
-    assert_eq!(rt; names.holders(b"n"), [1, 0].as_slice());
-    assert_eq!(rt; names.holders(b"other"), [].as_slice());
+    let order = three_ids(rt.alloc())?;
+    let mut names = mentioned(rt.alloc(), &order)?;
+    assert!(rt; has(&names, &[2, 1, 0], &[1, 0]) && names.holders(b"other").is_empty());
+    expect_removals(&rt, &mut names, &order);
     Ok(())
 }

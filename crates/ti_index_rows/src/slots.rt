@@ -1,56 +1,10 @@
 // Blocks come and go at run time: what the index then has, and the way back.
-ghost use Rattle.std.specs.Prelude.{IfOk};
 ghost use Rattle.ti_slots.specs.Slots.{IsIndexed};
 
-use std::alloc::{AllocError, Global};
-use std::process::Abort;
+use super::blocks::{Block, list_of};
 use std::rc::RcSlice;
 use std::test::*;
-use ti_slots::{Settled, Slot, Slots, State, copy_detail};
-use ti_source::{Item, Parsed, What};
-
-/// A slot of a block with these names that uses these names.
-fn slot(alloc: Global, names: &[&[u8]], uses: &[&[u8]]) -> Result<Slot, AllocError> {
-    let mut block = Parsed {
-        field: Vec::new(alloc),
-        names: Vec::new(alloc),
-        items: Vec::new(alloc),
-        faults: Vec::new(alloc),
-    };
-    for name in names {
-        block.names.push(RcSlice::from_slice(alloc, name)?)?;
-    }
-    for (ordinal, name) in uses.iter().enumerate() {
-        let what = What::Import(RcSlice::from_slice(alloc, name)?);
-        block.items.push(Item {
-            ordinal,
-            line: 1,
-            what,
-        })?;
-    }
-    let settled = Settled {
-        state: State::Unresolved,
-        faults: Vec::new(alloc),
-    };
-    Ok(Slot {
-        text: Vec::new(alloc),
-        block,
-        settled,
-    })
-}
-
-/// Puts a slot in at a position, if the list reaches so far.
-fn put(slots: &mut Slots, at: usize, slot: Slot) -> Result<Option<u32>, AllocError>
-    requires { IsIndexed slots.old }
-    ensures { IsIndexed slots.new }
-{
-    let len = slots.order.ids().len();
-    if at > len || len > 100_000 {
-        return Ok(None);
-    }
-    slots.make_room(&slot.block)?;
-    Ok(Some(slots.put_in(at, slot)))
-}
+use ti_slots::{Slots, copy_detail};
 
 /// Takes the slot at a position out, and puts it back without memory. How many names it has.
 fn exchange(slots: &mut Slots, at: usize) -> Option<usize>
@@ -76,47 +30,60 @@ fn take(slots: &mut Slots, at: usize)
     }
 }
 
-/// The slots of two blocks, the second of which is put in before the first.
-fn two_blocks(rt: &(impl Abort + AllocGlobal)) -> Result<Slots, Fail>
-    ensures { IfOk result IsIndexed }
-{
-    let alloc = rt.alloc();
-    let mut slots = Slots::new(alloc);
-    assert_eq!(rt; slots.owner(b"n"), None);
-    // The name `n` stands twice in the first header.
-    let first = slot(alloc, &[b"n", b"m", b"n"], &[b"m", b"x", b"m"])?;
-    assert_eq!(rt; put(&mut slots, 0, first)?, Some(0));
-    let second = slot(alloc, &[b"n"], &[b"m"])?;
-    assert_eq!(rt; put(&mut slots, 0, second)?, Some(1));
-    Ok(slots)
+/// What a list shows: its ids, which of them have and use a name, and which owns one.
+struct Shown<'a> {
+    ids: &'a [u32],
+    holders_of_n: &'a [u32],
+    users_of_m: &'a [u32],
+    users_of_x: &'a [u32],
+    owner_of_n: Option<u32>,
+    owner_of_m: Option<u32>,
 }
 
-/// The blocks that have the name `n`, those that use the name `m`, and the one that owns `n`.
-fn expect_mentions(
-    rt: &impl Abort,
-    slots: &Slots,
-    holders: &[u32],
-    users: &[u32],
-    owner: Option<u32>,
-)
+/// Whether a list shows this.
+fn shows(slots: &Slots, want: &Shown<'_>) -> bool
     requires { IsIndexed slots.now }
 {
-    assert_eq!(rt; slots.names.holders(b"n"), holders);
-    assert_eq!(rt; slots.names.users(b"m"), users);
-    assert_eq!(rt; slots.owner(b"n"), owner);
+    slots.order.ids() == want.ids
+        && slots.names.holders(b"n") == want.holders_of_n
+        && slots.names.users(b"m") == want.users_of_m
+        && slots.names.users(b"x") == want.users_of_x
+        && slots.owner(b"n") == want.owner_of_n
+        && slots.owner(b"m") == want.owner_of_m
+}
+
+#[rattlefmt::skip]
+const NOTHING: Shown<'static> =
+    Shown { ids: &[], holders_of_n: &[], users_of_m: &[], users_of_x: &[], owner_of_n: None, owner_of_m: None };
+
+/// The name `n` stands twice in the header of the first, which comes to stand last.
+#[rattlefmt::skip]
+const BLOCKS: [Block<'static>; 2] = [
+    Block { names: &[b"n", b"m", b"n"], uses: &[b"m", b"x", b"m"] },
+    Block { names: &[b"n"], uses: &[b"m"] },
+];
+
+#[rattlefmt::skip]
+const BOTH: Shown<'static> =
+    Shown { ids: &[1, 0], holders_of_n: &[1, 0], users_of_m: &[1, 0], users_of_x: &[0], owner_of_n: Some(1), owner_of_m: Some(0) };
+
+#[rattlefmt::skip]
+const LAST_ALONE: Shown<'static> =
+    Shown { ids: &[0], holders_of_n: &[0], users_of_m: &[0], users_of_x: &[0], owner_of_n: Some(0), owner_of_m: Some(0) };
+
+#[test]
+fn no_blocks(rt: HostRuntime) {
+    assert!(rt; shows(&Slots::new(rt.alloc()), &NOTHING));
 }
 
 #[test]
 fn blocks_come_and_go(rt: HostRuntime) -> Result<(), Fail> {
-    let mut slots = two_blocks(&rt)?;
-    expect_mentions(&rt, &slots, &[1, 0], &[1, 0], Some(1));
-    assert_eq!(rt; slots.owner(b"m"), Some(0));
-    assert_eq!(rt; exchange(&mut slots, 1), Some(3));
-    assert_eq!(rt; slots.order.ids(), [1, 0].as_slice());
-    assert_eq!(rt; slots.names.holders(b"n"), [1, 0].as_slice());
-    assert_eq!(rt; slots.names.users(b"x"), [0].as_slice());
+    let mut slots = list_of(rt.alloc(), &BLOCKS)?;
+    assert!(rt; shows(&slots, &BOTH));
+    assert!(rt; exchange(&mut slots, 1) == Some(3));
+    assert!(rt; shows(&slots, &BOTH));
     take(&mut slots, 0);
-    expect_mentions(&rt, &slots, &[0], &[0], Some(0));
+    assert!(rt; shows(&slots, &LAST_ALONE));
     Ok(())
 }
 

@@ -1,61 +1,73 @@
 // Names fields, and the lookup names that they have.
+use std::alloc::{AllocError, Global};
+use std::rc::RcSlice;
 use std::test::Fail;
 use ti_source::{Code, is_lookup_name, lookup_names};
 
+/// A names field, and its lookup names.
+#[rattlefmt::skip]
+static HEADERS: [(&'static [u8], &'static [&'static [u8]]); 4] = [
+    (b"dumb", &[b"dumb"]),
+    (b"dumb|80-column dumb tty", &[b"dumb"]),
+    (b"x-1|y~|a/b, \tc", &[b"x-1", b"y~"]),
+    (b"...|..", &[b"..."]),
+];
+
+/// Texts that are no names field.
+static NO_HEADERS: [&'static [u8]; 11] = [
+    b"", b"x|", b"|x", b"x||y", b"x y", b"x y|d", b"x|\0", b"..|d", b"a/b|d", b"a,b|d", b"\r",
+];
+
+/// Whether these are the names.
+fn are_names(names: &[RcSlice<u8>], wanted: &[&[u8]]) -> bool {
+    if names.len() != wanted.len() {
+        return false;
+    }
+    for at in 0..names.len() {
+        if names[at].as_slice() != wanted[at] {
+            return false;
+        }
+    }
+    true
+}
+
+/// Whether a text is a names field with these lookup names.
+fn has_names(alloc: Global, field: &[u8], wanted: &[&[u8]]) -> Result<bool, AllocError> {
+    match lookup_names(alloc, field)? {
+        Some(names) => Ok(are_names(&names, wanted)),
+        None => Ok(false),
+    }
+}
+
 #[test]
 fn reads_headers(rt: HostRuntime) -> Result<(), Fail> {
-    for (field, wanted) in [
-        (b"dumb".as_slice(), b"dumb".as_slice()),
-        (b"dumb|80-column dumb tty".as_slice(), b"dumb".as_slice()),
-        (b"x-1|y~|a/b, \tc".as_slice(), b"x-1|y~".as_slice()),
-        (b"...|..".as_slice(), b"...".as_slice()),
-    ] {
-        let found = lookup_names(rt.alloc(), field)?.ok_or("a good header")?;
-        let mut names = wanted.split(|byte| *byte == b'|');
-        for name in &found {
-            assert_eq!(rt; names.next(), Some(name.as_slice()));
-        }
-        assert!(rt; names.next().is_none());
-    }
-    for field in [
-        b"".as_slice(),
-        b"x|".as_slice(),
-        b"|x".as_slice(),
-        b"x||y".as_slice(),
-        b"x y".as_slice(),
-        b"x y|d".as_slice(),
-        b"x|\0".as_slice(),
-        b"..|d".as_slice(),
-        b"a/b|d".as_slice(),
-        b"a,b|d".as_slice(),
-        b"\r".as_slice(),
-    ] {
-        assert!(rt; lookup_names(rt.alloc(), field)?.is_none());
+    for (field, wanted) in HEADERS.iter() {
+        assert!(rt; has_names(rt.alloc(), field, wanted)?, "{field:?}");
     }
     Ok(())
 }
 
 #[test]
-fn lookup_names_are_known(rt: HostRuntime) {
-    for name in [
-        b"xterm-256color".as_slice(),
-        b"!~".as_slice(),
-        b"...".as_slice(),
-    ] {
-        assert!(rt; is_lookup_name(name));
+fn refuses_what_is_no_header(rt: HostRuntime) -> Result<(), Fail> {
+    for field in NO_HEADERS.iter() {
+        assert!(rt; lookup_names(rt.alloc(), field)?.is_none(), "{field:?}");
     }
-    for name in [
-        b"".as_slice(),
-        b".".as_slice(),
-        b"..".as_slice(),
-        b"a/b".as_slice(),
-        b"a b".as_slice(),
-        b"a|b".as_slice(),
-        b"a,b".as_slice(),
-        b"\x7f".as_slice(),
-        b"\x80".as_slice(),
-    ] {
-        assert!(rt; !is_lookup_name(name));
+    Ok(())
+}
+
+static LOOKUP_NAMES: [&'static [u8]; 3] = [b"xterm-256color", b"!~", b"..."];
+
+static OTHER_NAMES: [&'static [u8]; 9] = [
+    b"", b".", b"..", b"a/b", b"a b", b"a|b", b"a,b", b"\x7f", b"\x80",
+];
+
+#[test]
+fn lookup_names_are_known(rt: HostRuntime) {
+    for name in LOOKUP_NAMES.iter() {
+        assert!(rt; is_lookup_name(name), "{name:?}");
+    }
+    for name in OTHER_NAMES.iter() {
+        assert!(rt; !is_lookup_name(name), "{name:?}");
     }
 }
 

@@ -3,7 +3,7 @@ use std::alloc::{AllocError, Global};
 use std::fmt::Write;
 use std::test::Fail;
 use ti_caps::name;
-use ti_source::{Parsed, SharedTexts, What, is_block, parse, parse_sharing};
+use ti_source::{Item, Local, Parsed, SharedTexts, What, is_block, parse, parse_sharing};
 
 // What an item says, a text in hexadecimal.
 fn say(said: &mut String, what: &What) -> Result<(), AllocError> {
@@ -27,29 +27,48 @@ fn say(said: &mut String, what: &What) -> Result<(), AllocError> {
     Ok(())
 }
 
-// The items and the faults of a block, each with its place, its line and a semicolon.
+// An item, with its place, its line and a semicolon.
+fn say_item(said: &mut String, item: &Item) -> Result<(), AllocError> {
+    let ordinal = item.ordinal;
+    let line = item.line;
+    write!(said, "{ordinal}:{line} ")?;
+    say(said, &item.what)?;
+    said.push_str(";")
+}
+
+// A fault, with its place, its line and a semicolon.
+fn say_fault(said: &mut String, fault: &Local) -> Result<(), AllocError> {
+    let ordinal = fault.ordinal;
+    let line = fault.line;
+    let code = fault.code;
+    write!(said, "{ordinal}:{line} {code} ")?;
+    if let Some(detail) = &fault.detail {
+        for byte in detail.as_slice() {
+            said.push(char::from(*byte))?;
+        }
+    }
+    said.push_str(";")
+}
+
+// The items and the faults of a block.
 fn reading(alloc: Global, parsed: &Parsed) -> Result<String, AllocError> {
     let mut said = String::new(alloc);
     for item in &parsed.items {
-        let ordinal = item.ordinal;
-        let line = item.line;
-        write!(said, "{ordinal}:{line} ")?;
-        say(&mut said, &item.what)?;
-        said.push_str(";")?;
+        say_item(&mut said, item)?;
     }
     for fault in &parsed.faults {
-        let ordinal = fault.ordinal;
-        let line = fault.line;
-        let code = fault.code;
-        write!(said, "{ordinal}:{line} {code} ")?;
-        if let Some(detail) = &fault.detail {
-            for byte in detail.as_slice() {
-                said.push(char::from(*byte))?;
-            }
-        }
-        said.push_str(";")?;
+        say_fault(&mut said, fault)?;
     }
     Ok(said)
+}
+
+// Whether a text is a block, and this is read of it.
+fn reads(alloc: Global, block: &[u8], wanted: &str) -> Result<bool, AllocError> {
+    if !is_block(block) {
+        return Ok(false);
+    }
+    let parsed = parse(alloc, block)?;
+    Ok(reading(alloc, &parsed)?.as_str() == wanted)
 }
 
 // Blocks, and what is read of them.
@@ -105,58 +124,84 @@ static BLOCKS: [(&'static str, &'static str); 19] = [
 #[test]
 fn reads_blocks(rt: HostRuntime) -> Result<(), Fail> {
     for (block, wanted) in BLOCKS.iter() {
-        assert!(rt; is_block(block.as_bytes()), "{block:?}");
-        let parsed = parse(rt.alloc(), block.as_bytes())?;
-        assert_eq!(rt;
-            reading(rt.alloc(), &parsed)?.as_str(),
-            *wanted,
-            "{block:?}"
-        );
+        assert!(rt; reads(rt.alloc(), block.as_bytes(), wanted)?, "{block:?}");
     }
     Ok(())
+}
+
+// Blocks one after the other, and what is read of them.
+static SHARING: [(&'static str, &'static str); 4] = [
+    (
+        "x,bel=^G,cr=\\r,kf1=\\q,\n",
+        "0:1 bel=07;1:1 cr=0d;2:1 kf1=71;2:1 W3 UnknownEscape kf1;",
+    ),
+    (
+        "y,cr=\\n,kf1=\\q,bel=^G,\n",
+        "0:1 cr=0a;1:1 kf1=71;2:1 bel=07;1:1 W3 UnknownEscape kf1;",
+    ),
+    (
+        "z,bel=\\r,cr=\\n,ind=\\n,\n",
+        "0:1 bel=0d;1:1 cr=0a;2:1 ind=0a;",
+    ),
+    ("w,bel=\\400,cr=\\r,\n", "1:1 cr=0d;0:1 E5 BadString bel;"),
+];
+
+// Whether a text is a block, and this is read of it where it shares the texts of those before it.
+fn reads_sharing(
+    alloc: Global,
+    block: &[u8],
+    shared: &mut SharedTexts,
+    wanted: &str,
+) -> Result<bool, AllocError> {
+    if !is_block(block) {
+        return Ok(false);
+    }
+    let parsed = parse_sharing(alloc, block, shared)?;
+    Ok(reading(alloc, &parsed)?.as_str() == wanted)
 }
 
 // Each block says what it says by itself, whatever the ones before it spelled.
 #[test]
 fn shares_texts(rt: HostRuntime) -> Result<(), Fail> {
     let mut shared = SharedTexts::new(rt.alloc())?;
-    for (block, wanted) in [
-        (
-            "x,bel=^G,cr=\\r,kf1=\\q,\n",
-            "0:1 bel=07;1:1 cr=0d;2:1 kf1=71;2:1 W3 UnknownEscape kf1;",
-        ),
-        (
-            "y,cr=\\n,kf1=\\q,bel=^G,\n",
-            "0:1 cr=0a;1:1 kf1=71;2:1 bel=07;1:1 W3 UnknownEscape kf1;",
-        ),
-        (
-            "z,bel=\\r,cr=\\n,ind=\\n,\n",
-            "0:1 bel=0d;1:1 cr=0a;2:1 ind=0a;",
-        ),
-        ("w,bel=\\400,cr=\\r,\n", "1:1 cr=0d;0:1 E5 BadString bel;"),
-    ] {
-        assert!(rt; is_block(block.as_bytes()), "{block:?}");
-        let parsed = parse_sharing(rt.alloc(), block.as_bytes(), &mut shared)?;
-        assert_eq!(rt; reading(rt.alloc(), &parsed)?.as_str(), wanted, "{block:?}");
+    for (block, wanted) in SHARING.iter() {
+        assert!(rt;
+            reads_sharing(rt.alloc(), block.as_bytes(), &mut shared, wanted)?,
+            "{block:?}"
+        );
     }
     Ok(())
 }
 
+// A names field with two lookup names, and so many letters at its end.
+fn field_with(alloc: Global, letters: usize) -> Result<Vec<u8>, AllocError> {
+    let mut field = b"n|m|a b\\".to_vec(alloc)?;
+    for _ in 0..letters {
+        field.push(b'c')?;
+    }
+    Ok(field)
+}
+
+// Whether this is read of a block of that names field alone, and the field, and two names.
+fn reads_field(alloc: Global, field: &[u8], wanted: &str) -> Result<bool, AllocError> {
+    let mut block = Vec::from_slice(alloc, field)?;
+    block.extend_from_slice(b",\n")?;
+    if !is_block(&block) {
+        return Ok(false);
+    }
+    let parsed = parse(alloc, &block)?;
+    Ok(
+        parsed.field.as_slice() == field
+            && parsed.names.len() == 2
+            && reading(alloc, &parsed)?.as_str() == wanted,
+    )
+}
+
 #[test]
 fn reads_names_fields(rt: HostRuntime) -> Result<(), Fail> {
-    let mut block = b"n|m|a b\\".to_vec(rt.alloc())?;
-    for (more, wanted, names) in [(119, "", 2), (1, "0:1 E2 NamesTooLong ;", 2)] {
-        for _ in 0..more {
-            block.push(b'c')?;
-        }
-        let length = block.len();
-        block.extend_from_slice(b",\n")?;
-        assert!(rt; is_block(&block));
-        let parsed = parse(rt.alloc(), &block)?;
-        assert_eq!(rt; reading(rt.alloc(), &parsed)?.as_str(), wanted);
-        assert_eq!(rt; parsed.field.as_slice(), &block[..length]);
-        assert_eq!(rt; parsed.names.len(), names);
-        block.truncate(length);
-    }
+    let longest = field_with(rt.alloc(), 119)?;
+    assert!(rt; reads_field(rt.alloc(), &longest, "")?);
+    let longer = field_with(rt.alloc(), 120)?;
+    assert!(rt; reads_field(rt.alloc(), &longer, "0:1 E2 NamesTooLong ;")?);
     Ok(())
 }

@@ -1,4 +1,5 @@
 // Texts with the bytes that they spell, and texts that spell none.
+use std::alloc::Global;
 use std::process::Abort;
 use std::test::Fail;
 use ti_spelling::{UnescapeError, unescape};
@@ -64,16 +65,19 @@ static REFUSED: [(&'static [u8], UnescapeError); 14] = [
     (b"ab\0^", UnescapeError::BadByte),
 ];
 
-/// Each text spells its bytes, and has an escape that terminfo(5) does not name where `odd` says so.
+/// Whether a text spells these bytes, and has an escape that terminfo(5) does not name where `odd` says so.
+fn spells(alloc: Global, raw: &[u8], bytes: &[u8], odd: bool) -> Result<bool, UnescapeError> {
+    let found = unescape(alloc, raw)?;
+    Ok(found.bytes.as_slice() == bytes && found.odd == odd)
+}
+
 fn check_rows(
     rt: &(impl Abort + AllocGlobal),
     rows: &[Row],
     odd: bool,
 ) -> Result<(), UnescapeError> {
     for (raw, bytes) in rows {
-        let found = unescape(rt.alloc(), raw)?;
-        assert_eq!(rt; found.bytes.as_slice(), *bytes, "{raw:?}");
-        assert!(rt; found.odd == odd, "{raw:?}");
+        assert!(rt; spells(rt.alloc(), raw, bytes, odd)?, "{raw:?}");
     }
     Ok(())
 }
@@ -90,12 +94,14 @@ fn odd_escapes_are_known(rt: HostRuntime) -> Result<(), Fail> {
     Ok(())
 }
 
+/// Why a text spells none, if so.
+fn refusal(alloc: Global, raw: &[u8]) -> Option<UnescapeError> {
+    unescape(alloc, raw).err()
+}
+
 #[test]
 fn refuses_at_the_first_fault(rt: HostRuntime) {
     for (raw, cause) in REFUSED.iter() {
-        match unescape(rt.alloc(), raw) {
-            Ok(_) => assert!(rt; false, "{raw:?} is refused"),
-            Err(error) => assert_eq!(rt; error, *cause, "{raw:?}"),
-        }
+        assert!(rt; refusal(rt.alloc(), raw) == Some(*cause), "{raw:?}");
     }
 }

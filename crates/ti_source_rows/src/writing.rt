@@ -1,4 +1,5 @@
 // Values with the texts that spell them.
+use std::alloc::{AllocError, Global};
 use std::test::Fail;
 use ti_spelling::{escape, escaped_len};
 
@@ -22,11 +23,18 @@ static ROWS: [(&'static [u8], &'static [u8]); 16] = [
     (b"%%\x01", b"%%\\001"),
 ];
 
+/// Whether a value is spelled by this text, and its length is known.
+fn is_spelled(alloc: Global, value: &[u8], text: &[u8]) -> Result<bool, AllocError> {
+    if value.len() > 1_000 {
+        return Ok(false);
+    }
+    Ok(escape(alloc, value)?.as_slice() == text && escaped_len(value) == text.len())
+}
+
 #[test]
 fn writes_values(rt: HostRuntime) -> Result<(), Fail> {
     for (value, text) in ROWS.iter() {
-        assert_eq!(rt; escape(rt.alloc(), value)?.as_slice(), *text, "{value:?}");
-        assert_eq!(rt; escaped_len(value), text.len(), "{value:?}");
+        assert!(rt; is_spelled(rt.alloc(), value, text)?, "{value:?}");
     }
     Ok(())
 }
