@@ -185,7 +185,7 @@ fn dependents_of_name(alloc: Global, slots: &Slots, name: &[u8]) -> Result<Depen
     find_dependents(alloc, slots, None, &out)
 }
 
-// It was taken out from before o: who uses the name used that block.
+// A block with the name n was taken out, from before o: who uses the name used that block.
 #[test]
 fn a_block_taken_out(rt: HostRuntime) -> Result<(), Fail> {
     let slots = list_of(rt.alloc(), &TWO_OF_A_NAME)?;

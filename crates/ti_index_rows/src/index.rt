@@ -50,8 +50,8 @@ fn all_stand(order: &Order, ids: &[u32]) -> bool
     true
 }
 
-/// Puts so many ids in at the front, and says whether each is the next number.
-fn are_numbered(order: &mut Order, count: u32) -> Result<bool, AllocError> {
+/// Puts so many ids in at the front. Whether each was the next number.
+fn put_ids(order: &mut Order, count: u32) -> Result<bool, AllocError> {
     for number in 0..count {
         if put(order, 0)? != Some(number) {
             return Ok(false);
@@ -92,7 +92,7 @@ fn is_before(order: &Order, one: u32, other: u32) -> bool {
 fn ids_in_order(rt: HostRuntime) -> Result<(), Fail> {
     let mut order = Order::new(rt.alloc());
     // So many at the front that there is no room between labels.
-    assert!(rt; are_numbered(&mut order, 100)?);
+    assert!(rt; put_ids(&mut order, 100)?);
     assert!(rt; is_turned(&order, 100) && is_before(&order, 8, 7));
     Ok(())
 }
@@ -100,7 +100,7 @@ fn ids_in_order(rt: HostRuntime) -> Result<(), Fail> {
 #[test]
 fn an_id_that_was_freed_is_used_again(rt: HostRuntime) -> Result<(), Fail> {
     let mut order = Order::new(rt.alloc());
-    assert!(rt; are_numbered(&mut order, 100)?);
+    assert!(rt; put_ids(&mut order, 100)?);
     assert!(rt; take(&mut order, 40) == Some(59) && order.count() == 100);
     assert!(rt; put(&mut order, 99)? == Some(59));
     assert!(rt; order.ids().last() == Some(&59) && take(&mut order, 100).is_none());
@@ -129,7 +129,7 @@ fn mention(
     Ok(())
 }
 
-/// Takes a block out of those that have the name `n`, or that use it, if it is one of them.
+/// Takes a block that stands in the list out of those that have the name `n`, or that use it.
 fn remove(names: &mut NameIndex, order: &Order, id: u32, uses: bool) {
     if !stands(order, id) {
         return;
@@ -151,7 +151,7 @@ fn has(names: &NameIndex, holders: &[u32], users: &[u32]) -> bool {
 /// The list 2, 1, 0.
 fn three_ids(alloc: Global) -> Result<Order, AllocError> {
     let mut order = Order::new(alloc);
-    are_numbered(&mut order, 3)?;
+    put_ids(&mut order, 3)?;
     Ok(order)
 }
 
