@@ -1,7 +1,7 @@
 use Rattle.ti_devices.specs.Counted.{observation}
 use Rattle.ti_devices.specs.LineReader.{bytes_left}
 use Rattle.ti_session.proofs.Ending.{Progress}
-use Rattle.ti_session.proofs.streaming.session.Given as goal
+use Rattle.ti_session.proofs.streaming.answer_lines.Given as goal
 
 -- the lines that were read are answered
 abbrev pub invariant-loop-editor : goal.invariant-loop-editor

@@ -1,15 +1,15 @@
 use Rattle.std.proofs.lemmas.Result.{err_from_is_err_and}
 use Rattle.ti_devices.specs.Counted.{observation}
 use Rattle.ti_session.proofs.Ending.{ScriptEnds-end, ScriptEnds-fault, ScriptEnds-last, ScriptEnds-last_cut, ScriptEnds-line, Progress-line, Progress-start}
-use Rattle.ti_session.proofs.streaming.session.Goals as goal
+use Rattle.ti_session.proofs.streaming.answer_lines.Goals as goal
 
 pub loop-editor-init : goal.loop-editor-init
 loop-editor-init g c =
-    Progress-start _ _ c.in_ok-lines.lines c.in_ok-editor.editor c.in_ok-lines.ensures.limit c.in_ok-lines.ensures.ahead c.in_ok-lines.ensures.reads c.in_ok-editor.ensures
+    Progress-start _ _ _ _ c.requires.limit c.requires.ahead c.requires.reads c.requires.start
 
 pub returns-in_err-read_line-clause-ends : goal.returns-in_err-read_line-clause-ends
 returns-in_err-read_line-clause-ends g c =
-    let p = err_from_is_err_and c.from_residual-in_err-read_line.result c.from_residual-in_err-read_line.ensures.1 in
+    let p = err_from_is_err_and c.from_residual.result c.from_residual.ensures.1 in
     rw (p.1, p.2) (ScriptEnds-fault _ _ c.loop-editor.lines c.loop-editor.editor _ _ c.loop-editor.invariant c.read_line.new.self _ _
     c.in_err-read_line.ensures.next c.in_err-read_line.ensures.spends)
 
