@@ -1,8 +1,8 @@
--- What clap reads of a command with one more argument that is not global, or one more subcommand that has none that is.
+-- What clap reads of a command with one more argument that is not global, or of a program with one more tool.
 use Rattle.std.proofs.Common.{◌≡◌, ◌∙◌, ◌||◌, Bool, ap, ap₂, false}
-use Rattle.clap.specs.Simple.{App, with_rule, with_subcommand}
+use Rattle.clap.specs.Simple.{App, Shape, with_rule, with_subcommand}
 use Rattle.clap.specs.Walk.{Rule}
-use Rattle.clap.specs.Words.{AddsArg, AddsSubcommand, app_of, rule_of}
+use Rattle.clap.specs.Words.{AddsArg, app_of, rule_of}
 use Rattle.clap.specs.declared.builder.arg.Arg.{Arg}
 use Rattle.clap.specs.declared.builder.command.Command.{Command}
 use Rattle.clap.specs.declared.builder.Command.TheViews.{out-Command as fields_of}
@@ -15,10 +15,5 @@ pub still_local : {old new : Command} {arg : Arg} → (fields_of old).has_global
     → (fields_of new).has_globals ≡ false
 still_local before adds local = adds.globals ∙ ap₂ (λ (a b : Bool). a || b) before local
 
-pub tool_added : {old sub new : Command} {app tool : App} → app_of old ≡ app → AddsSubcommand old sub new → (fields_of sub).has_globals ≡ false
-    → app_of sub ≡ tool → app_of new ≡ with_subcommand app tool.top
-tool_added before adds local is = adds.shape local ∙ ap₂ with_subcommand before (ap (λ (a : App). a.top) is)
-
-pub tool_still_local : {old sub new : Command} → (fields_of old).has_globals ≡ false → AddsSubcommand old sub new → (fields_of sub).has_globals ≡ false
-    → (fields_of new).has_globals ≡ false
-tool_still_local before adds local = adds.globals ∙ ap₂ (λ (a b : Bool). a || b) before local
+pub tool_behind : {old before new : App} (top : Shape) → before ≡ old → new ≡ with_subcommand before top → new ≡ with_subcommand old top
+tool_behind top same new = new ∙ ap (λ (app : App). with_subcommand app top) same

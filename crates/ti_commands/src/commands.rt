@@ -2,6 +2,7 @@
 //! example.
 ghost use Rattle.std.specs.Prelude.{◌≡◌, IfOk, false, option_map};
 ghost use Rattle.std.specs.List.{fold};
+ghost use Rattle.clap.specs.Simple.{new_app};
 ghost use Rattle.clap.specs.Words.{app_of};
 ghost use Rattle.clap.specs.declared.builder.Command.TheViews.{out-Command as fields_of};
 ghost use Rattle.ti_commands.specs.inside.Commands.{tool_app, app_for, with_argument, with_tool};
@@ -20,6 +21,9 @@ pub(crate) struct Tool<'a> {
     pub(crate) arguments: &'a [Argument<'a>],
     pub(crate) notes: &'a str,
 }
+
+/// What the program is, in its help.
+const TI_ABOUT: &str = "Tools for terminfo, the database of terminals.";
 
 /// What stands below the options in the help of the program.
 const TI_NOTES: &str = "\
@@ -132,6 +136,14 @@ Example:
   ti session < script.txt",
 };
 
+// A command line without arguments, with what help says above and below them.
+fn described<'a>(alloc: Global, name: &'a str, about: &'a str, notes: &'a str) -> Command<'a>
+    ensures app { app_of result ≡ new_app name.entry.now }
+    ensures local { (fields_of result).has_globals ≡ false }
+{
+    Command::new(alloc, name).about(about).after_help(notes)
+}
+
 // The command with these arguments behind those that it has.
 fn with_arguments<'a>(
     alloc: Global,
@@ -157,11 +169,23 @@ impl<'a> Tool<'a> {
         ensures app { IfOk result (λ command. app_of command ≡ app_for self.now) }
         ensures local { IfOk result (λ command. (fields_of command).has_globals ≡ false) }
     {
-        let command = Command::new(alloc, self.name)
-            .about(self.about)
-            .after_help(self.notes);
+        let command = described(alloc, self.name, self.about, self.notes);
         with_arguments(alloc, command, self.arguments)
     }
+}
+
+// The program with one more subcommand, for this tool.
+fn add_tool<'a>(
+    alloc: Global,
+    program: Command<'a>,
+    tool: &Tool<'a>,
+) -> Result<Command<'a>, AllocError>
+    requires { (fields_of program).has_globals ≡ false }
+    ensures app { IfOk result (λ r. app_of r ≡ with_tool (app_of program.entry) tool.now) }
+    ensures local { IfOk result (λ r. (fields_of r).has_globals ≡ false) }
+{
+    let command = tool.command(alloc)?;
+    program.subcommand(command)
 }
 
 // The program with a subcommand for each of these tools.
@@ -175,7 +199,7 @@ fn with_tools<'a>(
     ensures local { IfOk result (λ r. (fields_of r).has_globals ≡ false) }
 {
     for tool in tools {
-        program = program.subcommand(tool.command(alloc)?)?;
+        program = add_tool(alloc, program, tool)?;
     }
     Ok(program)
 }
@@ -189,10 +213,7 @@ pub fn command<'a>(alloc: Global) -> Result<Command<'a>, AllocError>
     ensures app { IfOk result (λ command. app_of command ≡ ti_app) }
     ensures local { IfOk result (λ command. (fields_of command).has_globals ≡ false) }
 {
-    let program = Command::new(alloc, "ti")
-        .about("Tools for terminfo, the database of terminals.")
-        .after_help(TI_NOTES)
-        .subcommand_required(true);
+    let program = described(alloc, "ti", TI_ABOUT, TI_NOTES).subcommand_required(true);
     with_tools(alloc, program, &TOOLS)
 }
 
