@@ -23,7 +23,7 @@ use Rattle.ti_slots.specs.Slots.{blocks_of, reading_at, StandsAt, IsIndexed}
 use Rattle.ti_slots.proofs.Owners.{uses_user}
 use Rattle.ti_dependents.specs.Dependents.{IsExchangeOf, AreDependentIds}
 use Rattle.ti_dependents.specs.inside.Search.{IsPutOrUser, IsPutOrUserIn, IsSearch}
-use Rattle.ti_dependents.specs.inside.Uses.{ArePositions}
+use Rattle.ti_dependents.specs.inside.Uses.{ArePlaced, ArePositions}
 use Rattle.ti_dependents.proofs.Lists.{once}
 use Rattle.ti_dependents.proofs.Owners.{HasId, id_at}
 
@@ -152,8 +152,7 @@ module _ (s : Slots) (put : Option ℕ) (out : List (List ℕ)) (ids places : Li
 
 -- ---- the answer, in lists that were copied
 
-pub copied_ids : (s : Slots) (put : Option ℕ) (out : List (List ℕ)) (found seen ids places : List ℕ) → IsIndexed s → AreDistinct s.order.listed → IsDistinct nat_eq found → IsSearch s put out found (length found) → seen ≡ found → ids ≡ found → ArePositions s.order.listed seen places → AreDependentIds s put out ids places
-copied_ids s put out found seen ids places x d u h e f p =
-    let P : List ℕ → Type 0 = λ xs. ArePositions s.order.listed xs places in
-    let Q : List ℕ → Type 0 = λ xs. AreDependentIds s put out xs places in
-    subst Q (sym f) (dependent_ids s put out found places (record { indexed = x; distinct = d; unique = u; ended = h; places_are = subst P e p }))
+pub copied_ids : (s : Slots) (put : Option ℕ) (out : List (List ℕ)) (found ids places : List ℕ) → IsIndexed s → IsSearch s put out found (length found) → ArePlaced s.order.listed found ids places → AreDependentIds s put out ids places
+copied_ids s put out found ids places x ended h =
+    let P : List ℕ → Type 0 = λ xs. AreDependentIds s put out xs places in
+    subst P (sym h.ids_found) (dependent_ids s put out found places (record { indexed = x; distinct = h.listed_once; unique = h.found_once; ended = ended; places_are = h.positions }))

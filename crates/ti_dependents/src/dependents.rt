@@ -1,13 +1,16 @@
 // The blocks that depend on an edit.
-ghost use Rattle.std.specs.Prelude.{◌≡◌, ℕ, Some, map, IfOk};
+ghost use Rattle.std.specs.Prelude.{◌≡◌, ℕ, Some, map, slice_get, IfOk};
 ghost use Rattle.std.specs.Rc.{rc_slice_items};
+ghost use Rattle.ti_text.specs.Lists.{Has};
 ghost use Rattle.ti_components.specs.Graph.{IsGraph};
 ghost use Rattle.ti_slots.specs.Slots.{IsIndexed, StandsAt};
 ghost use Rattle.ti_dependents.specs.Dependents.{AreAllIds, AreDependentIds, IsGraphOfUses};
+ghost use Rattle.ti_dependents.specs.inside.Uses.{ArePlaced};
 
 use crate::listing::{listed_ids, positions};
 use crate::search::search;
 use crate::uses::{graph_of_uses, places_of};
+use indexmap::IndexSet;
 use std::alloc::{AllocError, Global};
 use std::rc::RcSlice;
 use ti_components::Graph;
@@ -41,10 +44,26 @@ pub fn find_dependents(
     ensures uses { IfOk result (λ d. IsGraphOfUses slots.now d.ids.items d.uses) }
     ensures graph { IfOk result (λ d. IsGraph d.uses) }
 {
-    let found = search(alloc, slots, put, out)?;
+    let mut found = IndexSet::new(alloc);
+    search(slots, put, out, &mut found)?;
+    blocks_found(alloc, slots, &found)
+}
+
+/// Blocks that a search found, where each of them stands, and which of them use each other.
+fn blocks_found(
+    alloc: Global,
+    slots: &Slots,
+    found: &IndexSet<u32>,
+) -> Result<Dependents, AllocError>
+    requires indexed { IsIndexed slots.now }
+    requires listed { (i id : ℕ) → slice_get found.now.keys i ≡ Some id → Has slots.now.order.listed id }
+    ensures placed { IfOk result (λ d. ArePlaced slots.now.order.listed found.now.keys d.ids.items d.places.items) }
+    ensures uses { IfOk result (λ d. IsGraphOfUses slots.now d.ids.items d.uses) }
+    ensures graph { IfOk result (λ d. IsGraph d.uses) }
+{
     let ids = Vec::from_slice(alloc, found.as_slice())?;
     let places = places_of(alloc, &slots.order, &ids)?;
-    let uses = graph_of_uses(alloc, slots, &found)?;
+    let uses = graph_of_uses(alloc, slots, found)?;
     Ok(Dependents { ids, places, uses })
 }
 
@@ -57,9 +76,24 @@ pub fn find_all(alloc: Global, slots: &Slots) -> Result<Dependents, AllocError>
     ensures uses { IfOk result (λ d. IsGraphOfUses slots.now d.ids.items d.uses) }
     ensures graph { IfOk result (λ d. IsGraph d.uses) }
 {
-    let found = listed_ids(alloc, &slots.order)?;
-    let ids = Vec::from_slice(alloc, found.as_slice())?;
+    let listed = listed_ids(alloc, &slots.order)?;
+    blocks_listed(alloc, slots, &listed)
+}
+
+/// All blocks of a list, in its order, where each of them stands, and which of them use each other.
+fn blocks_listed(
+    alloc: Global,
+    slots: &Slots,
+    listed: &IndexSet<u32>,
+) -> Result<Dependents, AllocError>
+    requires indexed { IsIndexed slots.now }
+    requires listed { listed.now.keys ≡ slots.now.order.listed }
+    ensures all { IfOk result (λ d. AreAllIds slots.now d.ids.items d.places.items) }
+    ensures uses { IfOk result (λ d. IsGraphOfUses slots.now d.ids.items d.uses) }
+    ensures graph { IfOk result (λ d. IsGraph d.uses) }
+{
+    let ids = Vec::from_slice(alloc, listed.as_slice())?;
     let places = positions(alloc, ids.len())?;
-    let uses = graph_of_uses(alloc, slots, &found)?;
+    let uses = graph_of_uses(alloc, slots, listed)?;
     Ok(Dependents { ids, places, uses })
 }

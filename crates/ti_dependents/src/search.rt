@@ -1,12 +1,12 @@
 // The search: the block put in and the users of touched names, then the users of each block found.
-ghost use Rattle.std.specs.Prelude.{◌≡◌, ◌↔◌, ℕ, Some, IsSome, IsTrue, length, map, OnOk, IfOk};
+ghost use Rattle.std.specs.Prelude.{◌≡◌, ◌↔◌, ℕ, Some, IsSome, IsTrue, [], length, map, OnOk};
 ghost use Rattle.std.specs.Rc.{rc_slice_items};
 ghost use Rattle.ti_slots.specs.Slots.{slot_at, IsIndexed, IsOwnerId, StandsAt};
 ghost use Rattle.ti_dependents.specs.inside.Search.{AddsPassing, IsUserOf, IsUserOfOne, IsUserOfOwned, IsPutOrUser, IsSearch};
 
 use crate::blocks::block_of;
 use indexmap::IndexSet;
-use std::alloc::{AllocError, Global};
+use std::alloc::AllocError;
 use std::rc::RcSlice;
 use ti_slots::Slots;
 
@@ -70,42 +70,42 @@ fn add_with_users(slots: &Slots, id: u32, found: &mut IndexSet<u32>) -> Result<(
     Ok(())
 }
 
-/// The block put in, if there is one, and the users of touched names.
-fn begin(
-    alloc: Global,
+/// Adds the block put in, if there is one, and the users of touched names.
+fn add_first(
     slots: &Slots,
     put: Option<u32>,
     out: &[RcSlice<u8>],
-) -> Result<IndexSet<u32>, AllocError>
+    found: &mut IndexSet<u32>,
+) -> Result<(), AllocError>
     requires indexed { IsIndexed slots.now }
     requires put { (id : ℕ) → put ≡ Some id → (at : ℕ) × StandsAt slots.now at id }
-    ensures { IfOk result (λ found. IsSearch slots.now put (map rc_slice_items out.now) found.keys 0) }
+    requires empty { found.old.keys ≡ [] }
+    ensures { OnOk result (IsSearch slots.now put (map rc_slice_items out.now) found.new.keys 0) }
 {
-    let mut found = IndexSet::new(alloc);
     if let Some(id) = put {
-        add_with_users(slots, id, &mut found)?;
+        add_with_users(slots, id, found)?;
     }
-    add_users_of_names(slots, out, &mut found)?;
-    Ok(found)
+    add_users_of_names(slots, out, found)
 }
 
-/// All blocks that depend on the edit, by their ids.
+/// Adds all blocks that depend on the edit, by their ids, where none was found before.
 pub(crate) fn search(
-    alloc: Global,
     slots: &Slots,
     put: Option<u32>,
     out: &[RcSlice<u8>],
-) -> Result<IndexSet<u32>, AllocError>
+    found: &mut IndexSet<u32>,
+) -> Result<(), AllocError>
     requires indexed { IsIndexed slots.now }
     requires put { (id : ℕ) → put ≡ Some id → (at : ℕ) × StandsAt slots.now at id }
-    ensures { IfOk result (λ found. IsSearch slots.now put (map rc_slice_items out.now) found.keys (length found.keys)) }
+    requires empty { found.old.keys ≡ [] }
+    ensures { OnOk result (IsSearch slots.now put (map rc_slice_items out.now) found.new.keys (length found.new.keys)) }
 {
-    let mut found = begin(alloc, slots, put, out)?;
+    add_first(slots, put, out, found)?;
     let mut next = 0;
     while next < found.len() {
         let id = found[next];
-        add_users_of_owned(slots, id, &block_of(slots, id).names, &mut found)?;
+        add_users_of_owned(slots, id, &block_of(slots, id).names, found)?;
         next += 1;
     }
-    Ok(found)
+    Ok(())
 }

@@ -1,5 +1,7 @@
 -- What the steps that make the places and the graph of the blocks found have made so far (own).
-use Rattle.std.specs.Prelude.{ℕ, ◌≡◌, ◌++◌, ◌∷◌, [], List, length, Option, Some, slice_get}
+use Rattle.std.specs.Prelude.{ℕ, ◌≡◌, ◌++◌, ◌∷◌, [], List, length, nat_eq, Option, Some, slice_get}
+use Rattle.std.specs.List.{IsDistinct}
+use Rattle.ti_index.specs.Labels.{AreDistinct}
 use Rattle.ti_source.specs.Reading.{ReadItem}
 use Rattle.ti_components.specs.Graph.{Rows}
 use Rattle.ti_slots.specs.declared.slots.Slots.{Slots}
@@ -10,6 +12,13 @@ use Rattle.ti_dependents.specs.Dependents.{IsEdgeRowOf}
 pub record ArePositions (listed ids places : List ℕ) : Type 0 where
   pub as_many : length places ≡ length ids
   pub stands : (i id at : ℕ) → slice_get ids i ≡ Some id → slice_get places i ≡ Some at → slice_get listed at ≡ Some id
+
+-- these are the ids found and where they stand; none was found twice, and none stands twice in the list
+pub record ArePlaced (listed found ids places : List ℕ) : Type 0 where
+  pub ids_found : ids ≡ found
+  pub positions : ArePositions listed found places
+  pub found_once : IsDistinct nat_eq found
+  pub listed_once : AreDistinct listed
 
 -- a row for the items stands behind the others
 pub record AddsRow (slots : Slots) (ids : List ℕ) (items : List ReadItem) (old new : Rows) : Type 0 where

@@ -1,5 +1,6 @@
-use Rattle.std.proofs.Common.{◌<◌, length, get_or, map, take, ◌∙◌, ap, arith}
+use Rattle.std.proofs.Common.{◌<◌, length, get_or, map, slice_get, take, sym, ◌∙◌, ap, arith}
 use Rattle.std.proofs.lemmas.List.{take_more}
+use Rattle.std.proofs.lemmas.Option.{slice_get-get_or}
 use Rattle.ti_source.specs.Reading.{item_of}
 use Rattle.ti_dependents.proofs.Edges.{rows_begun, rows_more, rows_ended, uses_whole}
 use Rattle.ti_dependents.proofs.uses.graph_of_uses.Goals as goal
@@ -22,3 +23,16 @@ returns-clause-graph c = uses_whole c.args.slots.now c.args.found.now.keys c.loo
 
 pub loop-id-init : goal.loop-id-init
 loop-id-init c = rows_begun c.args.slots.now c.args.found.now.keys c.in_ok-uses.uses c.in_ok-uses.ensures
+
+pub block_of-requires : goal.block_of-requires
+block_of-requires c =
+    let ids = c.as_slice-id-items.result.now in
+    let at = c.loop-id.id-index in
+    let within : at < length ids = omega arith in
+    c.requires.filled at (get_or ids at 0) (ap (λ xs. slice_get xs at) (sym c.as_slice-id-items.ensures.keys) ∙ slice_get-get_or ids at 0 within)
+
+pub add_row-requires-clause-indexed : goal.add_row-requires-clause-indexed
+add_row-requires-clause-indexed c = c.requires.indexed
+
+pub add_row-requires-clause-unique : goal.add_row-requires-clause-unique
+add_row-requires-clause-unique c = c.as_slice-id-items.ensures.unique
