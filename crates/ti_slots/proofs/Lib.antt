@@ -1,5 +1,6 @@
 pub mod Owners
 pub mod Adding
 pub mod Listings
+pub mod Rooms
 pub mod Changing
 pub mod Undoing
