@@ -32,7 +32,5 @@ pub fn own_terminal<R: Env + AllocGlobal>(rt: &R) -> Result<String, Failure> {
 pub fn entry_places<R: Env + AllocGlobal>(rt: &R) -> Result<Vec<String>, Failure> {
     let terminfo = variable(rt, "TERMINFO")?;
     let dirs = variable(rt, "TERMINFO_DIRS")?;
-    let terminfo = terminfo.as_ref().map(|place| place.as_str());
-    let dirs = dirs.as_ref().map(|dirs| dirs.as_str());
-    Ok(places(rt.alloc(), terminfo, dirs)?)
+    Ok(places(rt.alloc(), terminfo.as_deref(), dirs.as_deref())?)
 }

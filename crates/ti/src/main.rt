@@ -41,9 +41,7 @@ fn run<R: Env + Files + Input + Print + Eprint + AllocGlobal>(rt: &R) -> u8 {
 fn run_job<R: Env + Files + Input + Print + Eprint + AllocGlobal>(rt: &R, job: &Job) -> u8 {
     match job {
         Job::Tic { check, dir, file } => {
-            let dir = dir.as_ref().map(|dir| dir.as_str());
-            let file = file.as_ref().map(|file| file.as_str());
-            match tic_tool::run(rt, *check, dir, file) {
+            match tic_tool::run(rt, *check, dir.as_deref(), file.as_deref()) {
                 Ok(status) => status,
                 Err(failure) => end_job(rt, job, "", failure, false),
             }
@@ -56,7 +54,7 @@ fn run_job<R: Env + Files + Input + Print + Eprint + AllocGlobal>(rt: &R, job: &
         } => {
             let asked = TputWords {
                 lines: *lines,
-                term: term.as_ref().map(|term| term.as_str()),
+                term: term.as_deref(),
                 rate: *rate,
                 words: words.as_slice(),
             };
@@ -71,8 +69,8 @@ fn run_job<R: Env + Files + Input + Print + Eprint + AllocGlobal>(rt: &R, job: &
         } => {
             let asked = InfocmpNames {
                 names: names.as_slice(),
-                first_dir: first_dir.as_ref().map(|dir| dir.as_str()),
-                other_dir: other_dir.as_ref().map(|dir| dir.as_str()),
+                first_dir: first_dir.as_deref(),
+                other_dir: other_dir.as_deref(),
             };
             let options = InfocmpOptions {
                 mode: *mode,
