@@ -113,8 +113,7 @@ fn add_block(
     let Some(image) = database.compiled(at) else {
         return Ok(());
     };
-    add_files(alloc, files, dir, database.names(at), image, database, at)?;
-    Ok(())
+    add_files(alloc, files, dir, database.names(at), image, database, at)
 }
 
 /// The files of all compiled entries of a source, in the order of its blocks and of their names.

@@ -4,7 +4,9 @@ ghost use Rattle.std.specs.List.{flat_map};
 ghost use Rattle.ti_list.specs.Comparison.{comparison};
 ghost use Rattle.ti_layout.specs.View.{shown_entry};
 ghost use Rattle.ti_list.specs.RelativeSource.{relative, entries_shown};
-ghost use Rattle.ti_tools.specs.Listings.{infocmp_result, listings_text};
+ghost use Rattle.ti_commands.specs.declared.jobs.InfocmpMode.TheVariants.{List};
+ghost use Rattle.ti_tools.specs.Listings.{infocmp_result, listings_text, printed_listing};
+ghost use Rattle.ti_tools.specs.inside.Listings.{comparison_mode};
 
 use std::alloc::{AllocError, Global};
 use ti_commands::InfocmpMode;
@@ -71,6 +73,36 @@ fn relation(
     }
 }
 
+// How a mode compares entries, if it does.
+fn comparison_mode(mode: InfocmpMode) -> Option<Mode>
+    ensures { result ≡ comparison_mode mode }
+{
+    match mode {
+        InfocmpMode::Differ => Some(Mode::Differ),
+        InfocmpMode::Common => Some(Mode::Common),
+        InfocmpMode::Neither => Some(Mode::Neither),
+        InfocmpMode::List | InfocmpMode::Relative => None,
+    }
+}
+
+// What a mode other than listing prints of an entry and the others, of which there is one at least.
+fn beside_others(
+    alloc: Global,
+    first: &View<'_>,
+    others: &[View<'_>],
+    options: &InfocmpOptions,
+) -> Result<Vec<u8>, AllocError>
+    requires several { others.now ≢ [] }
+    requires mode { options.now.mode ≢ List }
+    ensures { IfOk result (λ text. text.items
+        ≡ printed_listing options.now.mode (shown_entry first.now) (entries_shown others.now) options.now.layout) }
+{
+    match comparison_mode(options.mode) {
+        Some(mode) => comparisons(alloc, first, others, mode, options.layout.order),
+        None => relation(alloc, first, others, &options.layout),
+    }
+}
+
 /// What `infocmp` prints of entries that were read, as infocmp(1) has it: each entry in turn as source text, the comparison of
 /// the first with each of the others in turn, or the first as source text that uses the others.
 ///
@@ -85,9 +117,8 @@ pub fn infocmp(
     ensures usage { IsErrOf result ToolError.Usage ↔ (infocmp_result (entries_shown views.now) options.now ≡ None) }
     ensures only { IfErr result (λ e. (e ≡ ToolError.Usage) ⊎ (e ≡ ToolError.Memory)) }
 {
-    let layout = &options.layout;
     if options.mode == InfocmpMode::List {
-        return Ok(listings_text(alloc, views, layout)?);
+        return Ok(listings_text(alloc, views, &options.layout)?);
     }
     let Some((first, others)) = views.split_first() else {
         return Err(ToolError::Usage);
@@ -95,12 +126,5 @@ pub fn infocmp(
     if others.is_empty() {
         return Err(ToolError::Usage);
     }
-    let text = match options.mode {
-        InfocmpMode::List => listings_text(alloc, views, layout),
-        InfocmpMode::Differ => comparisons(alloc, first, others, Mode::Differ, layout.order),
-        InfocmpMode::Common => comparisons(alloc, first, others, Mode::Common, layout.order),
-        InfocmpMode::Neither => comparisons(alloc, first, others, Mode::Neither, layout.order),
-        InfocmpMode::Relative => relation(alloc, first, others, layout),
-    };
-    Ok(text?)
+    Ok(beside_others(alloc, first, others, options)?)
 }
