@@ -1,7 +1,7 @@
 -- The files of entries, name by name and block by block.
-use Rattle.std.proofs.Common.{◌≡◌, ℕ, suc, ◌+◌, ◌<◌, option_map, slice_get, Bool, true, false, ◌&&◌, not, List, [], ◌∷◌, ◌++◌, length, map, filter, take, drop, get_or, All, Some, refl, sym, ap, ap₂, ◌∙◌, subst, inl, inr, arith}
+use Rattle.std.proofs.Common.{◌≡◌, ℕ, suc, ◌+◌, ◌<◌, ◌≤◌, option_map, slice_get, Bool, true, false, ◌&&◌, not, List, [], ◌∷◌, ◌++◌, length, map, filter, take, drop, get_or, All, Some, refl, sym, ap, ap₂, append-nil, ◌∙◌, subst, inl, inr, arith}
 use Rattle.std.proofs.lemmas.Bool.{and_parts, cases_Bool}
-use Rattle.std.proofs.lemmas.List.{append_assoc, get_or-map, length-map, take-map, take_more}
+use Rattle.std.proofs.lemmas.List.{append_assoc, drop_all, get_or-map, length-map, take-map, take_more}
 use Rattle.std.proofs.lemmas.Option.{same_Some, slice_get-get_or, slice_get-map}
 use Rattle.std.proofs.lemmas.List.Elements.{All-get_or, All-nil, All-weaker}
 use Rattle.std.proofs.Math.Seq.{drop-cons}
@@ -181,3 +181,15 @@ pub names_ascii : (texts names : List (List ℕ)) (at : ℕ) → HasReading → 
 names_ascii texts names at read within named =
     let text = get_or texts at [] in
     subst (All IsAsciiName) (sym (names_of_text texts names at text (slice_get-get_or texts at [] within) named)) (names_parsed text (reading_of_text text) (read text))
+
+-- past the last block, all files are there
+pub filed_to_end : (dir : List ℕ) (texts : List (List ℕ)) (files : List FileAt) (at : ℕ) → length texts ≤ at → IsFiledTo dir texts files at → files ≡ source_files dir texts
+filed_to_end dir texts files at past filed =
+    sym (append-nil files) ∙ ap (λ (rest : List (List ℕ)). files ++ files_from dir texts at rest) (sym (drop_all at texts past)) ∙ filed
+
+-- past the last name, all files are there
+pub files_left-end : {A : Type 0} (f : A → List ℕ) (items : List A) (dir image : List ℕ) (blocks : List Reading) (at index : ℕ) (files all : List FileAt)
+    → length items ≤ index → files ++ files_left dir image blocks at (map f items) index ≡ all → files ≡ all
+files_left-end f items dir image blocks at index files all past filed =
+    let none : drop index (map f items) ≡ [] = drop_all index (map f items) (rw length-map past) in
+    sym (append-nil files) ∙ ap (λ (rest : List (List ℕ)). files ++ files_behind dir image blocks at (take index (map f items)) rest) (sym none) ∙ filed

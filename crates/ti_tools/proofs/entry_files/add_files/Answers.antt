@@ -4,7 +4,7 @@ use Rattle.ti_meaning.specs.Owner.{is_among, readings}
 use Rattle.ti_meaning.specs.inside.Reaching.{is_owner}
 use Rattle.ti_devices.specs.Placing.{entries}
 use Rattle.ti_tools.specs.inside.EntryFiles.{is_seen}
-use Rattle.ti_tools.proofs.Filing.{All-at, files_joined, front_more, left_by_none, left_by_one, name_at}
+use Rattle.ti_tools.proofs.Filing.{All-at, files_joined, files_left-end, front_more, left_by_none, left_by_one, name_at}
 use Rattle.ti_tools.proofs.Seeing.{AreSeen, new_by_seen, seen_more}
 use Rattle.ti_tools.proofs.entry_files.add_files.Goals as goal
 use Rattle.ti_tools.proofs.entry_files.add_files.Goals.{then-branch+in_ok-push_file, else-branch}
@@ -37,3 +37,7 @@ loop-name-preserved c =
           let left = left_by_none rc_slice_items c.args.dir.now c.args.image.now blocks c.args.at names i x c.in_ok-has_file.field-0 place answered none in
           rw w.files-is (ap (λ files. entries c.loop-name.files.items ++ files) (sym left) ∙ c.loop-name.invariant.0, more)
     ]
+
+pub returns : goal.returns
+returns c = files_left-end rc_slice_items c.args.names.now c.args.dir.now c.args.image.now (readings c.args.database.now) c.args.at c.loop-name.name-index (entries c.loop-name.files.items) _
+    c.loop-name-test.false c.loop-name.invariant.0
