@@ -7,11 +7,13 @@ use Rattle.ti_list.specs.declared.layout.Layout.{Layout}
 use Rattle.ti_list.specs.declared.layout.Mode.{Mode}
 use Rattle.ti_list.specs.declared.layout.Mode.TheVariants as rows
 use Rattle.ti_list.specs.Comparison.{comparison}
-use Rattle.ti_list.specs.RelativeSource.{relative}
-use Rattle.ti_layout.specs.View.{Entry}
+use Rattle.ti_list.specs.RelativeSource.{entries_shown, relative}
+use Rattle.ti_layout.specs.View.{Entry, shown_entry}
+use Rattle.ti_layout.specs.declared.view.View.{View}
 use Rattle.ti_commands.specs.declared.jobs.InfocmpMode.{InfocmpMode}
 use Rattle.ti_commands.specs.declared.jobs.InfocmpMode.TheVariants as mode
-use Rattle.ti_tools.specs.Listings.{printed_listing}
+use Rattle.ti_tools.specs.declared.listings.InfocmpOptions.{InfocmpOptions}
+use Rattle.ti_tools.specs.Listings.{infocmp_result, listings_text, printed_listing}
 use Rattle.ti_tools.specs.inside.Listings.{comparison_mode}
 
 -- after the text of one was written, what is still to come is as it was
@@ -48,3 +50,15 @@ printed-related mode.Differ first others layout not is = absurd (cc)
 printed-related mode.Common first others layout not is = absurd (cc)
 printed-related mode.Neither first others layout not is = absurd (cc)
 printed-related mode.Relative first others layout not is = refl
+
+-- what infocmp prints: a listing of any entries
+pub listing_printed : (entries : List Entry) (options : InfocmpOptions) → options.mode ≡ mode.List → infocmp_result entries options ≡ Some (listings_text entries options.layout)
+listing_printed [] options is = rw is refl
+listing_printed (first ∷ []) options is = rw is refl
+listing_printed (first ∷ other ∷ others) options is = rw is refl
+
+-- in any mode, what it takes several entries for
+pub several_printed : (first : View) (others : List View) (options : InfocmpOptions) → others ≢ []
+    → infocmp_result (entries_shown (first ∷ others)) options ≡ Some (printed_listing options.mode (shown_entry first) (entries_shown others) options.layout)
+several_printed first [] options not = absurd (not refl)
+several_printed first (other ∷ others) options not = refl
