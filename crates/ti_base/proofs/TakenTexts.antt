@@ -3,16 +3,16 @@ use Rattle.std.proofs.Common.{◌≡◌, inl, inr, ℕ, ◌+◌, ◌<◌, ◌≤
 use Rattle.std.specs.List.{insert}
 use Rattle.std.proofs.lemmas.Bool.{cases_eq}
 use Rattle.std.proofs.lemmas.List.{length-take-le, take-take}
-use Rattle.std.proofs.lemmas.Option.{same_Some, slice_get_within, slice_get-map, slice_get-get_or}
+use Rattle.std.proofs.lemmas.Option.{same_Some, none-some, slice_get_within, slice_get-map, slice_get-get_or}
 use Rattle.ti_meaning.specs.Edits.{insertion, IsRefusal, IsSoundEdit}
 use Rattle.ti_meaning.specs.declared.edits.EditError.{EditError}
 use Rattle.ti_meaning.specs.declared.edits.EditError.TheVariants.{Position, TooLong, NotOneBlock, TooMany, Memory}
 use Rattle.ti_text.specs.Limits.{blocks_max}
 use Rattle.ti_slots.specs.declared.slots.Slot.{Slot}
 use Rattle.ti_slots.specs.declared.slots.Slots.{Slots}
-use Rattle.ti_slots.specs.Slots.{IsIndexed, slot_texts}
+use Rattle.ti_slots.specs.Slots.{IsIndexed, slot_at, slot_texts}
 use Rattle.ti_slots.specs.Changes.{ShowsSame}
-use Rattle.ti_base.specs.inside.Texts.{IsBlockText, IsTextRefusal}
+use Rattle.ti_base.specs.inside.Texts.{IsBlockText, IsTextRefusal, appended}
 use Rattle.ti_base.specs.inside.Database.{AreRead, SlotsAreSound, IsSoundSlot, slots_of}
 use Rattle.ti_base.specs.Loading.{AreTaken, IsLoadRefusal}
 use Rattle.ti_index.proofs.Lists.{get-take, take_get}
@@ -25,6 +25,14 @@ use Rattle.ti_base.proofs.SlotLists.{length_texts}
 pub append_insert : {X : Type 0} (xs : List X) (x : X) (at : ℕ) → at ≡ length xs → insert xs at x ≡ xs ++ x ∷ []
 append_insert [] x at e = rw e refl
 append_insert (y ∷ ys) x at e = rw e (ap (λ zs. y ∷ zs) (append_insert ys x (length ys) refl))
+
+-- no slot is read from its text
+pub read_none : (slots : Slots) → slots.order.listed ≡ [] → IsIndexed slots → AreRead slots
+read_none slots none indexed = record {
+  indexed = indexed;
+  few = rw none (omega arith);
+  sound = λ at slot e. absurd (none-some (Some slot) (ap (λ ids. slice_get (map (slot_at slots.slots.items) ids) at) (sym none) ∙ e));
+}
 
 -- room was made, and then the slot put in
 pub read_more : (old room new : Slots) (end : ℕ) (slot : Slot) → AreRead old → length old.order.listed < blocks_max → IsSoundSlot slot → ShowsSame old room → end ≡ length room.order.listed
@@ -42,18 +50,32 @@ pub texts_more : (old room new : Slots) (end : ℕ) (text : List ℕ) → ShowsS
 texts_more old room new end text same at_end put =
     put ∙ (append_insert (slot_texts room) text end (at_end ∙ sym (length_texts room)) ∙ ap (λ ts. ts ++ text ∷ []) same.texts)
 
--- ---- the texts taken
+-- ---- the next text, taken or refused
 
-pub take_sound : (texts : List (List ℕ)) (at : ℕ) (text : List ℕ) → slice_get texts at ≡ Some text → IsBlockText text → at < blocks_max → IsSoundEdit (take at texts) (insertion at text)
-take_sound texts at text e h room =
-    let within = slice_get_within texts at text e in
-    let front : length (take at texts) ≡ at = length-take-le at texts (omega arith) in
-    record { in_place = omega arith; short = h.short; block = h.block; room = omega arith }
+pub sound_appended : (slots : Slots) (text : List ℕ) → IsBlockText text → length slots.order.listed < blocks_max → IsSoundEdit (slot_texts slots) (appended (slot_texts slots) text)
+sound_appended slots text h few = record {
+  in_place = (let w : length (slot_texts slots) ≤ length (slot_texts slots) = omega arith in w);
+  short = h.short;
+  block = h.block;
+  room = (let w : length (slot_texts slots) < blocks_max = omega (arith, length_texts slots) in w);
+}
+
+pub text_refused : (slots : Slots) (text : List ℕ) (error : EditError) → IsTextRefusal text error → IsRefusal (slot_texts slots) (appended (slot_texts slots) text) error
+text_refused slots text Position r = absurd r
+text_refused slots text TooLong r = (omega arith, r)
+text_refused slots text NotOneBlock r = (omega arith, r.0, r.1)
+text_refused slots text TooMany r = absurd r
+text_refused slots text Memory r = absurd r
+
+pub many_refused : (slots : Slots) (text : List ℕ) → IsBlockText text → blocks_max ≤ length slots.order.listed → IsRefusal (slot_texts slots) (appended (slot_texts slots) text) TooMany
+many_refused slots text h many = (omega arith, h.short, h.block, λ room. omega (arith, length_texts slots))
+
+-- ---- the texts taken
 
 pub taken_none : (texts : List (List ℕ)) → AreTaken (take 0 texts)
 taken_none texts at text e = let w = take_get 0 texts at text e in absurd (omega (arith, w.0))
 
-pub taken_more : (texts : List (List ℕ)) (at : ℕ) (text : List ℕ) → slice_get texts at ≡ Some text → AreTaken (take at texts) → IsSoundEdit (take at texts) (insertion at text) → AreTaken (take (at + 1) texts)
+taken_more : (texts : List (List ℕ)) (at : ℕ) (text : List ℕ) → slice_get texts at ≡ Some text → AreTaken (take at texts) → IsSoundEdit (take at texts) (insertion at text) → AreTaken (take (at + 1) texts)
 taken_more texts at text e before here k t f =
     let w = take_get (at + 1) texts k t f in
     let below : k < at + 1 = w.0 in
@@ -70,26 +92,6 @@ taken_more texts at text e before here k t f =
           subst P (take-take k at texts (omega arith) ∙ sym front) earlier
     ]
 
--- ---- a text refused
-
-pub text_refused : (texts : List (List ℕ)) (at : ℕ) (text : List ℕ) (error : EditError) → slice_get texts at ≡ Some text → AreTaken (take at texts) → IsTextRefusal text error → IsLoadRefusal texts error
-text_refused texts at text error e before r = record { at = at; text = text; stands = e; before = before; refused = by_cause error r } where
-  in_place : at ≤ length (take at texts)
-  in_place = let within = slice_get_within texts at text e in let front = length-take-le at texts (omega arith) in omega arith
-
-  by_cause : (error : EditError) → IsTextRefusal text error → IsRefusal (take at texts) (insertion at text) error
-  by_cause Position r = absurd r
-  by_cause TooLong r = (in_place, r)
-  by_cause NotOneBlock r = (in_place, r.0, r.1)
-  by_cause TooMany r = absurd r
-  by_cause Memory r = absurd r
-
-pub many_refused : (texts : List (List ℕ)) (at : ℕ) (text : List ℕ) → slice_get texts at ≡ Some text → AreTaken (take at texts) → IsBlockText text → blocks_max ≤ at → IsLoadRefusal texts TooMany
-many_refused texts at text e before h many =
-    let within = slice_get_within texts at text e in
-    let front : length (take at texts) ≡ at = length-take-le at texts (omega arith) in
-    record { at = at; text = text; stands = e; before = before; refused = ((let l : at ≤ length (take at texts) = omega arith in l), h.short, h.block, λ room. omega arith) }
-
 -- ---- the next of the texts in memory
 
 -- what stands past the end of the texts
@@ -99,15 +101,24 @@ no_text = record { ref_ptr = (0, 0); now = [] }
 pub text_at : (texts : List (Bor (List ℕ))) (at : ℕ) → at < length texts → slice_get (map (λ text. text.now) texts) at ≡ Some (get_or texts at no_text).now
 text_at texts at l = rw (slice_get-map (λ (text : Bor (List ℕ)). text.now) texts at, slice_get-get_or texts at no_text l) refl
 
--- so many stand in the list as were taken
-pub as_many_taken : (texts : List (List ℕ)) (at : ℕ) (text : List ℕ) (old : Slots) → slice_get texts at ≡ Some text → slot_texts old ≡ take at texts → length old.order.listed ≡ at
-as_many_taken texts at text old e same =
+-- the next text is put in behind those taken
+at_the_end : (texts : List (List ℕ)) (at : ℕ) (text : List ℕ) → slice_get texts at ≡ Some text → appended (take at texts) text ≡ insertion at text
+at_the_end texts at text e =
     let within = slice_get_within texts at text e in
-    sym (length_texts old) ∙ (ap (λ ts. length ts) same ∙ length-take-le at texts (omega arith))
+    ap (λ end. insertion end text) (length-take-le at texts (omega arith))
 
-pub next_taken : (texts : List (List ℕ)) (at : ℕ) (text : List ℕ) (old new : Slots) → slice_get texts at ≡ Some text → IsBlockText text → length old.order.listed < blocks_max → slot_texts old ≡ take at texts → AreTaken (take at texts)
-    → slot_texts new ≡ slot_texts old ++ text ∷ [] → (slot_texts new ≡ take (at + 1) texts) × AreTaken (take (at + 1) texts)
-next_taken texts at text old new e block room same taken grown =
-    let many = as_many_taken texts at text old e same in
-    let below : at < blocks_max = omega arith in
-    (grown ∙ (ap (λ ts. ts ++ text ∷ []) same ∙ sym (take_item texts at text e)), taken_more texts at text e taken (take_sound texts at text e block below))
+pub next_refused : (texts : List (List ℕ)) (at : ℕ) (text : List ℕ) (so_far : List (List ℕ)) (error : EditError) → slice_get texts at ≡ Some text → so_far ≡ take at texts → AreTaken (take at texts) → IsRefusal so_far (appended so_far text) error → IsLoadRefusal texts error
+next_refused texts at text so_far error e same before r = record {
+  at = at;
+  text = text;
+  stands = e;
+  before = before;
+  refused = subst (λ change. IsRefusal (take at texts) change error) (at_the_end texts at text e) (subst (λ ts. IsRefusal ts (appended ts text) error) same r);
+}
+
+pub next_taken : (texts : List (List ℕ)) (at : ℕ) (text : List ℕ) (so_far more : List (List ℕ)) → slice_get texts at ≡ Some text → so_far ≡ take at texts → AreTaken (take at texts) → IsSoundEdit so_far (appended so_far text) → more ≡ so_far ++ text ∷ []
+    → (more ≡ take (at + 1) texts) × AreTaken (take (at + 1) texts)
+next_taken texts at text so_far more e same before sound grown = (
+  grown ∙ (ap (λ ts. ts ++ text ∷ []) same ∙ sym (take_item texts at text e)),
+  taken_more texts at text e before (subst (IsSoundEdit (take at texts)) (at_the_end texts at text e) (subst (λ ts. IsSoundEdit ts (appended ts text)) same sound)),
+)

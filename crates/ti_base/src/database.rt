@@ -8,8 +8,8 @@ use crate::faults::source_faults;
 use crate::loading::load_slots;
 use crate::owners::{find_owner, slot_of};
 use crate::report::write_report;
-use crate::slot_edits::{insert_slot, move_slot, remove_slot, replace_slot};
-use crate::texts::{check_text, read_slot};
+use crate::slot_edits::{insert_slot, move_slot, read_with_room, remove_slot, replace_slot};
+use crate::texts::check_text;
 use std::alloc::{AllocError, Global};
 use std::marker::Model;
 use std::rc::RcSlice;
@@ -167,7 +167,7 @@ impl Database {
         if self.len() >= BLOCKS_MAX {
             return Err(EditError::TooMany);
         }
-        let slot = read_slot(self.alloc, text)?;
+        let slot = read_with_room(self.alloc, &mut self.slots, text)?;
         let edited = insert_slot(self.alloc, &mut self.slots, at, slot)?;
         Ok(edited)
     }
@@ -183,7 +183,7 @@ impl Database {
             return Err(EditError::Position);
         }
         check_text(text)?;
-        let slot = read_slot(self.alloc, text)?;
+        let slot = read_with_room(self.alloc, &mut self.slots, text)?;
         let edited = replace_slot(self.alloc, &mut self.slots, at, slot)?;
         Ok(edited)
     }

@@ -2,8 +2,10 @@
 // about them is found once.
 ghost use Rattle.std.specs.Prelude.{◌≡◌, ◌<◌, ◌++◌, ◌∷◌, [], length, map, IfErr, IfOk, OnOk};
 ghost use Rattle.ti_text.specs.Limits.{blocks_max};
-ghost use Rattle.ti_slots.specs.Slots.{slot_texts};
+ghost use Rattle.ti_meaning.specs.Edits.{IsRefusal, IsSoundEdit};
+ghost use Rattle.ti_slots.specs.Slots.{IsIndexed, slot_texts};
 ghost use Rattle.ti_base.specs.inside.Database.{AreKept, AreRead, IsSoundSlot};
+ghost use Rattle.ti_base.specs.inside.Texts.{appended};
 ghost use Rattle.ti_base.specs.Loading.{AreTaken, IsLoadError};
 
 use crate::rebuilding::rebuild_all;
@@ -29,24 +31,43 @@ fn append_slot(slots: &mut Slots, slot: Slot) -> Result<(), AllocError>
     Ok(())
 }
 
-/// A slot for each of the texts, in their order; nothing is found out about a block yet.
-fn read_slots(alloc: Global, texts: &[&[u8]]) -> Result<Slots, EditError>
-    ensures read { IfOk result AreRead }
-    ensures texts { IfOk result (λ slots. slot_texts slots ≡ map (λ text. text.now) texts.now) }
+/// Puts the block of a text in at the end of the list, if it is not refused; nothing is found out about
+/// it yet.
+fn append_text(
+    alloc: Global,
+    text: &[u8],
+    shared: &mut SharedTexts,
+    slots: &mut Slots,
+) -> Result<(), EditError>
+    requires { AreRead slots.old }
+    ensures read { OnOk result (AreRead slots.new) }
+    ensures texts { OnOk result (slot_texts slots.new ≡ slot_texts slots.old ++ text.now ∷ []) }
+    ensures sound { OnOk result (IsSoundEdit (slot_texts slots.old) (appended (slot_texts slots.old) text.now)) }
+    ensures refused { IfErr result (IsRefusal (slot_texts slots.old) (appended (slot_texts slots.old) text.now)) }
+{
+    check_text(text)?;
+    if slots.order.ids().len() >= BLOCKS_MAX {
+        return Err(EditError::TooMany);
+    }
+    let slot = read_sharing_slot(alloc, text, shared)?;
+    append_slot(slots, slot)?;
+    Ok(())
+}
+
+/// Puts the blocks of the texts in, in their order; nothing is found out about a block yet.
+fn append_texts(alloc: Global, texts: &[&[u8]], slots: &mut Slots) -> Result<(), EditError>
+    requires none { slots.old.order.listed ≡ [] }
+    requires indexed { IsIndexed slots.old }
+    ensures read { OnOk result (AreRead slots.new) }
+    ensures texts { OnOk result (slot_texts slots.new ≡ map (λ text. text.now) texts.now) }
     ensures taken { OnOk result (AreTaken (map (λ text. text.now) texts.now)) }
     ensures refused { IfErr result (IsLoadError (map (λ text. text.now) texts.now)) }
 {
-    let mut slots = Slots::new(alloc);
     let mut shared = SharedTexts::new(alloc)?;
     for text in texts {
-        check_text(text)?;
-        if slots.order.ids().len() >= BLOCKS_MAX {
-            return Err(EditError::TooMany);
-        }
-        let slot = read_sharing_slot(alloc, text, &mut shared)?;
-        append_slot(&mut slots, slot)?;
+        append_text(alloc, text, &mut shared, slots)?;
     }
-    Ok(slots)
+    Ok(())
 }
 
 /// The slots of a source of these blocks.
@@ -56,7 +77,8 @@ pub(crate) fn load_slots(alloc: Global, texts: &[&[u8]]) -> Result<Slots, EditEr
     ensures taken { OnOk result (AreTaken (map (λ text. text.now) texts.now)) }
     ensures refused { IfErr result (IsLoadError (map (λ text. text.now) texts.now)) }
 {
-    let mut slots = read_slots(alloc, texts)?;
+    let mut slots = Slots::new(alloc);
+    append_texts(alloc, texts, &mut slots)?;
     rebuild_all(alloc, &mut slots)?;
     Ok(slots)
 }

@@ -7,9 +7,11 @@ ghost use Rattle.ti_meaning.specs.Edits.{insertion, removal, relocation, with_it
 ghost use Rattle.ti_meaning.specs.Dependents.{Rebuilds};
 ghost use Rattle.ti_slots.specs.Slots.{IsIndexed, StandsAt, slot_texts};
 ghost use Rattle.ti_slots.specs.Changes.{HasForgotten, HasRoomFor, PutsIn, TakesOut};
+ghost use Rattle.ti_base.specs.inside.Texts.{IsBlockText};
 ghost use Rattle.ti_base.specs.inside.Database.{AreKept, IsSoundSlot, HasId, slots_of, with_settled};
 
 use crate::rebuilding::rebuild;
+use crate::texts::read_slot;
 use std::alloc::{AllocError, Global};
 use std::mem;
 use ti_meaning::Edited;
@@ -35,6 +37,25 @@ fn reserve(slots: &mut Slots, block: &Parsed) -> Result<(), AllocError>
     }
 }
 
+/// The slot of a text, with room for its block. All stays as it is.
+pub(crate) fn read_with_room(
+    alloc: Global,
+    slots: &mut Slots,
+    text: &[u8],
+) -> Result<Slot, AllocError>
+    requires text { IsBlockText text.now }
+    requires kept { AreKept slots.old }
+    ensures kept { AreKept slots.new }
+    ensures texts { slot_texts slots.new ≡ slot_texts slots.old }
+    ensures text { IfOk result (λ slot. slot.text.items ≡ text.now) }
+    ensures sound { IfOk result IsSoundSlot }
+    ensures room { IfOk result (λ slot. HasRoomFor slots.new (reading_of slot.block)) }
+{
+    let slot = read_slot(alloc, text)?;
+    reserve(slots, &slot.block)?;
+    Ok(slot)
+}
+
 /// Lets go of what the index keeps of names of a block that nobody has or uses any more.
 fn forget(slots: &mut Slots, block: &Parsed)
     requires { AreKept slots.old }
@@ -45,6 +66,16 @@ fn forget(slots: &mut Slots, block: &Parsed)
     ensures texts { slot_texts slots.new ≡ slot_texts slots.old }
 {
     slots.forget_unused(block);
+}
+
+/// Lets go of a slot that is not in the list, and of what the index keeps of names of its block that nobody has or uses any more.
+fn discard(slots: &mut Slots, slot: Slot)
+    requires { AreKept slots.old }
+    ensures forgotten { HasForgotten slots.new (reading_of slot.block) }
+    ensures kept { AreKept slots.new }
+    ensures texts { slot_texts slots.new ≡ slot_texts slots.old }
+{
+    forget(slots, &slot.block);
 }
 
 /// Puts a slot into the list, and gives the id of its block. It takes no memory.
@@ -90,7 +121,7 @@ fn take_slot(slots: &mut Slots, at: usize) -> Slot
     slots.take_out(at)
 }
 
-/// Puts a block in. At an error the list is as before.
+/// Puts a block in that there is room for. At an error the list is as before.
 pub(crate) fn insert_slot(
     alloc: Global,
     slots: &mut Slots,
@@ -101,24 +132,24 @@ pub(crate) fn insert_slot(
     requires within { at ≤ length slots.old.order.listed }
     requires few { length slots.old.order.listed < blocks_max }
     requires sound { IsSoundSlot slot }
+    requires room { HasRoomFor slots.old (reading_of slot.block) }
     ensures kept { AreKept slots.new }
     ensures texts { OnOk result (slot_texts slots.new ≡ insert (slot_texts slots.old) at slot.text.items) }
     ensures rebuilds { IfOk result (λ e. Rebuilds (slot_texts slots.old) (insertion at slot.text.items) e.rebuilt.items e.work) }
     ensures err { OnErr result (slot_texts slots.new ≡ slot_texts slots.old) }
 {
-    reserve(slots, &slot.block)?;
     let id = put_slot(slots, at, slot);
     match rebuild(alloc, slots, Some(id), &[]) {
         Ok(edited) => Ok(edited),
         Err(error) => {
             let slot = take_slot(slots, at);
-            forget(slots, &slot.block);
+            discard(slots, slot);
             Err(error)
         }
     }
 }
 
-/// Exchanges a block. At an error the list is as before.
+/// Exchanges a block for one that there is room for. At an error the list is as before.
 pub(crate) fn replace_slot(
     alloc: Global,
     slots: &mut Slots,
@@ -128,24 +159,24 @@ pub(crate) fn replace_slot(
     requires kept { AreKept slots.old }
     requires within { at < length slots.old.order.listed }
     requires sound { IsSoundSlot slot }
+    requires room { HasRoomFor slots.old (reading_of slot.block) }
     ensures kept { AreKept slots.new }
     ensures texts { OnOk result (slot_texts slots.new ≡ slice_set (slot_texts slots.old) at slot.text.items) }
     ensures rebuilds { IfOk result (λ e. Rebuilds (slot_texts slots.old) (replacement at slot.text.items) e.rebuilt.items e.work) }
     ensures err { OnErr result (slot_texts slots.new ≡ slot_texts slots.old) }
 {
-    reserve(slots, &slot.block)?;
     let mut old = take_slot(slots, at);
     let id = put_slot_over(slots, at, slot, &mut old);
     match rebuild(alloc, slots, Some(id), &old.block.names) {
         Ok(edited) => {
-            forget(slots, &old.block);
+            discard(slots, old);
             Ok(edited)
         }
         Err(error) => {
             changes_are_undone();
             let mut new = take_slot(slots, at);
             put_slot_over(slots, at, old, &mut new);
-            forget(slots, &new.block);
+            discard(slots, new);
             Err(error)
         }
     }
@@ -163,7 +194,7 @@ pub(crate) fn remove_slot(alloc: Global, slots: &mut Slots, at: usize) -> Result
     let old = take_slot(slots, at);
     match rebuild(alloc, slots, None, &old.block.names) {
         Ok(edited) => {
-            forget(slots, &old.block);
+            discard(slots, old);
             Ok(edited)
         }
         Err(error) => {

@@ -2,6 +2,7 @@
 use Rattle.std.specs.Prelude.{ℕ, ◌≤◌, List, length}
 use Rattle.ti_text.specs.Limits.{block_bytes_max}
 use Rattle.ti_source.specs.Cutting.{OneBlock}
+use Rattle.ti_meaning.specs.Edits.{Change, insertion}
 use Rattle.ti_meaning.specs.declared.edits.EditError.{EditError}
 use Rattle.ti_meaning.specs.declared.edits.EditError.TheVariants.{TooLong, NotOneBlock}
 
@@ -15,3 +16,7 @@ abbrev pub IsTextRefusal : List ℕ → EditError → Type 0
 IsTextRefusal text TooLong = ¬ (length text ≤ block_bytes_max)
 IsTextRefusal text NotOneBlock = (length text ≤ block_bytes_max) × (¬ (OneBlock text))
 IsTextRefusal text _ = ⊥
+
+-- the edit that puts the text in behind all others
+abbrev pub appended : List (List ℕ) → List ℕ → Change
+appended texts text = insertion (length texts) text

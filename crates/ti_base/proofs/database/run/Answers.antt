@@ -7,3 +7,8 @@ returns c =
     let past : length c.args.edits.now ≤ c.loop-edit.edit-index = omega arith in
     let none = drop_all c.loop-edit.edit-index c.args.edits.now past in
     rw append-nil at (c.loop-edit.invariant.2 [] c.loop-edit.database (rw none refl))
+
+pub loop-edit-init : goal.loop-edit-init
+loop-edit-init c =
+    let made = c.in_ok-outcomes.ensures in
+    (made.len, made.exact, λ more last r. rw (made.items, ← c.new-database.ensures) r)

@@ -1,11 +1,12 @@
-use Rattle.std.proofs.Common.{◌≡◌, ◌+◌, ◌<◌, ◌&&◌, ◌||◌, ◌++◌, not, length, map, take, drop, ap, sym, ◌∙◌}
+use Rattle.std.proofs.Common.{◌≡◌, ◌+◌, ◌<◌, ◌&&◌, ◌||◌, ◌++◌, not, length, map, take, drop, ap, sym, ◌∙◌, arith}
 use Rattle.std.specs.Rc.{rc_slice_items}
 use Rattle.std.specs.Str.{bytes_eq}
-use Rattle.ti_meaning.specs.Faults.{fault_seen, is_owned_before, name_faults}
+use Rattle.std.proofs.lemmas.List.{append-nil, drop_all}
+use Rattle.ti_meaning.specs.Faults.{fault_seen, is_owned_before, name_faults, distinct_after}
 use Rattle.ti_slots.specs.Slots.{blocks_of}
 use Rattle.ti_base.specs.inside.Faults.{is_named}
 use Rattle.ti_plan.proofs.ItemLists.{drop_item, map-take_item}
-use Rattle.ti_base.proofs.Naming.{passed_more, named_more}
+use Rattle.ti_base.proofs.Naming.{faults_of, passed_more, named_more}
 use Rattle.ti_base.proofs.faults.add_name_faults.Goals as goal
 use Rattle.ti_base.proofs.faults.add_name_faults.Goals.{then-is_new_duplicate+in_ok-add_named+in_ok-add_name_fault, else-is_new_duplicate}
 
@@ -35,3 +36,13 @@ loop-name-preserved c =
           (passed_more test named c.args.at before (map rc_slice_items (take (i + 1) names)) rest (map rc_slice_items (drop i names)) x (map fault_seen c.loop-name.faults.items) all
           upto from c.loop-name.invariant.1 (sym asked ∙ w.if-is_new_duplicate.false) c.loop-name.invariant.0)
     ]
+
+pub returns : goal.returns
+returns c =
+    let i = c.loop-name.name-index in
+    let names = c.args.names.now in
+    let test = is_owned_before (blocks_of c.args.slots.now) c.args.at in
+    let none = drop_all i names (omega arith) in
+    let all = map fault_seen c.loop-name.faults.items in
+    sym (append-nil all)
+    ∙ (ap (λ rest. all ++ faults_of test c.args.at (distinct_after (map rc_slice_items (take i names)) (map rc_slice_items rest))) (sym none) ∙ c.loop-name.invariant.0)

@@ -1,6 +1,6 @@
-use Rattle.std.proofs.Common.{◌≡◌, suc, ◌+◌, ◌<◌, length, map, ap, arith}
-use Rattle.std.proofs.lemmas.List.{length-map}
-use Rattle.ti_meaning.specs.Faults.{fault_seen, faults}
+use Rattle.std.proofs.Common.{◌≡◌, suc, ◌+◌, ◌<◌, ◌++◌, length, map, refl, sym, ap, ◌∙◌, arith}
+use Rattle.std.proofs.lemmas.List.{length-map, append-nil, drop_all}
+use Rattle.ti_meaning.specs.Faults.{fault_seen, faults, faults_after}
 use Rattle.ti_slots.specs.Slots.{blocks_of, reading_at}
 use Rattle.ti_index.proofs.Lists.{item_at}
 use Rattle.ti_base.proofs.KeptFaults.{one_more_block}
@@ -17,3 +17,16 @@ loop-at-preserved c =
     let next : suc c.loop-at.at ≡ c.loop-at.at + 1 = omega arith in
     one_more_block blocks c.loop-at.at (c.loop-at.at + 1) block.0 (map fault_seen c.loop-at.faults.items) (map fault_seen c.add_block_faults.new.faults.items) (faults blocks)
     next block.1 c.loop-at.invariant (c.in_ok-add_block_faults.ensures block.0 block.1)
+
+pub loop-at-init : goal.loop-at-init
+loop-at-init c = rw c.new-faults.ensures.items refl
+
+pub returns : goal.returns
+returns c =
+    let slots = c.args.slots.now in
+    let blocks = blocks_of slots in
+    let n = length-map slots.order.listed (reading_at slots.slots.items) in
+    let count : length c.ids-at-end.result.now ≡ length slots.order.listed = ap (λ xs. length xs) c.ids-at-end.ensures.ids in
+    let none = drop_all c.loop-at.at blocks (omega arith) in
+    let all = map fault_seen c.loop-at.faults.items in
+    sym (append-nil all) ∙ (ap (λ rest. all ++ faults_after blocks c.loop-at.at rest) (sym none) ∙ c.loop-at.invariant)

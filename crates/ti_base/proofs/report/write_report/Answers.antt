@@ -1,4 +1,8 @@
-use Rattle.std.proofs.Common.{rules, ◌+◌, ◌<◌, ◌≤◌, length, map, take, arith}
+use Rattle.std.proofs.Common.{rules, ap, ◌∙◌, ◌+◌, ◌<◌, ◌≤◌, length, map, take, arith}
+use Rattle.std.specs.List.{flat_map}
+use Rattle.std.proofs.lemmas.List.{take_all}
+use Rattle.std.proofs.lemmas.Grind.{common_steps}
+use Rattle.ti_meaning.specs.Report.{report_line}
 use Rattle.ti_meaning.specs.inside.Bounds.{IsPlaced}
 use Rattle.ti_meaning.specs.Faults.{fault_seen}
 use Rattle.ti_slots.specs.Slots.{slot_texts}
@@ -48,3 +52,14 @@ loop-fault-preserved c =
     let start = start_read texts c.in_ok-starts.starts.items (length (slot_texts c.args.slots.now)) c.fault-item.result.block c.index.result.now c.in_ok-starts.ensures.starts placed.0 c.index.ensures in
     one_more_line texts c.args.first_line (map fault_seen (take c.loop-fault.fault-index c.args.faults.now)) (map fault_seen (take (c.loop-fault.fault-index + 1) c.args.faults.now)) (fault_seen c.fault-item.result) c.index.result.now c.loop-fault.out.items c.write_fault.new.out.items
     c.loop-fault.invariant (map-take_item fault_seen c.args.faults.now c.loop-fault.fault-index c.fault-item.result within c.fault-item.is) start c.in_ok-write_fault.ensures
+
+pub returns-then-is_empty : goal.returns-then-is_empty
+returns-then-is_empty c = grind (arith, common_steps)
+
+pub loop-fault-init : goal.loop-fault-init
+loop-fault-init c = c.new-out.ensures.items
+
+pub returns : goal.returns
+returns c =
+    let lines = flat_map (report_line (slot_texts c.args.slots.now) c.args.first_line) in
+    c.loop-fault.invariant ∙ ap (λ faults. lines (map fault_seen faults)) (take_all c.loop-fault.fault-index c.args.faults.now (omega arith))

@@ -21,7 +21,7 @@ rebuild-requires-clause-ready c =
 pub returns-in-Ok-clause-texts : goal.returns-in-Ok-clause-texts
 returns-in-Ok-clause-texts c =
     let taken = c.take_slot-old in
-    c.forget.ensures.texts ∙ (c.in-Ok.ensures.texts ∙ (removed c.args.slots.now taken.new.slots c.args.at taken.result c.requires.kept c.requires.within taken.ensures.slot taken.ensures.slots).texts)
+    c.discard.ensures.texts ∙ (c.in-Ok.ensures.texts ∙ (removed c.args.slots.now taken.new.slots c.args.at taken.result c.requires.kept c.requires.within taken.ensures.slot taken.ensures.slots).texts)
 
 pub returns-in-Ok-clause-rebuilds : goal.returns-in-Ok-clause-rebuilds
 returns-in-Ok-clause-rebuilds c =
