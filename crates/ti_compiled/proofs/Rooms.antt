@@ -1,6 +1,7 @@
 -- What is known where room was made.
 use Rattle.std.proofs.Common.{◌≡◌, ◌<◌, ◌≤◌, ℕ, suc, List, length, true, false, Result, Ok, Err, sym, subst, arith}
-use Rattle.std.specs.Prelude.{OnOk, OnErr, IsErrOf, is_ok}
+use Rattle.std.specs.Prelude.{IfSome, OnOk, OnErr, IsErrOf, is_ok}
+use Rattle.std.specs.Result.{result_ok}
 use Rattle.ti_layout.specs.declared.layout.Header.{Header}
 use Rattle.ti_layout.specs.declared.writing.WriteError.{WriteError}
 use Rattle.ti_layout.specs.Writing.{HasSizes}
@@ -18,6 +19,10 @@ on_ok (Err x) P p = tt
 pub on_err : (r : Result (Unit {0}) WriteError) (P : Type 0) → P → OnErr r P
 on_err (Ok x) P p = tt
 on_err (Err x) P p = p
+
+pub when_given : (r : Result (Unit {0}) WriteError) (P : Type 0) → OnOk r P → IfSome (result_ok r) (λ _. P)
+when_given (Ok x) P p = p
+when_given (Err x) P p = tt
 
 pub none_ok : (r : Result (Unit {0}) WriteError) (P : Type 0) → is_ok r ≡ false → OnOk r P
 none_ok (Ok x) P e = absurd cc

@@ -1,11 +1,11 @@
 // A compiled entry, and one capability of it changed where it lies.
-ghost use Rattle.std.specs.Prelude.{None, ◌≡◌, ◌≢◌, ◌<◌, ◌≤◌, ◌↔◌, [], List, length, option_map, IfOk, IfSome, IsErrOf};
+ghost use Rattle.std.specs.Prelude.{None, Some, ◌≡◌, ◌≢◌, ◌<◌, ◌≤◌, ◌↔◌, [], List, length, option_map, IfOk, IfSome, IsErrOf};
 ghost use Rattle.ti_text.specs.Limits.{names_max, number_max};
 ghost use Rattle.ti_caps.specs.Tables.{Capability, IsCapability};
 ghost use Rattle.ti_caps.specs.declared.capability.Kind.TheVariants.{Flag, Number, Text};
 ghost use Rattle.ti_layout.specs.Image.{image, image_limit, HasNoNul, ImageFits};
 ghost use Rattle.ti_layout.specs.Laws.{without_cancel};
-ghost use Rattle.ti_layout.specs.Values.{content_of, contents, AgreesIfSome};
+ghost use Rattle.ti_layout.specs.Values.{content_of, contents, Agrees, AgreesIfSome};
 ghost use Rattle.ti_compiled.specs.Changes.{SetsContent};
 ghost use Rattle.ti_compiled.specs.inside.Changes.{flag_content, number_content, text_lent, content_lent};
 ghost use Rattle.ti_compiled.specs.Image.{names_in, contents_in};
@@ -157,6 +157,19 @@ impl Image {
         }
     }
 
+    // Gives a capability a value; a cancelled one takes away what it has. A refused change leaves the image.
+    fn give(&mut self, cap: Cap, value: &Value) -> Result<(), WriteError>
+        requires agrees { Agrees cap (content_of value.now) }
+        ensures { SetsContent self.old self.new cap (without_cancel (Some (content_of value.now))) result }
+    {
+        match value {
+            Value::True => self.set_flag(cap, true),
+            Value::Number(number) => self.set_number(cap, Some(*number)),
+            Value::Text(text) => self.set_text(cap, Some(text.as_slice())),
+            Value::Cancelled => self.take_away(cap),
+        }
+    }
+
     /// Gives a capability a value, or takes away what it has; a cancelled value is absent. A refused
     /// change leaves the image.
     pub(crate) fn set_value(&mut self, cap: Cap, value: Option<&Value>) -> Result<(), WriteError>
@@ -164,10 +177,8 @@ impl Image {
         ensures { SetsContent self.old self.new cap (without_cancel (content_lent value.entry)) result }
     {
         match value {
-            Some(Value::True) => self.set_flag(cap, true),
-            Some(Value::Number(number)) => self.set_number(cap, Some(*number)),
-            Some(Value::Text(text)) => self.set_text(cap, Some(text.as_slice())),
-            Some(Value::Cancelled) | None => self.take_away(cap),
+            Some(value) => self.give(cap, value),
+            None => self.take_away(cap),
         }
     }
 

@@ -1,6 +1,6 @@
-use Rattle.std.proofs.Common.{ℕ, List, length, sym, ap, subst, arith}
+use Rattle.std.proofs.Common.{ℕ, List, length, sym, ap, ◌∙◌, subst, arith}
 use Rattle.ti_layout.specs.Values.{HasNoNul}
-use Rattle.ti_compiled.proofs.Heading.{named_in}
+use Rattle.ti_compiled.proofs.Heading.{found_in, named_in}
 use Rattle.ti_compiled.proofs.header.names_of.Goals as goal
 
 pub slice_bounds-result-end : goal.slice_bounds-result-end
@@ -20,4 +20,13 @@ pub returns-clause-short : goal.returns-clause-short
 returns-clause-short c =
     let e = ap (λ (x : List ℕ). length x) (named_in c.args.bytes.now c.requires c.word.result c.word.ensures.value).are in
     let s = c.requires.imaged.short in
+    omega arith
+
+pub word-requires : goal.word-requires
+word-requires c = let f = found_in c.args.bytes.now c.requires in let long = f.whole in omega arith
+
+pub returns-clause-present : goal.returns-clause-present
+returns-clause-present c = λ none.
+    let e = ap (λ (x : List ℕ). length x) (sym (named_in c.args.bytes.now c.requires c.word.result c.word.ensures.value).are ∙ none) in
+    let s = c.requires.imaged.some in
     omega arith

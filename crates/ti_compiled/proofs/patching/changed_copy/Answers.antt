@@ -26,3 +26,36 @@ returns-clause-narrow c = (
 
 pub returns-clause-contents : goal.returns-clause-contents
 returns-clause-contents c = λ d valid. c.in_ok-give_all_changed.ensures.contents d valid ∙ ap (λ (es : List TableEntry). without_cancel (contents es d)) c.entries-2.ensures.entries
+
+pub take_all_changed_away-requires-clause-kept : goal.take_all_changed_away-requires-clause-kept
+take_all_changed_away-requires-clause-kept c = c.entries.ensures.kept
+
+pub give_all_changed-requires-clause-kept : goal.give_all_changed-requires-clause-kept
+give_all_changed-requires-clause-kept c = c.entries-2.ensures.kept
+
+pub returns-in_err-copy-clause-narrow : goal.returns-in_err-copy-clause-narrow
+returns-in_err-copy-clause-narrow c = rw c.from_residual.ensures tt
+
+pub returns-in_err-copy-clause-names : goal.returns-in_err-copy-clause-names
+returns-in_err-copy-clause-names c = rw c.from_residual.ensures tt
+
+pub returns-in_err-copy-clause-contents : goal.returns-in_err-copy-clause-contents
+returns-in_err-copy-clause-contents c = rw c.from_residual.ensures tt
+
+pub returns-in_err-take_all_changed_away-clause-narrow : goal.returns-in_err-take_all_changed_away-clause-narrow
+returns-in_err-take_all_changed_away-clause-narrow c = rw c.from_residual-in_err-take_all_changed_away.ensures tt
+
+pub returns-in_err-take_all_changed_away-clause-names : goal.returns-in_err-take_all_changed_away-clause-names
+returns-in_err-take_all_changed_away-clause-names c = rw c.from_residual-in_err-take_all_changed_away.ensures tt
+
+pub returns-in_err-take_all_changed_away-clause-contents : goal.returns-in_err-take_all_changed_away-clause-contents
+returns-in_err-take_all_changed_away-clause-contents c = rw c.from_residual-in_err-take_all_changed_away.ensures tt
+
+pub returns-in_err-give_all_changed-clause-narrow : goal.returns-in_err-give_all_changed-clause-narrow
+returns-in_err-give_all_changed-clause-narrow c = rw c.from_residual-in_err-give_all_changed.ensures tt
+
+pub returns-in_err-give_all_changed-clause-names : goal.returns-in_err-give_all_changed-clause-names
+returns-in_err-give_all_changed-clause-names c = rw c.from_residual-in_err-give_all_changed.ensures tt
+
+pub returns-in_err-give_all_changed-clause-contents : goal.returns-in_err-give_all_changed-clause-contents
+returns-in_err-give_all_changed-clause-contents c = rw c.from_residual-in_err-give_all_changed.ensures tt
