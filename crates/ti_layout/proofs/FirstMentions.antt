@@ -1,12 +1,13 @@
 -- Mentions of capabilities one after another: where the first of each stands, and the entries of the first ones.
-use Rattle.std.proofs.Common.{◌≡◌, ◌≢◌, ℕ, suc, ◌+◌, ◌<◌, ◌≤◌, cond, List, [], ◌∷◌, ◌++◌, length, get_or, set, replicate, Option, Some, None, refl, sym, ap, ◌∙◌, subst, arith, inl, inr, length-set, take}
+use Rattle.std.proofs.Common.{◌≡◌, ◌≢◌, ℕ, suc, ◌+◌, ◌<◌, ◌≤◌, cond, List, [], ◌∷◌, ◌++◌, length, get_or, set, replicate, Option, Some, None, refl, sym, ap, ◌∙◌, subst, arith, inl, inr, length-set, take, All}
 use Rattle.std.specs.Option.{option_or}
 use Rattle.std.proofs.lemmas.Bool.{cases_eq, cases_lt}
 use Rattle.std.proofs.lemmas.List.{length-append, length-map, length-take-le, map-append, take_more, length-replicate, get_or_append_left, get_or_at, get_or-replicate, get_or-set_same, get_or-set_other, get_or_past}
+use Rattle.std.proofs.lemmas.List.Elements.{All-push}
 use Rattle.ti_caps.specs.Tables.{Capability, IsCapability, count_of, same_capability, rank_in}
 use Rattle.ti_caps.specs.declared.capability.Kind.{Kind}
 use Rattle.ti_caps.specs.declared.capability.Kind.TheVariants.{Flag, Number, Text}
-use Rattle.ti_layout.specs.inside.Mentions.{AreMentionPlaces, Decides}
+use Rattle.ti_layout.specs.inside.Mentions.{AreMentionPlaces, Decides, recent_max}
 use Rattle.ti_layout.specs.declared.values.Value.{Value}
 use Rattle.ti_layout.specs.Values.{Content, TableEntry, Agrees, IsKept, contents, content_of, entries_of, rank_of}
 use Rattle.ti_layout.proofs.KeptEntries.{one_from_rank, same_from_one, test_from_other}
@@ -206,3 +207,14 @@ module _ (es out : List TableEntry) (rank : ℕ) (so_far : Gathers es out rank) 
               subst (λ d. contents (out ++ x ∷ []) d ≡ contents es d) same (first_more out x (absent_behind out x.0 so_far.kept ahead) ∙ sym is)
         ];
       }
+
+-- ---- one more mention behind those that are kept
+
+pub agree_more : (xs : List (Capability × Value)) (x : Capability × Value) → All (λ (e : TableEntry). Agrees e.0 e.1) (entries_of xs) → Agrees x.0 (content_of x.1)
+    → All (λ (e : TableEntry). Agrees e.0 e.1) (entries_of (xs ++ x ∷ []))
+agree_more xs x all agrees =
+    subst (All (λ (e : TableEntry). Agrees e.0 e.1)) (sym (map-append (λ (e : Capability × Value). (e.0, content_of e.1)) xs (x ∷ [])))
+    (All-push (λ (e : TableEntry). Agrees e.0 e.1) (entries_of xs) (x.0, content_of x.1) all agrees)
+
+pub one_longer : (xs : List (Capability × Value)) (x : Capability × Value) → length xs < recent_max → length (xs ++ x ∷ []) ≤ recent_max
+one_longer xs x room = let long = length-append xs (x ∷ []) in omega arith

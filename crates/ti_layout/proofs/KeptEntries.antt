@@ -1,5 +1,6 @@
 -- What the entries of a table say of a capability, and what an edit of them changes.
-use Rattle.std.proofs.Common.{◌≡◌, ◌≢◌, ℕ, zero, suc, ◌+◌, ◌<◌, Bool, true, false, cond, if◌then◌else◌, All, subst, List, [], ◌∷◌, length, get_or, set, Option, Some, None, refl, sym, ◌∙◌, ap, arith}
+use Rattle.std.proofs.Common.{◌≡◌, ◌≢◌, ℕ, zero, suc, ◌+◌, ◌<◌, Bool, true, false, cond, if◌then◌else◌, All, subst, List, [], ◌∷◌, length, get_or, set, Option, Some, None, refl, sym, ◌∙◌, ap, arith, Result, Ok, Err}
+use Rattle.std.specs.Result.{IsErr}
 use Rattle.std.specs.List.{insert, remove}
 use Rattle.ti_caps.specs.Tables.{Capability, IsCapability, capability, count_of, same_capability, rank_in}
 use Rattle.ti_caps.proofs.Same.{same_capability-true, same_capability-itself}
@@ -124,3 +125,9 @@ module _ (c : Capability) where
   unfolding contents
   agree_all [] all = tt
   agree_all (x ∷ es) all = agree_one x (contents es c) (all 0 x (omega arith)).1 (agree_all es (λ i d lt. all (suc i) d (omega arith)))
+
+-- ---- a want of memory that is passed on
+
+pub err_is : {T E : Type 0} (r : Result T E) → IsErr r → (e : E) × (r ≡ Err e)
+err_is (Ok x) is = absurd cc
+err_is (Err e) is = (e, refl)
