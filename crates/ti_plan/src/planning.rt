@@ -150,7 +150,7 @@ pub fn plan(
     let dependents = find_dependents(alloc, slots, put, out)?;
     // No id stands twice among these.
     let _listed = slots.order.ids();
-    Ok(make_plan(alloc, slots, dependents)?)
+    make_plan(alloc, slots, dependents)
 }
 
 /// The plan of a list that is made in one go: what is found out about each of its blocks. Nothing
@@ -165,5 +165,5 @@ pub fn plan_all(alloc: Global, slots: &Slots) -> Result<Plan, AllocError>
     let all = find_all(alloc, slots)?;
     // No id stands twice among these.
     let _listed = slots.order.ids();
-    Ok(make_plan(alloc, slots, all)?)
+    make_plan(alloc, slots, all)
 }

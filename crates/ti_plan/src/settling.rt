@@ -62,7 +62,7 @@ fn find_state(
     if is_wrong || has_error(&slot.block.faults) {
         return Ok(State::Unresolved);
     }
-    Ok(compile(alloc, known, node, slot, work)?)
+    compile(alloc, known, node, slot, work)
 }
 
 /// What is found out about the block at a node: what becomes of it, and its faults but those of

@@ -1,12 +1,11 @@
 // The values of a block and its entry: items are added to a table, the leftmost mention of a capability first, and the
 // entry that the block had before is patched to have these values.
-ghost use Rattle.std.specs.Prelude.{ℕ, ◌≡◌, ◌+◌, ◌<◌, ◌^◌, ◌↔◌, if◌then◌else◌, length, false, List, Some, None, slice_get, IfOk, IsErrOf, OnOk};
-ghost use Rattle.std.specs.Option.{option_or};
-ghost use Rattle.ti_caps.specs.Tables.{Capability, IsCapability, same_capability};
-ghost use Rattle.ti_source.specs.Reading.{reading_of, said_of};
+ghost use Rattle.std.specs.Prelude.{ℕ, ◌≡◌, ◌+◌, ◌<◌, ◌^◌, ◌↔◌, length, false, List, Some, slice_get, IfOk, IsErrOf, OnOk};
+ghost use Rattle.ti_caps.specs.Tables.{Capability, IsCapability};
+ghost use Rattle.ti_source.specs.Reading.{reading_of, said_import, said_of};
 ghost use Rattle.ti_layout.specs.Image.{image, image_limit};
 ghost use Rattle.ti_layout.specs.Laws.{without_cancel};
-ghost use Rattle.ti_layout.specs.Values.{contents, content_of, Agrees};
+ghost use Rattle.ti_layout.specs.Values.{contents};
 ghost use Rattle.ti_compiled.specs.Image.{contents_in};
 ghost use Rattle.ti_meaning.specs.Expansion.{Mention, is_broken};
 ghost use Rattle.ti_meaning.specs.Compiled.{state_of, state_with};
@@ -19,40 +18,32 @@ ghost use Rattle.ti_plan.specs.inside.Settling.{AreUsesSound, CanSettle, IsItemA
 
 use crate::owners::{Known, used_table};
 use std::alloc::{AllocError, Global};
-use ti_caps::Cap;
 use ti_compiled::{Image, Mentions, Table, Value, WriteError};
 use ti_slots::{BlockEntry, Slot, State};
 use ti_source::{Parsed, What};
 
-/// Adds a value behind the mentions: a value or a cancel of the capability that is there stays.
-fn add_value(
+/// Adds all values of the owner of a name, which an item of the block at a node uses, behind the
+/// mentions.
+fn merge_owner(
+    known: &Known,
+    node: usize,
+    index: usize,
+    name: &[u8],
     mentions: &mut Mentions,
-    cap: Cap,
-    value: Value,
-    work: &mut u64,
 ) -> Result<(), AllocError>
-    requires agrees { Agrees cap (content_of value) }
-    requires room { work.old + 1 < 2 ^ 64 }
-    ensures added { OnOk result ((c : Capability) → IsCapability c → contents mentions.new c
-        ≡ option_or (contents mentions.old c) (if same_capability cap c then Some (content_of value) else None)) }
-    ensures work { OnOk result (work.new ≡ work.old + 1) }
+    ghost at: { ℕ }
+    requires ready { CanSettle known.now node at }
+    requires item { IsItemAt (blocks_known known.now) at index (said_import name.now) }
+    requires sound { AreUsesSound (blocks_known known.now) at }
+    ensures { OnOk result (AddsSaid (blocks_known known.now) (said_import name.now) (contents mentions.old) (contents mentions.new)) }
 {
-    *work += 1;
-    mentions.push(cap, value)
-}
-
-/// Adds all values of a table behind the mentions.
-fn merge(mentions: &mut Mentions, used: &Table, work: &mut u64) -> Result<(), AllocError>
-    requires { work.old + 1 < 2 ^ 64 }
-    ensures merged { OnOk result ((c : Capability) → IsCapability c → contents mentions.new c
-        ≡ option_or (contents mentions.old c) (contents used.now c)) }
-    ensures work { OnOk result (work.new ≡ work.old + 1) }
-{
-    *work += 1;
+    let Ok(used) = used_table(known, node, index, name) else {
+        unreachable!()
+    };
     mentions.merge(used)
 }
 
-/// Adds what an item of the block at a node stands for.
+/// Adds what an item of the block at a node stands for, behind the mentions.
 fn add_item(
     known: &Known,
     node: usize,
@@ -70,19 +61,15 @@ fn add_item(
     ensures added { OnOk result (AddsSaid (blocks_known known.now) (said_of what.now) (contents mentions.old) (contents mentions.new)) }
     ensures work { OnOk result (work.new ≡ work.old + 1) }
 {
+    *work += 1;
+    // A value or a cancel of a capability that is there stays.
     match what {
-        What::Flag(cap) => add_value(mentions, *cap, Value::True, work)?,
-        What::Number(cap, number) => add_value(mentions, *cap, Value::Number(*number), work)?,
-        What::Text(cap, text) => add_value(mentions, *cap, Value::Text(text.clone()?), work)?,
-        What::Cancel(cap) => add_value(mentions, *cap, Value::Cancelled, work)?,
-        What::Import(name) => {
-            let Ok(used) = used_table(known, node, index, name.as_slice()) else {
-                unreachable!()
-            };
-            merge(mentions, used, work)?;
-        }
+        What::Flag(cap) => mentions.push(*cap, Value::True),
+        What::Number(cap, number) => mentions.push(*cap, Value::Number(*number)),
+        What::Text(cap, text) => mentions.push(*cap, Value::Text(text.clone()?)),
+        What::Cancel(cap) => mentions.push(*cap, Value::Cancelled),
+        What::Import(name) => merge_owner(known, node, index, name.as_slice(), mentions),
     }
-    Ok(())
 }
 
 /// The table of the block at a node, which is sound, as are its uses.
@@ -106,7 +93,7 @@ fn make_table(
     for (index, item) in block.items.iter().enumerate() {
         add_item(known, node, index, &item.what, &mut mentions, work)?;
     }
-    Ok(mentions.into_table()?)
+    mentions.into_table()
 }
 
 /// The image of a sound block that has this table. Where the entry that the block had before has the
@@ -164,5 +151,5 @@ pub(crate) fn compile(
     ensures work { OnOk result (work.new ≡ work.old + work_of (blocks_known known.now) (Some (reading_of slot.now.block))) }
 {
     let table = make_table(alloc, known, node, &slot.block, work)?;
-    Ok(make_state(alloc, slot, table)?)
+    make_state(alloc, slot, table)
 }

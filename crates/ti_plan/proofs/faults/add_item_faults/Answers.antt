@@ -1,5 +1,6 @@
-use Rattle.std.proofs.Common.{◌<◌, ◌≤◌, ◌+◌, false, filter, length, map, drop, refl, sym, ◌∙◌}
-use Rattle.std.proofs.lemmas.List.{length-map}
+use Rattle.std.proofs.Common.{◌<◌, ◌≤◌, ◌+◌, ◌-◌, false, filter, length, length-drop, map, drop, refl, sym, ◌∙◌, arith}
+use Rattle.std.proofs.lemmas.Bool.{false≢true}
+use Rattle.std.proofs.lemmas.List.{drop_all, length-map, take_all}
 use Rattle.ti_source.specs.Reading.{reading_of, item_of, fault_of}
 use Rattle.ti_meaning.specs.Faults.{is_kept}
 use Rattle.ti_slots.specs.Settled.{fault_at}
@@ -56,3 +57,21 @@ returns-clause-found g c =
     let past : length c.args.block.now.items.items ≤ c.loop-index.index = rw c.deref-item-items.ensures.value at c.loop-index-test.false in
     let all : length block.items ≤ c.loop-index.index = rw (length-map c.args.block.now.items.items item_of) past in
     found c.loop-index.is_wrong _ _ c.loop-index.invariant.wrong (λ e. uses_sound (blocks_of c.args.known.now.slots.now) g.at block c.loop-index.index c.requires.1 all (c.loop-index.invariant.sound e))
+
+pub loop-index-init : goal.loop-index-init
+loop-index-init g c = record {
+  added = refl;
+  within = omega arith;
+  wrong = λ e. absurd (false≢true e);
+  sound = λ e k item l. absurd (omega arith);
+}
+
+pub returns-clause-added : goal.returns-clause-added
+returns-clause-added g c =
+    let items = c.args.block.now.items.items in
+    let past : length items ≤ c.loop-index.index = rw c.deref-item-items.ensures.value at c.loop-index-test.false in
+    let faults = c.args.block.now.faults.items in
+    let next = c.loop-index.next in
+    let rest : length (drop next faults) ≤ length faults - next = omega (arith, length-drop next faults) in
+    let new = rw (c.deref-2.ensures.value, take_all (length faults - next) (drop next faults) rest) at c.in_ok-add_locals.ensures in
+    new ∙ (rw (drop_all c.loop-index.index items past) at c.loop-index.invariant.added)

@@ -1,4 +1,5 @@
 use Rattle.std.proofs.Common.{map}
+use Rattle.std.proofs.lemmas.Result.{IfOk-weaker}
 use Rattle.std.specs.Rc.{rc_slice_items}
 use Rattle.ti_plan.proofs.MadePlans.{found_in, plan_is}
 use Rattle.ti_plan.proofs.planning.plan.Goals as goal
@@ -12,4 +13,4 @@ pub returns : goal.returns
 returns c =
     let found = c.in_ok-dependents.ensures in
     let is = found_in c.args.slots.now c.args.put (map rc_slice_items c.args.out.now) c.in_ok-dependents.dependents c.requires.indexed c.requires.usable c.requires.ready c.ids-listed.ensures.distinct found.found found.uses found.graph in
-    plan_is c.args.slots.now c.args.put (map rc_slice_items c.args.out.now) c.in_ok-dependents.dependents c.in_ok-make_plan.field-0 is found.found c.in_ok-make_plan.ensures
+    IfOk-weaker c.make_plan.result _ _ (λ made. plan_is c.args.slots.now c.args.put (map rc_slice_items c.args.out.now) c.in_ok-dependents.dependents made is found.found) c.make_plan.ensures

@@ -1,3 +1,4 @@
+use Rattle.std.proofs.lemmas.Result.{IfOk-weaker}
 use Rattle.ti_plan.proofs.AllPlans.{all_found, all_planned}
 use Rattle.ti_plan.proofs.planning.plan_all.Goals as goal
 
@@ -7,4 +8,5 @@ make_plan-requires c =
     all_found c.args.slots.now c.in_ok-all.all found.all c.requires.indexed c.requires.usable c.ids-listed.ensures.distinct found.uses found.graph
 
 pub returns : goal.returns
-returns c = all_planned c.args.slots.now c.in_ok-all.all c.in_ok-all.ensures.all c.in_ok-make_plan.field-0 c.ids-listed.ensures.distinct c.in_ok-make_plan.ensures
+returns c =
+    IfOk-weaker c.make_plan.result _ _ (λ made. all_planned c.args.slots.now c.in_ok-all.all c.in_ok-all.ensures.all made c.ids-listed.ensures.distinct) c.make_plan.ensures

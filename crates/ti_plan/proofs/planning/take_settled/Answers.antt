@@ -1,4 +1,4 @@
-use Rattle.std.proofs.Common.{append_assoc, ◌≡◌, ℕ, ◌<◌, List, ◌∷◌, ◌++◌, length, map, Option, Some, None, slice_get, [], refl, sym, ◌∙◌, ap}
+use Rattle.std.proofs.Common.{append_assoc, append-nil, ◌≡◌, ℕ, ◌<◌, List, ◌∷◌, ◌++◌, length, map, Option, Some, None, slice_get, [], refl, sym, ◌∙◌, ap, arith}
 use Rattle.std.proofs.lemmas.List.{map-append}
 use Rattle.std.proofs.lemmas.Option.{none-some, same_Some, slice_get_within}
 use Rattle.ti_slots.specs.declared.slots.Settled.{Settled}
@@ -29,3 +29,20 @@ pub loop-one-preserved : goal.loop-one-preserved
 loop-one-preserved c =
     let next = rw c.in-Some-one.is at c.in-Some.ensures.steps.0 in
     one_more c.loop-one.all.items c.push.new.self.items c.in-Some-one.one c.loop-one.one-iterator.rest.items c.next.new.self.rest.items c.args.settled.items c.in_ok-push.ensures.items next c.loop-one.invariant
+
+none_taken : (all : List Settled) (left whole : List (Option Settled)) → all ≡ [] → left ≡ whole → map (λ one. Some one) all ++ left ≡ whole
+none_taken all left whole e f = rw e f
+
+pub loop-one-init : goal.loop-one-init
+loop-one-init c =
+    none_taken c.in_ok-all.all.items c.into_iter-one-iterator.result.rest.items c.args.settled.items c.in_ok-all.ensures.items c.into_iter-one-iterator.ensures.into_iter_gives.0
+
+all_taken : (all : List Settled) (left whole : List (Option Settled)) → length left ≡ 0 → map (λ one. Some one) all ++ left ≡ whole → map (λ one. Some one) all ≡ whole
+all_taken all [] whole e h = sym (append-nil (map (λ one. Some one) all)) ∙ h
+all_taken all (one ∷ left) whole e h = absurd (omega arith)
+
+pub returns : goal.returns
+returns c =
+    let left = c.loop-one.one-iterator.rest in
+    let none : length left.items ≡ 0 = omega (arith, c.in-None.ensures.steps.0, left.ok.0) in
+    all_taken c.loop-one.all.items left.items c.args.settled.items none c.loop-one.invariant

@@ -1,4 +1,4 @@
 use Rattle.ti_plan.proofs.tables.add_item.Given as goal
 
-abbrev pub ghost-used_table : goal.ghost-used_table
-ghost-used_table g a = g.at
+abbrev pub ghost-merge_owner : goal.ghost-merge_owner
+ghost-merge_owner g a = g.at

@@ -1,6 +1,7 @@
 use Rattle.std.proofs.Common.{subst, ◌≡◌, ◌+◌, Some, length, sym, ◌∙◌, ap}
 use Rattle.std.proofs.lemmas.Option.{slice_get_within, get_or_from_slice_get}
 use Rattle.std.proofs.lemmas.List.{length-map}
+use Rattle.std.proofs.lemmas.Result.{IfOk-weaker}
 use Rattle.ti_meaning.specs.Usable.{IsUsable}
 use Rattle.ti_source.specs.Reading.{reading_of, item_of}
 use Rattle.ti_meaning.specs.Dependents.{work_of}
@@ -14,13 +15,15 @@ pub returns-clause-state : goal.returns-clause-state
 returns-clause-state g c =
     let blocks = blocks_of c.args.known.now.slots.now in
     let block = reading_of c.args.slot.now.block in
-    state_is blocks block c.in_ok-table.table (state_seen c.in_ok-make_state.field-0) (has_table blocks g.at block c.in_ok-table.table c.requires.1.0 c.in_ok-table.ensures.table) c.in_ok-make_state.ensures.state
+    let table = has_table blocks g.at block c.in_ok-table.table c.requires.1.0 c.in_ok-table.ensures.table in
+    IfOk-weaker c.make_state.result _ _ (λ state. state_is blocks block c.in_ok-table.table (state_seen state) table) c.make_state.ensures.state
 
 pub returns-clause-table : goal.returns-clause-table
 returns-clause-table g c =
     let blocks = blocks_of c.args.known.now.slots.now in
     let block = reading_of c.args.slot.now.block in
-    table_seen blocks block c.in_ok-table.table (table_of c.in_ok-make_state.field-0) c.in_ok-make_state.ensures.table (has_table blocks g.at block c.in_ok-table.table c.requires.1.0 c.in_ok-table.ensures.table)
+    let table = has_table blocks g.at block c.in_ok-table.table c.requires.1.0 c.in_ok-table.ensures.table in
+    IfOk-weaker c.make_state.result _ _ (λ state is. table_seen blocks block c.in_ok-table.table (table_of state) is table) c.make_state.ensures.table
 
 pub returns-clause-work : goal.returns-clause-work
 returns-clause-work g c =
@@ -30,7 +33,7 @@ returns-clause-work g c =
     let table = has_table blocks g.at block c.in_ok-table.table c.requires.1.0 c.in_ok-table.ensures.table in
     let steps : c.make_table.new.work ≡ c.args.work.now + length items = c.in_ok-table.ensures.work in
     let all : work_of blocks (Some block) ≡ length items = all_work blocks block table.0 table.1 ∙ length-map items item_of in
-    steps ∙ ap (λ n. c.args.work.now + n) (sym all)
+    IfOk-weaker c.make_state.result _ _ (λ state is. steps ∙ ap (λ n. c.args.work.now + n) (sym all)) c.make_state.ensures.table
 
 pub make_state-requires-clause-usable : goal.make_state-requires-clause-usable
 make_state-requires-clause-usable g c =

@@ -1,5 +1,6 @@
 use Rattle.std.proofs.Common.{◌<◌, ◌≤◌, map, take, length, arith, refl}
 use Rattle.std.proofs.lemmas.List.{take_all}
+use Rattle.std.proofs.lemmas.Result.{IfOk-weaker}
 use Rattle.ti_source.specs.Reading.{reading_of, item_of}
 use Rattle.ti_layout.specs.Values.{contents}
 use Rattle.ti_meaning.specs.Usable.{SetsWell}
@@ -52,5 +53,5 @@ pub returns-clause-table : goal.returns-clause-table
 returns-clause-table g c =
     let past : length c.args.block.now.items.items ≤ c.loop-index.index = rw c.deref-item-items.ensures.value at c.loop-index-test.false in
     let items = rw (take_all c.loop-index.index c.args.block.now.items.items past) at c.loop-index.invariant.added in
-    same_table (blocks_of c.args.known.now.slots.now) (reading_of c.args.block.now) (contents c.loop-index.mentions) _ c.in_ok-into_table.ensures
-    (table_of_block (blocks_of c.args.known.now.slots.now) (reading_of c.args.block.now) (contents c.loop-index.mentions) c.requires.1.1.0 items)
+    let whole = table_of_block (blocks_of c.args.known.now.slots.now) (reading_of c.args.block.now) (contents c.loop-index.mentions) c.requires.1.1.0 items in
+    IfOk-weaker c.into_table.result _ _ (λ table same. same_table (blocks_of c.args.known.now.slots.now) (reading_of c.args.block.now) (contents c.loop-index.mentions) (contents table) same whole) c.into_table.ensures
