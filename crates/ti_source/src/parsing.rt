@@ -1,11 +1,11 @@
 // A block as it is read.
-ghost use Rattle.std.specs.Prelude.{◌≡◌, ◌<◌, ◌+◌, ◌^◌, IfOk, OnOk, length};
+ghost use Rattle.std.specs.Prelude.{◌≡◌, ◌<◌, ◌+◌, ◌^◌, [], ◌∷◌, ◌++◌, IfOk, OnOk, length, map};
 ghost use Rattle.ti_source.specs.Cutting.{OneBlock};
 ghost use Rattle.ti_source.specs.Items.{item_piece};
 ghost use Rattle.ti_source.specs.Parsing.{Parses, HasReading, BlocksHaveOneReading};
 ghost use Rattle.ti_source.specs.inside.Parsing.{reading_of_text, AddsItem, AddsItems, ReadsField};
 ghost use Rattle.ti_source.specs.Verdicts.{header_fault, item_fault};
-ghost use Rattle.ti_source.specs.Reading.{fault_of, reading_of};
+ghost use Rattle.ti_source.specs.Reading.{fault_of, item_of, reading_of, said_of};
 ghost use Rattle.ti_source.specs.Sound.{EachIsWellRead, IsWellRead};
 
 use crate::code::Code;
@@ -183,49 +183,60 @@ fn add_item(
     };
     let name = statement.name;
     match judge(alloc, &statement, shared)? {
-        Verdict::Accepted(what) => {
-            parsed.items.push(Item {
-                ordinal,
-                line,
-                what,
-            })?;
-            Ok(())
-        }
+        Verdict::Accepted(what) => push_item(&mut parsed.items, ordinal, line, what),
         Verdict::AcceptedOdd(what) => {
-            parsed.items.push(Item {
+            push_item(&mut parsed.items, ordinal, line, what)?;
+            push_fault(
+                alloc,
+                &mut parsed.faults,
                 ordinal,
                 line,
-                what,
-            })?;
-            let fault = item_fault(alloc, ordinal, line, Code::UnknownEscape, name)?;
-            parsed.faults.push(fault)?;
-            Ok(())
+                Code::UnknownEscape,
+                name,
+            )
         }
         Verdict::Refused(code) => {
-            let fault = item_fault(alloc, ordinal, line, code, name)?;
-            parsed.faults.push(fault)?;
-            Ok(())
+            push_fault(alloc, &mut parsed.faults, ordinal, line, code, name)
         }
     }
 }
 
-// A fault of an item, with its name.
-fn item_fault(
+// Adds an accepted item.
+fn push_item(
+    items: &mut Vec<Item>,
+    ordinal: usize,
+    line: usize,
+    what: What,
+) -> Result<(), AllocError>
+    ensures { OnOk result (map item_of items.new.items ≡ map item_of items.old.items ++ (record { ordinal = ordinal; line = line; said = said_of what }) ∷ []) }
+{
+    items.push(Item {
+        ordinal,
+        line,
+        what,
+    })?;
+    Ok(())
+}
+
+// Adds a fault of an item, with its name.
+fn push_fault(
     alloc: Global,
+    faults: &mut Vec<Local>,
     ordinal: usize,
     line: usize,
     code: Code,
     name: &[u8],
-) -> Result<Local, AllocError>
-    ensures { IfOk result (λ f. fault_of f ≡ item_fault ordinal line name.now code) }
+) -> Result<(), AllocError>
+    ensures { OnOk result (map fault_of faults.new.items ≡ map fault_of faults.old.items ++ item_fault ordinal line name.now code ∷ []) }
 {
     let detail = Some(RcSlice::from_slice(alloc, name)?);
-    Ok(Local {
+    faults.push(Local {
         ordinal,
         line,
         code,
         detail,
-    })
+    })?;
+    Ok(())
 }
 
 /// What is known of each block as it is read: its lookup names are such, its items set their kinds, its lines are its
