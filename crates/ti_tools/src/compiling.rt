@@ -47,7 +47,7 @@ fn outcome(
     database: &Database,
     first_line: u64,
     options: &TicOptions,
-) -> Result<TicOutcome, EditError>
+) -> Result<TicOutcome, AllocError>
     requires { first_line ≤ 2 ^ 63 }
     ensures { IfOk result (λ outcome. compilation_of outcome ≡ compilation options.now.check
         (string_bytes options.now.dir) first_line database.now) }
@@ -73,7 +73,7 @@ fn compile(alloc: Global, source: &[u8], options: &TicOptions) -> Result<TicOutc
         (string_bytes options.now.dir) ≡ Ok (compilation_of outcome)) }
 {
     let database = database_of(alloc, source)?;
-    outcome(alloc, &database, first_number(source), options)
+    Ok(outcome(alloc, &database, first_number(source), options)?)
 }
 
 // The text with a newline after it.
