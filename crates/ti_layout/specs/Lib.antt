@@ -5,4 +5,3 @@ pub mod Reading
 pub mod inside
 pub mod View
 pub mod Laws
-pub mod Writing
