@@ -12,6 +12,11 @@ readme       the first command of README, as it stands there, writes what is sai
              second is what CI runs
 install      what `make install` puts into a directory runs from there, and `make uninstall`
              takes all of it away
+version      help, pages, changes and the library's header have the version of the file VERSION
+deb          the Debian packages are the same each time, run unpacked, and please lintian
+deb-in-chroot
+             the package installs, runs, and is removed and purged, in a system that debootstrap makes
+release      the archives of a release are the same each time; install.sh installs what runs
 tarball      `make dist` makes a tarball of every file of the commit
 tarball-builds
              the program is built from that tarball, every proof anew: some 12 minutes
@@ -29,6 +34,7 @@ import sys
 import building
 import completions
 import installing
+import packages
 import pages
 import shared  # noqa: F401, puts the directory of `common` on the path
 from common import PROGRAM, Skipped, Tally, is_missing
@@ -41,6 +47,10 @@ CHECKS = {
     "pages": pages.check_pages,
     "readme": pages.check_readme,
     "install": installing.check_install,
+    "version": packages.check_version,
+    "deb": packages.check_deb,
+    "deb-in-chroot": packages.check_deb_in_chroot,
+    "release": packages.check_release,
     "tarball": installing.check_tarball,
     "tarball-builds": installing.check_tarball_builds,
     "build": building.check_build,
@@ -48,7 +58,7 @@ CHECKS = {
 }
 # these look at the repository alone, and not at the built program
 WITHOUT_PROGRAM = {"tarball", "tarball-builds", "build", "small-build"}
-EXPECTED = (subprocess.SubprocessError, OSError, IndexError, KeyError, TypeError)
+EXPECTED = (subprocess.SubprocessError, OSError, IndexError, KeyError, TypeError, StopIteration)
 
 
 def main():
