@@ -6,6 +6,8 @@
 options      the options and commands of pages, help and completions are one set, and the
              capabilities that completions know are those of the program
 pages        the pages are clean under `mandoc -T lint`, and each says what a page is to say
+links        the links of pages of Markdown lead to files, and their lines keep to the width
+picture      the picture of the crates in docs/ARCHITECTURE.md is that of crates.txt
 bash, fish, zsh
              the shell gives the candidates that are wanted
 install      what `make install` puts into a folder runs from there, and `make uninstall`
@@ -42,6 +44,7 @@ PROGRAM = os.path.join(TOP, "crates", "ti", "out", "ti")
 TOOLS = ["tic", "infocmp", "tput", "session"]
 PAGES = ["ti.1", "ti-tic.1", "ti-infocmp.1", "ti-tput.1", "ti-session.1", "ti-report.7"]
 SECTIONS = ["NAME", "SYNOPSIS", "DESCRIPTION", "ENVIRONMENT", "FILES", "EXIT STATUS", "EXAMPLES", "COMPATIBILITY", "SEE ALSO"]
+SECTIONS += ["HISTORY", "AUTHORS", "BUGS"]
 CODES = [f"E{it}" for it in range(1, 10)] + [f"W{it}" for it in range(1, 5)]
 SHELLS = ["ti.bash", "_ti", "ti.fish"]
 # what a person types, and a candidate that must come, and one that must not
@@ -262,9 +265,6 @@ def check_pages():
     codes = re.findall(r"^\.Ss ([EW]\d) (\w+)$", text_of("man", "ti-report.7"), re.M)
     if [it for it, _ in codes] != CODES:
         yield f"ti-report.7 has the codes {codes}"
-    table = re.findall(r"^\| ([EW]\d) \| (\w+) \|", text_of("README.md"), re.M)
-    if table and table != codes:
-        yield "the codes of README.md are not those of ti-report.7"
     for name in PAGES:
         lacking = [it for it in SECTIONS if f".Sh {it}\n" not in text_of("man", name)]
         if name == "ti-report.7":
@@ -273,12 +273,40 @@ def check_pages():
             yield f"{name}: no section {', '.join(lacking)}"
     need("mandoc")
     for name in PAGES:
-        said = output(["mandoc", "-T", "lint", name], cwd=os.path.join(TOP, "man"))
+        # without the conventions of BSD's base systems, which name no other system after .Os
+        said = output(["mandoc", "-T", "lint", "-W", "style", name], cwd=os.path.join(TOP, "man"))
         for line in said.split("\n"):
             # whether ncurses's own pages are installed here is no fault of ours
             foreign = re.search(r"mandoc\.db|referenced manual not found: Xr (tic|infocmp|tput|term|terminfo) \d", line)
             if line and not foreign:
                 yield line
+
+
+def check_links():
+    """Whether each link of a page of Markdown leads to a file, each page of ours that it names is a link, and the pages
+    keep to the width."""
+    pages = [it for it in os.listdir(TOP) if it.endswith(".md")]
+    pages += [os.path.join(folder, it) for folder in ("docs", "examples") for it in os.listdir(os.path.join(TOP, folder)) if it.endswith(".md")]
+    for page in sorted(pages):
+        text = text_of(page)
+        for link in re.findall(r"\]\(([^)#:]+)\)", text):
+            if not os.path.exists(os.path.join(TOP, os.path.dirname(page), link)):
+                yield f"{page}: the link {link} leads nowhere"
+        if page == os.path.join("docs", "DEFINITIONS.md"):
+            continue  # its rows quote the definitions
+        for number, line in enumerate(text.split("\n"), 1):
+            if len(line) > 100 and not line.startswith("|"):
+                yield f"{page}:{number}: {len(line)} columns"
+    size = len(text_of("README.md").encode())
+    if size > 9000:
+        yield f"README.md has {size} bytes"
+
+
+def check_picture():
+    """Whether the picture of the crates is that of crates.txt."""
+    said = output([sys.executable, os.path.join(TOP, "build", "crates_picture.py"), "--check"])
+    if said:
+        yield said.strip()
 
 
 def files_below(folder):
@@ -558,7 +586,8 @@ def check_readme():
 
 
 CHECKS = {
-    "build": check_build, "small-build": check_small_build, "options": check_options, "pages": check_pages, "bash": check_bash, "fish": check_fish, "zsh": check_zsh,
+    "build": check_build, "small-build": check_small_build, "options": check_options, "pages": check_pages,
+    "links": check_links, "picture": check_picture, "bash": check_bash, "fish": check_fish, "zsh": check_zsh,
     "install": check_install, "copies": check_copies, "readme": check_readme, "tarball": check_tarball, "tarball-builds": check_tarball_builds,
 }
 
