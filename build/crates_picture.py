@@ -5,7 +5,7 @@
     build/crates_picture.py --write    puts it into docs/ARCHITECTURE.md
     build/crates_picture.py --check    fails unless the picture of that page is this one
 
-An arrow leads from a crate to one that it stands on. One that follows from others is left out, and
+An arrow leads from a crate to one that it depends on. One that follows from others is left out, and
 so are the libraries of the toolchain.
 """
 
@@ -13,53 +13,27 @@ import os
 import re
 import sys
 
-TOP = os.path.dirname(os.path.dirname(os.path.abspath(__file__)))
+from crates import GROUPS, TOP, all_below, direct_needs, read_crates
+
 PAGE = os.path.join(TOP, "docs", "ARCHITECTURE.md")
-TOOLS = {"ti_probe", "ti_bench", "ti_refusals", "ti_tried_edits", "ti_example"}
 PICTURE = re.compile(r"```mermaid\n.*?```\n", re.S)
 
 
-def read_needs():
-    """What each crate of the repository stands on in the repository itself."""
-    needs = {}
-    with open(os.path.join(TOP, "crates.txt"), encoding="utf-8") as file:
-        for line in file:
-            name, colon, below = line.partition("#")[0].partition(":")
-            if colon:
-                needs[name.split()[0]] = below.split()
-    return {name: [it for it in below if it in needs] for name, below in needs.items()}
-
-
-def all_below(needs, name):
-    """All crates that one stands on, directly or by way of others."""
-    found = set(needs[name])
-    for below in needs[name]:
-        found |= all_below(needs, below)
-    return found
-
-
-def arrows(needs, name):
-    """The crates that one stands on and that none of its others stands on."""
-    by_way = set()
-    for below in needs[name]:
-        by_way |= all_below(needs, below)
-    return [it for it in needs[name] if it not in by_way]
-
-
-def group_of(name):
-    if name.endswith(("_rows", "_tests")):
-        return "tests"
-    return "tools" if name in TOOLS else "product"
+def arrows(crates, name):
+    """The crates that one depends on and that none of its others depends on."""
+    direct = direct_needs(crates, name)
+    by_way = {below for other in direct for below in all_below(crates, other)}
+    return [below for below in direct if below not in by_way]
 
 
 def picture():
-    needs = read_needs()
+    crates = read_crates()
     lines = ["```mermaid", "flowchart TD"]
-    for group in ("product", "tests", "tools"):
+    for group in GROUPS:
         lines.append(f"    subgraph {group}")
-        lines += [f"        {name}" for name in needs if group_of(name) == group]
+        lines += [f"        {name}" for name, crate in crates.items() if crate.group == group]
         lines.append("    end")
-    lines += [f"    {name} --> {below}" for name in needs for below in arrows(needs, name)]
+    lines += [f"    {name} --> {below}" for name in crates for below in arrows(crates, name)]
     return "\n".join([*lines, "```"]) + "\n"
 
 
