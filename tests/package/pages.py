@@ -11,6 +11,8 @@ SECTIONS = ["NAME", "SYNOPSIS", "DESCRIPTION", "ENVIRONMENT", "FILES", "EXIT STA
 SECTIONS += ["HISTORY", "AUTHORS", "BUGS"]
 WIDTH = 100
 BYTES_OF_README = 9000
+# words for which the pages have plainer ones: after, next to or compared with, directory, fix, is, out of memory, CPU time
+AVOIDED = re.compile(r"\b(behind|besides?|folders?|mend(?:s|ed)?|stands?|want of memory|processor time|by the clock)\b", re.I)
 # its rows quote the comments of definitions, and are written by docs/definitions.py
 GENERATED = os.path.join("docs", "DEFINITIONS.md")
 CODES = [f"E{it}" for it in range(1, 10)] + [f"W{it}" for it in range(1, 5)]
@@ -26,6 +28,7 @@ def check_pages():
             lacking = [it for it in lacking if it not in ("SYNOPSIS", "ENVIRONMENT", "FILES", "EXIT STATUS")]
         if lacking:
             yield f"{name}: no section {', '.join(lacking)}"
+        yield from (f"{name}: the word {word}" for word in AVOIDED.findall(text_of("man", name)))
     need("mandoc")
     for name in PAGES:
         # without the conventions of BSD's base systems, where .Os names nothing
@@ -46,8 +49,8 @@ def markdown_pages():
 
 
 def check_markdown():
-    """Whether the links of pages lead to files, lines keep to the width but for rows of tables, README is short, and the
-    picture of the crates is that of crates.txt."""
+    """Whether the links of pages lead to files, lines keep to the width but for rows of tables, words are plain, README is
+    short, and the picture of the crates is that of crates.txt."""
     for page in markdown_pages():
         text = text_of(page)
         for link in re.findall(r"\]\(([^)#:]+)\)", text):
@@ -58,6 +61,7 @@ def check_markdown():
         for number, line in enumerate(text.split("\n"), 1):
             if len(line) > WIDTH and not line.startswith("|"):
                 yield f"{page}:{number}: {len(line)} columns"
+            yield from (f"{page}:{number}: the word {word}" for word in AVOIDED.findall(line))
     if len(text_of("README.md").encode()) > BYTES_OF_README:
         yield f"README.md has more than {BYTES_OF_README} bytes"
     said = output([sys.executable, os.path.join(TOP, "build", "crates_picture.py"), "--check"])
