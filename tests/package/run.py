@@ -8,6 +8,8 @@ options      the options and commands of pages, help and completions are one set
 bash, fish, zsh
              the shell gives the candidates that are wanted
 pages        the pages are clean under `mandoc -T lint`, and each says what a page is to say
+markdown     the links of pages lead to files, lines keep to the width, and the picture of the
+             crates is that of crates.txt
 readme       the first command of README, as it stands there, writes what is said of it, and the
              second is what CI runs
 install      what `make install` puts into a directory runs from there, and `make uninstall`
@@ -45,6 +47,7 @@ CHECKS = {
     "fish": completions.check_fish,
     "zsh": completions.check_zsh,
     "pages": pages.check_pages,
+    "markdown": pages.check_markdown,
     "readme": pages.check_readme,
     "install": installing.check_install,
     "version": packages.check_version,
@@ -57,7 +60,7 @@ CHECKS = {
     "small-build": building.check_small_build,
 }
 # these look at the repository alone, and not at the built program
-WITHOUT_PROGRAM = {"tarball", "tarball-builds", "build", "small-build"}
+WITHOUT_PROGRAM = {"markdown", "pages", "tarball", "tarball-builds", "build", "small-build"}
 EXPECTED = (subprocess.SubprocessError, OSError, IndexError, KeyError, TypeError, StopIteration)
 
 
