@@ -19,9 +19,9 @@ picture   draws docs/speed.svg from the table of README.md, and measures nothing
 The first three print rows of one table: instructions by valgrind's callgrind, if it is installed,
 and the wall-clock time of the fastest of several runs, ti's and ncurses's in turn. What was measured
 of the rows that README shows is drawn into docs/speed.svg. Each run writes into a directory of its
-own, in memory if there is /dev/shm. A run that fails is not timed. Whether both tools wrote the same
-files is checked, and what differs is said. A tool that is not installed, or not built yet, is left
-out, and that is said. The sources are made here.
+own, in memory if there is /dev/shm. Whether both tools wrote the same files is checked, and what
+differs is said; of tput, a run that fails or writes something else is not timed. A tool that is not
+installed, or not built yet, is left out, and that is said. The sources are made here.
 """
 
 import os
