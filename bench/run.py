@@ -328,10 +328,10 @@ def draw(rows):
             y += high
         y += 10
     lines.append(f'<line x1="{left + full}" y1="26" x2="{left + full}" y2="{y}" stroke="#888" stroke-dasharray="4"/>')
-    legend = [("#3465a4", "instructions of ti"), ("#73d216", "wall-clock time of ti")]
+    legend = [("#3465a4", "instructions of ti (shorter is better)"), ("#73d216", "wall-clock time of ti")]
     for at, (colour, what) in enumerate(legend[: 2 if any(row[2] is not None for row in rows) else 1]):
-        lines.append(f'<rect x="{left + 200 * at}" y="{y + 8}" width="12" height="12" fill="{colour}"/>')
-        lines.append(f'<text x="{left + 200 * at + 18}" y="{y + 19}">{what}</text>')
+        lines.append(f'<rect x="{left + 260 * at}" y="{y + 8}" width="12" height="12" fill="{colour}"/>')
+        lines.append(f'<text x="{left + 260 * at + 18}" y="{y + 19}">{what}</text>')
     size = f'width="{left + full + 80}" height="{y + 32}" viewBox="0 0 {left + full + 80} {y + 32}"'
     with open(PICTURE, "w", encoding="utf-8") as file:
         file.write(f'<svg xmlns="http://www.w3.org/2000/svg" {size} font-family="sans-serif" font-size="12">\n')
