@@ -9,8 +9,8 @@ entries   sources of many entries, compiled into files: 1,800 of 1.1 KB each tha
 system    the entries of the system, as ncurses's infocmp lists them, compiled into files; and
           ncurses's own source, if the variable MASTER names it (misc/terminfo.src of ncurses)
 tools     `ti tput` and `ti infocmp` on the system's own entry, if it is there; both read one file
-edits     edits of a database of 1,000 and of 65,535 blocks, a chain of uses and circular ones:
-          medians of five runs in microseconds, and MB
+edits     edits of a database of 1,000 and of 65,535 blocks, a chain of uses, circular ones, and
+          lists of edits in one call: medians of five runs in microseconds, and MB
 rates     MB/s (10^6 bytes a second) of `ti tic -c` on one-block sources of 64 KiB, 256 KiB and
           1 MiB, and of ncurses's `tic -c` on the last: the best of several runs
 machine   what `ti_bench` prints of the libraries alone
@@ -289,7 +289,9 @@ def edits(_room):
     if not os.access(MACHINE, os.X_OK):
         print("edits: left out (ti_bench is not built)")
         return
-    for count, what in ((1000, "edits"), (65535, "edits"), (65535, "chain"), (1000, "circular"), (65535, "circular")):
+    for count, what in (
+        (1000, "edits"), (65535, "edits"), (65535, "chain"), (1000, "circular"), (65535, "circular"), (65535, "runs"),
+    ):
         times, most = {}, 0
         for _ in range(EDIT_RUNS):
             with subprocess.Popen([MACHINE, str(count), what], stdout=subprocess.PIPE) as run:
@@ -297,8 +299,8 @@ def edits(_room):
                 _, _, used = os.wait4(run.pid, 0)
                 run.returncode = 0
             most = max(most, used.ru_maxrss)
-            for edit, took in re.findall(r"^(.*): (\d+) ns each", printed, re.M):
-                times.setdefault(edit, []).append(int(took))
+            for edit, took, unit in re.findall(r"^(.*): (\d+) (ns each|ms)", printed, re.M):
+                times.setdefault(edit, []).append(int(took) * (1 if unit == "ns each" else 1_000_000))
         for edit, took in times.items():
             print(f"| {count:,} | {edit} | {statistics.median(took) / 1000:,.1f} | {most / 1024:.0f} |")
 
