@@ -9,8 +9,8 @@ entries   sources of many entries, compiled into files: 1,800 of 1.1 KB each tha
 system    the entries of the system, as ncurses's infocmp lists them, compiled into files; and
           ncurses's own source, if the variable MASTER names it (misc/terminfo.src of ncurses)
 tools     `ti tput` and `ti infocmp` on the system's own entry, if it is there; both read one file
-edits     edits of a database of 1,000 and of 65,535 blocks, a chain of uses and circular ones:
-          medians of five runs in microseconds, and MB
+edits     edits of a database of 1,000 and of 65,535 blocks, a chain of uses, circular ones, and
+          lists of edits in one call: medians of five runs in microseconds, and MB
 rates     MB/s (10^6 bytes a second) of `ti tic -c` on one-block sources of 64 KiB, 256 KiB and
           1 MiB, and of ncurses's `tic -c` on the last: the best of several runs
 machine   what `ti_bench` prints of the libraries alone
@@ -19,9 +19,9 @@ picture   draws docs/speed.svg from the table of README.md, and measures nothing
 The first three print rows of one table: instructions by valgrind's callgrind, if it is installed,
 and the wall-clock time of the fastest of several runs, ti's and ncurses's in turn. What was measured
 of the rows that README shows is drawn into docs/speed.svg. Each run writes into a directory of its
-own, in memory if there is /dev/shm. A run that fails is not timed. Whether both tools wrote the same
-files is checked, and what differs is said. A tool that is not installed, or not built yet, is left
-out, and that is said. The sources are made here.
+own, in memory if there is /dev/shm. Whether both tools wrote the same files is checked, and what
+differs is said; of tput, a run that fails or writes something else is not timed. A tool that is not
+installed, or not built yet, is left out, and that is said. The sources are made here.
 """
 
 import os
@@ -289,7 +289,9 @@ def edits(_room):
     if not os.access(MACHINE, os.X_OK):
         print("edits: left out (ti_bench is not built)")
         return
-    for count, what in ((1000, "edits"), (65535, "edits"), (65535, "chain"), (1000, "circular"), (65535, "circular")):
+    for count, what in (
+        (1000, "edits"), (65535, "edits"), (65535, "chain"), (1000, "circular"), (65535, "circular"), (65535, "runs"),
+    ):
         times, most = {}, 0
         for _ in range(EDIT_RUNS):
             with subprocess.Popen([MACHINE, str(count), what], stdout=subprocess.PIPE) as run:
@@ -297,8 +299,8 @@ def edits(_room):
                 _, _, used = os.wait4(run.pid, 0)
                 run.returncode = 0
             most = max(most, used.ru_maxrss)
-            for edit, took in re.findall(r"^(.*): (\d+) ns each", printed, re.M):
-                times.setdefault(edit, []).append(int(took))
+            for edit, took, unit in re.findall(r"^(.*): (\d+) (ns each|ms)", printed, re.M):
+                times.setdefault(edit, []).append(int(took) * (1 if unit == "ns each" else 1_000_000))
         for edit, took in times.items():
             print(f"| {count:,} | {edit} | {statistics.median(took) / 1000:,.1f} | {most / 1024:.0f} |")
 
@@ -328,10 +330,10 @@ def draw(rows):
             y += high
         y += 10
     lines.append(f'<line x1="{left + full}" y1="26" x2="{left + full}" y2="{y}" stroke="#888" stroke-dasharray="4"/>')
-    legend = [("#3465a4", "instructions of ti"), ("#73d216", "wall-clock time of ti")]
+    legend = [("#3465a4", "instructions of ti (shorter is better)"), ("#73d216", "wall-clock time of ti")]
     for at, (colour, what) in enumerate(legend[: 2 if any(row[2] is not None for row in rows) else 1]):
-        lines.append(f'<rect x="{left + 200 * at}" y="{y + 8}" width="12" height="12" fill="{colour}"/>')
-        lines.append(f'<text x="{left + 200 * at + 18}" y="{y + 19}">{what}</text>')
+        lines.append(f'<rect x="{left + 260 * at}" y="{y + 8}" width="12" height="12" fill="{colour}"/>')
+        lines.append(f'<text x="{left + 260 * at + 18}" y="{y + 19}">{what}</text>')
     size = f'width="{left + full + 80}" height="{y + 32}" viewBox="0 0 {left + full + 80} {y + 32}"'
     with open(PICTURE, "w", encoding="utf-8") as file:
         file.write(f'<svg xmlns="http://www.w3.org/2000/svg" {size} font-family="sans-serif" font-size="12">\n')
