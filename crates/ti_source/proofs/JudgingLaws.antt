@@ -1,8 +1,7 @@
 -- Each statement has one verdict, and it is the one that is computed.
-use Rattle.std.proofs.Common.{◌≡◌, ◌≢◌, ℕ, ◌≤◌, Bool, true, false, List, ◌∷◌, cond, Option, Some, Result, Ok, Err, refl, sym, ap, ◌∙◌}
+use Rattle.std.proofs.Common.{◌≡◌, ◌≢◌, ℕ, ◌≤◌, Bool, true, false, List, Some, Result, Ok, Err, refl, sym, ap, ◌∙◌}
 use Rattle.ti_caps.specs.Tables.{Capability, capability_named}
 use Rattle.ti_caps.specs.declared.capability.Kind.TheVariants as kind
-use Rattle.ti_source.specs.declared.numbers.NumberError.{NumberError}
 use Rattle.ti_spelling.specs.declared.spelling.UnescapeError.{UnescapeError}
 use Rattle.ti_spelling.specs.declared.spelling.UnescapeError.TheVariants.{BadOctal, BadControl, BadByte, Memory}
 use Rattle.ti_spelling.specs.Spelling.{Spells, SpellsAs, IsCauseOf}
@@ -11,8 +10,8 @@ use Rattle.ti_spelling.proofs.SpellingLaws.{spells_unescaped, fails_unescaped, u
 use Rattle.ti_text.specs.Limits.{number_max}
 use Rattle.ti_source.specs.Numbers.{IsNumeral}
 use Rattle.ti_source.specs.Items.{Claim, claims_flag, claims_number, claims_text, claims_cancel, without_outer_space}
-use Rattle.ti_source.specs.Reading.{Said, said_flag, said_number, said_text, said_cancel, said_import}
-use Rattle.ti_source.specs.Verdicts.{Verdict, accepted, is_import, ReadClaim, reads_flag, reads_number, reads_text, reads_cancel, IsReadAs, flag_read, number_read_as, text_read_as, cancel_read, number_verdict, text_verdict, fitting_verdict, named_verdict, verdict_on, Judges}
+use Rattle.ti_source.specs.Reading.{said_flag, said_number, said_text, said_cancel, said_import}
+use Rattle.ti_source.specs.Verdicts.{Verdict, accepted, is_import, ReadClaim, reads_flag, reads_number, reads_text, reads_cancel, IsReadAs, flag_read, number_read_as, text_read_as, cancel_read, fitting_verdict, verdict_on, Judges}
 use Rattle.ti_source.specs.inside.Verdicts.{read_claim, verdict_of}
 use Rattle.ti_source.proofs.NumberLemmas.{each_text, one_reading as one_number}
 

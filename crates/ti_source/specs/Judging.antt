@@ -1,5 +1,5 @@
 -- How the names field and each item of a block are judged, and the reading that this makes (terminfo(5); X/Open Curses Issue 7, "Terminfo Source Format").
-use Rattle.std.specs.Prelude.{◌≡◌, ℕ, ◌+◌, nat_lt, if◌then◌else◌, List, [], ◌∷◌, ◌++◌, length, Option, Some, None}
+use Rattle.std.specs.Prelude.{ℕ, ◌+◌, nat_lt, if◌then◌else◌, List, [], ◌∷◌, ◌++◌, length, Option, Some, None}
 use Rattle.ti_text.specs.Limits.{names_max}
 use Rattle.ti_source.specs.declared.code.Code.TheVariants as code
 use Rattle.ti_source.specs.Folding.{PlacedByte}

@@ -1,6 +1,6 @@
 -- The lookup names of a names field, computed, and the law that they are those of `Header` (own).
 use Rattle.ti_text.specs.Ascii as ascii
-use Rattle.std.specs.Prelude.{◌≡◌, ℕ, Bool, not, ◌&&◌, ◌==◌, if◌then◌else◌, List, [], ◌∷◌, length, Option, Some, None}
+use Rattle.std.specs.Prelude.{◌≡◌, ℕ, Bool, not, ◌&&◌, ◌==◌, if◌then◌else◌, List, length, Option, Some, None}
 use Rattle.std.specs.List.{list_all, list_any, slice_split}
 use Rattle.ti_source.specs.Header.{ReadsNames, is_lookup_name, lookup_parts}
 

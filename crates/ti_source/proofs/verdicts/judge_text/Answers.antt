@@ -1,4 +1,4 @@
-use Rattle.std.proofs.Common.{◌≡◌, ◌≢◌, refl, rules, tests}
+use Rattle.std.proofs.Common.{◌≢◌, refl, rules, tests}
 use Rattle.ti_spelling.specs.declared.spelling.UnescapeError.TheVariants.{Memory}
 use Rattle.ti_spelling.proofs.SpellingLaws.{spells_unescaped}
 use Rattle.ti_source.proofs.JudgingLaws.{caused}
