@@ -6,7 +6,6 @@ use Rattle.ti_caps.specs.declared.capability.Kind.{Kind}
 use Rattle.ti_caps.specs.declared.capability.Kind.TheVariants.{Flag, Number, Text}
 use Rattle.ti_source.specs.declared.code.Code.{Code}
 use Rattle.ti_source.specs.declared.code.Code.TheVariants as code
-use Rattle.ti_spelling.specs.declared.spelling.UnescapeError.{UnescapeError}
 use Rattle.ti_source.specs.declared.numbers.NumberError.{NumberError}
 use Rattle.ti_source.specs.declared.numbers.NumberError.TheVariants.{Bad, TooLarge}
 use Rattle.ti_source.specs.Folding.{PlacedByte}
@@ -40,10 +39,6 @@ odd_other : (c : Capability) (text : List ℕ) (odd : Bool) → is_other (code_b
 odd_other c text true = refl
 odd_other c text false = refl
 
-text_other : (c : Capability) (found : Result (List ℕ × Bool) UnescapeError) → is_other (code_by (text_verdict c found)) ≡ false
-text_other c (Ok found) = odd_other c found.0 found.1
-text_other c (Err cause) = refl
-
 fitting_other : (c : Capability) (claim : ReadClaim) (k : Kind) → is_other (code_by (fitting_verdict c claim k)) ≡ false
 fitting_other c reads_flag Flag = refl
 fitting_other c reads_flag Number = refl
@@ -53,7 +48,8 @@ fitting_other c (reads_number read) Number = number_other c read
 fitting_other c (reads_number read) Text = refl
 fitting_other c (reads_text value found) Flag = refl
 fitting_other c (reads_text value found) Number = refl
-fitting_other c (reads_text value found) Text = text_other c found
+fitting_other c (reads_text value found) Text =
+    elim found as (λ r. is_other (code_by (text_verdict c r)) ≡ false) [ Ok text ↦ odd_other c text.0 text.1 | Err cause ↦ refl ]
 fitting_other c reads_cancel k = refl
 
 named_other : (claim : ReadClaim) (o : Option Capability) → is_other (code_by (named_verdict claim o)) ≡ false

@@ -9,7 +9,6 @@ use Rattle.ti_caps.specs.declared.capability.Kind.{Kind}
 use Rattle.ti_caps.specs.declared.capability.Kind.TheVariants.{Flag, Number, Text}
 use Rattle.ti_source.specs.declared.code.Code.{Code}
 use Rattle.ti_source.specs.declared.code.Code.TheVariants as code
-use Rattle.ti_spelling.specs.declared.spelling.UnescapeError.{UnescapeError}
 use Rattle.ti_source.specs.declared.numbers.NumberError.{NumberError}
 use Rattle.ti_source.specs.declared.numbers.NumberError.TheVariants.{Bad, TooLarge}
 use Rattle.ti_source.specs.Folding.{PlacedByte}
@@ -44,10 +43,6 @@ odd_no_use : (c : Capability) (text : List ℕ) (odd : Bool) → uses_name (said
 odd_no_use c text true = refl
 odd_no_use c text false = refl
 
-text_no_use : (c : Capability) (found : Result (List ℕ × Bool) UnescapeError) → uses_name (said_by (text_verdict c found)) ≡ false
-text_no_use c (Ok found) = odd_no_use c found.0 found.1
-text_no_use c (Err cause) = refl
-
 fitting_no_use : (c : Capability) (claim : ReadClaim) (k : Kind) → uses_name (said_by (fitting_verdict c claim k)) ≡ false
 fitting_no_use c reads_flag Flag = refl
 fitting_no_use c reads_flag Number = refl
@@ -57,7 +52,8 @@ fitting_no_use c (reads_number read) Number = number_no_use c read
 fitting_no_use c (reads_number read) Text = refl
 fitting_no_use c (reads_text value found) Flag = refl
 fitting_no_use c (reads_text value found) Number = refl
-fitting_no_use c (reads_text value found) Text = text_no_use c found
+fitting_no_use c (reads_text value found) Text =
+    elim found as (λ r. uses_name (said_by (text_verdict c r)) ≡ false) [ Ok text ↦ odd_no_use c text.0 text.1 | Err cause ↦ refl ]
 fitting_no_use c reads_cancel k = refl
 
 named_no_use : (claim : ReadClaim) (o : Option Capability) → uses_name (said_by (named_verdict claim o)) ≡ false
