@@ -4,4 +4,5 @@ pub mod Image
 pub mod Reading
 pub mod inside
 pub mod View
+pub mod ViewParts
 pub mod Laws
