@@ -2,10 +2,10 @@ use Rattle.std.proofs.Common.{◌≡◌, false, take}
 use Rattle.std.specs.List.{fold}
 use Rattle.clap.specs.Words.{app_of}
 use Rattle.clap.specs.declared.builder.Command.TheViews.{out-Command as fields_of}
-use Rattle.ti_commands.specs.inside.Commands.{with_tool}
-use Rattle.ti_commands.proofs.commands.with_tools.Given as goal
+use Rattle.ti_commands.specs.inside.Commands.{program_app, with_tool}
+use Rattle.ti_commands.proofs.commands.program_of.Given as goal
 
 -- the tools before are subcommands
 abbrev pub invariant-loop-tool : goal.invariant-loop-tool
-invariant-loop-tool l = (app_of l.program ≡ fold with_tool (app_of l.initial.program) (take l.tool-index l.tools))
+invariant-loop-tool l = (app_of l.program ≡ fold with_tool program_app (take l.tool-index l.tools))
     × ((fields_of l.program).has_globals ≡ false)
