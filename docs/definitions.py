@@ -13,6 +13,9 @@ import re
 import sys
 
 TOP = os.path.dirname(os.path.dirname(os.path.abspath(__file__)))
+sys.path.insert(0, os.path.join(TOP, "build"))
+from crates import read_crates  # noqa: E402
+
 PAGE = os.path.join(TOP, "docs", "DEFINITIONS.md")
 HEAD = """# Definitions
 
@@ -149,11 +152,6 @@ def contracts(crate):
     return found
 
 
-def crates_in_order():
-    with open(os.path.join(TOP, "crates.txt"), encoding="utf-8") as file:
-        return [it.split(":")[0].split()[0] for it in file if it.strip() and not it.startswith("#")]
-
-
 def files_of(crate):
     """The files of a crate's definitions, by name; those of the folder inside/ come last."""
     found = []
@@ -168,7 +166,7 @@ def files_of(crate):
 def homes():
     """Where a name that a file makes public for another one is defined, by file and name."""
     given = {}
-    for crate in crates_in_order():
+    for crate in read_crates():
         for name, path in files_of(crate):
             text = "\n".join(lines_of(path))
             for of, words in re.findall(r"^pub use Rattle\.(\w+\.specs\.[\w.]+)\.\{([^}]*)\}", text, re.M):
@@ -188,7 +186,7 @@ def in_order(section):
 
 
 def page():
-    order = crates_in_order()
+    order = list(read_crates())
     users, given = {}, homes()
     for crate in order:
         for call, cited in contracts(crate):
