@@ -3,7 +3,8 @@
 #   make            builds the program (proving every crate that it stands on)
 #   make test       the merge gate and the black-box cases: what CI runs
 #   make cli        the black-box cases alone, on the built program
-#   make package    whether pages, completions and install are in order
+#   make integration  the program with editors, and with programs in a terminal
+#   make package    whether pages, completions, install and packages are in order
 #   make hostile    malicious inputs of full size, and 20,000 made at random
 #   make wrong-bodies   the further wrong bodies, which the prover must refuse too
 #   make library    builds the C library: libti.a, libti.so.1 and ti.pc
@@ -15,6 +16,9 @@
 #                   LIBDIR and INCLUDEDIR
 #   make uninstall  takes all of that away again
 #   make dist       makes ti-VERSION.tar.gz of the last commit, which builds
+#   make deb        makes Debian packages of the built program, in packages/
+#   make release    makes archives of the built program and of the source, in packages/
+#   make reproduce  builds two clones of the last commit, and compares what they give
 
 PREFIX ?= /usr/local
 BINDIR ?= $(PREFIX)/bin
@@ -25,7 +29,7 @@ FISHDIR ?= $(PREFIX)/share/fish/vendor_completions.d
 EXAMPLESDIR ?= $(PREFIX)/share/doc/ti/examples
 LIBDIR ?= $(PREFIX)/lib
 INCLUDEDIR ?= $(PREFIX)/include
-VERSION ?= $(shell git log -1 --format=%cd --date=format:%Y%m%d 2>/dev/null || echo 0)
+VERSION := $(shell cat VERSION)
 
 PROGRAM = crates/ti/out/ti
 EXAMPLES = $(wildcard examples/*)
@@ -36,8 +40,8 @@ LIBRARY_FILES = $(INCLUDEDIR)/ti.h $(LIBDIR)/libti.a $(LIBDIR)/libti.so.1 $(LIBD
 	$(LIBDIR)/pkgconfig/ti.pc $(MANDIR)/man3/ti.3
 PC_VALUES = -e 's|@PREFIX@|$(PREFIX)|' -e 's|@LIBDIR@|$(LIBDIR)|' -e 's|@INCLUDEDIR@|$(INCLUDEDIR)|'
 
-.PHONY: all test cli package hostile wrong-bodies library bench
-.PHONY: install install-library uninstall uninstall-library dist
+.PHONY: all test cli integration package hostile wrong-bodies library bench
+.PHONY: install install-library uninstall uninstall-library dist deb release reproduce
 
 all:
 	./ti --help >/dev/null
@@ -47,6 +51,9 @@ test:
 
 cli: all
 	python3 tests/cli/run.py
+
+integration: all
+	python3 tests/integration/run.py
 
 package: all
 	python3 tests/package/run.py
@@ -118,3 +125,12 @@ uninstall-library:
 dist:
 	git archive --format=tar.gz --prefix=ti-$(VERSION)/ -o ti-$(VERSION).tar.gz HEAD
 	@echo ti-$(VERSION).tar.gz
+
+deb: all
+	python3 build/packages.py deb
+
+release: all
+	python3 build/packages.py release
+
+reproduce:
+	build/reproduce

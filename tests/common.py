@@ -5,7 +5,8 @@ import shutil
 import sys
 
 TOP = os.path.dirname(os.path.dirname(os.path.abspath(__file__)))
-sys.path.insert(0, os.path.join(TOP, "build"))
+# after the directories of tests, one of which also has a module `packages`
+sys.path.append(os.path.join(TOP, "build"))
 
 
 class Skipped(Exception):

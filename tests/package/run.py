@@ -8,10 +8,17 @@ options      the options and commands of pages, help and completions are one set
 bash, fish, zsh
              the shell gives the candidates that are wanted
 pages        the pages are clean under `mandoc -T lint`, and each says what a page is to say
+markdown     the links of pages lead to files, lines keep to the width, and the picture of the
+             crates is that of crates.txt
 readme       the first command of README, as it stands there, writes what is said of it, and the
              second is what CI runs
 install      what `make install` puts into a directory runs from there, and `make uninstall`
              takes all of it away
+version      help, pages, changes and the library's header have the version of the file VERSION
+deb          the Debian packages are the same each time, run unpacked, and please lintian
+deb-in-chroot
+             the package installs, runs, and is removed and purged, in a system that debootstrap makes
+release      the archives of a release are the same each time; install.sh installs what runs
 tarball      `make dist` makes a tarball of every file of the commit
 tarball-builds
              the program is built from that tarball, every proof anew: some 12 minutes
@@ -29,6 +36,7 @@ import sys
 import building
 import completions
 import installing
+import packages
 import pages
 import shared  # noqa: F401, puts the directory of `common` on the path
 from common import PROGRAM, Skipped, Tally, is_missing
@@ -39,16 +47,21 @@ CHECKS = {
     "fish": completions.check_fish,
     "zsh": completions.check_zsh,
     "pages": pages.check_pages,
+    "markdown": pages.check_markdown,
     "readme": pages.check_readme,
     "install": installing.check_install,
+    "version": packages.check_version,
+    "deb": packages.check_deb,
+    "deb-in-chroot": packages.check_deb_in_chroot,
+    "release": packages.check_release,
     "tarball": installing.check_tarball,
     "tarball-builds": installing.check_tarball_builds,
     "build": building.check_build,
     "small-build": building.check_small_build,
 }
 # these look at the repository alone, and not at the built program
-WITHOUT_PROGRAM = {"tarball", "tarball-builds", "build", "small-build"}
-EXPECTED = (subprocess.SubprocessError, OSError, IndexError, KeyError, TypeError)
+WITHOUT_PROGRAM = {"markdown", "pages", "tarball", "tarball-builds", "build", "small-build"}
+EXPECTED = (subprocess.SubprocessError, OSError, IndexError, KeyError, TypeError, StopIteration)
 
 
 def main():

@@ -9,8 +9,7 @@ use Rattle.ti_source.specs.Header.{IsLookupName, IsNameByte}
 use Rattle.ti_source.specs.Parsing.{HasReading, Parses, ReadsHeader, bad_header, good_header, long_header, reading_of_text}
 use Rattle.ti_source.specs.Reading.{ReadFault, Reading}
 use Rattle.ti_meaning.specs.Compiled.{compiled}
-use Rattle.ti_meaning.specs.Owner.{is_among, readings}
-use Rattle.ti_meaning.specs.inside.Reaching.{is_owner}
+use Rattle.ti_meaning.specs.Owner.{is_among, readings, is_owner}
 use Rattle.ti_meaning.specs.Faults.{distinct_after}
 use Rattle.ti_devices.specs.Tree.{FileAt}
 use Rattle.ti_tools.specs.inside.EntryFiles.{IsAsciiName}
