@@ -1,7 +1,5 @@
 -- What a call says of the bytes that it wrote (own).
-use Rattle.std.specs.Prelude.{◌≡◌, ◌<◌, ◌++◌, ℕ, List, drop, length}
-use Rattle.ti_c.specs.declared.answers.Outcome.{Outcome}
-use Rattle.ti_c.specs.declared.answers.TheConstants.{OK, NO_ROOM}
+use Rattle.std.specs.Prelude.{◌≡◌, ◌++◌, ℕ, List, drop, length}
 
 -- the bytes stand at the front of the room, and what stood behind them is as it was
 abbrev pub IsWritten : List ℕ → List ℕ → List ℕ → Type 0

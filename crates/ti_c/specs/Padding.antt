@@ -1,5 +1,5 @@
 -- The line to a terminal as C has it, and what padding answers: terminfo(5), "Delays and Padding".
-use Rattle.std.specs.Prelude.{◌≡◌, ◌<◌, ℕ, List, length, if◌then◌else◌, Option, Some, None, Bool, true, false}
+use Rattle.std.specs.Prelude.{◌≡◌, ◌<◌, ℕ, List, length, if◌then◌else◌, Option, Some, None}
 use Rattle.ti_printing.specs.declared.padding.Line.{Line}
 use Rattle.ti_printing.specs.Padding.{with_pad_bytes}
 use Rattle.ti_c.specs.Answers.{IsWritten}

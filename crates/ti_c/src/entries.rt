@@ -164,11 +164,7 @@ fn copied(alloc: Global, bytes: &[u8]) -> Result<Box<Entry<'static>>, u32>
 /// Reads an entry of a copy of the bytes, which C gives back with `ti_entry_free`. The answer is 0, the number of the first
 /// refusal that holds, or 9 where memory was refused; where it is not 0, `entry` is as it was.
 #[unsafe(no_mangle)]
-pub extern "C" fn ti_entry_new(
-    alloc: Global,
-    bytes: &[u8],
-    entry: &mut *mut Entry<'static>,
-) -> u32
+pub extern "C" fn ti_entry_new(alloc: Global, bytes: &[u8], entry: &mut *mut Entry<'static>) -> u32
     ensures { CopyAnswer bytes.now result }
 {
     match copied(alloc, bytes) {

@@ -21,7 +21,10 @@ mod places;
 
 pub use answers::Outcome;
 pub use capabilities::{Place, ti_capability, ti_name};
-pub use entries::{ti_entry_new, ti_entry_read, ti_first_name, ti_flag, ti_long_name, ti_names, ti_number, ti_string};
+pub use entries::{
+    ti_entry_new, ti_entry_read, ti_first_name, ti_flag, ti_long_name, ti_names, ti_number,
+    ti_string,
+};
 pub use entry::Entry;
 pub use expanding::{Parameter, Variables, ti_expand};
 pub use padding::{TerminalLine, ti_line, ti_pad};

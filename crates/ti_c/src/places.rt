@@ -34,7 +34,7 @@ fn colon_count(dirs: &[u8]) -> usize
 }
 
 // The directory that the part at a place of TERMINFO_DIRS names.
-#[tactic(auto, using(crate::proofs::Directories::listed-at))]
+#[tactic(auto, using(crate::proofs::Directories::listed_at_index))]
 fn listed_at(dirs: &[u8], index: usize) -> Option<&[u8]>
     ensures { option_copied result ≡ slice_get (listed_places (Some dirs.now)) index }
 {
@@ -46,7 +46,7 @@ fn listed_at(dirs: &[u8], index: usize) -> Option<&[u8]>
 }
 
 // How many directories TERMINFO_DIRS names.
-#[tactic(auto, using(crate::proofs::Directories::listed-length))]
+#[tactic(auto, using(crate::proofs::Directories::listed_length))]
 fn listed_count(dirs: &[u8]) -> usize
     ensures { result ≡ length (listed_places (Some dirs.now)) }
 {
