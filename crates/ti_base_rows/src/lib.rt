@@ -10,7 +10,7 @@
 //! - `reports`: what is said of a source, and where
 //! - `circular`: blocks that use one another
 //! - `runs`: runs of edits
-//! - `loading`: sources taken in one go
+//! - `insertions`: sources made by a run of insertions
 //! - `plans`: the plans of small lists
 #![tactic(auto)]
 
@@ -19,9 +19,9 @@ mod circular;
 #[cfg(test)]
 mod dependents;
 #[cfg(test)]
-mod limits;
+mod insertions;
 #[cfg(test)]
-mod loading;
+mod limits;
 #[cfg(test)]
 mod numbers;
 #[cfg(test)]

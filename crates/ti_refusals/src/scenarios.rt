@@ -1,7 +1,7 @@
 //! The scenarios, and their names.
 use crate::{calls, entries, listings, scripts, strings, tools};
 use std::alloc::Global;
-use ti_tried_edits::blocks::{circular_edits, moved_names, moves, owners, three};
+use ti_tried_edits::blocks::{circular_edits, insertions, moved_names, moves, owners, three};
 use ti_tried_edits::many::Many;
 use ti_tried_edits::{Tried, Trouble, edits, many, wholes};
 
@@ -20,7 +20,7 @@ pub enum Scenario {
     RunMoves,
     RunMovedNames,
     RunLimit,
-    Load,
+    RunInsertions,
     Reports,
     Source,
     Table,
@@ -57,7 +57,7 @@ impl Scenario {
         (Scenario::RunMoves, "run-that-moves"),
         (Scenario::RunMovedNames, "run-that-moves-names"),
         (Scenario::RunLimit, "run-at-the-limit"),
-        (Scenario::Load, "load"),
+        (Scenario::RunInsertions, "run-of-insertions"),
         (Scenario::Reports, "reports"),
         (Scenario::Source, "source"),
         (Scenario::Table, "table"),
@@ -97,7 +97,7 @@ impl Scenario {
             Scenario::RunMoves => wholes::run_all(alloc, &moves()),
             Scenario::RunMovedNames => wholes::run_all(alloc, &moved_names()),
             Scenario::RunLimit => wholes::run_at_limit(alloc),
-            Scenario::Load => wholes::load(alloc),
+            Scenario::RunInsertions => wholes::run_all(alloc, &insertions()),
             Scenario::Reports => calls::reports(alloc),
             Scenario::Source => calls::source(alloc),
             Scenario::Table => entries::table(alloc),
