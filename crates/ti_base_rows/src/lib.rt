@@ -5,11 +5,10 @@
 //! - `steps`: the steps that a source is led through, for the rows below
 //! - `dependents`: sources of many blocks that use one another
 //! - `limits`: what is refused, and the largest blocks and entries
-//! - `numbers`: numbers, from the source to the bytes of the entry
 //! - `owners`: whose name a use means
 //! - `reports`: what is said of a source, and where
 //! - `circular`: blocks that use one another
-//! - `runs`: runs of edits
+//! - `runs`: a run of edits
 //! - `insertions`: sources made by a run of insertions
 //! - `plans`: the plans of small lists
 #![tactic(auto)]
@@ -22,8 +21,6 @@ mod dependents;
 mod insertions;
 #[cfg(test)]
 mod limits;
-#[cfg(test)]
-mod numbers;
 #[cfg(test)]
 mod owners;
 #[cfg(test)]
