@@ -13,7 +13,8 @@ use Rattle.ti_layout.proofs.Below.{get_or-below, length-below}
 use Rattle.ti_layout.proofs.Whole.{length-part}
 use Rattle.ti_layout.proofs.Sizes.{length-image}
 use Rattle.ti_compiled.specs.inside.Changes.{flag_content}
-use Rattle.ti_compiled.specs.Image.{names_in, contents_in, with_content, IsImage}
+use Rattle.ti_compiled.specs.Image.{with_content}
+use Rattle.ti_compiled.specs.inside.Image.{names_in, contents_in, IsImage}
 use Rattle.ti_compiled.proofs.Counted.{count-put, count-kept, count-down}
 use Rattle.ti_compiled.proofs.Given.{given_here, given_place}
 use Rattle.ti_compiled.proofs.Heading.{found_in}

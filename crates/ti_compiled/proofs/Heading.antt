@@ -11,7 +11,7 @@ use Rattle.ti_layout.proofs.Below.{length-below}
 use Rattle.ti_layout.proofs.ImageReading.{Sound, sections-sound, counts}
 use Rattle.ti_layout.proofs.Parts.{Found, found}
 use Rattle.ti_layout.proofs.Sizes.{strings_small}
-use Rattle.ti_compiled.specs.Image.{names_in, contents_in, IsImaged, IsImage}
+use Rattle.ti_compiled.specs.inside.Image.{names_in, contents_in, IsImaged, IsImage}
 use Rattle.ti_layout.specs.inside.Sections.{IsHeaderAt}
 
 pub found_image : (names : List ℕ) (c : Contents) → IsImaged names c → Found (image names c) (format_of c) (sections_of (format_of c) names c)

@@ -13,7 +13,7 @@ use Rattle.ti_layout.proofs.Assembling.{header_written}
 use Rattle.ti_layout.proofs.Below.{length-below, get_or-below, last_passing-is}
 use Rattle.ti_layout.proofs.Spelled.{length-spelled, spelled-append, spelled-one}
 use Rattle.ti_compiled.specs.inside.Changes.{number_content, wide_value, with_number, HasNumbers}
-use Rattle.ti_compiled.specs.Image.{names_in, contents_in, IsImage}
+use Rattle.ti_compiled.specs.inside.Image.{names_in, contents_in, IsImage}
 use Rattle.ti_compiled.specs.inside.Bytes.{Replaces, with_length}
 use Rattle.ti_compiled.proofs.FlagPlaces.{length_sized}
 use Rattle.ti_compiled.proofs.Given.{given_here, given_place}

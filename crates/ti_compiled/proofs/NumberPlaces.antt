@@ -16,7 +16,7 @@ use Rattle.ti_layout.specs.Values.{Content, content_true, content_number, conten
 use Rattle.ti_layout.proofs.Below.{length-below, below-none, below-filled, below-same}
 use Rattle.ti_layout.proofs.ImageReading.{number-plain}
 use Rattle.ti_compiled.specs.inside.Changes.{wide_value}
-use Rattle.ti_compiled.specs.Image.{names_in, contents_in, IsImage}
+use Rattle.ti_compiled.specs.inside.Image.{names_in, contents_in, IsImage}
 use Rattle.ti_compiled.proofs.FlagPlaces.{length_sized}
 use Rattle.ti_compiled.proofs.Given.{nothing_past}
 use Rattle.ti_compiled.proofs.Moving.{mixed, mixed_low, mixed_high, mixed_more}

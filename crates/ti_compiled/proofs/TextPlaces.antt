@@ -17,7 +17,7 @@ use Rattle.ti_layout.proofs.Parts.{length-header}
 use Rattle.ti_layout.proofs.Sizes.{strings_small}
 use Rattle.ti_layout.proofs.Spelled.{length-spelled}
 use Rattle.ti_layout.proofs.Texts.{texts-skipped, length-texts-le}
-use Rattle.ti_compiled.specs.Image.{names_in, contents_in, IsImaged, IsImage}
+use Rattle.ti_compiled.specs.inside.Image.{names_in, contents_in, IsImaged, IsImage}
 use Rattle.ti_compiled.proofs.FlagPlaces.{length_sized}
 use Rattle.ti_compiled.proofs.Given.{HoldsNoOther, nothing_past}
 use Rattle.ti_compiled.proofs.Numbering.{place-get}

@@ -15,7 +15,8 @@ use Rattle.ti_layout.proofs.Below.{below-same}
 use Rattle.ti_layout.proofs.Spelled.{length-spelled}
 use Rattle.ti_layout.proofs.Below.{length-below}
 use Rattle.ti_compiled.specs.inside.Changes.{text_content}
-use Rattle.ti_compiled.specs.Image.{names_in, contents_in, with_content, IsImage}
+use Rattle.ti_compiled.specs.Image.{with_content}
+use Rattle.ti_compiled.specs.inside.Image.{names_in, contents_in, IsImage}
 use Rattle.ti_compiled.specs.inside.Bytes.{Replaces, with_length, offset_after, moved_later, ended_text}
 use Rattle.ti_compiled.proofs.Moving.{moved_absent, moved_there, later_before, later_from}
 use Rattle.ti_compiled.proofs.Numbering.{resized-spelled}

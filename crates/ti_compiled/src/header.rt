@@ -7,7 +7,7 @@ ghost use Rattle.ti_layout.specs.Layout as layout;
 ghost use Rattle.ti_layout.specs.Layout.{FitsTwoBytes, number_bytes};
 ghost use Rattle.ti_layout.specs.Writing.{HasSizes};
 ghost use Rattle.ti_layout.specs.Values.{Contents, HasNoNul};
-ghost use Rattle.ti_compiled.specs.Image.{names_in, contents_in, IsImage};
+ghost use Rattle.ti_compiled.specs.inside.Image.{names_in, contents_in, IsImage};
 ghost use Rattle.ti_layout.specs.inside.Sections.{IsHeaderAt};
 ghost use Rattle.ti_compiled.specs.inside.Bytes.{Replaces};
 

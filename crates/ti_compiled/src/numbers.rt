@@ -9,9 +9,8 @@ ghost use Rattle.ti_layout.specs.Layout as layout;
 ghost use Rattle.ti_layout.specs.Layout.{FitsTwoBytes, number_section, number_bytes};
 ghost use Rattle.ti_layout.specs.Writing.{HasSizes};
 ghost use Rattle.ti_layout.specs.Values.{Contents};
-ghost use Rattle.ti_compiled.specs.Changes.{image_with, FitsWith, IsOverWith};
-ghost use Rattle.ti_compiled.specs.inside.Changes.{number_content, wide_value, with_number, HasNumbers};
-ghost use Rattle.ti_compiled.specs.Image.{names_in, contents_in, IsImage};
+ghost use Rattle.ti_compiled.specs.inside.Changes.{image_with, BytesFitWith, BytesAreOverWith, number_content, wide_value, with_number, HasNumbers};
+ghost use Rattle.ti_compiled.specs.inside.Image.{names_in, contents_in, IsImage};
 ghost use Rattle.ti_compiled.specs.inside.Bytes.{Replaces};
 
 use crate::bytes::{overwrite, resize_part};
@@ -149,7 +148,7 @@ fn change_numbers(bytes: &mut Vec<u8>, old: &Header, new: &Header, values: &[u32
         ≤ vec_capacity bytes.old + layout.width old.now.format * old.now.numbers }
     ensures { (i : ℕ) (n : Option ℕ) → i < count_of Number → HasSizes (names_in bytes.old.items) (with_number bytes.old.items i n) new.now
         → values.now ≡ below (wide_value (with_number bytes.old.items i n)) (count_of Number)
-        → FitsWith bytes.old.items (capability Number i) (number_content n)
+        → BytesFitWith bytes.old.items (capability Number i) (number_content n)
         → bytes.new.items ≡ image_with bytes.old.items (capability Number i) (number_content n) }
 {
     let place = numbers_place(old);
@@ -169,9 +168,9 @@ pub fn set_number(bytes: &mut Vec<u8>, index: usize, number: Option<u32>) -> Res
     requires index { index < count_of Number }
     requires fits { IfSome number (λ n. n ≤ number_max) }
     ensures ok { OnOk result (bytes.new.items ≡ image_with bytes.old.items (capability Number index) (number_content number)) }
-    ensures within { OnOk result (FitsWith bytes.old.items (capability Number index) (number_content number)) }
-    ensures too_large { IsErrOf result WriteError.TooLarge ↔ IsOverWith bytes.old.items (capability Number index) (number_content number) }
-    ensures memory { IsErrOf result WriteError.Memory → FitsWith bytes.old.items (capability Number index) (number_content number) }
+    ensures within { OnOk result (BytesFitWith bytes.old.items (capability Number index) (number_content number)) }
+    ensures too_large { IsErrOf result WriteError.TooLarge ↔ BytesAreOverWith bytes.old.items (capability Number index) (number_content number) }
+    ensures memory { IsErrOf result WriteError.Memory → BytesFitWith bytes.old.items (capability Number index) (number_content number) }
     ensures names_fit { IsErrOf result WriteError.NamesTooLong → ⊥ }
     ensures err { OnErr result (bytes.new.items ≡ bytes.old.items) }
 {

@@ -117,7 +117,7 @@ fn texts_come_and_go(rt: HostRuntime) -> Result<(), WriteError> {
     expect_steps(&rt, rt.alloc(), &mut image, &TEXTS_COME);
     expect_bytes(&rt, &image, 14, b"\0\0\x03\0");
     expect_bytes(&rt, &image, 272, b"\x05\0");
-    let copy = image.copy(rt.alloc())?;
+    let copy = image.copy()?;
     expect_steps(&rt, rt.alloc(), &mut image, &TEXT_GOES);
     assert_eq!(rt; copy.bytes().len(), 281);
     Ok(())
@@ -132,7 +132,7 @@ const FLAG_AND_TEXT: [Step<'static>; 2] = [
 /// A text that makes the entry too large is refused, and leaves the image.
 fn expect_too_large(rt: &impl Abort, alloc: Global, image: &mut Image) -> Result<(), AllocError> {
     let long = vec![in alloc; b'A'; 4078]?;
-    let before = image.copy(alloc)?;
+    let before = image.copy()?;
     let answer = give_text(image, alloc, 0, &long);
     assert!(rt; answer == Some(Err(WriteError::TooLarge)));
     assert!(rt; image.bytes() == before.bytes());
@@ -169,7 +169,7 @@ fn patch_between(alloc: Global, old: &Table, new: &Table) -> Result<Image, Write
     if names.is_empty() || !has_no_nul(names) {
         return Err(WriteError::NamesTooLong);
     }
-    Image::new(alloc, names, old)?.patch(alloc, old, new)
+    Image::new(alloc, names, old)?.patch(old, new)
 }
 
 // Whether a patched image has these bytes, and the names.

@@ -125,7 +125,7 @@ pub fn image(alloc: Global) -> Result<Tried, Trouble> {
         }
         tried.add(image.bytes());
     }
-    let Ok(copy) = again!(tried, AllocError => image.copy(alloc)) else {
+    let Ok(copy) = again!(tried, AllocError => image.copy()) else {
         return Err(Trouble::Wrong("Image::copy"));
     };
     tried.add(copy.bytes());

@@ -2,6 +2,7 @@ pub mod Numbers
 pub mod Rows
 pub mod LongNames
 pub mod Named
+pub mod Padded
 pub mod Parting
 pub mod Replying
 pub mod Terminals
