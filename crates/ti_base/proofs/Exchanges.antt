@@ -226,7 +226,7 @@ inserted old new at slot h sound l e = record {
   texts = texts_seen new ∙ (ap (map text_seen) e ∙ (map-insert text_seen (slots_of old) at (Some slot) ∙ ap (λ ts. insert ts at slot.text.items) (sym (texts_seen old))));
 }
 
-insert-set : {X : Type 0} (xs : List X) (at : ℕ) (x : X) → at < length xs → insert (remove xs at) at x ≡ set xs at x
+pub insert-set : {X : Type 0} (xs : List X) (at : ℕ) (x : X) → at < length xs → insert (remove xs at) at x ≡ set xs at x
 insert-set [] at x l = absurd (omega arith)
 insert-set (y ∷ ys) zero x l = refl
 insert-set (y ∷ ys) (suc at) x l = ap (λ zs. y ∷ zs) (insert-set ys at x (omega arith))

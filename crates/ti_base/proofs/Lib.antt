@@ -9,5 +9,4 @@ pub mod Naming
 pub mod KeptFaults
 pub mod SlotFaults
 pub mod SlotEntries
-pub mod TakenTexts
-pub mod LoadRefusals
+pub mod ReadSlots

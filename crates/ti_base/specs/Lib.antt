@@ -4,5 +4,4 @@ pub use Rattle.ti_meaning.specs.Compiled
 pub use Rattle.ti_meaning.specs.Faults
 pub use Rattle.ti_meaning.specs.Report
 pub use Rattle.ti_meaning.specs.Edits
-pub mod Loading
 pub mod inside

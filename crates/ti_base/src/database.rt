@@ -1,21 +1,19 @@
 // The edited source: its blocks under stable ids, with what was found out about each.
-ghost use Rattle.std.specs.Prelude.{◌≡◌, ◌<◌, ◌≤◌, [], length, map, slice_get, Some, option_map, IfOk, IfErr, OnOk};
+ghost use Rattle.std.specs.Prelude.{◌≡◌, ◌<◌, ◌≤◌, [], length, map, slice_get, Some, option_map, vec_capacity, IfOk};
 ghost use Rattle.std.specs.Rc.{rc_slice_items};
-ghost use Rattle.ti_base.specs.Loading.{AreTaken, IsLoadError};
 ghost use Rattle.ti_meaning.specs.Edits.{EditRun, change_of};
 
 use crate::faults::source_faults;
-use crate::loading::load_slots;
+use crate::growing::run_at_once;
+use crate::judging::judge;
 use crate::owners::{find_owner, slot_of};
 use crate::report::write_report;
-use crate::slot_edits::{insert_slot, move_slot, read_with_room, remove_slot, replace_slot};
-use crate::texts::check_text;
+use crate::slot_edits::edit_sound;
 use std::alloc::{AllocError, Global};
 use std::marker::Model;
 use std::rc::RcSlice;
 use ti_meaning::{Edit, EditError, Edited, Fault, Outcome};
 use ti_slots::{Slots, State};
-use ti_text::limits::BLOCKS_MAX;
 
 /// A source of terminal descriptions as a list of blocks, which edits change one by one. It knows
 /// the compiled entry of each block and all faults, which are those of the whole current source
@@ -55,20 +53,6 @@ impl Database {
             alloc,
             slots: Slots::new(alloc),
         }
-    }
-
-    /// The source of these blocks, in their order, made in one go: what inserting each at the end
-    /// gives, in a time that is linear, up to a logarithm, in what the blocks say and in the values
-    /// that they have. The refusals are those of `insert`, of the first block that is refused:
-    /// `TooLong`, `NotOneBlock`, `TooMany`; and `Memory`, at any block and after the last, where a
-    /// growth was refused.
-    pub fn load(alloc: Global, texts: &[&[u8]]) -> Result<Database, EditError>
-        ensures loaded { IfOk result (λ d. d ≡ map (λ text. text.now) texts.now) }
-        ensures taken { OnOk result (AreTaken (map (λ text. text.now) texts.now)) }
-        ensures refused { IfErr result (IsLoadError (map (λ text. text.now) texts.now)) }
-    {
-        let slots = load_slots(alloc, texts)?;
-        Ok(Database { alloc, slots })
     }
 
     /// How many blocks there are.
@@ -160,16 +144,7 @@ impl Database {
         ensures step { EditStep self.old (insertion at text.now) (outcome_of result) self.new }
         ensures rebuilds { IfOk result (λ edited. Rebuilds self.old (insertion at text.now) edited.rebuilt.items edited.work) }
     {
-        if at > self.len() {
-            return Err(EditError::Position);
-        }
-        check_text(text)?;
-        if self.len() >= BLOCKS_MAX {
-            return Err(EditError::TooMany);
-        }
-        let slot = read_with_room(self.alloc, &mut self.slots, text)?;
-        let edited = insert_slot(self.alloc, &mut self.slots, at, slot)?;
-        Ok(edited)
+        self.apply(&Edit::Insert { at, text })
     }
 
     /// Exchanges the block at `at`. The refusals, the first that holds: `Position` where there is
@@ -179,13 +154,7 @@ impl Database {
         ensures step { EditStep self.old (replacement at text.now) (outcome_of result) self.new }
         ensures rebuilds { IfOk result (λ edited. Rebuilds self.old (replacement at text.now) edited.rebuilt.items edited.work) }
     {
-        if at >= self.len() {
-            return Err(EditError::Position);
-        }
-        check_text(text)?;
-        let slot = read_with_room(self.alloc, &mut self.slots, text)?;
-        let edited = replace_slot(self.alloc, &mut self.slots, at, slot)?;
-        Ok(edited)
+        self.apply(&Edit::Replace { at, text })
     }
 
     /// Takes the block at `at` out. The refusals: `Position` where there is no such block, and
@@ -194,11 +163,7 @@ impl Database {
         ensures step { EditStep self.old (removal at) (outcome_of result) self.new }
         ensures rebuilds { IfOk result (λ edited. Rebuilds self.old (removal at) edited.rebuilt.items edited.work) }
     {
-        if at >= self.len() {
-            return Err(EditError::Position);
-        }
-        let edited = remove_slot(self.alloc, &mut self.slots, at)?;
-        Ok(edited)
+        self.apply(&Edit::Remove { at })
     }
 
     /// Moves the block at `from`, so that it then stands at `to`. The refusals: `Position` where no
@@ -208,11 +173,7 @@ impl Database {
         ensures step { EditStep self.old (relocation from to) (outcome_of result) self.new }
         ensures rebuilds { IfOk result (λ edited. Rebuilds self.old (relocation from to) edited.rebuilt.items edited.work) }
     {
-        if from >= self.len() || to >= self.len() {
-            return Err(EditError::Position);
-        }
-        let edited = move_slot(self.alloc, &mut self.slots, from, to)?;
-        Ok(edited)
+        self.apply(&Edit::Relocate { from, to })
     }
 
     /// Makes an edit: `insert`, `replace`, `remove` or `relocate`, with the refusals of that call.
@@ -220,25 +181,40 @@ impl Database {
         ensures step { EditStep self.old (change_of edit.now) (outcome_of result) self.new }
         ensures rebuilds { IfOk result (λ edited. Rebuilds self.old (change_of edit.now) edited.rebuilt.items edited.work) }
     {
-        match *edit {
-            Edit::Insert { at, text } => self.insert(at, text),
-            Edit::Replace { at, text } => self.replace(at, text),
-            Edit::Remove { at } => self.remove(at),
-            Edit::Relocate { from, to } => self.relocate(from, to),
-        }
+        judge(&self.slots, edit)?;
+        let edited = edit_sound(self.alloc, &mut self.slots, edit)?;
+        Ok(edited)
     }
 }
 
-/// Makes the edits in order, beginning with no blocks, and says what came of each: a refused edit
-/// leaves the list, and the next one follows. Memory may be wanting for the outcomes, before the
-/// first edit.
-pub fn run(alloc: Global, edits: &[Edit<'_>]) -> Result<(Database, Vec<Outcome>), AllocError>
-    ensures { IfOk result (λ r. EditRun [] (map change_of edits.now) r.1.items r.0) }
+/// The database that the edits make of no blocks, each made by `apply`, so that what one rebuilds takes
+/// no more memory than it needs.
+fn run_one_by_one(alloc: Global, edits: &[Edit<'_>], outcomes: &mut Vec<Outcome>) -> Database
+    requires empty { outcomes.old.items ≡ [] }
+    requires room { length edits.now ≤ vec_capacity outcomes.old }
+    ensures { EditRun [] (map change_of edits.now) outcomes.new.items result }
 {
-    let mut outcomes = Vec::with_capacity(alloc, edits.len())?;
     let mut database = Database::new(alloc);
     for edit in edits {
         outcomes.push_reserved(Outcome::from(database.apply(edit)));
     }
+    database
+}
+
+/// Makes the edits in order, beginning with no blocks, and says what came of each: a refused edit
+/// leaves the list, and the next one follows. Memory may be wanting for the outcomes, before the
+/// first edit. What there is to find out about the blocks is found once, after the last edit, in a
+/// time that is linear, up to a logarithm, in what the edits say and in the values of the last list;
+/// only where memory was refused for that is each edit made by itself, as `apply` makes it.
+pub fn run(alloc: Global, edits: &[Edit<'_>]) -> Result<(Database, Vec<Outcome>), AllocError>
+    ensures { IfOk result (λ r. EditRun [] (map change_of edits.now) r.1.items r.0) }
+{
+    let mut outcomes = Vec::with_capacity(alloc, edits.len())?;
+    if let Ok(slots) = run_at_once(alloc, edits, &mut outcomes) {
+        return Ok((Database { alloc, slots }, outcomes));
+    }
+    // The capacity stays.
+    outcomes.clear();
+    let database = run_one_by_one(alloc, edits, &mut outcomes);
     Ok((database, outcomes))
 }

@@ -46,19 +46,24 @@ fn add_kept(at: usize, kept: &[KeptFault], faults: &mut Vec<Fault>) -> Result<()
 }
 
 /// Puts a name among those whose fault was added.
-fn add_named(alloc: Global, named: &mut BTreeSet<Vec<u8>>, name: &[u8]) -> Result<(), AllocError>
+fn add_named<'a>(named: &mut BTreeSet<&'a [u8]>, name: &'a [u8]) -> Result<(), AllocError>
     ensures { OnOk result ((other : List ℕ) → is_named named.new other ≡ (bytes_eq other name.now || is_named named.old other)) }
 {
-    named.insert(Vec::from_slice(alloc, name)?)?;
+    named.insert(name)?;
     Ok(())
 }
 
 /// Whether the name belongs to a block before that position and has no fault yet.
-fn is_new_duplicate(slots: &Slots, at: usize, named: &BTreeSet<Vec<u8>>, name: &[u8]) -> bool
+fn is_new_duplicate<'a>(
+    slots: &Slots,
+    at: usize,
+    named: &BTreeSet<&'a [u8]>,
+    name: &'a [u8],
+) -> bool
     requires { IsIndexed slots.now }
     ensures { result ≡ (is_owned_before (blocks_of slots.now) at name.now && not (is_named named.now name.now)) }
 {
-    is_owned_before(slots, at, name) && !named.contains(name)
+    is_owned_before(slots, at, name) && !named.contains(&name)
 }
 
 /// Adds the fault of a name that an earlier block owns.
@@ -90,7 +95,7 @@ fn add_name_faults(
     let mut named = BTreeSet::new(alloc);
     for name in names {
         if is_new_duplicate(slots, at, &named, name.as_slice()) {
-            add_named(alloc, &mut named, name.as_slice())?;
+            add_named(&mut named, name.as_slice())?;
             add_name_fault(at, name, faults)?;
         }
     }

@@ -3,20 +3,20 @@
 //! What that is stands in `ti_meaning`, whose edits and faults are public here again.
 //!
 //! - `database`: the edited source, and a run of edits
-//! - `loading`: the blocks of a source taken in one go
+//! - `judging`: whether an edit is refused, and why
+//! - `growing`: a list that edits make, with what there is to find out about it found once
 //! - `texts`: which texts of blocks are refused, and what is read from one
 //! - `slot_edits`: the edits of its blocks, taken back where memory is short
 //! - `rebuilding`: what an edit rebuilds, put into the slots of the blocks
 //! - `owners`: whose a name is
-//! - `laws`: what is so of the definitions of this crate
 //! - `faults`: what is wrong with a source
 //! - `report`: a fault as text
 #![tactic(auto)]
 
 mod database;
 mod faults;
-mod laws;
-mod loading;
+mod growing;
+mod judging;
 mod owners;
 mod rebuilding;
 mod report;
@@ -24,6 +24,5 @@ mod slot_edits;
 mod texts;
 
 pub use database::{Database, run};
-pub use laws::loads_have_one_refusal;
 pub use report::write_fault;
 pub use ti_meaning::{Edit, EditError, Edited, Fault, Outcome};

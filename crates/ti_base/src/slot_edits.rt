@@ -3,10 +3,10 @@
 ghost use Rattle.std.specs.Prelude.{◌≡◌, ◌<◌, ◌≤◌, ◌+◌, Some, None, length, insert, remove, slice_set, slice_get, IfOk, OnOk, OnErr};
 ghost use Rattle.ti_text.specs.Limits.{blocks_max};
 ghost use Rattle.ti_source.specs.Reading.{reading_of};
-ghost use Rattle.ti_meaning.specs.Edits.{insertion, removal, relocation, with_item_moved, replacement};
+ghost use Rattle.ti_meaning.specs.Edits.{IsSoundEdit, change_of, insertion, list_after, removal, relocation, with_item_moved, replacement};
 ghost use Rattle.ti_meaning.specs.Dependents.{Rebuilds};
 ghost use Rattle.ti_slots.specs.Slots.{IsIndexed, StandsAt, slot_texts};
-ghost use Rattle.ti_slots.specs.Changes.{HasForgotten, HasRoomFor, PutsIn, TakesOut};
+ghost use Rattle.ti_slots.specs.Changes.{HasForgotten, HasRoomFor, PutsIn, ShowsSame, TakesOut};
 ghost use Rattle.ti_base.specs.inside.Texts.{IsBlockText};
 ghost use Rattle.ti_base.specs.inside.Database.{AreKept, IsSoundSlot, HasId, slots_of, with_settled};
 
@@ -14,35 +14,30 @@ use crate::rebuilding::rebuild;
 use crate::texts::read_slot;
 use std::alloc::{AllocError, Global};
 use std::mem;
-use ti_meaning::Edited;
+use ti_meaning::{Edit, Edited};
 use ti_slots::{Slot, Slots, changes_are_undone};
 use ti_source::Parsed;
 
 /// Makes room for a block. All stays as it is; at an error the index lets go of the names that nobody has or uses.
-fn reserve(slots: &mut Slots, block: &Parsed) -> Result<(), AllocError>
-    requires { AreKept slots.old }
-    ensures kept { AreKept slots.new }
-    ensures slots { slots_of slots.new ≡ slots_of slots.old }
-    ensures listed { slots.new.order.listed ≡ slots.old.order.listed }
-    ensures texts { slot_texts slots.new ≡ slot_texts slots.old }
+pub(crate) fn reserve(slots: &mut Slots, block: &Parsed) -> Result<(), AllocError>
+    requires indexed { IsIndexed slots.old }
+    requires few { length slots.old.order.listed ≤ blocks_max }
+    ensures indexed { IsIndexed slots.new }
+    ensures same { ShowsSame slots.old slots.new }
     ensures room { OnOk result (HasRoomFor slots.new (reading_of block.now)) }
     ensures forgotten { OnErr result (HasForgotten slots.new (reading_of block.now)) }
 {
     match slots.make_room(block) {
         Ok(()) => Ok(()),
         Err(error) => {
-            forget(slots, block);
+            slots.forget_unused(block);
             Err(error)
         }
     }
 }
 
 /// The slot of a text, with room for its block. All stays as it is.
-pub(crate) fn read_with_room(
-    alloc: Global,
-    slots: &mut Slots,
-    text: &[u8],
-) -> Result<Slot, AllocError>
+fn read_with_room(alloc: Global, slots: &mut Slots, text: &[u8]) -> Result<Slot, AllocError>
     requires text { IsBlockText text.now }
     requires kept { AreKept slots.old }
     ensures kept { AreKept slots.new }
@@ -56,18 +51,6 @@ pub(crate) fn read_with_room(
     Ok(slot)
 }
 
-/// Lets go of what the index keeps of names of a block that nobody has or uses any more.
-fn forget(slots: &mut Slots, block: &Parsed)
-    requires { AreKept slots.old }
-    ensures forgotten { HasForgotten slots.new (reading_of block.now) }
-    ensures kept { AreKept slots.new }
-    ensures slots { slots_of slots.new ≡ slots_of slots.old }
-    ensures listed { slots.new.order.listed ≡ slots.old.order.listed }
-    ensures texts { slot_texts slots.new ≡ slot_texts slots.old }
-{
-    slots.forget_unused(block);
-}
-
 /// Lets go of a slot that is not in the list, and of what the index keeps of names of its block that nobody has or uses any more.
 fn discard(slots: &mut Slots, slot: Slot)
     requires { AreKept slots.old }
@@ -75,7 +58,7 @@ fn discard(slots: &mut Slots, slot: Slot)
     ensures kept { AreKept slots.new }
     ensures texts { slot_texts slots.new ≡ slot_texts slots.old }
 {
-    forget(slots, &slot.block);
+    slots.forget_unused(&slot.block);
 }
 
 /// Puts a slot into the list, and gives the id of its block. It takes no memory.
@@ -109,7 +92,7 @@ fn put_slot_over(slots: &mut Slots, at: usize, mut slot: Slot, old: &mut Slot) -
 }
 
 /// Takes a slot out of the list. It takes no memory, and there is room for its block.
-fn take_slot(slots: &mut Slots, at: usize) -> Slot
+pub(crate) fn take_slot(slots: &mut Slots, at: usize) -> Slot
     requires indexed { IsIndexed slots.old }
     requires within { at < length slots.old.order.listed }
     ensures taken { TakesOut slots.old slots.new at result }
@@ -122,7 +105,7 @@ fn take_slot(slots: &mut Slots, at: usize) -> Slot
 }
 
 /// Puts a block in that there is room for. At an error the list is as before.
-pub(crate) fn insert_slot(
+fn insert_slot(
     alloc: Global,
     slots: &mut Slots,
     at: usize,
@@ -150,7 +133,7 @@ pub(crate) fn insert_slot(
 }
 
 /// Exchanges a block for one that there is room for. At an error the list is as before.
-pub(crate) fn replace_slot(
+fn replace_slot(
     alloc: Global,
     slots: &mut Slots,
     at: usize,
@@ -183,7 +166,7 @@ pub(crate) fn replace_slot(
 }
 
 /// Takes a block out. At an error the list is as before.
-pub(crate) fn remove_slot(alloc: Global, slots: &mut Slots, at: usize) -> Result<Edited, AllocError>
+fn remove_slot(alloc: Global, slots: &mut Slots, at: usize) -> Result<Edited, AllocError>
     requires kept { AreKept slots.old }
     requires within { at < length slots.old.order.listed }
     ensures kept { AreKept slots.new }
@@ -205,12 +188,7 @@ pub(crate) fn remove_slot(alloc: Global, slots: &mut Slots, at: usize) -> Result
 }
 
 /// Moves a block. At an error the list is as before.
-pub(crate) fn move_slot(
-    alloc: Global,
-    slots: &mut Slots,
-    from: usize,
-    to: usize,
-) -> Result<Edited, AllocError>
+fn move_slot(alloc: Global, slots: &mut Slots, from: usize, to: usize) -> Result<Edited, AllocError>
     requires kept { AreKept slots.old }
     requires from { from < length slots.old.order.listed }
     requires to { to < length slots.old.order.listed }
@@ -229,5 +207,32 @@ pub(crate) fn move_slot(
             put_slot(slots, from, slot);
             Err(error)
         }
+    }
+}
+
+/// Makes an edit that nothing is wrong with. At an error the list is as before.
+pub(crate) fn edit_sound(
+    alloc: Global,
+    slots: &mut Slots,
+    edit: &Edit<'_>,
+) -> Result<Edited, AllocError>
+    requires kept { AreKept slots.old }
+    requires sound { IsSoundEdit (slot_texts slots.old) (change_of edit.now) }
+    ensures kept { AreKept slots.new }
+    ensures texts { OnOk result (slot_texts slots.new ≡ list_after (slot_texts slots.old) (change_of edit.now)) }
+    ensures rebuilds { IfOk result (λ e. Rebuilds (slot_texts slots.old) (change_of edit.now) e.rebuilt.items e.work) }
+    ensures err { OnErr result (slot_texts slots.new ≡ slot_texts slots.old) }
+{
+    match *edit {
+        Edit::Insert { at, text } => {
+            let slot = read_with_room(alloc, slots, text)?;
+            insert_slot(alloc, slots, at, slot)
+        }
+        Edit::Replace { at, text } => {
+            let slot = read_with_room(alloc, slots, text)?;
+            replace_slot(alloc, slots, at, slot)
+        }
+        Edit::Remove { at } => remove_slot(alloc, slots, at),
+        Edit::Relocate { from, to } => move_slot(alloc, slots, from, to),
     }
 }

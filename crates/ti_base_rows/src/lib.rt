@@ -9,7 +9,7 @@
 //! - `reports`: what is said of a source, and where
 //! - `circular`: blocks that use one another
 //! - `runs`: a run of edits
-//! - `loading`: sources taken in one go
+//! - `insertions`: sources made by a run of insertions
 //! - `plans`: the plans of small lists
 #![tactic(auto)]
 
@@ -18,9 +18,9 @@ mod circular;
 #[cfg(test)]
 mod dependents;
 #[cfg(test)]
-mod limits;
+mod insertions;
 #[cfg(test)]
-mod loading;
+mod limits;
 #[cfg(test)]
 mod owners;
 #[cfg(test)]

@@ -12,7 +12,7 @@ fn push_number(text: &mut Vec<u8>, alloc: Global, number: u32) -> Result<(), All
 }
 
 /// `b<number>,<what><value>,` and a newline.
-fn block(alloc: Global, number: u32, what: &str, value: u32) -> Result<Vec<u8>, AllocError> {
+pub fn block(alloc: Global, number: u32, what: &str, value: u32) -> Result<Vec<u8>, AllocError> {
     let mut text = Vec::with_capacity(alloc, TEXT_MAX)?;
     text.push(b'b')?;
     push_number(&mut text, alloc, number)?;

@@ -3,17 +3,24 @@
 //! and prints the nanoseconds of one; with a second word, `expand`, `small` or `full`, that alone.
 //! With the second word `edits`, `chain` or `circular` it edits a database of N blocks instead: small
 //! ones that use nothing; each with a use of the one before it; these, and the first with a use of
-//! the last. Without a word it only shows the bytes for the colours 3, 12 and 200, in hexadecimal.
+//! the last. With `runs` it makes lists of edits in one call: N insertions in a chain whose owners all
+//! come last, N users and then their N owners, and N edits made at random, these also one by one.
+//! Without a word it only shows the bytes for the colours 3, 12 and 200, in hexadecimal.
 #![tactic(auto)]
 
 mod edits;
+mod runs;
 mod writing;
 
 use edits::{close_chain, fill, fill_chain, move_middle, replace_many, replace_root};
+use runs::{
+    apply_each, chain_owners_last, edits_at_random, insertions, texts_at_random,
+    users_before_owners,
+};
 use std::rt::{Clock, Env};
 use std::time::Instant;
 use std::{env, io};
-use ti_base::{Database, EditError};
+use ti_base::{Database, Edit, EditError, Outcome};
 use ti_layout::Table;
 use ti_param::{Statics, Value, expand};
 use writing::{full_table, small_table, write_all};
@@ -151,11 +158,54 @@ fn time_circular<R: Clock + Print + AllocGlobal>(rt: &R, count: u32) -> io::Resu
     }
 }
 
+/// Prints how long a run of these edits took, and how many were accepted.
+fn time_run<R: Clock + Print + AllocGlobal>(
+    rt: &R,
+    what: &str,
+    edits: &[Edit<'_>],
+) -> io::Result<()> {
+    let start = Instant::now(rt)?;
+    let (database, outcomes) = ti_base::run(rt.alloc(), edits)?;
+    let milliseconds = start.elapsed(rt)?.as_millis();
+    let accepted = outcomes
+        .iter()
+        .filter(|outcome| **outcome == Outcome::Accepted)
+        .count();
+    let (count, blocks) = (edits.len(), database.len());
+    println!(rt; "{what}: {milliseconds} ms ({count} edits, {accepted} accepted, {blocks} blocks)")
+}
+
+fn time_runs<R: Clock + Print + AllocGlobal>(rt: &R, count: u32) -> io::Result<()> {
+    let alloc = rt.alloc();
+    let texts = chain_owners_last(alloc, count)?;
+    time_run(
+        rt,
+        "run of a chain, owners last",
+        &insertions(alloc, &texts)?,
+    )?;
+    let texts = users_before_owners(alloc, count)?;
+    time_run(rt, "run of users, then owners", &insertions(alloc, &texts)?)?;
+    time_random(rt, count)
+}
+
+fn time_random<R: Clock + Print + AllocGlobal>(rt: &R, count: u32) -> io::Result<()> {
+    let alloc = rt.alloc();
+    let texts = texts_at_random(alloc, count)?;
+    let edits = edits_at_random(alloc, &texts)?;
+    time_run(rt, "run of random edits", &edits)?;
+    let start = Instant::now(rt)?;
+    let database = apply_each(alloc, &edits);
+    let milliseconds = start.elapsed(rt)?.as_millis();
+    let blocks = database.len();
+    println!(rt; "the same edits one by one: {milliseconds} ms ({blocks} blocks)")
+}
+
 fn time<R: Clock + Print + AllocGlobal>(rt: &R, count: u32, part: &str) -> io::Result<()> {
     match part {
         "edits" => return time_edits(rt, count),
         "chain" => return time_chain(rt, count),
         "circular" => return time_circular(rt, count),
+        "runs" => return time_runs(rt, count),
         _ => {}
     }
     if part.is_empty() || part == "expand" {

@@ -2,7 +2,10 @@
 //! product; the worked rows stand in `ti_base_rows`.
 //!
 //! - `random`: the edits, and what is compared
+//! - `runs`: lists of such edits that are made in one call, compared with the same edits one by one
 #![tactic(auto)]
 
 #[cfg(test)]
 mod random;
+#[cfg(test)]
+mod runs;

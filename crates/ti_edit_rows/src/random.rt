@@ -2,7 +2,7 @@
 //! the list, which is kept beside it.
 use std::alloc::{AllocError, Global};
 use std::test::Fail;
-use ti_base::{Database, Edit, EditError, Fault};
+use ti_base::{Database, Edit, EditError, Fault, run};
 
 /// How many edits are made.
 const EDITS: u32 = 2_000;
@@ -37,13 +37,13 @@ const NAMES: [&str; 5] = ["a", "b", "c", "d", "zz"];
 
 /// Numbers drawn from a linear congruential generator.
 #[derive(Drop)]
-struct Draws {
-    state: u64,
+pub(crate) struct Draws {
+    pub(crate) state: u64,
 }
 
 impl Draws {
     /// A number below the count, and 0 where that is 0.
-    fn below(&mut self, count: usize) -> usize {
+    pub(crate) fn below(&mut self, count: usize) -> usize {
         self.state = self
             .state
             .wrapping_mul(6_364_136_223_846_793_005)
@@ -62,7 +62,7 @@ impl Draws {
 }
 
 /// A block with up to four items.
-fn make_text(alloc: Global, draws: &mut Draws) -> Result<Vec<u8>, AllocError> {
+pub(crate) fn make_text(alloc: Global, draws: &mut Draws) -> Result<Vec<u8>, AllocError> {
     let mut text = Vec::from_slice(alloc, draws.word(&HEADS).as_bytes())?;
     let count = draws.below(5);
     for _ in 0..count {
@@ -73,7 +73,7 @@ fn make_text(alloc: Global, draws: &mut Draws) -> Result<Vec<u8>, AllocError> {
 }
 
 /// An edit of a list of so many blocks. Its positions may lie one behind the list.
-fn make_edit<'a>(draws: &mut Draws, len: usize, text: &'a [u8]) -> Edit<'a> {
+pub(crate) fn make_edit<'a>(draws: &mut Draws, len: usize, text: &'a [u8]) -> Edit<'a> {
     let places = len.saturating_add(1);
     let at = draws.below(places);
     match draws.below(6) {
@@ -154,21 +154,22 @@ fn has_same_faults(one: &Database, other: &Database) -> Result<bool, AllocError>
     Ok(one.report(1)?.as_slice() == other.report(1)?.as_slice())
 }
 
-/// Whether the database shows what one shows that is made of these texts at once.
+/// Whether two databases show the same.
+pub(crate) fn is_same(one: &Database, other: &Database) -> Result<bool, AllocError> {
+    Ok(has_same_entries(one, other) && has_same_owners(one, other) && has_same_faults(one, other)?)
+}
+
+/// Whether the database shows what one shows that a run of insertions makes of these texts.
 fn is_afresh(alloc: Global, database: &Database, texts: &[Vec<u8>]) -> Result<bool, AllocError> {
-    let mut slices = Vec::with_capacity(alloc, texts.len())?;
+    let mut edits = Vec::with_capacity(alloc, texts.len())?;
     for text in texts {
-        slices.push(text.as_slice())?;
+        edits.push(Edit::Insert {
+            at: edits.len(),
+            text,
+        })?;
     }
-    match Database::load(alloc, slices.as_slice()) {
-        Ok(fresh) => Ok(
-            has_same_entries(database, &fresh)
-                && has_same_owners(database, &fresh)
-                && has_same_faults(database, &fresh)?,
-        ),
-        Err(EditError::Memory) => Err(AllocError),
-        Err(_) => Ok(false),
-    }
+    let (fresh, _) = run(alloc, &edits)?;
+    is_same(database, &fresh)
 }
 
 /// Makes an edit in the database and in the list. Whether it answers as it must, and both show the same.

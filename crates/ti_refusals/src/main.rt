@@ -2,7 +2,7 @@
 //! `tests/refusals`. Each scenario makes its calls; one that answers want of memory must have changed
 //! nothing, and is made again. So a scenario prints the same line whichever growth was refused, and
 //! `refused` goes to standard error where a call of the libraries said so.
-//! The edits and the loads among them stand in `ti_tried_edits`.
+//! The edits among them stand in `ti_tried_edits`.
 //!
 //! The words are names of scenarios; without any, all run.
 #![tactic(auto)]

@@ -1,7 +1,7 @@
 //! The scenarios, and their names.
 use crate::{calls, entries, listings, scripts, strings, tools};
 use std::alloc::Global;
-use ti_tried_edits::blocks::{circular_edits, moves, owners, three};
+use ti_tried_edits::blocks::{circular_edits, insertions, moves, owners, three};
 use ti_tried_edits::many::Many;
 use ti_tried_edits::{Tried, Trouble, edits, many, wholes};
 
@@ -18,7 +18,7 @@ pub enum Scenario {
     RunOwners,
     RunMoves,
     RunLimit,
-    Load,
+    RunInsertions,
     Reports,
     Source,
     Table,
@@ -53,7 +53,7 @@ impl Scenario {
         (Scenario::RunOwners, "run-of-owners"),
         (Scenario::RunMoves, "run-that-moves"),
         (Scenario::RunLimit, "run-at-the-limit"),
-        (Scenario::Load, "load"),
+        (Scenario::RunInsertions, "run-of-insertions"),
         (Scenario::Reports, "reports"),
         (Scenario::Source, "source"),
         (Scenario::Table, "table"),
@@ -91,7 +91,7 @@ impl Scenario {
             Scenario::RunOwners => wholes::run_all(alloc, &owners()),
             Scenario::RunMoves => wholes::run_all(alloc, &moves()),
             Scenario::RunLimit => wholes::run_at_limit(alloc),
-            Scenario::Load => wholes::load(alloc),
+            Scenario::RunInsertions => wholes::run_all(alloc, &insertions()),
             Scenario::Reports => calls::reports(alloc),
             Scenario::Source => calls::source(alloc),
             Scenario::Table => entries::table(alloc),

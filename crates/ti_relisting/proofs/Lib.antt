@@ -15,3 +15,4 @@ pub mod Standing
 pub mod Sources
 pub mod EntryLaws
 pub mod Examples
+pub mod RunLaws

@@ -5,12 +5,14 @@
 //! - `reading_back`: what is laid out so is one block, and is read as what it lists.
 //! - `relisting`: a listing compiles to what was listed, and a relative source to the entry that it is of.
 //! - `entries`: the same of the compiled entries of any sources, byte for byte.
+//! - `runs`: the same of what a run of edits leaves that inserts listings.
 #![tactic(auto)]
 
 mod entries;
 mod layouts;
 mod reading_back;
 mod relisting;
+mod runs;
 
 pub use entries::{
     listings_compile_back, relative_sources_compile_back, several_listings_compile_back,
@@ -19,3 +21,4 @@ pub use entries::{
 pub use layouts::listings_are_laid_out;
 pub use reading_back::{parts_are_blocks, parts_are_read};
 pub use relisting::{listings_compile, relatives_compile};
+pub use runs::runs_of_listings_compile_back;

@@ -1,53 +1,264 @@
--- Going over the blocks of a source to see whether it is refused.
-use Rattle.std.proofs.Common.{◌≡◌, ◌⊎◌, ℕ, suc, ◌+◌, false, List, [], ◌∷◌, ◌++◌, length, map, nat_lt, nat_le, refl, sym, ap, ◌∙◌, inl, inr, arith}
-use Rattle.std.specs.List.{concat}
-use Rattle.std.proofs.lemmas.List.{append_assoc, length-append}
-use Rattle.ti_text.specs.Limits.{block_bytes_max}
-use Rattle.ti_source.specs.Cutting.{Cut, blocks_from_head, front_of}
-use Rattle.ti_tools.specs.Sources.{with_last_newline, preface_of, refusal_after, refusal_within}
-use Rattle.ti_tools.proofs.Ending.{AllButLastEnded, blocks_of-all_but_last, preface_of-front, texts_of-blocks}
+-- Going over the blocks of a source: those before a place are taken, and the next is, or is refused.
+use Rattle.std.proofs.Common.{◌≡◌, ◌⊎◌, ◌==◌, ℕ, suc, ◌+◌, ◌<◌, ◌≤◌, Unit, All, List, [], ◌∷◌, ◌++◌, length, map, refl, sym, ap, subst, ◌∙◌, inl, inr, arith}
+use Rattle.std.specs.List.{concat, sum_by}
+use Rattle.std.proofs.lemmas.Bool.{cases_Bool, eqb-true}
+use Rattle.std.proofs.lemmas.List.{append-nil, append_assoc, length-append}
+use Rattle.std.proofs.lemmas.List.Elements.{All-head, All-tail}
+use Rattle.std.proofs.lemmas.List.Sums.{sum_by-append}
+use Rattle.ti_text.specs.Limits.{block_bytes_max, blocks_max}
+use Rattle.ti_text.specs.Lines.{line_count, LinesAdd}
+use Rattle.ti_source.specs.Cutting.{BlocksAreSingle, Cut, EachHasCut, OneBlock, blocks_from_head, front_of, last_byte}
+use Rattle.ti_meaning.specs.Edits.{IsRefusal, IsSoundEdit, insertion}
+use Rattle.ti_meaning.specs.declared.edits.EditError.{EditError}
+use Rattle.ti_meaning.specs.declared.edits.EditError.TheVariants.{Position, TooLong, NotOneBlock, TooMany, Memory}
+use Rattle.ti_meaning.proofs.Causes.{one_cause, refused_unsound}
+use Rattle.ti_devices.specs.declared.tool_error.ToolError.{ToolError}
+use Rattle.ti_devices.specs.declared.tool_error.ToolError.TheVariants as tool
+use Rattle.ti_tools.specs.Sources.{AreTaken, IsFirstRefused, IsSourceRefusal, SourcesHaveOneRefusal, TakenSourcesAreNotRefused, first_line, preface_of, source_texts, with_last_newline}
+use Rattle.ti_tools.proofs.Ending.{AllButLastEnded, blocks_of-all_but_last, ended-of_newline, last_byte-newline, preface_of-front, texts_of-blocks}
 
--- The blocks before `offset`, so many, are not refused, and `rest` are the blocks from there on, as they stand.
-pub record IsCheckedTo (most : ℕ) (source : List ℕ) (offset count : ℕ) (rest : List (List ℕ)) : Type 0 where
+-- ---- two places of a list
+
+-- of two places of a list one comes before the other, or they are the same
+abbrev pub Apart : List (List ℕ) → List ℕ → List (List ℕ) → List ℕ → Type 0
+Apart front block ahead other =
+    ((front ≡ ahead) × (block ≡ other)) ⊎ (((mid : List (List ℕ)) × (ahead ≡ front ++ block ∷ mid)) ⊎ ((mid : List (List ℕ)) × (front ≡ ahead ++ other ∷ mid)))
+
+pub places_apart : (front : List (List ℕ)) (block : List ℕ) (back ahead : List (List ℕ)) (other : List ℕ) (behind : List (List ℕ))
+    → front ++ block ∷ back ≡ ahead ++ other ∷ behind → Apart front block ahead other
+places_apart [] block back [] other behind e = inl (refl, cc)
+places_apart [] block back (x ∷ ahead) other behind e =
+    let head : block ≡ x = cc in
+    inr (inl (ahead, ap (λ b. b ∷ ahead) (sym head)))
+places_apart (y ∷ front) block back [] other behind e =
+    let head : y ≡ other = cc in
+    inr (inr (front, ap (λ b. b ∷ front) head))
+places_apart (y ∷ front) block back (x ∷ ahead) other behind e =
+    let head : y ≡ x = cc in
+    let tail : front ++ block ∷ back ≡ ahead ++ other ∷ behind = cc in
+    elim (places_apart front block back ahead other behind tail) [
+      | inl same ↦ inl (rw (head, same.0) refl, same.1)
+      | inr apart ↦ elim apart [
+        | inl later ↦ inr (inl (later.0, rw (head, later.1) refl))
+        | inr earlier ↦ inr (inr (earlier.0, rw (head, earlier.1) refl))
+      ]
+    ]
+
+-- ---- blocks that are taken
+
+pub taken_none : AreTaken []
+taken_none [] block back e = absurd (cc)
+taken_none (x ∷ front) block back e = absurd (cc)
+
+pub taken_more : (blocks : List (List ℕ)) (block : List ℕ) → AreTaken blocks → IsSoundEdit blocks (insertion (length blocks) block) → AreTaken (blocks ++ block ∷ [])
+taken_more blocks block before here front other back e =
+    elim (places_apart blocks block [] front other back e) [
+      | inl same ↦ subst (λ (b : List ℕ). IsSoundEdit front (insertion (length front) b)) same.1 (subst (λ (bs : List (List ℕ)). IsSoundEdit bs (insertion (length bs) block)) same.0 here)
+      | inr apart ↦ elim apart [
+        | inl later ↦
+            let n : length (blocks ++ block ∷ []) ≡ length (front ++ other ∷ back) = ap (λ (bs : List (List ℕ)). length bs) e in
+            let m : length front ≡ length (blocks ++ block ∷ later.0) = ap (λ (bs : List (List ℕ)). length bs) later.1 in
+            absurd (omega (arith, n, m, length-append blocks (block ∷ []), length-append front (other ∷ back), length-append blocks (block ∷ later.0)))
+        | inr earlier ↦ before front other earlier.0 earlier.1
+      ]
+    ]
+
+-- ---- what comes of a source is determined
+
+-- no block before one that is refused is refused itself
+earlier_taken : (blocks : List (List ℕ)) (cause other : EditError) (r : IsFirstRefused blocks cause) (s : IsFirstRefused blocks other) (mid : List (List ℕ)) → (cause ≡ Memory → ⊥) → s.front ≡ r.front ++ r.block ∷ mid → ⊥
+earlier_taken blocks cause other r s mid apart e =
+    refused_unsound r.front (insertion (length r.front) r.block) cause apart r.refused (s.before r.front r.block mid e)
+
+-- the first refusal of blocks is the same, where no cause is want of memory
+same_refusal : (blocks : List (List ℕ)) (cause other : EditError) (r : IsFirstRefused blocks cause) (s : IsFirstRefused blocks other) → (cause ≡ Memory → ⊥) → (other ≡ Memory → ⊥) → (cause ≡ other) × (r.front ≡ s.front)
+same_refusal blocks cause other r s apart apart' =
+    elim (places_apart r.front r.block r.back s.front s.block s.back (sym r.whole ∙ s.whole)) [
+      | inl same ↦ (
+        one_cause r.front (insertion (length r.front) r.block) cause other r.refused
+            (subst (λ (b : List ℕ). IsRefusal r.front (insertion (length r.front) b) other) (sym same.1) (subst (λ (bs : List (List ℕ)). IsRefusal bs (insertion (length bs) s.block) other) (sym same.0) s.refused)),
+        same.0,
+      )
+      | inr differ ↦ elim differ [
+        | inl later ↦ absurd (earlier_taken blocks cause other r s later.0 apart later.1)
+        | inr earlier ↦ absurd (earlier_taken blocks other cause s r earlier.0 apart' earlier.1)
+      ]
+    ]
+
+-- what a refusal is called
+abbrev name_of : List ℕ → EditError → List (List ℕ) → ToolError
+name_of source TooLong front = tool.BlockTooLong (first_line source + sum_by line_count front)
+name_of source other front = tool.TooManyBlocks
+
+-- a refusal of a source by the cause of its first refused block
+record IsNamed (source : List ℕ) (error : ToolError) : Type 0 where
+  cause : EditError
+  first : IsFirstRefused (source_texts source) cause
+  apart : cause ≡ Memory → ⊥
+  name : error ≡ name_of source cause first.front
+
+named : (source : List ℕ) (error : ToolError) → IsSourceRefusal source error → IsNamed source error
+named source (tool.BlockTooLong line) r = record { cause = TooLong; first = r.0; apart = λ e. absurd (cc); name = ap tool.BlockTooLong r.1 }
+named source tool.TooManyBlocks r = record { cause = TooMany; first = r; apart = λ e. absurd (cc); name = refl }
+named source tool.Usage r = absurd r
+named source tool.NoTerminal r = absurd r
+named source (tool.BadEntry error) r = absurd r
+named source tool.ReadFault r = absurd r
+named source tool.WriteFault r = absurd r
+named source tool.LineTooLong r = absurd r
+named source tool.Memory r = absurd r
+
+pub taken_not_refused : TakenSourcesAreNotRefused
+taken_not_refused source error taken refused =
+    let n = named source error refused in
+    let r = n.first in
+    refused_unsound r.front (insertion (length r.front) r.block) n.cause n.apart r.refused (taken r.front r.block r.back r.whole)
+
+pub one_refusal : SourcesHaveOneRefusal
+one_refusal source one other r s =
+    let n = named source one r in
+    let m = named source other s in
+    let same = same_refusal (source_texts source) n.cause m.cause n.first m.first n.apart m.apart in
+    n.name ∙ (ap (λ (cause : EditError). name_of source cause n.first.front) same.0 ∙ (ap (name_of source m.cause) same.1 ∙ sym m.name))
+
+-- ---- the next block
+
+-- The blocks were taken, and `rest` are those of the source from there on.
+pub record IsTakenTo (source : List ℕ) (blocks rest : List (List ℕ)) : Type 0 where
+  pub whole : source_texts source ≡ blocks ++ rest
+  pub taken : AreTaken blocks
+  pub single : All OneBlock rest
+
+pub taken_to_start : (source : List ℕ) → All OneBlock (source_texts source) → IsTakenTo source [] (source_texts source)
+taken_to_start source single = record { whole = refl; taken = taken_none; single = single }
+
+pub taken_to_next : (source : List ℕ) (blocks : List (List ℕ)) (block : List ℕ) (rest : List (List ℕ)) → IsTakenTo source blocks (block ∷ rest)
+    → IsSoundEdit blocks (insertion (length blocks) block) → IsTakenTo source (blocks ++ block ∷ []) rest
+taken_to_next source blocks block rest to sound = record {
+  whole = to.whole ∙ sym (append_assoc blocks (block ∷ []) rest);
+  taken = taken_more blocks block to.taken sound;
+  single = All-tail OneBlock block rest to.single;
+}
+
+pub taken_to_end : (source : List ℕ) (blocks : List (List ℕ)) → IsTakenTo source blocks [] → (blocks ≡ source_texts source) × AreTaken (source_texts source)
+taken_to_end source blocks to =
+    let all : source_texts source ≡ blocks = to.whole ∙ append-nil blocks in
+    (sym all, subst AreTaken (sym all) to.taken)
+
+first_refused : (source : List ℕ) (blocks : List (List ℕ)) (block : List ℕ) (rest : List (List ℕ)) (cause : EditError) → IsTakenTo source blocks (block ∷ rest)
+    → IsRefusal blocks (insertion (length blocks) block) cause → IsFirstRefused (source_texts source) cause
+first_refused source blocks block rest cause to refused = record {
+  front = blocks;
+  block = block;
+  back = rest;
+  whole = to.whole;
+  before = to.taken;
+  refused = refused;
+}
+
+-- the next block is refused for want of memory, or the source is refused
+pub refused_next : (source : List ℕ) (blocks : List (List ℕ)) (block : List ℕ) (rest : List (List ℕ)) (cause : EditError) → IsTakenTo source blocks (block ∷ rest)
+    → IsRefusal blocks (insertion (length blocks) block) cause → (cause ≡ Memory) ⊎ ((error : ToolError) × IsSourceRefusal source error)
+refused_next source blocks block rest Position to refused = absurd (refused (omega arith))
+refused_next source blocks block rest TooLong to refused =
+    inr (tool.BlockTooLong (first_line source + sum_by line_count blocks), (first_refused source blocks block rest TooLong to refused, refl))
+refused_next source blocks block rest NotOneBlock to refused = absurd (refused.2 (All-head OneBlock block rest to.single))
+refused_next source blocks block rest TooMany to refused = inr (tool.TooManyBlocks, first_refused source blocks block rest TooMany to refused)
+refused_next source blocks block rest Memory to refused = inl refl
+
+-- ---- each block of a source is one, once its last line is ended
+
+pub ends_with_newline : (source : List ℕ) → last_byte 10 (with_last_newline source) ≡ 10
+ends_with_newline source =
+    elim (cases_Bool (last_byte 10 source == 10)) [
+      | inl t ↦ rw t (eqb-true (last_byte 10 source) 10 t)
+      | inr f ↦ rw f (last_byte-newline 10 source)
+    ]
+
+pub texts_single : BlocksAreSingle → EachHasCut → (source : List ℕ) → All OneBlock (source_texts source)
+texts_single single cut source =
+    let ended = with_last_newline source in
+    single ended (front_of 10 ended) (blocks_from_head 10 ended) (ends_with_newline source) (cut ended)
+
+-- ---- the source as it stands
+
+-- The blocks before `offset`, so many, are taken, and `rest` are the blocks from there on, as they stand.
+pub record IsCheckedTo (source : List ℕ) (offset count : ℕ) (rest : List (List ℕ)) : Type 0 where
   pub seen : List ℕ
+  pub blocks : List (List ℕ)
   pub whole : source ≡ seen ++ concat rest
   pub at : offset ≡ length seen
+  pub many : count ≡ length blocks
   pub ends : AllButLastEnded rest
-  pub same : refusal_within most source ≡ refusal_after most seen count (map with_last_newline rest)
+  pub to : IsTakenTo source blocks (map with_last_newline rest)
+  pub line : (rest ≡ []) ⊎ (line_count seen + 1 ≡ first_line source + sum_by line_count blocks)
 
-refusal_after-front : (most : ℕ) (before front : List ℕ) (blocks : List (List ℕ)) → (blocks ≡ []) ⊎ (before ≡ front)
-    → refusal_after most before 0 (map with_last_newline blocks) ≡ refusal_after most front 0 (map with_last_newline blocks)
-refusal_after-front most before front blocks (inl none) = rw none
-refusal_after-front most before front blocks (inr same) = rw same
+pub checked_to_start : (source preface : List ℕ) (blocks : List (List ℕ)) → All OneBlock (source_texts source) → Cut source preface blocks
+    → preface ≡ front_of 10 source → blocks ≡ blocks_from_head 10 source → IsCheckedTo source (length preface) 0 blocks
+checked_to_start source preface blocks single cut is_front is_blocks =
+    let texts : source_texts source ≡ map with_last_newline blocks = texts_of-blocks source ∙ ap (map with_last_newline) (sym is_blocks) in
+    record {
+      seen = preface;
+      blocks = [];
+      whole = cut.whole;
+      at = refl;
+      many = refl;
+      ends = rw is_blocks (blocks_of-all_but_last 10 source);
+      to = record { whole = texts; taken = taken_none; single = subst (All OneBlock) texts single };
+      line = elim (preface_of-front source) [
+        | inl none ↦ inl (is_blocks ∙ none)
+        | inr same ↦ inr (let front : line_count preface ≡ line_count (preface_of source) = ap line_count (is_front ∙ sym same) in omega (arith, front))
+      ];
+    }
 
-pub checked_to_start : (most : ℕ) (source preface : List ℕ) (blocks : List (List ℕ)) → Cut source preface blocks
-    → preface ≡ front_of 10 source → blocks ≡ blocks_from_head 10 source → IsCheckedTo most source (length preface) 0 blocks
-unfolding refusal_within
-checked_to_start most source preface blocks cut is_front is_blocks = record {
-  seen = preface;
-  whole = cut.whole;
-  at = refl;
-  ends = rw is_blocks (blocks_of-all_but_last 10 source);
-  same = rw (texts_of-blocks source, is_blocks, is_front) (refusal_after-front most (preface_of source) (front_of 10 source) (blocks_from_head 10 source) (preface_of-front source));
-}
+all_but_last-rest : (block : List ℕ) (rest : List (List ℕ)) → AllButLastEnded (block ∷ rest) → AllButLastEnded rest
+all_but_last-rest block [] ends = tt
+all_but_last-rest block (next ∷ rest) ends = ends.1
 
-refusal_after-next : (most : ℕ) (seen : List ℕ) (count : ℕ) (text : List ℕ) (rest : List (List ℕ)) → AllButLastEnded (text ∷ rest)
-    → refusal_after most (seen ++ with_last_newline text) count (map with_last_newline rest) ≡ refusal_after most (seen ++ text) count (map with_last_newline rest)
-refusal_after-next most seen count text [] ends = refl
-refusal_after-next most seen count text (next ∷ rest) ends = ap (λ t. refusal_after most (seen ++ t) count (map with_last_newline (next ∷ rest))) ends.0
-
-all_but_last-rest : (text : List ℕ) (rest : List (List ℕ)) → AllButLastEnded (text ∷ rest) → AllButLastEnded rest
-all_but_last-rest text [] ends = tt
-all_but_last-rest text (next ∷ rest) ends = ends.1
+-- the lines before the block behind the next one
+line_next : LinesAdd → (source seen : List ℕ) (blocks : List (List ℕ)) (block : List ℕ) (rest : List (List ℕ)) → AllButLastEnded (block ∷ rest)
+    → (block ∷ rest ≡ []) ⊎ (line_count seen + 1 ≡ first_line source + sum_by line_count blocks)
+    → (rest ≡ []) ⊎ (line_count (seen ++ block) + 1 ≡ first_line source + sum_by line_count (blocks ++ with_last_newline block ∷ []))
+line_next add source seen blocks block rest ends (inl none) = absurd (cc)
+line_next add source seen blocks block [] ends (inr e) = inl refl
+line_next add source seen blocks block (next ∷ rest) ends (inr e) =
+    let one : sum_by line_count (blocks ++ block ∷ []) ≡ sum_by line_count blocks + line_count block = sum_by-append line_count blocks (block ∷ []) ∙ (omega arith) in
+    inr (rw ends.0 (omega (arith, e, one, add seen block)))
 
 -- the next block is short enough, and not one too many
-pub checked_to_next : (most : ℕ) (source : List ℕ) (offset count : ℕ) (text : List ℕ) (rest : List (List ℕ))
-    → IsCheckedTo most source offset count (text ∷ rest) → nat_lt block_bytes_max (length (with_last_newline text)) ≡ false → nat_le most count ≡ false
-    → IsCheckedTo most source (offset + length text) (count + 1) rest
-checked_to_next most source offset count text rest c short few = record {
-  seen = c.seen ++ text;
-  whole = c.whole ∙ sym (append_assoc c.seen text (concat rest));
-  at = let joined : length (c.seen ++ text) ≡ length c.seen + length text = length-append c.seen text in omega (arith, c.at, joined);
-  ends = all_but_last-rest text rest c.ends;
-  same = c.same ∙ rw (short, few) (refusal_after-next most c.seen (suc count) text rest c.ends ∙ ap (λ k. refusal_after most (c.seen ++ text) k (map with_last_newline rest)) (omega arith));
+pub checked_to_next : LinesAdd → (source : List ℕ) (offset count : ℕ) (block : List ℕ) (rest : List (List ℕ))
+    → IsCheckedTo source offset count (block ∷ rest) → length (with_last_newline block) ≤ block_bytes_max → count < blocks_max
+    → IsCheckedTo source (offset + length block) (count + 1) rest
+checked_to_next add source offset count block rest c short few = record {
+  seen = c.seen ++ block;
+  blocks = c.blocks ++ with_last_newline block ∷ [];
+  whole = c.whole ∙ sym (append_assoc c.seen block (concat rest));
+  at = (let joined : length (c.seen ++ block) ≡ length c.seen + length block = length-append c.seen block in omega (arith, c.at, joined));
+  many = omega (arith, c.many, length-append c.blocks (with_last_newline block ∷ []));
+  ends = all_but_last-rest block rest c.ends;
+  to = taken_to_next source c.blocks (with_last_newline block) (map with_last_newline rest) c.to (record {
+    in_place = (let end : length c.blocks ≤ length c.blocks = omega arith in end);
+    short = short;
+    block = All-head OneBlock (with_last_newline block) (map with_last_newline rest) c.to.single;
+    room = (let room : length c.blocks < blocks_max = omega (arith, few, c.many) in room);
+  });
+  line = line_next add source c.seen c.blocks block rest c.ends c.line;
 }
+
+-- the next block is too long
+pub checked_too_long : (source : List ℕ) (offset count : ℕ) (block : List ℕ) (rest : List (List ℕ)) (line : ℕ)
+    → (c : IsCheckedTo source offset count (block ∷ rest)) → (length (with_last_newline block) ≤ block_bytes_max → ⊥) → line ≡ line_count c.seen + 1
+    → IsSourceRefusal source (tool.BlockTooLong line)
+checked_too_long source offset count block rest line c long is_line =
+    let end : length c.blocks ≤ length c.blocks = omega arith in
+    let first = first_refused source c.blocks (with_last_newline block) (map with_last_newline rest) TooLong c.to (end, long) in
+    (first, elim c.line [ inl none ↦ absurd (cc) | inr e ↦ is_line ∙ e ])
+
+-- the next block is one too many
+pub checked_too_many : (source : List ℕ) (offset count : ℕ) (block : List ℕ) (rest : List (List ℕ))
+    → IsCheckedTo source offset count (block ∷ rest) → length (with_last_newline block) ≤ block_bytes_max → blocks_max ≤ count
+    → IsSourceRefusal source tool.TooManyBlocks
+checked_too_many source offset count block rest c short full =
+    let end : length c.blocks ≤ length c.blocks = omega arith in
+    first_refused source c.blocks (with_last_newline block) (map with_last_newline rest) TooMany c.to
+    (end, short, All-head OneBlock (with_last_newline block) (map with_last_newline rest) c.to.single, λ room. omega (arith, full, room, c.many))

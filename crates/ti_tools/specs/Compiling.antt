@@ -1,5 +1,5 @@
 -- What tic makes of a source (tic(1); the status is own): files, a report, and a status.
-use Rattle.std.specs.Prelude.{◌≡◌, ◌⊎◌, ℕ, Bool, List, [], Option, None, Some, Result, Ok, Err, IsOk, if◌then◌else◌}
+use Rattle.std.specs.Prelude.{◌≡◌, ◌⊎◌, ℕ, Bool, List, [], Result, Ok, Err, if◌then◌else◌}
 use Rattle.std.specs.List.{list_any}
 use Rattle.ti_source.specs.Code.{is_error}
 use Rattle.ti_meaning.specs.Owner.{readings}
@@ -7,7 +7,7 @@ use Rattle.ti_meaning.specs.Faults.{SourceFault, faults}
 use Rattle.ti_meaning.specs.Report.{report}
 use Rattle.ti_tools.specs.EntryFiles.{source_files}
 use Rattle.ti_devices.specs.Placing.{entries}
-use Rattle.ti_tools.specs.Sources.{first_line, source_refusal, source_texts}
+use Rattle.ti_tools.specs.Sources.{AreTaken, IsSourceRefusal, first_line, source_texts}
 use Rattle.ti_devices.specs.Tree.{FileAt}
 use Rattle.ti_tools.specs.declared.outcome.TicOutcome.{TicOutcome}
 use Rattle.ti_devices.specs.declared.tool_error.ToolError.{ToolError}
@@ -31,16 +31,6 @@ compilation check dir first texts = record {
   status = fault_status (faults (readings texts));
 }
 
--- the refusal of a source, if there is one, else what comes of it
-abbrev pub refusal_or : Option ToolError → Compilation → Result Compilation ToolError
-refusal_or None made = Ok made
-refusal_or (Some error) made = Err error
-
--- what comes of a source: a refusal, or all that its blocks make
-abbrev pub tic_result : List ℕ → Bool → List ℕ → Result Compilation ToolError
-tic_result source check dir =
-    refusal_or (source_refusal source) (compilation check dir (first_line source) (source_texts source))
-
 -- an outcome that holds files and report in memory, as plain data
 abbrev pub compilation_of : TicOutcome → Compilation
 compilation_of outcome = record {
@@ -49,7 +39,12 @@ compilation_of outcome = record {
   status = outcome.status;
 }
 
--- the answer is what comes of the source; want of memory comes only where there is no other refusal
-abbrev pub IsTicAnswer : Result Compilation ToolError → Result TicOutcome ToolError → Type 0
-IsTicAnswer wanted (Ok outcome) = wanted ≡ Ok (compilation_of outcome)
-IsTicAnswer wanted (Err error) = (wanted ≡ Err error) ⊎ ((error ≡ Memory) × IsOk wanted)
+-- the outcome is what all blocks of a source make, each of which is taken
+abbrev pub IsCompiled : List ℕ → Bool → List ℕ → TicOutcome → Type 0
+IsCompiled source check dir outcome =
+    AreTaken (source_texts source) × (compilation_of outcome ≡ compilation check dir (first_line source) (source_texts source))
+
+-- the answer is what comes of the source; want of memory comes only where it is not refused
+abbrev pub IsTicAnswer : List ℕ → Bool → List ℕ → Result TicOutcome ToolError → Type 0
+IsTicAnswer source check dir (Ok outcome) = IsCompiled source check dir outcome
+IsTicAnswer source check dir (Err error) = IsSourceRefusal source error ⊎ ((error ≡ Memory) × AreTaken (source_texts source))

@@ -1,10 +1,12 @@
 -- A source as the compiler takes it: its blocks, once a missing newline is put at its end, and why it is refused before
 -- any of it is compiled (the limits are own).
-use Rattle.std.specs.Prelude.{ℕ, suc, ◌+◌, ◌==◌, List, [], ◌∷◌, ◌++◌, length, Option, Some, None, nat_le, nat_lt, if◌then◌else◌}
+use Rattle.std.specs.Prelude.{ℕ, ◌≡◌, ◌⊎◌, ◌+◌, ◌==◌, List, ◌∷◌, [], ◌++◌, length, sum_by, if◌then◌else◌}
 use Rattle.ti_text.specs.Ascii as ascii
-use Rattle.ti_text.specs.Limits.{block_bytes_max, blocks_max}
 use Rattle.ti_source.specs.Cutting.{blocks_from_head, front_of, last_byte}
 use Rattle.ti_text.specs.Lines.{line_count}
+use Rattle.ti_meaning.specs.Edits.{IsRefusal, IsSoundEdit, insertion}
+use Rattle.ti_meaning.specs.declared.edits.EditError.{EditError}
+use Rattle.ti_meaning.specs.declared.edits.EditError.TheVariants.{TooLong, TooMany}
 use Rattle.ti_devices.specs.declared.tool_error.ToolError.{ToolError}
 use Rattle.ti_devices.specs.declared.tool_error.ToolError.TheVariants.{BlockTooLong, TooManyBlocks}
 
@@ -24,19 +26,32 @@ source_texts source = blocks_from_head ascii.newline (with_last_newline source)
 abbrev pub first_line : List ℕ → ℕ
 first_line source = line_count (preface_of source) + 1
 
--- why blocks are refused that stand behind this text and so many other blocks: the first that has more than 1,048,576
--- bytes, by the number of its first line, or the first that is one block more than `most`
-abbrev pub refusal_after : ℕ → List ℕ → ℕ → List (List ℕ) → Option ToolError
-refusal_after most before count [] = None
-refusal_after most before count (text ∷ texts) =
-    if nat_lt block_bytes_max (length text) then Some (BlockTooLong (line_count before + 1))
-    else (if nat_le most count then Some TooManyBlocks
-    else refusal_after most (before ++ text) (suc count) texts)
+-- nothing is wrong with the insertion of any of these blocks at the end of those before it
+abbrev pub AreTaken : List (List ℕ) → Type 0
+AreTaken blocks = (front : List (List ℕ)) (block : List ℕ) (back : List (List ℕ)) → blocks ≡ front ++ block ∷ back
+    → IsSoundEdit front (insertion (length front) block)
 
--- why a source of which so many blocks may be compiled is refused, if it is
-unfoldable pub refusal_within : ℕ → List ℕ → Option ToolError
-refusal_within most source = refusal_after most (preface_of source) 0 (source_texts source)
+-- the first of these blocks whose insertion at the end of those before it is refused, and it is refused so
+pub record IsFirstRefused (blocks : List (List ℕ)) (cause : EditError) : Type 0 where
+  pub front : List (List ℕ)
+  pub block : List ℕ
+  pub back : List (List ℕ)
+  pub whole : blocks ≡ front ++ block ∷ back
+  pub before : AreTaken front
+  pub refused : IsRefusal front (insertion (length front) block) cause
 
--- why a source is refused, if it is: at most 65,535 blocks may be compiled
-abbrev pub source_refusal : List ℕ → Option ToolError
-source_refusal source = refusal_within blocks_max source
+-- why a source is refused: its first block that is refused is too long, by the number of its first line, or is one too many
+abbrev pub IsSourceRefusal : List ℕ → ToolError → Type 0
+IsSourceRefusal source (BlockTooLong line) = (refused : IsFirstRefused (source_texts source) TooLong) × (line ≡ first_line source + sum_by line_count refused.front)
+IsSourceRefusal source TooManyBlocks = IsFirstRefused (source_texts source) TooMany
+IsSourceRefusal source other = ⊥
+
+-- ---- what comes of a source is determined
+
+-- a source is refused for one cause alone
+abbrev pub SourcesHaveOneRefusal : Type 0
+SourcesHaveOneRefusal = (source : List ℕ) (one other : ToolError) → IsSourceRefusal source one → IsSourceRefusal source other → one ≡ other
+
+-- a source of which each block is taken is not refused
+abbrev pub TakenSourcesAreNotRefused : Type 0
+TakenSourcesAreNotRefused = (source : List ℕ) (error : ToolError) → AreTaken (source_texts source) → IsSourceRefusal source error → ⊥

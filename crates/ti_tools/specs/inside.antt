@@ -1,3 +1,4 @@
 -- Words that only private functions and proofs use.
 pub mod EntryFiles
 pub mod Listings
+pub mod Loading

@@ -1,5 +1,5 @@
 //! Compiling a source into files.
-ghost use Rattle.std.specs.Prelude.{◌≡◌, ◌+◌, ◌≤◌, ◌^◌, [], ◌∷◌, ◌++◌, IfOk, Ok, map};
+ghost use Rattle.std.specs.Prelude.{◌≡◌, ◌+◌, ◌≤◌, ◌^◌, [], ◌∷◌, ◌++◌, IfOk, map};
 ghost use Rattle.std.specs.List.{list_any};
 ghost use Rattle.std.specs.String.{string_bytes};
 ghost use Rattle.ti_text.specs.Ascii as ascii;
@@ -7,7 +7,7 @@ ghost use Rattle.ti_source.specs.Cutting.{front_of, last_byte};
 ghost use Rattle.ti_source.specs.Code.{is_error};
 ghost use Rattle.ti_text.specs.Lines.{line_count};
 ghost use Rattle.ti_meaning.specs.Faults.{fault_seen};
-ghost use Rattle.ti_tools.specs.Compiling.{IsTicAnswer, compilation, compilation_of, fault_status, tic_result};
+ghost use Rattle.ti_tools.specs.Compiling.{IsCompiled, IsTicAnswer, compilation, compilation_of, fault_status};
 
 use crate::entry_files::entry_files;
 use crate::loading::database_of;
@@ -69,8 +69,8 @@ fn outcome(
 // Compiles a source whose last line has its newline.
 fn compile(alloc: Global, source: &[u8], options: &TicOptions) -> Result<TicOutcome, EditError>
     requires { last_byte ascii.newline source.now ≡ ascii.newline }
-    ensures { IfOk result (λ outcome. tic_result source.now options.now.check
-        (string_bytes options.now.dir) ≡ Ok (compilation_of outcome)) }
+    ensures { IfOk result (λ outcome. IsCompiled source.now options.now.check
+        (string_bytes options.now.dir) outcome) }
 {
     let database = database_of(alloc, source)?;
     Ok(outcome(alloc, &database, first_number(source), options)?)
@@ -92,8 +92,8 @@ fn compile_source(
     source: &[u8],
     options: &TicOptions,
 ) -> Result<TicOutcome, EditError>
-    ensures { IfOk result (λ outcome. tic_result source.now options.now.check
-        (string_bytes options.now.dir) ≡ Ok (compilation_of outcome)) }
+    ensures { IfOk result (λ outcome. IsCompiled source.now options.now.check
+        (string_bytes options.now.dir) outcome) }
 {
     if is_ended(source) {
         return compile(alloc, source, options);
@@ -109,8 +109,7 @@ fn compile_source(
 /// # Errors
 /// `BlockTooLong` or `TooManyBlocks`, of the first block at which one of them holds; then `Memory`.
 pub fn tic(alloc: Global, source: &[u8], options: &TicOptions) -> Result<TicOutcome, ToolError>
-    ensures { IsTicAnswer (tic_result source.now options.now.check
-        (string_bytes options.now.dir)) result }
+    ensures { IsTicAnswer source.now options.now.check (string_bytes options.now.dir) result }
 {
     match compile_source(alloc, source, options) {
         Ok(outcome) => Ok(outcome),

@@ -24,6 +24,7 @@ pub mod stopping;
 pub use compiling::tic;
 pub use listings::{InfocmpOptions, infocmp};
 pub use outcome::{TicOptions, TicOutcome};
+pub use sources::sources_have_one_refusal;
 pub use stopping::{message, status};
 pub use ti_commands::{InfocmpMode, Job, Refusal, UsageError, job, job_or_refusal};
 pub use ti_devices::{Counted, File, MemTree, Tally, ToolError, Tree, TreeFault, place};

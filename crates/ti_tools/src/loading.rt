@@ -1,24 +1,42 @@
 //! A database of all blocks of a source.
-ghost use Rattle.std.specs.Prelude.{◌≡◌, ◌⊎◌, IfErr, IfOk, IsSome, None, OnOk, map};
+ghost use Rattle.std.specs.Prelude.{◌≡◌, ◌⊎◌, IfErr, IfOk, MatchResult, None, OnOk, Some, map};
 ghost use Rattle.ti_text.specs.Ascii as ascii;
 ghost use Rattle.ti_source.specs.Cutting.{blocks_from_head, last_byte};
+ghost use Rattle.ti_meaning.specs.Edits.{change_of};
 ghost use Rattle.ti_meaning.specs.declared.edits.EditError.TheVariants.{Memory};
-ghost use Rattle.ti_tools.specs.Sources.{source_refusal};
+ghost use Rattle.ti_devices.specs.declared.tool_error.ToolError.{ToolError};
+ghost use Rattle.ti_tools.specs.Sources.{AreTaken, IsSourceRefusal, source_texts};
+ghost use Rattle.ti_tools.specs.inside.Loading.{first_refusal, insertions};
 
 use std::alloc::{AllocError, Global};
-use ti_base::{Database, EditError};
+use ti_base::{Database, Edit, EditError, Outcome, run};
 use ti_source::{blocks, blocks_are_single, each_has_cut};
 
-// The texts of the blocks of a source.
-fn block_texts(alloc: Global, source: &[u8]) -> Result<Vec<&[u8]>, AllocError>
-    ensures { IfOk result (λ texts. map (λ text. text.now) texts.items ≡ blocks_from_head ascii.newline source.now) }
+// The insertions of the blocks of a source, each behind those before it.
+fn insertions_of(alloc: Global, source: &[u8]) -> Result<Vec<Edit<'_>>, AllocError>
+    ensures { IfOk result (λ edits. map change_of edits.items ≡ insertions 0 (blocks_from_head ascii.newline source.now)) }
 {
-    let mut texts = Vec::new(alloc);
+    let mut edits = Vec::new(alloc);
     let mut cut = blocks(source);
     while let Some(text) = cut.next() {
-        texts.push(text)?;
+        edits.push(Edit::Insert {
+            at: edits.len(),
+            text,
+        })?;
     }
-    Ok(texts)
+    Ok(edits)
+}
+
+// Why the first edit that was refused was.
+fn check_outcomes(outcomes: &[Outcome]) -> Result<(), EditError>
+    ensures { MatchResult result (λ _. first_refusal outcomes.now ≡ None) (λ error. first_refusal outcomes.now ≡ Some error) }
+{
+    for outcome in outcomes {
+        if let Outcome::Refused(error) = *outcome {
+            return Err(error);
+        }
+    }
+    Ok(())
 }
 
 /// A database that holds the blocks of a source in their order. It takes the blocks of each source
@@ -29,12 +47,14 @@ fn block_texts(alloc: Global, source: &[u8]) -> Result<Vec<&[u8]>, AllocError>
 /// source, or want of memory.
 pub fn database_of(alloc: Global, source: &[u8]) -> Result<Database, EditError>
     requires { last_byte ascii.newline source.now ≡ ascii.newline }
-    ensures held { IfOk result (λ database. database ≡ blocks_from_head ascii.newline source.now) }
-    ensures sound { OnOk result (source_refusal source.now ≡ None) }
-    ensures refused { IfErr result (λ error. (error ≡ Memory) ⊎ IsSome (source_refusal source.now)) }
+    ensures held { IfOk result (λ database. database ≡ source_texts source.now) }
+    ensures taken { OnOk result (AreTaken (source_texts source.now)) }
+    ensures refused { IfErr result (λ error. (error ≡ Memory) ⊎ ((refusal : ToolError) × IsSourceRefusal source.now refusal)) }
 {
     each_has_cut();
     blocks_are_single();
-    let texts = block_texts(alloc, source)?;
-    Database::load(alloc, &texts)
+    let edits = insertions_of(alloc, source)?;
+    let (database, outcomes) = run(alloc, &edits)?;
+    check_outcomes(&outcomes)?;
+    Ok(database)
 }

@@ -1,13 +1,13 @@
 //! Sources before they are compiled: whether they are refused.
-ghost use Rattle.std.specs.Prelude.{◌≡◌, ◌+◌, ◌==◌, length, MatchResult, None, Some};
+ghost use Rattle.std.specs.Prelude.{◌≡◌, ◌==◌, length, IfErr, OnOk};
 ghost use Rattle.ti_text.specs.Ascii as ascii;
 ghost use Rattle.ti_source.specs.Cutting.{last_byte};
-ghost use Rattle.ti_tools.specs.Sources.{source_refusal, with_last_newline};
+ghost use Rattle.ti_tools.specs.Sources.{AreTaken, IsSourceRefusal, SourcesHaveOneRefusal, TakenSourcesAreNotRefused, source_texts, with_last_newline};
 
 use ti_devices::ToolError;
-use ti_source::blocks;
-use ti_text::count_lines;
+use ti_source::{blocks, blocks_are_single, each_has_cut};
 use ti_text::limits::{BLOCK_BYTES_MAX, BLOCKS_MAX};
+use ti_text::{count_lines, lines_add};
 
 /// Whether the last line of a text has its newline.
 pub fn is_ended(text: &[u8]) -> bool
@@ -35,9 +35,12 @@ fn ended_len(text: &[u8]) -> usize
 /// # Errors
 /// `BlockTooLong` or `TooManyBlocks`, of the first block at which one of them holds.
 pub fn check(source: &[u8]) -> Result<(), ToolError>
-    ensures { MatchResult result (λ _. source_refusal source.now ≡ None)
-        (λ error. source_refusal source.now ≡ Some error) }
+    ensures taken { OnOk result (AreTaken (source_texts source.now)) }
+    ensures refused { IfErr result (IsSourceRefusal source.now) }
 {
+    each_has_cut();
+    blocks_are_single();
+    lines_add();
     let mut cut = blocks(source);
     let mut offset = cut.preface().len();
     let mut count = 0;
@@ -53,3 +56,10 @@ pub fn check(source: &[u8]) -> Result<(), ToolError>
     }
     Ok(())
 }
+
+/// A law, with no code: a source is refused for one cause alone, that of its first block that is refused;
+/// where each block is taken, it is not refused.
+pub fn sources_have_one_refusal()
+    ensures one { SourcesHaveOneRefusal }
+    ensures taken { TakenSourcesAreNotRefused }
+{}

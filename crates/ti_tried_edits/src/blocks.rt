@@ -55,6 +55,19 @@ pub fn moves() -> [Edit<'static>; 11] {
     ]
 }
 
+/// Blocks put in at the end: texts that they share, uses, circular ones, and faults; and a text that is no block.
+pub fn insertions() -> [Edit<'static>; 7] {
+    [
+        insertion(0, b"a,cols#1,bel=^G,cr=\\r,\n"),
+        insertion(1, b"b,cols#2,bel=^G,cr=\\n,\n"),
+        insertion(2, b"x,\ny,\n"),
+        insertion(2, b"c,use=a,use=b,\n"),
+        insertion(3, b"d,cols@,use=a,cup=\\q,\n"),
+        insertion(4, b"p,use=q,foo,\n"),
+        insertion(5, b"q,use=p,\n"),
+    ]
+}
+
 /// A block put in.
 pub fn insertion(at: usize, text: &[u8]) -> Edit<'_> {
     Edit::Insert { at, text }

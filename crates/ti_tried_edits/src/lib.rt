@@ -1,9 +1,8 @@
-//! Scenarios of edits and loads in which any growth of memory may be refused, for the program `ti_refusals`; no code of the
-//! product.
+//! Scenarios of edits in which any growth of memory may be refused, for the program `ti_refusals`; no code of the product.
 //!
 //! - `blocks`: blocks and edits of them
 //! - `edits`: edits made one after the other
-//! - `wholes`: lists of edits, and of blocks, that are handed over at once
+//! - `wholes`: lists of edits that are handed over at once
 //! - `many`: one edit of a thousand blocks
 //! - `tried`: what a scenario has answered so far
 #![tactic(auto)]

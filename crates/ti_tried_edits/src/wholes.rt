@@ -1,4 +1,4 @@
-//! Lists of edits that are made in one call, and lists of blocks that are loaded.
+//! Lists of edits that are made in one call.
 use crate::edits::{LongBlocks, add_seen, snapshot};
 use crate::tried::{Tried, Trouble};
 use std::alloc::Global;
@@ -115,77 +115,4 @@ pub fn run_all(alloc: Global, edits: &[Edit<'_>]) -> Result<Tried, Trouble> {
 pub fn run_at_limit(alloc: Global) -> Result<Tried, Trouble> {
     let blocks = LongBlocks::new(alloc)?;
     run_all(alloc, &blocks.edits())
-}
-
-/// Blocks that are loaded: texts that they share, uses, circular ones, and faults.
-const LOADED: [&[u8]; 6] = [
-    b"a,cols#1,bel=^G,cr=\\r,\n",
-    b"b,cols#2,bel=^G,cr=\\n,\n",
-    b"c,use=a,use=b,\n",
-    b"d,cols@,use=a,cup=\\q,\n",
-    b"p,use=q,foo,\n",
-    b"q,use=p,\n",
-];
-
-/// Blocks of which the last is none.
-const REFUSED: [&[u8]; 2] = [b"a,bel=^G,\n", b"x,\ny,\n"];
-
-// The database of these blocks, each put in behind the others.
-fn put_in_turn(alloc: Global, texts: &[&[u8]]) -> Result<Database, Trouble> {
-    let mut database = Database::new(alloc);
-    for text in texts {
-        let end = database.len();
-        if database.insert(end, text).is_err() {
-            return Err(Trouble::Memory);
-        }
-    }
-    Ok(database)
-}
-
-// The database of blocks that are loaded, and once more where memory was refused to it.
-fn load_again(alloc: Global, texts: &[&[u8]], tried: &mut Tried) -> Result<Database, EditError> {
-    match Database::load(alloc, texts) {
-        Err(EditError::Memory) => {
-            tried.count_refusal();
-            Database::load(alloc, texts)
-        }
-        answered => answered,
-    }
-}
-
-// What is seen of the blocks loaded.
-fn seen_loaded(alloc: Global, tried: &mut Tried) -> Result<Vec<u8>, Trouble> {
-    match load_again(alloc, &LOADED, tried) {
-        Ok(database) => Ok(snapshot(alloc, &database)?),
-        Err(_) => Err(Trouble::Wrong("blocks were refused with memory there")),
-    }
-}
-
-// What is seen of the same blocks put in one by one.
-fn seen_put_in(alloc: Global) -> Result<Vec<u8>, Trouble> {
-    Ok(snapshot(alloc, &put_in_turn(alloc, &LOADED)?)?)
-}
-
-// The blocks of which one is none are refused by that name.
-fn expect_refused(alloc: Global, tried: &mut Tried) -> Result<(), Trouble> {
-    match load_again(alloc, &REFUSED, tried) {
-        Err(EditError::NotOneBlock) => Ok(()),
-        _ => Err(Trouble::Wrong("a text of two blocks was loaded")),
-    }
-}
-
-/// Loads blocks: what is loaded is what the same blocks put in one by one are, and one that is none is refused.
-///
-/// # Errors
-/// As of a scenario.
-pub fn load(alloc: Global) -> Result<Tried, Trouble> {
-    let mut tried = Tried::new();
-    let found = seen_loaded(alloc, &mut tried)?;
-    if seen_put_in(alloc)? != found {
-        return Err(Trouble::Wrong("the blocks loaded are not those put in"));
-    }
-    tried.add(found.as_slice());
-    expect_refused(alloc, &mut tried)?;
-    tried.add(b"NotOneBlock");
-    Ok(tried)
 }

@@ -3,9 +3,8 @@ use Rattle.std.specs.Prelude.{ℕ, List, Bool}
 use Rattle.std.specs.Ordering.{nat_cmp}
 use Rattle.std.specs.Cmp.Lexicographic.{slice_cmp}
 use Rattle.std.specs.BTreeSet.{BTreeSet, contains_by}
-use Rattle.std.specs.declared.vec.Vec.{Vec}
-use Rattle.std.specs.declared.alloc.Global.{Global}
+use denote.Ref.{Bor}
 
 -- whether the name is in the set
-abbrev pub is_named : BTreeSet (Vec ℕ Global) → List ℕ → Bool
-is_named names name = contains_by (λ key. slice_cmp nat_cmp name key.items) names
+abbrev pub is_named : BTreeSet (Bor (List ℕ)) → List ℕ → Bool
+is_named names name = contains_by (λ key. slice_cmp nat_cmp name key.now) names

@@ -1,9 +1,12 @@
-use Rattle.std.proofs.Common.{◌≡◌, IfOk, List, ℕ, Ok, Result, ap, subst, sym, ◌∙◌}
+use Rattle.std.proofs.Common.{◌≡◌, ◌+◌, IfOk, List, ℕ, ap, subst, sym, ◌∙◌}
 use Rattle.std.specs.String.{string_bytes}
-use Rattle.ti_devices.specs.declared.tool_error.ToolError.{ToolError}
-use Rattle.ti_tools.specs.Compiling.{Compilation, compilation_of, tic_result}
+use Rattle.ti_source.specs.Cutting.{blocks_from_head, front_of}
+use Rattle.ti_text.specs.Lines.{line_count}
+use Rattle.ti_tools.specs.Compiling.{compilation, compilation_of}
+use Rattle.ti_tools.specs.Sources.{AreTaken, with_last_newline}
+use Rattle.ti_tools.specs.declared.outcome.TicOutcome.{TicOutcome}
 use Rattle.ti_tools.proofs.Ending.{last_byte-newline}
-use Rattle.ti_tools.proofs.Inserting.{result-newline}
+use Rattle.ti_tools.proofs.Inserting.{newline_changes_nothing}
 use Rattle.ti_tools.proofs.compiling.compile_source.Goals as goal
 
 pub compile-requires-2 : goal.compile-requires-2
@@ -13,6 +16,8 @@ pub returns : goal.returns
 returns c =
     let check = c.args.options.now.check in
     let dir = string_bytes c.args.options.now.dir in
-    let same = ap (λ (text : List ℕ). tic_result text check dir) (c.as_slice.ensures.value ∙ c.in_ok-ended.ensures)
-    ∙ result-newline c.args.source.now check dir (sym c.is_ended.ensures ∙ c.if-is_ended.false) in
-    subst (λ (result : Result Compilation ToolError). IfOk c.compile-2.result (λ outcome. result ≡ Ok (compilation_of outcome))) same c.compile-2.ensures
+    let same = ap with_last_newline (c.as_slice.ensures.value ∙ c.in_ok-ended.ensures)
+    ∙ newline_changes_nothing c.args.source.now (sym c.is_ended.ensures ∙ c.if-is_ended.false) in
+    let P : List ℕ → TicOutcome → Type 0 = λ ended outcome.
+    AreTaken (blocks_from_head 10 ended) × (compilation_of outcome ≡ compilation check dir (line_count (front_of 10 ended) + 1) (blocks_from_head 10 ended)) in
+    subst (λ (ended : List ℕ). IfOk c.compile-2.result (P ended)) same c.compile-2.ensures

@@ -2,4 +2,4 @@ use Rattle.ti_tools.proofs.Refusing.{IsCheckedTo}
 use Rattle.ti_tools.proofs.sources.check.Given as goal
 
 abbrev pub invariant-loop-text : goal.invariant-loop-text
-invariant-loop-text l = IsCheckedTo 65535 l.source l.offset l.count l.cut.blocks
+invariant-loop-text l = IsCheckedTo l.source l.offset l.count l.cut.blocks

@@ -1,8 +1,0 @@
-use Rattle.std.proofs.Common.{◌≡◌, length, map, drop, vec_len, vec_capacity}
-use Rattle.ti_meaning.specs.Edits.{change_of}
-use Rattle.ti_base.proofs.Running.{RunExtends}
-use Rattle.ti_base.proofs.database.run.Given as goal
-
-abbrev pub invariant-loop-edit : goal.invariant-loop-edit
-invariant-loop-edit l =
-    (vec_len l.outcomes ≡ l.edit-index) × (vec_capacity l.outcomes ≡ length l.edits) × RunExtends (map change_of l.edits) l.outcomes.items l.database (map change_of (drop l.edit-index l.edits))
