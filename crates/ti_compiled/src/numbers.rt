@@ -7,7 +7,7 @@ ghost use Rattle.ti_caps.specs.declared.capability.Kind.TheVariants.{Number};
 ghost use Rattle.ti_layout.specs.Image.{image, below, format_of};
 ghost use Rattle.ti_layout.specs.Layout as layout;
 ghost use Rattle.ti_layout.specs.Layout.{FitsTwoBytes, number_section, number_bytes};
-ghost use Rattle.ti_layout.specs.Writing.{HasSizes};
+ghost use Rattle.ti_layout.specs.inside.Writing.{HasSizes};
 ghost use Rattle.ti_layout.specs.Values.{Contents};
 ghost use Rattle.ti_compiled.specs.inside.Changes.{image_with, BytesFitWith, BytesAreOverWith, number_content, wide_value, with_number, HasNumbers};
 ghost use Rattle.ti_compiled.specs.inside.Image.{names_in, contents_in, IsImage};
@@ -15,6 +15,7 @@ ghost use Rattle.ti_compiled.specs.inside.Bytes.{Replaces};
 
 use crate::bytes::{overwrite, resize_part};
 use crate::header::{header_of, make_room, write_header};
+use byteorder::{ByteOrder, LittleEndian};
 use ti_layout::{Format, HEADER_SIZE, Header, WriteError, number};
 use ti_text::limits::LEGACY_NUMBER_MAX;
 
@@ -82,17 +83,9 @@ fn put_number(bytes: &mut Vec<u8>, at: usize, format: Format, number: u32)
     ensures part { Replaces bytes.old.items bytes.new.items at (layout.width format) (λ _. number_bytes format number) }
     ensures len { vec_len bytes.new ≡ vec_len bytes.old }
 {
-    let low = [(number % 256) as u8, (number / 256 % 256) as u8];
-    match format {
-        Format::Legacy => overwrite(bytes, at, &low),
-        Format::Extended => {
-            let high = [
-                (number / 65_536 % 256) as u8,
-                (number / 16_777_216 % 256) as u8,
-            ];
-            overwrite(bytes, at, &[low[0], low[1], high[0], high[1]]);
-        }
-    }
+    let mut spelled = [0; 4];
+    LittleEndian::write_u32(&mut spelled, number);
+    overwrite(bytes, at, &spelled[..format.width()]);
 }
 
 // Writes as many of the numbers one after the other.

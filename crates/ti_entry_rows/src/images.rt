@@ -148,6 +148,49 @@ fn a_flag_changes_the_parity(rt: HostRuntime) -> Result<(), WriteError> {
     Ok(())
 }
 
+/// The entry of `x` with `cbt` of 4,079 times `A`, which is as long as an entry may be.
+fn longest_entry(alloc: Global) -> Result<Vec<u8>, AllocError> {
+    let mut bytes = Vec::from_slice(alloc, b"\x1a\x01\x02\0\0\0\0\0\x01\0\xf0\x0fx\0\0\0")?;
+    bytes.resize(4095, b'A')?;
+    bytes.push(0)?;
+    Ok(bytes)
+}
+
+// What an image answers to a `cbt` of so many times `A`.
+fn give_long(
+    image: &mut Image,
+    alloc: Global,
+    count: usize,
+) -> Result<Option<Result<(), WriteError>>, AllocError> {
+    let text = vec![in alloc; b'A'; count]?;
+    Ok(give_text(image, alloc, 0, &text))
+}
+
+fn take_flag(image: &mut Image, index: usize) -> Option<Result<(), WriteError>> {
+    let cap = Cap::at(Kind::Flag, index)?;
+    Some(image.set(cap, None))
+}
+
+#[test]
+fn the_longest_entry_comes_back(rt: HostRuntime) -> Result<(), WriteError> {
+    let mut image = empty_image(rt.alloc(), b"x")?;
+    let longest = longest_entry(rt.alloc())?;
+    assert_eq!(rt; longest.len(), 4096);
+    assert!(rt; give_long(&mut image, rt.alloc(), 4079)? == Some(Ok(())));
+    assert!(rt; is(image.bytes(), &longest));
+    assert!(rt; give_long(&mut image, rt.alloc(), 4080)? == Some(Err(WriteError::TooLarge)));
+    assert!(rt; is(image.bytes(), &longest));
+    assert!(rt; give_long(&mut image, rt.alloc(), 4077)? == Some(Ok(())));
+    assert!(rt; give_flag(&mut image, 0) == Some(Ok(())));
+    assert_eq!(rt; image.bytes().len(), 4096);
+    assert!(rt; give_long(&mut image, rt.alloc(), 4078)? == Some(Err(WriteError::TooLarge)));
+    assert_eq!(rt; image.bytes().len(), 4096);
+    assert!(rt; take_flag(&mut image, 0) == Some(Ok(())));
+    assert!(rt; give_long(&mut image, rt.alloc(), 4079)? == Some(Ok(())));
+    assert!(rt; is(image.bytes(), &longest));
+    Ok(())
+}
+
 #[rattlefmt::skip]
 const NUMBERS: [Step<'static>; 4] = [
     Step { given: Given::Number(0, 80), len: 16, place: 0, bytes: b"\x1a\x01\x02\0\0\0\x01\0\0\0\0\0x\0P\0" },

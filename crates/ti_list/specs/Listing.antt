@@ -3,7 +3,7 @@ use Rattle.std.specs.Prelude.{ℕ, ◌+◌, ◌||◌, nat_lt, if◌then◌else�
 use Rattle.std.specs.List.{range_with_len}
 use Rattle.ti_text.specs.Ascii as ascii
 use Rattle.ti_caps.specs.Tables.{Capability, capability, count_of}
-use Rattle.ti_caps.specs.inside.NameOrder.{in_name_order}
+use Rattle.ti_caps.specs.NameOrder.{in_name_order}
 use Rattle.ti_caps.specs.declared.capability.Kind.{Kind}
 use Rattle.ti_caps.specs.declared.capability.Kind.TheVariants.{Flag, Number, Text}
 use Rattle.ti_source.specs.Reading.{Said, said_flag, said_number, said_text, said_cancel}

@@ -7,4 +7,5 @@ pub mod Parting
 pub mod Replying
 pub mod Terminals
 pub mod Ending
+pub mod Expanded
 pub mod Searches

@@ -2,7 +2,7 @@ use Rattle.std.proofs.Common.{◌≤◌, ℕ, List, length, sym, ap, ◌∙◌, 
 use Rattle.ti_caps.specs.Tables.{capability}
 use Rattle.ti_caps.specs.declared.capability.Kind.TheVariants.{Text}
 use Rattle.ti_layout.specs.Image.{image, image_limit}
-use Rattle.ti_layout.specs.Writing.{HasSizes}
+use Rattle.ti_layout.specs.inside.Writing.{HasSizes}
 use Rattle.ti_compiled.specs.inside.Changes.{image_with, text_content}
 use Rattle.ti_compiled.specs.Image.{with_content}
 use Rattle.ti_compiled.specs.inside.Image.{names_in, contents_in}

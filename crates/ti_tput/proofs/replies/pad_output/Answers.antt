@@ -1,4 +1,4 @@
-use Rattle.std.proofs.Common.{◌≡◌, refl}
+use Rattle.std.proofs.Common.{refl}
 use Rattle.ti_tput.proofs.Padded.{padded_text-some, padded_text-none}
 use Rattle.ti_tput.proofs.replies.pad_output.Goals as goal
 
