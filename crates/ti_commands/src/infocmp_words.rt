@@ -67,7 +67,7 @@ pub(crate) const INFOCMP: Tool<'static> = Tool {
         Argument {
             id: "sort",
             form: Form::Choice('s', "ORDER", &["d", "i"]),
-            help: "Sort by place in the entry (d) or by name (i) [default: i]",
+            help: "Sort by place (d) or name (i) [default: i]",
         },
         Argument {
             id: "first",
