@@ -3,7 +3,8 @@
 #   make            builds the program (proving every crate that it stands on)
 #   make test       the merge gate and the black-box cases: what CI runs
 #   make cli        the black-box cases alone, on the built program
-#   make package    whether pages, completions and install are in order
+#   make integration  the program with editors, and with programs in a terminal
+#   make package    whether pages, completions, install and packages are in order
 #   make hostile    malicious inputs of full size, and 20,000 made at random
 #   make wrong-bodies   the further wrong bodies, which the prover must refuse too
 #   make bench      counts and times the tools beside ncurses's, and edits of long lists
@@ -12,6 +13,9 @@
 #                   ti-tic, ti-infocmp and ti-tput
 #   make uninstall  takes all of that away again
 #   make dist       makes ti-VERSION.tar.gz of the last commit, which builds
+#   make deb        makes Debian packages of the built program, in packages/
+#   make release    makes archives of the built program and of the source, in packages/
+#   make reproduce  builds two clones of the last commit, and compares what they give
 
 PREFIX ?= /usr/local
 BINDIR ?= $(PREFIX)/bin
@@ -20,14 +24,14 @@ BASHDIR ?= $(PREFIX)/share/bash-completion/completions
 ZSHDIR ?= $(PREFIX)/share/zsh/site-functions
 FISHDIR ?= $(PREFIX)/share/fish/vendor_completions.d
 EXAMPLESDIR ?= $(PREFIX)/share/doc/ti/examples
-VERSION ?= $(shell git log -1 --format=%cd --date=format:%Y%m%d 2>/dev/null || echo 0)
+VERSION := $(shell cat VERSION)
 
 PROGRAM = crates/ti/out/ti
 EXAMPLES = $(wildcard examples/*)
 PAGES = man/ti.1 man/ti-tic.1 man/ti-infocmp.1 man/ti-tput.1 man/ti-session.1 man/ti-report.7
 TOOL_NAMES = ti-tic ti-infocmp ti-tput
 
-.PHONY: all test cli package hostile wrong-bodies bench install uninstall dist
+.PHONY: all test cli integration package hostile wrong-bodies bench install uninstall dist deb release reproduce
 
 all:
 	./ti --help >/dev/null
@@ -37,6 +41,9 @@ test:
 
 cli: all
 	python3 tests/cli/run.py
+
+integration: all
+	python3 tests/integration/run.py
 
 package: all
 	python3 tests/package/run.py
@@ -89,3 +96,12 @@ uninstall:
 dist:
 	git archive --format=tar.gz --prefix=ti-$(VERSION)/ -o ti-$(VERSION).tar.gz HEAD
 	@echo ti-$(VERSION).tar.gz
+
+deb: all
+	python3 build/packages.py deb
+
+release: all
+	python3 build/packages.py release
+
+reproduce:
+	build/reproduce

@@ -1,16 +1,21 @@
 #!/usr/bin/env python3
-"""Builds a program of the repository: proves the libraries that it stands on, several at a time, and then itself, and says
-on standard error which crate of how many is proved.
+"""Builds a program of the repository, if anything that it is made from has changed: proves the
+libraries that it depends on, several at a time, and then itself, and says on standard error which
+crate of how many is proved.
 
-    build/build.py [PROGRAM]       `ti`, where none is named
+    build/build.py [PROGRAM]            `ti`, if none is named
+    build/build.py --built [PROGRAM]    notes that the program that is in its place was built from
+                                        what is there now, as the gate has built it
 
-Where a crate is not proved, what the prover said is shown, and the status is 1. As many processors are used as
-TI_JOBS says; where that is not set, as many as there are, as far as there are so many times MEMORY_OF_ONE of memory.
+If a crate is not proved, what the prover said is shown, and the status is 1. It uses as many
+processors as TI_JOBS says; if that is not set, as many as there are, as far as there are so many
+times MEMORY_OF_ONE of memory.
 
-A library is begun once those that it stands on are proved, first the one with the most code behind it, on the processors
-that no other one waits for. It is proved from nothing, as the gate proves it, and what is kept for the crates above it is
-what it states, without its proofs: that is read in a fraction of the time. A library that was proved before is left as it
-is while its files, those below it and the toolchain are the same.
+A library is begun once those that it depends on are proved, first the one with the most code above
+it, on the processors that no other one waits for. It is proved from nothing, as the gate proves it,
+and what is stored for the crates above it is what it states, without its proofs: that is read in a
+fraction of the time. A library that was proved before is left as it is while its files, those below
+it and the toolchain are the same.
 """
 import fcntl
 import hashlib
@@ -21,67 +26,51 @@ import subprocess
 import sys
 from concurrent.futures import FIRST_COMPLETED, ThreadPoolExecutor, wait
 
-TOP = os.path.dirname(os.path.dirname(os.path.abspath(__file__)))
-# Each command of rt is a file of the toolchain's folder `bin`.
+from crates import TOP, all_below, direct_needs, files_of, read_crates
+
+# Each command of rt is a file of the toolchain's directory `bin`.
 KIT = os.path.dirname(os.path.dirname(os.path.realpath(shutil.which("rt") or "rt")))
-# The one folder of this crate in which rt expects built libraries and looks for no sources.
+# The one directory of this crate in which rt expects built libraries and looks for no sources.
 LIBRARIES = f"{TOP}/crates/ti/out/rlib"
-PARTS = ("src", "specs", "proofs")
+FIRST_BUILD = "the first build proves each crate: about 12 minutes on four cores"
 # More do not shorten the proof of one crate.
 JOBS_OF_ONE = 4
 MEMORY_OF_ONE = 2 << 30
 
 
-def read_needs():
-    """What each crate of the repository stands on: crates of the repository, and the toolchain's libraries."""
-    needs = {}
-    with open(f"{TOP}/crates.txt", encoding="utf-8") as file:
-        for line in file:
-            name, colon, below = line.partition("#")[0].partition(":")
-            if colon:
-                needs[name.strip()] = below.split()
-    return needs
-
-
-def all_below(needs, name):
-    """The crates of the repository that one stands on, each behind those that it stands on itself."""
-    found = []
-    for below in needs[name]:
-        if below in needs:
-            found += [it for it in [*all_below(needs, below), below] if it not in found]
-    return found
-
-
-def files_of(name):
-    """The files that a crate is made from, in an order of their own."""
-    found = []
-    for part in PARTS:
-        for folder, _, files in os.walk(f"{TOP}/crates/{name}/{part}"):
-            found += [f"{folder}/{file}" for file in files]
-    return sorted(found)
-
-
 def read(file):
-    with open(file, "rb") as it:
-        return it.read()
+    with open(file, "rb") as opened:
+        return opened.read()
 
 
-def lines_behind(needs, libraries):
-    """For each library the lines of the longest chain of libraries that begins with it: about how long that takes."""
-    behind = {}
+def lines_above(crates, libraries):
+    """For each library the lines of the longest chain of libraries that begins with it."""
+    above = {}
     for name in reversed(libraries):
-        above = [behind[it] for it in libraries if name in needs[it]]
-        behind[name] = sum(read(file).count(b"\n") for file in files_of(name)) + max(above, default=0)
-    return behind
+        chains = [above[user] for user in libraries if name in crates[user].needs]
+        own = sum(read(file).count(b"\n") for file in files_of(name))
+        above[name] = own + max(chains, default=0)
+    return above
 
 
-def sum_of(needs, name):
-    """A sum of all that a crate is made from: its files, the libraries below it and the toolchain."""
-    made_from = [read(f"{KIT}/WHAT"), repr([(it, needs[it]) for it in [*all_below(needs, name), name]]).encode()]
-    for it in [*all_below(needs, name), name]:
-        for file in files_of(it):
+def digest(*parts):
+    """One digest of several pieces of bytes."""
+    return hashlib.sha256(b"".join(hashlib.sha256(part).digest() for part in parts)).hexdigest()
+
+
+def digest_of(crates, name, known):
+    """A digest of all that a crate is made from: its files, the crates below it, the toolchain.
+
+    What is known already, by name, is not read again, and what is found is added to it.
+    """
+    if name not in known:
+        made_from = [read(f"{KIT}/WHAT"), repr(crates[name].needs).encode()]
+        for need in direct_needs(crates, name):
+            made_from.append(digest_of(crates, need, known).encode())
+        for file in files_of(name):
             made_from += [os.path.relpath(file, TOP).encode(), read(file)]
-    return hashlib.sha256(b"".join(hashlib.sha256(it).digest() for it in made_from)).hexdigest()
+        known[name] = digest(*made_from)
+    return known[name]
 
 
 def mark_of(name):
@@ -89,72 +78,78 @@ def mark_of(name):
     return f"{LIBRARIES}/{name}.sum"
 
 
-def is_proved(sums, name):
-    """Whether a library was proved before, or a program built, and nothing that it is made from differs since."""
+def is_proved(digests, name):
+    """Whether a crate was proved, and nothing that it is made from has changed since."""
     try:
-        return read(mark_of(name)).decode() == sums[name]
+        return read(mark_of(name)).decode() == digests[name]
     except OSError:
         return False
 
 
-def run(folder, *words):
-    """Runs a command of the toolchain in a folder. Gives whether it ended well, and what it said."""
-    how = {"stdin": subprocess.DEVNULL, "stdout": subprocess.PIPE, "stderr": subprocess.STDOUT}
-    ran = subprocess.run([f"{KIT}/bin/{words[0]}", *words[1:]], cwd=folder, errors="replace", **how)
-    ended = "" if ran.returncode >= 0 else f"{words[0]} was ended by signal {-ran.returncode}; TI_JOBS=1 takes the least memory\n"
-    return ran.returncode == 0, ran.stdout + ended
+def run(directory, *words):
+    """Runs a command of the toolchain. Gives whether it ended well, and what it said."""
+    ran = subprocess.run(
+        [f"{KIT}/bin/{words[0]}", *words[1:]], cwd=directory, errors="replace", check=False,
+        stdin=subprocess.DEVNULL, stdout=subprocess.PIPE, stderr=subprocess.STDOUT,
+    )
+    if ran.returncode >= 0:
+        return ran.returncode == 0, ran.stdout
+    why = f"{words[0]} was ended by signal {-ran.returncode}; TI_JOBS=1 takes the least memory\n"
+    return False, ran.stdout + why
 
 
-def prove(needs, name, jobs, root, *more):
-    """Proves a crate, and gives whether it is proved, and what was said. The further words say what is made of it."""
+def prove(crates, name, jobs, root, *more):
+    """Proves a crate, by further words makes something of it. Gives what `run` gives."""
     words = ["--crate-name", name, f"src/{root}.rt", "--links", f"{name}=", "--jobs", str(jobs)]
-    words += ["--antt-project", f"{KIT}/rattle/logic/antt-project.json", "--logic-built", f"{KIT}/logic_built"]
-    for it in ["std", *needs[name]]:
-        words += ["--extern", f"{it}={LIBRARIES if it in needs else f'{KIT}/rlibs'}/{it}.rlib"]
-    for it in (LIBRARIES, f"{KIT}/rlibs"):
-        words += ["-L", f"dependency={it}"]
+    words += ["--antt-project", f"{KIT}/rattle/logic/antt-project.json"]
+    words += ["--logic-built", f"{KIT}/logic_built"]
+    for need in ["std", *crates[name].needs]:
+        directory = LIBRARIES if need in crates else f"{KIT}/rlibs"
+        words += ["--extern", f"{need}={directory}/{need}.rlib"]
+    for directory in (LIBRARIES, f"{KIT}/rlibs"):
+        words += ["-L", f"dependency={directory}"]
     return run(f"{TOP}/crates/{name}", "rattle", "build", *words, *more)
 
 
-def prove_marked(needs, sums, name, make):
-    """Calls what proves a crate and makes what is wanted of it. Gives whether it is proved, and what was said."""
+def prove_marked(crates, digests, name, make):
+    """Calls what proves a crate. Gives whether it is proved, and what was said."""
     if os.path.exists(mark_of(name)):
         os.remove(mark_of(name))
     proved, said = make()
-    # Where a file was edited since the build began, also of a library below, nothing tells which text was proved.
-    if proved and sum_of(needs, name) == sums[name]:
+    # If a file was edited since the build began, nothing tells which text was proved.
+    if proved and digest_of(crates, name, {}) == digests[name]:
         with open(mark_of(name), "w", encoding="utf-8") as file:
-            file.write(sums[name])
+            file.write(digests[name])
     return proved, said
 
 
-def prove_library(needs, sums, name, jobs):
-    """Proves a library and keeps what it states. Gives whether it is proved, and what was said."""
+def prove_library(crates, digests, name, jobs):
+    """Proves a library and stores what it states. Gives whether it is proved, and what was said."""
     words = ["lib", "--statements", "-o", f"{LIBRARIES}/{name}.rlib"]
-    return prove_marked(needs, sums, name, lambda: prove(needs, name, jobs, *words))
+    return prove_marked(crates, digests, name, lambda: prove(crates, name, jobs, *words))
 
 
-def prove_all(needs, sums, libraries, jobs, log):
+def prove_all(crates, digests, libraries, jobs, log):
     """Proves the libraries, and gives whether all are proved. What is said is added to the log."""
-    behind = lines_behind(needs, libraries)
-    proved = [it for it in libraries if is_proved(sums, it)]
-    left = sorted((it for it in libraries if it not in proved), key=lambda it: -behind[it])
+    above = lines_above(crates, libraries)
+    proved = [name for name in libraries if is_proved(digests, name)]
+    left = sorted((name for name in libraries if name not in proved), key=lambda name: -above[name])
     running, idle = {}, jobs
     with ThreadPoolExecutor(jobs) as pool:
         while left or running:
-            ready = [it for it in left if all(below in proved for below in all_below(needs, it))]
+            ready = [name for name in left if set(all_below(crates, name)) <= set(proved)]
             while ready and idle:
                 name, share = ready[0], min(max(idle // len(ready), 1), JOBS_OF_ONE)
                 left.remove(name)
                 ready.remove(name)
                 idle -= share
-                running[pool.submit(prove_library, needs, sums, name, share)] = name, share
+                running[pool.submit(prove_library, crates, digests, name, share)] = name, share
             for done in wait(running, return_when=FIRST_COMPLETED).done:
                 name, share = running.pop(done)
                 idle += share
                 try:
                     succeeded, said = done.result()
-                except Exception as error:  # a full disk, or whatever else: the others still end, and the log has it
+                except Exception as error:  # a full disk, say: the others still end
                     succeeded, said = False, f"{error}\n"
                 log.append(f"== {name}\n{said}")
                 if succeeded:
@@ -167,29 +162,49 @@ def prove_all(needs, sums, libraries, jobs, log):
     return len(proved) == len(libraries)
 
 
-def link_program(needs, name, jobs):
+def link_program(crates, name, jobs):
     """Proves a program, compiles and links it. Gives whether that went well, and what was said."""
     program = f"{LIBRARIES}/{name}"
-    proved, said = prove(needs, name, jobs, "main", "--toolchain", f"{KIT}/toolchain", "-o", f"{program}.o")
+    tools = ["--toolchain", f"{KIT}/toolchain"]
+    proved, said = prove(crates, name, jobs, "main", *tools, "-o", f"{program}.o")
     if not proved:
         return False, said
-    words = ["--target", "x86_64-unknown-linux-gnu", "--toolchain", f"{KIT}/toolchain", "-o", program, f"{program}.o"]
+    words = ["--target", "x86_64-unknown-linux-gnu", *tools, "-o", program, f"{program}.o"]
     linked, more = run(TOP, "rattle-link", *words, f"{KIT}/c/libos_c.a", f"{KIT}/c/liblibc_c.a")
     return linked, said + more
 
 
-def build_program(needs, sums, name, jobs):
-    """Builds a program, unless it was built before. Gives whether it is built, and what was said."""
-    built, said = True, ""
-    if not is_proved(sums, name):
-        built, said = prove_marked(needs, sums, name, lambda: link_program(needs, name, jobs))
-    if built:
-        # rt makes a program of this name too, perhaps from other text. One that runs is replaced whole.
-        place = f"{TOP}/crates/{name}/out/{name}"
-        os.makedirs(os.path.dirname(place), exist_ok=True)
-        shutil.copy(f"{LIBRARIES}/{name}", f"{place}.new")
-        os.replace(f"{place}.new", place)
-    return built, said
+def place_of(name):
+    """Where the program of a crate is."""
+    return f"{TOP}/crates/{name}/out/{name}"
+
+
+def built_from(digests, name):
+    """What the file beside a program says if that program was built from what is there now."""
+    return f"{digests[name]} {digest(read(place_of(name)))}"
+
+
+def mark_built(digests, name):
+    """Says beside a program that it was built from what is there now."""
+    with open(f"{place_of(name)}.sum", "w", encoding="utf-8") as file:
+        file.write(built_from(digests, name))
+
+
+def is_built(digests, name):
+    """Whether the program that is in its place was built from what is there now."""
+    try:
+        return read(f"{place_of(name)}.sum").decode() == built_from(digests, name)
+    except OSError:
+        return False
+
+
+def place_program(digests, name):
+    """Puts a program that was just built in its place, whole, since an older one may be running."""
+    os.makedirs(os.path.dirname(place_of(name)), exist_ok=True)
+    shutil.copy(f"{LIBRARIES}/{name}", f"{place_of(name)}.new")
+    os.replace(f"{place_of(name)}.new", place_of(name))
+    if is_proved(digests, name):
+        mark_built(digests, name)
 
 
 def tell(what):
@@ -197,7 +212,7 @@ def tell(what):
 
 
 def count_jobs():
-    """How many processors to use; none where TI_JOBS is no number from 1 on."""
+    """How many processors to use; none if TI_JOBS is no number from 1 on."""
     said = os.environ.get("TI_JOBS", "")
     if said:
         return int(said) if re.fullmatch("[1-9][0-9]{0,5}", said) else 0
@@ -208,37 +223,69 @@ def count_jobs():
     return max(min(len(os.sched_getaffinity(0)), memory // MEMORY_OF_ONE), 1)
 
 
-def build(program, jobs, log):
+def build(crates, program, digests, jobs, log):
     """Builds a program, and gives whether it was built. What is said is added to the log."""
-    needs = read_needs()
-    libraries = all_below(needs, program)
-    sums = {it: sum_of(needs, it) for it in [*libraries, program]}
+    libraries = all_below(crates, program)
+    if not any(os.path.exists(mark_of(name)) for name in libraries):
+        tell(FIRST_BUILD)
     os.makedirs(LIBRARIES, exist_ok=True)
-    if not prove_all(needs, sums, libraries, jobs, log):
+    if not prove_all(crates, digests, libraries, jobs, log):
         return False
-    tell(f"proving and building crate {len(libraries) + 1} of {len(libraries) + 1}: {program}")
-    is_built, said = build_program(needs, sums, program, min(jobs, JOBS_OF_ONE))
-    log.append(f"== {program}\n{said}")
-    return is_built
+    if not is_proved(digests, program):
+        tell(f"proving and building crate {len(libraries) + 1} of {len(libraries) + 1}: {program}")
+        make = lambda: link_program(crates, program, min(jobs, JOBS_OF_ONE))
+        is_linked, said = prove_marked(crates, digests, program, make)
+        log.append(f"== {program}\n{said}")
+        if not is_linked:
+            return False
+    place_program(digests, program)
+    return True
 
 
-def main():
-    program = sys.argv[1] if len(sys.argv) > 1 else "ti"
-    jobs = count_jobs()
-    if not jobs:
-        tell("cannot be built: TI_JOBS is no number from 1 on")
-        return 1
+def hold_checkout():
+    """Waits until no other build of this checkout runs; others wait while this process lives."""
     held = os.open(os.path.dirname(os.path.abspath(__file__)), os.O_RDONLY)
     try:
         fcntl.flock(held, fcntl.LOCK_EX | fcntl.LOCK_NB)
     except BlockingIOError:
         tell("waiting for another build of this checkout to end")
         fcntl.flock(held, fcntl.LOCK_EX)
-    log = []
-    is_built = build(program, jobs, log)
-    if not is_built:
-        print(*log, sep="", end="", file=sys.stderr, flush=True)
-    return int(not is_built)
+
+
+def build_if_changed(program):
+    """Builds a program unless it was built from what is there now. Gives the exit status."""
+    crates, digests, log = read_crates(), {}, []
+    digest_of(crates, program, digests)
+    if is_built(digests, program):
+        return 0
+    jobs = count_jobs()
+    if not jobs:
+        tell("cannot be built: TI_JOBS is no number from 1 on")
+        return 1
+    hold_checkout()
+    digests.clear()
+    digest_of(crates, program, digests)
+    if is_built(digests, program) or build(crates, program, digests, jobs, log):
+        return 0
+    print(*log, sep="", end="", file=sys.stderr, flush=True)
+    tell("the build failed")
+    return 1
+
+
+def main():
+    words = [word for word in sys.argv[1:] if word != "--built"]
+    program = words[0] if words else "ti"
+    if not shutil.which("rt"):
+        if os.path.exists(place_of(program)):
+            return 0
+        tell("cannot be built: the command rt of the Rattle toolchain is not on PATH")
+        return 1
+    if "--built" not in sys.argv[1:]:
+        return build_if_changed(program)
+    digests = {}
+    digest_of(read_crates(), program, digests)
+    mark_built(digests, program)
+    return 0
 
 
 if __name__ == "__main__":

@@ -1,7 +1,7 @@
 # Completion of ti for bash: options, terminal names from the places of entries,
 # capability names, and files.
 
-# The capabilities of terminfo(5), flags, numbers and strings, in the order of the tables.
+# The capabilities of terminfo(5), booleans, numbers and strings, in the order of the tables.
 _ti_capabilities='
     bw am xsb xhp xenl eo gn hc km hs in da db mir msgr os eslok xt hz ul xon nxon mc5i
     chts nrrmc npc ndscr ccc bce hls xhpa crxm daisy xvpa sam cpix lpix OTbs OTns OTnc OTMT
@@ -33,7 +33,7 @@ _ti_capabilities='
     OTG2 OTG3 OTG1 OTG4 OTGR OTGL OTGU OTGD OTGH OTGV OTGC meml memu box1
 '
 
-# Puts the places where entries are looked for, in their order, into `places`.
+# Puts the directories in which entries are looked for, in their order, into `places`.
 _ti_places() {
     local rest
     places=()
@@ -49,7 +49,7 @@ _ti_places() {
     places+=(/usr/share/terminfo)
 }
 
-# Adds the terminals of the folders given whose names begin with `current`.
+# Adds the terminals of these directories whose names begin with `current`.
 _ti_terminals() {
     local place path
     for place; do

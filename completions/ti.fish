@@ -1,7 +1,7 @@
 # Completion of ti for fish: options, terminal names from the places of entries,
 # capability names, and files.
 
-# The capabilities of terminfo(5), flags, numbers and strings, in the order of the tables.
+# The capabilities of terminfo(5), booleans, numbers and strings, in the order of the tables.
 function __ti_capabilities
     string split ' ' -- \
         'bw am xsb xhp xenl eo gn hc km hs in da db mir msgr os eslok xt hz ul xon nxon mc5i' \
@@ -36,7 +36,7 @@ function __ti_capabilities
         'meml memu box1'
 end
 
-# The terminals of the places given, else of all places where entries are looked for.
+# The terminals of these directories, else of all in which entries are looked for.
 function __ti_terminals
     set -l places $argv
     if not set -q places[1]
@@ -136,14 +136,14 @@ for command in ti ti-tic ti-infocmp ti-tput
     complete -c $command -s h -l help -d 'Print help'
 
     complete -c $command -n '__ti_is tic' -o c -d 'Check only: report, and write no file'
-    complete -c $command -n '__ti_is tic' -o o -x -a '(__fish_complete_directories)' -d 'Write below this folder'
+    complete -c $command -n '__ti_is tic' -o o -x -a '(__fish_complete_directories)' -d 'Write below this directory'
     complete -c $command -n '__ti_is tic' -F
 
     complete -c $command -n '__ti_is infocmp' -f -a '(__ti_infocmp_names)'
     complete -c $command -n '__ti_is infocmp' -o I -d 'List each entry'
-    complete -c $command -n '__ti_is infocmp' -o d -d 'Show where the first differs from each other'
-    complete -c $command -n '__ti_is infocmp' -o c -d 'Show what the first and each other have in common'
-    complete -c $command -n '__ti_is infocmp' -o n -d 'Show what neither the first nor each other has'
+    complete -c $command -n '__ti_is infocmp' -o d -d 'Compare the first with each of the others: what differs'
+    complete -c $command -n '__ti_is infocmp' -o c -d 'Compare the first with each of the others: what both have'
+    complete -c $command -n '__ti_is infocmp' -o n -d 'Compare the first with each of the others: what neither has'
     complete -c $command -n '__ti_is infocmp' -o u -d 'List the first so that it uses the others'
     complete -c $command -n '__ti_is infocmp' -o 1 -d 'Give each item a line of its own'
     complete -c $command -n '__ti_is infocmp' -o w -x -d 'Columns of a line, from 20 to 4096'

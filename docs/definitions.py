@@ -13,6 +13,9 @@ import re
 import sys
 
 TOP = os.path.dirname(os.path.dirname(os.path.abspath(__file__)))
+sys.path.insert(0, os.path.join(TOP, "build"))
+from crates import read_crates  # noqa: E402
+
 PAGE = os.path.join(TOP, "docs", "DEFINITIONS.md")
 HEAD = """# Definitions
 
@@ -64,7 +67,7 @@ def words_of(lines):
 def names_in_reach(path, crate, name):
     """The definitions that a file can name by a bare word: those that it imports."""
     found = {}
-    for of, words in re.findall(r"^(?:pub )?use Rattle\.(\w+\.specs\.[\w.]+)\.\{([^}]*)\}", "\n".join(lines_of(path)), re.M):
+    for of, words in re.findall(r"^(?:unfoldable )?(?:pub )?use Rattle\.(\w+\.specs\.[\w.]+)\.\{([^}]*)\}", "\n".join(lines_of(path)), re.M):
         for it in words.split(","):
             found[it.strip().split(" as ")[-1]] = (of, it.strip().split(" as ")[0])
     return found
@@ -128,7 +131,9 @@ def contracts(crate):
             short = dict(re.findall(r"ghost use Rattle\.(\w+\.specs\.[\w.]+) as (\w+);", text))
             short = {name: path for path, name in short.items()}
             owner, is_trait = "", False
-            forms = r"^impl[^{\n]*|^pub trait (\w+)|^(?: {4})?(?:pub (?:const )?)?fn (\w+)(.*?)(?=^ {0,4}\{|;$)"
+            # A contract ends where the body begins: on a line of its own, or, where there is no clause, at the end of
+            # the signature.
+            forms = r"^impl[^{\n]*|^pub trait (\w+)|^(?: {4})?(?:pub (?:const )?)?fn (\w+)(.*?)(?=^ {0,4}\{|[;{]$)"
             for part in re.finditer(forms, text, re.M | re.S):
                 if part[0].startswith("impl"):
                     of = re.search(r"(?:for )?(\w+)(?:<[^>]*>)?\s*$", part[0].split(" where")[0].strip())
@@ -149,11 +154,6 @@ def contracts(crate):
     return found
 
 
-def crates_in_order():
-    with open(os.path.join(TOP, "crates.txt"), encoding="utf-8") as file:
-        return [it.split(":")[0].split()[0] for it in file if it.strip() and not it.startswith("#")]
-
-
 def files_of(crate):
     """The files of a crate's definitions, by name; those of the folder inside/ come last."""
     found = []
@@ -168,10 +168,10 @@ def files_of(crate):
 def homes():
     """Where a name that a file makes public for another one is defined, by file and name."""
     given = {}
-    for crate in crates_in_order():
+    for crate in read_crates():
         for name, path in files_of(crate):
             text = "\n".join(lines_of(path))
-            for of, words in re.findall(r"^pub use Rattle\.(\w+\.specs\.[\w.]+)\.\{([^}]*)\}", text, re.M):
+            for of, words in re.findall(r"^(?:unfoldable )?pub use Rattle\.(\w+\.specs\.[\w.]+)\.\{([^}]*)\}", text, re.M):
                 given.update({(f"{crate}.specs.{name}", it.strip()): (of, it.strip()) for it in words.split(",")})
     return given
 
@@ -188,7 +188,7 @@ def in_order(section):
 
 
 def page():
-    order = crates_in_order()
+    order = list(read_crates())
     users, given = {}, homes()
     for crate in order:
         for call, cited in contracts(crate):

@@ -1,10 +1,10 @@
 #!/usr/bin/env python3
 """Programs that the borrow checker must refuse, and their neighbours that it must accept.
 
-Each folder here is one library crate of a file `program`; `stands-on` names what it
+Each directory here is one library crate of a file `program`; `stands-on` names what it
 uses of this repository, one crate a line. With a file `refused-by` the check must
 refuse it by that error; without one it must pass. The crates are checked in a copy
-of the repository's crates, over what the gate has kept of them. The last line is
+of the repository's crates, over what the gate has stored of them. The last line is
 `borrows: N passed, M failed`.
 """
 
@@ -15,20 +15,10 @@ import sys
 import tempfile
 
 HERE = os.path.dirname(os.path.abspath(__file__))
-TOP = os.path.dirname(os.path.dirname(HERE))
+sys.path.insert(0, os.path.dirname(HERE))
+from common import TOP, Tally, lines_of  # noqa: E402
 
-
-def lines_of(path):
-    with open(path, encoding="utf-8") as file:
-        return [it.strip() for it in file if it.strip()]
-
-
-def below(name, uses):
-    """A crate of the repository and those that it stands on."""
-    found = [name]
-    for it in found:
-        found += [dep for dep in uses[it] if dep in uses and dep not in found]
-    return found
+from crates import all_below, read_crates  # noqa: E402
 
 
 def part(case, name):
@@ -41,18 +31,20 @@ def crate_of(case):
     return "probe_" + case.replace("-", "_")
 
 
-def prepare(room, cases, uses):
-    """A copy of the crates that the cases stand on, with each case as a crate of its own: what a library takes is done once."""
-    crates = os.path.join(room, "crates")
-    needed = sorted({it for case in cases for name in lines_of(part(case, "stands-on")) for it in below(name, uses)})
+def prepare(room, cases):
+    """Copies the crates that the cases depend on, and makes each case a crate of its own too."""
+    crates, copied = read_crates(), os.path.join(room, "crates")
+    used = {name for case in cases for name in lines_of(part(case, "stands-on"))}
+    needed = sorted(used.union(*(all_below(crates, name) for name in used)))
     for name in needed:
-        shutil.copytree(os.path.join(TOP, "crates", name), os.path.join(crates, name))
+        shutil.copytree(os.path.join(TOP, "crates", name), os.path.join(copied, name))
     with open(os.path.join(room, "crates.txt"), "w", encoding="utf-8") as file:
         for name in needed:
-            file.write(f"{name}: {' '.join(uses[name])}\n")
+            file.write(f"{name}: {' '.join(crates[name].needs)}\n")
         for case in cases:
-            os.makedirs(os.path.join(crates, crate_of(case), "src"))
-            shutil.copyfile(part(case, "program"), os.path.join(crates, crate_of(case), "src", "lib.rt"))
+            source = os.path.join(copied, crate_of(case), "src")
+            os.makedirs(source)
+            shutil.copyfile(part(case, "program"), os.path.join(source, "lib.rt"))
             file.write(f"{crate_of(case)}: {' '.join(lines_of(part(case, 'stands-on')))}\n")
     subprocess.run(["git", "init", "-q", "."], cwd=room, check=True)
 
@@ -62,7 +54,7 @@ def run(case, room):
     wanted = lines_of(part(case, "refused-by")) if os.path.isfile(part(case, "refused-by")) else []
     done = subprocess.run(
         ["rt", "check"], cwd=os.path.join(room, "crates", crate_of(case)), stdout=subprocess.PIPE,
-        stderr=subprocess.STDOUT, timeout=1200, encoding="utf-8", errors="replace",
+        stderr=subprocess.STDOUT, timeout=1200, encoding="utf-8", errors="replace", check=False,
     )
     if wanted:
         if done.returncode == 0:
@@ -74,24 +66,14 @@ def run(case, room):
 
 
 def main():
-    uses = {}
-    for line in lines_of(os.path.join(TOP, "crates.txt")):
-        if not line.startswith("#"):
-            name, _, rest = line.partition(":")
-            uses[name.split()[0]] = rest.split()
-    cases = sorted(it for it in os.listdir(HERE) if os.path.isdir(os.path.join(HERE, it)) and not it.startswith("__"))
-    passed = failed = 0
+    cases = sorted(name for name in os.listdir(HERE) if os.path.isfile(part(name, "program")))
+    tally = Tally("borrows")
     with tempfile.TemporaryDirectory(prefix="ti-borrows-") as room:
-        prepare(room, cases, uses)
+        prepare(room, cases)
         for case in cases:
             fault = run(case, room)
-            if fault is None:
-                passed += 1
-            else:
-                failed += 1
-                print(f"{case}: FAILED: {fault}")
-    print(f"borrows: {passed} passed, {failed} failed")
-    return 1 if failed else 0
+            tally.add(case, [fault] if fault else [])
+    return tally.close()
 
 
 if __name__ == "__main__":

@@ -8,9 +8,11 @@ import tempfile
 from typing import NamedTuple
 
 HERE = os.path.dirname(os.path.abspath(__file__))
-TOP = os.path.dirname(os.path.dirname(HERE))
-PROGRAM = os.environ.get("TI_PROGRAM") or os.path.join(TOP, "crates", "ti", "out", "ti")
-PROBE = os.environ.get("TI_PROBE") or os.path.join(TOP, "crates", "ti_probe", "out", "ti_probe")
+sys.path.insert(0, os.path.dirname(HERE))
+from common import program_of  # noqa: E402
+
+PROGRAM = os.environ.get("TI_PROGRAM") or program_of("ti")
+PROBE = os.environ.get("TI_PROBE") or program_of("ti_probe")
 MEMORY_MAX = 2_000_000_000
 # of the processor
 SECONDS_MAX = 120

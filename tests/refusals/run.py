@@ -30,8 +30,10 @@ import time
 from concurrent.futures import ThreadPoolExecutor
 
 HERE = os.path.dirname(os.path.abspath(__file__))
-TOP = os.path.dirname(os.path.dirname(HERE))
-PROGRAM = os.path.join(TOP, "crates", "ti_refusals", "out", "ti_refusals")
+sys.path.insert(0, os.path.dirname(HERE))
+from common import TOP, Tally, is_missing, program_of  # noqa: E402
+
+PROGRAM = program_of("ti_refusals")
 EXPECTED = os.path.join(TOP, "crates", "ti_refusals", "stdout")
 SECONDS = 60
 # nothing is swept that asks for so many growths: it is only there so that a sweep which never ends is seen
@@ -130,26 +132,20 @@ def scenario(runs, pool, name, wanted, growths):
 
 
 def main():
-    if not os.access(PROGRAM, os.X_OK):
-        print(f"{PROGRAM} is not there: run `rt run` in crates/ti_refusals first")
-        print("refusals: 0 passed, 1 failed")
+    if is_missing(PROGRAM, "refusals"):
         return 1
-    passed = failed = 0
-    start = time.monotonic()
-    lines = expected_lines()
+    start, lines, tally = time.monotonic(), expected_lines(), Tally("refusals")
     with tempfile.TemporaryDirectory(prefix="ti-refusals-") as folder, ThreadPoolExecutor(os.cpu_count()) as pool:
         runs = Runs(build(folder))
         growths = runs.run(MANY, 0)[2]
         for name in sys.argv[1:] or lines:
             try:
                 print(f"{name}: {scenario(runs, pool, name, lines[name], growths)}")
-                passed += 1
+                tally.add(name, [])
             except (subprocess.TimeoutExpired, KeyError, OSError, ValueError) as fault:
-                print(f"{name}: FAILED\n    {fault}")
-                failed += 1
+                tally.add(name, [str(fault)])
     print(f"{time.monotonic() - start:.0f} seconds")
-    print(f"refusals: {passed} passed, {failed} failed")
-    return 1 if failed else 0
+    return tally.close()
 
 
 if __name__ == "__main__":

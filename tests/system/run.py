@@ -22,9 +22,10 @@ import subprocess
 import sys
 import tempfile
 
-HERE = os.path.dirname(os.path.abspath(__file__))
-TOP = os.path.dirname(os.path.dirname(HERE))
-PROGRAM = os.path.join(TOP, "crates", "ti_probe", "out", "ti_probe")
+sys.path.insert(0, os.path.dirname(os.path.dirname(os.path.abspath(__file__))))
+from common import TOP, Tally, is_missing, program_of  # noqa: E402
+
+PROGRAM = program_of("ti_probe")
 FOLDERS = ("/usr/share/terminfo", "/lib/terminfo", "/etc/terminfo")
 NAMES = os.path.join(TOP, "crates", "ti_caps", "specs", "Names.antt")
 HEADER_LEN = 12
@@ -168,37 +169,30 @@ def name_fault(names):
 
 
 def main():
-    passed = failed = 0
-    names = lists_of_names()
+    if is_missing(PROGRAM, "system"):
+        return 1
+    tally, names = Tally("system"), lists_of_names()
     why = name_fault(names)
     if why == "absent":
-        print("the arrays of names of ncurses are not here, and were not compared")
-    elif why is None:
-        passed += 1
+        tally.skip("names", "the arrays of names of ncurses are not here")
     else:
-        failed += 1
-        print(f"the names of the capabilities: FAILED: {why}")
+        tally.add("the names of the capabilities", [why] if why else [])
     files = entries()
     try:
         import curses  # noqa: F401
     except ImportError:
         files = []
-        print("there is no curses module here")
+        tally.skip("entries", "there is no curses module here")
     if not files:
-        print("no entry of this system was compared")
+        tally.skip("entries", "this system has no entries")
     found = shown([path for _, path in files]) if files else {}
     # a process of ncurses opens one entry
     with tempfile.TemporaryDirectory(prefix="ti-system-") as room, \
             multiprocessing.get_context("fork").Pool(1, maxtasksperchild=1) as pool:
         for name, path in files:
             why = fault(name, path, found.get(path, []), pool, names, room)
-            if why is None:
-                passed += 1
-            else:
-                failed += 1
-                print(f"{path}: FAILED: {why}")
-    print(f"system: {passed} passed, {failed} failed")
-    return 1 if failed else 0
+            tally.add(path, [why] if why else [])
+    return tally.close()
 
 
 if __name__ == "__main__":

@@ -5,7 +5,7 @@ use crate::failure::Failure;
 use crate::job_end::end_job;
 use std::alloc::{AllocError, Global};
 use std::io::{self, Write};
-use std::rt::{Env, Files};
+use std::rt::{Clock, Env, Files};
 use ti_tools::{InfocmpMode, InfocmpOptions, Job, ToolError, entry, infocmp, locate};
 
 /// Whose entries `infocmp` reads, and where.
@@ -21,7 +21,7 @@ pub struct InfocmpNames<'a> {
 
 /// Prints what the options ask for to standard output, and says on standard error why it did not. The entries are read in the
 /// order of their names, and the first that can't be ends the run. The answer is the status of the process.
-pub fn run<R: Env + Files + Print + Eprint + AllocGlobal>(
+pub fn run<R: Clock + Env + Files + Print + Eprint + AllocGlobal>(
     rt: &R,
     job: &Job,
     asked: InfocmpNames<'_>,
@@ -59,7 +59,7 @@ fn copies(alloc: Global, text: &str, count: usize) -> Result<Vec<String>, AllocE
 }
 
 // The same for names that are there.
-fn run_names<R: Env + Files + Print + Eprint + AllocGlobal>(
+fn run_names<R: Clock + Env + Files + Print + Eprint + AllocGlobal>(
     rt: &R,
     job: &Job,
     asked: InfocmpNames<'_>,
@@ -85,7 +85,7 @@ fn run_names<R: Env + Files + Print + Eprint + AllocGlobal>(
 }
 
 // The file of a terminal's entry, looked for at one place alone where that is said. Its bytes are an entry.
-fn entry_file<R: Env + Files + AllocGlobal>(
+fn entry_file<R: Clock + Env + Files + AllocGlobal>(
     rt: &R,
     name: &str,
     place: Option<&str>,

@@ -7,6 +7,7 @@ mod error_stream;
 mod failure;
 mod infocmp_tool;
 mod job_end;
+mod new_file;
 mod session_tool;
 mod tic_tool;
 mod tput_tool;
@@ -17,7 +18,7 @@ use crate::infocmp_tool::InfocmpNames;
 use crate::job_end::end_job;
 use crate::tput_tool::TputWords;
 use std::process::ExitCode;
-use std::rt::{Env, Files};
+use std::rt::{Clock, Env, Files};
 use std::{env, io};
 use ti_tools::{InfocmpOptions, Job, Refusal, ToolError, job_or_refusal};
 
@@ -26,7 +27,7 @@ fn main(rt: HostRuntime) -> ExitCode {
 }
 
 // Does what the command line asks for. The answer is the status of the process.
-fn run<R: Env + Files + Input + Print + Eprint + AllocGlobal>(rt: &R) -> u8 {
+fn run<R: Clock + Env + Files + Input + Print + Eprint + AllocGlobal>(rt: &R) -> u8 {
     let words = match words(rt) {
         Ok(words) => words,
         Err(failure) => return print_failure(rt, "ti", failure),
@@ -38,7 +39,7 @@ fn run<R: Env + Files + Input + Print + Eprint + AllocGlobal>(rt: &R) -> u8 {
 }
 
 // Does a job. The answer is the status of the process.
-fn run_job<R: Env + Files + Input + Print + Eprint + AllocGlobal>(rt: &R, job: &Job) -> u8 {
+fn run_job<R: Clock + Env + Files + Input + Print + Eprint + AllocGlobal>(rt: &R, job: &Job) -> u8 {
     match job {
         Job::Tic { check, dir, file } => {
             match tic_tool::run(rt, *check, dir.as_deref(), file.as_deref()) {

@@ -3,7 +3,7 @@ use crate::disk_tree::DiskTree;
 use crate::failure::Failure;
 use crate::whole::read_source;
 use std::env::{self, VarError};
-use std::rt::{Env, Files};
+use std::rt::{Clock, Env, Files};
 use std::str;
 use ti_tools::{TicOptions, ToolError, TreeFault, place, tic};
 
@@ -15,7 +15,7 @@ const SYSTEM_FOLDER: &str = "/usr/share/terminfo";
 ///
 /// # Errors
 /// Why it stopped. Where a file could not be written, the report and earlier files stand.
-pub fn run<R: Env + Files + Input + Eprint + AllocGlobal>(
+pub fn run<R: Clock + Env + Files + Input + Eprint + AllocGlobal>(
     rt: &R,
     check: bool,
     dir: Option<&str>,

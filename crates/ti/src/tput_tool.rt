@@ -5,7 +5,7 @@ use crate::error_stream::ErrorStream;
 use crate::failure::Failure;
 use crate::job_end::end_job;
 use std::io::{self, Write};
-use std::rt::{Env, Files};
+use std::rt::{Clock, Env, Files};
 use ti_layout::View;
 use ti_tools::{Counted, Job, ToolError, entry, locate, message, tput, tput_lines};
 
@@ -24,7 +24,7 @@ pub struct TputWords<'a> {
 
 /// Writes what the words ask of a terminal to standard output, and says on standard error why it did not. The answer is the
 /// status of the process.
-pub fn run<R: Env + Files + Input + Print + Eprint + AllocGlobal>(
+pub fn run<R: Clock + Env + Files + Input + Print + Eprint + AllocGlobal>(
     rt: &R,
     job: &Job,
     asked: TputWords<'_>,
@@ -61,7 +61,10 @@ fn terminal_name<R: Env + AllocGlobal>(rt: &R, term: Option<&str>) -> Result<Str
 }
 
 // The file of a terminal's entry.
-fn entry_file<R: Env + Files + AllocGlobal>(rt: &R, name: &str) -> Result<Vec<u8>, Failure> {
+fn entry_file<R: Clock + Env + Files + AllocGlobal>(
+    rt: &R,
+    name: &str,
+) -> Result<Vec<u8>, Failure> {
     let places = entry_places(rt)?;
     let mut tree = DiskTree::new(rt);
     Ok(locate(rt.alloc(), &mut tree, name, places.as_slice())?)

@@ -9,7 +9,7 @@ use Rattle.ti_text.specs.Limits.{blocks_max}
 use Rattle.ti_source.specs.Reading.{reading_of}
 use Rattle.ti_source.specs.Parsing.{reading_of_text}
 use Rattle.ti_meaning.specs.Owner.{is_among}
-use Rattle.ti_meaning.specs.inside.Reaching.{any_use}
+use Rattle.ti_meaning.specs.Reaching.{any_use}
 use Rattle.ti_meaning.specs.Usable.{IsUsable}
 use Rattle.ti_meaning.specs.Dependents.{IsDependent}
 use Rattle.ti_index.specs.Names.{holders_at, users_at}

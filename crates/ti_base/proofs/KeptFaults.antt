@@ -7,8 +7,7 @@ use Rattle.ti_source.specs.declared.code.Code.TheVariants as code
 use Rattle.ti_source.specs.Reading.{Reading, ReadItem, ReadFault}
 use Rattle.ti_meaning.specs.Owner.{owner_block}
 use Rattle.ti_meaning.specs.Expansion.{resolves}
-use Rattle.ti_meaning.specs.Reaching.{used_name}
-use Rattle.ti_meaning.specs.inside.Reaching.{leads_to}
+use Rattle.ti_meaning.specs.Reaching.{used_name, leads_to}
 use Rattle.ti_meaning.specs.Compiled.{EntryState, unresolved, oversized, written, state_of}
 use Rattle.ti_meaning.specs.Faults.{SourceFault, fault_between, local_fault, local_faults, is_kept, name_fault, name_faults, is_owned_before, distinct, fault_of_use, fault_of_item, faults_before, faults_from, item_faults, entry_faults, block_faults, faults_after}
 use Rattle.ti_meaning.specs.KeptBlocks.{is_no_duplicate, lasting_faults}

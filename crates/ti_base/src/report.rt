@@ -5,7 +5,7 @@ ghost use Rattle.std.specs.Rc.{rc_slice_items};
 ghost use Rattle.ti_source.specs.Code.{code_text};
 ghost use Rattle.ti_meaning.specs.Report.{shown_byte, shown_detail, fault_line, lines_before, report_line};
 ghost use Rattle.ti_meaning.specs.Faults.{fault_seen};
-ghost use Rattle.ti_meaning.specs.inside.Bounds.{IsPlaced};
+ghost use Rattle.ti_meaning.specs.Usable.{IsPlaced};
 ghost use Rattle.ti_slots.specs.Slots.{slot_texts};
 ghost use Rattle.ti_base.specs.inside.Database.{AreKept};
 

@@ -4,5 +4,6 @@ pub mod Image
 pub mod Reading
 pub mod inside
 pub mod View
+pub mod ViewParts
 pub mod Laws
 pub mod Writing

@@ -6,6 +6,7 @@
 //! - `layout`: the two formats, and the numbers of a header
 //! - `writing`: an entry written from its names and values
 //! - `view`: an entry read where it lies, each name and value a slice of the caller's bytes
+//! - `view_parts`: such an entry as its sections, for one who keeps it in another struct
 //! - `sections`: the sections of an entry, cut by its header and each looked through once
 //! - `fault`: why bytes are no entry
 //! - `laws`: what the definitions of reading settle, and that what is written is read again
@@ -19,6 +20,7 @@ mod merging;
 mod sections;
 mod values;
 mod view;
+mod view_parts;
 mod writing;
 
 pub use fault::ReadError;
@@ -28,4 +30,5 @@ pub use mentions::Mentions;
 pub use sections::{number, word};
 pub use values::{Table, Value};
 pub use view::View;
+pub use view_parts::ViewParts;
 pub use writing::{WriteError, format_wanted, write};

@@ -11,6 +11,7 @@ ghost use Rattle.ti_layout.specs.inside.View.{OffsetsEnd};
 use crate::fault::ReadError;
 use crate::layout::Format;
 use crate::sections::{are_flags, are_names, are_numbers, are_offsets, cut, number, word};
+use crate::view_parts::ViewParts;
 use memchr::memchr;
 use ti_caps::Cap;
 
@@ -36,6 +37,7 @@ pub struct View<'a> {
 
 impl<'a> View<'a> {
     ghost use Rattle.ti_text.specs.Ascii as ascii;
+    ghost use Rattle.ti_layout.specs.ViewParts.{parts_contents};
     ghost use Rattle.ti_layout.specs.View.{names_of, view_contents, shown_flag, shown_number, shown_text};
 
     /// Reads an entry. One pass over the sections and one search of the string table: the time is
@@ -128,6 +130,35 @@ impl<'a> View<'a> {
         match memchr(0, rest) {
             Some(len) => Some(&rest[..len]),
             None => Some(rest),
+        }
+    }
+    /// The entry as its sections.
+    pub fn parts(&self) -> ViewParts<'a>
+        ensures names { result.names.now ≡ names_of self.now }
+        ensures contents { parts_contents result ≡ view_contents self.now }
+    {
+        ViewParts {
+            format: self.format,
+            names: self.names,
+            flags: self.flags,
+            numbers: self.numbers,
+            offsets: self.offsets,
+            strings: self.strings,
+        }
+    }
+
+    /// The entry of such sections.
+    pub fn of_parts(parts: ViewParts<'a>) -> View<'a>
+        ensures names { names_of result ≡ parts.entry.names.now }
+        ensures contents { view_contents result ≡ parts_contents parts.entry }
+    {
+        View {
+            format: parts.format,
+            names: parts.names,
+            flags: parts.flags,
+            numbers: parts.numbers,
+            offsets: parts.offsets,
+            strings: parts.strings,
         }
     }
 }

@@ -5,9 +5,8 @@ use Rattle.std.proofs.lemmas.Option.{none-some}
 use Rattle.ti_source.specs.Reading.{Reading, ReadItem}
 use Rattle.ti_meaning.specs.Owner.{owner_block}
 use Rattle.ti_meaning.specs.Expansion.{Mention, is_broken, mentions_of, expand_items, expand, expansion}
-use Rattle.ti_meaning.specs.Reaching.{Uses, IsUseWay}
-use Rattle.ti_meaning.specs.inside.Reaching.{leads_to}
-use Rattle.ti_meaning.specs.inside.ValueTables.{names_at}
+use Rattle.ti_meaning.specs.Reaching.{Uses, IsUseWay, leads_to}
+use Rattle.ti_meaning.specs.ValueTables.{names_at}
 use Rattle.ti_meaning.proofs.Owning.{owner_to_owned}
 use Rattle.ti_meaning.proofs.Depth.{joined_parts, names_at-le}
 use Rattle.ti_meaning.proofs.MentionMerging.{mentions_of-used}

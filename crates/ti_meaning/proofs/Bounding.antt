@@ -6,8 +6,7 @@ use Rattle.ti_source.specs.Reading.{Reading, ReadItem, ReadFault}
 use Rattle.ti_meaning.specs.Reaching.{used_name}
 use Rattle.ti_meaning.specs.Compiled.{EntryState, unresolved, oversized, written, state_of}
 use Rattle.ti_meaning.specs.Faults.{SourceFault, local_fault, local_faults, is_kept, is_owned_before, distinct, name_fault, name_faults, use_fault, fault_of_use, fault_of_item, faults_before, faults_from, item_faults, entry_faults, block_faults, faults_after, faults}
-use Rattle.ti_meaning.specs.Usable.{IsLine, IsUsable}
-use Rattle.ti_meaning.specs.inside.Bounds.{IsPlaced}
+use Rattle.ti_meaning.specs.Usable.{IsLine, IsUsable, IsPlaced}
 
 module _ (bs : List Reading) (n at : ℕ) (within : at < n) where
   locals_placed : (fs : List ReadFault) → All (λ (f : ReadFault). IsLine f.line) fs → All (IsPlaced n) (map (local_fault at) fs)

@@ -8,8 +8,7 @@ use Rattle.ti_source.specs.declared.code.Code.TheVariants as code
 use Rattle.ti_source.specs.Reading.{Reading, ReadItem, ReadFault}
 use Rattle.ti_meaning.specs.Owner.{is_among, owner_block}
 use Rattle.ti_meaning.specs.Expansion.{expansion, resolves}
-use Rattle.ti_meaning.specs.Reaching.{used_name, Uses}
-use Rattle.ti_meaning.specs.inside.Reaching.{leads_to}
+use Rattle.ti_meaning.specs.Reaching.{used_name, Uses, leads_to}
 use Rattle.ti_meaning.specs.Compiled.{EntryState, unresolved, oversized, written, state_of, entry_of, state_with}
 use Rattle.ti_meaning.specs.Faults.{SourceFault, fault_between, use_fault, local_fault, local_faults, is_kept, name_fault, name_faults, is_owned_before, distinct, fault_of_use, fault_of_item, faults_before, faults_from, item_faults, entry_faults}
 use Rattle.ti_meaning.specs.Exchange.{PlacedBlock, with_block, old_list, new_list, shifted_position}

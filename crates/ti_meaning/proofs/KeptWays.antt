@@ -4,7 +4,7 @@ use Rattle.std.proofs.lemmas.Bool.{cases_Bool}
 use Rattle.ti_source.specs.Reading.{Reading, ReadItem, Said, said_flag, said_number, said_text, said_cancel, said_import}
 use Rattle.ti_meaning.specs.Expansion.{Mention, is_broken, mentions_of, expand_items, expand}
 use Rattle.ti_meaning.specs.Reaching.{used_name, Uses, IsUseWay}
-use Rattle.ti_meaning.specs.inside.ValueTables.{names_at}
+use Rattle.ti_meaning.specs.ValueTables.{names_at}
 
 abbrev pub Env : Type 0
 Env = List ℕ → Option Reading

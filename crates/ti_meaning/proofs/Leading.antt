@@ -4,9 +4,8 @@ use Rattle.std.specs.Option.{option_map_or}
 use Rattle.std.proofs.lemmas.Bool.{false≢true, or_cases, eqb-true, eq-eqb}
 use Rattle.std.proofs.lemmas.Option.{slice_get_within}
 use Rattle.ti_source.specs.Reading.{Reading, ReadItem}
-use Rattle.ti_meaning.specs.Owner.{owner, owner_block}
-use Rattle.ti_meaning.specs.Reaching.{used_name, Uses, IsUseWay, LeadsTo}
-use Rattle.ti_meaning.specs.inside.Reaching.{use_passes, any_use, block_passes, is_owner, leads, leads_to}
+use Rattle.ti_meaning.specs.Owner.{owner, owner_block, is_owner}
+use Rattle.ti_meaning.specs.Reaching.{used_name, Uses, IsUseWay, LeadsTo, use_passes, any_use, block_passes, leads, leads_to}
 use Rattle.ti_meaning.proofs.Owning.{nobody, somebody, owning}
 use Rattle.ti_meaning.proofs.Settling.{IsGrowing, settles}
 

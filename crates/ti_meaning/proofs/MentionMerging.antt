@@ -9,7 +9,7 @@ use Rattle.ti_meaning.specs.Owner.{owner_block}
 use Rattle.ti_text.specs.Lists.{both_lists}
 use Rattle.ti_meaning.specs.Expansion.{Mention, leftmost_content, is_broken, mentions_of, expand_items}
 use Rattle.ti_meaning.specs.Reaching.{used_name, Uses}
-use Rattle.ti_meaning.specs.inside.ValueTables.{names_at, IsTableOf, IsTableOfItems, AddsSaid}
+use Rattle.ti_meaning.specs.ValueTables.{names_at, IsTableOf, IsTableOfItems, AddsSaid}
 use Rattle.ti_meaning.proofs.Depth.{expand_items-more, names_at-le, mentions_of-more}
 
 -- ---- adding

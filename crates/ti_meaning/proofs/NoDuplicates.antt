@@ -8,17 +8,17 @@ use Rattle.ti_source.specs.declared.code.Code.{Code}
 use Rattle.ti_source.specs.declared.code.Code.TheVariants as code
 use Rattle.ti_source.specs.declared.numbers.NumberError.{NumberError}
 use Rattle.ti_source.specs.declared.numbers.NumberError.TheVariants.{Bad, TooLarge}
-use Rattle.ti_source.specs.inside.Verdicts.{unescape_result}
-use Rattle.ti_source.specs.inside.Numbers.{number_read}
 use Rattle.ti_source.specs.Folding.{PlacedByte}
-use Rattle.ti_source.specs.Items.{Claim, claims_flag, claims_number, claims_text, claims_cancel, Statement, piece_of, without_outer_space}
+use Rattle.ti_source.specs.Items.{Claim, Statement, piece_of, without_outer_space}
 use Rattle.ti_source.specs.inside.Items.{statement_of}
 use Rattle.ti_source.specs.inside.Header.{header_names}
 use Rattle.ti_source.specs.Reading.{said_import, ReadFault}
 use Rattle.ti_source.specs.Parsing.{accepted, is_import, code_by, item_fault, header_fault, reading_of_text}
 use Rattle.ti_text.specs.Limits.{names_max}
-use Rattle.ti_source.specs.inside.Verdicts.{number_verdict, text_verdict, fitting_verdict, named_verdict, claimed_text, verdict_of}
-use Rattle.ti_source.specs.inside.Parsing.{faults_at, faults_from_ordinal, header_faults, block_field, block_items}
+use Rattle.ti_source.specs.Verdicts.{ReadClaim, reads_flag, reads_number, reads_text, reads_cancel, number_verdict, text_verdict, fitting_verdict, named_verdict, claimed_text}
+use Rattle.ti_source.specs.inside.Verdicts.{read_claim, verdict_of}
+use Rattle.ti_source.specs.Judging.{faults_at, faults_from, header_faults}
+use Rattle.ti_source.specs.inside.Parsing.{judged_as, judged_of, block_field, block_items}
 use Rattle.ti_meaning.specs.KeptBlocks.{is_duplicate}
 
 -- none of the faults is of such a name
@@ -39,29 +39,26 @@ odd_other : (c : Capability) (text : List ℕ) (odd : Bool) → is_other (code_b
 odd_other c text true = refl
 odd_other c text false = refl
 
-text_other : (c : Capability) (value : List ℕ) → is_other (code_by (text_verdict c (unescape_result value))) ≡ false
-text_other c value =
-    elim (unescape_result value) as (λ r. is_other (code_by (text_verdict c r)) ≡ false) [ Ok found ↦ odd_other c found.0 found.1 | Err cause ↦ refl ]
+fitting_other : (c : Capability) (claim : ReadClaim) (k : Kind) → is_other (code_by (fitting_verdict c claim k)) ≡ false
+fitting_other c reads_flag Flag = refl
+fitting_other c reads_flag Number = refl
+fitting_other c reads_flag Text = refl
+fitting_other c (reads_number read) Flag = refl
+fitting_other c (reads_number read) Number = number_other c read
+fitting_other c (reads_number read) Text = refl
+fitting_other c (reads_text value found) Flag = refl
+fitting_other c (reads_text value found) Number = refl
+fitting_other c (reads_text value found) Text =
+    elim found as (λ r. is_other (code_by (text_verdict c r)) ≡ false) [ Ok text ↦ odd_other c text.0 text.1 | Err cause ↦ refl ]
+fitting_other c reads_cancel k = refl
 
-fitting_other : (c : Capability) (claim : Claim) (k : Kind) → is_other (code_by (fitting_verdict c claim k)) ≡ false
-fitting_other c claims_flag Flag = refl
-fitting_other c claims_flag Number = refl
-fitting_other c claims_flag Text = refl
-fitting_other c (claims_number text) Flag = refl
-fitting_other c (claims_number text) Number = number_other c (number_read text)
-fitting_other c (claims_number text) Text = refl
-fitting_other c (claims_text value) Flag = refl
-fitting_other c (claims_text value) Number = refl
-fitting_other c (claims_text value) Text = text_other c value
-fitting_other c claims_cancel k = refl
-
-named_other : (claim : Claim) (o : Option Capability) → is_other (code_by (named_verdict claim o)) ≡ false
+named_other : (claim : ReadClaim) (o : Option Capability) → is_other (code_by (named_verdict claim o)) ≡ false
 named_other claim None = refl
 named_other claim (Some c) = fitting_other c claim c.kind
 
-verdict_other : (v : Bool) (claim : Claim) (o : Option Capability) → is_other (code_by (cond v (accepted (said_import (without_outer_space (claimed_text claim)))) (named_verdict claim o))) ≡ false
-verdict_other true claim o = refl
-verdict_other false claim o = named_other claim o
+verdict_other : (v : Bool) (claim : Claim) (read : ReadClaim) (o : Option Capability) → is_other (code_by (cond v (accepted (said_import (without_outer_space (claimed_text claim)))) (named_verdict read o))) ≡ false
+verdict_other true claim read o = refl
+verdict_other false claim read o = named_other read o
 
 others-append : (fs gs : List ReadFault) → AreOthers fs → AreOthers gs → AreOthers (fs ++ gs)
 others-append [] gs h k = k
@@ -71,15 +68,15 @@ faults_other : (ordinal line : ℕ) (name : List ℕ) (o : Option Code) → is_o
 faults_other ordinal line name None e = tt
 faults_other ordinal line name (Some c) e = (e, tt)
 
-statement_other : (ordinal line : ℕ) (o : Option Statement) → AreOthers (faults_at ordinal line o)
+statement_other : (ordinal line : ℕ) (o : Option Statement) → AreOthers (faults_at ordinal (judged_as line o))
 statement_other ordinal line None = tt
 statement_other ordinal line (Some s) =
-    faults_other ordinal line s.name (code_by (verdict_of s.name s.claim)) (verdict_other (is_import s.name s.claim) s.claim (capability_named s.name))
+    faults_other ordinal line s.name (code_by (verdict_of s.name s.claim)) (verdict_other (is_import s.name s.claim) s.claim (read_claim s.claim) (capability_named s.name))
 
-from_other : (ordinal : ℕ) (items : List (List PlacedByte)) → AreOthers (faults_from_ordinal ordinal items)
+from_other : (ordinal : ℕ) (items : List (List PlacedByte)) → AreOthers (faults_from ordinal (map judged_of items))
 from_other ordinal [] = tt
 from_other ordinal (item ∷ items) =
-    others-append (faults_at ordinal (piece_of item).line (statement_of (piece_of item).text)) (faults_from_ordinal (ordinal + 1) items)
+    others-append (faults_at ordinal (judged_of item)) (faults_from (ordinal + 1) (map judged_of items))
     (statement_other ordinal (piece_of item).line (statement_of (piece_of item).text)) (from_other (ordinal + 1) items)
 
 header_other : (field : List ℕ) (o : Option (List (List ℕ))) → AreOthers (header_faults field o)
@@ -92,4 +89,4 @@ header_other field (Some names) = by_length (nat_lt names_max (length field)) wh
 pub read_others : (text : List ℕ) → AreOthers (reading_of_text text).faults
 unfolding reading_of_text
 read_others text =
-    others-append (header_faults (block_field text) (header_names (block_field text))) (faults_from_ordinal 0 (block_items text)) (header_other (block_field text) (header_names (block_field text))) (from_other 0 (block_items text))
+    others-append (header_faults (block_field text) (header_names (block_field text))) (faults_from 0 (map judged_of (block_items text))) (header_other (block_field text) (header_names (block_field text))) (from_other 0 (block_items text))

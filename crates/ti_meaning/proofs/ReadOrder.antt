@@ -11,17 +11,17 @@ use Rattle.ti_source.specs.declared.code.Code.{Code}
 use Rattle.ti_source.specs.declared.code.Code.TheVariants as code
 use Rattle.ti_source.specs.declared.numbers.NumberError.{NumberError}
 use Rattle.ti_source.specs.declared.numbers.NumberError.TheVariants.{Bad, TooLarge}
-use Rattle.ti_source.specs.inside.Verdicts.{unescape_result}
-use Rattle.ti_source.specs.inside.Numbers.{number_read}
 use Rattle.ti_source.specs.Folding.{PlacedByte}
-use Rattle.ti_source.specs.Items.{Claim, claims_flag, claims_number, claims_text, claims_cancel, Statement, piece_of, without_outer_space}
+use Rattle.ti_source.specs.Items.{Claim, Statement, piece_of, without_outer_space}
 use Rattle.ti_source.specs.inside.Items.{statement_of}
 use Rattle.ti_source.specs.inside.Header.{header_names}
 use Rattle.ti_source.specs.Reading.{Said, said_import, ReadItem, ReadFault}
 use Rattle.ti_source.specs.Parsing.{accepted, is_import, said_by, code_by, item_fault, header_fault, reading_of_text}
 use Rattle.ti_text.specs.Limits.{names_max}
-use Rattle.ti_source.specs.inside.Verdicts.{number_verdict, text_verdict, fitting_verdict, named_verdict, claimed_text, verdict_of}
-use Rattle.ti_source.specs.inside.Parsing.{items_at, faults_at, items_from, faults_from_ordinal, header_faults, block_field, block_items}
+use Rattle.ti_source.specs.Verdicts.{ReadClaim, reads_flag, reads_number, reads_text, reads_cancel, number_verdict, text_verdict, fitting_verdict, named_verdict, claimed_text}
+use Rattle.ti_source.specs.inside.Verdicts.{read_claim, verdict_of}
+use Rattle.ti_source.specs.Judging.{Judged, items_at, faults_at, items_from, faults_from, header_faults}
+use Rattle.ti_source.specs.inside.Parsing.{judged_as, judged_of, block_field, block_items}
 use Rattle.ti_meaning.specs.Reaching.{used_name}
 use Rattle.ti_meaning.specs.Faults.{is_kept}
 use Rattle.ti_meaning.specs.Laws.{Climbs}
@@ -43,30 +43,27 @@ odd_no_use : (c : Capability) (text : List ℕ) (odd : Bool) → uses_name (said
 odd_no_use c text true = refl
 odd_no_use c text false = refl
 
-text_no_use : (c : Capability) (value : List ℕ) → uses_name (said_by (text_verdict c (unescape_result value))) ≡ false
-text_no_use c value =
-    elim (unescape_result value) as (λ r. uses_name (said_by (text_verdict c r)) ≡ false) [ Ok found ↦ odd_no_use c found.0 found.1 | Err cause ↦ refl ]
+fitting_no_use : (c : Capability) (claim : ReadClaim) (k : Kind) → uses_name (said_by (fitting_verdict c claim k)) ≡ false
+fitting_no_use c reads_flag Flag = refl
+fitting_no_use c reads_flag Number = refl
+fitting_no_use c reads_flag Text = refl
+fitting_no_use c (reads_number read) Flag = refl
+fitting_no_use c (reads_number read) Number = number_no_use c read
+fitting_no_use c (reads_number read) Text = refl
+fitting_no_use c (reads_text value found) Flag = refl
+fitting_no_use c (reads_text value found) Number = refl
+fitting_no_use c (reads_text value found) Text =
+    elim found as (λ r. uses_name (said_by (text_verdict c r)) ≡ false) [ Ok text ↦ odd_no_use c text.0 text.1 | Err cause ↦ refl ]
+fitting_no_use c reads_cancel k = refl
 
-fitting_no_use : (c : Capability) (claim : Claim) (k : Kind) → uses_name (said_by (fitting_verdict c claim k)) ≡ false
-fitting_no_use c claims_flag Flag = refl
-fitting_no_use c claims_flag Number = refl
-fitting_no_use c claims_flag Text = refl
-fitting_no_use c (claims_number text) Flag = refl
-fitting_no_use c (claims_number text) Number = number_no_use c (number_read text)
-fitting_no_use c (claims_number text) Text = refl
-fitting_no_use c (claims_text value) Flag = refl
-fitting_no_use c (claims_text value) Number = refl
-fitting_no_use c (claims_text value) Text = text_no_use c value
-fitting_no_use c claims_cancel k = refl
-
-named_no_use : (claim : Claim) (o : Option Capability) → uses_name (said_by (named_verdict claim o)) ≡ false
+named_no_use : (claim : ReadClaim) (o : Option Capability) → uses_name (said_by (named_verdict claim o)) ≡ false
 named_no_use claim None = refl
 named_no_use claim (Some c) = fitting_no_use c claim c.kind
 
 -- a verdict has no fault or accepts no use
-apart_verdict : (v : Bool) (claim : Claim) (o : Option Capability) → (code_by (cond v (accepted (said_import (without_outer_space (claimed_text claim)))) (named_verdict claim o)) ≡ None) ⊎ (uses_name (said_by (cond v (accepted (said_import (without_outer_space (claimed_text claim)))) (named_verdict claim o))) ≡ false)
-apart_verdict true claim o = inl refl
-apart_verdict false claim o = inr (named_no_use claim o)
+apart_verdict : (v : Bool) (claim : Claim) (read : ReadClaim) (o : Option Capability) → (code_by (cond v (accepted (said_import (without_outer_space (claimed_text claim)))) (named_verdict read o)) ≡ None) ⊎ (uses_name (said_by (cond v (accepted (said_import (without_outer_space (claimed_text claim)))) (named_verdict read o))) ≡ false)
+apart_verdict true claim read o = inl refl
+apart_verdict false claim read o = inr (named_no_use read o)
 
 -- ---- what one item gives
 
@@ -82,19 +79,19 @@ other_faults : (o k line : ℕ) (name : List ℕ) (x : Option Code) → nat_eq k
 other_faults o k line name None e = refl
 other_faults o k line name (Some c) e = or_from (nat_eq k o) false e refl
 
-other_items_at : (o k line : ℕ) (s : Option Statement) → nat_eq k o ≡ false → has_use o (items_at k line s) ≡ false
-other_items_at o k line None e = refl
-other_items_at o k line (Some s) e = other_items o k line (said_by (verdict_of s.name s.claim)) e
+other_items_at : (o k : ℕ) (j : Option Judged) → nat_eq k o ≡ false → has_use o (items_at k j) ≡ false
+other_items_at o k None e = refl
+other_items_at o k (Some j) e = other_items o k j.line (said_by j.verdict) e
 
-other_faults_at : (o k line : ℕ) (s : Option Statement) → nat_eq k o ≡ false → has_fault o (faults_at k line s) ≡ false
-other_faults_at o k line None e = refl
-other_faults_at o k line (Some s) e = other_faults o k line s.name (code_by (verdict_of s.name s.claim)) e
+other_faults_at : (o k : ℕ) (j : Option Judged) → nat_eq k o ≡ false → has_fault o (faults_at k j) ≡ false
+other_faults_at o k None e = refl
+other_faults_at o k (Some j) e = other_faults o k j.line j.name (code_by j.verdict) e
 
 -- one item has no fault or is no use
-apart_at : (o k line : ℕ) (s : Option Statement) → (has_fault o (faults_at k line s) ≡ false) ⊎ (has_use o (items_at k line s) ≡ false)
+apart_at : (o k line : ℕ) (s : Option Statement) → (has_fault o (faults_at k (judged_as line s)) ≡ false) ⊎ (has_use o (items_at k (judged_as line s)) ≡ false)
 apart_at o k line None = inl refl
 apart_at o k line (Some s) =
-    elim (apart_verdict (is_import s.name s.claim) s.claim (capability_named s.name)) [
+    elim (apart_verdict (is_import s.name s.claim) s.claim (read_claim s.claim) (capability_named s.name)) [
       | inl no_fault ↦ inl (ap (λ x. has_fault o (map (item_fault k line s.name) (option_to_list x))) no_fault)
       | inr no_use ↦ inr (items_apart o k line (said_by (verdict_of s.name s.claim)) no_use)
     ]
@@ -104,47 +101,43 @@ apart_at o k line (Some s) =
 not_both : (a b : Bool) → a ≡ false → b ≡ false → (a || b) ≡ false
 not_both a b e f = or_from a b e f
 
-later_faults : (o k : ℕ) (items : List (List PlacedByte)) → o < k → has_fault o (faults_from_ordinal k items) ≡ false
+later_faults : (o k : ℕ) (js : List (Option Judged)) → o < k → has_fault o (faults_from k js) ≡ false
 later_faults o k [] l = refl
-later_faults o k (i ∷ is) l =
-    let here = faults_at k (piece_of i).line (statement_of (piece_of i).text) in
-    any-append (λ (f : ReadFault). nat_eq f.ordinal o) here (faults_from_ordinal (k + 1) is)
-    ∙ not_both (has_fault o here) (has_fault o (faults_from_ordinal (k + 1) is))
-    (other_faults_at o k (piece_of i).line (statement_of (piece_of i).text) (ne_eqb k o (λ e. omega arith)))
-    (later_faults o (k + 1) is (omega arith))
+later_faults o k (j ∷ js) l =
+    any-append (λ (f : ReadFault). nat_eq f.ordinal o) (faults_at k j) (faults_from (k + 1) js)
+    ∙ not_both (has_fault o (faults_at k j)) (has_fault o (faults_from (k + 1) js)) (other_faults_at o k j (ne_eqb k o (λ e. omega arith)))
+    (later_faults o (k + 1) js (omega arith))
 
-later_items : (o k : ℕ) (items : List (List PlacedByte)) → o < k → has_use o (items_from k items) ≡ false
+later_items : (o k : ℕ) (js : List (Option Judged)) → o < k → has_use o (items_from k js) ≡ false
 later_items o k [] l = refl
-later_items o k (i ∷ is) l =
-    let here = items_at k (piece_of i).line (statement_of (piece_of i).text) in
-    any-append (λ (j : ReadItem). nat_eq j.ordinal o && is_some (used_name j.said)) here (items_from (k + 1) is)
-    ∙ not_both (has_use o here) (has_use o (items_from (k + 1) is))
-    (other_items_at o k (piece_of i).line (statement_of (piece_of i).text) (ne_eqb k o (λ e. omega arith)))
-    (later_items o (k + 1) is (omega arith))
+later_items o k (j ∷ js) l =
+    any-append (λ (i : ReadItem). nat_eq i.ordinal o && is_some (used_name i.said)) (items_at k j) (items_from (k + 1) js)
+    ∙ not_both (has_use o (items_at k j)) (has_use o (items_from (k + 1) js)) (other_items_at o k j (ne_eqb k o (λ e. omega arith)))
+    (later_items o (k + 1) js (omega arith))
 
-apart_from : (o k : ℕ) (items : List (List PlacedByte)) → has_fault o (faults_from_ordinal k items) ≡ true → has_use o (items_from k items) ≡ false
+apart_from : (o k : ℕ) (items : List (List PlacedByte)) → has_fault o (faults_from k (map judged_of items)) ≡ true → has_use o (items_from k (map judged_of items)) ≡ false
 apart_from o k [] t = refl
 apart_from o k (i ∷ is) t =
-    let line = (piece_of i).line in
-    let s = statement_of (piece_of i).text in
-    let uses = any-append (λ (j : ReadItem). nat_eq j.ordinal o && is_some (used_name j.said)) (items_at k line s) (items_from (k + 1) is) in
-    let faults : (has_fault o (faults_at k line s) || has_fault o (faults_from_ordinal (k + 1) is)) ≡ true = sym (any-append (λ (f : ReadFault). nat_eq f.ordinal o) (faults_at k line s) (faults_from_ordinal (k + 1) is)) ∙ t in
+    let j = judged_of i in
+    let js = map judged_of is in
+    let uses = any-append (λ (x : ReadItem). nat_eq x.ordinal o && is_some (used_name x.said)) (items_at k j) (items_from (k + 1) js) in
+    let faults : (has_fault o (faults_at k j) || has_fault o (faults_from (k + 1) js)) ≡ true = sym (any-append (λ (f : ReadFault). nat_eq f.ordinal o) (faults_at k j) (faults_from (k + 1) js)) ∙ t in
     uses ∙ elim (cases_eq k o) [
-      | inr other ↦ not_both (has_use o (items_at k line s)) (has_use o (items_from (k + 1) is))
-          (other_items_at o k line s (ne_eqb k o other))
-          (apart_from o (k + 1) is (elim (or_cases (has_fault o (faults_at k line s)) (has_fault o (faults_from_ordinal (k + 1) is)) faults) [
-            | inl here ↦ absurd (false≢true (sym (other_faults_at o k line s (ne_eqb k o other)) ∙ here))
+      | inr other ↦ not_both (has_use o (items_at k j)) (has_use o (items_from (k + 1) js))
+          (other_items_at o k j (ne_eqb k o other))
+          (apart_from o (k + 1) is (elim (or_cases (has_fault o (faults_at k j)) (has_fault o (faults_from (k + 1) js)) faults) [
+            | inl here ↦ absurd (false≢true (sym (other_faults_at o k j (ne_eqb k o other)) ∙ here))
             | inr later ↦ later
           ]))
-      | inl same ↦ not_both (has_use o (items_at k line s)) (has_use o (items_from (k + 1) is))
-          (elim (apart_at o k line s) [
+      | inl same ↦ not_both (has_use o (items_at k j)) (has_use o (items_from (k + 1) js))
+          (elim (apart_at o k (piece_of i).line (statement_of (piece_of i).text)) [
             | inr no_use ↦ no_use
-            | inl no_fault ↦ elim (or_cases (has_fault o (faults_at k line s)) (has_fault o (faults_from_ordinal (k + 1) is)) faults) [
+            | inl no_fault ↦ elim (or_cases (has_fault o (faults_at k j)) (has_fault o (faults_from (k + 1) js)) faults) [
               | inl here ↦ absurd (false≢true (sym no_fault ∙ here))
-              | inr later ↦ absurd (false≢true (sym (later_faults o (k + 1) is (omega arith)) ∙ later))
+              | inr later ↦ absurd (false≢true (sym (later_faults o (k + 1) js (omega arith)) ∙ later))
             ]
           ])
-          (later_items o (k + 1) is (omega arith))
+          (later_items o (k + 1) js (omega arith))
     ]
 
 -- ---- ordinals climb
@@ -157,25 +150,25 @@ front_faults : (k line : ℕ) (name : List ℕ) (x : Option Code) (fs : List Rea
 front_faults k line name None fs c = climbs-lower k (k + 1) (map (λ (f : ReadFault). f.ordinal) fs) (omega arith) c
 front_faults k line name (Some code) fs c = (omega arith, climbs-lower k (k + 1) (map (λ (f : ReadFault). f.ordinal) fs) (omega arith) c)
 
-front_faults_at : (k line : ℕ) (s : Option Statement) (fs : List ReadFault) → Climbs (k + 1) (map (λ (f : ReadFault). f.ordinal) fs) → Climbs k (map (λ (f : ReadFault). f.ordinal) (faults_at k line s ++ fs))
-front_faults_at k line None fs c = climbs-lower k (k + 1) (map (λ (f : ReadFault). f.ordinal) fs) (omega arith) c
-front_faults_at k line (Some s) fs c = front_faults k line s.name (code_by (verdict_of s.name s.claim)) fs c
+front_faults_at : (k : ℕ) (j : Option Judged) (fs : List ReadFault) → Climbs (k + 1) (map (λ (f : ReadFault). f.ordinal) fs) → Climbs k (map (λ (f : ReadFault). f.ordinal) (faults_at k j ++ fs))
+front_faults_at k None fs c = climbs-lower k (k + 1) (map (λ (f : ReadFault). f.ordinal) fs) (omega arith) c
+front_faults_at k (Some j) fs c = front_faults k j.line j.name (code_by j.verdict) fs c
 
 front_items : (k line : ℕ) (x : Option Said) (is : List ReadItem) → Climbs (k + 1) (map (λ (i : ReadItem). i.ordinal) is) → Climbs k (map (λ (i : ReadItem). i.ordinal) (map (λ said. record { ordinal = k; line = line; said = said }) (option_to_list x) ++ is))
 front_items k line None is c = climbs-lower k (k + 1) (map (λ (i : ReadItem). i.ordinal) is) (omega arith) c
 front_items k line (Some said) is c = (omega arith, climbs-lower k (k + 1) (map (λ (i : ReadItem). i.ordinal) is) (omega arith) c)
 
-front_items_at : (k line : ℕ) (s : Option Statement) (is : List ReadItem) → Climbs (k + 1) (map (λ (i : ReadItem). i.ordinal) is) → Climbs k (map (λ (i : ReadItem). i.ordinal) (items_at k line s ++ is))
-front_items_at k line None is c = climbs-lower k (k + 1) (map (λ (i : ReadItem). i.ordinal) is) (omega arith) c
-front_items_at k line (Some s) is c = front_items k line (said_by (verdict_of s.name s.claim)) is c
+front_items_at : (k : ℕ) (j : Option Judged) (is : List ReadItem) → Climbs (k + 1) (map (λ (i : ReadItem). i.ordinal) is) → Climbs k (map (λ (i : ReadItem). i.ordinal) (items_at k j ++ is))
+front_items_at k None is c = climbs-lower k (k + 1) (map (λ (i : ReadItem). i.ordinal) is) (omega arith) c
+front_items_at k (Some j) is c = front_items k j.line (said_by j.verdict) is c
 
-faults_climb : (k : ℕ) (items : List (List PlacedByte)) → Climbs k (map (λ (f : ReadFault). f.ordinal) (faults_from_ordinal k items))
+faults_climb : (k : ℕ) (js : List (Option Judged)) → Climbs k (map (λ (f : ReadFault). f.ordinal) (faults_from k js))
 faults_climb k [] = tt
-faults_climb k (i ∷ is) = front_faults_at k (piece_of i).line (statement_of (piece_of i).text) (faults_from_ordinal (k + 1) is) (faults_climb (k + 1) is)
+faults_climb k (j ∷ js) = front_faults_at k j (faults_from (k + 1) js) (faults_climb (k + 1) js)
 
-items_climb : (k : ℕ) (items : List (List PlacedByte)) → Climbs k (map (λ (i : ReadItem). i.ordinal) (items_from k items))
+items_climb : (k : ℕ) (js : List (Option Judged)) → Climbs k (map (λ (i : ReadItem). i.ordinal) (items_from k js))
 items_climb k [] = tt
-items_climb k (i ∷ is) = front_items_at k (piece_of i).line (statement_of (piece_of i).text) (items_from (k + 1) is) (items_climb (k + 1) is)
+items_climb k (j ∷ js) = front_items_at k j (items_from (k + 1) js) (items_climb (k + 1) js)
 
 -- ---- without the faults of the header
 
@@ -211,13 +204,15 @@ fault_filter test o (f ∷ fs) t =
 kept_faults : (header faults : List ReadFault) → filter (is_kept false) header ≡ [] → filter (is_kept false) (header ++ faults) ≡ filter (is_kept false) faults
 kept_faults header faults e = filter-append (is_kept false) header faults ∙ ap (λ xs. xs ++ filter (is_kept false) faults) e
 
-ordered_from : (header : List ReadFault) (items : List (List PlacedByte)) → filter (is_kept false) header ≡ [] → AreOrdered (filter (is_kept false) (header ++ faults_from_ordinal 0 items)) (items_from 0 items)
+ordered_from : (header : List ReadFault) (items : List (List PlacedByte)) → filter (is_kept false) header ≡ []
+    → AreOrdered (filter (is_kept false) (header ++ faults_from 0 (map judged_of items))) (items_from 0 (map judged_of items))
 ordered_from header items none =
-    let e = kept_faults header (faults_from_ordinal 0 items) none in
+    let js = map judged_of items in
+    let e = kept_faults header (faults_from 0 js) none in
     record {
-      faults_climb = rw e (climbs-filter (is_kept false) 0 (faults_from_ordinal 0 items) (faults_climb 0 items));
-      items_climb = items_climb 0 items;
-      apart = λ o t. apart_from o 0 items (fault_filter (is_kept false) o (faults_from_ordinal 0 items) (ap (has_fault o) (sym e) ∙ t));
+      faults_climb = rw e (climbs-filter (is_kept false) 0 (faults_from 0 js) (faults_climb 0 js));
+      items_climb = items_climb 0 js;
+      apart = λ o t. apart_from o 0 items (fault_filter (is_kept false) o (faults_from 0 js) (ap (has_fault o) (sym e) ∙ t));
     }
 
 pub ordered_items : ReadItemsAreOrdered

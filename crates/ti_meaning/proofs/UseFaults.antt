@@ -7,7 +7,7 @@ use Rattle.ti_source.specs.declared.code.Code.TheVariants.{MissingUse, Circular,
 use Rattle.ti_source.specs.Reading.{Reading}
 use Rattle.ti_meaning.specs.Owner.{owner, owner_block}
 use Rattle.ti_meaning.specs.Expansion.{Mention, expansion, resolves}
-use Rattle.ti_meaning.specs.inside.Reaching.{leads_to}
+use Rattle.ti_meaning.specs.Reaching.{leads_to}
 use Rattle.ti_meaning.specs.Compiled.{EntryState, unresolved, oversized, written, image_of, is_too_large, state_with}
 use Rattle.ti_meaning.specs.Faults.{fault_between, use_fault}
 use Rattle.ti_meaning.proofs.Owning.{nobody, somebody, owning, nobody_to_none}

@@ -7,10 +7,9 @@ use Rattle.ti_source.specs.Reading.{Reading, ReadItem, Said, said_flag, said_num
 use Rattle.ti_meaning.specs.Owner.{owner, owner_block}
 use Rattle.ti_text.specs.Lists.{both_lists}
 use Rattle.ti_meaning.specs.Expansion.{Mention, is_broken, mentions_of, expand_items, expand, expansion, resolves}
-use Rattle.ti_meaning.specs.Reaching.{used_name, Uses, IsUseWay, LeadsTo}
-use Rattle.ti_meaning.specs.inside.Reaching.{leads_to}
+use Rattle.ti_meaning.specs.Reaching.{used_name, Uses, IsUseWay, LeadsTo, leads_to}
 use Rattle.ti_meaning.specs.Faults.{fault_between, use_fault}
-use Rattle.ti_meaning.specs.inside.ValueTables.{names_at}
+use Rattle.ti_meaning.specs.ValueTables.{names_at}
 use Rattle.ti_meaning.specs.UseLaws.{OwnerReaches, LeadingIsReaching, UsesBlock, IsEdgeWalk, EdgesLead, LeadingIsWalking, AreFound, IsGraphOf, MarksComponents, HasOptionalEdge, HaveOneNumber, CircularUsesShareAComponent, UnresolvedBlocksHaveACause}
 use Rattle.ti_meaning.proofs.Owning.{nobody, somebody, owning, owner_to_owned}
 use Rattle.ti_meaning.proofs.Depth.{bounded}

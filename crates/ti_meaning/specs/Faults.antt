@@ -11,8 +11,7 @@ use Rattle.ti_source.specs.Code.{is_of_header}
 use Rattle.ti_source.specs.Reading.{Reading, ReadItem, ReadFault}
 use Rattle.ti_meaning.specs.Owner.{owner, owner_block, is_among}
 use Rattle.ti_meaning.specs.Expansion.{resolves}
-use Rattle.ti_meaning.specs.Reaching.{used_name}
-use Rattle.ti_meaning.specs.inside.Reaching.{leads_to}
+use Rattle.ti_meaning.specs.Reaching.{used_name, leads_to}
 use Rattle.ti_meaning.specs.Compiled.{EntryState, unresolved, oversized, written, state_of}
 
 -- a fault of a source: the position of its block, the line in that block, counted from 1, the code and its detail

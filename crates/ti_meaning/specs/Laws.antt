@@ -5,8 +5,7 @@ use Rattle.ti_source.specs.declared.code.Code.TheVariants.{MissingUse, Circular,
 use Rattle.ti_source.specs.Reading.{Reading, ReadItem, ReadFault}
 use Rattle.ti_meaning.specs.Owner.{is_among, owner, owner_block}
 use Rattle.ti_meaning.specs.Expansion.{Mention, expand, expansion, resolves}
-use Rattle.ti_meaning.specs.Reaching.{used_name, LeadsTo}
-use Rattle.ti_meaning.specs.inside.Reaching.{leads_to}
+use Rattle.ti_meaning.specs.Reaching.{used_name, LeadsTo, leads_to}
 use Rattle.ti_meaning.specs.Faults.{SourceFault, local_fault, use_fault, fault_of_item, faults_before, faults_from, item_faults}
 
 -- the name is the block's at that position, and no block before has it

@@ -1,7 +1,6 @@
 pub mod Owner
 pub mod Expansion
 pub mod Reaching
-pub mod inside
 pub mod Compiled
 pub mod Faults
 pub mod Report

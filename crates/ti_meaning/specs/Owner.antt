@@ -1,7 +1,8 @@
 -- Whose a name is (own): a name belongs to the first block of the source that has it among its lookup names, whether
 -- that block is sound or broken. A block whose header is bad has no lookup names, and so owns none.
-use Rattle.std.specs.Prelude.{ℕ, suc, List, [], ◌∷◌, map, Option, Some, None, option_map, Bool, if◌then◌else◌}
+use Rattle.std.specs.Prelude.{ℕ, suc, List, [], ◌∷◌, map, Option, Some, None, option_map, Bool, false, nat_eq, if◌then◌else◌}
 use Rattle.std.specs.List.{list_any}
+use Rattle.std.specs.Option.{option_map_or}
 use Rattle.std.specs.Str.{bytes_eq}
 use Rattle.ti_source.specs.Reading.{Reading}
 use Rattle.ti_source.specs.Parsing.{reading_of_text}
@@ -23,3 +24,7 @@ owner (block ∷ blocks) name = if is_among name block.names then Some 0 else op
 abbrev pub owner_block : List Reading → List ℕ → Option Reading
 owner_block [] name = None
 owner_block (block ∷ blocks) name = if is_among name block.names then Some block else owner_block blocks name
+
+-- whether the name belongs to the block at that position
+abbrev pub is_owner : List Reading → List ℕ → ℕ → Bool
+is_owner blocks name at = option_map_or (λ place. nat_eq place at) (owner blocks name) false

@@ -1,9 +1,10 @@
--- What compiling and reporting want of a block as it is read (own).
+-- What compiling and reporting want of a block as it is read, and of the faults of a source (own).
 use Rattle.ti_text.specs.Limits.{block_bytes_max, names_max}
-use Rattle.std.specs.Prelude.{ℕ, ◌+◌, ◌≡◌, ◌≢◌, ◌≤◌, false, [], length, All}
+use Rattle.std.specs.Prelude.{ℕ, ◌+◌, ◌≡◌, ◌≢◌, ◌<◌, ◌≤◌, false, [], length, All}
 use Rattle.ti_source.specs.Reading.{Reading, ReadItem, ReadFault, Said, said_flag, said_number, said_text, said_cancel, said_import}
 use Rattle.ti_layout.specs.Values.{content_true, content_number, content_text, content_cancelled, Agrees, HasNoNul}
 use Rattle.ti_meaning.specs.Expansion.{is_broken}
+use Rattle.ti_meaning.specs.Faults.{SourceFault}
 
 -- an item gives its capability a value that fits it
 abbrev pub SetsWell : Said → Type 0
@@ -24,3 +25,7 @@ pub record IsUsable (block : Reading) : Type 0 where
   pub sets : All (λ (item : ReadItem). SetsWell item.said) block.items
   pub item_lines : All (λ (item : ReadItem). IsLine item.line) block.items
   pub fault_lines : All (λ (fault : ReadFault). IsLine fault.line) block.faults
+
+-- a fault stands in one of so many blocks, on a line that a text can have
+abbrev pub IsPlaced : ℕ → SourceFault → Type 0
+IsPlaced blocks fault = (fault.block < blocks) × IsLine fault.line

@@ -10,10 +10,11 @@ use Rattle.ti_param.specs.declared.lexer.Placed.{Placed}
 use Rattle.ti_param.specs.Codes.{IsCode}
 use Rattle.ti_param.specs.inside.Codes.{Front, token_after}
 use Rattle.ti_param.specs.Formats.{FormatTree, placed_token, IsCutIntoTokens, no_tokens, then_byte, then_code, AreTokensOf, IsTree, BeginsFormat, IsStuck, HasOneTree}
-use Rattle.ti_param.specs.inside.Formats.{Scan, with_token, scan, scan_of, phases_after, refusal, stuck_place, tree_and_marks, tree_of, IsFormatComputed}
+use Rattle.ti_param.specs.inside.Formats.{Scan, with_token, scan, scan_of, phases_after, accepted_of, refusal, stuck_place, tree_and_marks, tree_of, IsFormatComputed}
 use Rattle.ti_param.specs.Meaning.{MachineState, MachineOutcome, and_then, meaning}
 use Rattle.ti_param.proofs.Reading.{code_read, code_so}
 use Rattle.ti_param.proofs.Scanning.{scan-byte, scan-stop, scan-code}
+use Rattle.ti_param.proofs.Lexing.{accepted-whole, accepted-stop}
 use Rattle.ti_param.proofs.Parsing.{sequence_parsed}
 use Rattle.ti_param.proofs.Accepting.{gone, advanced_all, Accepts, accepts_front, accepts_end, refusal_accepted, parses_accepted, accepted_parses}
 use Rattle.ti_param.proofs.Running.{executed, sequence_runs}
@@ -254,12 +255,24 @@ one_reading format = record {
     either None is = inl (tree_of format, computed_tree format is)
     either (Some place) is = inr (place, computed_stuck format place is)
 
--- the tokens of a format that has a tree do what the tree means
-pub format_runs : (format : List ℕ) (t : FormatTree) → IsTree format t → (s : MachineState) → executed None (scan_of format).tokens s ≡ meaning t s
+-- tokens that have a tree do what the tree means
+pub tokens_run : (tokens : List Placed) (t : FormatTree) → AreTokensOf tokens t → (s : MachineState) → executed None tokens s ≡ meaning t s
 unfolding executed
-format_runs format t tree s =
-    ap (λ scanned. executed None scanned.tokens s) (cut_whole tree.cut) ∙ sequence_runs tree.parses s ∙ expansion_by (meaning t s)
+tokens_run tokens t parses s = sequence_runs parses s ∙ ended (meaning t s)
   where
-    expansion_by : (o : MachineOutcome) → and_then o (executed None []) ≡ o
-    expansion_by (Ok final) = refl
-    expansion_by (Err place) = refl
+    ended : (o : MachineOutcome) → and_then o (executed None []) ≡ o
+    ended (Ok final) = refl
+    ended (Err place) = refl
+
+-- the tokens of a format that is not stuck may all stand, and have its tree
+pub tokens_parse : (format : List ℕ) (t : FormatTree) → IsTree format t → AreTokensOf (accepted_of [] (scan_of format)).tokens t
+unfolding stuck_place
+tokens_parse format t tree =
+    let none = (tree_computed format t tree).0 in
+    subst (λ ts. AreTokensOf ts t)
+    (sym (accepted-whole [] (scan_of format).tokens (scan_of format).stop none ∙ ap (λ s. s.tokens) (cut_whole tree.cut))) tree.parses
+
+-- where the tokens that may stand end
+pub tokens_stop : (format : List ℕ) → (accepted_of [] (scan_of format)).stop ≡ stuck_place format
+unfolding stuck_place
+tokens_stop format = accepted-stop [] (scan_of format).tokens (scan_of format).stop

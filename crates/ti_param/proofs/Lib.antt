@@ -2,6 +2,7 @@ pub mod Accepting
 pub mod Ending
 pub mod Fronts
 pub mod Laws
+pub mod Lexing
 pub mod Numbers
 pub mod Parsing
 pub mod Reading

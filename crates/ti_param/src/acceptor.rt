@@ -1,17 +1,14 @@
-//! Whether a format is whole: conditionals in order, and not too many open at once.
-ghost use Rattle.std.specs.Prelude.{◌≡◌, ℕ, ◌≤◌, List, MatchResult, MatchBool, reverse};
+//! Whether a token may stand where it does: conditionals in order, and not too many open at once.
+ghost use Rattle.std.specs.Prelude.{◌≡◌, ℕ, ◌≤◌, List, MatchBool, reverse};
 ghost use Rattle.arrayvec.specs.ArrayVec.{array_vec_len};
-ghost use Rattle.ti_param.specs.inside.Expansion.{IsStuckError};
 ghost use Rattle.ti_param.specs.Formats.{HasOneTree, most_open};
-ghost use Rattle.ti_param.specs.inside.Formats.{stuck_place, phases_after, IsFormatComputed};
+ghost use Rattle.ti_param.specs.inside.Formats.{phases_after, IsFormatComputed};
 
 use crate::codes::Token;
-use crate::errors::ParamError;
-use crate::lexer::{Lexer, Placed};
 use arrayvec::ArrayVec;
 
 /// How many conditionals may be open at once: `most_open` of `specs/Formats.antt`.
-const MOST: usize = 64;
+pub(crate) const MOST: usize = 64;
 
 /// What may come in an open conditional.
 #[derive(Clone, Copy, Default)]
@@ -23,28 +20,12 @@ pub(crate) enum Phase {
     Taken,
 }
 
-/// Accepts a whole format; else the error is `BadFormat`, with the place where the format is stuck.
-pub(crate) fn accept(format: &[u8]) -> Result<(), ParamError>
-    ensures { MatchResult result (λ _. stuck_place format.now ≡ None) (λ error. IsStuckError error (stuck_place format.now)) }
-{
-    let mut phases: ArrayVec<Phase, MOST> = ArrayVec::new();
-    let mut lexer = Lexer::new(format);
-    while let Some(Placed { place, token }) = lexer.next_token() {
-        if !advance(&mut phases, token) {
-            return Err(ParamError::BadFormat(place));
-        }
-    }
-    match lexer.stop() {
-        None => Ok(()),
-        Some(place) => Err(ParamError::BadFormat(place)),
-    }
-}
-
-/// Whether the token may stand in the open conditionals, which are then those after it.
-fn advance(phases: &mut ArrayVec<Phase, MOST>, token: Token) -> bool
+/// Whether the token may stand in the open conditionals, which are then those after it, else as they were.
+#[inline(always)]
+pub(crate) fn advance(phases: &mut ArrayVec<Phase, MOST>, token: &Token) -> bool
     requires { array_vec_len phases.old ≤ most_open }
-    ensures step { MatchBool result (phases_after (reverse phases.old.items) token
-        ≡ Some (reverse phases.new.items)) (phases_after (reverse phases.old.items) token ≡ None) }
+    ensures step { MatchBool result (phases_after (reverse phases.old.items) token.now ≡ Some (reverse phases.new.items))
+        ((phases_after (reverse phases.old.items) token.now ≡ None) × (phases.new.items ≡ phases.old.items)) }
     ensures bound { array_vec_len phases.new ≤ most_open }
 {
     match token {
@@ -55,14 +36,22 @@ fn advance(phases: &mut ArrayVec<Phase, MOST>, token: Token) -> bool
                 phases.push(Phase::Taken);
                 true
             }
-            _ => false,
+            Some(Phase::Taken) => {
+                phases.push(Phase::Taken);
+                false
+            }
+            None => false,
         },
         Token::Else => match phases.pop() {
             Some(Phase::Taken) => {
                 phases.push(Phase::Testing);
                 true
             }
-            _ => false,
+            Some(Phase::Testing) => {
+                phases.push(Phase::Testing);
+                false
+            }
+            None => false,
         },
         Token::EndIf => phases.pop().is_some(),
     }

@@ -1,12 +1,11 @@
 //! The bytes that a parameter string sends to the terminal.
 ghost use Rattle.std.specs.Prelude.{◌≡◌, ℕ, ◌+◌, ◌^◌, ◌<◌, ◌≤◌, ◌↔◌, IfOk, OnErr, IsErrOf, map, length, MatchResult};
-ghost use Rattle.ti_param.specs.Formats.{FormatTree, IsTree, IsStuck};
-ghost use Rattle.ti_param.specs.inside.Formats.{after_part, level_after};
+ghost use Rattle.ti_param.specs.Formats.{FormatTree, AreTokensOf, IsTree, IsStuck};
+ghost use Rattle.ti_param.specs.inside.Formats.{after_part, left_of, level_after};
 ghost use Rattle.ti_param.specs.Meaning.{argument_of, meaning};
 ghost use Rattle.ti_param.specs.Expansion.{Expands, Overflows};
 ghost use Rattle.ti_param.specs.inside.Expansion.{EndsWith, format_expansion, expanded, HasOutcome};
 
-use crate::acceptor::accept;
 use crate::codes::Token;
 use crate::errors::ParamError;
 use crate::lexer::{Lexer, Placed};
@@ -45,17 +44,28 @@ pub fn expand(
         (λ output. format_expansion format.now (map argument_of params.now) statics.old ≡ expanded output.items statics.new)
         (λ error. EndsWith error (format_expansion format.now (map argument_of params.now) statics.old)) }
 {
-    accept(format)?;
+    let mut lexer = Lexer::new(format);
     let mut machine = Machine::new(alloc, params, statics);
-    run(format, &mut machine)?;
+    let ran = run(&mut lexer, &mut machine, format.len().min(FIRST_ROOM));
+    if let Some(place) = lexer.end() {
+        return Err(ParamError::BadFormat(place));
+    }
+    ran?;
     Ok(machine.finish(statics))
 }
 
-/// Runs a format that was accepted.
-fn run(format: &[u8], machine: &mut Machine<'_>) -> Result<(), ParamError>
-    ensures { (t : FormatTree) → IsTree format.now t → HasOutcome result machine.new (meaning t machine.old) }
+/// The most bytes for which room is made at once at the start: most strings of an entry give fewer.
+const FIRST_ROOM: usize = 64;
+
+/// Runs the tokens that are left, once it has made room for so many bytes.
+#[inline(always)]
+fn run(lexer: &mut Lexer<'_>, machine: &mut Machine<'_>, room: usize) -> Result<(), ParamError>
+    requires { length (left_of lexer.old).tokens < 2 ^ 64 }
+    ensures ran { (t : FormatTree) → AreTokensOf (left_of lexer.old).tokens t → HasOutcome result machine.new (meaning t machine.old) }
+    ensures stop { (left_of lexer.new).stop ≡ (left_of lexer.old).stop }
+    ensures fewer { length (left_of lexer.new).tokens ≤ length (left_of lexer.old).tokens }
 {
-    let mut lexer = Lexer::new(format);
+    machine.make_room(room)?;
     while let Some(Placed { place, token }) = lexer.next_token() {
         match token {
             Token::Literal(byte) => machine.write(byte)?,
@@ -63,21 +73,23 @@ fn run(format: &[u8], machine: &mut Machine<'_>) -> Result<(), ParamError>
             Token::If | Token::EndIf => {}
             Token::Then => {
                 if machine.pop_number() == 0 {
-                    skip(&mut lexer, true);
+                    skip(lexer, true);
                 }
             }
-            Token::Else => skip(&mut lexer, false),
+            Token::Else => skip(lexer, false),
         }
     }
     Ok(())
 }
 
 /// Skips the part of a conditional that is not taken, by a count of the conditionals in it: to after the `%;` that ends
-/// it, or where `to_else` is set to after its `%e`, whichever comes first, or to the end of the format.
+/// it, or where `to_else` is set to after its `%e`, whichever comes first, or to the end of the tokens.
+#[inline(always)]
 fn skip(lexer: &mut Lexer<'_>, to_else: bool)
-    requires { length lexer.old.tokens < 2 ^ 64 }
-    ensures tokens { lexer.new.tokens ≡ after_part 0 to_else lexer.old.tokens }
-    ensures fewer { length lexer.new.tokens ≤ length lexer.old.tokens }
+    requires { length (left_of lexer.old).tokens < 2 ^ 64 }
+    ensures tokens { (left_of lexer.new).tokens ≡ after_part 0 to_else (left_of lexer.old).tokens }
+    ensures stop { (left_of lexer.new).stop ≡ (left_of lexer.old).stop }
+    ensures fewer { length (left_of lexer.new).tokens ≤ length (left_of lexer.old).tokens }
 {
     let mut level = 0;
     while let Some(Placed { token, .. }) = lexer.next_token() {
@@ -89,6 +101,7 @@ fn skip(lexer: &mut Lexer<'_>, to_else: bool)
 }
 
 /// How many conditionals are open in the skipped part after one more token; None where the token ends the part.
+#[inline(always)]
 fn level_after(level: usize, to_else: bool, token: Token) -> Option<usize>
     requires { level + 1 < 2 ^ 64 }
     ensures { result ≡ level_after level to_else token }

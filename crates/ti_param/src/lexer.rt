@@ -1,10 +1,11 @@
-//! A format as its tokens.
-ghost use Rattle.std.specs.Prelude.{◌≡◌, ◌^◌, ◌<◌, [], ◌∷◌, MatchOption, IfNone, length};
-ghost use Rattle.ti_param.specs.inside.Formats.{first_token, scan_of};
-ghost use Rattle.ti_param.specs.inside.Reader.{with_rest};
+//! A format as its tokens, as far as they may stand where they do.
+ghost use Rattle.std.specs.Prelude.{◌≡◌, ◌^◌, ◌<◌, [], ◌∷◌, Some, MatchOption, IfNone, length};
+ghost use Rattle.ti_param.specs.inside.Formats.{accepted_of, front_of, left_of, scan_of};
 
+use crate::acceptor::{MOST, Phase, advance};
 use crate::codes::Token;
-use crate::reader::read_token;
+use crate::reader::read_code;
+use arrayvec::ArrayVec;
 use std::marker::Model;
 
 /// A token, and where in the format it begins.
@@ -14,77 +15,105 @@ pub(crate) struct Placed {
     pub(crate) token: Token,
 }
 
-/// The token that a byte and the text after it begin with: the code after a `%`, else the byte itself.
-#[inline(always)]
-fn first_token(byte: u8, after: &[u8]) -> Option<(Token, &[u8])>
-    ensures { with_rest result ≡ first_token byte after.now }
-{
-    if byte == b'%' {
-        read_token(after)
-    } else {
-        Some((Token::Literal(byte), after))
-    }
-}
-
-/// The tokens of a format that are left, up to the first `%` that begins no code.
+/// The tokens of a format that are left, up to the first `%` that begins no code which may stand there.
 #[derive(Drop)]
 pub(crate) struct Lexer<'a> {
-    place: usize,
+    /// The length of the whole format.
+    total: usize,
     rest: &'a [u8],
+    /// The open conditionals, the innermost last.
+    phases: ArrayVec<Phase, MOST>,
 }
 
 impl<'a> Model for Lexer<'a> {
-    ghost use Rattle.std.specs.Prelude.{◌+◌, ◌^◌, ◌<◌, length};
-    ghost use Rattle.ti_param.specs.inside.Formats.{Scan, scan};
+    ghost use Rattle.std.specs.Prelude.{◌-◌, ◌≤◌, length, reverse};
+    ghost use Rattle.arrayvec.specs.ArrayVec.{array_vec_len};
+    ghost use Rattle.ti_param.specs.Formats.{most_open};
+    ghost use Rattle.ti_param.specs.inside.Formats.{Unread};
 
-    ghost Value = { Scan };
+    ghost Value = { Unread };
 
-    ghost view = { λ lexer. scan 0 lexer.place lexer.rest.now };
+    ghost view = { λ lexer. record {
+      place = lexer.total - length lexer.rest.now;
+      text = lexer.rest.now;
+      phases = reverse lexer.phases.items;
+    } };
 
-    ghost invariant = { λ lexer. lexer.place + length lexer.rest.now < 2 ^ 64 };
+    ghost invariant = { λ lexer. (length lexer.rest.now ≤ lexer.total) × (array_vec_len lexer.phases ≤ most_open) };
 }
 
 impl<'a> Lexer<'a> {
     /// At the start of a format.
     pub(crate) fn new(format: &'a [u8]) -> Self
-        ensures value { result ≡ scan_of format.now }
-        ensures bound { length result.tokens < 2 ^ 64 }
+        ensures value { left_of result ≡ accepted_of [] (scan_of format.now) }
+        ensures bound { length (left_of result).tokens < 2 ^ 64 }
     {
         Lexer {
-            place: 0,
+            total: format.len(),
             rest: format,
+            phases: ArrayVec::new(),
         }
     }
 
-    /// Takes the next token; None at the end, and at a `%` that begins no code.
+    /// Takes the next token; None at the end, and at a `%` that begins no code which may stand there.
     #[inline(always)]
     pub(crate) fn next_token(&mut self) -> Option<Placed>
-        ensures token { MatchOption result (self.old.tokens ≡ []) (λ found. self.old.tokens ≡ found ∷ self.new.tokens) }
-        ensures stop { self.new.stop ≡ self.old.stop }
+        ensures token { MatchOption result ((left_of self.old).tokens ≡ [])
+            (λ found. (left_of self.old).tokens ≡ found ∷ (left_of self.new).tokens) }
+        ensures stop { (left_of self.new).stop ≡ (left_of self.old).stop }
         ensures end { IfNone result (self.new ≡ self.old) }
     {
-        let text = self.rest;
-        let (&byte, after) = text.split_first()?;
-        match first_token(byte, after) {
-            None => None,
-            Some((token, rest)) => {
-                let place = self.place;
-                self.place = place + (text.len() - rest.len());
-                self.rest = rest;
-                Some(Placed { place, token })
-            }
+        let (&byte, after) = self.rest.split_first()?;
+        if byte != b'%' {
+            return self.take(Token::Literal(byte), after);
+        }
+        let (&letter, rest) = after.split_first()?;
+        match letter {
+            b'?' => self.take(Token::If, rest),
+            b't' => self.take(Token::Then, rest),
+            b'e' => self.take(Token::Else, rest),
+            b';' => self.take(Token::EndIf, rest),
+            _ => match read_code(after) {
+                None => None,
+                Some((code, rest)) => self.take(Token::Operation(code), rest),
+            },
         }
     }
 
-    /// Where no token is left, the place of the `%` that begins no code, or None at the format's end.
-    pub(crate) fn stop(&self) -> Option<usize>
-        requires { self.now.tokens ≡ [] }
-        ensures { result ≡ self.now.stop }
+    /// Takes the token that stands at the front, before this rest; None where it may not stand there.
+    #[inline(always)]
+    fn take(&mut self, token: Token, rest: &'a [u8]) -> Option<Placed>
+        requires { front_of self.old.text ≡ Some (token, rest.now) }
+        ensures token { MatchOption result ((left_of self.old).tokens ≡ [])
+            (λ found. (left_of self.old).tokens ≡ found ∷ (left_of self.new).tokens) }
+        ensures stop { (left_of self.new).stop ≡ (left_of self.old).stop }
+        ensures end { IfNone result (self.new ≡ self.old) }
+    {
+        if !advance(&mut self.phases, &token) {
+            return None;
+        }
+        let place = self.total - self.rest.len();
+        self.rest = rest;
+        Some(Placed { place, token })
+    }
+
+    /// Takes all tokens that are left, and answers where the format is stuck, if it is.
+    pub(crate) fn end(&mut self) -> Option<usize>
+        ensures { result ≡ (left_of self.old).stop }
+    {
+        while self.next_token().is_some() {}
+        self.stop()
+    }
+
+    /// Where no token is left, the place of the `%` that begins no code which may stand there, or None at the format's end.
+    fn stop(&self) -> Option<usize>
+        requires { (left_of self.now).tokens ≡ [] }
+        ensures { result ≡ (left_of self.now).stop }
     {
         if self.rest.is_empty() {
             None
         } else {
-            Some(self.place)
+            Some(self.total - self.rest.len())
         }
     }
 }

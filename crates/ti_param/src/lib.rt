@@ -30,4 +30,4 @@ pub use errors::ParamError;
 pub use expansion::expand;
 pub use reader::one_code;
 pub use ti_printing::{Line, PadError, pad, pad_owned};
-pub use values::{Statics, Value};
+pub use values::{LETTERS, Statics, Value};

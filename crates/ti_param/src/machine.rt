@@ -68,6 +68,14 @@ impl<'a> Machine<'a> {
         self.output
     }
 
+    /// Makes room for so many bytes more.
+    pub(crate) fn make_room(&mut self, count: usize) -> Result<(), ParamError>
+        ensures { HasOutcome result self.new (Ok self.old) }
+    {
+        self.output.reserve(count)?;
+        Ok(())
+    }
+
     /// Writes a byte.
     pub(crate) fn write(&mut self, byte: u8) -> Result<(), ParamError>
         ensures { HasOutcome result self.new (Ok (with_output (byte ∷ []) self.old)) }
@@ -139,6 +147,7 @@ impl<'a> Machine<'a> {
     }
 
     /// Runs the code at the place.
+    #[inline(always)]
     pub(crate) fn perform(&mut self, place: usize, code: Code) -> Result<(), ParamError>
         ensures { HasOutcome result self.new (code_outcome place code self.old) }
     {

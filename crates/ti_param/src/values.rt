@@ -5,7 +5,7 @@ ghost use Rattle.ti_param.specs.Meaning.{no_variables};
 use std::marker::Model;
 
 /// How many letters name variables of a kind.
-pub(crate) const LETTERS: usize = 26;
+pub const LETTERS: usize = 26;
 
 /// A parameter, or a value on the stack of a parameter string.
 #[derive(Clone, Copy, Debug, PartialEq, Eq)]
@@ -87,6 +87,20 @@ impl Statics {
         Statics {
             values: [0; LETTERS],
         }
+    }
+
+    /// With these values, from `A` to `Z`.
+    pub fn of_values(values: [i32; LETTERS]) -> Self
+        ensures { result ≡ values }
+    {
+        Statics { values }
+    }
+
+    /// Their values, from `A` to `Z`.
+    pub fn values(&self) -> [i32; LETTERS]
+        ensures { result ≡ self.now }
+    {
+        self.values
     }
 }
 

@@ -12,8 +12,7 @@ use Rattle.ti_meaning.specs.Expansion.{Mention, values}
 use Rattle.ti_meaning.specs.Reaching.{used_name}
 use Rattle.ti_meaning.specs.Faults.{use_fault}
 use Rattle.ti_meaning.specs.Compiled.{EntryState, oversized, written, image_of, state_with, state_of}
-use Rattle.ti_meaning.specs.ValueTables.{IsTableOfMentions, HasTable}
-use Rattle.ti_meaning.specs.inside.ValueTables.{AddsSaid, IsTableOf}
+use Rattle.ti_meaning.specs.ValueTables.{IsTableOfMentions, HasTable, AddsSaid, IsTableOf}
 use Rattle.ti_layout.specs.Image.{image_limit}
 use Rattle.ti_meaning.proofs.Depth.{bounded}
 use Rattle.ti_meaning.proofs.MentionMerging.{uses_at}

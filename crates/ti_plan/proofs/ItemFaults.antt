@@ -8,8 +8,7 @@ use Rattle.ti_source.specs.declared.code.Code.TheVariants.{Unresolved}
 use Rattle.ti_source.specs.Reading.{Reading, ReadItem, ReadFault}
 use Rattle.ti_meaning.specs.Expansion.{resolves}
 use Rattle.ti_meaning.specs.Owner.{owner_block}
-use Rattle.ti_meaning.specs.Reaching.{used_name, Uses}
-use Rattle.ti_meaning.specs.inside.Reaching.{leads_to}
+use Rattle.ti_meaning.specs.Reaching.{used_name, Uses, leads_to}
 use Rattle.ti_meaning.specs.Faults.{SourceFault, local_fault, fault_between, use_fault, fault_of_use, fault_of_item, faults_before, faults_from, item_faults}
 use Rattle.ti_meaning.specs.KeptBlocks.{is_no_duplicate}
 use Rattle.ti_meaning.specs.UseLaws.{HasUseAtFault}

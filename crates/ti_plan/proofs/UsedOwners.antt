@@ -7,8 +7,7 @@ use Rattle.ti_source.specs.declared.code.Code.TheVariants.{Circular}
 use Rattle.ti_source.specs.Reading.{Reading}
 use Rattle.ti_layout.specs.Values.{contents}
 use Rattle.ti_meaning.specs.Owner.{owner}
-use Rattle.ti_meaning.specs.Reaching.{LeadsTo}
-use Rattle.ti_meaning.specs.inside.Reaching.{leads_to}
+use Rattle.ti_meaning.specs.Reaching.{LeadsTo, leads_to}
 use Rattle.ti_meaning.specs.Faults.{use_fault}
 use Rattle.ti_meaning.specs.UseLaws as laws
 use Rattle.ti_meaning.specs.UseLaws.{HaveOneNumber}

@@ -11,8 +11,7 @@ ghost use Rattle.ti_meaning.specs.Expansion.{Mention, is_broken};
 ghost use Rattle.ti_meaning.specs.Compiled.{state_of, state_with};
 ghost use Rattle.ti_meaning.specs.Dependents.{work_of};
 ghost use Rattle.ti_meaning.specs.Usable.{IsUsable, SetsWell};
-ghost use Rattle.ti_meaning.specs.ValueTables.{HasTable, IsTableOfMentions};
-ghost use Rattle.ti_meaning.specs.inside.ValueTables.{AddsSaid, IsTableOf};
+ghost use Rattle.ti_meaning.specs.ValueTables.{HasTable, IsTableOfMentions, AddsSaid, IsTableOf};
 ghost use Rattle.ti_slots.specs.Settled.{state_seen, table_of};
 ghost use Rattle.ti_plan.specs.inside.Settling.{AreUsesSound, CanSettle, IsItemAt, blocks_known};
 

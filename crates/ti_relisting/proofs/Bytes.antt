@@ -1,7 +1,8 @@
 -- The folding of a block, said of its bytes alone.
 use Rattle.std.proofs.Common.{◌≡◌, ℕ, ◌+◌, Bool, true, false, ◌==◌, ◌||◌, ◌&&◌, List, [], ◌∷◌, cond, refl, ap, ◌∙◌}
 use Rattle.ti_text.specs.WhiteSpace.{is_white_space}
-use Rattle.ti_source.specs.Folding.{PlacedByte, bytes_on_lines, in_comment, without_comments, without_breaks, folding_of}
+use Rattle.ti_source.specs.Folding.{PlacedByte}
+use Rattle.ti_source.specs.inside.Folding.{bytes_on_lines, in_comment, without_comments, without_breaks, folding_of}
 use Rattle.ti_source.specs.Items.{bytes, without_front, without_white_front}
 
 -- the bytes that stand in no comment

@@ -11,7 +11,7 @@ use Rattle.ti_source.specs.Reading.{Reading}
 use Rattle.ti_source.specs.Parsing.{reading_of_text, HasReading}
 use Rattle.ti_source.specs.Sound.{EachIsWellRead}
 use Rattle.ti_spelling.specs.Spelling.{AreBytes}
-use Rattle.ti_spelling.specs.inside.Spelling.{UnescapedAgrees, ValuesAreSound}
+use Rattle.ti_spelling.specs.Spelling.{ValuesAreSound}
 use Rattle.ti_layout.specs.Values.{Contents}
 use Rattle.ti_layout.specs.Image.{image, image_limit, ImageFits}
 use Rattle.ti_layout.specs.Reading.{Reads, EntriesHaveOneReading}
@@ -39,7 +39,6 @@ use Rattle.ti_list.specs.Listing.{items_for, listing}
 
 -- the laws of the layers below
 pub record AreKnown : Type 0 where
-  pub agrees : UnescapedAgrees
   pub sound : ValuesAreSound
   pub computed : HasReading
   pub well_read : EachIsWellRead
@@ -65,7 +64,7 @@ abbrev BlockFits : Reading → Type 0
 BlockFits block = All ItemFits block.items
 
 text-fits : AreKnown → (text : List ℕ) → IsText text → BlockFits (reading_of_text text)
-text-fits known text is = items-fit (reading_of_text text).items (known.well_read text is.0).sets (parsed-bytes known.agrees known.sound known.computed text is.1)
+text-fits known text is = items-fit (reading_of_text text).items (known.well_read text is.0).sets (parsed-bytes known.sound known.computed text is.1)
 
 blocks-fit : AreKnown → (texts : List (List ℕ)) → All IsText texts → All BlockFits (readings texts)
 blocks-fit known texts are = All-map BlockFits reading_of_text texts (All-weaker IsText (λ text. BlockFits (reading_of_text text)) (text-fits known) texts are)

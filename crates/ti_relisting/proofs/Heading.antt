@@ -1,17 +1,20 @@
 -- The names field of a block that has an entry can be listed, and its first name is a lookup name.
-use Rattle.std.proofs.Common.{◌≡◌, ◌≢◌, ℕ, suc, ◌+◌, ◌-◌, ◌≤◌, Bool, true, false, not, ◌==◌, ◌||◌, ◌&&◌, List, [], ◌∷◌, ◌++◌, length, take, refl, ap, sym, ◌∙◌, subst, inl, inr, arith}
+use Rattle.std.proofs.Common.{◌≡◌, ◌≢◌, ℕ, suc, ◌+◌, ◌-◌, ◌≤◌, Bool, true, false, not, ◌==◌, ◌||◌, ◌&&◌, List, [], ◌∷◌, ◌++◌, length, take, nat_lt, Option, Some, None, refl, ap, sym, ◌∙◌, subst, inl, inr, arith}
 use Rattle.std.specs.List.{list_all, list_any, All, Contains, before_first, join_with_byte, prefix_len}
-use Rattle.std.proofs.lemmas.Bool.{cases_Bool, and_parts, and_from, or_parts, not-true, not_from_false, ne_eqb, true≢false}
+use Rattle.std.proofs.lemmas.Bool.{cases_Bool, ltb-false, and_parts, and_from, or_parts, not-true, not_from_false, ne_eqb, true≢false}
 use Rattle.std.proofs.lemmas.List.Elements.{All-head, All-from_get_or, All-weaker}
 use Rattle.std.proofs.lemmas.List.Sums.{list_all-from_AllPass}
 use Rattle.ti_text.specs.WhiteSpace.{is_white_space}
 use Rattle.ti_source.specs.Cutting.{HasOneHead, OneBlock}
 use Rattle.ti_source.specs.Code.{is_error}
-use Rattle.ti_source.specs.Header.{IsLookupName, lookup_parts, HeaderNames}
-use Rattle.ti_source.specs.Folding.{PlacedByte, folding_of}
+use Rattle.ti_source.specs.Header.{IsLookupName, lookup_parts, HeaderNames, ReadsNames}
+use Rattle.ti_source.specs.Folding.{PlacedByte}
+use Rattle.ti_source.specs.inside.Folding.{folding_of}
 use Rattle.ti_source.specs.Items.{bytes, HasNoComma, Begins, all_field, field_and_rest}
 use Rattle.ti_source.specs.Reading.{ReadFault}
-use Rattle.ti_source.specs.Parsing.{ReadsHeader, bad_header, long_header, good_header, Parses, reading_of_text}
+use Rattle.ti_source.specs.Judging.{faults_from, names_found, header_faults}
+use Rattle.ti_source.specs.Parsing.{Parses, reading_of_text}
+use Rattle.ti_source.proofs.FoldingLaws.{only_folded}
 use Rattle.ti_text.specs.Limits.{names_max}
 use Rattle.ti_meaning.specs.Expansion.{is_broken}
 use Rattle.ti_list.specs.Items.{IsListable}
@@ -35,10 +38,13 @@ record IsGoodHeader (field : List ℕ) (names : List (List ℕ)) : Type 0 where
   pub header : HeaderNames field names
   pub short : length field ≤ names_max
 
-good-header : (field : List ℕ) (names : List (List ℕ)) (faults : List ReadFault) → ReadsHeader field names faults → has_error faults ≡ false → IsGoodHeader field names
-good-header _ _ _ (bad_header field bad) e = absurd (true≢false e)
-good-header _ _ _ (long_header field names header long) e = absurd (true≢false e)
-good-header _ _ _ (good_header field names header short) e = record { header = header; short = short }
+good-header : (field : List ℕ) (names : Option (List (List ℕ))) → ReadsNames field names → has_error (header_faults field names) ≡ false → IsGoodHeader field (names_found names)
+good-header field None bad e = absurd (true≢false e)
+good-header field (Some names) header e =
+    elim (cases_Bool (nat_lt names_max (length field))) [
+      | inl long ↦ absurd (true≢false (rw long at e))
+      | inr short ↦ record { header = header; short = ltb-false names_max (length field) short }
+    ]
 
 -- ---- one line, without a comma
 
@@ -94,18 +100,21 @@ folded-first (x ∷ xs) head =
 
 pub block-listable : (text : List ℕ) → OneBlock text → Parses text (reading_of_text text) → is_broken (reading_of_text text) ≡ false → IsListable (reading_of_text text).field (reading_of_text text).names
 block-listable text one has sound =
-    let faults : has_error (has.of_header ++ has.of_items) ≡ false = ap has_error (sym has.faults) ∙ sound in
-    let good = good-header (reading_of_text text).field (reading_of_text text).names has.of_header has.reads_header (no_error-front has.of_header has.of_items faults) in
-    let line : is_inline (bytes (folding_of text)) ≡ true = ap is_inline (bytes-folded text) ∙ unbroken-line false (uncommented false 10 text) in
-    record {
+    let header = header_faults (bytes has.field) has.names in
+    let faults : has_error (header ++ faults_from 0 has.judged) ≡ false = ap (λ r. has_error r.faults) (sym has.is) ∙ sound in
+    let good = good-header (bytes has.field) has.names has.reads_names (no_error-front header (faults_from 0 has.judged) faults) in
+    let folded : has.text ≡ folding_of text = only_folded text has.text has.folds in
+    let line : is_inline (bytes has.text) ≡ true =
+    ap (λ t. is_inline (bytes t)) folded ∙ ap is_inline (bytes-folded text) ∙ unbroken-line false (uncommented false 10 text) in
+    subst (λ r. IsListable r.field r.names) (sym has.is) (record {
       header = good.header;
       short = good.short;
-      no_comma = ap (list_all (λ b. not (b == 44))) has.is_field ∙ no_comma-bytes has.field (field-no_comma (folding_of text) has.field has.rest has.begins);
-      inline = ap is_inline has.is_field ∙ field-line (folding_of text) has.field has.rest has.begins line;
+      no_comma = no_comma-bytes has.field (field-no_comma has.text has.field has.rest has.begins);
+      inline = field-line has.text has.field has.rest has.begins line;
       plain = λ first others e.
-          let same = field-first (folding_of text) has.field has.rest first others has.begins (sym has.is_field ∙ e) in
-          ap (λ b. b == 35) (sym same) ∙ folded-first text one.cut.each.1;
-    }
+          let same = field-first has.text has.field has.rest first others has.begins e in
+          ap (λ b. b == 35) (sym same) ∙ ap (λ t. first_or 0 (bytes t) == 35) folded ∙ folded-first text one.cut.each.1;
+    })
 
 -- ---- the first name
 

@@ -1,14 +1,19 @@
 -- A text that is laid out as a listing is read as its field and its items.
-use Rattle.std.proofs.Common.{◌≡◌, ℕ, ◌+◌, true, false, not, ◌==◌, ◌||◌, List, [], ◌∷◌, ◌++◌, map, Some, refl, ap, sym, ◌∙◌, subst}
+use Rattle.std.proofs.Common.{◌≡◌, ℕ, ◌+◌, true, false, not, ◌==◌, ◌||◌, List, [], ◌∷◌, ◌++◌, length, map, Option, Some, None, refl, ap, sym, ◌∙◌, subst}
 use Rattle.std.specs.List.{list_all, All}
-use Rattle.std.proofs.lemmas.Bool.{and_parts, or_parts, not-true}
+use Rattle.std.proofs.lemmas.Bool.{and_parts, or_parts, not-true, le-ltb}
 use Rattle.std.proofs.lemmas.List.Elements.{All-head, All-tail}
 use Rattle.ti_caps.specs.Tables.{EveryNameIsFound}
 use Rattle.ti_text.specs.WhiteSpace.{is_white_space}
-use Rattle.ti_source.specs.Folding.{PlacedByte, folding_of}
+use Rattle.ti_text.specs.Limits.{names_max}
+use Rattle.ti_source.specs.Folding.{PlacedByte}
+use Rattle.ti_source.specs.inside.Folding.{folding_of}
 use Rattle.ti_source.specs.Items.{bytes, HasNoComma, Begins, field_and_rest, AreItems, last_item, piece_of, without_white_front, States, empty_item}
 use Rattle.ti_source.specs.Reading.{Said, said_flag, said_number, said_text, said_cancel, said_import, ReadItem, Reading}
-use Rattle.ti_source.specs.Parsing.{accepted, ReadsItems, reads_nothing, reads_ignored, reads_judged, items_by, good_header, Parses, reading_of_text, HasReading, BlocksHaveOneReading}
+use Rattle.ti_source.specs.Parsing.{accepted, Parses, reading_of_text, HasReading, BlocksHaveOneReading}
+use Rattle.ti_source.specs.Judging.{Judged, item_ignored, item_judged, AreJudged, no_item, item_and_rest, items_from, faults_from, header_faults, reading_by}
+use Rattle.ti_source.specs.Header.{HeaderNames}
+use Rattle.ti_source.proofs.FoldingLaws.{folds_computed}
 use Rattle.ti_spelling.specs.Spelling.{WrittenSpells}
 use Rattle.ti_list.specs.Items.{item_text, IsTail, no_more, same_line, new_line, IsListing, CanBeListed, IsListable, IsReadAs}
 use Rattle.ti_relisting.specs.ReadingBack.{PartsAreRead}
@@ -24,62 +29,65 @@ item-readable found spells (said_text c t) can = text-readable found spells c t 
 item-readable found spells (said_cancel c) can = cancel-readable found c can
 item-readable found spells (said_import name) can = import-readable name can.0 can.1
 
--- a folded text is cut into items that are read as these, the first of which has the place `ordinal`
-pub record AreRead (ordinal : ℕ) (s : List PlacedByte) (says : List Said) : Type 0 where
+-- a folded text is cut into items that are read as these
+pub record AreRead (s : List PlacedByte) (says : List Said) : Type 0 where
   pub pieces : List (List PlacedByte)
-  pub found : List ReadItem
+  pub outcomes : List (Option Judged)
   pub cut : AreItems 44 s pieces
-  pub reads : ReadsItems ordinal pieces found []
-  pub is : map (λ (item : ReadItem). item.said) found ≡ says
+  pub are_judged : AreJudged pieces outcomes
+  pub is : (ordinal : ℕ) → map (λ (item : ReadItem). item.said) (items_from ordinal outcomes) ≡ says
+  pub faultless : (ordinal : ℕ) → faults_from ordinal outcomes ≡ []
 
 dark-front : (w : List ℕ) → is_dark w ≡ true → without_white_front w ≡ w
 dark-front [] h = refl
 dark-front (x ∷ xs) h = rw (or_parts (x == 10) (is_white_space x) (not-true (x == 10 || is_white_space x) h)).1 refl
 
 -- the text after the first comma is read in its turn
-item-read : (ordinal : ℕ) (item : Said) (items : List Said) (u w rest : List ℕ) (s : List PlacedByte) → bytes s ≡ u ++ 44 ∷ rest → is_whole 44 u ≡ true → without_white_front u ≡ w
-    → IsReadable w item → ((later : List PlacedByte) → bytes later ≡ rest → AreRead (ordinal + 1) later items) → AreRead ordinal s (item ∷ items)
-item-read ordinal item items u w rest s e whole front readable more =
+item-read : (item : Said) (items : List Said) (u w rest : List ℕ) (s : List PlacedByte) → bytes s ≡ u ++ 44 ∷ rest → is_whole 44 u ≡ true → without_white_front u ≡ w
+    → IsReadable w item → ((later : List PlacedByte) → bytes later ≡ rest → AreRead later items) → AreRead s (item ∷ items)
+item-read item items u w rest s e whole front readable more =
     let parts = split-bytes s u (44 ∷ rest) e in
     let comma = split-byte parts.rest 44 rest parts.is_rest in
     let next = more comma.rest comma.is_rest in
     let is_s : s ≡ parts.front ++ (44, comma.line) ∷ comma.rest = parts.whole ∙ ap (λ t. parts.front ++ t) comma.whole in
     let text : (piece_of parts.front).text ≡ w = bytes-without_front parts.front ∙ ap without_white_front parts.is_front ∙ front in
     let is_item : is_whole 44 (bytes parts.front) ≡ true = ap (is_whole 44) parts.is_front ∙ whole in
+    let states = subst (λ t. States t (Some readable.statement)) (sym text) readable.states in
     record {
       pieces = parts.front ∷ next.pieces;
-      found = items_by ordinal (piece_of parts.front).line (accepted item) ++ next.found;
+      outcomes = Some (record { line = (piece_of parts.front).line; name = readable.statement.name; verdict = accepted item }) ∷ next.outcomes;
       cut = subst (λ t. AreItems 44 t (parts.front ∷ next.pieces)) (sym is_s) (whole-cut 44 comma.line parts.front comma.rest next.pieces is_item next.cut);
-      reads = reads_judged ordinal parts.front next.pieces next.found [] readable.statement (accepted item)
-          (subst (λ t. States t (Some readable.statement)) (sym text) readable.states) readable.judges next.reads;
-      is = ap (λ l. item ∷ l) next.is;
+      are_judged = item_and_rest (item_judged parts.front readable.statement (accepted item) states readable.judges) next.are_judged;
+      is = λ ordinal. ap (λ l. item ∷ l) (next.is (ordinal + 1));
+      faultless = λ ordinal. next.faultless (ordinal + 1);
     }
 
 none-left : (s : List PlacedByte) → bytes s ≡ [] → s ≡ []
 none-left [] e = refl
 none-left (x ∷ xs) e = cc
 
-tail-read : EveryNameIsFound → WrittenSpells → (ordinal : ℕ) (items : List Said) (tail : List ℕ) → All CanBeListed items → IsTail items tail
-    → (s : List PlacedByte) → bytes s ≡ unbroken false tail → AreRead ordinal s items
-tail-read found spells ordinal _ _ can no_more s e = record {
+tail-read : EveryNameIsFound → WrittenSpells → (items : List Said) (tail : List ℕ) → All CanBeListed items → IsTail items tail
+    → (s : List PlacedByte) → bytes s ≡ unbroken false tail → AreRead s items
+tail-read found spells _ _ can no_more s e = record {
   pieces = [] ∷ [];
-  found = [];
+  outcomes = None ∷ [];
   cut = subst (λ t. AreItems 44 t ([] ∷ [])) (sym (none-left s e)) (last_item 44);
-  reads = reads_ignored ordinal [] [] [] [] empty_item (reads_nothing (ordinal + 1));
-  is = refl;
+  are_judged = item_and_rest (item_ignored [] empty_item) no_item;
+  is = λ ordinal. refl;
+  faultless = λ ordinal. refl;
 }
-tail-read found spells ordinal _ _ can (same_line item items tail laid) s e =
+tail-read found spells _ _ can (same_line item items tail laid) s e =
     let w = item_text item in
     let readable = item-readable found spells item (All-head CanBeListed item items can) in
     let bare : unbroken false (w ++ 44 ∷ tail) ≡ w ++ 44 ∷ unbroken false tail = unbroken-inline w (44 ∷ tail) readable.inline in
-    item-read ordinal item items (32 ∷ w) w (unbroken false tail) s (e ∙ ap (λ t. 32 ∷ t) bare) (whole-cons 44 32 w refl (readable.whole 32)) (dark-front w readable.dark) readable
-    (λ later is. tail-read found spells (ordinal + 1) items tail (All-tail CanBeListed item items can) laid later is)
-tail-read found spells ordinal _ _ can (new_line item items tail laid) s e =
+    item-read item items (32 ∷ w) w (unbroken false tail) s (e ∙ ap (λ t. 32 ∷ t) bare) (whole-cons 44 32 w refl (readable.whole 32)) (dark-front w readable.dark) readable
+    (λ later is. tail-read found spells items tail (All-tail CanBeListed item items can) laid later is)
+tail-read found spells _ _ can (new_line item items tail laid) s e =
     let w = item_text item in
     let readable = item-readable found spells item (All-head CanBeListed item items can) in
     let bare : unbroken true (w ++ 44 ∷ tail) ≡ w ++ 44 ∷ unbroken false tail = unbroken-dark w (44 ∷ tail) readable.dark ∙ unbroken-inline w (44 ∷ tail) readable.inline in
-    item-read ordinal item items w w (unbroken false tail) s (e ∙ bare) (readable.whole 44) (dark-front w readable.dark) readable
-    (λ later is. tail-read found spells (ordinal + 1) items tail (All-tail CanBeListed item items can) laid later is)
+    item-read item items w w (unbroken false tail) s (e ∙ bare) (readable.whole 44) (dark-front w readable.dark) readable
+    (λ later is. tail-read found spells items tail (All-tail CanBeListed item items can) laid later is)
 
 tail-calm : EveryNameIsFound → WrittenSpells → (items : List Said) (tail : List ℕ) → All CanBeListed items → IsTail items tail → is_calm 44 tail ≡ true
 tail-calm found spells _ _ can no_more = refl
@@ -116,24 +124,25 @@ listing-parses found spells field names items text good can is =
     let parts = split-bytes (folding_of text) field (44 ∷ unbroken false is.tail) (bytes-folded text ∙ bare) in
     let comma = split-byte parts.rest 44 (unbroken false is.tail) parts.is_rest in
     let is_folded : folding_of text ≡ parts.front ++ (44, comma.line) ∷ comma.rest = parts.whole ∙ ap (λ t. parts.front ++ t) comma.whole in
-    let read = tail-read found spells 0 items is.tail can is.is_tail comma.rest comma.is_rest in
+    let read = tail-read found spells items is.tail can is.is_tail comma.rest comma.is_rest in
     let none = no_comma-of parts.front (ap (list_all (λ b. not (b == 44))) parts.is_front ∙ good.no_comma) in
     record {
-      reading = record { field = field; names = names; items = read.found; faults = [] };
+      reading = reading_by field (Some names) read.outcomes;
       parses = record {
+        text = folding_of text;
         field = parts.front;
         rest = comma.rest;
         items = read.pieces;
-        of_header = [];
-        of_items = [];
+        names = Some names;
+        judged = read.outcomes;
+        folds = folds_computed text;
         begins = begins-at (folding_of text) parts.front comma.rest comma.line is_folded none;
         cut = read.cut;
-        is_field = sym parts.is_front;
-        reads_header = good_header field names good.header good.short;
-        reads_items = read.reads;
-        faults = refl;
+        reads_names = subst (λ f. HeaderNames f names) (sym parts.is_front) good.header;
+        are_judged = read.are_judged;
+        is = ap (λ f. reading_by f (Some names) read.outcomes) (sym parts.is_front);
       };
-      is = record { same_field = refl; same_names = refl; says = read.is; none_wrong = refl };
+      is = record { same_field = refl; same_names = refl; says = read.is 0; none_wrong = rw (le-ltb names_max (length field) good.short) (read.faultless 0) };
     }
 
 pub parts_read : EveryNameIsFound → WrittenSpells → HasReading → BlocksHaveOneReading → PartsAreRead

@@ -16,7 +16,8 @@ use Rattle.ti_source.specs.Header.{IsNameByte, IsLookupName}
 use Rattle.ti_text.specs.Limits.{number_max}
 use Rattle.ti_source.specs.Items.{Statement, claims_flag, claims_number, claims_text, claims_cancel, is_mark, HasNoMark, IsEnabled, States, number_item, text_item, cancel_item, flag_item, without_outer_space}
 use Rattle.ti_source.specs.Reading.{Said, said_flag, said_number, said_text, said_cancel, said_import}
-use Rattle.ti_source.specs.Parsing.{accepted, Judges, judged_import, judged_flag, judged_cancel, judged_number, judged_text}
+use Rattle.ti_source.specs.Parsing.{accepted, Judges}
+use Rattle.ti_source.proofs.JudgingLaws.{judged_import, judged_flag, judged_cancel, judged_number, judged_text}
 use Rattle.ti_spelling.specs.Spelling.{is_empty, spelling_of, AreBytes, HasNoNul, WrittenSpells}
 use Rattle.ti_relisting.proofs.Cutting.{is_clear, is_whole, is_inline, has_no_cut, no_cut-whole, clear-cons, clear-append, clear-whole, written_from-clear, written_from-inline, is_plain}
 use Rattle.ti_relisting.proofs.Unfolding.{is_dark}

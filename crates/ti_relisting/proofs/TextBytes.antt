@@ -1,14 +1,24 @@
 -- Of a block of bytes each text that is read is of bytes.
-use Rattle.std.proofs.Common.{ℕ, ◌+◌, ◌<◌, Bool, true, false, ◌==◌, ◌||◌, ◌&&◌, List, [], ◌∷◌, ◌++◌, cond, Option, Some, None}
+use Rattle.std.proofs.Common.{ℕ, ◌+◌, ◌<◌, Bool, true, false, ◌==◌, ◌||◌, ◌&&◌, List, [], ◌∷◌, ◌++◌, cond, Option, Some, None, Result, Ok, Err, sym, subst, inl, inr}
 use Rattle.std.specs.List.{All, AllByRecursion}
 use Rattle.std.proofs.lemmas.List.Elements.{All-from_recursion, recursion_from_All, All-nil, All-cons}
+use Rattle.std.proofs.lemmas.Bool.{cases_Bool}
+use Rattle.ti_caps.specs.Tables.{Capability, capability_named}
+use Rattle.ti_caps.specs.declared.capability.Kind.{Kind}
+use Rattle.ti_caps.specs.declared.capability.Kind.TheVariants as kind
+use Rattle.ti_source.specs.declared.numbers.NumberError.{NumberError}
+use Rattle.ti_source.specs.declared.numbers.NumberError.TheVariants.{Bad, TooLarge}
 use Rattle.ti_text.specs.WhiteSpace.{is_white_space}
-use Rattle.ti_source.specs.Folding.{PlacedByte, in_comment, folding_of}
+use Rattle.ti_source.specs.Folding.{PlacedByte}
+use Rattle.ti_source.specs.inside.Folding.{in_comment, folding_of}
 use Rattle.ti_source.specs.Items.{bytes, Begins, all_field, field_and_rest, AreItems, last_item, item_ends, pair_of_bytes, single_byte, without_front, piece_of, Claim, claims_flag, claims_number, claims_text, claims_cancel, Statement, States, empty_item, disabled_item, number_item, text_item, cancel_item, flag_item}
 use Rattle.ti_source.specs.Reading.{Said, said_flag, said_number, said_text, said_cancel, said_import, ReadItem, ReadFault}
-use Rattle.ti_source.specs.Parsing.{Verdict, accepted, accepted_odd, refused, Judges, judged_import, judged_unknown, judged_wrong_kind, judged_flag, judged_cancel, judged_number, judged_bad_number, judged_large_number, judged_text, judged_odd_text, judged_bad_text, items_by, ReadsItems, reads_nothing, reads_ignored, reads_judged, reading_of_text, HasReading}
-use Rattle.ti_spelling.specs.Spelling.{AreBytes}
-use Rattle.ti_spelling.specs.inside.Spelling.{UnescapedAgrees, ValuesAreSound}
+use Rattle.ti_source.specs.Parsing.{reading_of_text, HasReading}
+use Rattle.ti_source.specs.Judging.{Judged, IsJudged, item_ignored, item_judged, AreJudged, no_item, item_and_rest, items_from}
+use Rattle.ti_source.specs.Verdicts.{Verdict, accepted, accepted_odd, refused, is_import, ReadClaim, IsReadAs, flag_read, number_read_as, text_read_as, cancel_read, number_verdict, text_verdict, fitting_verdict, named_verdict, verdict_on, Judges, items_by}
+use Rattle.ti_source.proofs.FoldingLaws.{only_folded}
+use Rattle.ti_spelling.specs.declared.spelling.UnescapeError.{UnescapeError}
+use Rattle.ti_spelling.specs.Spelling.{AreBytes, SpellsAs, ValuesAreSound}
 use Rattle.ti_relisting.proofs.Bytes.{uncommented, unbroken, bytes-folded}
 
 abbrev pub OfBytes : List ℕ → Type 0
@@ -97,20 +107,41 @@ VerdictBytes (accepted said) = SaysBytes said
 VerdictBytes (accepted_odd said) = SaysBytes said
 VerdictBytes (refused code) = Unit {0}
 
-judges-bytes : UnescapedAgrees → ValuesAreSound → (name : List ℕ) (claim : Claim) (v : Verdict) → Judges name claim v → ClaimBytes claim → VerdictBytes v
-judges-bytes agrees sound _ _ _ (judged_import name value t) h = tt
-judges-bytes agrees sound _ _ _ (judged_unknown name claim f e) h = tt
-judges-bytes agrees sound _ _ _ (judged_wrong_kind name claim c f e misfits) h = tt
-judges-bytes agrees sound _ _ _ (judged_flag name c e is) h = tt
-judges-bytes agrees sound _ _ _ (judged_cancel name c e) h = tt
-judges-bytes agrees sound _ _ _ (judged_number name text c n e is numeral small) h = tt
-judges-bytes agrees sound _ _ _ (judged_bad_number name text c e is none) h = tt
-judges-bytes agrees sound _ _ _ (judged_large_number name text c n e is numeral large) h = tt
-judges-bytes agrees sound _ _ _ (judged_text name value text c f e is spells) h =
-    (sound value text false (((agrees value).spelled text false).0 spells)).bytes (All-from_recursion (λ b. b < 256) value h)
-judges-bytes agrees sound _ _ _ (judged_odd_text name value text c f e is spells) h =
-    (sound value text true (((agrees value).spelled text true).0 spells)).bytes (All-from_recursion (λ b. b < 256) value h)
-judges-bytes agrees sound _ _ _ (judged_bad_text name value c cause f e is fails) h = tt
+number-bytes : (c : Capability) (read : Result ℕ NumberError) → VerdictBytes (number_verdict c read)
+number-bytes c (Ok n) = tt
+number-bytes c (Err Bad) = tt
+number-bytes c (Err TooLarge) = tt
+
+text-bytes : ValuesAreSound → (c : Capability) (value : List ℕ) (found : Result (List ℕ × Bool) UnescapeError) → SpellsAs value found → OfBytes value → VerdictBytes (text_verdict c found)
+text-bytes sound c value (Ok (text, true)) spells h = (sound value text true spells).bytes (All-from_recursion (λ b. b < 256) value h)
+text-bytes sound c value (Ok (text, false)) spells h = (sound value text false spells).bytes (All-from_recursion (λ b. b < 256) value h)
+text-bytes sound c value (Err cause) spells h = tt
+
+fitting-bytes : ValuesAreSound → (c : Capability) (claim : Claim) (read : ReadClaim) (k : Kind) → IsReadAs claim read → ClaimBytes claim → VerdictBytes (fitting_verdict c read k)
+fitting-bytes sound c _ _ kind.Flag flag_read h = tt
+fitting-bytes sound c _ _ kind.Number flag_read h = tt
+fitting-bytes sound c _ _ kind.Text flag_read h = tt
+fitting-bytes sound c _ _ kind.Flag (number_read_as reads) h = tt
+fitting-bytes sound c _ _ kind.Number (number_read_as {read = read} reads) h = number-bytes c read
+fitting-bytes sound c _ _ kind.Text (number_read_as reads) h = tt
+fitting-bytes sound c _ _ kind.Flag (text_read_as spells) h = tt
+fitting-bytes sound c _ _ kind.Number (text_read_as spells) h = tt
+fitting-bytes sound c _ _ kind.Text (text_read_as {value = value} {found = found} spells) h = text-bytes sound c value found spells h
+fitting-bytes sound c _ _ k cancel_read h = tt
+
+named-bytes : ValuesAreSound → (claim : Claim) (read : ReadClaim) (o : Option Capability) → IsReadAs claim read → ClaimBytes claim → VerdictBytes (named_verdict read o)
+named-bytes sound claim read None reads h = tt
+named-bytes sound claim read (Some c) reads h = fitting-bytes sound c claim read c.kind reads h
+
+verdict-bytes : ValuesAreSound → (name : List ℕ) (claim : Claim) (read : ReadClaim) → IsReadAs claim read → ClaimBytes claim → VerdictBytes (verdict_on name claim read)
+verdict-bytes sound name claim read reads h =
+    elim (cases_Bool (is_import name claim)) [
+      | inl t ↦ rw t tt
+      | inr f ↦ rw f (named-bytes sound claim read (capability_named name) reads h)
+    ]
+
+judges-bytes : ValuesAreSound → (name : List ℕ) (claim : Claim) (v : Verdict) → Judges name claim v → ClaimBytes claim → VerdictBytes v
+judges-bytes sound name claim v j h = subst VerdictBytes (sym j.is) (verdict-bytes sound name claim j.read j.is_read h)
 
 abbrev pub ItemSaysBytes : ReadItem → Type 0
 ItemSaysBytes item = SaysBytes item.said
@@ -120,16 +151,18 @@ verdict-items ordinal line (accepted said) found h later = All-cons ItemSaysByte
 verdict-items ordinal line (accepted_odd said) found h later = All-cons ItemSaysBytes (record { ordinal = ordinal; line = line; said = said }) found h later
 verdict-items ordinal line (refused code) found h later = later
 
-reads-bytes : UnescapedAgrees → ValuesAreSound → (ordinal : ℕ) (items : List (List PlacedByte)) (found : List ReadItem) (faults : List ReadFault) → ReadsItems ordinal items found faults
-    → AllByRecursion ArePlacedBytes items → All ItemSaysBytes found
-reads-bytes agrees sound _ _ _ _ (reads_nothing ordinal) h = All-nil ItemSaysBytes
-reads-bytes agrees sound _ _ _ _ (reads_ignored ordinal item items found faults states later) h = reads-bytes agrees sound (ordinal + 1) items found faults later h.1
-reads-bytes agrees sound _ _ _ _ (reads_judged ordinal item items found faults s v states judges later) h =
+reads-bytes : ValuesAreSound → (ordinal : ℕ) (items : List (List PlacedByte)) (outcomes : List (Option Judged)) → AreJudged items outcomes
+    → AllByRecursion ArePlacedBytes items → All ItemSaysBytes (items_from ordinal outcomes)
+reads-bytes sound ordinal _ _ no_item h = All-nil ItemSaysBytes
+reads-bytes sound ordinal _ _ (item_and_rest {items = items} {outcomes = outcomes} (item_ignored item states) later) h = reads-bytes sound (ordinal + 1) items outcomes later h.1
+reads-bytes sound ordinal _ _ (item_and_rest {items = items} {outcomes = outcomes} (item_judged item s v states judges) later) h =
     let claim = states-bytes (piece_of item).text (Some s) states (front-bytes item h.0) in
-    verdict-items ordinal (piece_of item).line v found (judges-bytes agrees sound s.name s.claim v judges claim) (reads-bytes agrees sound (ordinal + 1) items found faults later h.1)
+    verdict-items ordinal (piece_of item).line v (items_from (ordinal + 1) outcomes) (judges-bytes sound s.name s.claim v judges claim)
+    (reads-bytes sound (ordinal + 1) items outcomes later h.1)
 
-pub parsed-bytes : UnescapedAgrees → ValuesAreSound → HasReading → (block : List ℕ) → AreBytes block → All ItemSaysBytes (reading_of_text block).items
-parsed-bytes agrees sound computed block h =
-    let has = computed block in
-    reads-bytes agrees sound 0 has.items (reading_of_text block).items has.of_items has.reads_items
-    (items-bytes 44 has.rest has.items has.cut (rest-bytes (folding_of block) has.field has.rest has.begins (folded-bytes block h)))
+pub parsed-bytes : ValuesAreSound → HasReading → (block : List ℕ) → AreBytes block → All ItemSaysBytes (reading_of_text block).items
+parsed-bytes sound each block h =
+    let has = each block in
+    let text = subst ArePlacedBytes (sym (only_folded block has.text has.folds)) (folded-bytes block h) in
+    subst (λ r. All ItemSaysBytes r.items) (sym has.is)
+    (reads-bytes sound 0 has.items has.judged has.are_judged (items-bytes 44 has.rest has.items has.cut (rest-bytes has.text has.field has.rest has.begins text)))

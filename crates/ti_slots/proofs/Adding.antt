@@ -12,8 +12,7 @@ use Rattle.ti_source.specs.Reading.{said_of}
 use Rattle.ti_source.specs.declared.parsing.Item.{Item}
 use Rattle.ti_source.specs.declared.parsing.What.{What}
 use Rattle.ti_source.specs.declared.parsing.What.TheVariants.{Flag, Number, Text, Cancel, Import}
-use Rattle.ti_meaning.specs.Reaching.{used_name}
-use Rattle.ti_meaning.specs.inside.Reaching.{use_passes}
+use Rattle.ti_meaning.specs.Reaching.{used_name, use_passes}
 use Rattle.ti_index.specs.declared.names.NameIndex.{NameIndex}
 use Rattle.ti_index.specs.Listing.{AreAmong, Lists, ListsToo, ListsNoMore}
 use Rattle.ti_index.specs.Names.{holders_at, users_at, mentions_at, holder_capacity, user_capacity, HasHolderRoom, HasUserRoom, IsForgotten, IsSeenSame, KeepsCapacity, KeepsOthers}

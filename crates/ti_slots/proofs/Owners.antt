@@ -6,8 +6,7 @@ use Rattle.std.proofs.lemmas.Bool.{cases_Bool, false≢true}
 use Rattle.std.proofs.lemmas.Option.{same_Some, none-some}
 use Rattle.ti_source.specs.Reading.{Reading, ReadItem}
 use Rattle.ti_meaning.specs.Owner.{is_among, owner}
-use Rattle.ti_meaning.specs.Reaching.{used_name, Uses}
-use Rattle.ti_meaning.specs.inside.Reaching.{use_passes, any_use}
+use Rattle.ti_meaning.specs.Reaching.{used_name, Uses, use_passes, any_use}
 use Rattle.ti_text.specs.Lists.{Has}
 use Rattle.ti_index.specs.Names.{holders_at, users_at}
 use Rattle.ti_slots.specs.declared.slots.Slots.{Slots}

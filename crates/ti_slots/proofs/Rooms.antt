@@ -5,7 +5,7 @@ use Rattle.std.specs.Option.{option_map_or, IsSome}
 use Rattle.std.specs.Str.{bytes_eq}
 use Rattle.ti_source.specs.Reading.{reading_of}
 use Rattle.ti_meaning.specs.Owner.{is_among}
-use Rattle.ti_meaning.specs.inside.Reaching.{any_use}
+use Rattle.ti_meaning.specs.Reaching.{any_use}
 use Rattle.ti_index.specs.declared.names.NameIndex.{NameIndex}
 use Rattle.ti_index.specs.Names.{holders_at, users_at}
 use Rattle.ti_slots.specs.declared.slots.Slot.{Slot}

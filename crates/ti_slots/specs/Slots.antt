@@ -4,7 +4,7 @@ use Rattle.std.specs.Option.{option_map_or}
 use Rattle.std.specs.Str.{bytes_eq}
 use Rattle.ti_source.specs.Reading.{Reading, reading_of}
 use Rattle.ti_meaning.specs.Owner.{is_among, owner}
-use Rattle.ti_meaning.specs.inside.Reaching.{any_use}
+use Rattle.ti_meaning.specs.Reaching.{any_use}
 use Rattle.ti_index.specs.Names.{holders_at, users_at}
 use Rattle.ti_slots.specs.declared.slots.Slot.{Slot}
 use Rattle.ti_slots.specs.declared.slots.Slots.{Slots}

@@ -4,7 +4,8 @@ use Rattle.std.proofs.lemmas.Bool.{cases_Bool, and_parts, and_right, eqb-true}
 use Rattle.std.proofs.lemmas.List.{take_rest, drop-drop}
 use Rattle.memchr.specs.Find.{IsFirstByte, is_byte}
 use Rattle.ti_text.specs.WhiteSpace.{is_white_space}
-use Rattle.ti_source.specs.Folding.{PlacedByte, bytes_on_lines, in_comment, without_comments, without_breaks, folding_of}
+use Rattle.ti_source.specs.Folding.{PlacedByte}
+use Rattle.ti_source.specs.inside.Folding.{bytes_on_lines, in_comment, without_comments, without_breaks, folding_of}
 use Rattle.ti_source.specs.declared.items.Taken.{Taken}
 use Rattle.ti_source.specs.inside.Folding.{after_line, SkipsWhiteSpace, skips_byte}
 use Rattle.ti_source.specs.inside.Items.{after_field, on_line, PassesRun, takes_no_byte, takes_byte, IsWholeItem, TakesWholeItem}

@@ -5,7 +5,8 @@ use Rattle.std.proofs.lemmas.List.{append-nil}
 use Rattle.ti_text.proofs.LineLaws.{lines_add}
 use Rattle.ti_text.specs.WhiteSpace.{is_white_space}
 use Rattle.ti_text.specs.Lines.{line_count}
-use Rattle.ti_source.specs.Folding.{PlacedByte, bytes_on_lines, without_comments, without_breaks, folding_of, ArePlaced, HasNoNewline, AreLines, no_lines, last_line, line_and_rest, is_comment, is_blank, IsBlankRun, BeginsNoBlank, Joins, last_piece, piece_and_break, Folds, OneFolding, EachIsFolded}
+use Rattle.ti_source.specs.inside.Folding.{bytes_on_lines, without_comments, without_breaks, folding_of, FoldingIsComputed}
+use Rattle.ti_source.specs.Folding.{PlacedByte, ArePlaced, HasNoNewline, AreLines, no_lines, last_line, line_and_rest, is_comment, is_blank, IsBlankRun, BeginsNoBlank, Joins, last_piece, piece_and_break, Folds, OneFolding, EachIsFolded}
 
 -- ---- bytes with their lines
 
@@ -192,8 +193,8 @@ joining : (text : List PlacedByte) → Joining text
 joining [] = record { kept = last_piece [] tt; run = []; rest = []; whole = refl; blank = tt; ends = tt; after = last_piece [] tt }
 joining (x ∷ xs) = joining_before x xs (joining xs)
 
-pub each_is_folded : EachIsFolded
-each_is_folded block =
+pub folds_computed : (block : List ℕ) → Folds block (folding_of block)
+folds_computed block =
     let whole = bytes_on_lines 1 block in
     let (ls, are) = some_lines whole in
     let text = without_comments false 10 whole in
@@ -205,10 +206,16 @@ each_is_folded block =
       joins = subst (λ t. Joins t (without_breaks false text)) (lines_left false whole ls are) (joining text).kept;
     }
 
-only_folded : (block : List ℕ) (text : List PlacedByte) → Folds block text → text ≡ folding_of block
+pub only_folded : (block : List ℕ) (text : List PlacedByte) → Folds block text → text ≡ folding_of block
 only_folded block text f =
     let left = lines_left false f.whole f.lines f.are_lines in
     joins_so _ text f.joins ∙ ap (without_breaks false) (sym left ∙ ap (without_comments false 10) (one_placing block f.whole f.are_placed))
+
+pub folding_is_computed : FoldingIsComputed
+folding_is_computed = record { folds = folds_computed; only = only_folded }
+
+pub each_is_folded : EachIsFolded
+each_is_folded block = (folding_of block, folds_computed block)
 
 pub one_folding : OneFolding
 one_folding block one other f g = only_folded block one f ∙ sym (only_folded block other g)

@@ -1,5 +1,5 @@
 -- The parts of a names field, and what the tests of a header say.
-use Rattle.std.proofs.Common.{◌≡◌, ◌≢◌, ℕ, zero, suc, ◌+◌, ◌-◌, ◌<◌, ◌≤◌, Bool, true, false, not, ◌==◌, nat_le, List, [], ◌∷◌, ◌++◌, length, take, drop, get_or, Some, None, All, Any, Contains, refl, sym, ap, subst, ◌∙◌, inl, inr, arith}
+use Rattle.std.proofs.Common.{◌≡◌, ◌≢◌, ℕ, zero, suc, ◌+◌, ◌-◌, ◌<◌, ◌≤◌, Bool, true, false, not, ◌==◌, nat_le, List, [], ◌∷◌, ◌++◌, length, take, drop, get_or, Option, Some, None, All, Any, Contains, refl, sym, ap, subst, ◌∙◌, inl, inr, arith}
 use Rattle.std.specs.Bool.{Decides}
 use Rattle.std.specs.List.{list_all, list_any, join_with_byte, onto_first, AllByRecursion}
 use Rattle.std.proofs.lemmas.Bool.{cases_Bool, eqb-true, ne_eqb, leb-true, le-leb, and_cases, not-false, false_from_ne_true, false≢true}
@@ -10,8 +10,8 @@ use Rattle.std.proofs.lemmas.List.Elements.{All-from_recursion, recursion_from_A
 use Rattle.std.proofs.lemmas.List.Splits.{slice_split-cons_yes, slice_split-cons_no, slice_split_none, slice_split_at, length-slice_split, join_with_byte-slice_split}
 use Rattle.std.proofs.lemmas.Slice.Eq.{bytes_eq-Decides}
 use Rattle.memchr.specs.Find.{IsLastByte, is_byte}
-use Rattle.ti_source.specs.Header.{IsNameByte, IsLookupName, PartsOf, lookup_parts, HeaderNames, IsBadHeader}
-use Rattle.ti_source.specs.inside.Header.{is_name_byte, is_lookup_name, header_parts, is_header, header_names, EachHeaderIsRead, HeadersHaveOneReading}
+use Rattle.ti_source.specs.Header.{IsNameByte, IsLookupName, is_name_byte, is_lookup_name, PartsOf, lookup_parts, HeaderNames, IsBadHeader, ReadsNames, EachHeaderIsRead, HeadersHaveOneReading}
+use Rattle.ti_source.specs.inside.Header.{header_parts, is_header, header_names, HeadersAreComputed}
 
 -- ---- the tests
 leb_decides : (a b : ℕ) → Decides (nat_le a b) (a ≤ b)
@@ -124,7 +124,7 @@ fails r d f p = false≢true (sym f ∙ d.1 p)
 none_of_all : {A : Type 0} (P Q : A → Type 0) → ((x : A) → P x → Q x → ⊥) → (xs : List A) → All P xs → Any Q xs → ⊥
 none_of_all P Q clash xs all any = clash any.1 (subst P any.3 (all any.0 any.1 any.2)) any.4
 
-pub each_header : EachHeaderIsRead
+pub each_header : (field : List ℕ) → ReadsNames field (header_names field)
 each_header field =
     let parts = header_parts field in
     elim (cases_Bool (is_header field)) [
@@ -166,8 +166,18 @@ read_bad field b =
     ]) in
     rw bad refl
 
-pub headers_law : HeadersHaveOneReading
-headers_law = record { names = read_names; bad = read_bad }
+pub one_header : (field : List ℕ) (names : Option (List (List ℕ))) → ReadsNames field names → names ≡ header_names field
+one_header field None bad = sym (read_bad field bad)
+one_header field (Some names) found = sym (read_names field names found)
+
+pub headers_are_computed : HeadersAreComputed
+headers_are_computed = record { reads = each_header; only = one_header }
+
+pub each_header_is_read : EachHeaderIsRead
+each_header_is_read field = (header_names field, each_header field)
+
+pub headers_have_one_reading : HeadersHaveOneReading
+headers_have_one_reading field one other p q = one_header field one p ∙ sym (one_header field other q)
 
 -- ---- the description
 onto_first-append : (x : ℕ) (ps qs : List (List ℕ)) → 0 < length ps → onto_first x (ps ++ qs) ≡ onto_first x ps ++ qs

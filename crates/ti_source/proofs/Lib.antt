@@ -9,5 +9,6 @@ pub mod ItemLemmas
 pub mod TextLemmas
 pub mod ReadLemmas
 pub mod ItemLaws
+pub mod JudgingLaws
 pub mod ReadingLaws
 pub mod SoundLaws

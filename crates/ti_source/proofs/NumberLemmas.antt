@@ -10,9 +10,9 @@ use Rattle.ti_source.specs.declared.numbers.NumberError.{NumberError}
 use Rattle.ti_source.specs.declared.numbers.NumberError.TheVariants.{Bad, TooLarge}
 use Rattle.ti_text.specs.WhiteSpace.{is_white_space}
 use Rattle.ti_source.specs.WhiteSpace.{without_trailing_space}
-use Rattle.ti_source.specs.Numbers.{digit_value, IsDigit, value_in, IsNumber, octal, hexadecimal, decimal, IsNumeral, ReadsAs, NumeralsHaveOneValue}
+use Rattle.ti_source.specs.Numbers.{digit_value, IsDigit, value_in, IsNumber, octal, hexadecimal, decimal, IsNumeral, ReadsAs, NumeralsHaveOneValue, EachTextIsRead, NumbersHaveOneReading}
 use Rattle.ti_text.specs.Limits.{number_max}
-use Rattle.ti_source.specs.inside.Numbers.{digits_read, after_zero_read, value_read, within_limit, number_read, EachTextIsRead, NumbersHaveOneReading}
+use Rattle.ti_source.specs.inside.Numbers.{digits_read, after_zero_read, value_read, within_limit, number_read, NumbersAreComputed}
 
 -- ---- digits
 digits_decide : (base : ℕ) (ds : List ℕ) → Decides (list_all (λ b. nat_lt (digit_value b) base) ds) (All (IsDigit base) ds)
@@ -150,7 +150,7 @@ reads_within text (Some v) e =
       | inr f ↦ rw f (v, read_is_numeral text v e, leb-false v number_max f)
     ]
 
-pub each_text : EachTextIsRead
+pub each_text : (text : List ℕ) → ReadsAs text (number_read text)
 each_text text = reads_within text (value_read (without_trailing_space text)) refl
 
 -- a computed reading is one
@@ -161,7 +161,7 @@ no_numeral : (text : List ℕ) (o : Option ℕ) → value_read (without_trailing
 no_numeral text None e n = refl
 no_numeral text (Some v) e n = absurd (n v (read_is_numeral text v e))
 
-pub one_reading : NumbersHaveOneReading
+pub one_reading : (text : List ℕ) (r : Result ℕ NumberError) → ReadsAs text r → number_read text ≡ r
 one_reading text (Ok v) h =
     let t = le-leb v number_max h.1 in
     ap within_limit (numeral_is_read text v h.0) ∙ rw t refl
@@ -169,3 +169,12 @@ one_reading text (Err TooLarge) h =
     let f = lt-leb h.0 number_max h.2 in
     ap within_limit (numeral_is_read text h.0 h.1) ∙ rw f refl
 one_reading text (Err Bad) h = no_numeral text (value_read (without_trailing_space text)) refl h
+
+pub numbers_are_computed : NumbersAreComputed
+numbers_are_computed = record { reads = each_text; only = one_reading }
+
+pub each_text_is_read : EachTextIsRead
+each_text_is_read text = (number_read text, each_text text)
+
+pub numbers_have_one_reading : NumbersHaveOneReading
+numbers_have_one_reading text one other p q = sym (one_reading text one p) ∙ one_reading text other q

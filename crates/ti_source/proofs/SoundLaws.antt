@@ -1,6 +1,6 @@
 -- What is known of every block as it is read.
 use Rattle.std.specs.Option.{option_or}
-use Rattle.std.proofs.Common.{◌≡◌, ◌≢◌, ℕ, suc, ◌+◌, ◌<◌, ◌≤◌, Bool, true, false, ◌==◌, ◌||◌, ◌&&◌, List, [], ◌∷◌, ◌++◌, length, cond, Option, Some, None, MatchOption, option_map, map, Result, Ok, Err, All, nat_lt, refl, sym, subst, ◌∙◌, inl, inr, arith}
+use Rattle.std.proofs.Common.{◌≡◌, ◌≢◌, ℕ, suc, ◌+◌, ◌<◌, ◌≤◌, Bool, true, false, ◌==◌, ◌||◌, ◌&&◌, List, [], ◌∷◌, ◌++◌, length, cond, Option, Some, None, option_map, map, Result, Ok, Err, All, nat_lt, refl, sym, subst, ◌∙◌, inl, inr, arith}
 use Rattle.std.specs.List.{list_any, AllByRecursion}
 use Rattle.std.proofs.lemmas.Bool.{cases_Bool, ltb-false}
 use Rattle.std.specs.Str.{bytes_eq}
@@ -20,23 +20,25 @@ use Rattle.ti_text.specs.WhiteSpace.{is_white_space}
 use Rattle.ti_source.specs.Cutting.{last_byte}
 use Rattle.ti_text.specs.Lines.{line_count}
 use Rattle.ti_source.specs.Code.{is_error, is_of_header}
-use Rattle.ti_source.specs.Header.{IsBadHeader, HeaderNames, IsLookupName}
+use Rattle.ti_source.specs.Header.{ReadsNames, IsLookupName}
 use Rattle.ti_source.specs.inside.Header.{header_names}
 use Rattle.ti_source.specs.Numbers.{ReadsAs}
-use Rattle.ti_source.specs.inside.Numbers.{number_read}
-use Rattle.ti_spelling.specs.inside.Spelling.{unescape_result, ValuesAreSound}
-use Rattle.ti_source.specs.Folding.{PlacedByte, bytes_on_lines, in_comment, without_comments, without_breaks, folding_of}
-use Rattle.ti_source.specs.Items.{Claim, claims_flag, claims_number, claims_text, claims_cancel, Statement, bytes, without_front, line_of, piece_of}
+use Rattle.ti_spelling.specs.Spelling.{SpellsAs, ValuesAreSound}
+use Rattle.ti_source.specs.Folding.{PlacedByte}
+use Rattle.ti_source.specs.inside.Folding.{bytes_on_lines, in_comment, without_comments, without_breaks, folding_of}
+use Rattle.ti_source.specs.Items.{Claim, Statement, bytes, without_front, line_of, piece_of}
 use Rattle.ti_source.specs.inside.Items.{after_field, taken_after, cuts, with_first, items_of, statement_of}
 use Rattle.ti_source.specs.Reading.{ReadItem, ReadFault}
-use Rattle.ti_source.specs.inside.Parsing.{items_at, faults_at, items_from, faults_from_ordinal, names_found, header_faults, block_field, block_items, reading_of_text}
-use Rattle.ti_source.specs.inside.Verdicts.{number_verdict, text_verdict, fitting_verdict, named_verdict, verdict_of}
+use Rattle.ti_source.specs.Judging.{Judged, items_at, faults_at, items_from, faults_from, names_found, header_faults}
+use Rattle.ti_source.specs.Parsing.{reading_of_text}
+use Rattle.ti_source.specs.inside.Parsing.{judged_as, judged_of, block_field, block_items}
+use Rattle.ti_source.specs.inside.Verdicts.{read_claim, verdict_of}
 use Rattle.ti_text.specs.Limits.{names_max}
-use Rattle.ti_source.specs.Verdicts.{Verdict, accepted, accepted_odd, refused, is_import, items_by, faults_by, header_fault}
+use Rattle.ti_source.specs.Verdicts.{Verdict, accepted, accepted_odd, refused, is_import, ReadClaim, IsReadAs, flag_read, number_read_as, text_read_as, cancel_read, number_verdict, text_verdict, fitting_verdict, named_verdict, items_by, faults_by, header_fault}
 use Rattle.ti_source.specs.Sound.{SetsItsKind, IsLineOf, IsWritable, IsRising, EachIsWellRead}
 use Rattle.ti_text.proofs.LineLaws.{lines_add}
 use Rattle.ti_source.proofs.HeaderLemmas.{each_header}
-use Rattle.ti_source.proofs.NumberLemmas.{each_text}
+use Rattle.ti_source.proofs.JudgingLaws.{is_read}
 
 -- what holds of each of two lists holds of both joined
 AllByRecursion-append : {A : Type 0} (P : A → Type 0) (xs ys : List A) → AllByRecursion P xs → AllByRecursion P ys → AllByRecursion P (xs ++ ys)
@@ -60,26 +62,26 @@ number_sets c text (Ok n) valid is read = (valid, is, read.1)
 number_sets c text (Err Bad) valid is read = refl
 number_sets c text (Err TooLarge) valid is read = refl
 
-text_sets : ValuesAreSound → (c : Capability) (raw : List ℕ) (found : Result (List ℕ × Bool) UnescapeError) → IsCapability c → c.kind ≡ kind.Text → unescape_result raw ≡ found → SetsBy (text_verdict c found)
-text_sets sound c raw (Ok (text, true)) valid is e = (valid, is, (sound raw text true e).no_nul)
-text_sets sound c raw (Ok (text, false)) valid is e = (valid, is, (sound raw text false e).no_nul)
-text_sets sound c raw (Err cause) valid is e = refl
+text_sets : ValuesAreSound → (c : Capability) (raw : List ℕ) (found : Result (List ℕ × Bool) UnescapeError) → IsCapability c → c.kind ≡ kind.Text → SpellsAs raw found → SetsBy (text_verdict c found)
+text_sets sound c raw (Ok (text, true)) valid is spells = (valid, is, (sound raw text true spells).no_nul)
+text_sets sound c raw (Ok (text, false)) valid is spells = (valid, is, (sound raw text false spells).no_nul)
+text_sets sound c raw (Err cause) valid is spells = refl
 
-fitting_sets : ValuesAreSound → (c : Capability) (claim : Claim) (k : Kind) → IsCapability c → c.kind ≡ k → SetsBy (fitting_verdict c claim k)
-fitting_sets sound c claims_flag kind.Flag valid is = (valid, is)
-fitting_sets sound c claims_flag kind.Number valid is = refl
-fitting_sets sound c claims_flag kind.Text valid is = refl
-fitting_sets sound c (claims_number text) kind.Flag valid is = refl
-fitting_sets sound c (claims_number text) kind.Number valid is = number_sets c text (number_read text) valid is (each_text text)
-fitting_sets sound c (claims_number text) kind.Text valid is = refl
-fitting_sets sound c (claims_text value) kind.Flag valid is = refl
-fitting_sets sound c (claims_text value) kind.Number valid is = refl
-fitting_sets sound c (claims_text value) kind.Text valid is = text_sets sound c value (unescape_result value) valid is refl
-fitting_sets sound c claims_cancel k valid is = valid
+fitting_sets : ValuesAreSound → (c : Capability) (claim : Claim) (read : ReadClaim) (k : Kind) → IsReadAs claim read → IsCapability c → c.kind ≡ k → SetsBy (fitting_verdict c read k)
+fitting_sets sound c _ _ kind.Flag flag_read valid is = (valid, is)
+fitting_sets sound c _ _ kind.Number flag_read valid is = refl
+fitting_sets sound c _ _ kind.Text flag_read valid is = refl
+fitting_sets sound c _ _ kind.Flag (number_read_as reads) valid is = refl
+fitting_sets sound c _ _ kind.Number (number_read_as {text = text} {read = read} reads) valid is = number_sets c text read valid is reads
+fitting_sets sound c _ _ kind.Text (number_read_as reads) valid is = refl
+fitting_sets sound c _ _ kind.Flag (text_read_as spells) valid is = refl
+fitting_sets sound c _ _ kind.Number (text_read_as spells) valid is = refl
+fitting_sets sound c _ _ kind.Text (text_read_as {value = value} {found = found} spells) valid is = text_sets sound c value found valid is spells
+fitting_sets sound c _ _ k cancel_read valid is = valid
 
-named_sets : NamedIsCapability → ValuesAreSound → (name : List ℕ) (claim : Claim) (o : Option Capability) → capability_named name ≡ o → SetsBy (named_verdict claim o)
+named_sets : NamedIsCapability → ValuesAreSound → (name : List ℕ) (claim : Claim) (o : Option Capability) → capability_named name ≡ o → SetsBy (named_verdict (read_claim claim) o)
 named_sets valid sound name claim None e = refl
-named_sets valid sound name claim (Some c) e = fitting_sets sound c claim c.kind (valid name c e) refl
+named_sets valid sound name claim (Some c) e = fitting_sets sound c claim (read_claim claim) c.kind (is_read claim) (valid name c e) refl
 
 verdict_sets : NamedIsCapability → ValuesAreSound → (name : List ℕ) (claim : Claim) → SetsBy (verdict_of name claim)
 verdict_sets valid sound name claim =
@@ -96,16 +98,16 @@ items_by-sets n line (accepted said) sets = (sets, tt)
 items_by-sets n line (accepted_odd said) sets = (sets, tt)
 items_by-sets n line (refused code) sets = tt
 
-items_at-sets : NamedIsCapability → ValuesAreSound → (n line : ℕ) (o : Option Statement) → AllByRecursion Sets (items_at n line o)
-items_at-sets valid sound n line None = tt
-items_at-sets valid sound n line (Some s) = items_by-sets n line (verdict_of s.name s.claim) (verdict_sets valid sound s.name s.claim)
+judged_as-sets : NamedIsCapability → ValuesAreSound → (n line : ℕ) (o : Option Statement) → AllByRecursion Sets (items_at n (judged_as line o))
+judged_as-sets valid sound n line None = tt
+judged_as-sets valid sound n line (Some s) = items_by-sets n line (verdict_of s.name s.claim) (verdict_sets valid sound s.name s.claim)
 
-items_from-sets : NamedIsCapability → ValuesAreSound → (n : ℕ) (items : List (List PlacedByte)) → AllByRecursion Sets (items_from n items)
+items_from-sets : NamedIsCapability → ValuesAreSound → (n : ℕ) (items : List (List PlacedByte)) → AllByRecursion Sets (items_from n (map judged_of items))
 items_from-sets valid sound n [] = tt
 items_from-sets valid sound n (item ∷ items) =
     let p = piece_of item in
-    AllByRecursion-append Sets (items_at n p.line (statement_of p.text)) (items_from (n + 1) items)
-    (items_at-sets valid sound n p.line (statement_of p.text)) (items_from-sets valid sound (n + 1) items)
+    AllByRecursion-append Sets (items_at n (judged_of item)) (items_from (n + 1) (map judged_of items))
+    (judged_as-sets valid sound n p.line (statement_of p.text)) (items_from-sets valid sound (n + 1) items)
 
 -- ---- the lines of items
 
@@ -187,23 +189,22 @@ faults_by-lines Q n line name (accepted_odd said) q = (q, tt)
 faults_by-lines Q n line name (refused code) q = (q, tt)
 
 shown-lines : (Q : ℕ → Type 0) (n : ℕ) (shown : List PlacedByte) → AllByRecursion (λ (x : PlacedByte). Q x.1) shown
-    → AllByRecursion (λ (i : ReadItem). Q i.line) (items_at n (line_of shown) (statement_of (bytes shown))) × AllByRecursion (λ (f : ReadFault). Q f.line) (faults_at n (line_of shown) (statement_of (bytes shown)))
+    → AllByRecursion (λ (i : ReadItem). Q i.line) (items_at n (judged_as (line_of shown) (statement_of (bytes shown)))) × AllByRecursion (λ (f : ReadFault). Q f.line) (faults_at n (judged_as (line_of shown) (statement_of (bytes shown))))
 shown-lines Q n [] all = (tt, tt)
 shown-lines Q n (x ∷ xs) all = by_statement (statement_of (bytes (x ∷ xs)))
   where
-    by_statement : (o : Option Statement) → AllByRecursion (λ (i : ReadItem). Q i.line) (items_at n x.1 o) × AllByRecursion (λ (f : ReadFault). Q f.line) (faults_at n x.1 o)
+    by_statement : (o : Option Statement) → AllByRecursion (λ (i : ReadItem). Q i.line) (items_at n (judged_as x.1 o)) × AllByRecursion (λ (f : ReadFault). Q f.line) (faults_at n (judged_as x.1 o))
     by_statement None = (tt, tt)
     by_statement (Some s) = (items_by-lines Q n x.1 (verdict_of s.name s.claim) all.0, faults_by-lines Q n x.1 s.name (verdict_of s.name s.claim) all.0)
 
 from-lines : (Q : ℕ → Type 0) (n : ℕ) (items : List (List PlacedByte)) → AllByRecursion (AllByRecursion (λ (x : PlacedByte). Q x.1)) items
-    → AllByRecursion (λ (i : ReadItem). Q i.line) (items_from n items) × AllByRecursion (λ (f : ReadFault). Q f.line) (faults_from_ordinal n items)
+    → AllByRecursion (λ (i : ReadItem). Q i.line) (items_from n (map judged_of items)) × AllByRecursion (λ (f : ReadFault). Q f.line) (faults_from n (map judged_of items))
 from-lines Q n [] all = (tt, tt)
 from-lines Q n (item ∷ items) all =
     let here = shown-lines Q n (without_front item) (without_front-all (λ x. Q x.1) item all.0) in
-    let later = from-lines Q (n + 1) items all.1 in
-    let p = piece_of item in (
-      AllByRecursion-append (λ (i : ReadItem). Q i.line) (items_at n p.line (statement_of p.text)) (items_from (n + 1) items) here.0 later.0,
-      AllByRecursion-append (λ (f : ReadFault). Q f.line) (faults_at n p.line (statement_of p.text)) (faults_from_ordinal (n + 1) items) here.1 later.1,
+    let later = from-lines Q (n + 1) items all.1 in (
+      AllByRecursion-append (λ (i : ReadItem). Q i.line) (items_at n (judged_of item)) (items_from (n + 1) (map judged_of items)) here.0 later.0,
+      AllByRecursion-append (λ (f : ReadFault). Q f.line) (faults_at n (judged_of item)) (faults_from (n + 1) (map judged_of items)) here.1 later.1,
     )
 
 block_items-lines : (block : List ℕ) → last_byte 10 block ≡ 10 → AllByRecursion (AllByRecursion (λ (x : PlacedByte). IsBetween 1 (1 + line_count block) x.1)) (block_items block)
@@ -225,11 +226,11 @@ header_faults-lines Q q field None = (q, tt)
 header_faults-lines Q q field (Some names) =
     elim (nat_lt names_max (length field)) as (λ b. AllByRecursion (λ (f : ReadFault). Q f.line) (cond b (header_fault code.NamesTooLong ∷ []) [])) [ true ↦ (q, tt) | false ↦ tt ]
 
-names-sound : (field : List ℕ) (o : Option (List (List ℕ))) → MatchOption o (IsBadHeader field) (HeaderNames field) → All IsLookupName (names_found o)
+names-sound : (field : List ℕ) (o : Option (List (List ℕ))) → ReadsNames field o → All IsLookupName (names_found o)
 names-sound field None read = All-nil IsLookupName
 names-sound field (Some names) read = read.lookup
 
-named-sound : (field : List ℕ) (o : Option (List (List ℕ))) → header_names field ≡ o → MatchOption o (IsBadHeader field) (HeaderNames field)
+named-sound : (field : List ℕ) (o : Option (List (List ℕ))) → header_names field ≡ o → ReadsNames field o
     → list_any (λ (f : ReadFault). is_error f.code) (header_faults field o) ≡ false → IsWritable field
 named-sound field None is read e = absurd cc
 named-sound field (Some names) is read e =
@@ -275,34 +276,32 @@ items_by-at n line (accepted said) = refl
 items_by-at n line (accepted_odd said) = refl
 items_by-at n line (refused code) = tt
 
-items_at-at : (n line : ℕ) (o : Option Statement) → IsAt (λ (i : ReadItem). i.ordinal) n (items_at n line o)
-items_at-at n line None = tt
-items_at-at n line (Some s) = items_by-at n line (verdict_of s.name s.claim)
+items_at-at : (n : ℕ) (o : Option Judged) → IsAt (λ (i : ReadItem). i.ordinal) n (items_at n o)
+items_at-at n None = tt
+items_at-at n (Some j) = items_by-at n j.line j.verdict
 
 faults_by-at : (n line : ℕ) (name : List ℕ) (v : Verdict) → IsAt (λ (f : ReadFault). f.ordinal) n (faults_by n line name v)
 faults_by-at n line name (accepted said) = tt
 faults_by-at n line name (accepted_odd said) = refl
 faults_by-at n line name (refused code) = refl
 
-faults_at-at : (n line : ℕ) (o : Option Statement) → IsAt (λ (f : ReadFault). f.ordinal) n (faults_at n line o)
-faults_at-at n line None = tt
-faults_at-at n line (Some s) = faults_by-at n line s.name (verdict_of s.name s.claim)
+faults_at-at : (n : ℕ) (o : Option Judged) → IsAt (λ (f : ReadFault). f.ordinal) n (faults_at n o)
+faults_at-at n None = tt
+faults_at-at n (Some j) = faults_by-at n j.line j.name j.verdict
 
-items_from-rise : (n : ℕ) (items : List (List PlacedByte))
-    → AllByRecursion (λ (i : ReadItem). n ≤ i.ordinal) (items_from n items) × IsRising (map (λ (i : ReadItem). i.ordinal) (items_from n items))
+items_from-rise : (n : ℕ) (outcomes : List (Option Judged))
+    → AllByRecursion (λ (i : ReadItem). n ≤ i.ordinal) (items_from n outcomes) × IsRising (map (λ (i : ReadItem). i.ordinal) (items_from n outcomes))
 items_from-rise n [] = (tt, tt)
-items_from-rise n (item ∷ items) =
-    let p = piece_of item in
-    let later = items_from-rise (n + 1) items in
-    rising-at (λ (i : ReadItem). i.ordinal) n (items_at n p.line (statement_of p.text)) (items_from (n + 1) items) (items_at-at n p.line (statement_of p.text)) later.0 later.1
+items_from-rise n (o ∷ os) =
+    let later = items_from-rise (n + 1) os in
+    rising-at (λ (i : ReadItem). i.ordinal) n (items_at n o) (items_from (n + 1) os) (items_at-at n o) later.0 later.1
 
-faults_from-rise : (n : ℕ) (items : List (List PlacedByte))
-    → AllByRecursion (λ (f : ReadFault). n ≤ f.ordinal) (faults_from_ordinal n items) × IsRising (map (λ (f : ReadFault). f.ordinal) (faults_from_ordinal n items))
+faults_from-rise : (n : ℕ) (outcomes : List (Option Judged))
+    → AllByRecursion (λ (f : ReadFault). n ≤ f.ordinal) (faults_from n outcomes) × IsRising (map (λ (f : ReadFault). f.ordinal) (faults_from n outcomes))
 faults_from-rise n [] = (tt, tt)
-faults_from-rise n (item ∷ items) =
-    let p = piece_of item in
-    let later = faults_from-rise (n + 1) items in
-    rising-at (λ (f : ReadFault). f.ordinal) n (faults_at n p.line (statement_of p.text)) (faults_from_ordinal (n + 1) items) (faults_at-at n p.line (statement_of p.text)) later.0 later.1
+faults_from-rise n (o ∷ os) =
+    let later = faults_from-rise (n + 1) os in
+    rising-at (λ (f : ReadFault). f.ordinal) n (faults_at n o) (faults_from (n + 1) os) (faults_at-at n o) later.0 later.1
 
 -- no fault of an item is one of the names field
 abbrev IsOfItem : ReadFault → Type 0
@@ -313,16 +312,16 @@ faults_by-item n line name (accepted said) sets = tt
 faults_by-item n line name (accepted_odd said) sets = (refl, tt)
 faults_by-item n line name (refused code) sets = (sets, tt)
 
-faults_at-item : NamedIsCapability → ValuesAreSound → (n line : ℕ) (o : Option Statement) → AllByRecursion IsOfItem (faults_at n line o)
-faults_at-item valid sound n line None = tt
-faults_at-item valid sound n line (Some s) = faults_by-item n line s.name (verdict_of s.name s.claim) (verdict_sets valid sound s.name s.claim)
+judged_as-item : NamedIsCapability → ValuesAreSound → (n line : ℕ) (o : Option Statement) → AllByRecursion IsOfItem (faults_at n (judged_as line o))
+judged_as-item valid sound n line None = tt
+judged_as-item valid sound n line (Some s) = faults_by-item n line s.name (verdict_of s.name s.claim) (verdict_sets valid sound s.name s.claim)
 
-faults_from-item : NamedIsCapability → ValuesAreSound → (n : ℕ) (items : List (List PlacedByte)) → AllByRecursion IsOfItem (faults_from_ordinal n items)
+faults_from-item : NamedIsCapability → ValuesAreSound → (n : ℕ) (items : List (List PlacedByte)) → AllByRecursion IsOfItem (faults_from n (map judged_of items))
 faults_from-item valid sound n [] = tt
 faults_from-item valid sound n (item ∷ items) =
     let p = piece_of item in
-    AllByRecursion-append IsOfItem (faults_at n p.line (statement_of p.text)) (faults_from_ordinal (n + 1) items)
-    (faults_at-item valid sound n p.line (statement_of p.text)) (faults_from-item valid sound (n + 1) items)
+    AllByRecursion-append IsOfItem (faults_at n (judged_of item)) (faults_from (n + 1) (map judged_of items))
+    (judged_as-item valid sound n p.line (statement_of p.text)) (faults_from-item valid sound (n + 1) items)
 
 header_faults-one : (field : List ℕ) (o : Option (List (List ℕ))) → (length (header_faults field o) ≤ 1) × AllByRecursion (λ (f : ReadFault). is_of_header f.code ≡ true) (header_faults field o)
 header_faults-one field None = (omega arith, (refl, tt))
@@ -338,6 +337,7 @@ well_read valid sound block one =
     let field = block_field block in
     let found = header_names field in
     let items = block_items block in
+    let judged = map judged_of items in
     let ends = ends_after block one.ends in
     let InBlock : ℕ → Type 0 = λ line. IsBetween 1 (1 + line_count block) line in
     let in_block : (line : ℕ) → InBlock line → IsLineOf block line = λ line h. (h.0, omega (arith, h.1)) in
@@ -345,23 +345,23 @@ well_read valid sound block one =
     let header_lines : AllByRecursion (λ (f : ReadFault). IsLineOf block f.line) (header_faults field found) = header_faults-lines (IsLineOf block) (omega arith, ends.1) field found in
     record {
       names = names-sound field found (each_header field);
-      named = λ e. named-sound field found refl (each_header field) (any-front (λ (f : ReadFault). is_error f.code) (header_faults field found) (faults_from_ordinal 0 items) e);
-      sets = All-from_recursion Sets (items_from 0 items) (items_from-sets valid sound 0 items);
+      named = λ e. named-sound field found refl (each_header field) (any-front (λ (f : ReadFault). is_error f.code) (header_faults field found) (faults_from 0 judged) e);
+      sets = All-from_recursion Sets (items_from 0 judged) (items_from-sets valid sound 0 items);
       order = record {
         of_header = header_faults field found;
-        of_items = faults_from_ordinal 0 items;
+        of_items = faults_from 0 judged;
         faults = refl;
         one = (header_faults-one field found).0;
         header = All-from_recursion (λ (f : ReadFault). is_of_header f.code ≡ true) (header_faults field found) (header_faults-one field found).1;
-        item = All-from_recursion IsOfItem (faults_from_ordinal 0 items) (faults_from-item valid sound 0 items);
-        items_rise = (items_from-rise 0 items).1;
-        faults_rise = (faults_from-rise 0 items).1;
+        item = All-from_recursion IsOfItem (faults_from 0 judged) (faults_from-item valid sound 0 items);
+        items_rise = (items_from-rise 0 judged).1;
+        faults_rise = (faults_from-rise 0 judged).1;
       };
-      item_lines = All-from_recursion (λ (i : ReadItem). IsLineOf block i.line) (items_from 0 items)
-          (AllByRecursion-weaker (λ (i : ReadItem). InBlock i.line) (λ (i : ReadItem). IsLineOf block i.line) (λ i h. in_block i.line h) (items_from 0 items) lines.0);
-      fault_lines = All-from_recursion (λ (f : ReadFault). IsLineOf block f.line) (header_faults field found ++ faults_from_ordinal 0 items)
-          (AllByRecursion-append (λ (f : ReadFault). IsLineOf block f.line) (header_faults field found) (faults_from_ordinal 0 items) header_lines
-          (AllByRecursion-weaker (λ (f : ReadFault). InBlock f.line) (λ (f : ReadFault). IsLineOf block f.line) (λ f h. in_block f.line h) (faults_from_ordinal 0 items) lines.1));
+      item_lines = All-from_recursion (λ (i : ReadItem). IsLineOf block i.line) (items_from 0 judged)
+          (AllByRecursion-weaker (λ (i : ReadItem). InBlock i.line) (λ (i : ReadItem). IsLineOf block i.line) (λ i h. in_block i.line h) (items_from 0 judged) lines.0);
+      fault_lines = All-from_recursion (λ (f : ReadFault). IsLineOf block f.line) (header_faults field found ++ faults_from 0 judged)
+          (AllByRecursion-append (λ (f : ReadFault). IsLineOf block f.line) (header_faults field found) (faults_from 0 judged) header_lines
+          (AllByRecursion-weaker (λ (f : ReadFault). InBlock f.line) (λ (f : ReadFault). IsLineOf block f.line) (λ f h. in_block f.line h) (faults_from 0 judged) lines.1));
     }
 
 -- ---- a name in the tables

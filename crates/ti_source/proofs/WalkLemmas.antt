@@ -8,7 +8,8 @@ use Rattle.std.proofs.Math.Seq.{drop-append_seam, take-append_seam}
 use Rattle.std.specs.Iterator.{MakesProgress, item_count}
 use Rattle.memchr.specs.Find.{IsFirstByte, is_byte}
 use Rattle.ti_source.specs.Cutting.{last_byte, HasNoHead, OneBlock}
-use Rattle.ti_source.specs.inside.Cutting.{front_of, blocks_from_head, begins_with_head, to_next_head}
+use Rattle.ti_source.specs.Cutting.{front_of, blocks_from_head}
+use Rattle.ti_source.specs.inside.Cutting.{begins_with_head, to_next_head}
 use Rattle.ti_source.specs.Heads.{begins_head, is_head}
 use Rattle.ti_source.proofs.CutLemmas.{front_of-head, front_of-plain, blocks_of-head, blocks_of-plain, is_head_from, is_head_parts, one_block_from}
 

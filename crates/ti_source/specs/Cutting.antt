@@ -1,7 +1,6 @@
 -- The blocks of a source (terminfo(5); X/Open Curses Issue 7, "Terminfo Source Format"): an entry begins at a line that is not empty and begins
 -- with neither white space nor `#`, and reaches to the next such line.
 pub use Rattle.ti_source.specs.Heads.{begins_head, is_head}
-pub use Rattle.ti_source.specs.inside.Cutting.{front_of, blocks_from_head, BlockPieces}
 use Rattle.ti_text.specs.Ascii as ascii
 pub use Rattle.ti_text.specs.Texts.{last_byte}
 use Rattle.std.specs.Prelude.{◌≡◌, ℕ, true, false, ◌==◌, if◌then◌else◌, List, [], ◌∷◌, ◌++◌, All}
@@ -28,10 +27,25 @@ pub record Cut (source preface : List ℕ) (blocks : List (List ℕ)) : Type 0 w
   pub front : HasNoHead ascii.newline preface
   pub each : AreBlocks (last_byte ascii.newline preface) blocks
 
+-- a source as it is cut: what a walk over its blocks has kept and has still to give
+pub record BlockPieces : Type 0 where
+  pub preface : List ℕ
+  pub blocks : List (List ℕ)
+
 -- a text is one block, with no preface, and ends with a newline
 pub record OneBlock (text : List ℕ) : Type 0 where
   pub cut : Cut text [] (text ∷ [])
   pub ends : last_byte 0 text ≡ ascii.newline
+
+-- what stands before the first head line of a text
+abbrev pub front_of : ℕ → List ℕ → List ℕ
+front_of before [] = []
+front_of before (x ∷ xs) = if is_head before x then [] else x ∷ front_of x xs
+
+-- the blocks of a text from its first head line on
+abbrev pub blocks_from_head : ℕ → List ℕ → List (List ℕ)
+blocks_from_head before [] = []
+blocks_from_head before (x ∷ xs) = if is_head before x then (x ∷ front_of x xs) ∷ blocks_from_head x xs else blocks_from_head x xs
 
 -- each source has a cut
 abbrev pub EachHasCut : Type 0

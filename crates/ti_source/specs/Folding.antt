@@ -4,7 +4,10 @@ use Rattle.ti_text.specs.Ascii as ascii
 use Rattle.std.specs.Prelude.{◌≡◌, ◌≢◌, ℕ, ◌+◌, Bool, true, false, not, ◌||◌, ◌==◌, List, [], ◌∷◌, ◌++◌, map, filter, flat_map}
 use Rattle.ti_text.specs.WhiteSpace.{is_white_space}
 use Rattle.ti_text.specs.Lines.{line_count}
-pub use Rattle.ti_source.specs.inside.Folding.{PlacedByte, bytes_on_lines, in_comment, without_comments, without_breaks, folding_of}
+
+-- a byte, and the line that it stands on
+abbrev pub PlacedByte : Type 0
+PlacedByte = ℕ × ℕ
 
 -- each byte of a block, with the line that it stands on: one more than the newlines before it
 pub record ArePlaced (block : List ℕ) (text : List PlacedByte) : Type 0 where
@@ -61,6 +64,6 @@ pub record Folds (block : List ℕ) (text : List PlacedByte) : Type 0 where
 abbrev pub OneFolding : Type 0
 OneFolding = (block : List ℕ) (one other : List PlacedByte) → Folds block one → Folds block other → one ≡ other
 
--- a block has the folded text that is computed
+-- each block has a folded text
 abbrev pub EachIsFolded : Type 0
-EachIsFolded = (block : List ℕ) → Folds block (folding_of block)
+EachIsFolded = (block : List ℕ) → (text : List PlacedByte) × Folds block text

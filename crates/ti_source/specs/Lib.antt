@@ -9,6 +9,7 @@ pub mod Items
 pub mod Code
 pub mod Reading
 pub mod Verdicts
+pub mod Judging
 pub mod Parsing
 pub mod Sound
 pub mod inside

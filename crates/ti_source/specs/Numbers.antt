@@ -48,3 +48,11 @@ ReadsAs text (Err Bad) = (value : ℕ) → IsNumeral text value → ⊥
 -- a text has one value at most
 abbrev pub NumeralsHaveOneValue : Type 0
 NumeralsHaveOneValue = (text : List ℕ) (v w : ℕ) → IsNumeral text v → IsNumeral text w → v ≡ w
+
+-- each text reads as something
+abbrev pub EachTextIsRead : Type 0
+EachTextIsRead = (text : List ℕ) → (r : Result ℕ NumberError) × ReadsAs text r
+
+-- no text reads as two things
+abbrev pub NumbersHaveOneReading : Type 0
+NumbersHaveOneReading = (text : List ℕ) (one other : Result ℕ NumberError) → ReadsAs text one → ReadsAs text other → one ≡ other

@@ -10,7 +10,7 @@ use Rattle.ti_source.specs.Header.{IsLookupName}
 use Rattle.ti_text.specs.Limits.{number_max, names_max}
 use Rattle.ti_spelling.specs.Spelling.{HasNoNul}
 use Rattle.ti_source.specs.Reading.{Reading, ReadItem, ReadFault, Said, said_flag, said_number, said_text, said_cancel, said_import}
-use Rattle.ti_source.specs.inside.Parsing.{reading_of_text}
+use Rattle.ti_source.specs.Parsing.{reading_of_text}
 
 -- what an item says of a capability fits it: its kind, a number within the limit, a text without NUL
 abbrev pub SetsItsKind : Said → Type 0

@@ -1,5 +1,5 @@
--- What comes of a statement (terminfo(5); X/Open Curses Issue 7, "Terminfo Source Format"), as a relation by cases; and what a verdict adds to a reading.
-use Rattle.std.specs.Prelude.{◌≡◌, ℕ, ◌<◌, ◌≤◌, Bool, true, false, List, map, Option, Some, None, option_to_list, codes}
+-- What comes of a statement (terminfo(5); X/Open Curses Issue 7, "Terminfo Source Format"), and what a verdict adds to a reading.
+use Rattle.std.specs.Prelude.{◌≡◌, ℕ, Bool, false, if◌then◌else◌, List, [], map, Option, Some, None, option_to_list, codes, Result, Ok, Err}
 use Rattle.std.specs.Str.{bytes_eq}
 use Rattle.ti_caps.specs.Tables.{Capability, capability_named}
 use Rattle.ti_caps.specs.declared.capability.Kind.{Kind}
@@ -7,9 +7,10 @@ use Rattle.ti_caps.specs.declared.capability.Kind.TheVariants as kind
 use Rattle.ti_source.specs.declared.code.Code.{Code}
 use Rattle.ti_source.specs.declared.code.Code.TheVariants as code
 use Rattle.ti_spelling.specs.declared.spelling.UnescapeError.{UnescapeError}
-use Rattle.ti_spelling.specs.Spelling.{Spells, Fails}
-use Rattle.ti_source.specs.Numbers.{IsNumeral}
-use Rattle.ti_text.specs.Limits.{number_max}
+use Rattle.ti_spelling.specs.Spelling.{SpellsAs}
+use Rattle.ti_source.specs.declared.numbers.NumberError.{NumberError}
+use Rattle.ti_source.specs.declared.numbers.NumberError.TheVariants.{Bad, TooLarge}
+use Rattle.ti_source.specs.Numbers.{ReadsAs}
 use Rattle.ti_source.specs.Items.{Claim, claims_flag, claims_number, claims_text, claims_cancel, without_outer_space}
 use Rattle.ti_source.specs.Reading.{Said, said_flag, said_number, said_text, said_cancel, said_import, ReadItem, ReadFault}
 
@@ -19,47 +20,67 @@ pub data Verdict : Type 0 where
   accepted_odd : Said → Verdict
   refused : Code → Verdict
 
--- whether a claim fits a capability of a kind; a cancel fits each
-abbrev pub fits : Claim → Kind → Bool
-fits claims_flag kind.Flag = true
-fits (claims_number text) kind.Number = true
-fits (claims_text text) kind.Text = true
-fits claims_cancel k = true
-fits _ _ = false
+-- a claim whose value is read: what a number's text reads as, and what a text spells
+pub data ReadClaim : Type 0 where
+  reads_flag : ReadClaim
+  reads_number : Result ℕ NumberError → ReadClaim
+  reads_text : (value : List ℕ) → Result (List ℕ × Bool) UnescapeError → ReadClaim
+  reads_cancel : ReadClaim
+
+-- what the value of a claim reads as
+pub data IsReadAs : Claim → ReadClaim → Type 0 where
+  flag_read : IsReadAs claims_flag reads_flag
+  number_read_as : {text : List ℕ} {read : Result ℕ NumberError} → ReadsAs text read → IsReadAs (claims_number text) (reads_number read)
+  text_read_as : {value : List ℕ} {found : Result (List ℕ × Bool) UnescapeError} → SpellsAs value found → IsReadAs (claims_text value) (reads_text value found)
+  cancel_read : IsReadAs claims_cancel reads_cancel
 
 -- whether a statement is `use=`, for which the items of another entry stand; `use` in another form is a name like any other
 abbrev pub is_import : List ℕ → Claim → Bool
 is_import name (claims_text value) = bytes_eq name (codes "use")
 is_import name _ = false
 
--- the verdict on a statement: first a name that is not in the tables, then one of another kind, then a value that cannot be read
-pub data Judges : (name : List ℕ) (claim : Claim) → Verdict → Type 0 where
-  judged_import : (name value : List ℕ) → is_import name (claims_text value) ≡ true
-      → Judges name (claims_text value) (accepted (said_import (without_outer_space value)))
-  judged_unknown : (name : List ℕ) (claim : Claim) → is_import name claim ≡ false → capability_named name ≡ None
-      → Judges name claim (refused code.UnknownCapability)
-  judged_wrong_kind : (name : List ℕ) (claim : Claim) (c : Capability) → is_import name claim ≡ false → capability_named name ≡ Some c
-      → fits claim c.kind ≡ false
-      → Judges name claim (refused code.WrongKind)
-  judged_flag : (name : List ℕ) (c : Capability) → capability_named name ≡ Some c → c.kind ≡ kind.Flag
-      → Judges name claims_flag (accepted (said_flag c))
-  judged_cancel : (name : List ℕ) (c : Capability) → capability_named name ≡ Some c
-      → Judges name claims_cancel (accepted (said_cancel c))
-  judged_number : (name text : List ℕ) (c : Capability) (n : ℕ) → capability_named name ≡ Some c → c.kind ≡ kind.Number → IsNumeral text n → n ≤ number_max
-      → Judges name (claims_number text) (accepted (said_number c n))
-  judged_bad_number : (name text : List ℕ) (c : Capability) → capability_named name ≡ Some c → c.kind ≡ kind.Number → ((n : ℕ) → IsNumeral text n → ⊥)
-      → Judges name (claims_number text) (refused code.BadNumber)
-  judged_large_number : (name text : List ℕ) (c : Capability) (n : ℕ) → capability_named name ≡ Some c → c.kind ≡ kind.Number → IsNumeral text n
-      → number_max < n
-      → Judges name (claims_number text) (refused code.NumberTooLarge)
-  judged_text : (name value text : List ℕ) (c : Capability) → is_import name (claims_text value) ≡ false → capability_named name ≡ Some c → c.kind ≡ kind.Text
-      → Spells value text false → Judges name (claims_text value) (accepted (said_text c text))
-  judged_odd_text : (name value text : List ℕ) (c : Capability) → is_import name (claims_text value) ≡ false → capability_named name ≡ Some c
-      → c.kind ≡ kind.Text
-      → Spells value text true → Judges name (claims_text value) (accepted_odd (said_text c text))
-  judged_bad_text : (name value : List ℕ) (c : Capability) (cause : UnescapeError) → is_import name (claims_text value) ≡ false
-      → capability_named name ≡ Some c → c.kind ≡ kind.Text
-      → Fails value cause → Judges name (claims_text value) (refused code.BadString)
+-- the verdict on a number of a capability, given what its text reads as
+abbrev pub number_verdict : Capability → Result ℕ NumberError → Verdict
+number_verdict c (Ok n) = accepted (said_number c n)
+number_verdict c (Err Bad) = refused code.BadNumber
+number_verdict c (Err TooLarge) = refused code.NumberTooLarge
+
+-- the verdict on a text of a capability, given what its value spells or the fault in it
+abbrev pub text_verdict : Capability → Result (List ℕ × Bool) UnescapeError → Verdict
+text_verdict c (Ok found) = if found.1 then accepted_odd (said_text c found.0) else accepted (said_text c found.0)
+text_verdict c (Err cause) = refused code.BadString
+
+-- the verdict on a claim of a capability of this kind; a cancel fits each kind
+abbrev pub fitting_verdict : Capability → ReadClaim → Kind → Verdict
+fitting_verdict c reads_flag kind.Flag = accepted (said_flag c)
+fitting_verdict c (reads_number read) kind.Number = number_verdict c read
+fitting_verdict c (reads_text value found) kind.Text = text_verdict c found
+fitting_verdict c reads_cancel k = accepted (said_cancel c)
+fitting_verdict c _ _ = refused code.WrongKind
+
+-- the verdict on a claim, given the capability of its name, if one has the name
+abbrev pub named_verdict : ReadClaim → Option Capability → Verdict
+named_verdict claim None = refused code.UnknownCapability
+named_verdict claim (Some c) = fitting_verdict c claim c.kind
+
+-- the value of a text, nothing where the claim is another
+abbrev pub claimed_text : Claim → List ℕ
+claimed_text (claims_text value) = value
+claimed_text _ = []
+
+-- The verdict on a statement whose claim reads as this: first a name that is not in the tables, then one of another kind, then a value that cannot be
+-- read; `use=` is accepted.
+abbrev pub verdict_on : List ℕ → Claim → ReadClaim → Verdict
+verdict_on name claim read =
+    if is_import name claim
+    then accepted (said_import (without_outer_space (claimed_text claim)))
+    else named_verdict read (capability_named name)
+
+-- the verdict on a statement
+pub record Judges (name : List ℕ) (claim : Claim) (verdict : Verdict) : Type 0 where
+  pub read : ReadClaim
+  pub is_read : IsReadAs claim read
+  pub is : verdict ≡ verdict_on name claim read
 
 -- what a statement says once it has this verdict, nothing where it is refused
 abbrev pub said_by : Verdict → Option Said

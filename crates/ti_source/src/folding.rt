@@ -2,8 +2,8 @@
 ghost use Rattle.std.specs.Prelude.{◌≡◌, ◌+◌, ◌<◌, ◌≤◌, ◌^◌, ◌==◌, ◌&&◌, IfSome, IfNone, length};
 ghost use Rattle.std.specs.Iterator.{YieldsFirst, item_count};
 ghost use Rattle.ti_text.specs.Ascii as ascii;
-ghost use Rattle.ti_source.specs.Folding.{folding_of, EachIsFolded, OneFolding};
-ghost use Rattle.ti_source.specs.inside.Folding.{SkipsWhiteSpace, after_line};
+ghost use Rattle.ti_source.specs.Folding.{EachIsFolded, OneFolding};
+ghost use Rattle.ti_source.specs.inside.Folding.{folding_of, SkipsWhiteSpace, after_line};
 ghost use Rattle.ti_source.specs.inside.Items.{TakesRun, TakesWholeItem};
 
 use crate::items::{Run, Taken, front_run, whole_item_size};
@@ -25,7 +25,7 @@ pub(crate) struct Folded<'a> {
 
 impl<'a> Model for Folded<'a> {
     ghost use Rattle.std.specs.Prelude.{◌+◌, ◌<◌, ◌^◌, ℕ, false, List, length};
-    ghost use Rattle.ti_source.specs.Folding.{bytes_on_lines, without_comments, without_breaks};
+    ghost use Rattle.ti_source.specs.inside.Folding.{bytes_on_lines, without_comments, without_breaks};
 
     ghost Value = { List (ℕ × ℕ) };
 
@@ -168,6 +168,6 @@ impl<'a> Iterator for Folded<'a> {
 
 /// A block has one folded text, which a reading of it begins with.
 pub fn one_folding()
-    ensures computed { EachIsFolded }
+    ensures each { EachIsFolded }
     ensures only { OneFolding }
 {}

@@ -11,13 +11,13 @@ use std::alloc::{AllocError, Global};
 use std::rc::RcSlice;
 
 fn is_name_byte(byte: u8) -> bool
-    ensures { result ≡ computed.is_name_byte byte }
+    ensures { result ≡ spec.is_name_byte byte }
 {
     matches!(byte, b'!'..=b'~') && !matches!(byte, b',' | b'/' | b'|')
 }
 
 fn has_name_bytes(text: &[u8]) -> bool
-    ensures { result ≡ list_all computed.is_name_byte text.now }
+    ensures { result ≡ list_all spec.is_name_byte text.now }
 {
     text.iter().all(|byte| is_name_byte(*byte))
 }
@@ -26,7 +26,7 @@ fn has_name_bytes(text: &[u8]) -> bool
 /// neither `.` nor `..`.
 pub fn is_lookup_name(name: &[u8]) -> bool
     ensures rule { IsTrue result ↔ spec.IsLookupName name.now }
-    ensures computed { result ≡ computed.is_lookup_name name.now }
+    ensures test { result ≡ spec.is_lookup_name name.now }
 {
     !name.is_empty() && name != b".".as_slice() && name != b"..".as_slice() && has_name_bytes(name)
 }
@@ -50,7 +50,7 @@ fn has_no_empty_part(field: &[u8]) -> bool
 }
 
 fn are_lookup_names(joined: &[u8]) -> bool
-    ensures { result ≡ list_all computed.is_lookup_name (computed.header_parts joined.now) }
+    ensures { result ≡ list_all spec.is_lookup_name (computed.header_parts joined.now) }
 {
     joined
         .split(|byte| *byte == b'|')
@@ -80,6 +80,17 @@ fn parts(alloc: Global, joined: &[u8]) -> Result<Vec<RcSlice<u8>>, AllocError>
 /// # Errors
 /// Want of memory.
 pub fn lookup_names(alloc: Global, field: &[u8]) -> Result<Option<Vec<RcSlice<u8>>>, AllocError>
+    ensures { IfOk result (λ names. spec.ReadsNames field.now (option_map (λ v. map rc_slice_items v.items) names)) }
+{
+    let names = read_names(alloc, field)?;
+    Ok(names)
+}
+
+/// The lookup names of a names field, or `None` where it is bad, as [`lookup_names`] gives them.
+pub(crate) fn read_names(
+    alloc: Global,
+    field: &[u8],
+) -> Result<Option<Vec<RcSlice<u8>>>, AllocError>
     ensures { IfOk result (λ names. option_map (λ v. map rc_slice_items v.items) names ≡ computed.header_names field.now) }
 {
     if !is_header(field) {
@@ -91,10 +102,10 @@ pub fn lookup_names(alloc: Global, field: &[u8]) -> Result<Option<Vec<RcSlice<u8
 
 /// Each names field has lookup names or is bad.
 pub fn each_header_is_read()
-    ensures { computed.EachHeaderIsRead }
+    ensures { spec.EachHeaderIsRead }
 {}
 
 /// A names field has one reading alone.
 pub fn headers_have_one_reading()
-    ensures { computed.HeadersHaveOneReading }
+    ensures { spec.HeadersHaveOneReading }
 {}

@@ -39,7 +39,7 @@ pub(crate) fn next_head(text: &[u8]) -> usize
 
 /// The length of the lines of `source` before its first head line.
 pub(crate) fn preface_len(source: &[u8]) -> usize
-    ensures { result ≡ length (computed.front_of ascii.newline source.now) }
+    ensures { result ≡ length (spec.front_of ascii.newline source.now) }
 {
     if begins_with_head(source) {
         0

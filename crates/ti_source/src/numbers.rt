@@ -78,8 +78,7 @@ fn value(number: &[u8]) -> Option<u32>
 ///
 /// `Bad` where the text is not written so, and `TooLarge` where its value, of however many digits, is over 2,147,483,647.
 pub fn read_number(text: &[u8]) -> Result<u32, NumberError>
-    ensures reading { spec.ReadsAs text.now result }
-    ensures computed { result ≡ computed.number_read text.now }
+    ensures { spec.ReadsAs text.now result }
 {
     match value(trim_end(text)) {
         None => Err(NumberError::Bad),
@@ -93,12 +92,12 @@ pub fn numerals_have_one_value()
     ensures { spec.NumeralsHaveOneValue }
 {}
 
-/// Each text reads as the computing definition says.
+/// Each text reads as something: a value, one beyond the limit, or none.
 pub fn each_number_is_read()
-    ensures { computed.EachTextIsRead }
+    ensures { spec.EachTextIsRead }
 {}
 
 /// A text has no other reading.
 pub fn numbers_have_one_reading()
-    ensures { computed.NumbersHaveOneReading }
+    ensures { spec.NumbersHaveOneReading }
 {}

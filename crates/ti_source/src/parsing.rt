@@ -2,22 +2,21 @@
 ghost use Rattle.std.specs.Prelude.{◌≡◌, ◌<◌, ◌+◌, ◌^◌, [], ◌∷◌, ◌++◌, IfOk, OnOk, length, map};
 ghost use Rattle.ti_source.specs.Cutting.{OneBlock};
 ghost use Rattle.ti_source.specs.Items.{item_piece};
-ghost use Rattle.ti_source.specs.Parsing.{Parses, HasReading, BlocksHaveOneReading};
-ghost use Rattle.ti_source.specs.inside.Parsing.{reading_of_text, AddsItem, AddsItems, ReadsField};
+ghost use Rattle.ti_source.specs.Parsing.{Parses, reading_of_text, HasReading, BlocksHaveOneReading};
+ghost use Rattle.ti_source.specs.inside.Parsing.{AddsItem, AddsItems, ReadsField};
 ghost use Rattle.ti_source.specs.Verdicts.{header_fault, item_fault};
 ghost use Rattle.ti_source.specs.Reading.{fault_of, item_of, reading_of, said_of};
 ghost use Rattle.ti_source.specs.Sound.{EachIsWellRead, IsWellRead};
 
 use crate::code::Code;
 use crate::folding::Folded;
-use crate::header::lookup_names;
+use crate::header::read_names;
 use crate::items::{read_field, read_item, statement_of};
 use crate::sharing::SharedTexts;
 use crate::verdicts::{Verdict, judge};
 use std::alloc::{AllocError, Global};
 use std::rc::RcSlice;
 use ti_caps::{Cap, Kind, count};
-use ti_spelling::one_outcome;
 use ti_text::limits::NAMES_MAX;
 
 /// What an accepted item says.
@@ -125,7 +124,7 @@ fn read_header(alloc: Global, field: Vec<u8>) -> Result<Parsed, AllocError>
     ensures { IfOk result (λ p. ReadsField field.items (reading_of p)) }
 {
     let mut faults = Vec::new(alloc);
-    let names = match lookup_names(alloc, &field)? {
+    let names = match read_names(alloc, &field)? {
         None => {
             faults.push(header_fault(Code::BadHeader))?;
             Vec::new(alloc)
@@ -247,13 +246,10 @@ pub fn each_is_well_read()
     count(Kind::Flag);
     count(Kind::Number);
     count(Kind::Text);
-    one_outcome();
 }
 
 /// Each block has one reading, which `parse` gives.
 pub fn one_reading()
-    ensures computed { HasReading }
+    ensures each { HasReading }
     ensures only { BlocksHaveOneReading }
-{
-    one_outcome();
-}
+{}

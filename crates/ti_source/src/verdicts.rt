@@ -2,7 +2,8 @@
 ghost use Rattle.std.specs.Prelude.{◌≡◌, IfOk};
 ghost use Rattle.ti_source.specs.inside.Items.{statement_in_memory};
 ghost use Rattle.ti_source.specs.inside.Numbers.{number_read};
-ghost use Rattle.ti_source.specs.inside.Verdicts.{verdict_in_memory, verdict_of, number_verdict, text_verdict};
+ghost use Rattle.ti_source.specs.Verdicts.{number_verdict, text_verdict};
+ghost use Rattle.ti_source.specs.inside.Verdicts.{verdict_in_memory, verdict_of};
 ghost use Rattle.ti_spelling.specs.inside.Spelling.{unescape_result};
 
 use crate::code::Code;

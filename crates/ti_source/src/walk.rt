@@ -17,7 +17,7 @@ pub struct Blocks<'a> {
 impl<'a> Model for Blocks<'a> {
     ghost use Rattle.ti_text.specs.Ascii as ascii;
     ghost use Rattle.std.specs.Prelude.{◌≡◌, []};
-    ghost use Rattle.ti_source.specs.inside.Cutting.{BlockPieces, front_of, blocks_from_head};
+    ghost use Rattle.ti_source.specs.Cutting.{BlockPieces, front_of, blocks_from_head};
 
     ghost Value = { BlockPieces };
 

@@ -72,7 +72,7 @@ fn reads(alloc: Global, block: &[u8], wanted: &str) -> Result<bool, AllocError> 
 }
 
 // Blocks, and what is read of them.
-static BLOCKS: [(&'static str, &'static str); 19] = [
+static BLOCKS: [(&'static str, &'static str); 21] = [
     ("x,clear=\\E[H\n\t\\E[J,\n", "0:1 clear=1b5b481b5b4a;"),
     (
         "x,.am,am#1,cols=3,bw@,cols#09,bel=\\400,foo,kf1=\\q,\n",
@@ -116,6 +116,8 @@ static BLOCKS: [(&'static str, &'static str); 19] = [
         "x,cols#0x7fffffff ,it#2147483648,lm#00,\n",
         "0:1 cols#2147483647;2:1 lm#0;1:1 E4 NumberTooLarge it;",
     ),
+    ("x,cols#32768,\n", "0:1 cols#32768;"),
+    ("x,cols#2147483647,\n", "0:1 cols#2147483647;"),
     ("x,bel=,\n", "0:1 bel=;"),
     ("a|,am,\n", "0:1 am;0:1 E1 BadHeader ;"),
     ("xterm\n", ""),

@@ -8,8 +8,8 @@ use Rattle.std.proofs.lemmas.List.{length-append}
 use Rattle.std.proofs.lemmas.List.Elements.{All-nil, All-cons}
 use Rattle.ti_spelling.specs.declared.spelling.Unescaped.{Unescaped}
 use Rattle.ti_spelling.specs.declared.spelling.UnescapeError.{UnescapeError}
-use Rattle.ti_spelling.specs.Spelling.{named_escapes, named_escape, octal_value, not_nul, IsEscape, escape_named, escape_octal, escape_unknown, escape_missing, IsControl, control_delete, control_masked, IsPiece, piece_escape, piece_control, piece_caret, piece_plain, SpellsAfter, spells_nothing, spells_piece, HasNoNul, AreBytes}
-use Rattle.ti_spelling.specs.inside.Spelling.{GivesUnescaped, ValuesAreSound}
+use Rattle.ti_spelling.specs.Spelling.{named_escapes, named_escape, octal_value, not_nul, IsEscape, escape_named, escape_octal, escape_unknown, escape_missing, IsControl, control_delete, control_masked, IsPiece, piece_escape, piece_control, piece_caret, piece_plain, SpellsAfter, spells_nothing, spells_piece, HasNoNul, AreBytes, ValuesAreSound}
+use Rattle.ti_spelling.specs.inside.Spelling.{GivesUnescaped}
 use Rattle.ti_spelling.proofs.PieceLemmas.{piece_some}
 use Rattle.ti_spelling.proofs.SpellingLaws.{unescaped_spells}
 
@@ -102,9 +102,7 @@ spelled_bytes (spells_piece {byte = byte} {text = text} {rest = rest} {value = v
 -- ---- the law, and of an answer
 
 pub values_are_sound : ValuesAreSound
-values_are_sound raw value odd e =
-    let s = unescaped_spells e in
-    record { no_nul = spelled_no_nul s; no_longer = spelled_no_longer s; bytes = spelled_bytes s }
+values_are_sound raw value odd s = record { no_nul = spelled_no_nul s; no_longer = spelled_no_longer s; bytes = spelled_bytes s }
 
 pub answer_no_nul : (raw : List ℕ) (r : Result Unescaped UnescapeError) → GivesUnescaped raw r → IfOk r (λ found. HasNoNul found.bytes.items)
 answer_no_nul raw (Ok found) e = spelled_no_nul (unescaped_spells e)

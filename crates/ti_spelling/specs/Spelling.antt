@@ -7,7 +7,7 @@
 --   WrittenSpells       a law: the text that `escape` writes spells the value
 use Rattle.std.specs.Prelude.{◌≡◌, ◌≢◌, ℕ, zero, suc, ◌+◌, ◌-◌, ◌*◌, ◌/◌, ◌%◌, ◌<◌, ◌≤◌, ◌==◌, Bool, true, false, ◌&&◌, ◌||◌, ◌⊎◌, if◌then◌else◌, nat_le}
 use Rattle.std.specs.Prelude.{nat_lt, List, [], ◌∷◌, ◌++◌, bit_and}
-use Rattle.std.specs.Prelude.{Option, Some, None}
+use Rattle.std.specs.Prelude.{length, Option, Some, None, Result, Ok, Err}
 use Rattle.std.specs.Map.{lookup}
 use Rattle.ti_text.specs.Ascii.{byte_of}
 use Rattle.ti_text.specs.Ascii as ascii
@@ -116,6 +116,11 @@ Spells raw value odd = SpellsAfter 0 raw value odd
 abbrev pub Fails : (raw : List ℕ) (cause : UnescapeError) → Type 0
 Fails raw cause = FailsAfter 0 raw cause
 
+-- what a text gives: the bytes that it spells and whether an escape in it is odd, or its first fault
+abbrev pub SpellsAs : List ℕ → Result (List ℕ × Bool) UnescapeError → Type 0
+SpellsAs raw (Ok found) = Spells raw found.0 found.1
+SpellsAs raw (Err cause) = Fails raw cause
+
 -- the text spells something
 abbrev pub CanBeSpelled : List ℕ → Type 0
 CanBeSpelled raw = (value : List ℕ) × (odd : Bool) × Spells raw value odd
@@ -184,6 +189,16 @@ pub record HasOneOutcome (raw : List ℕ) : Type 0 where
 -- every text spells exactly one value or has exactly one first fault, and never both
 abbrev pub OneOutcome : Type 0
 OneOutcome = (raw : List ℕ) → HasOneOutcome raw
+
+-- what is known of a value by the text that spells it
+pub record IsValueOf (raw value : List ℕ) : Type 0 where
+  pub no_nul : HasNoNul value
+  pub no_longer : length value ≤ length raw
+  pub bytes : AreBytes raw → AreBytes value
+
+-- a value has no NUL, is no longer than the text that spells it, and is of bytes where that is
+abbrev pub ValuesAreSound : Type 0
+ValuesAreSound = (raw value : List ℕ) (odd : Bool) → Spells raw value odd → IsValueOf raw value
 
 -- what is written reads back
 abbrev pub WrittenSpells : Type 0

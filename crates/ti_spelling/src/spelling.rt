@@ -3,8 +3,8 @@
 ghost use Rattle.std.specs.Prelude.{◌≡◌, ◌≤◌, ◌<◌, length, take, true, false, Ok, Err, IsOk, OnOk, IfOk, IfErr};
 ghost use Rattle.std.specs.List.{list_all};
 ghost use Rattle.ti_spelling.specs.declared.spelling.UnescapeError.TheVariants.{Memory};
-ghost use Rattle.ti_spelling.specs.Spelling.{named_escape, is_octal_digit, octal_digits, octal_value, not_nul, Spells, IsCauseOf, HasNoNul, OneOutcome};
-ghost use Rattle.ti_spelling.specs.inside.Spelling.{octal_piece, escape_piece, control_piece, first_piece, is_literal, unescape_result, GivesUnescaped, UnescapedAgrees, ValuesAreSound, left_of, with_front, TakesPiece};
+ghost use Rattle.ti_spelling.specs.Spelling.{named_escape, is_octal_digit, octal_digits, octal_value, not_nul, Spells, IsCauseOf, HasNoNul, OneOutcome, ValuesAreSound};
+ghost use Rattle.ti_spelling.specs.inside.Spelling.{octal_piece, escape_piece, control_piece, first_piece, is_literal, unescape_result, left_of, with_front, TakesPiece};
 
 use std::alloc::{AllocError, AllocFailed, Global};
 use thiserror::Error;
@@ -300,7 +300,6 @@ fn decode(alloc: Global, raw: &[u8]) -> Result<Unescaped, UnescapeError>
 pub fn unescape(alloc: Global, raw: &[u8]) -> Result<Unescaped, UnescapeError>
     ensures ok { IfOk result (λ found. Spells raw.now found.bytes.items found.odd) }
     ensures err { IfErr result (λ cause. IsCauseOf cause raw.now) }
-    ensures computed { GivesUnescaped raw.now result }
     ensures no_nul { IfOk result (λ found. HasNoNul found.bytes.items) }
     ensures no_longer { IfOk result (λ found. length found.bytes.items ≤ length raw.now) }
 {
@@ -311,9 +310,8 @@ pub fn unescape(alloc: Global, raw: &[u8]) -> Result<Unescaped, UnescapeError>
     Err(UnescapeError::Memory)
 }
 
-/// Each text spells one value or has one first fault.
+/// Each text spells one value or has one first fault, and a value is no longer than its text.
 pub fn one_outcome()
     ensures outcome { OneOutcome }
-    ensures computed { UnescapedAgrees }
     ensures values { ValuesAreSound }
 {}

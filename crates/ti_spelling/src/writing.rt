@@ -2,7 +2,6 @@
 
 ghost use Rattle.std.specs.Prelude.{◌≡◌, ◌+◌, ◌*◌, ◌^◌, ◌<◌, ◌≤◌, ◌++◌, ◌∷◌, [], length, OnErr, OnOk, IfOk, vec_len, vec_capacity};
 ghost use Rattle.ti_spelling.specs.Spelling.{short_escape, octal_text, byte_text, spelling_of, WrittenSpells};
-ghost use Rattle.ti_spelling.specs.inside.Spelling.{WrittenReadsBack};
 ghost use Rattle.ti_spelling.specs.inside.Writing.{is_plain};
 
 use std::alloc::{AllocError, Global};
@@ -176,6 +175,5 @@ pub fn escape(alloc: Global, value: &[u8]) -> Result<Vec<u8>, AllocError>
 
 /// What is written reads back.
 pub fn written_spells()
-    ensures spells { WrittenSpells }
-    ensures computed { WrittenReadsBack }
+    ensures { WrittenSpells }
 {}

@@ -1,16 +1,17 @@
 -- The files of entries, name by name and block by block.
-use Rattle.std.proofs.Common.{◌≡◌, ℕ, suc, ◌+◌, ◌<◌, ◌≤◌, option_map, slice_get, Bool, true, false, ◌&&◌, not, List, [], ◌∷◌, ◌++◌, length, map, filter, take, drop, get_or, All, Some, refl, sym, ap, ap₂, append-nil, ◌∙◌, subst, inl, inr, arith}
+use Rattle.std.proofs.Common.{◌≡◌, ℕ, suc, ◌+◌, ◌<◌, ◌≤◌, option_map, slice_get, Bool, true, false, ◌&&◌, not, List, [], ◌∷◌, ◌++◌, length, map, filter, take, drop, get_or, All, Option, Some, None, refl, sym, ap, ap₂, append-nil, ◌∙◌, subst, inl, inr, arith}
 use Rattle.std.proofs.lemmas.Bool.{and_parts, cases_Bool}
 use Rattle.std.proofs.lemmas.List.{append_assoc, drop_all, get_or-map, length-map, take-map, take_more}
 use Rattle.std.proofs.lemmas.Option.{same_Some, slice_get-get_or, slice_get-map}
 use Rattle.std.proofs.lemmas.List.Elements.{All-get_or, All-nil, All-weaker}
 use Rattle.std.proofs.Math.Seq.{drop-cons}
-use Rattle.ti_source.specs.Header.{IsLookupName, IsNameByte}
-use Rattle.ti_source.specs.Parsing.{HasReading, Parses, ReadsHeader, bad_header, good_header, long_header, reading_of_text}
+use Rattle.ti_source.specs.Header.{IsLookupName, IsNameByte, ReadsNames}
+use Rattle.ti_source.specs.Items.{bytes}
+use Rattle.ti_source.specs.Judging.{names_found}
+use Rattle.ti_source.specs.Parsing.{HasReading, Parses, reading_of_text}
 use Rattle.ti_source.specs.Reading.{ReadFault, Reading}
 use Rattle.ti_meaning.specs.Compiled.{compiled}
-use Rattle.ti_meaning.specs.Owner.{is_among, readings}
-use Rattle.ti_meaning.specs.inside.Reaching.{is_owner}
+use Rattle.ti_meaning.specs.Owner.{is_among, readings, is_owner}
 use Rattle.ti_meaning.specs.Faults.{distinct_after}
 use Rattle.ti_devices.specs.Tree.{FileAt}
 use Rattle.ti_tools.specs.inside.EntryFiles.{IsAsciiName}
@@ -168,13 +169,13 @@ IsAsciiName-lookup : (name : List ℕ) → IsLookupName name → IsAsciiName nam
 IsAsciiName-lookup [] n = absurd (n.some refl)
 IsAsciiName-lookup (x ∷ xs) n = (omega arith, All-weaker IsNameByte (λ byte. byte < 128) (λ b p. omega arith) (x ∷ xs) n.bytes)
 
-names_read : (field : List ℕ) (names : List (List ℕ)) (faults : List ReadFault) → ReadsHeader field names faults → All IsAsciiName names
-names_read _ _ _ (bad_header field bad) = All-nil IsAsciiName
-names_read _ _ _ (long_header field names header long) = All-weaker IsLookupName IsAsciiName IsAsciiName-lookup names header.lookup
-names_read _ _ _ (good_header field names header short) = All-weaker IsLookupName IsAsciiName IsAsciiName-lookup names header.lookup
+names_read : (field : List ℕ) (names : Option (List (List ℕ))) → ReadsNames field names → All IsAsciiName (names_found names)
+names_read field None bad = All-nil IsAsciiName
+names_read field (Some names) header = All-weaker IsLookupName IsAsciiName IsAsciiName-lookup names header.lookup
 
 names_parsed : (block : List ℕ) (reading : Reading) → Parses block reading → All IsAsciiName reading.names
-names_parsed block reading parses = names_read reading.field reading.names parses.of_header parses.reads_header
+names_parsed block reading parses =
+    subst (λ (r : Reading). All IsAsciiName r.names) (sym parses.is) (names_read (bytes parses.field) parses.names parses.reads_names)
 
 pub names_ascii : (texts names : List (List ℕ)) (at : ℕ) → HasReading → at < length texts
     → option_map (λ (block : Reading). block.names) (slice_get (readings texts) at) ≡ Some names → All IsAsciiName names

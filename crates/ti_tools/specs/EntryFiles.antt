@@ -4,8 +4,7 @@ use Rattle.std.specs.Prelude.{ℕ, suc, List, [], ◌∷◌, ◌++◌, map, filt
 use Rattle.ti_text.specs.Ascii as ascii
 use Rattle.ti_source.specs.Reading.{Reading}
 use Rattle.ti_source.specs.Parsing.{reading_of_text}
-use Rattle.ti_meaning.specs.Owner.{readings}
-use Rattle.ti_meaning.specs.inside.Reaching.{is_owner}
+use Rattle.ti_meaning.specs.Owner.{readings, is_owner}
 use Rattle.ti_meaning.specs.Faults.{distinct}
 use Rattle.ti_meaning.specs.Compiled.{compiled}
 use Rattle.ti_devices.specs.Paths.{path_of}

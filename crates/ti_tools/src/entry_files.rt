@@ -2,8 +2,7 @@
 ghost use Rattle.std.specs.Prelude.{◌≡◌, ◌<◌, ◌++◌, ◌∷◌, ◌||◌, ◌&&◌, [], List, ℕ, All, IfOk, OnOk, Some, length, map, not, slice_get};
 ghost use Rattle.std.specs.Rc.{rc_slice_items};
 ghost use Rattle.std.specs.Str.{bytes_eq};
-ghost use Rattle.ti_meaning.specs.Owner.{readings};
-ghost use Rattle.ti_meaning.specs.inside.Reaching.{is_owner};
+ghost use Rattle.ti_meaning.specs.Owner.{readings, is_owner};
 ghost use Rattle.ti_tools.specs.inside.EntryFiles.{IsAsciiName, is_seen};
 ghost use Rattle.ti_tools.specs.EntryFiles.{files_at, files_for, source_files, own_names};
 ghost use Rattle.ti_devices.specs.Paths.{path_of};

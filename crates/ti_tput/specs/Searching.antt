@@ -15,7 +15,7 @@ use Rattle.ti_devices.specs.Paths.{path_of}
 use Rattle.ti_devices.specs.Tree.{Files}
 use Rattle.ti_devices.specs.declared.tool_error.ToolError.{ToolError}
 use Rattle.ti_devices.specs.declared.tool_error.ToolError.TheVariants.{NoTerminal, BadEntry, ReadFault, Memory}
-use Rattle.ti_source.specs.inside.Header.{is_lookup_name}
+use Rattle.ti_source.specs.Header.{is_lookup_name}
 
 -- the most bytes of a file that is read as an entry (own); of a longer one the first bytes, one more than these, are looked at
 abbrev pub file_bytes_max : ℕ

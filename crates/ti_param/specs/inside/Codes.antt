@@ -5,9 +5,11 @@ use Rattle.ti_text.specs.Ascii.{byte_of}
 use Rattle.ti_text.specs.Ascii as ascii
 use Rattle.ti_text.specs.Digits.{is_decimal_digit, decimal_value}
 use Rattle.ti_text.specs.Limits.{number_max}
+use Rattle.ti_param.specs.declared.codes.Code.{Code}
 use Rattle.ti_param.specs.declared.codes.Code.TheVariants.{Print, Parameter, Store, Fetch, Constant}
 use Rattle.ti_param.specs.declared.codes.Token.{Token}
-use Rattle.ti_param.specs.declared.codes.Token.TheVariants.{Operation}
+use Rattle.ti_param.specs.declared.codes.Token.TheVariants.{Literal, Operation, If, Then, Else, EndIf}
+use Rattle.ti_printing.specs.declared.printf.Conversion.{Conversion}
 use Rattle.ti_printing.specs.declared.printf.Directive.{Directive}
 use Rattle.ti_printing.specs.declared.printf.Flags.{Flags}
 use Rattle.ti_param.specs.Codes.{IsCode, begins_zero, conversions, flags_from, greatest_size, is_flag, no_flags, parameter_numbered, row_for, simple_tokens}
@@ -104,6 +106,20 @@ token_after [] = None
 token_after (x ∷ rest) =
     if begins_directive x then option_map (λ found. (Operation (Print found.0), found.1)) (directive_after (x ∷ rest))
     else letter_after x rest
+
+-- what was read, where it is a code that stands by itself
+abbrev pub code_of : Front Token → Front Code
+code_of None = None
+code_of (Some (Literal b, rest)) = None
+code_of (Some (Operation c, rest)) = Some (c, rest)
+code_of (Some (If, rest)) = None
+code_of (Some (Then, rest)) = None
+code_of (Some (Else, rest)) = None
+code_of (Some (EndIf, rest)) = None
+
+-- the printf form of a conversion alone
+abbrev pub plain_form : Conversion → Directive
+plain_form conversion = record { flags = no_flags; width = 0; precision = None; conversion = conversion }
 
 -- the law of codes: a text that begins with a code is read as that code and what follows it, and what is read is so
 pub record OneCode : Type 0 where

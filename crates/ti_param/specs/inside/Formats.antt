@@ -60,6 +60,33 @@ refusal phases [] stop = stop
 refusal phases (p ∷ tokens) stop =
     elim (phases_after phases p.token) [ None ↦ Some p.place | Some opened ↦ refusal opened tokens stop ]
 
+-- the tokens of a scan that may stand where they do, and the place of the first that may not, else that where the scan stopped
+unfoldable pub accepted : List Phase → List Placed → Option ℕ → Scan
+accepted phases [] stop = record { tokens = []; stop = stop }
+accepted phases (p ∷ tokens) stop = elim (phases_after phases p.token) [
+  | None ↦ record { tokens = []; stop = Some p.place }
+  | Some opened ↦ record { tokens = p ∷ (accepted opened tokens stop).tokens; stop = (accepted opened tokens stop).stop }
+]
+
+-- those of a scan that goes on inside these open conditionals
+abbrev pub accepted_of : List Phase → Scan → Scan
+accepted_of phases s = accepted phases s.tokens s.stop
+
+-- what is left of a format: the text from a place on, inside these open conditionals, the innermost first
+pub record Unread : Type 0 where
+  pub place : ℕ
+  pub text : List ℕ
+  pub phases : List Phase
+
+-- the tokens that are left, as far as they may stand where they do
+abbrev pub left_of : Unread → Scan
+left_of unread = accepted_of unread.phases (scan 0 unread.place unread.text)
+
+-- the token at the front of a text, and the text after it
+abbrev pub front_of : List ℕ → Front Token
+front_of [] = None
+front_of (b ∷ after) = first_token b after
+
 -- where a format is stuck
 unfoldable pub stuck_place : List ℕ → Option ℕ
 stuck_place format = refusal [] (scan_of format).tokens (scan_of format).stop

@@ -6,8 +6,7 @@ use Rattle.ti_source.specs.Sound.{IsRising}
 use Rattle.ti_meaning.specs.Dependents.{work}
 use Rattle.ti_meaning.specs.Owner.{owner_block}
 use Rattle.ti_meaning.specs.Expansion.{Mention, expansion}
-use Rattle.ti_meaning.specs.Reaching.{used_name, Uses}
-use Rattle.ti_meaning.specs.inside.Reaching.{leads_to}
+use Rattle.ti_meaning.specs.Reaching.{used_name, Uses, leads_to}
 use Rattle.ti_meaning.specs.Faults.{use_fault}
 use Rattle.ti_meaning.specs.Usable.{IsUsable}
 use Rattle.ti_meaning.specs.UseLaws.{AreFound, HaveOneNumber}

@@ -7,7 +7,7 @@ use Rattle.std.specs.declared.alloc.Global.{Global}
 use Rattle.ti_source.specs.Reading.{item_of}
 use Rattle.ti_source.specs.declared.parsing.Item.{Item}
 use Rattle.ti_meaning.specs.Owner.{is_among}
-use Rattle.ti_meaning.specs.inside.Reaching.{any_use}
+use Rattle.ti_meaning.specs.Reaching.{any_use}
 use Rattle.ti_index.specs.declared.names.NameIndex.{NameIndex}
 use Rattle.ti_index.specs.Names.{mentions_at, HasHolderRoom, HasUserRoom, IsForgotten, IsSeenSame, KeepsCapacity}
 

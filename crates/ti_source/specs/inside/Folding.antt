@@ -1,11 +1,8 @@
--- The folded text of a block, computed (own).
+-- The folded text of a block, computed, and the law that it is that of `Folding` (own).
 use Rattle.ti_text.specs.Ascii as ascii
 use Rattle.std.specs.Prelude.{◌≡◌, ℕ, ◌+◌, Bool, true, false, ◌||◌, ◌&&◌, ◌==◌, if◌then◌else◌, List, [], ◌∷◌}
 use Rattle.ti_text.specs.WhiteSpace.{is_white_space}
-
--- a byte, and the line that it stands on
-abbrev pub PlacedByte : Type 0
-PlacedByte = ℕ × ℕ
+use Rattle.ti_source.specs.Folding.{PlacedByte, Folds}
 
 -- the bytes of a text that begins on a line
 abbrev pub bytes_on_lines : ℕ → List ℕ → List PlacedByte
@@ -35,6 +32,11 @@ without_breaks joining (x ∷ xs) =
 -- the folded text of a block: comments are left out first, then line breaks; a newline stands before a block, and its lines are counted from 1
 abbrev pub folding_of : List ℕ → List PlacedByte
 folding_of block = without_breaks false (without_comments false ascii.newline (bytes_on_lines 1 block))
+
+-- a block has the folded text that is computed, and no other
+pub record FoldingIsComputed : Type 0 where
+  pub folds : (block : List ℕ) → Folds block (folding_of block)
+  pub only : (block : List ℕ) (text : List PlacedByte) → Folds block text → text ≡ folding_of block
 
 -- what stands behind the first line of a text
 abbrev pub after_line : List ℕ → List ℕ

@@ -1,4 +1,4 @@
--- The value of a number, computed, and the laws that it is that of `Numbers` (own).
+-- The value of a number, computed, and the law that it is that of `Numbers` (own).
 use Rattle.ti_text.specs.Ascii as ascii
 use Rattle.ti_text.specs.Ascii.{byte_of}
 use Rattle.std.specs.Prelude.{◌≡◌, ℕ, ◌||◌, ◌==◌, nat_le, nat_lt, if◌then◌else◌, List, [], ◌∷◌, Option, Some, None, Result, Ok, Err}
@@ -33,10 +33,7 @@ within_limit (Some value) = if nat_le value number_max then Ok value else Err To
 abbrev pub number_read : List ℕ → Result ℕ NumberError
 number_read text = within_limit (value_read (without_trailing_space text))
 
--- each text reads as `number_read` says
-abbrev pub EachTextIsRead : Type 0
-EachTextIsRead = (text : List ℕ) → ReadsAs text (number_read text)
-
--- no text reads as anything else
-abbrev pub NumbersHaveOneReading : Type 0
-NumbersHaveOneReading = (text : List ℕ) (r : Result ℕ NumberError) → ReadsAs text r → number_read text ≡ r
+-- a text reads as what is computed, and as nothing else
+pub record NumbersAreComputed : Type 0 where
+  pub reads : (text : List ℕ) → ReadsAs text (number_read text)
+  pub only : (text : List ℕ) (r : Result ℕ NumberError) → ReadsAs text r → number_read text ≡ r

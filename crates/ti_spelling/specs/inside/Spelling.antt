@@ -1,17 +1,16 @@
--- What a text spells, computed, and the laws that join this to the relations of `Spelling` (own).
+-- What a text spells, computed, and the law that joins this to the relations of `Spelling` (own).
 --   unescape_result raw  what the text spells, `Ok (bytes, odd)`, or its first fault
 --   GivesUnescaped       an answer of `unescape` is that, or Memory where the text spells something
--- The laws: UnescapedAgrees, ValuesAreSound, WrittenReadsBack.
-use Rattle.std.specs.Prelude.{◌≡◌, ℕ, zero, suc, ◌+◌, ◌-◌, ◌≤◌, ◌==◌, Bool, true, false, not, ◌&&◌, ◌||◌, ◌↔◌, if◌then◌else◌, nat_le, List, [], ◌∷◌, length}
+-- The law: UnescapedAgrees.
+use Rattle.std.specs.Prelude.{◌≡◌, ℕ, zero, suc, ◌+◌, ◌-◌, ◌==◌, Bool, true, false, not, ◌&&◌, ◌||◌, ◌↔◌, if◌then◌else◌, nat_le, List, [], ◌∷◌, length}
 use Rattle.std.specs.Prelude.{bit_and, IsOk}
 use Rattle.std.specs.Prelude.{Option, Some, None, Result, Ok, Err}
 use Rattle.ti_text.specs.Ascii as ascii
-use Rattle.ti_text.specs.Texts.{HasNoNul, AreBytes}
 use Rattle.ti_spelling.specs.declared.spelling.UnescapeError.{UnescapeError}
 use Rattle.ti_spelling.specs.declared.spelling.UnescapeError.TheVariants.{BadOctal, BadControl, BadByte, Memory}
 use Rattle.ti_spelling.specs.declared.spelling.Unescaped.{Unescaped}
 use Rattle.ti_spelling.specs.declared.spelling.Piece.{Piece}
-use Rattle.ti_spelling.specs.Spelling.{Fails, Spells, is_octal_digit, is_percent, named_escape, not_nul, octal_digits, octal_value, spelling_of}
+use Rattle.ti_spelling.specs.Spelling.{Fails, Spells, is_octal_digit, is_percent, named_escape, not_nul, octal_digits, octal_value}
 use Rattle.std.specs.Prelude.{◌≡◌, ℕ, ◌<◌, Bool, false, ◌||◌, List, [], ◌++◌, length, Option, Some, None, Result, Ok, Err}
 use Rattle.ti_spelling.specs.declared.spelling.Pieces.{Pieces}
 
@@ -92,20 +91,6 @@ pub record IsUnescapeComputed (raw : List ℕ) : Type 0 where
 -- of every text, the value that it spells and its first fault are exactly what `unescape_result` gives
 abbrev pub UnescapedAgrees : Type 0
 UnescapedAgrees = (raw : List ℕ) → IsUnescapeComputed raw
-
--- what is known of a value by its text alone
-pub record IsValueOf (raw value : List ℕ) : Type 0 where
-  pub no_nul : HasNoNul value
-  pub no_longer : length value ≤ length raw
-  pub bytes : AreBytes raw → AreBytes value
-
--- a value has no NUL, is no longer than the text that spells it, and is of bytes where that is
-abbrev pub ValuesAreSound : Type 0
-ValuesAreSound = (raw value : List ℕ) (odd : Bool) → unescape_result raw ≡ Ok (value, odd) → IsValueOf raw value
-
--- what is written is read back by `unescape_result`
-abbrev pub WrittenReadsBack : Type 0
-WrittenReadsBack = (value : List ℕ) → AreBytes value → HasNoNul value → unescape_result (spelling_of value) ≡ Ok (value, false)
 
 -- what is still to be read spells this
 abbrev pub left_of : Pieces → Result (List ℕ × Bool) UnescapeError

@@ -3,7 +3,7 @@ use Rattle.std.specs.List.{flat_map}
 use Rattle.std.proofs.lemmas.List.{take_all}
 use Rattle.std.proofs.lemmas.Grind.{common_steps}
 use Rattle.ti_meaning.specs.Report.{report_line}
-use Rattle.ti_meaning.specs.inside.Bounds.{IsPlaced}
+use Rattle.ti_meaning.specs.Usable.{IsPlaced}
 use Rattle.ti_meaning.specs.Faults.{fault_seen}
 use Rattle.ti_slots.specs.Slots.{slot_texts}
 use Rattle.ti_plan.proofs.ItemLists.{All-map_item, map-take_item}

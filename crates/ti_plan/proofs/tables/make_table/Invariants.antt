@@ -1,7 +1,7 @@
 use Rattle.std.proofs.Common.{◌≡◌, ◌+◌, map, take}
 use Rattle.ti_source.specs.Reading.{item_of}
 use Rattle.ti_layout.specs.Values.{contents}
-use Rattle.ti_meaning.specs.inside.ValueTables.{IsTableOfItems}
+use Rattle.ti_meaning.specs.ValueTables.{IsTableOfItems}
 use Rattle.ti_slots.specs.Slots.{blocks_of}
 use Rattle.ti_plan.proofs.tables.make_table.Given as goal
 

@@ -4,9 +4,8 @@ use Rattle.ti_relisting.proofs.entries.relative_sources_compile_back.Goals as go
 pub returns : goal.returns
 returns c =
     let known : AreKnown = record {
-      agrees = c.one_outcome.ensures.computed;
       sound = c.one_outcome.ensures.values;
-      computed = c.one_reading.ensures.computed;
+      computed = c.one_reading.ensures.each;
       well_read = c.each_is_well_read.ensures;
       read = c.images_are_read.ensures;
       one = c.one_reading-2.ensures;

@@ -1,5 +1,5 @@
 use Rattle.std.proofs.Common.{ap, ◌∙◌}
-use Rattle.ti_source.specs.inside.Cutting.{front_of, blocks_from_head}
+use Rattle.ti_source.specs.Cutting.{front_of, blocks_from_head}
 use Rattle.ti_source.proofs.CutLemmas.{each_has_cut, length-blocks_of}
 use Rattle.ti_source.proofs.WalkLemmas.{takes_front}
 use Rattle.ti_source.proofs.cutting.blocks.Goals as goal

@@ -1,7 +1,7 @@
 use Rattle.std.proofs.Common.{◌==◌, rules, tests}
 use Rattle.std.proofs.lemmas.Iterator.Search.{all_from_yields_List}
 use Rattle.std.proofs.lemmas.Iterator.Splits.{YieldsList-from_slice_split}
-use Rattle.ti_source.specs.inside.Header.{is_lookup_name}
+use Rattle.ti_source.specs.Header.{is_lookup_name}
 use Rattle.ti_source.proofs.header.are_lookup_names.Goals as goal
 
 pub returns : goal.returns

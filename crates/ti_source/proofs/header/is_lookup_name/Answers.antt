@@ -1,6 +1,6 @@
 use Rattle.std.proofs.Common.{◌≡◌, rules}
 use Rattle.std.proofs.lemmas.Bool.Decides.{Decides-at}
-use Rattle.ti_source.specs.inside.Header.{is_lookup_name}
+use Rattle.ti_source.specs.Header.{is_lookup_name}
 use Rattle.ti_source.proofs.HeaderLemmas.{lookup_name_decides}
 use Rattle.ti_source.proofs.header.is_lookup_name.Goals as goal
 

@@ -17,7 +17,7 @@ returns-clause-computed c =
 pub returns-clause-reading : goal.returns-clause-reading
 returns-clause-reading c =
     let P : Reading → Type 0 = λ r. Parses c.args.block.now r in
-    subst P (sym (returns-clause-computed c)) (c.one_reading.ensures.computed c.args.block.now)
+    subst P (sym (returns-clause-computed c)) (c.one_reading.ensures.each c.args.block.now)
 
 pub returns-clause-sound : goal.returns-clause-sound
 returns-clause-sound c =

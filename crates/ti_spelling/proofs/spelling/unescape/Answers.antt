@@ -19,10 +19,5 @@ returns-in_err-check-clause-err c =
     let p = err_from_is_err_and c.from_residual.result c.from_residual.ensures.1 in
     rw (p.1, p.2) (answer_explains c.args.raw.now (Err c.in_err-check.field-0.0) (fault_answers c.args.raw.now c.in_err-check.field-0.0 c.in_err-check.ensures.err))
 
-pub returns-in_err-check-clause-computed : goal.returns-in_err-check-clause-computed
-returns-in_err-check-clause-computed c =
-    let p = err_from_is_err_and c.from_residual.result c.from_residual.ensures.1 in
-    rw (p.1, p.2) (fault_answers c.args.raw.now c.in_err-check.field-0.0 c.in_err-check.ensures.err)
-
 pub returns-clause-err : goal.returns-clause-err
 returns-clause-err c = answer_explains c.args.raw.now (Err Memory) c.in_ok-check.ensures.ok

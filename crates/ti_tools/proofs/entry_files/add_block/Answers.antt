@@ -5,7 +5,7 @@ use Rattle.ti_tools.proofs.Filing.{files_at-some, names_ascii, names_of_text}
 use Rattle.ti_tools.proofs.entry_files.add_block.Goals as goal
 
 pub add_files-requires : goal.add_files-requires
-add_files-requires c = names_ascii c.args.database.now _ c.args.at c.one_reading.ensures.computed c.requires c.names.ensures
+add_files-requires c = names_ascii c.args.database.now _ c.args.at c.one_reading.ensures.each c.requires c.names.ensures
 
 pub returns : goal.returns
 returns c = on_ok_weaker c.add_files.result (λ filed text is.

@@ -1,7 +1,6 @@
 use Rattle.std.proofs.Common.{◌≡◌, ◌+◌, ◌&&◌, ◌++◌, true, false, not, ℕ, List, ap, map, sym, take, ◌∙◌}
 use Rattle.std.specs.Rc.{rc_slice_items}
-use Rattle.ti_meaning.specs.Owner.{is_among, readings}
-use Rattle.ti_meaning.specs.inside.Reaching.{is_owner}
+use Rattle.ti_meaning.specs.Owner.{is_among, readings, is_owner}
 use Rattle.ti_devices.specs.Placing.{entries}
 use Rattle.ti_tools.specs.inside.EntryFiles.{is_seen}
 use Rattle.ti_tools.proofs.Filing.{All-at, files_joined, files_left-end, front_more, left_by_none, left_by_one, name_at}

@@ -1,7 +1,6 @@
 use Rattle.std.proofs.Common.{◌≡◌, ◌++◌, List, ℕ, map, take}
 use Rattle.std.specs.Rc.{rc_slice_items}
-use Rattle.ti_meaning.specs.Owner.{readings}
-use Rattle.ti_meaning.specs.inside.Reaching.{is_owner}
+use Rattle.ti_meaning.specs.Owner.{readings, is_owner}
 use Rattle.ti_tools.proofs.Filing.{files_left}
 use Rattle.ti_tools.proofs.Seeing.{AreSeen}
 use Rattle.ti_tools.specs.inside.EntryFiles.{is_seen}

@@ -1,7 +1,7 @@
 use Rattle.std.proofs.Common.{◌≡◌, ℕ, List, length, map, All, ap, sym, ◌∙◌}
 use Rattle.std.specs.List.{flat_map}
 use Rattle.ti_meaning.specs.Owner.{readings}
-use Rattle.ti_meaning.specs.inside.Bounds.{IsPlaced}
+use Rattle.ti_meaning.specs.Usable.{IsPlaced}
 use Rattle.ti_meaning.specs.Faults.{SourceFault, fault_seen, faults}
 use Rattle.ti_meaning.specs.Report.{report, report_line}
 use Rattle.ti_meaning.proofs.Bounding.{faults_placed}

@@ -1,5 +1,5 @@
 use Rattle.std.proofs.Common.{◌+◌, ◌<◌, ◌^◌, false, length}
-use Rattle.ti_source.specs.Folding.{bytes_on_lines, without_comments, without_breaks}
+use Rattle.ti_source.specs.inside.Folding.{bytes_on_lines, without_comments, without_breaks}
 use Rattle.ti_source.specs.inside.Folding.{SkipsWhiteSpace}
 use Rattle.ti_source.proofs.folding.Folded.skip_white_space.Given as goal
 

@@ -1,5 +1,5 @@
 use Rattle.std.proofs.Common.{◌<◌, length, refl, ap, ◌∙◌, rules}
-use Rattle.ti_source.specs.inside.Cutting.{front_of}
+use Rattle.ti_source.specs.Cutting.{front_of}
 use Rattle.ti_source.proofs.WalkLemmas.{takes_block, takes_run}
 use Rattle.ti_source.proofs.walk.BlocksIterator.next.Goals as goal
 

@@ -1,0 +1,69 @@
+"""The crates of the repository as crates.txt lists them: the one reader of that file.
+
+    build/crates.py        prints each crate, its group and what it depends on
+
+A line is `NAME: DEPENDENCY ..`; between the name and the colon a line may have the word
+`staticlib` (a static library) and words `KEY=VALUE`. A comment line that is the name of a
+group alone, `# product`, `# tests` or `# tools`, begins that group.
+"""
+
+import os
+
+TOP = os.path.dirname(os.path.dirname(os.path.abspath(__file__)))
+GROUPS = ("product", "tests", "tools")
+
+
+class Crate:
+    """One crate: its name, its group, what it depends on, and whether it is a static library."""
+
+    def __init__(self, name, group, needs, is_static):
+        self.name, self.group, self.needs, self.is_static = name, group, needs, is_static
+
+
+def read_crates(top=TOP):
+    """The crates by name, in the order of the file."""
+    crates, group = {}, GROUPS[0]
+    with open(os.path.join(top, "crates.txt"), encoding="utf-8") as file:
+        for line in file:
+            text, _, comment = line.partition("#")
+            if not text.strip() and comment.strip() in GROUPS:
+                group = comment.strip()
+            head, colon, needs = text.partition(":")
+            if colon:
+                name, *words = head.split()
+                crates[name] = Crate(name, group, needs.split(), "staticlib" in words)
+    return crates
+
+
+def direct_needs(crates, name):
+    """The crates of the repository that one depends on by its own line."""
+    return [need for need in crates[name].needs if need in crates]
+
+
+def all_below(crates, name):
+    """The crates of the repository that one depends on, each after those that it depends on itself."""
+    found = {}
+
+    def visit(crate):
+        for need in direct_needs(crates, crate):
+            if need not in found:
+                visit(need)
+                found[need] = None
+
+    visit(name)
+    return list(found)
+
+
+def files_of(name, top=TOP):
+    """The sources, definitions and proofs that a crate is made from, in a fixed order."""
+    found = []
+    for part in ("src", "specs", "proofs"):
+        for directory, _, files in os.walk(os.path.join(top, "crates", name, part)):
+            found += [os.path.join(directory, file) for file in files]
+    return sorted(found)
+
+
+if __name__ == "__main__":
+    for crate in read_crates().values():
+        kind = " (static library)" if crate.is_static else ""
+        print(f"{crate.group:8} {crate.name}{kind}: {' '.join(crate.needs)}")

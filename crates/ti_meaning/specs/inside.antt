@@ -1,4 +1,0 @@
--- Computed forms of what the other files define by relations, and words that only private functions and proofs use.
-pub mod Reaching
-pub mod Bounds
-pub mod ValueTables

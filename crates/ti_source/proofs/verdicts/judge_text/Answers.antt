@@ -1,0 +1,19 @@
+use Rattle.std.proofs.Common.{◌≢◌, refl, rules, tests}
+use Rattle.ti_spelling.specs.declared.spelling.UnescapeError.TheVariants.{Memory}
+use Rattle.ti_spelling.proofs.SpellingLaws.{spells_unescaped}
+use Rattle.ti_source.proofs.JudgingLaws.{caused}
+use Rattle.ti_source.proofs.verdicts.judge_text.Goals as goal
+
+pub returns-then-found : goal.returns-then-found
+returns-then-found c = rw (spells_unescaped c.in-Ok.ensures.ok, c.if-found.true, c.in_ok-text-in-Ok.ensures) refl
+
+pub keep-requires : goal.keep-requires
+keep-requires c = rw (spells_unescaped c.in-Ok.ensures.ok, c.if-found.false, c.in_ok-text-in-Ok.ensures) refl
+
+pub returns-in_ok-keep-in-Ok : goal.returns-in_ok-keep-in-Ok
+returns-in_ok-keep-in-Ok c = rw (spells_unescaped c.in-Ok.ensures.ok, c.if-found.false, c.in_ok-text-in-Ok.ensures) refl
+
+pub returns-in-Err : goal.returns-in-Err
+returns-in-Err c =
+    let other : c.in-Err.field-0 ≢ Memory = search (rules, tests) in
+    rw (caused c.args.value.now c.in-Err.field-0 other c.in-Err.ensures.err) refl

@@ -1,0 +1,203 @@
+"""Options, commands and capabilities: pages, help and completions have one set; what shells complete."""
+
+import os
+import pty
+import re
+import select
+import shutil
+import subprocess
+import tempfile
+import time
+
+from shared import HERE, PROGRAM, TOOLS, TOP, need, output, text_of, ti
+
+SHELLS = ["ti.bash", "_ti", "ti.fish"]
+# what a person types, and a candidate that must come, and one that must not
+CANDIDATES = [
+    ("ti i", "infocmp", "tic"),
+    ("ti help se", "session", "tic"),
+    ("ti tic -", "-o", "-T"),
+    ("ti tic lan", "lantern.ti", "dumb.ti"),
+    ("ti tput set", "setaf", "cup"),
+    ("ti tput -T la", "lantern3", "dumb"),
+    ("ti tput -T dumb longn", "longname", "cols"),
+    ("ti infocmp du", "dumb", "lantern3"),
+    ("ti infocmp lantern3 lantern2", "lantern2-n", "dumb"),
+    ("ti-tput -T du", "dumb", "lantern3"),
+    ("ti infocmp -A more lantern", "lantern-color", "lantern3"),
+    ("ti infocmp -A out -B more lantern3 lantern", "lantern-color", "lantern2"),
+]
+
+
+def help_of(tool):
+    return ti("help", tool) if tool else ti("--help")
+
+
+def options_of_help(tool):
+    part = help_of(tool).split("\nOptions:\n")[1].split("\n\n")[0]
+    return {word for line in part.split("\n") for word in re.findall(r"(?:^ +|, )(--?[\w-]+)", line.split("  <")[0])}
+
+
+def page_of(tool):
+    return text_of("man", f"ti-{tool}.1" if tool else "ti.1")
+
+
+def flags(line):
+    """The options that a line of macros names."""
+    found = set()
+    for part in re.findall(r"Fl ((?:-?\w[\w-]*)(?: [,|] -?\w[\w-]*)*)", line):
+        for name in re.split(r" [,|] ", part):
+            found.add("-" + name)
+    return found
+
+
+def options_of_page(tool):
+    return {it for line in page_of(tool).split("\n") if line.startswith(".It Fl ") for it in flags(line)}
+
+
+def options_of_synopsis(tool):
+    synopsis = page_of(tool).split(".Sh SYNOPSIS\n")[1].split(".Sh ")[0]
+    return {it for line in synopsis.split("\n") for it in flags(line)}
+
+
+def bash_candidates(lines, folder=None):
+    env = dict(os.environ, TERMINFO="out", TERMINFO_DIRS="none::also")
+    asked = os.path.join(TOP, "completions", "ti.bash")
+    got = output(["bash", "--norc", os.path.join(HERE, "ask.bash"), asked], "".join(it + "\n" for it in lines), cwd=folder, env=env)
+    return {line.rpartition(": ")[0]: line.rpartition(": ")[2].split() for line in got.split("\n") if line}
+
+
+def fish_candidates(lines, folder=None):
+    env = dict(os.environ, TERMINFO="out", TERMINFO_DIRS="none::also", HOME=folder or "/nonexistent")
+    found = {}
+    for line in lines:
+        script = f"source {TOP}/completions/ti.fish; complete -C '{line}'"
+        got = output(["fish", "--no-config", "-c", script], cwd=folder, env=env)
+        found[line] = [it.split("\t")[0] for it in got.split("\n") if it]
+    return found
+
+
+class Zsh:
+    """An interactive zsh, asked for candidates by the key Tab; a compadd of ours writes each into a
+    file, and the key what the last word has become."""
+
+    def __init__(self, folder):
+        self.asked = os.path.join(folder, "asked")
+        with open(os.path.join(folder, ".zshrc"), "w", encoding="utf-8") as file:
+            file.write(f"asked={self.asked} PS1=\nfpath=({TOP}/completions $fpath)\nautoload -U compinit; compinit -u -D\n")
+            file.write("zle -N ask; ask() { zle complete-word; print -rl -- ${${(z)BUFFER}[-1]} done. >>$asked }; bindkey '^I' ask\n")
+            file.write("compadd() {\n  local -a hits\n  [[ ${@[1,(i)(-|--)]} == *-[OAD]\\ * ]] || {\n")
+            file.write("    builtin compadd -A hits \"$@\"\n    print -rl -- $hits >>$asked\n  }\n  builtin compadd \"$@\"\n}\n")
+            file.write("print done. >>$asked\n")
+        self.pid, self.terminal = pty.fork()
+        if self.pid == 0:
+            os.chdir(folder)
+            os.environ.update(TERM="dumb", TERMINFO="out", ZDOTDIR=folder)
+            os.execvp("zsh", ["zsh", "-i", "--no-globalrcs"])
+        self.answer("")
+
+    def answer(self, typed):
+        """What zsh has written into the file once it has done with what was typed."""
+        os.write(self.terminal, typed.encode())
+        end, said = time.monotonic() + 30, ""
+        while not said.endswith("done.\n"):
+            if time.monotonic() > end:
+                raise OSError(f"zsh does not answer: {said!r}")
+            if select.select([self.terminal], [], [], 0.02)[0]:
+                os.read(self.terminal, 65536)
+            if os.path.isfile(self.asked):
+                with open(self.asked, encoding="utf-8") as file:
+                    said = file.read()
+        os.remove(self.asked)
+        return said.split("\n")[:-2]
+
+    def candidates(self, line):
+        return self.answer(f"\x15{line}\t")
+
+    def close(self):
+        os.write(self.terminal, b"\x15exit\n")
+        os.close(self.terminal)
+        os.waitpid(self.pid, 0)
+
+
+def with_entries(check):
+    """Runs a check in a folder in which the examples lie and are compiled."""
+    with tempfile.TemporaryDirectory(prefix="ti-package-") as folder:
+        for name in ("dumb.ti", "lantern.ti"):
+            shutil.copy(os.path.join(TOP, "examples", name), folder)
+            subprocess.run([PROGRAM, "tic", "-o", "out", name], cwd=folder, check=True)
+        os.makedirs(os.path.join(folder, "more", "l"))
+        shutil.copy(os.path.join(folder, "out", "l", "lantern-color"), os.path.join(folder, "more", "l"))
+        yield from check(folder)
+
+
+def faults_of_candidates(shell, found):
+    for line, wanted, other in CANDIDATES:
+        got = found.get(line, [])
+        if wanted not in got or other in got:
+            yield f"{shell}: candidates of {line!r} are {got[:20]}, wanted {wanted!r} and not {other!r}"
+
+
+def check_bash():
+    need("bash")
+    yield from with_entries(lambda folder: faults_of_candidates("bash", bash_candidates([it[0] for it in CANDIDATES], folder)))
+
+
+def check_fish():
+    need("fish")
+    yield from with_entries(lambda folder: faults_of_candidates("fish", fish_candidates([it[0] for it in CANDIDATES], folder)))
+
+
+def check_zsh():
+    need("zsh")
+
+    def asked(folder):
+        zsh = Zsh(folder)
+        try:
+            found = {line: zsh.candidates(line) for line, _, _ in CANDIDATES}
+        finally:
+            zsh.close()
+        yield from faults_of_candidates("zsh", found)
+
+    yield from with_entries(asked)
+
+
+def check_options():
+    for tool in ["", *TOOLS]:
+        name = f"ti {tool}".strip()
+        helped = options_of_help(tool)
+        for where, got in (("page", options_of_page(tool)), ("synopsis", options_of_synopsis(tool) | {"-h", "--help"})):
+            if got != helped and not (tool == "" and where == "synopsis"):
+                yield f"{name}: the {where} has {sorted(got)}, the help {sorted(helped)}"
+        if shutil.which("bash"):
+            got = set(bash_candidates([f"{name} -"])[f"{name} -"])
+            if got != helped:
+                yield f"{name}: completion in bash has {sorted(got)}, the help {sorted(helped)}"
+        if shutil.which("fish"):
+            got = {it for found in fish_candidates([f"{name} -", f"{name} --"]).values() for it in found}
+            if got != helped:
+                yield f"{name}: completion in fish has {sorted(got)}, the help {sorted(helped)}"
+        zsh = text_of("completions", "_ti")
+        part = zsh.split("\n_ti() {")[1] if tool == "" else zsh.split(f"        {tool})\n")[1].split(";;")[0]
+        got = set(re.findall(r"'(?:\([^)]*\))?(--?[\w-]+)\[", part)) | set(re.findall(r"(?<=[{,])--?[\w-]+(?=[},])", part))
+        if got != helped:
+            yield f"{name}: completion in zsh has {sorted(got)}, the help {sorted(helped)}"
+    commands = set(re.findall(r"^  (\w+)  ", help_of("").split("Commands:\n")[1].split("\n\n")[0], re.M))
+    if commands != {*TOOLS, "help"}:
+        yield f"the tools are {sorted(commands)}"
+    requests = re.findall(r"^  (\w) ", help_of("session").split("from 0:\n")[1].split("\nAn edit")[0], re.M)
+    shown = re.findall(r"^\.It Ic (\w)(?: Ar|$)", page_of("session"), re.M)
+    if requests != shown:
+        yield f"the page of session has the requests {shown}, the help {requests}"
+    yield from capability_faults()
+
+
+def capability_faults():
+    with tempfile.TemporaryDirectory(prefix="ti-package-") as folder:
+        output([PROGRAM, "tic", "-o", folder], "empty|no capability,\n")
+        absent = output([PROGRAM, "infocmp", "-n", "-s", "d", "-A", folder, "-B", folder, "empty", "empty"])
+    known = re.findall(r"^\t!(\w+)\.$", absent, re.M)
+    for name in SHELLS:
+        part = re.search(r"_ti_capabilities(?:='|=\(|\n    string split ' ' -- \\\n)(.*?)(?:'\n\n|\)\n|\nend)", text_of("completions", name), re.S)
+        if re.findall(r"\w+", part[1]) != known:
+            yield f"{name}: its capabilities are not the {len(known)} of the program"

@@ -1,0 +1,73 @@
+"""What `make install` and `make dist` make."""
+
+import os
+import shutil
+import subprocess
+import tarfile
+import tempfile
+
+from shared import PAGES, TOP, Skipped, files_below, need, output
+
+
+def check_install():
+    need("make")
+    with tempfile.TemporaryDirectory(prefix="ti-package-") as folder:
+        words = ["make", "-s", f"DESTDIR={folder}", "PREFIX=/usr", "TOOLS=1"]
+        said = output([*words, "install"], cwd=TOP)
+        if said:
+            yield f"make install says {said!r}"
+        here = lambda *parts: os.path.join(folder, "usr", *parts)
+        installed = files_below(folder)
+        wanted = ["usr/bin/ti", "usr/bin/ti-infocmp", "usr/bin/ti-tic", "usr/bin/ti-tput"]
+        wanted += ["usr/share/bash-completion/completions/ti", "usr/share/fish/vendor_completions.d/ti.fish"]
+        wanted += ["usr/share/zsh/site-functions/_ti", "usr/share/man/man7/ti-report.7"]
+        wanted += [f"usr/share/man/man1/{it}" for it in PAGES if it.endswith(".1")]
+        wanted += [f"usr/share/doc/ti/examples/{it}" for it in os.listdir(os.path.join(TOP, "examples"))]
+        for name in sorted(set(wanted) - set(installed)):
+            yield f"make install puts no {name}"
+        env = {"PATH": here("bin") + ":/usr/bin:/bin", "TERMINFO": os.path.join(folder, "out")}
+        script = "ti tic dumb.ti && ti-tic -o again dumb.ti && cmp $TERMINFO/d/dumb again/d/dumb &&"
+        script += " ti-tput -T dumb cols && ti-infocmp dumb | head -n 1; ti-tput -T dumb bw; echo $?;"
+        # a link of another name in another folder
+        script += " ln -s usr/bin/ti-tput tput && ./tput -T dumb cols"
+        shutil.copy(os.path.join(TOP, "examples", "dumb.ti"), folder)
+        got = output(["sh", "-c", script], cwd=folder, env=env)
+        if got != "80\ndumb|80-column dumb tty,\n1\n80\n":
+            yield f"the installed program gives {got!r}"
+        before = set(files_below(folder)) - set(installed)
+        output([*words, "uninstall"], cwd=TOP)
+        for name in sorted(set(files_below(folder)) - before):
+            yield f"make uninstall leaves {name}"
+
+
+def unpacked(folder):
+    """Makes the tarball and unpacks it; gives the folder that it holds."""
+    need("git")
+    copy = os.path.join(folder, "copy")
+    if subprocess.run(["git", "clone", "-q", "--no-hardlinks", TOP, copy], stderr=subprocess.DEVNULL).returncode:
+        raise Skipped("this is no repository of git")
+    name = output(["make", "-s", "dist"], cwd=copy).strip()
+    with tarfile.open(os.path.join(copy, name)) as packed:
+        packed.extractall(folder)
+    return os.path.join(folder, name[: -len(".tar.gz")]), copy
+
+
+def check_tarball():
+    with tempfile.TemporaryDirectory(prefix="ti-package-") as folder:
+        made, copy = unpacked(folder)
+        tracked = output(["git", "ls-files"], cwd=copy).split("\n")[:-1]
+        packed = sorted(it for it in tracked if os.path.lexists(os.path.join(made, it)))
+        if sorted(tracked) != packed:
+            yield f"the tarball lacks {sorted(set(tracked) - set(packed))[:5]}"
+        if not os.access(os.path.join(made, "ti"), os.X_OK):
+            yield "the tarball's ti cannot be run"
+
+
+def check_tarball_builds():
+    need("rt")
+    with tempfile.TemporaryDirectory(prefix="ti-package-") as folder:
+        made, _ = unpacked(folder)
+        subprocess.run(["./ti", "tic", "-o", "out", "examples/dumb.ti"], cwd=made, check=True)
+        size = os.path.getsize(os.path.join(made, "out", "d", "dumb"))
+        if size != 308:
+            yield f"out/d/dumb has {size} bytes"

@@ -1,0 +1,158 @@
+"""The packages and archives of a release, made from the built program."""
+
+import filecmp
+import os
+import re
+import shutil
+import subprocess
+import tempfile
+
+from shared import PAGES, TOP, Skipped, files_below, need, output, text_of, ti
+
+MAKER = os.path.join(TOP, "build", "packages.py")
+# what a user does with the program of a package, and what that prints
+SCRIPT = """ti tic -o out dumb.ti && ti-tic -o again dumb.ti && cmp out/d/dumb again/d/dumb &&
+TERMINFO=out ti infocmp dumb | head -n 1 && TERMINFO=out ti tput -T dumb cols &&
+printf 'i 0\\nx,\\n.\\nf\\n' | ti session"""
+PRINTED = "dumb|80-column dumb tty,\n80\nok\n.\n"
+
+
+def version():
+    return text_of("VERSION").strip()
+
+
+def check_version():
+    """Whether help, pages, changes and the header of the library have the version of the file VERSION."""
+    if f" {version()}" not in ti("--help").split("\n", 1)[0]:
+        yield f"the first line of help is {ti('--help').split(chr(10), 1)[0]!r}"
+    for page in sorted(os.listdir(os.path.join(TOP, "man"))):
+        if f".Os ti {version()}\n" not in text_of("man", page):
+            yield f"{page} has no line .Os ti {version()}"
+    newest = re.search(r"^## \[?(\d[\w.]*)", text_of("CHANGELOG.md"), re.M)
+    if not newest or newest[1] != version():
+        yield f"the newest version of CHANGELOG.md is {newest and newest[1]}"
+    header = os.path.join(TOP, "include", "ti.h")
+    if os.path.exists(header) and f'"{version()}"' not in text_of("include", "ti.h"):
+        yield f'include/ti.h does not have "{version()}"'
+
+
+def make(what, directory):
+    """Makes packages or archives of the built program into a directory. Gives their names."""
+    done = subprocess.run(
+        [MAKER, what, directory], stdin=subprocess.DEVNULL, stdout=subprocess.PIPE,
+        stderr=subprocess.STDOUT, text=True, check=False,
+    )
+    if done.returncode:
+        raise OSError(f"{what}: {done.stdout}")
+    return sorted(os.listdir(directory))
+
+
+def made_twice(what, room):
+    """Makes packages or archives twice. Gives the directory of one, and what differs in the other."""
+    first, second = os.path.join(room, "first"), os.path.join(room, "second")
+    names = make(what, first)
+    if make(what, second) != names:
+        return first, names, ["other files"]
+    differ = filecmp.cmpfiles(first, second, names, shallow=False)
+    return first, names, [*differ[1], *differ[2]]
+
+
+def program_faults(what, directory, path):
+    """What is wrong with the program of an unpacked package or archive, run by a user's script."""
+    room = os.path.join(directory, "room")
+    os.mkdir(room)
+    shutil.copy(os.path.join(TOP, "examples", "dumb.ti"), room)
+    got = output(["sh", "-c", SCRIPT], cwd=room, env={"PATH": f"{path}:/usr/bin:/bin"})
+    if got != PRINTED:
+        yield f"the program of {what} prints {got!r}"
+
+
+def check_deb():
+    """Whether the Debian packages are the same each time, run unpacked, and please lintian."""
+    need("dpkg-deb")
+    need("dpkg-shlibdeps")
+    need("git")
+    with tempfile.TemporaryDirectory(prefix="ti-package-") as room:
+        made, names, differ = made_twice("deb", room)
+        for name in differ:
+            yield f"{name} is not the same the second time"
+        for name in names:
+            unpacked = os.path.join(room, name.split("_")[0])
+            output(["dpkg-deb", "-x", os.path.join(made, name), unpacked])
+            if name.startswith("ti_"):
+                pages = [it for it in files_below(unpacked) if "/man/man" in it]
+                if len(pages) != len(PAGES):
+                    yield f"{name} has the pages {pages}"
+                yield from program_faults(name, unpacked, os.path.join(unpacked, "usr", "bin"))
+        need("lintian")
+        for name in names:
+            words = ["lintian", "--allow-root", "--no-tag-display-limit", os.path.join(made, name)]
+            for line in output(words).split("\n"):
+                if re.match("[EW]: ", line):
+                    yield line
+
+
+def check_deb_in_chroot():
+    """Whether the package installs, runs and goes away again in a system of its own."""
+    need("debootstrap")
+    need("dpkg-shlibdeps")
+    if os.geteuid() != 0:
+        raise Skipped("a chroot takes root's rights")
+    with tempfile.TemporaryDirectory(prefix="ti-package-") as room:
+        made, system = os.path.join(room, "made"), os.path.join(room, "system")
+        name = next(it for it in make("deb", made) if it.startswith("ti_"))
+        release = re.search(r"VERSION_CODENAME=(\w+)", bytes_of_system())
+        words = ["debootstrap", "--variant=minbase", release[1] if release else "stable", system]
+        if subprocess.run(words, stdout=subprocess.DEVNULL, stderr=subprocess.DEVNULL, check=False).returncode:
+            raise Skipped("debootstrap could make no system here")
+        yield from chroot_faults(system, os.path.join(made, name))
+
+
+def bytes_of_system():
+    with open("/etc/os-release", encoding="utf-8") as file:
+        return file.read()
+
+
+def chroot_faults(system, package):
+    """What is wrong with a package in a system: installing, running, removing, purging."""
+    shutil.copy(package, os.path.join(system, "ti.deb"))
+    shutil.copy(os.path.join(TOP, "examples", "dumb.ti"), system)
+    before = set(files_below(os.path.join(system, "usr")))
+
+    def run(script):
+        return output(["chroot", system, "sh", "-c", script], env={"PATH": "/usr/sbin:/usr/bin:/sbin:/bin"})
+
+    said = run("dpkg -i ti.deb >log 2>&1 || cat log")
+    if said:
+        yield f"dpkg -i says {said!r}"
+    got = run(SCRIPT)
+    if got != PRINTED:
+        yield f"the installed program prints {got!r}"
+    for action in ("--remove", "--purge"):
+        run(f"dpkg {action} ti")
+    left = set(files_below(os.path.join(system, "usr"))) - before
+    if left:
+        yield f"after a purge there are {sorted(left)[:5]}"
+
+
+def check_release():
+    """Whether the archives are the same each time, and install.sh installs what runs, and takes it away."""
+    need("git")
+    with tempfile.TemporaryDirectory(prefix="ti-package-") as room:
+        made, names, differ = made_twice("release", room)
+        for name in differ:
+            yield f"{name} is not the same the second time"
+        said = output(["sha256sum", "-c", "SHA256SUMS"], cwd=made)
+        if said.count(": OK\n") != len(names) - 1:
+            yield f"SHA256SUMS: {said!r}"
+        archive = next(it for it in names if it.endswith("-linux.tar.gz"))
+        output(["tar", "xf", os.path.join(made, archive)], cwd=room)
+        script = os.path.join(room, archive.removesuffix(".tar.gz"), "install.sh")
+        env = {"PATH": "/usr/bin:/bin", "DESTDIR": os.path.join(room, "stage"), "PREFIX": "/usr"}
+        said = output([script], env=env)
+        if said:
+            yield f"install.sh says {said!r}"
+        yield from program_faults(archive, room, os.path.join(room, "stage", "usr", "bin"))
+        output([script, "uninstall"], env=env)
+        if files_below(os.path.join(room, "stage")):
+            yield f"install.sh uninstall leaves {files_below(os.path.join(room, 'stage'))[:5]}"

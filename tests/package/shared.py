@@ -1,0 +1,25 @@
+"""What the checks of the package share."""
+
+import os
+import subprocess
+import sys
+
+HERE = os.path.dirname(os.path.abspath(__file__))
+sys.path.insert(0, os.path.dirname(HERE))
+from common import PROGRAM, TOP, Skipped, files_below, need, text_of  # noqa: E402, F401
+
+TOOLS = ["tic", "infocmp", "tput", "session"]
+PAGES = ["ti.1", *(f"ti-{tool}.1" for tool in TOOLS), "ti-report.7"]
+
+
+def output(words, stdin="", **more):
+    done = subprocess.run(words, input=stdin.encode(), stdout=subprocess.PIPE, stderr=subprocess.STDOUT, timeout=100, **more)
+    return done.stdout.decode(errors="replace")
+
+
+def ti(*words):
+    return output([PROGRAM, *words])
+
+
+def help_of(tool):
+    return ti("help", tool) if tool else ti("--help")
