@@ -7,10 +7,13 @@
 #   make package    whether pages, completions, install and packages are in order
 #   make hostile    malicious inputs of full size, and 20,000 made at random
 #   make wrong-bodies   the further wrong bodies, which the prover must refuse too
+#   make library    builds the C library: libti.a, libti.so.1 and ti.pc
 #   make bench      counts and times the tools beside ncurses's, and edits of long lists
 #   make install    puts the program, its pages, completions and examples below
 #                   DESTDIR and PREFIX (which is /usr/local); with TOOLS=1 also
-#                   ti-tic, ti-infocmp and ti-tput
+#                   ti-tic, ti-infocmp and ti-tput; the C library too, if it is made
+#   make install-library   the C library alone, with its header and page, into
+#                   LIBDIR and INCLUDEDIR
 #   make uninstall  takes all of that away again
 #   make dist       makes ti-VERSION.tar.gz of the last commit, which builds
 #   make deb        makes Debian packages of the built program, in packages/
@@ -24,14 +27,21 @@ BASHDIR ?= $(PREFIX)/share/bash-completion/completions
 ZSHDIR ?= $(PREFIX)/share/zsh/site-functions
 FISHDIR ?= $(PREFIX)/share/fish/vendor_completions.d
 EXAMPLESDIR ?= $(PREFIX)/share/doc/ti/examples
+LIBDIR ?= $(PREFIX)/lib
+INCLUDEDIR ?= $(PREFIX)/include
 VERSION := $(shell cat VERSION)
 
 PROGRAM = crates/ti/out/ti
 EXAMPLES = $(wildcard examples/*)
 PAGES = man/ti.1 man/ti-tic.1 man/ti-infocmp.1 man/ti-tput.1 man/ti-session.1 man/ti-report.7
 TOOL_NAMES = ti-tic ti-infocmp ti-tput
+LIBRARY = crates/ti_c/out/lib
+LIBRARY_FILES = $(INCLUDEDIR)/ti.h $(LIBDIR)/libti.a $(LIBDIR)/libti.so.1 $(LIBDIR)/libti.so \
+	$(LIBDIR)/pkgconfig/ti.pc $(MANDIR)/man3/ti.3
+PC_VALUES = -e 's|@PREFIX@|$(PREFIX)|' -e 's|@LIBDIR@|$(LIBDIR)|' -e 's|@INCLUDEDIR@|$(INCLUDEDIR)|'
 
-.PHONY: all test cli integration package hostile wrong-bodies bench install uninstall dist deb release reproduce
+.PHONY: all test cli integration package hostile wrong-bodies library bench
+.PHONY: install install-library uninstall uninstall-library dist deb release reproduce
 
 all:
 	./ti --help >/dev/null
@@ -54,6 +64,10 @@ hostile: all
 
 wrong-bodies:
 	tests/wrong-bodies
+
+library:
+	python3 build/library.py
+	sed $(PC_VALUES) include/ti.pc.in >$(LIBRARY)/ti.pc
 
 bench: all
 	python3 build/build.py ti_bench
@@ -80,8 +94,20 @@ ifeq ($(TOOLS),1)
 		ln -sf ti.fish "$(DESTDIR)$(FISHDIR)/$$tool.fish"; \
 	done
 endif
+	if test -f $(LIBRARY)/libti.a; then $(MAKE) -s install-library; fi
 
-uninstall:
+install-library:
+	test -f $(LIBRARY)/libti.a || $(MAKE) library
+	install -d "$(DESTDIR)$(INCLUDEDIR)" "$(DESTDIR)$(LIBDIR)/pkgconfig" "$(DESTDIR)$(MANDIR)/man3"
+	install -m 644 include/ti.h "$(DESTDIR)$(INCLUDEDIR)/ti.h"
+	install -m 644 $(LIBRARY)/libti.a "$(DESTDIR)$(LIBDIR)/libti.a"
+	install -m 755 $(LIBRARY)/libti.so.1 "$(DESTDIR)$(LIBDIR)/libti.so.1"
+	ln -sf libti.so.1 "$(DESTDIR)$(LIBDIR)/libti.so"
+	sed $(PC_VALUES) include/ti.pc.in >"$(DESTDIR)$(LIBDIR)/pkgconfig/ti.pc"
+	chmod 644 "$(DESTDIR)$(LIBDIR)/pkgconfig/ti.pc"
+	install -m 644 man/ti.3 "$(DESTDIR)$(MANDIR)/man3/ti.3"
+
+uninstall: uninstall-library
 	rm -f "$(DESTDIR)$(BINDIR)/ti"
 	for page in $(PAGES); do \
 		rm -f "$(DESTDIR)$(MANDIR)/man$${page##*.}/$${page##*/}"; \
@@ -92,6 +118,9 @@ uninstall:
 	for tool in $(TOOL_NAMES); do \
 		rm -f "$(DESTDIR)$(BINDIR)/$$tool" "$(DESTDIR)$(BASHDIR)/$$tool" "$(DESTDIR)$(FISHDIR)/$$tool.fish"; \
 	done
+
+uninstall-library:
+	for file in $(LIBRARY_FILES); do rm -f "$(DESTDIR)$$file"; done
 
 dist:
 	git archive --format=tar.gz --prefix=ti-$(VERSION)/ -o ti-$(VERSION).tar.gz HEAD

@@ -3,7 +3,7 @@
 libraries that it depends on, several at a time, and then itself, and says on standard error which
 crate of how many is proved.
 
-    build/build.py [PROGRAM]            `ti`, if none is named
+    build/build.py [PROGRAM]            `ti`, if none is named; of a static library its archive
     build/build.py --built [PROGRAM]    notes that the program that is in its place was built from
                                         what is there now, as the gate has built it
 
@@ -174,37 +174,49 @@ def link_program(crates, name, jobs):
     return linked, said + more
 
 
-def place_of(name):
-    """Where the program of a crate is."""
-    return f"{TOP}/crates/{name}/out/{name}"
+def make_archive(crates, name, jobs):
+    """Proves a static library and compiles it. Gives whether that went well, and what was said."""
+    words = ["lib", "--crate-type", "staticlib", "--toolchain", f"{KIT}/toolchain"]
+    return prove(crates, name, jobs, *words, "-o", f"{LIBRARIES}/{file_of(crates[name])}")
 
 
-def built_from(digests, name):
+def file_of(crate):
+    """The file that is made of a program or of a static library."""
+    return f"lib{crate.name}.a" if crate.is_static else crate.name
+
+
+def place_of(crate):
+    """Where the program or the archive of a crate is."""
+    return f"{TOP}/crates/{crate.name}/out/{file_of(crate)}"
+
+
+def built_from(digests, crate):
     """What the file beside a program says if that program was built from what is there now."""
-    return f"{digests[name]} {digest(read(place_of(name)))}"
+    return f"{digests[crate.name]} {digest(read(place_of(crate)))}"
 
 
-def mark_built(digests, name):
+def mark_built(digests, crate):
     """Says beside a program that it was built from what is there now."""
-    with open(f"{place_of(name)}.sum", "w", encoding="utf-8") as file:
-        file.write(built_from(digests, name))
+    with open(f"{place_of(crate)}.sum", "w", encoding="utf-8") as file:
+        file.write(built_from(digests, crate))
 
 
-def is_built(digests, name):
+def is_built(digests, crate):
     """Whether the program that is in its place was built from what is there now."""
     try:
-        return read(f"{place_of(name)}.sum").decode() == built_from(digests, name)
+        return read(f"{place_of(crate)}.sum").decode() == built_from(digests, crate)
     except OSError:
         return False
 
 
-def place_program(digests, name):
+def place_program(digests, crate):
     """Puts a program that was just built in its place, whole, since an older one may be running."""
-    os.makedirs(os.path.dirname(place_of(name)), exist_ok=True)
-    shutil.copy(f"{LIBRARIES}/{name}", f"{place_of(name)}.new")
-    os.replace(f"{place_of(name)}.new", place_of(name))
-    if is_proved(digests, name):
-        mark_built(digests, name)
+    place = place_of(crate)
+    os.makedirs(os.path.dirname(place), exist_ok=True)
+    shutil.copy(f"{LIBRARIES}/{file_of(crate)}", f"{place}.new")
+    os.replace(f"{place}.new", place)
+    if is_proved(digests, crate.name):
+        mark_built(digests, crate)
 
 
 def tell(what):
@@ -233,12 +245,13 @@ def build(crates, program, digests, jobs, log):
         return False
     if not is_proved(digests, program):
         tell(f"proving and building crate {len(libraries) + 1} of {len(libraries) + 1}: {program}")
-        make = lambda: link_program(crates, program, min(jobs, JOBS_OF_ONE))
-        is_linked, said = prove_marked(crates, digests, program, make)
+        make_it = make_archive if crates[program].is_static else link_program
+        make = lambda: make_it(crates, program, min(jobs, JOBS_OF_ONE))
+        is_made, said = prove_marked(crates, digests, program, make)
         log.append(f"== {program}\n{said}")
-        if not is_linked:
+        if not is_made:
             return False
-    place_program(digests, program)
+    place_program(digests, crates[program])
     return True
 
 
@@ -256,7 +269,7 @@ def build_if_changed(program):
     """Builds a program unless it was built from what is there now. Gives the exit status."""
     crates, digests, log = read_crates(), {}, []
     digest_of(crates, program, digests)
-    if is_built(digests, program):
+    if is_built(digests, crates[program]):
         return 0
     jobs = count_jobs()
     if not jobs:
@@ -265,7 +278,7 @@ def build_if_changed(program):
     hold_checkout()
     digests.clear()
     digest_of(crates, program, digests)
-    if is_built(digests, program) or build(crates, program, digests, jobs, log):
+    if is_built(digests, crates[program]) or build(crates, program, digests, jobs, log):
         return 0
     print(*log, sep="", end="", file=sys.stderr, flush=True)
     tell("the build failed")
@@ -275,16 +288,20 @@ def build_if_changed(program):
 def main():
     words = [word for word in sys.argv[1:] if word != "--built"]
     program = words[0] if words else "ti"
+    crates = read_crates()
+    if program not in crates:
+        tell(f"no crate is called {program}")
+        return 1
     if not shutil.which("rt"):
-        if os.path.exists(place_of(program)):
+        if os.path.exists(place_of(crates[program])):
             return 0
         tell("cannot be built: the command rt of the Rattle toolchain is not on PATH")
         return 1
     if "--built" not in sys.argv[1:]:
         return build_if_changed(program)
     digests = {}
-    digest_of(read_crates(), program, digests)
-    mark_built(digests, program)
+    digest_of(crates, program, digests)
+    mark_built(digests, crates[program])
     return 0
 
 

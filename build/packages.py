@@ -158,6 +158,10 @@ def control(package, stage, architecture, needs):
 def split(stage, other):
     """Moves what belongs to the library into another stage. Gives whether there is anything."""
     moved = [name for name in files_below(stage) if name.removeprefix("usr/").startswith(OF_LIBRARY)]
+    # the package has the static library alone
+    for name in [name for name in moved if ".so" in os.path.basename(name)]:
+        os.remove(os.path.join(stage, name))
+        moved.remove(name)
     for name in moved:
         os.makedirs(os.path.dirname(os.path.join(other, name)), exist_ok=True)
         shutil.move(os.path.join(stage, name), os.path.join(other, name))

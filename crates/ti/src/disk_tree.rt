@@ -1,6 +1,6 @@
 //! The files of the system, as a tree.
-ghost use Rattle.std.specs.Prelude.{◌≡◌, ◌+◌};
-ghost use Rattle.ti_devices.specs.Tree.{failures_by};
+ghost use Rattle.std.specs.Prelude.{◌≡◌, ◌+◌, IfOk, option_map};
+ghost use Rattle.ti_devices.specs.Tree.{HasAtMost, failures_by};
 
 use crate::new_file::{is_absent, replace_file};
 use crate::whole::read_whole;
@@ -76,7 +76,9 @@ fn read_file<R: Files>(
     alloc: Global,
     path: &str,
     limit: usize,
-) -> io::Result<Option<Vec<u8>>> {
+) -> io::Result<Option<Vec<u8>>>
+    ensures { IfOk result (λ found. HasAtMost (limit + 1) (option_map (λ bytes. bytes.items) found)) }
+{
     match open_regular(rt, path) {
         Ok(mut file) => {
             let mut piece = [0u8; PIECE];

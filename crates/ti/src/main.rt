@@ -112,8 +112,7 @@ fn print_failure<R: Eprint>(rt: &R, tool: &str, failure: Failure) -> u8 {
 fn print_refusal<R: Print + Eprint>(rt: &R, refusal: &Refusal) -> u8 {
     match refusal {
         Refusal::Memory => print_failure(rt, "ti", Failure::Tool(ToolError::Memory)),
-        Refusal::Usage(None) => print_failure(rt, "ti", Failure::Tool(ToolError::Usage)),
-        Refusal::Usage(Some(text)) => {
+        Refusal::Usage(text) => {
             let _ = rt.eprint(text.as_str());
             2
         }

@@ -1,4 +1,6 @@
 //! Reading files and standard input whole.
+ghost use Rattle.std.specs.Prelude.{◌≤◌, ◌+◌, IfOk, length};
+
 use std::alloc::Global;
 use std::fs;
 use std::io::{self, ErrorKind, Read};
@@ -20,7 +22,9 @@ pub fn read_whole(
     reader: &mut impl Read,
     piece: &mut [u8],
     limit: usize,
-) -> io::Result<Vec<u8>> {
+) -> io::Result<Vec<u8>>
+    ensures { IfOk result (λ bytes. length bytes.items ≤ limit + 1) }
+{
     let mut bytes = Vec::new(alloc);
     for _ in 0..READS_MAX {
         let count = match reader.read(piece) {

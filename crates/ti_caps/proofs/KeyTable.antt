@@ -6,7 +6,7 @@ use Rattle.ti_caps.specs.declared.keys.TheConstants.{KEYS}
 use Rattle.ti_caps.specs.declared.tables.TheConstants.{BY_NAME}
 use Rattle.ti_caps.specs.Names.{flag_names, number_names, text_names}
 use Rattle.ti_caps.specs.Tables.{Capability, IsCapability, name_of, names}
-use Rattle.ti_caps.specs.Lookup.{NameRow, capability_numbered, row_of, by_name}
+use Rattle.ti_caps.specs.inside.Lookup.{NameRow, capability_numbered, row_of, by_name}
 use Rattle.ti_caps.specs.inside.Lookup.{IsTableRow, IsOfAnother, HasNoRow}
 use Rattle.ti_caps.specs.inside.Keys.{key_of}
 use Rattle.ti_caps.proofs.Table.{row_names}

@@ -5,7 +5,7 @@ use Rattle.std.proofs.lemmas.Slice.Eq.{bytes_eq-Decides}
 use Rattle.ti_caps.specs.declared.capability.Kind.{Kind}
 use Rattle.ti_caps.specs.declared.capability.Kind.TheVariants.{Flag, Number, Text}
 use Rattle.ti_caps.specs.Tables.{Capability, IsCapability, capability, count_of, name_of, names, EveryNameIsFound, place_of, named_in, capability_named}
-use Rattle.ti_caps.specs.Lookup.{by_name}
+use Rattle.ti_caps.specs.inside.Lookup.{by_name}
 use Rattle.ti_caps.specs.inside.Lookup.{IsTableRow}
 use Rattle.ti_caps.proofs.Table.{length-names, row_names, distinct_names}
 

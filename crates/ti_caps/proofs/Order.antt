@@ -9,7 +9,7 @@ use Rattle.std.proofs.lemmas.List.{get_or-map, length-map}
 use Rattle.std.proofs.lemmas.Map.Keys.{Less-from_sorted, sorted_from_all_adjacent}
 use Rattle.std.proofs.lemmas.Slice.Eq.{bytes_eq-Decides}
 use native.Mathlib.Numerals.{unary_clauses}
-use Rattle.ti_caps.specs.Lookup.{NameRow}
+use Rattle.ti_caps.specs.inside.Lookup.{NameRow}
 use Rattle.ti_caps.specs.inside.Lookup.{IsInNameOrder}
 
 -- texts that compare as equal are equal, and no text is below itself

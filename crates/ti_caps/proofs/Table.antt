@@ -9,7 +9,7 @@ use Rattle.ti_caps.specs.declared.capability.Kind.{Kind}
 use Rattle.ti_caps.specs.declared.capability.Kind.TheVariants.{Flag, Number, Text}
 use Rattle.ti_caps.specs.Tables.{same_kind, Capability, IsCapability, capability, count_of, name_of, names, CapabilityNamesAreDistinct}
 use Rattle.ti_caps.specs.Names.{flag_names, number_names, text_names}
-use Rattle.ti_caps.specs.Lookup.{NameRow, by_name}
+use Rattle.ti_caps.specs.inside.Lookup.{NameRow, by_name}
 use Rattle.ti_caps.specs.inside.Lookup.{IsInNameOrder, IsTableRow, HasNoRow}
 use Rattle.ti_caps.proofs.Same.{same_kind-true}
 use Rattle.ti_caps.proofs.Order.{order_from_rising, names_apart}

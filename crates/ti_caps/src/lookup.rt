@@ -2,7 +2,7 @@
 ghost use Rattle.std.specs.Prelude.{◌≡◌, ◌≢◌, ◌<◌, length, [], IfSome, IfNone};
 ghost use Rattle.std.specs.List.{slice_index_or};
 ghost use Rattle.ti_caps.specs.Tables.{Capability, IsCapability, capability, capability_named, count_of, name_of, names, EveryNameIsFound, CapabilityNamesAreDistinct};
-ghost use Rattle.ti_caps.specs.Lookup.{by_name, capability_numbered};
+ghost use Rattle.ti_caps.specs.inside.Lookup.{by_name, capability_numbered};
 ghost use Rattle.ti_caps.specs.inside.Lookup.{IsTableRow, IsOfAnother, HasNoRow, texts_of};
 
 use crate::capability::{Cap, Kind};

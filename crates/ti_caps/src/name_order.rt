@@ -1,8 +1,7 @@
 // The capabilities of each kind in the order of the bytes of their names.
 ghost use Rattle.std.specs.Prelude.{◌≡◌, map, slice_get};
 ghost use Rattle.ti_caps.specs.Tables.{capability};
-ghost use Rattle.ti_caps.specs.inside.NameOrder.{in_name_order};
-ghost use Rattle.ti_caps.specs.NameOrder.{EachKindIsInOrder};
+ghost use Rattle.ti_caps.specs.NameOrder.{EachKindIsInOrder, OrdersByNameAreOne, in_name_order};
 
 use crate::capability::{Cap, Kind};
 use crate::tables::{FLAG_COUNT, NUMBER_COUNT, TEXT_COUNT};
@@ -69,4 +68,9 @@ pub fn by_name(kind: Kind, place: usize) -> Option<Cap>
 /// The order by name has each capability of a kind, and their names rise in it, byte by byte.
 pub fn each_kind_is_in_order()
     ensures { EachKindIsInOrder }
+{}
+
+/// The capabilities of a kind have one order by name.
+pub fn orders_by_name_are_one()
+    ensures { OrdersByNameAreOne }
 {}

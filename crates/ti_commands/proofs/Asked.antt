@@ -1,5 +1,6 @@
 -- What the program's command line asks for, from what clap ensures of a parse.
-use Rattle.std.proofs.Common.{◌≡◌, ◌⊎◌, [], List, true, Err, None, Ok, refl, sym, ◌∙◌, ap, subst, inl, inr}
+use Rattle.std.proofs.Common.{◌≡◌, ◌⊎◌, [], List, true, Err, None, Some, Ok, Option, Result, IfOk, IfErr, refl, sym, ◌∙◌, ap, subst, inl, inr}
+use Rattle.std.specs.Result.{result_ok}
 use Rattle.clap.specs.Faults.{fault_of, is_simple_and_free}
 use Rattle.clap.specs.Kinds.{FailsBy, IsAmong}
 use Rattle.clap.specs.Simple.{App, HasMatchesOf, is_simple, subcommand_of, subcommand_rows_of}
@@ -7,48 +8,83 @@ use Rattle.clap.specs.Values.{kind_of}
 use Rattle.clap.specs.Walk.{Text}
 use Rattle.clap.specs.declared.error.Error.{Error}
 use Rattle.clap.specs.declared.parser.matches.ArgMatches.{ArgMatches}
-use Rattle.ti_commands.specs.Arguments.{faults_of, job_of, task_in}
-use Rattle.ti_commands.specs.Commands.{ti_app}
-use Rattle.ti_commands.specs.Jobs.{IsUsageRefusal, cause_of, refusal_of}
-use Rattle.ti_commands.specs.declared.arguments.UsageError.{UsageError}
+use Rattle.ti_commands.specs.Arguments.{Asked, asked_of, task_in}
+use Rattle.ti_commands.specs.Commands.{OfEachProgram, OfProgram, ti_app}
+use Rattle.ti_commands.specs.InfocmpWords.{IsOrders}
+use Rattle.ti_commands.specs.Jobs.{IsJobOf, IsRefusalOf, IsUsageRefusal, SaysWrong, TakesAs, cause_of, refusal_of}
+use Rattle.ti_commands.specs.Rules.{Choices}
+use Rattle.ti_commands.specs.Tasks.{Task}
+use Rattle.ti_commands.specs.inside.Jobs.{AnswersTaken}
 use Rattle.ti_commands.specs.declared.arguments.UsageError.TheVariants as usage
 use Rattle.ti_commands.specs.declared.arguments.Refusal.{Refusal}
 use Rattle.ti_commands.specs.declared.arguments.Refusal.TheVariants as refusal
+use Rattle.ti_commands.specs.declared.jobs.Job.{Job}
 
-is_program_simple : is_simple ti_app ≡ true
+is_program_simple : (orders : Choices) → is_simple (ti_app orders) ≡ true
 unfolding ti_app
-is_program_simple = refl
+is_program_simple orders = refl
 
-is_program_free : is_simple_and_free ti_app ≡ true
+is_program_free : (orders : Choices) → is_simple_and_free (ti_app orders) ≡ true
 unfolding ti_app
-is_program_free = refl
+is_program_free orders = refl
 
-pub task_in-matches : (app : App) (words : List Text) (matches : ArgMatches) → app ≡ ti_app
-    → HasMatchesOf app words matches → task_in (subcommand_rows_of matches) ≡ job_of words
-task_in-matches app words matches same has =
-    ap task_in ((has (ap is_simple same ∙ is_program_simple)).1 ∙ ap (λ (a : App). subcommand_of a words) same)
+pub asked-matches : (app : App) (words : List Text) (matches : ArgMatches) (orders : Choices) → app ≡ ti_app orders
+    → HasMatchesOf app words matches → task_in (subcommand_rows_of matches) ≡ asked_of (ti_app orders) words
+asked-matches app words matches orders same has =
+    ap task_in ((has (ap is_simple same ∙ is_program_simple orders)).1 ∙ ap (λ (a : App). subcommand_of a words) same)
 
-pub no_faults : (app : App) (words : List Text) (matches : ArgMatches) → app ≡ ti_app
-    → (is_simple_and_free app ≡ true → FailsBy {T = ArgMatches} (fault_of app words) (Ok matches)) → faults_of words ≡ []
-no_faults app words matches same fails =
-    ap (λ (a : App). fault_of a words) (sym same) ∙ fails (ap is_simple_and_free same ∙ is_program_free)
-
-pub IsUsageRefusal-of_fault : (app : App) (words : List Text) (job : _) (error : Error) (e : UsageError) → app ≡ ti_app
-    → (is_simple_and_free app ≡ true → FailsBy {T = ArgMatches} (fault_of app words) (Err error))
-    → e ≡ refusal_of (kind_of error) → IsUsageRefusal (faults_of words) job e
-IsUsageRefusal-of_fault app words job error e same fails is =
-    elim (fails (ap is_simple_and_free same ∙ is_program_free)) [
-      | inl memory ↦ inl (is ∙ ap refusal_of memory)
-      | inr among ↦ inr (inl (kind_of error, subst (λ (a : App). IsAmong (kind_of error) (fault_of a words)) same among, is))
-    ]
-
-pub IsUsageRefusal-no_job : (words : List Text) (job : _) (e : Refusal) → faults_of words ≡ [] → job ≡ job_of words
-    → (e ≡ refusal.Memory) ⊎ ((e ≡ refusal.Usage None) × (job ≡ None)) → IsUsageRefusal (faults_of words) (job_of words) (cause_of e)
-IsUsageRefusal-no_job words job e no_fault same (inl memory) = inl (ap cause_of memory)
-IsUsageRefusal-no_job words job e no_fault same (inr refused) = inr (inr (no_fault, sym same ∙ refused.1, ap cause_of refused.0))
+pub no_faults : (app : App) (words : List Text) (matches : ArgMatches) (orders : Choices) → app ≡ ti_app orders
+    → (is_simple_and_free app ≡ true → FailsBy {T = ArgMatches} (fault_of app words) (Ok matches)) → fault_of (ti_app orders) words ≡ []
+no_faults app words matches orders same fails =
+    ap (λ (a : App). fault_of a words) (sym same) ∙ fails (ap is_simple_and_free same ∙ is_program_free orders)
 
 -- what has the cause of want of memory is that
 pub memory_alone : (e : Refusal) → cause_of e ≡ usage.Memory → e ≡ refusal.Memory
 memory_alone refusal.Memory is = refl
 memory_alone (refusal.Help said) is = absurd cc
 memory_alone (refusal.Usage said) is = absurd cc
+
+-- words in which clap finds a fault are refused by it
+pub refused-fault : (app : App) (words : List Text) (error : Error) (refused : Refusal) (orders : Choices) → IsOrders orders → app ≡ ti_app orders
+    → (is_simple_and_free app ≡ true → FailsBy {T = ArgMatches} (fault_of app words) (Err error))
+    → cause_of refused ≡ refusal_of (kind_of error) → IsRefusalOf words refused
+refused-fault app words error refused orders are same fails is =
+    elim (fails (ap is_simple_and_free same ∙ is_program_free orders)) [
+      | inl memory ↦ inl (memory_alone refused (is ∙ ap refusal_of memory))
+      | inr among ↦
+          let found = subst (λ (a : App). IsAmong (kind_of error) (fault_of a words)) same among in
+          inr (orders, are, (inl (kind_of error, found, is), λ none. absurd (subst (IsAmong (kind_of error)) none found)))
+    ]
+
+-- what is answered to words that clap takes
+module _ (words : List Text) (orders : Choices) (are : IsOrders orders) (asked : Asked) (same : asked ≡ asked_of (ti_app orders) words)
+    (no_fault : fault_of (ti_app orders) words ≡ []) where
+  pub right-taken : (r : Result Job Refusal) → AnswersTaken asked r → IfOk r (λ job. OfProgram (IsJobOf words job))
+  right-taken (Ok job) is = (orders, are, (ap result_ok (sym same ∙ is), no_fault))
+  right-taken (Err refused) is = tt
+
+  pub answered-taken : (r : Result Job Refusal) → AnswersTaken asked r → (task : Task) → OfEachProgram (TakesAs words task)
+      → IfErr r (λ refused. refused ≡ refusal.Memory)
+  answered-taken (Ok job) is task takes = tt
+  answered-taken (Err refused) (inl memory) task takes = memory
+  answered-taken (Err refused) (inr wrong) task takes =
+      let bad : Some task ≡ None = sym (takes orders are).0 ∙ ap result_ok (sym same ∙ wrong.1) in absurd (cc)
+
+  pub refused-taken : (r : Result Job Refusal) → AnswersTaken asked r → IfErr r (IsRefusalOf words)
+  refused-taken (Ok job) is = tt
+  refused-taken (Err refused) (inl memory) = inl memory
+  refused-taken (Err refused) (inr wrong) =
+      let right = sym same ∙ wrong.1 in
+      inr (
+        orders,
+        are,
+        (
+          inr (no_fault, ap result_ok right, ap cause_of wrong.3),
+          λ _. subst (λ (a : Asked). SaysWrong a refused) (sym right) (subst (SaysWrong (Err wrong.0)) (sym wrong.3) wrong.4),
+        ),
+      )
+
+-- a refusal without what is said
+pub cause-refusal : (words : List Text) (refused : Refusal) → IsRefusalOf words refused → IsUsageRefusal words (cause_of refused)
+cause-refusal words refused (inl memory) = inl (ap cause_of memory)
+cause-refusal words refused (inr is) = inr (is.0, is.1, is.2.0)

@@ -1,5 +1,6 @@
 pub mod Added
 pub mod Asked
+pub mod Choices
 pub mod Rates
 pub mod Tools
 pub mod Widths

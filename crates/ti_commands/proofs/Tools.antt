@@ -1,5 +1,5 @@
 -- The command of one tool alone reads the words behind its name as the command of the program does.
-use Rattle.std.proofs.Common.{◌≡◌, ◌∙◌, Bool, Result, Ok, Err, IfOk, IfSome, true, false, codes, refl, sym, ap, ap₂, subst, List, [], ◌∷◌, length, map, get_or, nat_lt, Option, Some, None, fold, find, drop, take, ◌-◌, arith, is_some, if◌then◌else◌}
+use Rattle.std.proofs.Common.{◌≡◌, ◌∙◌, Bool, Result, Ok, Err, IfSome, true, false, codes, refl, sym, ap, ap₂, subst, List, [], ◌∷◌, length, map, get_or, nat_lt, Option, Some, None, fold, find, drop, take, ◌-◌, arith, is_some, if◌then◌else◌}
 use Rattle.std.specs.Prelude.{slice_get, option_map, unwrap_or}
 use Rattle.std.specs.Option.{option_map_or}
 use Rattle.std.specs.Result.{result_ok}
@@ -15,10 +15,15 @@ use Rattle.clap.specs.Words.{found_of, rows_of}
 use Rattle.clap.specs.declared.parser.matches.ArgMatches.{ArgMatches}
 use Rattle.clap.proofs.FaultLemmas.{leaf_fault, stopped_fault}
 use Rattle.clap.proofs.WalkLemmas.{walk_stopped}
-use Rattle.ti_commands.specs.Arguments.{faults_of, job_of, task_at, task_in}
+use Rattle.ti_commands.specs.Arguments.{Asked, asked_of, task_at, task_in}
+use Rattle.ti_commands.specs.Jobs.{task_of}
 use Rattle.ti_commands.specs.inside.Commands.{tool_app}
+use Rattle.ti_commands.specs.inside.Jobs.{Answers}
+use Rattle.ti_commands.specs.declared.jobs.Job.{Job}
+use Rattle.ti_commands.specs.declared.mistakes.NoJob.{NoJob}
 use Rattle.ti_commands.specs.Commands.{session_app, ti_app, tic_app, tput_app}
 use Rattle.ti_commands.specs.InfocmpWords.{infocmp_app}
+use Rattle.ti_commands.specs.Rules.{Choices}
 
 -- the walk that met a name as its first word, with the words behind it
 abbrev at_name : Text → List Text → Walk
@@ -55,9 +60,9 @@ record IsTool (program : App) (name : Text) (tool : App) : Type 0 where
   pub leaf : (built tool).subs ≡ []
   pub no_own_fault : own_faults (built program) true ≡ []
 
-is_tic : IsTool ti_app (codes "tic") tic_app
+is_tic : (orders : Choices) → IsTool (ti_app orders) (codes "tic") tic_app
 unfolding ti_app walked defaults_fault
-is_tic = record {
+is_tic orders = record {
   simple = refl;
   free = refl;
   program_words = λ words. refl;
@@ -70,9 +75,9 @@ is_tic = record {
   no_own_fault = refl;
 }
 
-is_tput : IsTool ti_app (codes "tput") tput_app
+is_tput : (orders : Choices) → IsTool (ti_app orders) (codes "tput") tput_app
 unfolding ti_app walked defaults_fault
-is_tput = record {
+is_tput orders = record {
   simple = refl;
   free = refl;
   program_words = λ words. refl;
@@ -85,9 +90,9 @@ is_tput = record {
   no_own_fault = refl;
 }
 
-is_session : IsTool ti_app (codes "session") session_app
+is_session : (orders : Choices) → IsTool (ti_app orders) (codes "session") session_app
 unfolding ti_app walked defaults_fault
-is_session = record {
+is_session orders = record {
   simple = refl;
   free = refl;
   program_words = λ words. refl;
@@ -100,9 +105,9 @@ is_session = record {
   no_own_fault = refl;
 }
 
-is_infocmp : IsTool ti_app (codes "infocmp") infocmp_app
+is_infocmp : (orders : Choices) → IsTool (ti_app orders) (codes "infocmp") (infocmp_app orders)
 unfolding ti_app walked defaults_fault
-is_infocmp = record {
+is_infocmp orders = record {
   simple = refl;
   free = refl;
   program_words = λ words. refl;
@@ -115,23 +120,23 @@ is_infocmp = record {
   no_own_fault = refl;
 }
 
-same_tool : (name known : Text) (tool app : App) → bytes_eq name known ≡ true → Some tool ≡ Some app → IsTool ti_app known tool → IsTool ti_app name app
-same_tool name known tool app eq is t =
-    subst (λ (n : Text). IsTool ti_app n app) (sym ((bytes_eq-Decides name known).0 eq))
-    (subst (λ (a : App). IsTool ti_app known a) (ap (λ (o : Option App). unwrap_or o tool) is) t)
+same_tool : (orders : Choices) (name known : Text) (tool app : App) → bytes_eq name known ≡ true → Some tool ≡ Some app → IsTool (ti_app orders) known tool → IsTool (ti_app orders) name app
+same_tool orders name known tool app eq is t =
+    subst (λ (n : Text). IsTool (ti_app orders) n app) (sym ((bytes_eq-Decides name known).0 eq))
+    (subst (λ (a : App). IsTool (ti_app orders) known a) (ap (λ (o : Option App). unwrap_or o tool) is) t)
 
-tool_of : (name : Text) (app : App) (tic tput session infocmp : Bool) → bytes_eq name (codes "tic") ≡ tic → bytes_eq name (codes "tput") ≡ tput
+tool_of : (orders : Choices) (name : Text) (app : App) (tic tput session infocmp : Bool) → bytes_eq name (codes "tic") ≡ tic → bytes_eq name (codes "tput") ≡ tput
     → bytes_eq name (codes "session") ≡ session → bytes_eq name (codes "infocmp") ≡ infocmp
-    → (if tic then Some tic_app else if tput then Some tput_app else if session then Some session_app else if infocmp then Some infocmp_app else None) ≡ Some app
-    → IsTool ti_app name app
-tool_of name app true b2 b3 b4 e1 e2 e3 e4 is = same_tool name _ tic_app app e1 is is_tic
-tool_of name app false true b3 b4 e1 e2 e3 e4 is = same_tool name _ tput_app app e2 is is_tput
-tool_of name app false false true b4 e1 e2 e3 e4 is = same_tool name _ session_app app e3 is is_session
-tool_of name app false false false true e1 e2 e3 e4 is = same_tool name _ infocmp_app app e4 is is_infocmp
-tool_of name app false false false false e1 e2 e3 e4 is = absurd (cc)
+    → (if tic then Some tic_app else if tput then Some tput_app else if session then Some session_app else if infocmp then Some (infocmp_app orders) else None) ≡ Some app
+    → IsTool (ti_app orders) name app
+tool_of orders name app true b2 b3 b4 e1 e2 e3 e4 is = same_tool orders name _ tic_app app e1 is (is_tic orders)
+tool_of orders name app false true b3 b4 e1 e2 e3 e4 is = same_tool orders name _ tput_app app e2 is (is_tput orders)
+tool_of orders name app false false true b4 e1 e2 e3 e4 is = same_tool orders name _ session_app app e3 is (is_session orders)
+tool_of orders name app false false false true e1 e2 e3 e4 is = same_tool orders name _ (infocmp_app orders) app e4 is (is_infocmp orders)
+tool_of orders name app false false false false e1 e2 e3 e4 is = absurd (cc)
 
-is_tool : (name : Text) (app : App) → tool_app name ≡ Some app → IsTool ti_app name app
-is_tool name app is = tool_of name app _ _ _ _ refl refl refl refl is
+is_tool : (orders : Choices) (name : Text) (app : App) → tool_app orders name ≡ Some app → IsTool (ti_app orders) name app
+is_tool orders name app is = tool_of orders name app _ _ _ _ refl refl refl refl is
 
 walk_is : (program : App) (name : Text) (tool : App) (rest : List Text) → IsTool program name tool
     → walk (built program).top.rules (names_of (built program)) nothing_held (name ∷ rest) ≡ at_name name rest
@@ -167,29 +172,30 @@ no_fault program name tool first rest is none =
     ∙ ap (faults_found b rest) is.finds
     ∙ ap₂ or_else below is.no_own_fault
 
--- the job that the words ask for is that of the matches of their tool's command
-pub job_of-tool : (words : List Text) (name : Text) (app : App) (matches : ArgMatches) → Some name ≡ slice_get words 1 → Some app ≡ tool_app name
-    → HasMatchesOf app (drop 1 words) matches → task_at name (rows_of (found_of matches)) ≡ job_of words
-job_of-tool [] name app matches at is has = absurd (cc)
-job_of-tool (first ∷ []) name app matches at is has = absurd (cc)
-job_of-tool (first ∷ second ∷ rest) name app matches at is has =
+-- what the words ask for is what the matches of their tool's command do
+pub asked-tool : (orders : Choices) (words : List Text) (name : Text) (app : App) (matches : ArgMatches) → Some name ≡ slice_get words 1
+    → Some app ≡ tool_app orders name → HasMatchesOf app (drop 1 words) matches → task_at name (rows_of (found_of matches)) ≡ asked_of (ti_app orders) words
+asked-tool orders [] name app matches at is has = absurd (cc)
+asked-tool orders (first ∷ []) name app matches at is has = absurd (cc)
+asked-tool orders (first ∷ second ∷ rest) name app matches at is has =
     let same : name ≡ second = ap (λ (o : Option Text). unwrap_or o name) at in
-    let tool = is_tool name app (sym is) in
+    let tool = is_tool orders name app (sym is) in
     let rows : rows_of (found_of matches) ≡ matches_of app (second ∷ rest) = (has tool.simple).0 in
     ap (task_at name) (rows ∙ ap (λ (n : Text). matches_of app (n ∷ rest)) (sym same))
-    ∙ ap task_in (sym (subcommand_is ti_app name app first rest tool))
-    ∙ ap (λ (n : Text). job_of (first ∷ n ∷ rest)) same
+    ∙ ap task_in (sym (subcommand_is (ti_app orders) name app first rest tool))
+    ∙ ap (λ (n : Text). asked_of (ti_app orders) (first ∷ n ∷ rest)) same
 
 -- and clap finds no fault in words in which it finds none by that command
-pub no_faults-tool : (words : List Text) (name : Text) (app : App) (matches : ArgMatches) → Some name ≡ slice_get words 1 → Some app ≡ tool_app name
-    → (is_simple_and_free app ≡ true → FailsBy {T = ArgMatches} (fault_of app (drop 1 words)) (Ok matches)) → faults_of words ≡ []
-no_faults-tool [] name app matches at is fails = absurd (cc)
-no_faults-tool (first ∷ []) name app matches at is fails = absurd (cc)
-no_faults-tool (first ∷ second ∷ rest) name app matches at is fails =
+pub no_faults-tool : (orders : Choices) (words : List Text) (name : Text) (app : App) (matches : ArgMatches) → Some name ≡ slice_get words 1
+    → Some app ≡ tool_app orders name
+    → (is_simple_and_free app ≡ true → FailsBy {T = ArgMatches} (fault_of app (drop 1 words)) (Ok matches)) → fault_of (ti_app orders) words ≡ []
+no_faults-tool orders [] name app matches at is fails = absurd (cc)
+no_faults-tool orders (first ∷ []) name app matches at is fails = absurd (cc)
+no_faults-tool orders (first ∷ second ∷ rest) name app matches at is fails =
     let same : name ≡ second = ap (λ (o : Option Text). unwrap_or o name) at in
-    let tool = is_tool name app (sym is) in
-    ap (λ (n : Text). faults_of (first ∷ n ∷ rest)) (sym same)
-    ∙ no_fault ti_app name app first rest tool (ap (λ (n : Text). fault_of app (n ∷ rest)) same ∙ fails tool.free)
+    let tool = is_tool orders name app (sym is) in
+    ap (λ (n : Text). fault_of (ti_app orders) (first ∷ n ∷ rest)) (sym same)
+    ∙ no_fault (ti_app orders) name app first rest tool (ap (λ (n : Text). fault_of app (n ∷ rest)) same ∙ fails tool.free)
 
 -- the second of some things, and what a function gives of it
 pub second_of : {X : Type 0} (f : X → Text) (xs : List X) (x : X) → true ≡ nat_lt 1 (length xs) → x ≡ get_or xs 1 x → Some (f x) ≡ slice_get (map f xs) 1
@@ -197,9 +203,11 @@ second_of f [] x within is = absurd (true≢false within)
 second_of f (first ∷ []) x within is = absurd (true≢false within)
 second_of f (first ∷ second ∷ rest) x within is = ap (λ y. Some (f y)) is
 
-pub some_of_ok : {T E : Type 0} (r : Result T E) (o : Option T) (P Q : T → Type 0) → o ≡ result_ok r → IfOk r P → ((x : T) → P x → Q x) → IfSome o Q
-some_of_ok (Ok x) o P Q is has gives = subst (λ (some : Option _). IfSome some Q) (sym is) (gives x has)
-some_of_ok (Err e) o P Q is has gives = subst (λ (some : Option _). IfSome some Q) (sym is) tt
+-- the answer that is there, of one that is right
+pub some_of_answer : (r : Result Job NoJob) (o : Option Job) (asked : Asked) (Q : Job → Type 0) → o ≡ result_ok r → Answers asked r
+    → ((job : Job) → asked ≡ Ok (task_of job) → Q job) → IfSome o Q
+some_of_answer (Ok x) o asked Q is has gives = subst (λ (some : Option Job). IfSome some Q) (sym is) (gives x has)
+some_of_answer (Err e) o asked Q is has gives = subst (λ (some : Option Job). IfSome some Q) (sym is) tt
 
 -- what a function gives of all behind the first
 pub others_of : {X : Type 0} (f : X → Text) (xs : List X) → map f (take (length xs - 1) (drop 1 xs)) ≡ drop 1 (map f xs)

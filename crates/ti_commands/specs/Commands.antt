@@ -1,9 +1,9 @@
 -- The command lines that the program takes, as what clap reads of them (tic(1), tput(1), infocmp(1)).
-use Rattle.std.specs.Prelude.{codes, true}
+use Rattle.std.specs.Prelude.{ℕ, codes, true}
 use Rattle.ti_text.specs.Ascii.{byte_of}
 use Rattle.clap.specs.Simple.{App, new_app, on_top, with_rule, with_subcommand}
-use Rattle.ti_commands.specs.InfocmpWords.{infocmp_app}
-use Rattle.ti_commands.specs.Rules.{flag_rule, long_option_rule, operand_rule, operands_rule, option_rule}
+use Rattle.ti_commands.specs.InfocmpWords.{IsOrders, infocmp_app}
+use Rattle.ti_commands.specs.Rules.{Choices, flag_rule, long_number_rule, operand_rule, operands_rule, option_rule}
 
 -- `tic [-c] [-o DIR] [FILE]`
 abbrev pub tic_app : App
@@ -16,11 +16,15 @@ tic_app = with_rule (with_rule (with_rule (new_app (codes "tic"))
 abbrev pub session_app : App
 session_app = new_app (codes "session")
 
+-- the greatest rate that may be asked for
+abbrev pub rate_max : ℕ
+rate_max = 4294967295
+
 -- `tput [-T TYPE] [--rate N]`
 abbrev pub tput_options_app : App
 tput_options_app = with_rule (with_rule (new_app (codes "tput"))
     (option_rule (codes "term") (byte_of "T")))
-    (long_option_rule (codes "rate"))
+    (long_number_rule (codes "rate") 0 rate_max)
 
 -- `tput [-T TYPE] [--rate N] [-S] [WORD..]`
 abbrev pub tput_app : App
@@ -36,6 +40,14 @@ first_tools_app = with_subcommand
     tic_app.top)
     tput_app.top
 
--- the program with all of them
-unfoldable pub ti_app : App
-ti_app = with_subcommand (with_subcommand first_tools_app session_app.top) infocmp_app.top
+-- the program with all of them, given where the names of the orders of `infocmp` stand in memory
+unfoldable pub ti_app : Choices → App
+ti_app orders = with_subcommand (with_subcommand first_tools_app session_app.top) (infocmp_app orders).top
+
+-- what holds of the program's command line. clap's command refers to the names of the orders where they stand in memory,
+-- on which nothing depends that clap reads: so this is said of one such place, or of each.
+abbrev pub OfProgram : (App → Type 0) → Type 0
+OfProgram P = (orders : Choices) × IsOrders orders × P (ti_app orders)
+
+abbrev pub OfEachProgram : (App → Type 0) → Type 0
+OfEachProgram P = (orders : Choices) → IsOrders orders → P (ti_app orders)

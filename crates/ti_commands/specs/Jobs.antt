@@ -1,11 +1,17 @@
--- The jobs of the program, as plain data, and why words ask for none (own).
-use Rattle.std.specs.Prelude.{◌≡◌, ◌⊎◌, List, [], Some, None, Option, map, option_map}
+-- The jobs of the program, and why words ask for none (own).
+use Rattle.std.specs.Prelude.{◌≡◌, ◌⊎◌, ⊤, List, [], Some, None, Option, Ok, Err, true, map, option_map}
 use Rattle.std.specs.String.{string_bytes}
 use Rattle.clap.specs.Kinds.{IsAmong, Kinds}
 use Rattle.clap.specs.declared.error.kind.ErrorKind.{ErrorKind}
 use Rattle.clap.specs.declared.error.kind.ErrorKind.TheVariants as kind
 use Rattle.clap.specs.Walk.{Text}
-use Rattle.ti_commands.specs.Arguments.{Task, faults_of, job_of, task_infocmp, task_session, task_tic, task_tput}
+use Rattle.clap.specs.Faults.{fault_of}
+use Rattle.clap.specs.Simple.{App}
+use Rattle.clap.specs.Takes.{takes}
+use Rattle.ti_commands.specs.Arguments.{Asked, asked_of, job_of}
+use Rattle.ti_commands.specs.Commands.{OfProgram}
+use Rattle.ti_commands.specs.Mistakes.{usage_line}
+use Rattle.ti_commands.specs.Tasks.{Task, task_infocmp, task_session, task_tic, task_tput}
 use Rattle.ti_commands.specs.declared.arguments.UsageError.{UsageError}
 use Rattle.ti_commands.specs.declared.arguments.UsageError.TheVariants as usage
 use Rattle.ti_commands.specs.declared.arguments.Refusal.{Refusal}
@@ -41,17 +47,30 @@ refusal_of _ = usage.Usage
 
 -- why words are refused in which clap's definition finds these faults, and which ask for this job:
 -- by one of the faults, or as no job
-abbrev pub IsUsageRefusal : Kinds → Option Task → UsageError → Type 0
-IsUsageRefusal faults job e =
-    (e ≡ usage.Memory) ⊎ ((k : ErrorKind) × IsAmong k faults × (e ≡ refusal_of k))
-    ⊎ ((faults ≡ []) × (job ≡ None) × (e ≡ usage.Usage))
+abbrev pub IsUsageFault : Kinds → Option Task → UsageError → Type 0
+IsUsageFault faults job e =
+    ((k : ErrorKind) × IsAmong k faults × (e ≡ refusal_of k)) ⊎ ((faults ≡ []) × (job ≡ None) × (e ≡ usage.Usage))
 
--- the job is what the words ask for, in which clap's definition finds no fault
-abbrev pub IsJobOf : List Text → Job → Type 0
-IsJobOf words job = (job_of words ≡ Some (task_of job)) × (faults_of words ≡ [])
+-- why the words are refused: memory, or what is wrong by the program's command line
+abbrev pub IsUsageRefusal : List Text → UsageError → Type 0
+IsUsageRefusal words e =
+    (e ≡ usage.Memory) ⊎ OfProgram (λ app. IsUsageFault (fault_of app words) (job_of app words) e)
 
--- why the words ask for no job; nothing is said of bad usage only where there is no fault in them either
+-- the job is what the words ask for by a command line, in which clap's definition finds no fault
+abbrev pub IsJobOf : List Text → Job → App → Type 0
+IsJobOf words job app = (job_of app words ≡ Some (task_of job)) × (fault_of app words ≡ [])
+
+-- the words ask for this by a command line, and clap's definition takes them
+abbrev pub TakesAs : List Text → Task → App → Type 0
+TakesAs words task app = (job_of app words ≡ Some task) × (takes app words ≡ true)
+
+-- a refusal of usage says what is wrong
+abbrev pub SaysWrong : Asked → Refusal → Type 0
+SaysWrong (Err wrong) (refusal.Usage said) = string_bytes said ≡ usage_line wrong
+SaysWrong _ _ = ⊤
+
+-- the same with what is said: where clap's definition finds no fault that is the line of the mistake
 abbrev pub IsRefusalOf : List Text → Refusal → Type 0
 IsRefusalOf words refused =
-    IsUsageRefusal (faults_of words) (job_of words) (cause_of refused)
-    × (refused ≡ refusal.Usage None → (faults_of words ≡ []) × (job_of words ≡ None))
+    (refused ≡ refusal.Memory) ⊎ OfProgram (λ app. IsUsageFault (fault_of app words) (job_of app words) (cause_of refused)
+    × (fault_of app words ≡ [] → SaysWrong (asked_of app words) refused))

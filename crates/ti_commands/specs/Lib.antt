@@ -2,6 +2,8 @@
 pub mod Matches
 pub mod Rules
 pub mod inside
+pub mod Tasks
+pub mod Mistakes
 pub mod InfocmpWords
 pub mod Commands
 pub mod Arguments

@@ -1,10 +1,11 @@
 -- What clap reads of an argument of a tool (own).
-use Rattle.std.specs.Prelude.{ℕ, Some}
+use Rattle.std.specs.Prelude.{ℕ, List, Some}
+use Rattle.std.specs.Borrow.{Bor}
 use Rattle.clap.specs.Lexer.{usize_max}
 use Rattle.clap.specs.Simple.{new_rule}
 use Rattle.clap.specs.Walk.{Rule, Text}
 use Rattle.clap.specs.declared.builder.action.ArgAction.TheVariants.{Append, Set, SetTrue}
-use Rattle.clap.specs.declared.builder.value_parser.ValueParser.TheVariants.{Unsigned}
+use Rattle.clap.specs.declared.builder.value_parser.ValueParser.TheVariants as parser
 
 -- an option that is on or off, as `-c`
 abbrev pub flag_rule : Text → ℕ → Rule
@@ -33,4 +34,16 @@ operands_rule id = record (new_rule id) {
 
 -- an option with a number from a least to a greatest
 abbrev pub number_rule : Text → ℕ → ℕ → ℕ → Rule
-number_rule id short least greatest = record (option_rule id short) { parser = Some (Unsigned least greatest) }
+number_rule id short least greatest = record (option_rule id short) { parser = Some (parser.Unsigned least greatest) }
+
+-- one that has a long name alone
+abbrev pub long_number_rule : Text → ℕ → ℕ → Rule
+long_number_rule id least greatest = record (long_option_rule id) { parser = Some (parser.Unsigned least greatest) }
+
+-- texts, where they stand in memory
+abbrev pub Choices : Type 0
+Choices = Bor (List (Bor Text))
+
+-- an option whose value is one of some names
+abbrev pub choice_rule : Text → ℕ → Choices → Rule
+choice_rule id short names = record (option_rule id short) { parser = Some (parser.Names names) }

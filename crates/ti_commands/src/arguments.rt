@@ -1,8 +1,11 @@
 //! What the words of a command line ask for.
-ghost use Rattle.std.specs.Prelude.{◌≡◌, ◌≢◌, ◌⊎◌, [], IfErr, IfOk, IfSome, None, Some, codes, map, true};
+ghost use Rattle.std.specs.Prelude.{◌≡◌, IfErr, IfOk, IfSome, codes, map};
 ghost use Rattle.clap.specs.Words.{first_of, kind_of, subcommand_rows_of};
-ghost use Rattle.ti_commands.specs.Arguments.{Task, faults_of, is_word_count, job_of, rate_in, takes_words, task_at, task_in, tic_task, tput_task, tput_with, word_texts};
-ghost use Rattle.ti_commands.specs.Jobs.{IsJobOf, IsRefusalOf, IsUsageRefusal, cause_of, refusal_of, task_of};
+ghost use Rattle.ti_commands.specs.Arguments.{rate_in, task_at, task_in, tic_task, tput_task, tput_with, word_texts, words_mistake};
+ghost use Rattle.ti_commands.specs.Commands.{OfEachProgram, OfProgram};
+ghost use Rattle.ti_commands.specs.Jobs.{IsJobOf, IsRefusalOf, IsUsageRefusal, TakesAs, cause_of, refusal_of, task_of};
+ghost use Rattle.ti_commands.specs.Tasks.{Task};
+ghost use Rattle.ti_commands.specs.inside.Jobs.{Answers, AnswersTaken};
 ghost use Rattle.ti_commands.specs.declared.arguments.Refusal.TheVariants.{Memory};
 ghost use Rattle.ti_commands.specs.Matches.{matched_rows};
 
@@ -10,6 +13,7 @@ use crate::commands::{command, tool_named};
 use crate::infocmp_words::infocmp_job;
 use crate::jobs::Job;
 use crate::matches::{is_on, text, texts, value, values};
+use crate::mistakes::{Mistake, NoJob};
 use clap::ArgMatches;
 use clap::error::ErrorKind;
 use std::alloc::{AllocError, Global};
@@ -33,9 +37,9 @@ pub enum UsageError {
 /// Why words ask for no job, with the text that is said of them, which ends with a newline.
 #[derive(Debug, Drop)]
 pub enum Refusal {
-    /// The words are no command line of the program: what clap says of them; `None` where clap takes them, but no tool
-    /// does, as a tenth parameter of `tput`.
-    Usage(Option<String>),
+    /// The words are no command line of the program: what clap says of them, or where clap takes them the line of
+    /// the mistake, as `ti: bad usage: no capability is named`.
+    Usage(String),
     /// The words ask for help: its text.
     Help(String),
     /// A growth of memory was refused.
@@ -65,13 +69,12 @@ impl Refusal {
 
 // What a fault that clap finds is to the program, with clap's text.
 fn refusal_by(alloc: Global, error: &clap::error::Error) -> Result<Refusal, AllocError>
-    ensures cause { IfOk result (λ refused. cause_of refused ≡ refusal_of (kind_of error.now)) }
-    ensures said { IfOk result (λ refused. refused ≢ Refusal.Usage None) }
+    ensures { IfOk result (λ refused. cause_of refused ≡ refusal_of (kind_of error.now)) }
 {
     Ok(match error.kind() {
         ErrorKind::OutOfMemory => Refusal::Memory,
         ErrorKind::DisplayHelp => Refusal::Help(format!(in alloc; "{error}")?),
-        _ => Refusal::Usage(Some(format!(in alloc; "{error}")?)),
+        _ => Refusal::Usage(format!(in alloc; "{error}")?),
     })
 }
 
@@ -94,30 +97,29 @@ fn rate(matches: &ArgMatches<'_>) -> Option<u32>
     }
 }
 
-// Whether so many words may stand there: none with `-S`, else a name and at most nine parameters.
-fn is_word_count(lines: bool, count: usize) -> bool
-    ensures { result ≡ is_word_count lines count }
+// What is wrong with so many words: none may stand there with `-S`, else a name and at most nine parameters.
+fn words_mistake(lines: bool, count: usize) -> Option<Mistake>
+    ensures { result ≡ words_mistake lines count }
 {
-    if lines {
-        count == 0
-    } else {
-        0 < count && count <= 1 + PARAMETERS_MAX
+    match (lines, count) {
+        (true, 0) => None,
+        (true, _) => Some(Mistake::CapabilityBesideLines),
+        (false, 0) => Some(Mistake::NoCapability),
+        (false, count) if count > PARAMETERS_MAX + 1 => Some(Mistake::TooManyParameters),
+        (false, _) => None,
     }
 }
 
 // The job of `tput` with these words.
-fn tput_of(alloc: Global, matches: &ArgMatches<'_>, words: &[&str]) -> Result<Job, Refusal>
-    ensures right { IfOk result (λ job. tput_with (matched_rows matches.now) (map (λ word. word.now) words.now)
-        ≡ Some (task_of job)) }
-    ensures refused { IfErr result (λ error. (error ≡ Refusal.Memory)
-        ⊎ ((error ≡ Refusal.Usage None) × (tput_with (matched_rows matches.now) (map (λ word. word.now) words.now) ≡ None))) }
+fn tput_of(alloc: Global, matches: &ArgMatches<'_>, words: &[&str]) -> Result<Job, NoJob>
+    ensures { Answers (tput_with (matched_rows matches.now) (map (λ word. word.now) words.now)) result }
 {
     let lines = is_on(matches, "lines");
     let Some(rate) = rate(matches) else {
-        return Err(Refusal::Usage(None));
+        return Err(NoJob::Wrong(Mistake::NoCommandLine));
     };
-    if !is_word_count(lines, words.len()) {
-        return Err(Refusal::Usage(None));
+    if let Some(mistake) = words_mistake(lines, words.len()) {
+        return Err(NoJob::Wrong(mistake));
     }
     let term = text(alloc, matches, "term")?;
     let words = texts(alloc, words)?;
@@ -129,10 +131,8 @@ fn tput_of(alloc: Global, matches: &ArgMatches<'_>, words: &[&str]) -> Result<Jo
     })
 }
 
-fn tput_job(alloc: Global, matches: &ArgMatches<'_>) -> Result<Job, Refusal>
-    ensures right { IfOk result (λ job. tput_task (matched_rows matches.now) ≡ Some (task_of job)) }
-    ensures refused { IfErr result (λ error. (error ≡ Refusal.Memory)
-        ⊎ ((error ≡ Refusal.Usage None) × (tput_task (matched_rows matches.now) ≡ None))) }
+fn tput_job(alloc: Global, matches: &ArgMatches<'_>) -> Result<Job, NoJob>
+    ensures { Answers (tput_task (matched_rows matches.now)) result }
 {
     match values(matches, "words") {
         Some(words) => tput_of(alloc, matches, words),
@@ -141,37 +141,46 @@ fn tput_job(alloc: Global, matches: &ArgMatches<'_>) -> Result<Job, Refusal>
 }
 
 // The job of the tool of that name, with its matches.
-fn tool_job(alloc: Global, name: &str, matches: &ArgMatches<'_>) -> Result<Job, Refusal>
-    ensures right { IfOk result (λ job. task_at name.now (matched_rows matches.now) ≡ Some (task_of job)) }
-    ensures refused { IfErr result (λ error. (error ≡ Refusal.Memory)
-        ⊎ ((error ≡ Refusal.Usage None) × (task_at name.now (matched_rows matches.now) ≡ None))) }
+fn tool_job(alloc: Global, name: &str, matches: &ArgMatches<'_>) -> Result<Job, NoJob>
+    ensures { Answers (task_at name.now (matched_rows matches.now)) result }
 {
     match name {
         "tic" => Ok(tic_job(alloc, matches)?),
         "tput" => tput_job(alloc, matches),
         "session" => Ok(Job::Session),
         "infocmp" => infocmp_job(alloc, matches),
-        _ => Err(Refusal::Usage(None)),
+        _ => Err(NoJob::Wrong(Mistake::NoCommandLine)),
     }
 }
 
 // The job of the subcommand that was used.
-fn used_job(alloc: Global, matches: &ArgMatches<'_>) -> Result<Job, Refusal>
-    ensures right { IfOk result (λ job. task_in (subcommand_rows_of matches.now)
-        ≡ Some (task_of job)) }
-    ensures refused { IfErr result (λ error. (error ≡ Refusal.Memory)
-        ⊎ ((error ≡ Refusal.Usage None) × (task_in (subcommand_rows_of matches.now) ≡ None))) }
+fn used_job(alloc: Global, matches: &ArgMatches<'_>) -> Result<Job, NoJob>
+    ensures { Answers (task_in (subcommand_rows_of matches.now)) result }
 {
     match matches.subcommand() {
         Some((name, inner)) => tool_job(alloc, name, inner),
-        None => Err(Refusal::Usage(None)),
+        None => Err(NoJob::Wrong(Mistake::NoCommandLine)),
+    }
+}
+
+// The job of words that clap takes, or what is said of them.
+fn taken_job(alloc: Global, matches: &ArgMatches<'_>) -> Result<Job, Refusal>
+    ensures { AnswersTaken (task_in (subcommand_rows_of matches.now)) result }
+{
+    match used_job(alloc, matches) {
+        Ok(job) => Ok(job),
+        Err(NoJob::Memory) => Err(Refusal::Memory),
+        Err(NoJob::Wrong(mistake)) => {
+            let line = format!(in alloc; "ti: bad usage: {mistake}\n")?;
+            Err(Refusal::Usage(line))
+        }
     }
 }
 
 // The job that the words ask for, read by the command of their tool alone, which takes about half as long as by all. `None`
 // where that finds no job: only the whole command says why.
 fn job_of_tool(alloc: Global, words: &[String]) -> Result<Option<Job>, AllocError>
-    ensures { IfOk result (λ found. IfSome found (IsJobOf (word_texts words.now))) }
+    ensures { IfOk result (λ found. IfSome found (λ job. OfProgram (IsJobOf (word_texts words.now) job))) }
 {
     let Some(name) = words.get(1) else {
         return Ok(None);
@@ -189,15 +198,14 @@ fn job_of_tool(alloc: Global, words: &[String]) -> Result<Option<Job>, AllocErro
 
 // The job that the words ask for, read by the command of all tools.
 fn job_of_program(alloc: Global, words: &[String]) -> Result<Job, Refusal>
-    ensures right { IfOk result (IsJobOf (word_texts words.now)) }
-    ensures answered { (task : Task) → job_of (word_texts words.now) ≡ Some task
-        → takes_words (word_texts words.now) ≡ true
+    ensures right { IfOk result (λ job. OfProgram (IsJobOf (word_texts words.now) job)) }
+    ensures answered { (task : Task) → OfEachProgram (TakesAs (word_texts words.now) task)
         → IfErr result (λ refused. refused ≡ Refusal.Memory) }
     ensures refused { IfErr result (IsRefusalOf (word_texts words.now)) }
 {
     let command = command(alloc)?;
     match command.try_get_matches_from(words) {
-        Ok(matches) => used_job(alloc, &matches),
+        Ok(matches) => taken_job(alloc, &matches),
         Err(error) => Err(refusal_by(alloc, &error)?),
     }
 }
@@ -207,11 +215,10 @@ fn job_of_program(alloc: Global, words: &[String]) -> Result<Job, Refusal>
 ///
 /// # Errors
 /// `Usage` where the words are no command line of the program, and `Help` where they ask for help;
-/// then `Memory`. `Usage` has no text only where clap finds no fault in them.
+/// then `Memory`. `Usage` has the text of clap where clap finds a fault in the words, and else the line of the mistake.
 pub fn job_or_refusal(alloc: Global, words: &[String]) -> Result<Job, Refusal>
-    ensures right { IfOk result (IsJobOf (word_texts words.now)) }
-    ensures answered { (task : Task) → job_of (word_texts words.now) ≡ Some task
-        → takes_words (word_texts words.now) ≡ true
+    ensures right { IfOk result (λ job. OfProgram (IsJobOf (word_texts words.now) job)) }
+    ensures answered { (task : Task) → OfEachProgram (TakesAs (word_texts words.now) task)
         → IfErr result (λ refused. refused ≡ Refusal.Memory) }
     ensures refused { IfErr result (IsRefusalOf (word_texts words.now)) }
 {
@@ -227,15 +234,13 @@ pub fn job_or_refusal(alloc: Global, words: &[String]) -> Result<Job, Refusal>
 /// `Usage` where the words are no command line of the program, and `Help` where they ask for help;
 /// then `Memory`.
 pub fn job(alloc: Global, words: &[String]) -> Result<Job, UsageError>
-    ensures right { IfOk result (IsJobOf (word_texts words.now)) }
-    ensures answered { (task : Task) → job_of (word_texts words.now) ≡ Some task
-        → takes_words (word_texts words.now) ≡ true
+    ensures right { IfOk result (λ job. OfProgram (IsJobOf (word_texts words.now) job)) }
+    ensures answered { (task : Task) → OfEachProgram (TakesAs (word_texts words.now) task)
         → IfErr result (λ error. error ≡ UsageError.Memory) }
-    ensures refused { IfErr result (IsUsageRefusal (faults_of (word_texts words.now))
-        (job_of (word_texts words.now))) }
+    ensures refused { IfErr result (IsUsageRefusal (word_texts words.now)) }
 {
     match job_or_refusal(alloc, words) {
-        Ok(job) => Ok(job),
+        Ok(asked) => Ok(asked),
         Err(refused) => Err(refused.cause()),
     }
 }

@@ -5,8 +5,9 @@ ghost use Rattle.std.specs.List.{fold};
 ghost use Rattle.clap.specs.Simple.{new_app};
 ghost use Rattle.clap.specs.Words.{app_of};
 ghost use Rattle.clap.specs.declared.builder.Command.TheViews.{out-Command as fields_of};
-ghost use Rattle.ti_commands.specs.inside.Commands.{tool_app, app_for, with_argument, with_tool};
-ghost use Rattle.ti_commands.specs.Commands.{ti_app};
+ghost use Rattle.ti_commands.specs.inside.Commands.{app_for, choices_of, choices_of_last, program_app, tool_app, with_argument, with_tool};
+ghost use Rattle.ti_commands.specs.Commands.{OfProgram, ti_app};
+ghost use Rattle.ti_commands.specs.InfocmpWords.{IsOrders};
 
 use crate::infocmp_words::INFOCMP;
 use crate::rules::{Argument, Form};
@@ -72,6 +73,9 @@ Example:
   ti tic -o ~/.terminfo dumb.ti",
 };
 
+/// The greatest rate of a line that may be asked for, in bits a second.
+const RATE_MAX: u64 = u32::MAX as u64;
+
 /// `tput [-T TYPE] [--rate N] [-S] [CAP] [WORD..]`.
 const TPUT: Tool<'static> = Tool {
     name: "tput",
@@ -84,7 +88,7 @@ const TPUT: Tool<'static> = Tool {
         },
         Argument {
             id: "rate",
-            form: Form::LongValue("N"),
+            form: Form::LongNumber("N", 0, RATE_MAX),
             help: "Pad for a line of N bits a second [default: 0, no padding]",
         },
         Argument {
@@ -188,16 +192,14 @@ fn add_tool<'a>(
     program.subcommand(command)
 }
 
-// The program with a subcommand for each of these tools.
-fn with_tools<'a>(
-    alloc: Global,
-    mut program: Command<'a>,
-    tools: &[Tool<'a>],
-) -> Result<Command<'a>, AllocError>
-    requires { (fields_of program).has_globals ≡ false }
-    ensures app { IfOk result (λ r. app_of r ≡ fold with_tool (app_of program.entry) tools.now) }
-    ensures local { IfOk result (λ r. (fields_of r).has_globals ≡ false) }
+// The program's command line, with a subcommand for each of its tools.
+fn program_of<'a>(alloc: Global, tools: &[Tool<'a>]) -> Result<Command<'a>, AllocError>
+    requires app { fold with_tool program_app tools.now ≡ ti_app (choices_of_last tools.now) }
+    requires orders { IsOrders (choices_of_last tools.now) }
+    ensures app { IfOk result (λ command. OfProgram (λ app. app_of command ≡ app)) }
+    ensures local { IfOk result (λ command. (fields_of command).has_globals ≡ false) }
 {
+    let mut program = described(alloc, "ti", TI_ABOUT, TI_NOTES).subcommand_required(true);
     for tool in tools {
         program = add_tool(alloc, program, tool)?;
     }
@@ -210,16 +212,16 @@ fn with_tools<'a>(
 /// Want of memory.
 #[tactic(auto, unfolding(crate::specs::Commands::ti_app))]
 pub fn command<'a>(alloc: Global) -> Result<Command<'a>, AllocError>
-    ensures app { IfOk result (λ command. app_of command ≡ ti_app) }
+    ensures app { IfOk result (λ command. OfProgram (λ app. app_of command ≡ app)) }
     ensures local { IfOk result (λ command. (fields_of command).has_globals ≡ false) }
 {
-    let program = described(alloc, "ti", TI_ABOUT, TI_NOTES).subcommand_required(true);
-    with_tools(alloc, program, &TOOLS)
+    program_of(alloc, &TOOLS)
 }
 
 /// The tool of that name.
 pub(crate) fn tool_named(name: &str) -> Option<Tool<'static>>
-    ensures { option_map app_for result ≡ tool_app name.now }
+    ensures app { option_map app_for result ≡ tool_app (choices_of result) name.now }
+    ensures orders { IsOrders (choices_of result) }
 {
     match name {
         "tic" => Some(TIC),

@@ -1,15 +1,15 @@
 //! What the words behind `infocmp` are, for clap, and what they ask for.
-ghost use Rattle.std.specs.Prelude.{◌≡◌, ◌⊎◌, IfErr, IfOk, None, Some, codes, map, option_map};
+ghost use Rattle.std.specs.Prelude.{◌≡◌, codes, map};
 ghost use Rattle.clap.specs.Words.{first_of};
-ghost use Rattle.ti_commands.specs.Arguments.{infocmp_job_of, task_infocmp};
-ghost use Rattle.ti_commands.specs.InfocmpWords.{choice_in, choice_with, infocmp_with, mode_for, order_for, suits, width_for};
-ghost use Rattle.ti_commands.specs.Jobs.{task_of};
+ghost use Rattle.ti_commands.specs.InfocmpWords.{infocmp_task, infocmp_with, mode_for, modes_named, order_for, suits, width_for};
 ghost use Rattle.ti_commands.specs.Matches.{matched_rows};
+ghost use Rattle.ti_commands.specs.inside.Choice.{choice_from, choice_with};
+ghost use Rattle.ti_commands.specs.inside.Jobs.{Answers};
 
-use crate::arguments::Refusal;
 use crate::commands::Tool;
 use crate::jobs::{InfocmpMode, Job};
 use crate::matches::{is_on, text, texts, value, values};
+use crate::mistakes::{Mistake, NoJob};
 use crate::rules::{Argument, Form};
 use clap::ArgMatches;
 use std::alloc::{AllocError, Global};
@@ -66,7 +66,7 @@ pub(crate) const INFOCMP: Tool<'static> = Tool {
         },
         Argument {
             id: "sort",
-            form: Form::Value('s', "ORDER"),
+            form: Form::Choice('s', "ORDER", &["d", "i"]),
             help: "Sort by place in the entry (d) or by name (i) [default: i]",
         },
         Argument {
@@ -107,7 +107,8 @@ Examples:
 pub(crate) enum Choice {
     Nothing,
     One(InfocmpMode),
-    Several,
+    /// Two or more, of which these are the first.
+    Two(InfocmpMode, InfocmpMode),
 }
 
 impl Choice {
@@ -120,14 +121,15 @@ impl Choice {
         }
         match self {
             Choice::Nothing => Choice::One(mode),
-            Choice::One(_) | Choice::Several => Choice::Several,
+            Choice::One(earlier) => Choice::Two(earlier, mode),
+            Choice::Two(first, second) => Choice::Two(first, second),
         }
     }
 }
 
 // The modes that the options name.
 fn choice_of(matches: &ArgMatches<'_>) -> Choice
-    ensures { result ≡ choice_in (matched_rows matches.now) }
+    ensures { result ≡ choice_from (modes_named (matched_rows matches.now)) }
 {
     Choice::Nothing
         .choose_if(is_on(matches, "list"), InfocmpMode::List)
@@ -149,14 +151,15 @@ fn suits(mode: InfocmpMode, names: usize) -> bool
 }
 
 // The mode of so many names.
-fn mode_for(choice: Choice, names: usize) -> Option<InfocmpMode>
-    ensures { result ≡ mode_for choice names }
+fn mode_for(choice: Choice, names: usize) -> Result<InfocmpMode, Mistake>
+    ensures { (named : _) → choice ≡ choice_from named → result ≡ mode_for named names }
 {
     match choice {
-        Choice::Nothing if names > 1 => Some(InfocmpMode::Differ),
-        Choice::Nothing => Some(InfocmpMode::List),
-        Choice::One(mode) if suits(mode, names) => Some(mode),
-        _ => None,
+        Choice::Nothing if names > 1 => Ok(InfocmpMode::Differ),
+        Choice::Nothing => Ok(InfocmpMode::List),
+        Choice::One(mode) if suits(mode, names) => Ok(mode),
+        Choice::One(mode) => Err(Mistake::TooFewNames(mode)),
+        Choice::Two(first, second) => Err(Mistake::TwoModes(first, second)),
     }
 }
 
@@ -193,16 +196,15 @@ fn order_of(matches: &ArgMatches<'_>) -> Option<Order>
 }
 
 // The job of `infocmp` with these names.
-fn infocmp_of(alloc: Global, matches: &ArgMatches<'_>, names: &[&str]) -> Result<Job, Refusal>
-    ensures right { IfOk result (λ job. option_map task_infocmp (infocmp_with (matched_rows matches.now) (map (λ name. name.now) names.now))
-        ≡ Some (task_of job)) }
-    ensures refused { IfErr result (λ error. (error ≡ Refusal.Memory)
-        ⊎ ((error ≡ Refusal.Usage None)
-        × (option_map task_infocmp (infocmp_with (matched_rows matches.now) (map (λ name. name.now) names.now)) ≡ None))) }
+fn infocmp_of(alloc: Global, matches: &ArgMatches<'_>, names: &[&str]) -> Result<Job, NoJob>
+    ensures { Answers (infocmp_with (matched_rows matches.now) (map (λ name. name.now) names.now)) result }
 {
-    let mode = mode_for(choice_of(matches), names.len());
-    let (Some(mode), Some(width), Some(order)) = (mode, width_of(matches), order_of(matches)) else {
-        return Err(Refusal::Usage(None));
+    let mode = match mode_for(choice_of(matches), names.len()) {
+        Ok(mode) => mode,
+        Err(mistake) => return Err(NoJob::Wrong(mistake)),
+    };
+    let (Some(width), Some(order)) = (width_of(matches), order_of(matches)) else {
+        return Err(NoJob::Wrong(Mistake::NoCommandLine));
     };
     let names = texts(alloc, names)?;
     let first_dir = text(alloc, matches, "first")?;
@@ -224,12 +226,10 @@ fn infocmp_of(alloc: Global, matches: &ArgMatches<'_>, names: &[&str]) -> Result
 /// The job of `infocmp` with these matches.
 ///
 /// # Errors
-/// `Usage` where they ask for none; then `Memory`.
-#[tactic(auto, unfolding(crate::specs::Arguments::infocmp_job_of))]
-pub fn infocmp_job(alloc: Global, matches: &ArgMatches<'_>) -> Result<Job, Refusal>
-    ensures right { IfOk result (λ job. infocmp_job_of (matched_rows matches.now) ≡ Some (task_of job)) }
-    ensures refused { IfErr result (λ error. (error ≡ Refusal.Memory)
-        ⊎ ((error ≡ Refusal.Usage None) × (infocmp_job_of (matched_rows matches.now) ≡ None))) }
+/// What is wrong with them; then `Memory`.
+#[tactic(auto, unfolding(crate::specs::InfocmpWords::infocmp_task))]
+pub(crate) fn infocmp_job(alloc: Global, matches: &ArgMatches<'_>) -> Result<Job, NoJob>
+    ensures { Answers (infocmp_task (matched_rows matches.now)) result }
 {
     match values(matches, "name") {
         Some(names) => infocmp_of(alloc, matches, names),

@@ -18,8 +18,10 @@ pub enum Form<'a> {
     Value(char, &'a str),
     /// An option with a number from a least to a greatest.
     Number(char, &'a str, u64, u64),
-    /// An option with one value that has a long name alone.
-    LongValue(&'a str),
+    /// An option with a number from a least to a greatest that has a long name alone.
+    LongNumber(&'a str, u64, u64),
+    /// An option whose value is one of some names.
+    Choice(char, &'a str, &'a [&'a str]),
     /// A word of its own.
     Operand(&'a str),
     /// Words of their own, as many as there are.
@@ -50,7 +52,14 @@ impl<'a> Argument<'a> {
                 let range = ValueParser::unsigned(least, greatest);
                 option(alloc, id, short, value, help).value_parser(range)
             }
-            Form::LongValue(value) => long_option(alloc, id, value, help),
+            Form::LongNumber(value, least, greatest) => {
+                let range = ValueParser::unsigned(least, greatest);
+                long_option(alloc, id, value, help).value_parser(range)
+            }
+            Form::Choice(short, value, names) => {
+                let choices = ValueParser::Names(names);
+                option(alloc, id, short, value, help).value_parser(choices)
+            }
             Form::Operand(value) => operand(alloc, id, value, help),
             Form::Operands(value) => operands(alloc, id, value, help),
         }

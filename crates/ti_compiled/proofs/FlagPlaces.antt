@@ -6,14 +6,15 @@ use Rattle.ti_caps.specs.declared.capability.Kind.TheVariants.{Flag, Text}
 use Rattle.ti_layout.specs.declared.layout.Header.{Header}
 use Rattle.ti_layout.specs.Image.{image, is_there, of_kind, flag_value, flags_below, written_count, texts_below}
 use Rattle.ti_layout.specs.Layout.{entry_size}
-use Rattle.ti_layout.specs.Writing.{HasSizes, at_most_max}
+use Rattle.ti_layout.specs.inside.Writing.{HasSizes, at_most_max}
 use Rattle.ti_layout.specs.Values.{Content, content_true, content_number, content_text, content_cancelled, Contents, AgreesIfSome}
 use Rattle.ti_layout.specs.Reading.{names_size, flag_count}
 use Rattle.ti_layout.proofs.Below.{get_or-below, length-below}
 use Rattle.ti_layout.proofs.Whole.{length-part}
 use Rattle.ti_layout.proofs.Sizes.{length-image}
 use Rattle.ti_compiled.specs.inside.Changes.{flag_content}
-use Rattle.ti_compiled.specs.Image.{names_in, contents_in, with_content, IsImage}
+use Rattle.ti_compiled.specs.Image.{with_content}
+use Rattle.ti_compiled.specs.inside.Image.{names_in, contents_in, IsImage}
 use Rattle.ti_compiled.proofs.Counted.{count-put, count-kept, count-down}
 use Rattle.ti_compiled.proofs.Given.{given_here, given_place}
 use Rattle.ti_compiled.proofs.Heading.{found_in}

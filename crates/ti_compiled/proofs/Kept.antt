@@ -10,7 +10,7 @@ use Rattle.ti_caps.proofs.Same.{same_capability-true}
 use Rattle.ti_caps.specs.declared.capability.Kind.{Kind}
 use Rattle.ti_caps.specs.declared.capability.Kind.TheVariants.{Flag, Number, Text}
 use Rattle.ti_layout.specs.declared.layout.Format.{Format}
-use Rattle.ti_layout.specs.Image.{image, image_limit, ImageFits}
+use Rattle.ti_layout.specs.Image.{image, image_limit, ImageFits, ImageIsTooLarge}
 use Rattle.ti_layout.specs.Laws.{without_cancel}
 use Rattle.ti_layout.specs.Reading.{Reads, says, stored_flag, stored_number, stored_text}
 use Rattle.ti_layout.specs.Values.{Content, content_true, content_number, content_text, content_cancelled, Contents, AgreesIfSome, HasNoNul}
@@ -18,9 +18,12 @@ use Rattle.ti_layout.proofs.OneReading.{read_names, read_contents}
 use Rattle.ti_layout.proofs.ImageReading.{images_are_read}
 use Rattle.ti_layout.proofs.OfValues.{images_are_of_values, limits_are_of_values}
 use Rattle.ti_layout.specs.declared.writing.WriteError.TheVariants.{NamesTooLong, TooLarge, Memory}
-use Rattle.ti_compiled.specs.Changes.{FitsWith, HoldsGiven, IsOverWith, SetsContent, image_with}
-use Rattle.ti_compiled.specs.Image.{names_in, contents_in, with_content, IsImage}
-use Rattle.ti_compiled.proofs.Carried.{carried}
+use Rattle.ti_compiled.specs.Changes.{HoldsGiven, SetsContent}
+use Rattle.ti_compiled.specs.inside.Changes.{BytesFitWith, BytesAreOverWith, image_with}
+use Rattle.ti_compiled.specs.Image.{NamedTable, bytes_of, held_by, with_content}
+use Rattle.ti_compiled.specs.inside.Image.{names_in, contents_in, seen, IsImage}
+use Rattle.ti_compiled.proofs.Carried.{same_cap}
+use Rattle.ti_compiled.proofs.Seen.{seen_says}
 
 uncancelled-twice : (o : Option Content) → without_cancel (without_cancel o) ≡ without_cancel o
 uncancelled-twice None = refl
@@ -113,49 +116,67 @@ given_names (Ok x) b new is k v agrees made within = (given_again b new is k v a
 given_names (Err x) b new is k v agrees made within = tt
 
 given_contents : (r : Result (Unit {0}) WriteError) (b new : List ℕ) → IsImage b → (k : Capability) (v : Option Content) → AgreesIfSome k v → without_cancel v ≡ v → OnOk r (new ≡ image (names_in b) (with_content (contents_in b) k v))
-    → OnOk r (length (image (names_in b) (with_content (contents_in b) k v)) ≤ image_limit (with_content (contents_in b) k v)) → OnOk r (HoldsGiven b new k v)
+    → OnOk r (length (image (names_in b) (with_content (contents_in b) k v)) ≤ image_limit (with_content (contents_in b) k v)) → OnOk r (HoldsGiven (seen b) (seen new) k v)
 given_contents (Ok x) b new is k v agrees present made within = record {
-  says = λ c valid. (given_again b new is k v agrees within made).contents_read c valid ∙ given_present (contents_in b) k v present c (is.imaged.present c valid);
+  says = λ c valid.
+      let again = given_again b new is k v agrees within made in
+      ap (λ (f : Contents). f c) (seen_says new again.kept) ∙ again.contents_read c valid ∙ given_present (contents_in b) k v present c (is.imaged.present c valid)
+      ∙ ap (λ (f : Contents). with_content f k v c) (sym (seen_says b is));
 }
 given_contents (Err x) b new is k v agrees present made within = tt
 
--- what is so where a value was given by its kind and place, or was refused
-pub record AfterGiving (r : Result (Unit {0}) WriteError) (b new : List ℕ) (k : Capability) (v : Option Content) : Type 0 where
-  pub kept : IsImage new
-  pub sets : SetsContent b new k v r
+seen_left : (r : Result (Unit {0}) WriteError) (b new : List ℕ) → OnErr r (new ≡ b) → OnErr r (seen new ≡ seen b)
+seen_left (Ok x) b new left = tt
+seen_left (Err x) b new left = ap seen left
 
-pub after_giving : (r : Result (Unit {0}) WriteError) (x b new : List ℕ) (k : Capability) (kind : Kind) (i : ℕ) (v : Option Content) → x ≡ b → k.kind ≡ kind → i ≡ k.index
+-- what is so where a value was given by its kind and place, or was refused
+pub record AfterGiving (r : Result (Unit {0}) WriteError) (old : NamedTable) (new : List ℕ) (k : Capability) (v : Option Content) : Type 0 where
+  pub kept : IsImage new
+  pub sets : SetsContent old (seen new) k v r
+
+given_at : (r : Result (Unit {0}) WriteError) (b new : List ℕ) (k : Capability) (v : Option Content)
+    → IsImage b → AgreesIfSome k v → without_cancel v ≡ v → OnOk r (new ≡ image_with b k v)
+    → OnOk r (BytesFitWith b k v) → (IsErrOf r TooLarge ↔ BytesAreOverWith b k v)
+    → (IsErrOf r Memory → BytesFitWith b k v) → (IsErrOf r NamesTooLong → ⊥) → OnErr r (new ≡ b)
+    → AfterGiving r (seen b) new k v
+given_at r b new k v is agrees present made within over wanting fit left =
+    let shown = sym (seen_says b is) in
+    let n = names_in b in
+    record {
+      kept = kept_after r b new is k v agrees made within left;
+      sets = record {
+        names = given_names r b new is k v agrees made within;
+        contents = given_contents r b new is k v agrees present made within;
+        within = subst (λ (f : Contents). OnOk r (ImageFits n (with_content f k v))) shown within;
+        too_large = subst (λ (f : Contents). IsErrOf r TooLarge ↔ ImageIsTooLarge n (with_content f k v)) shown over;
+        memory = subst (λ (f : Contents). IsErrOf r Memory → ImageFits n (with_content f k v)) shown wanting;
+        names_fit = fit;
+        err = seen_left r b new left;
+      };
+    }
+
+pub after_giving : (r : Result (Unit {0}) WriteError) (x : List ℕ) (b : NamedTable) (new : List ℕ) (k : Capability) (kind : Kind) (i : ℕ) (v : Option Content) → seen x ≡ b → k.kind ≡ kind → i ≡ k.index
     → IsImage x → AgreesIfSome (capability kind i) v → without_cancel v ≡ v → OnOk r (new ≡ image_with x (capability kind i) v)
-    → OnOk r (FitsWith x (capability kind i) v) → (IsErrOf r TooLarge ↔ IsOverWith x (capability kind i) v)
-    → (IsErrOf r Memory → FitsWith x (capability kind i) v) → (IsErrOf r NamesTooLong → ⊥) → OnErr r (new ≡ x)
+    → OnOk r (BytesFitWith x (capability kind i) v) → (IsErrOf r TooLarge ↔ BytesAreOverWith x (capability kind i) v)
+    → (IsErrOf r Memory → BytesFitWith x (capability kind i) v) → (IsErrOf r NamesTooLong → ⊥) → OnErr r (new ≡ x)
     → AfterGiving r b new k v
 after_giving r x b new k kind i v same e f is agrees present made within over wanting fit left =
-    carried (λ y d. AfterGiving r y new d v) x b k kind i same e f (record {
-      kept = kept_after r x new is (capability kind i) v agrees made within left;
-      sets = record {
-        ok = made;
-        names = given_names r x new is (capability kind i) v agrees made within;
-        contents = given_contents r x new is (capability kind i) v agrees present made within;
-        within = within;
-        too_large = over;
-        memory = wanting;
-        names_fit = fit;
-        err = left;
-      };
-    })
+    subst (λ (y : NamedTable). AfterGiving r y new k v) same
+    (subst (λ (d : Capability). AfterGiving r (seen x) new d v) (same_cap k kind i e f)
+    (given_at r x new (capability kind i) v is agrees present made within over wanting fit left))
 
 -- an image of the same names and values is the image of any contents that say them
-pub record IsWrittenAs (i names : List ℕ) (t : Contents) : Type 0 where
-  pub whole : i ≡ image names t
+pub record IsWrittenAs (i : NamedTable) (names : List ℕ) (t : Contents) : Type 0 where
+  pub whole : bytes_of i ≡ image names t
   pub within : ImageFits names t
 
-pub written_as : (i names : List ℕ) (t : Contents) → i ≡ image (names_in i) (contents_in i) → ImageFits (names_in i) (contents_in i) → names_in i ≡ names
-    → ((c : Capability) → IsCapability c → contents_in i c ≡ without_cancel (t c)) → IsWrittenAs i names t
-written_as i names t whole within named said =
-    let same : (c : Capability) → IsCapability c → without_cancel (contents_in i c) ≡ without_cancel (t c) = λ c valid. ap without_cancel (said c valid) ∙ uncancelled-twice (t c) in
-    let again : image (names_in i) (contents_in i) ≡ image names t = images_are_of_values (names_in i) (contents_in i) t same ∙ ap (λ n. image n t) named in
-    let limits = limits_are_of_values (contents_in i) t same in
+pub written_as : (i : NamedTable) (names : List ℕ) (t : Contents) → ImageFits i.names (held_by i) → i.names ≡ names
+    → ((c : Capability) → IsCapability c → held_by i c ≡ without_cancel (t c)) → IsWrittenAs i names t
+written_as i names t within named said =
+    let same : (c : Capability) → IsCapability c → without_cancel (held_by i c) ≡ without_cancel (t c) = λ c valid. ap without_cancel (said c valid) ∙ uncancelled-twice (t c) in
+    let again : image i.names (held_by i) ≡ image names t = images_are_of_values i.names (held_by i) t same ∙ ap (λ n. image n t) named in
+    let limits = limits_are_of_values (held_by i) t same in
     record {
-      whole = whole ∙ again;
-      within = subst (λ n. length (image names t) ≤ n) limits (subst (λ (b : List ℕ). length b ≤ image_limit (contents_in i)) again within);
+      whole = again;
+      within = subst (λ n. length (image names t) ≤ n) limits (subst (λ (b : List ℕ). length b ≤ image_limit (held_by i)) again within);
     }

@@ -2,6 +2,7 @@ pub mod Kept
 pub mod Replacing
 pub mod Heading
 pub mod Given
+pub mod Seen
 pub mod Resizing
 pub mod Counted
 pub mod Same

@@ -11,12 +11,12 @@ use Rattle.ti_layout.specs.Image.{image, below, even_gap, flags_below, format_of
 use Rattle.ti_layout.specs.Layout.{absent_mark, first_negative, number_section, width}
 use Rattle.ti_layout.specs.Laws.{without_cancel}
 use Rattle.ti_layout.specs.Reading.{number_at}
-use Rattle.ti_layout.specs.Writing.{HasSizes}
+use Rattle.ti_layout.specs.inside.Writing.{HasSizes}
 use Rattle.ti_layout.specs.Values.{Content, content_true, content_number, content_text, content_cancelled, Contents, AgreesIfSome}
 use Rattle.ti_layout.proofs.Below.{length-below, below-none, below-filled, below-same}
 use Rattle.ti_layout.proofs.ImageReading.{number-plain}
 use Rattle.ti_compiled.specs.inside.Changes.{wide_value}
-use Rattle.ti_compiled.specs.Image.{names_in, contents_in, IsImage}
+use Rattle.ti_compiled.specs.inside.Image.{names_in, contents_in, IsImage}
 use Rattle.ti_compiled.proofs.FlagPlaces.{length_sized}
 use Rattle.ti_compiled.proofs.Given.{nothing_past}
 use Rattle.ti_compiled.proofs.Moving.{mixed, mixed_low, mixed_high, mixed_more}

@@ -4,9 +4,9 @@ use Rattle.std.specs.Prelude.{IfSome, OnOk, OnErr, IsErrOf, is_ok}
 use Rattle.std.specs.Result.{result_ok}
 use Rattle.ti_layout.specs.declared.layout.Header.{Header}
 use Rattle.ti_layout.specs.declared.writing.WriteError.{WriteError}
-use Rattle.ti_layout.specs.Writing.{HasSizes}
+use Rattle.ti_layout.specs.inside.Writing.{HasSizes}
 use Rattle.ti_layout.specs.Values.{Contents}
-use Rattle.ti_compiled.specs.Image.{names_in, contents_in, IsImage}
+use Rattle.ti_compiled.specs.inside.Image.{names_in, contents_in, IsImage}
 
 pub when_ok : (r : Result (Unit {0}) WriteError) (P : Type 0) → is_ok r ≡ true → OnOk r P → P
 when_ok (Ok x) P e h = h

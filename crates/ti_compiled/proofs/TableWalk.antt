@@ -12,7 +12,7 @@ use Rattle.ti_layout.proofs.Places.{elsewhere}
 use Rattle.ti_layout.proofs.Walked.{contents_read, item_read}
 use Rattle.ti_compiled.specs.Changes.{HoldsGiven}
 use Rattle.ti_compiled.specs.inside.Changes.{IsLeft, IsSameBut}
-use Rattle.ti_compiled.specs.Image.{contents_in}
+use Rattle.ti_compiled.specs.Image.{NamedTable, held_by}
 use Rattle.ti_compiled.proofs.Given.{given_here, given_other}
 
 -- what is held of a capability is as it is wanted
@@ -95,12 +95,12 @@ module _ (es : List TableEntry) (kept : IsKept es) (first last : Wanted) where
 
 -- ---- one capability given another content
 
-module _ (old new : List ℕ) (cap : Capability) (content : Option Content) (given : HoldsGiven old new cap content) where
+module _ (old new : NamedTable) (cap : Capability) (content : Option Content) (given : HoldsGiven old new cap content) where
   pub same_but : IsSameBut old new cap
-  same_but = record { says = λ c valid other. given.says c valid ∙ given_other (contents_in old) cap content c other }
+  same_but = record { says = λ c valid other. given.says c valid ∙ given_other (held_by old) cap content c other }
 
-  pub content_given : IsCapability cap → contents_in new cap ≡ content
-  content_given valid = given.says cap valid ∙ given_here (contents_in old) cap content
+  pub content_given : IsCapability cap → held_by new cap ≡ content
+  content_given valid = given.says cap valid ∙ given_here (held_by old) cap content
 
 -- ---- the two walks of a patch
 

@@ -6,10 +6,11 @@ use Rattle.ti_layout.specs.declared.layout.Format.{Format}
 use Rattle.ti_layout.specs.declared.layout.Header.{Header}
 use Rattle.ti_layout.specs.Image.{image, format_of, is_there, image_limit, of_kind, text_piece, texts_below, written_count}
 use Rattle.ti_layout.specs.Layout.{width}
-use Rattle.ti_layout.specs.Writing.{HasSizes}
+use Rattle.ti_layout.specs.inside.Writing.{HasSizes}
 use Rattle.ti_layout.proofs.Sizes.{limit-le}
 use Rattle.ti_compiled.specs.inside.Changes.{text_content}
-use Rattle.ti_compiled.specs.Image.{names_in, contents_in, with_content, IsImage}
+use Rattle.ti_compiled.specs.Image.{with_content}
+use Rattle.ti_compiled.specs.inside.Image.{names_in, contents_in, IsImage}
 use Rattle.ti_compiled.specs.inside.Bytes.{ended_text}
 use Rattle.ti_compiled.proofs.Counted.{count-put}
 use Rattle.ti_compiled.proofs.FlagPlaces.{length_sized}

@@ -10,14 +10,14 @@ use Rattle.ti_layout.specs.Image.{image, below, even_gap, flags_below, format_of
 use Rattle.ti_layout.specs.Layout.{header, number_section, width}
 use Rattle.ti_layout.specs.Laws.{without_cancel}
 use Rattle.ti_layout.specs.Reading.{word_at}
-use Rattle.ti_layout.specs.Writing.{HasSizes}
+use Rattle.ti_layout.specs.inside.Writing.{HasSizes}
 use Rattle.ti_layout.specs.Values.{Content, content_true, content_number, content_text, content_cancelled, Contents, AgreesIfSome}
 use Rattle.ti_layout.proofs.Below.{length-below}
 use Rattle.ti_layout.proofs.Parts.{length-header}
 use Rattle.ti_layout.proofs.Sizes.{strings_small}
 use Rattle.ti_layout.proofs.Spelled.{length-spelled}
 use Rattle.ti_layout.proofs.Texts.{texts-skipped, length-texts-le}
-use Rattle.ti_compiled.specs.Image.{names_in, contents_in, IsImaged, IsImage}
+use Rattle.ti_compiled.specs.inside.Image.{names_in, contents_in, IsImaged, IsImage}
 use Rattle.ti_compiled.proofs.FlagPlaces.{length_sized}
 use Rattle.ti_compiled.proofs.Given.{HoldsNoOther, nothing_past}
 use Rattle.ti_compiled.proofs.Numbering.{place-get}

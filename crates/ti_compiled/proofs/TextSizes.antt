@@ -6,12 +6,13 @@ use Rattle.ti_caps.specs.declared.capability.Kind.TheVariants.{Text}
 use Rattle.ti_layout.specs.declared.layout.Header.{Header}
 use Rattle.ti_layout.specs.Image.{is_there, of_kind, text_piece, texts_below, written_count}
 use Rattle.ti_layout.specs.Reading.{word_at}
-use Rattle.ti_layout.specs.Writing.{HasSizes, at_most_max}
+use Rattle.ti_layout.specs.inside.Writing.{HasSizes, at_most_max}
 use Rattle.ti_layout.specs.Values.{Contents}
 use Rattle.ti_layout.proofs.Below.{last_passing-le}
 use Rattle.ti_layout.proofs.Texts.{texts-more, length-texts-le}
 use Rattle.ti_compiled.specs.inside.Changes.{text_content}
-use Rattle.ti_compiled.specs.Image.{names_in, contents_in, with_content, IsImage}
+use Rattle.ti_compiled.specs.Image.{with_content}
+use Rattle.ti_compiled.specs.inside.Image.{names_in, contents_in, IsImage}
 use Rattle.ti_compiled.specs.inside.Bytes.{ended_text}
 use Rattle.ti_compiled.proofs.Counted.{count-put, count-kept, count-down}
 use Rattle.ti_compiled.proofs.Given.{HoldsNoOther, given_here, given_place, given_past}

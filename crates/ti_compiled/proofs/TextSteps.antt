@@ -8,14 +8,15 @@ use Rattle.ti_layout.specs.declared.layout.Format.TheVariants.{Legacy}
 use Rattle.ti_layout.specs.declared.layout.Header.{Header}
 use Rattle.ti_layout.specs.Image.{image, below, image_limit, of_kind, offset_value, text_piece, texts_below, written_count}
 use Rattle.ti_layout.specs.Layout.{header, number_section}
-use Rattle.ti_layout.specs.Writing.{HasSizes}
+use Rattle.ti_layout.specs.inside.Writing.{HasSizes}
 use Rattle.ti_layout.specs.Values.{Content, content_true, content_number, content_text, content_cancelled, Contents, AgreesIfSome}
 use Rattle.ti_layout.proofs.Assembling.{header_written}
 use Rattle.ti_layout.proofs.Below.{below-same}
 use Rattle.ti_layout.proofs.Spelled.{length-spelled}
 use Rattle.ti_layout.proofs.Below.{length-below}
 use Rattle.ti_compiled.specs.inside.Changes.{text_content}
-use Rattle.ti_compiled.specs.Image.{names_in, contents_in, with_content, IsImage}
+use Rattle.ti_compiled.specs.Image.{with_content}
+use Rattle.ti_compiled.specs.inside.Image.{names_in, contents_in, IsImage}
 use Rattle.ti_compiled.specs.inside.Bytes.{Replaces, with_length, offset_after, moved_later, ended_text}
 use Rattle.ti_compiled.proofs.Moving.{moved_absent, moved_there, later_before, later_from}
 use Rattle.ti_compiled.proofs.Numbering.{resized-spelled}

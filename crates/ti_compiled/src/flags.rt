@@ -4,10 +4,10 @@ ghost use Rattle.std.specs.Prelude.{◌≡◌, ◌≢◌, ℕ, suc, ◌<◌, ◌
 ghost use Rattle.ti_caps.specs.Tables.{capability, count_of};
 ghost use Rattle.ti_caps.specs.declared.capability.Kind.TheVariants.{Flag};
 ghost use Rattle.ti_layout.specs.Image.{image, flag_value};
-ghost use Rattle.ti_layout.specs.Writing.{HasSizes};
-ghost use Rattle.ti_compiled.specs.Changes.{image_with, FitsWith, IsOverWith};
-ghost use Rattle.ti_compiled.specs.inside.Changes.{flag_content};
-ghost use Rattle.ti_compiled.specs.Image.{names_in, contents_in, with_content, IsImage};
+ghost use Rattle.ti_layout.specs.inside.Writing.{HasSizes};
+ghost use Rattle.ti_compiled.specs.inside.Changes.{image_with, BytesFitWith, BytesAreOverWith, flag_content};
+ghost use Rattle.ti_compiled.specs.Image.{with_content};
+ghost use Rattle.ti_compiled.specs.inside.Image.{names_in, contents_in, IsImage};
 
 use crate::bytes::resize_part;
 use crate::header::{header_of, make_room, write_header};
@@ -56,7 +56,7 @@ fn change_flag(bytes: &mut Vec<u8>, old: &Header, new: &Header, index: usize, on
     requires index { index < count_of Flag }
     requires old { HasSizes (names_in bytes.old.items) (contents_in bytes.old.items) old.now }
     requires new { HasSizes (names_in bytes.old.items) (with_content (contents_in bytes.old.items) (capability Flag index) (flag_content on)) new.now }
-    requires small { FitsWith bytes.old.items (capability Flag index) (flag_content on) }
+    requires small { BytesFitWith bytes.old.items (capability Flag index) (flag_content on) }
     requires room { length (image_with bytes.old.items (capability Flag index) (flag_content on)) ≤ vec_capacity bytes.old }
     ensures { bytes.new.items ≡ image_with bytes.old.items (capability Flag index) (flag_content on) }
 {
@@ -78,9 +78,9 @@ pub fn set_flag(bytes: &mut Vec<u8>, index: usize, on: bool) -> Result<(), Write
     requires image { IsImage bytes.old.items }
     requires index { index < count_of Flag }
     ensures ok { OnOk result (bytes.new.items ≡ image_with bytes.old.items (capability Flag index) (flag_content on)) }
-    ensures within { OnOk result (FitsWith bytes.old.items (capability Flag index) (flag_content on)) }
-    ensures too_large { IsErrOf result WriteError.TooLarge ↔ IsOverWith bytes.old.items (capability Flag index) (flag_content on) }
-    ensures memory { IsErrOf result WriteError.Memory → FitsWith bytes.old.items (capability Flag index) (flag_content on) }
+    ensures within { OnOk result (BytesFitWith bytes.old.items (capability Flag index) (flag_content on)) }
+    ensures too_large { IsErrOf result WriteError.TooLarge ↔ BytesAreOverWith bytes.old.items (capability Flag index) (flag_content on) }
+    ensures memory { IsErrOf result WriteError.Memory → BytesFitWith bytes.old.items (capability Flag index) (flag_content on) }
     ensures names_fit { IsErrOf result WriteError.NamesTooLong → ⊥ }
     ensures err { OnErr result (bytes.new.items ≡ bytes.old.items) }
 {

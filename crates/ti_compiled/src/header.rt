@@ -5,13 +5,14 @@ ghost use Rattle.ti_caps.specs.declared.capability.Kind.TheVariants.{Text};
 ghost use Rattle.ti_layout.specs.Image.{image, image_limit, texts_below, written_count};
 ghost use Rattle.ti_layout.specs.Layout as layout;
 ghost use Rattle.ti_layout.specs.Layout.{FitsTwoBytes, number_bytes};
-ghost use Rattle.ti_layout.specs.Writing.{HasSizes};
+ghost use Rattle.ti_layout.specs.inside.Writing.{HasSizes};
 ghost use Rattle.ti_layout.specs.Values.{Contents, HasNoNul};
-ghost use Rattle.ti_compiled.specs.Image.{names_in, contents_in, IsImage};
+ghost use Rattle.ti_compiled.specs.inside.Image.{names_in, contents_in, IsImage};
 ghost use Rattle.ti_layout.specs.inside.Sections.{IsHeaderAt};
 ghost use Rattle.ti_compiled.specs.inside.Bytes.{Replaces};
 
 use crate::bytes::overwrite;
+use byteorder::{ByteOrder, LittleEndian};
 use ti_layout::{Format, HEADER_SIZE, Header, WriteError, word};
 
 /// The numbers that a header spells.
@@ -87,7 +88,9 @@ pub fn make_room(bytes: &mut Vec<u8>, header: &Header) -> Result<(), WriteError>
 pub fn word_bytes(word: usize) -> [u8; 2]
     ensures { result ≡ number_bytes Format.Legacy word }
 {
-    [(word % 256) as u8, (word / 256 % 256) as u8]
+    let mut bytes = [0; 2];
+    LittleEndian::write_u16(&mut bytes, (word % 65_536) as u16);
+    bytes
 }
 
 fn header_bytes(header: &Header) -> [u8; HEADER_SIZE]

@@ -7,8 +7,8 @@ ghost use Rattle.ti_layout.specs.Image.{image, image_limit, HasNoNul, ImageFits}
 ghost use Rattle.ti_layout.specs.Laws.{without_cancel};
 ghost use Rattle.ti_layout.specs.Values.{content_of, contents, Agrees, AgreesIfSome};
 ghost use Rattle.ti_compiled.specs.Changes.{SetsContent};
+ghost use Rattle.ti_compiled.specs.Image.{bytes_of, held_by};
 ghost use Rattle.ti_compiled.specs.inside.Changes.{flag_content, number_content, text_lent, content_lent};
-ghost use Rattle.ti_compiled.specs.Image.{names_in, contents_in};
 
 use crate::flags::set_flag;
 use crate::header::names_of;
@@ -20,21 +20,20 @@ use std::marker::Model;
 use ti_caps::{Cap, Kind};
 use ti_layout::{Table, Value, WriteError, write};
 
-/// A compiled entry of term(5), within its limit. Contracts see its bytes, and `names_in` and
-/// `contents_in` read from them the names and what each capability has, a cancelled one being
-/// absent; the bytes are the image of these.
+/// A compiled entry of term(5), within its limit. Contracts see its names and a finite map of what
+/// each capability has, a cancelled one being absent; the bytes are the layout of these.
 #[derive(Drop)]
 pub struct Image {
     bytes: Vec<u8>,
 }
 
 impl Model for Image {
-    ghost use Rattle.std.specs.Prelude.{ℕ, List};
-    ghost use Rattle.ti_compiled.specs.Image.{IsImage};
+    ghost use Rattle.ti_compiled.specs.Image.{NamedTable};
+    ghost use Rattle.ti_compiled.specs.inside.Image.{IsImage, seen};
 
-    ghost Value = { List ℕ };
+    ghost Value = { NamedTable };
 
-    ghost view = { λ i. i.bytes.items };
+    ghost view = { λ i. seen i.bytes.items };
 
     ghost invariant = { λ i. IsImage i.bytes.items };
 }
@@ -47,9 +46,9 @@ impl Image {
     pub fn new(alloc: Global, names: &[u8], table: &Table) -> Result<Image, WriteError>
         requires present { names.now ≢ [] }
         requires no_nul { HasNoNul names.now }
-        ensures image { IfOk result (λ i. i ≡ image names.now (contents table.now)) }
-        ensures names { IfOk result (λ i. names_in i ≡ names.now) }
-        ensures contents { IfOk result (λ i. (c : Capability) → IsCapability c → contents_in i c ≡ without_cancel (contents table.now c)) }
+        ensures image { IfOk result (λ i. bytes_of i ≡ image names.now (contents table.now)) }
+        ensures names { IfOk result (λ i. i.names ≡ names.now) }
+        ensures contents { IfOk result (λ i. (c : Capability) → IsCapability c → held_by i c ≡ without_cancel (contents table.now c)) }
         ensures names_too_long { IsErrOf result WriteError.NamesTooLong ↔ (names_max < length names.now) }
         ensures too_large { IsErrOf result WriteError.TooLarge
             ↔ ((length names.now ≤ names_max) × (image_limit (contents table.now) < length (image names.now (contents table.now)))) }
@@ -63,16 +62,15 @@ impl Image {
 
     /// The bytes of the entry.
     pub fn bytes(&self) -> &[u8]
-        ensures bytes { result.now ≡ self.now }
-        ensures image { result.now ≡ image (names_in self.now) (contents_in self.now) }
-        ensures within { length result.now ≤ image_limit (contents_in self.now) }
+        ensures image { result.now ≡ bytes_of self.now }
+        ensures within { length result.now ≤ image_limit (held_by self.now) }
     {
         self.bytes.as_slice()
     }
 
     /// The names field of the entry.
     pub fn names(&self) -> &[u8]
-        ensures { result.now ≡ names_in self.now }
+        ensures { result.now ≡ self.now.names }
     {
         names_of(&self.bytes)
     }
@@ -83,28 +81,27 @@ impl Image {
     ///
     /// # Errors
     /// [`WriteError::TooLarge`] exactly where [`write`] answers it, and [`WriteError::Memory`].
-    pub fn patch(&self, alloc: Global, old: &Table, new: &Table) -> Result<Image, WriteError>
-        requires held { (c : Capability) → IsCapability c → contents_in self.now c ≡ without_cancel (contents old.now c) }
-        ensures image { IfOk result (λ i. i ≡ image (names_in self.now) (contents new.now)) }
-        ensures names { IfOk result (λ i. names_in i ≡ names_in self.now) }
-        ensures contents { IfOk result (λ i. (c : Capability) → IsCapability c → contents_in i c ≡ without_cancel (contents new.now c)) }
-        ensures too_large { IsErrOf result WriteError.TooLarge ↔ (image_limit (contents new.now) < length (image (names_in self.now) (contents new.now))) }
-        ensures memory { IsErrOf result WriteError.Memory → length (image (names_in self.now) (contents new.now)) ≤ image_limit (contents new.now) }
+    pub fn patch(&self, old: &Table, new: &Table) -> Result<Image, WriteError>
+        requires held { (c : Capability) → IsCapability c → held_by self.now c ≡ without_cancel (contents old.now c) }
+        ensures image { IfOk result (λ i. bytes_of i ≡ image self.now.names (contents new.now)) }
+        ensures names { IfOk result (λ i. i.names ≡ self.now.names) }
+        ensures contents { IfOk result (λ i. (c : Capability) → IsCapability c → held_by i c ≡ without_cancel (contents new.now c)) }
+        ensures too_large { IsErrOf result WriteError.TooLarge ↔ (image_limit (contents new.now) < length (image self.now.names (contents new.now))) }
+        ensures memory { IsErrOf result WriteError.Memory → length (image self.now.names (contents new.now)) ≤ image_limit (contents new.now) }
         ensures names_fit { IsErrOf result WriteError.NamesTooLong → ⊥ }
     {
-        match changed_copy(self, alloc, old, new) {
+        match changed_copy(self, old, new) {
             Some(image) => {
-                image.is_image_within_limit();
+                image.is_within_limit();
                 Ok(image)
             }
-            None => Image::new(alloc, names_of(&self.bytes), new),
+            None => Image::new(*self.bytes.allocator(), names_of(&self.bytes), new),
         }
     }
 
     // What is so of every image. It computes nothing.
-    fn is_image_within_limit(&self)
-        ensures whole { self.now ≡ image (names_in self.now) (contents_in self.now) }
-        ensures within { ImageFits (names_in self.now) (contents_in self.now) }
+    fn is_within_limit(&self)
+        ensures { ImageFits self.now.names (held_by self.now) }
     {
         let _ = &self.bytes;
     }
@@ -113,10 +110,10 @@ impl Image {
     ///
     /// # Errors
     /// Want of memory.
-    pub fn copy(&self, alloc: Global) -> Result<Image, AllocError>
+    pub fn copy(&self) -> Result<Image, AllocError>
         ensures { IfOk result (λ i. i ≡ self.now) }
     {
-        let bytes = Vec::from_slice(alloc, &self.bytes)?;
+        let bytes = Vec::from_slice(*self.bytes.allocator(), &self.bytes)?;
         Ok(Image { bytes })
     }
 

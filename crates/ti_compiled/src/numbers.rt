@@ -7,15 +7,15 @@ ghost use Rattle.ti_caps.specs.declared.capability.Kind.TheVariants.{Number};
 ghost use Rattle.ti_layout.specs.Image.{image, below, format_of};
 ghost use Rattle.ti_layout.specs.Layout as layout;
 ghost use Rattle.ti_layout.specs.Layout.{FitsTwoBytes, number_section, number_bytes};
-ghost use Rattle.ti_layout.specs.Writing.{HasSizes};
+ghost use Rattle.ti_layout.specs.inside.Writing.{HasSizes};
 ghost use Rattle.ti_layout.specs.Values.{Contents};
-ghost use Rattle.ti_compiled.specs.Changes.{image_with, FitsWith, IsOverWith};
-ghost use Rattle.ti_compiled.specs.inside.Changes.{number_content, wide_value, with_number, HasNumbers};
-ghost use Rattle.ti_compiled.specs.Image.{names_in, contents_in, IsImage};
+ghost use Rattle.ti_compiled.specs.inside.Changes.{image_with, BytesFitWith, BytesAreOverWith, number_content, wide_value, with_number, HasNumbers};
+ghost use Rattle.ti_compiled.specs.inside.Image.{names_in, contents_in, IsImage};
 ghost use Rattle.ti_compiled.specs.inside.Bytes.{Replaces};
 
 use crate::bytes::{overwrite, resize_part};
 use crate::header::{header_of, make_room, write_header};
+use byteorder::{ByteOrder, LittleEndian};
 use ti_layout::{Format, HEADER_SIZE, Header, WriteError, number};
 use ti_text::limits::LEGACY_NUMBER_MAX;
 
@@ -83,17 +83,9 @@ fn put_number(bytes: &mut Vec<u8>, at: usize, format: Format, number: u32)
     ensures part { Replaces bytes.old.items bytes.new.items at (layout.width format) (λ _. number_bytes format number) }
     ensures len { vec_len bytes.new ≡ vec_len bytes.old }
 {
-    let low = [(number % 256) as u8, (number / 256 % 256) as u8];
-    match format {
-        Format::Legacy => overwrite(bytes, at, &low),
-        Format::Extended => {
-            let high = [
-                (number / 65_536 % 256) as u8,
-                (number / 16_777_216 % 256) as u8,
-            ];
-            overwrite(bytes, at, &[low[0], low[1], high[0], high[1]]);
-        }
-    }
+    let mut spelled = [0; 4];
+    LittleEndian::write_u32(&mut spelled, number);
+    overwrite(bytes, at, &spelled[..format.width()]);
 }
 
 // Writes as many of the numbers one after the other.
@@ -149,7 +141,7 @@ fn change_numbers(bytes: &mut Vec<u8>, old: &Header, new: &Header, values: &[u32
         ≤ vec_capacity bytes.old + layout.width old.now.format * old.now.numbers }
     ensures { (i : ℕ) (n : Option ℕ) → i < count_of Number → HasSizes (names_in bytes.old.items) (with_number bytes.old.items i n) new.now
         → values.now ≡ below (wide_value (with_number bytes.old.items i n)) (count_of Number)
-        → FitsWith bytes.old.items (capability Number i) (number_content n)
+        → BytesFitWith bytes.old.items (capability Number i) (number_content n)
         → bytes.new.items ≡ image_with bytes.old.items (capability Number i) (number_content n) }
 {
     let place = numbers_place(old);
@@ -169,9 +161,9 @@ pub fn set_number(bytes: &mut Vec<u8>, index: usize, number: Option<u32>) -> Res
     requires index { index < count_of Number }
     requires fits { IfSome number (λ n. n ≤ number_max) }
     ensures ok { OnOk result (bytes.new.items ≡ image_with bytes.old.items (capability Number index) (number_content number)) }
-    ensures within { OnOk result (FitsWith bytes.old.items (capability Number index) (number_content number)) }
-    ensures too_large { IsErrOf result WriteError.TooLarge ↔ IsOverWith bytes.old.items (capability Number index) (number_content number) }
-    ensures memory { IsErrOf result WriteError.Memory → FitsWith bytes.old.items (capability Number index) (number_content number) }
+    ensures within { OnOk result (BytesFitWith bytes.old.items (capability Number index) (number_content number)) }
+    ensures too_large { IsErrOf result WriteError.TooLarge ↔ BytesAreOverWith bytes.old.items (capability Number index) (number_content number) }
+    ensures memory { IsErrOf result WriteError.Memory → BytesFitWith bytes.old.items (capability Number index) (number_content number) }
     ensures names_fit { IsErrOf result WriteError.NamesTooLong → ⊥ }
     ensures err { OnErr result (bytes.new.items ≡ bytes.old.items) }
 {

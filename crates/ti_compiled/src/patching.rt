@@ -9,10 +9,9 @@ ghost use Rattle.ti_layout.specs.Laws.{without_cancel};
 ghost use Rattle.ti_layout.specs.Values.{contents, content_of, entries_of, Agrees, AgreesIfSome, IsKept};
 ghost use Rattle.ti_compiled.specs.Changes.{HoldsGiven};
 ghost use Rattle.ti_compiled.specs.inside.Changes.{IsLeft, IsSameBut};
-ghost use Rattle.ti_compiled.specs.Image.{names_in, contents_in};
+ghost use Rattle.ti_compiled.specs.Image.{held_by};
 
 use crate::image::Image;
-use std::alloc::Global;
 use ti_caps::Cap;
 use ti_layout::{Format, Table, Value, format_wanted};
 
@@ -42,7 +41,7 @@ fn gives(table: &Table, entry: &(Cap, Value)) -> bool
 fn set(image: &mut Image, cap: Cap, value: Option<&Value>) -> Option<()>
     requires agrees { AgreesIfSome cap (option_map (λ v. content_of v.now) value) }
     ensures valid { IsCapability cap }
-    ensures names { IfSome result (λ _. names_in image.new ≡ names_in image.old) }
+    ensures names { IfSome result (λ _. image.new.names ≡ image.old.names) }
     ensures contents { IfSome result (λ _. HoldsGiven image.old image.new cap (without_cancel (option_map (λ v. content_of v.now) value.entry))) }
 {
     image.set_value(cap, value).ok()
@@ -50,10 +49,10 @@ fn set(image: &mut Image, cap: Cap, value: Option<&Value>) -> Option<()>
 
 // Takes an old value away, unless the new table gives the same.
 fn take_away_changed(image: &mut Image, entry: &(Cap, Value), new: &Table) -> Option<()>
-    requires held { contents_in image.old entry.now.0 ≡ without_cancel (Some (content_of entry.now.1)) }
-    ensures names { IfSome result (λ _. names_in image.new ≡ names_in image.old) }
+    requires held { held_by image.old entry.now.0 ≡ without_cancel (Some (content_of entry.now.1)) }
+    ensures names { IfSome result (λ _. image.new.names ≡ image.old.names) }
     ensures others { IfSome result (λ _. IsSameBut image.old image.new entry.now.0) }
-    ensures left { IfSome result (λ _. IsLeft (Some (content_of entry.now.1)) (contents new.now entry.now.0) (contents_in image.new entry.now.0)) }
+    ensures left { IfSome result (λ _. IsLeft (Some (content_of entry.now.1)) (contents new.now entry.now.0) (held_by image.new entry.now.0)) }
 {
     if gives(new, entry) {
         return Some(());
@@ -66,10 +65,10 @@ fn take_away_changed(image: &mut Image, entry: &(Cap, Value), new: &Table) -> Op
 // moves, which is what stands behind it, is only what stays.
 fn take_all_changed_away(image: &mut Image, old: &[(Cap, Value)], new: &Table) -> Option<()>
     requires kept { IsKept (entries_of old.now) }
-    requires held { (c : Capability) → IsCapability c → contents_in image.old c ≡ without_cancel (contents (entries_of old.now) c) }
-    ensures names { IfSome result (λ _. names_in image.new ≡ names_in image.old) }
+    requires held { (c : Capability) → IsCapability c → held_by image.old c ≡ without_cancel (contents (entries_of old.now) c) }
+    ensures names { IfSome result (λ _. image.new.names ≡ image.old.names) }
     ensures left { IfSome result (λ _. (c : Capability) → IsCapability c
-        → IsLeft (contents (entries_of old.now) c) (contents new.now c) (contents_in image.new c)) }
+        → IsLeft (contents (entries_of old.now) c) (contents new.now c) (held_by image.new c)) }
 {
     let mut left = old.len();
     while left > 0 {
@@ -82,10 +81,10 @@ fn take_all_changed_away(image: &mut Image, old: &[(Cap, Value)], new: &Table) -
 // Gives a new value, unless the old table gave the same.
 fn give_changed(image: &mut Image, old: &Table, entry: &(Cap, Value)) -> Option<()>
     requires agrees { Agrees entry.now.0 (content_of entry.now.1) }
-    requires left { IsLeft (contents old.now entry.now.0) (Some (content_of entry.now.1)) (contents_in image.old entry.now.0) }
-    ensures names { IfSome result (λ _. names_in image.new ≡ names_in image.old) }
+    requires left { IsLeft (contents old.now entry.now.0) (Some (content_of entry.now.1)) (held_by image.old entry.now.0) }
+    ensures names { IfSome result (λ _. image.new.names ≡ image.old.names) }
     ensures others { IfSome result (λ _. IsSameBut image.old image.new entry.now.0) }
-    ensures given { IfSome result (λ _. contents_in image.new entry.now.0 ≡ without_cancel (Some (content_of entry.now.1))) }
+    ensures given { IfSome result (λ _. held_by image.new entry.now.0 ≡ without_cancel (Some (content_of entry.now.1))) }
 {
     if gives(old, entry) {
         return Some(());
@@ -97,10 +96,10 @@ fn give_changed(image: &mut Image, old: &Table, entry: &(Cap, Value)) -> Option<
 // Gives the new values that the old table did not.
 fn give_all_changed(image: &mut Image, old: &Table, new: &[(Cap, Value)]) -> Option<()>
     requires kept { IsKept (entries_of new.now) }
-    requires left { (c : Capability) → IsCapability c → IsLeft (contents old.now c) (contents (entries_of new.now) c) (contents_in image.old c) }
-    ensures names { IfSome result (λ _. names_in image.new ≡ names_in image.old) }
+    requires left { (c : Capability) → IsCapability c → IsLeft (contents old.now c) (contents (entries_of new.now) c) (held_by image.old c) }
+    ensures names { IfSome result (λ _. image.new.names ≡ image.old.names) }
     ensures contents { IfSome result (λ _. (c : Capability) → IsCapability c
-        → contents_in image.new c ≡ without_cancel (contents (entries_of new.now) c)) }
+        → held_by image.new c ≡ without_cancel (contents (entries_of new.now) c)) }
 {
     for entry in new {
         give_changed(image, old, entry)?;
@@ -116,25 +115,25 @@ fn has_wide_number(table: &Table) -> bool
 }
 
 // A copy of an image, where there is memory for it.
-fn copy_of(image: &Image, alloc: Global) -> Option<Image>
+fn copy_of(image: &Image) -> Option<Image>
     ensures { IfSome result (λ i. i ≡ image.now) }
 {
-    image.copy(alloc).ok()
+    image.copy().ok()
 }
 
 /// A copy of an image that holds the values of one table, which holds those of another. `None` where
 /// a number of the old or of the new values is over 32,767, since the limit is another there, where
 /// the new entry would be over the limit, and where there is no memory.
-pub fn changed_copy(image: &Image, alloc: Global, old: &Table, new: &Table) -> Option<Image>
-    requires held { (c : Capability) → IsCapability c → contents_in image.now c ≡ without_cancel (contents old.now c) }
+pub fn changed_copy(image: &Image, old: &Table, new: &Table) -> Option<Image>
+    requires held { (c : Capability) → IsCapability c → held_by image.now c ≡ without_cancel (contents old.now c) }
     ensures narrow { IfSome result (λ _. (format_of (contents old.now) ≢ Extended) × (format_of (contents new.now) ≢ Extended)) }
-    ensures names { IfSome result (λ i. names_in i ≡ names_in image.now) }
-    ensures contents { IfSome result (λ i. (c : Capability) → IsCapability c → contents_in i c ≡ without_cancel (contents new.now c)) }
+    ensures names { IfSome result (λ i. i.names ≡ image.now.names) }
+    ensures contents { IfSome result (λ i. (c : Capability) → IsCapability c → held_by i c ≡ without_cancel (contents new.now c)) }
 {
     if has_wide_number(old) || has_wide_number(new) {
         return None;
     }
-    let mut copy = copy_of(image, alloc)?;
+    let mut copy = copy_of(image)?;
     take_all_changed_away(&mut copy, old.entries(), new)?;
     give_all_changed(&mut copy, old, new.entries())?;
     Some(copy)

@@ -8,10 +8,10 @@ ghost use Rattle.ti_layout.specs.Image.{image, below, texts_below};
 ghost use Rattle.ti_layout.specs.Layout as layout;
 ghost use Rattle.ti_layout.specs.Layout.{FitsTwoBytes, number_section};
 ghost use Rattle.ti_layout.specs.Reading.{word_at};
-ghost use Rattle.ti_layout.specs.Writing.{HasSizes};
-ghost use Rattle.ti_compiled.specs.Changes.{image_with, FitsWith, IsOverWith};
-ghost use Rattle.ti_compiled.specs.inside.Changes.{text_lent};
-ghost use Rattle.ti_compiled.specs.Image.{names_in, contents_in, with_content, IsImage};
+ghost use Rattle.ti_layout.specs.inside.Writing.{HasSizes};
+ghost use Rattle.ti_compiled.specs.inside.Changes.{image_with, BytesFitWith, BytesAreOverWith, text_lent};
+ghost use Rattle.ti_compiled.specs.Image.{with_content};
+ghost use Rattle.ti_compiled.specs.inside.Image.{names_in, contents_in, IsImage};
 ghost use Rattle.ti_compiled.specs.inside.Bytes.{Replaces, moved_later, ended_text};
 
 use crate::bytes::{overwrite, resize_part};
@@ -166,7 +166,7 @@ fn change_text(bytes: &mut Vec<u8>, old: &Header, new: &Header, index: usize, te
     requires index { index < count_of Text }
     requires old { HasSizes (names_in bytes.old.items) (contents_in bytes.old.items) old.now }
     requires new { HasSizes (names_in bytes.old.items) (with_content (contents_in bytes.old.items) (capability Text index) (text_lent text)) new.now }
-    requires small { FitsWith bytes.old.items (capability Text index) (text_lent text) }
+    requires small { BytesFitWith bytes.old.items (capability Text index) (text_lent text) }
     requires room { length (image_with bytes.old.items (capability Text index) (text_lent text)) ≤ vec_capacity bytes.old }
     ensures { bytes.new.items ≡ image_with bytes.old.items (capability Text index) (text_lent text.entry) }
 {
@@ -193,9 +193,9 @@ pub fn set_text(bytes: &mut Vec<u8>, index: usize, text: Option<&[u8]>) -> Resul
     requires image { IsImage bytes.old.items }
     requires index { index < count_of Text }
     ensures ok { OnOk result (bytes.new.items ≡ image_with bytes.old.items (capability Text index) (text_lent text.entry)) }
-    ensures within { OnOk result (FitsWith bytes.old.items (capability Text index) (text_lent text.entry)) }
-    ensures too_large { IsErrOf result WriteError.TooLarge ↔ IsOverWith bytes.old.items (capability Text index) (text_lent text.entry) }
-    ensures memory { IsErrOf result WriteError.Memory → FitsWith bytes.old.items (capability Text index) (text_lent text.entry) }
+    ensures within { OnOk result (BytesFitWith bytes.old.items (capability Text index) (text_lent text.entry)) }
+    ensures too_large { IsErrOf result WriteError.TooLarge ↔ BytesAreOverWith bytes.old.items (capability Text index) (text_lent text.entry) }
+    ensures memory { IsErrOf result WriteError.Memory → BytesFitWith bytes.old.items (capability Text index) (text_lent text.entry) }
     ensures names_fit { IsErrOf result WriteError.NamesTooLong → ⊥ }
     ensures err { OnErr result (bytes.new.items ≡ bytes.old.items) }
 {

@@ -1,5 +1,6 @@
 -- The definitions that the contracts of this crate cite.
 pub mod inside
+pub mod Buffer
 pub mod Counted
 pub mod LineReader
 pub mod Lines

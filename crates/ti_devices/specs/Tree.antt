@@ -1,6 +1,6 @@
 -- Trees of files. Where it is known what a tree holds, it is a map from paths to bytes; of a real
 -- disk that is not known, so what a tree holds is an option of such a map. (own)
-use Rattle.std.specs.Prelude.{◌≡◌, ◌≢◌, ℕ, List, [], ◌∷◌, Option, Some, None, Result, Ok, Err, take, drop, option_map}
+use Rattle.std.specs.Prelude.{◌≡◌, ◌≢◌, ◌≤◌, ℕ, List, [], ◌∷◌, Option, Some, None, Result, Ok, Err, length, take, drop, option_map}
 use Rattle.std.specs.Map.{update}
 use Rattle.std.specs.Str.{bytes_eq}
 use Rattle.ti_devices.specs.declared.tree.TreeFault.{TreeFault}
@@ -38,6 +38,11 @@ ChangesOnly at (Some old) (Some new) = (path : List ℕ) → path ≢ at → new
 abbrev pub FindsFile : List ℕ → ℕ → Option Files → Option (List ℕ) → Type 0
 FindsFile path count None found = Unit {0}
 FindsFile path count (Some files) found = found ≡ option_map (take count) (files path)
+
+-- a file that was found has at most so many bytes, also where it is not known what the tree holds
+abbrev pub HasAtMost : ℕ → Option (List ℕ) → Type 0
+HasAtMost count None = Unit {0}
+HasAtMost count (Some bytes) = length bytes ≤ count
 
 -- each entry was written, one after the other
 abbrev pub Writes : List FileAt → Option Files → Option Files → Type 0

@@ -1,4 +1,3 @@
 -- Computed forms of what the other files define by relations, and words that only private functions and proofs use.
-pub mod Buffer
 pub mod LineReader
 pub mod Reading

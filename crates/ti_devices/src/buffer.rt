@@ -1,6 +1,6 @@
 //! Bytes for which all the room was made before the first of them came.
 ghost use Rattle.std.specs.Prelude.{◌≡◌, ◌≤◌, ◌+◌, ◌++◌, [], IfOk, length, take, vec_capacity, vec_len};
-ghost use Rattle.ti_devices.specs.inside.Buffer.{Bounded};
+ghost use Rattle.ti_devices.specs.Buffer.{Bounded};
 
 use std::alloc::{AllocError, Global};
 use std::marker::Model;

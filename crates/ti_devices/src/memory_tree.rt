@@ -1,6 +1,6 @@
 //! A tree of files that is held in memory, and that fails at a call that is set.
 ghost use Rattle.std.specs.Prelude.{◌≡◌, ◌+◌, ◌<◌, IfErr, IfOk, OnErr, OnOk, Some, option_map};
-ghost use Rattle.ti_devices.specs.Tree.{FindsFile, Sets};
+ghost use Rattle.ti_devices.specs.Tree.{FindsFile, HasAtMost, Sets};
 ghost use Rattle.ti_devices.specs.declared.tree.TreeFault.TheVariants.{Failed};
 
 use crate::tally::Tally;
@@ -72,8 +72,9 @@ impl MemTree {
 
     // A copy of the front of the file at `path`.
     fn front(&self, alloc: Global, path: &str, limit: usize) -> Result<Option<Vec<u8>>, AllocError>
-        ensures { IfOk result (λ found. FindsFile path.now (limit + 1) (Some (files_of self.now))
+        ensures found { IfOk result (λ found. FindsFile path.now (limit + 1) (Some (files_of self.now))
             (option_map (λ bytes. bytes.items) found)) }
+        ensures bound { IfOk result (λ found. HasAtMost (limit + 1) (option_map (λ bytes. bytes.items) found)) }
     {
         let Some(bytes) = self.file(path) else {
             return Ok(None);
@@ -117,6 +118,7 @@ impl Tree for MemTree {
     ) -> Result<Option<Vec<u8>>, TreeFault>
         ensures found { IfOk result (λ found. FindsFile path.now (limit + 1) (Some (files_of self.old))
             (option_map (λ bytes. bytes.items) found)) }
+        ensures bound { IfOk result (λ found. HasAtMost (limit + 1) (option_map (λ bytes. bytes.items) found)) }
         ensures kept { files_of self.new ≡ files_of self.old }
         ensures failing { FailsWhereSet self.old self.new result }
     {

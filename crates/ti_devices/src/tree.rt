@@ -1,6 +1,6 @@
 //! The trees of files that the tools read and write.
 ghost use Rattle.std.specs.Prelude.{◌≡◌, ◌+◌, ℕ, Option, None, IfOk, OnErr, OnOk, option_map};
-ghost use Rattle.ti_devices.specs.Tree.{ChangesOnly, Files, FindsFile, Sets, failures_in};
+ghost use Rattle.ti_devices.specs.Tree.{ChangesOnly, Files, FindsFile, HasAtMost, Sets, failures_in};
 
 use std::alloc::Global;
 use thiserror::Error;
@@ -38,6 +38,7 @@ pub trait Tree {
     ) -> Result<Option<Vec<u8>>, TreeFault>
         ensures found { IfOk result (λ found. FindsFile path.now (limit + 1) (files self.old)
             (option_map (λ bytes. bytes.items) found)) }
+        ensures bound { IfOk result (λ found. HasAtMost (limit + 1) (option_map (λ bytes. bytes.items) found)) }
         ensures kept { files self.new ≡ files self.old }
         ensures counted { failures self.new ≡ failures self.old + failures_in result };
 

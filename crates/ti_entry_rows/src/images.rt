@@ -117,7 +117,7 @@ fn texts_come_and_go(rt: HostRuntime) -> Result<(), WriteError> {
     expect_steps(&rt, rt.alloc(), &mut image, &TEXTS_COME);
     expect_bytes(&rt, &image, 14, b"\0\0\x03\0");
     expect_bytes(&rt, &image, 272, b"\x05\0");
-    let copy = image.copy(rt.alloc())?;
+    let copy = image.copy()?;
     expect_steps(&rt, rt.alloc(), &mut image, &TEXT_GOES);
     assert_eq!(rt; copy.bytes().len(), 281);
     Ok(())
@@ -132,7 +132,7 @@ const FLAG_AND_TEXT: [Step<'static>; 2] = [
 /// A text that makes the entry too large is refused, and leaves the image.
 fn expect_too_large(rt: &impl Abort, alloc: Global, image: &mut Image) -> Result<(), AllocError> {
     let long = vec![in alloc; b'A'; 4078]?;
-    let before = image.copy(alloc)?;
+    let before = image.copy()?;
     let answer = give_text(image, alloc, 0, &long);
     assert!(rt; answer == Some(Err(WriteError::TooLarge)));
     assert!(rt; image.bytes() == before.bytes());
@@ -145,6 +145,49 @@ fn a_flag_changes_the_parity(rt: HostRuntime) -> Result<(), WriteError> {
     assert_eq!(rt; image.bytes().len(), 16);
     expect_steps(&rt, rt.alloc(), &mut image, &FLAG_AND_TEXT);
     expect_too_large(&rt, rt.alloc(), &mut image)?;
+    Ok(())
+}
+
+/// The entry of `x` with `cbt` of 4,079 times `A`, which is as long as an entry may be.
+fn longest_entry(alloc: Global) -> Result<Vec<u8>, AllocError> {
+    let mut bytes = Vec::from_slice(alloc, b"\x1a\x01\x02\0\0\0\0\0\x01\0\xf0\x0fx\0\0\0")?;
+    bytes.resize(4095, b'A')?;
+    bytes.push(0)?;
+    Ok(bytes)
+}
+
+// What an image answers to a `cbt` of so many times `A`.
+fn give_long(
+    image: &mut Image,
+    alloc: Global,
+    count: usize,
+) -> Result<Option<Result<(), WriteError>>, AllocError> {
+    let text = vec![in alloc; b'A'; count]?;
+    Ok(give_text(image, alloc, 0, &text))
+}
+
+fn take_flag(image: &mut Image, index: usize) -> Option<Result<(), WriteError>> {
+    let cap = Cap::at(Kind::Flag, index)?;
+    Some(image.set(cap, None))
+}
+
+#[test]
+fn the_longest_entry_comes_back(rt: HostRuntime) -> Result<(), WriteError> {
+    let mut image = empty_image(rt.alloc(), b"x")?;
+    let longest = longest_entry(rt.alloc())?;
+    assert_eq!(rt; longest.len(), 4096);
+    assert!(rt; give_long(&mut image, rt.alloc(), 4079)? == Some(Ok(())));
+    assert!(rt; is(image.bytes(), &longest));
+    assert!(rt; give_long(&mut image, rt.alloc(), 4080)? == Some(Err(WriteError::TooLarge)));
+    assert!(rt; is(image.bytes(), &longest));
+    assert!(rt; give_long(&mut image, rt.alloc(), 4077)? == Some(Ok(())));
+    assert!(rt; give_flag(&mut image, 0) == Some(Ok(())));
+    assert_eq!(rt; image.bytes().len(), 4096);
+    assert!(rt; give_long(&mut image, rt.alloc(), 4078)? == Some(Err(WriteError::TooLarge)));
+    assert_eq!(rt; image.bytes().len(), 4096);
+    assert!(rt; take_flag(&mut image, 0) == Some(Ok(())));
+    assert!(rt; give_long(&mut image, rt.alloc(), 4079)? == Some(Ok(())));
+    assert!(rt; is(image.bytes(), &longest));
     Ok(())
 }
 
@@ -169,7 +212,7 @@ fn patch_between(alloc: Global, old: &Table, new: &Table) -> Result<Image, Write
     if names.is_empty() || !has_no_nul(names) {
         return Err(WriteError::NamesTooLong);
     }
-    Image::new(alloc, names, old)?.patch(alloc, old, new)
+    Image::new(alloc, names, old)?.patch(old, new)
 }
 
 // Whether a patched image has these bytes, and the names.

@@ -6,7 +6,7 @@ use Rattle.ti_layout.specs.declared.layout.Format.TheVariants.{Legacy}
 use Rattle.ti_layout.specs.declared.layout.Header.{Header}
 use Rattle.ti_layout.specs.Layout.{entry_size, header, limit, magic, number_bytes, number_section}
 use Rattle.ti_layout.specs.Image.{image, even_gap, flags_below, format_of, image_limit, numbers_below, offsets_below, texts_below, written_count}
-use Rattle.ti_layout.specs.Writing.{HasSizes, at_most_max}
+use Rattle.ti_layout.specs.inside.Writing.{HasSizes, at_most_max}
 use Rattle.ti_layout.specs.Values.{Contents}
 use Rattle.ti_layout.proofs.Below.{length-below}
 use Rattle.ti_layout.proofs.Sizes.{length-image, limit-le, strings_small}

@@ -6,4 +6,3 @@ pub mod inside
 pub mod View
 pub mod ViewParts
 pub mod Laws
-pub mod Writing

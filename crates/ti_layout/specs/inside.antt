@@ -4,3 +4,4 @@ pub mod Mentions
 pub mod Merging
 pub mod View
 pub mod Values
+pub mod Writing

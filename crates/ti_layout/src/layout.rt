@@ -1,7 +1,6 @@
 // The two formats of a compiled entry, and the numbers of its header.
-ghost use Rattle.std.specs.Prelude.{◌≡◌, ◌≤◌};
+ghost use Rattle.std.specs.Prelude.{◌≡◌, ◌≤◌, ◌^◌, ◌-◌, min};
 ghost use Rattle.ti_layout.specs.Layout as layout;
-ghost use Rattle.ti_layout.specs.Writing.{at_most_max};
 
 use ti_text::limits::{ENTRY_MAX, EXTENDED_ENTRY_MAX};
 
@@ -92,7 +91,7 @@ impl Header {
         requires flags { layout.FitsTwoBytes self.now.flags }
         requires numbers { layout.FitsTwoBytes self.now.numbers }
         requires texts { layout.FitsTwoBytes self.now.texts }
-        ensures { result ≡ at_most_max (layout.entry_size self.now.format self.now.names self.now.flags self.now.numbers self.now.texts self.now.strings) }
+        ensures { result ≡ min (layout.entry_size self.now.format self.now.names self.now.flags self.now.numbers self.now.texts self.now.strings) (2 ^ 64 - 1) }
     {
         let gap = (self.names + self.flags) % 2;
         let numbers = self.format.width() * self.numbers;

@@ -1,5 +1,6 @@
 -- The source of an entry that uses no others is its listing.
 use Rattle.std.proofs.Common.{◌≡◌, List, [], ◌∷◌, Option, Some, None, refl}
+use Rattle.std.proofs.lemmas.List.{append-nil}
 use Rattle.ti_caps.specs.Tables.{Capability}
 use Rattle.ti_layout.specs.Values.{Content, Contents}
 use Rattle.ti_list.specs.declared.layout.Layout.{Layout}
@@ -16,4 +17,4 @@ items-alone table [] = refl
 items-alone table (c ∷ cs) = rw (alone (table c), items-alone table cs) refl
 
 pub relative-alone : (entry : Entry) (layout : Layout) → relative entry [] layout ≡ listing entry.names entry.contents layout
-relative-alone entry layout = simp (items-alone entry.contents)
+relative-alone entry layout = simp (items-alone entry.contents, append-nil)

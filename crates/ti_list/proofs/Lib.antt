@@ -5,3 +5,4 @@ pub mod Alone
 pub mod Rows
 pub mod Spaces
 pub mod Rooms
+pub mod Threads

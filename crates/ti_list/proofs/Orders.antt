@@ -5,8 +5,8 @@ use Rattle.std.proofs.lemmas.List.FromFn.{length-range_with_len, get_or-range_wi
 use Rattle.std.proofs.lemmas.Option.{slice_get-map, slice_get-get_or}
 use Rattle.ti_caps.specs.declared.capability.Kind.{Kind}
 use Rattle.ti_caps.specs.declared.capability.Kind.TheVariants.{Flag, Number, Text}
-use Rattle.ti_caps.specs.Lookup.{by_name}
-use Rattle.ti_caps.specs.inside.NameOrder.{in_name_order}
+use Rattle.ti_caps.specs.NameOrder.{in_name_order}
+use Rattle.ti_caps.proofs.NameOrder.{length-in_name_order}
 use Rattle.ti_caps.specs.Tables.{Capability, capability, count_of}
 use Rattle.ti_list.specs.declared.layout.Order.{Order}
 use Rattle.ti_list.specs.declared.layout.Order.TheVariants as order
@@ -14,13 +14,11 @@ use Rattle.ti_list.specs.Listing.{by_index, in_order}
 
 -- an order has as many capabilities as the kind
 pub length-in_order : (by : Order) (k : Kind) → length (in_order by k) ≡ count_of k
-unfolding in_order by_name
+unfolding in_order
 length-in_order order.Table Flag = refl
 length-in_order order.Table Number = refl
 length-in_order order.Table Text = refl
-length-in_order order.Name Flag = refl
-length-in_order order.Name Number = refl
-length-in_order order.Name Text = refl
+length-in_order order.Name k = length-in_name_order k
 
 -- by index each stands at its index
 pub index_at : (k : Kind) (place : ℕ) → place < count_of k → slice_get (by_index k) place ≡ Some (capability k place)

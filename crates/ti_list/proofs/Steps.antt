@@ -7,8 +7,8 @@ use Rattle.ti_source.specs.Reading.{Said}
 use Rattle.ti_layout.specs.Values.{Content, content_true, content_number, content_text, content_cancelled, Contents}
 use Rattle.ti_list.specs.inside.Contents.{said_for}
 use Rattle.ti_list.specs.declared.layout.Layout.{Layout}
-use Rattle.ti_list.specs.inside.Listing.{flow}
-use Rattle.ti_list.specs.Listing.{further_items, item_for, items_for}
+use Rattle.ti_list.specs.inside.Listing.{flow, further_before}
+use Rattle.ti_list.specs.Listing.{item_for, items_for}
 
 -- what stands at a place, and then what stands behind it
 pub drop_at : {X : Type 0} → (xs : List X) (place : ℕ) (x : X) → slice_get xs place ≡ Some x → drop place xs ≡ x ∷ drop (place + 1) xs
@@ -34,7 +34,7 @@ items-some table caps place c x at some = rw (drop_at caps place c at, some) (it
 -- after the item of a capability was written, what is still to come is as it was
 pub flow-some : (layout : Layout) (line : Option ℕ) (column : ℕ) (before after all : List ℕ) (table : Contents) (caps : List Capability) (place : ℕ) (c : Capability) (x : Content) (rest : List ℕ)
     → slice_get caps place ≡ Some c → table c ≡ Some x
-    → ((items : List Said) (end : List ℕ) → after ++ further_items layout column items end ≡ before ++ flow layout line (said_for c x ∷ items) end)
+    → ((items : List Said) (end : List ℕ) → after ++ further_before layout column items end ≡ before ++ flow layout line (said_for c x ∷ items) end)
     → before ++ flow layout line (items_for table (drop place caps)) rest ≡ all
     → after ++ flow layout (Some column) (items_for table (drop (place + 1) caps)) rest ≡ all
 flow-some layout line column before after all table caps place c x rest at some writes invariant =

@@ -3,7 +3,7 @@ use Rattle.std.specs.Prelude.{ℕ, ◌+◌, ◌||◌, nat_lt, if◌then◌else�
 use Rattle.std.specs.List.{range_with_len}
 use Rattle.ti_text.specs.Ascii as ascii
 use Rattle.ti_caps.specs.Tables.{Capability, capability, count_of}
-use Rattle.ti_caps.specs.inside.NameOrder.{in_name_order}
+use Rattle.ti_caps.specs.NameOrder.{in_name_order}
 use Rattle.ti_caps.specs.declared.capability.Kind.{Kind}
 use Rattle.ti_caps.specs.declared.capability.Kind.TheVariants.{Flag, Number, Text}
 use Rattle.ti_source.specs.Reading.{Said, said_flag, said_number, said_text, said_cancel}
@@ -49,26 +49,26 @@ kind_items layout table kind = items_for table (in_order layout.order kind)
 abbrev pub size_of : Said → ℕ
 size_of item = length (item_text item) + 1
 
--- further items of a kind where so many columns of the line are taken, and then the rest: an item stands on the line, behind a space, unless it
--- would bring the line past the width or each item is to stand on its own line
-abbrev pub further_items : Layout → ℕ → List Said → List ℕ → List ℕ
-further_items layout column [] rest = rest
-further_items layout column (item ∷ items) rest =
+-- further items of a kind where so many columns of the line are taken: an item stands on the line, behind a space, unless it would bring the line
+-- past the width or each item is to stand on its own line
+abbrev pub further_items : Layout → ℕ → List Said → List ℕ
+further_items layout column [] = []
+further_items layout column (item ∷ items) =
     if layout.one_per_line || nat_lt layout.width (column + 1 + size_of item)
-    then ascii.newline ∷ ascii.tab ∷ item_text item ++ ascii.comma ∷ further_items layout (8 + size_of item) items rest
-    else ascii.space ∷ item_text item ++ ascii.comma ∷ further_items layout (column + 1 + size_of item) items rest
+    then ascii.newline ∷ ascii.tab ∷ item_text item ++ ascii.comma ∷ further_items layout (8 + size_of item) items
+    else ascii.space ∷ item_text item ++ ascii.comma ∷ further_items layout (column + 1 + size_of item) items
 
--- the items of a kind, of which the first begins a line, where a tab takes 8 columns, and then the rest
-abbrev pub lines_of : Layout → List Said → List ℕ → List ℕ
-lines_of layout [] rest = rest
-lines_of layout (item ∷ items) rest = ascii.newline ∷ ascii.tab ∷ item_text item ++ ascii.comma ∷ further_items layout (8 + size_of item) items rest
+-- the items of a kind, of which the first begins a line, where a tab takes 8 columns
+abbrev pub lines_of : Layout → List Said → List ℕ
+lines_of layout [] = []
+lines_of layout (item ∷ items) = ascii.newline ∷ ascii.tab ∷ item_text item ++ ascii.comma ∷ further_items layout (8 + size_of item) items
 
--- the names field and the items of each kind in turn, and then the rest
-abbrev pub source_lines : List ℕ → Contents → Layout → List ℕ → List ℕ
-source_lines field table layout rest =
+-- the names field and the items of each kind in turn
+abbrev pub source_lines : List ℕ → Contents → Layout → List ℕ
+source_lines field table layout =
     field ++ ascii.comma ∷ lines_of layout (kind_items layout table Flag)
-    (lines_of layout (kind_items layout table Number) (lines_of layout (kind_items layout table Text) rest))
+    ++ lines_of layout (kind_items layout table Number) ++ lines_of layout (kind_items layout table Text)
 
 -- the listing of an entry
 abbrev pub listing : List ℕ → Contents → Layout → List ℕ
-listing field table layout = source_lines field table layout (ascii.newline ∷ [])
+listing field table layout = source_lines field table layout ++ ascii.newline ∷ []

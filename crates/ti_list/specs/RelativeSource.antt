@@ -46,15 +46,24 @@ difference (Some own) (Some theirs) = if same_content own theirs then None else 
 abbrev pub differing_contents : Contents → List Entry → Contents
 differing_contents table others c = difference (table c) (first_of others c)
 
--- a use of each of the entries, by its first name, on a line of its own, and then the rest
-abbrev pub use_lines : List Entry → List ℕ → List ℕ
-use_lines [] rest = rest
-use_lines (other ∷ others) rest = ascii.newline ∷ ascii.tab ∷ item_text (said_import (first_name other.names)) ++ ascii.comma ∷ use_lines others rest
+-- a use of each of the entries, by its first name, on a line of its own
+abbrev pub use_lines : List Entry → List ℕ
+use_lines [] = []
+use_lines (other ∷ others) = ascii.newline ∷ ascii.tab ∷ item_text (said_import (first_name other.names)) ++ ascii.comma ∷ use_lines others
 
 -- the relative source of an entry: the items that differ, as in a listing, and then the uses
 abbrev pub relative : Entry → List Entry → Layout → List ℕ
-relative entry others layout = source_lines entry.names (differing_contents entry.contents others) layout (use_lines others (ascii.newline ∷ []))
+relative entry others layout =
+    source_lines entry.names (differing_contents entry.contents others) layout ++ use_lines others ++ ascii.newline ∷ []
 
--- the relative source of an entry and the listings of the others, each the text of a block
-abbrev pub with_others : Entry → List Entry → Layout → List (List ℕ)
-with_others entry others layout = relative entry others layout ∷ map (λ (other : Entry). listing other.names other.contents layout) others
+-- an entry, and the layout of its listing
+abbrev pub Listed : Type 0
+Listed = Entry × Layout
+
+-- without their layouts
+abbrev pub entries_of : List Listed → List Entry
+entries_of listed = map (λ (one : Listed). one.0) listed
+
+-- the relative source of an entry and the listings of the others, each in a layout of its own and the text of a block
+abbrev pub with_others : Entry → Layout → List Listed → List (List ℕ)
+with_others entry layout listed = relative entry (entries_of listed) layout ∷ map (λ (one : Listed). listing one.0.names one.0.contents one.1) listed

@@ -4,9 +4,9 @@ ghost use Rattle.ti_text.specs.Ascii as ascii;
 ghost use Rattle.ti_layout.specs.View.{view_contents, names_of, shown_entry};
 ghost use Rattle.ti_source.specs.Reading.{Said};
 ghost use Rattle.ti_list.specs.inside.Contents.{plain_content, said_for, FitsStringTable};
-ghost use Rattle.ti_list.specs.inside.Listing.{flow};
+ghost use Rattle.ti_list.specs.inside.Listing.{flow, further_before};
 ghost use Rattle.ti_list.specs.Items.{item_text};
-ghost use Rattle.ti_list.specs.Listing.{size_of, further_items, in_order, items_for, kind_items, lines_of, listing};
+ghost use Rattle.ti_list.specs.Listing.{size_of, in_order, items_for, kind_items, lines_of, listing};
 ghost use Rattle.ti_list.specs.inside.Room.{item_room, items_room, source_room, uses_room};
 ghost use Rattle.ti_list.specs.RelativeSource.{differing_contents, relative, use_lines, entries_shown};
 
@@ -95,7 +95,7 @@ fn write_placed(
     requires short { FitsStringTable (plain_content content) }
     requires room { vec_len out.old + item_room (said_for cap (plain_content content)) ≤ vec_capacity out.old }
     ensures items { (items : List Said) (rest : List ℕ)
-        → out.new.items ++ further_items layout.now result items rest
+        → out.new.items ++ further_before layout.now result items rest
         ≡ out.old.items ++ flow layout.now line (said_for cap (plain_content content.entry) ∷ items) rest }
     ensures len { vec_len out.new ≤ vec_len out.old + item_room (said_for cap (plain_content content.entry)) }
     ensures capacity { vec_capacity out.old ≤ vec_capacity out.new }
@@ -119,8 +119,8 @@ fn write_kind<'a>(
 )
     requires { vec_len out.old + items_room (kind_items layout.now (differing_contents (view_contents view.now) (entries_shown others.now)) kind)
         ≤ vec_capacity out.old }
-    ensures items { (rest : List ℕ) → out.new.items ++ rest ≡ out.old.items
-        ++ lines_of layout.now (kind_items layout.now (differing_contents (view_contents view.now) (entries_shown others.now)) kind) rest }
+    ensures items { out.new.items ≡ out.old.items
+        ++ lines_of layout.now (kind_items layout.now (differing_contents (view_contents view.now) (entries_shown others.now)) kind) }
     ensures len { vec_len out.new ≤ vec_len out.old
         + items_room (kind_items layout.now (differing_contents (view_contents view.now) (entries_shown others.now)) kind) }
     ensures capacity { vec_capacity out.old ≤ vec_capacity out.new }
@@ -137,7 +137,7 @@ fn write_kind<'a>(
 // Appends a use of each of the others, on a line of its own.
 fn write_uses(out: &mut Vec<u8>, others: &[View<'_>])
     requires { vec_len out.old + uses_room (entries_shown others.now) ≤ vec_capacity out.old }
-    ensures items { (rest : List ℕ) → out.new.items ++ rest ≡ out.old.items ++ use_lines (entries_shown others.now) rest }
+    ensures items { out.new.items ≡ out.old.items ++ use_lines (entries_shown others.now) }
     ensures len { vec_len out.new ≤ vec_len out.old + uses_room (entries_shown others.now) }
     ensures capacity { vec_capacity out.old ≤ vec_capacity out.new }
 {

@@ -6,11 +6,11 @@ use Rattle.ti_source.specs.Reading.{Reading}
 use Rattle.ti_meaning.specs.Owner.{is_among, owner, owner_block}
 use Rattle.ti_meaning.specs.Expansion.{Mention, expand, expansion}
 use Rattle.ti_meaning.specs.Reaching.{LeadsTo, leads_to}
-use Rattle.ti_meaning.specs.Laws.{IsFirstWith, OwnersAreFirst, ExpansionsStay, ExpansionsAreFound, WaysAreFound, IsUseFault, nobody_owns, leads_back, owner_unresolved, owner_resolved, UseFaultsAreFound, Resolves}
+use Rattle.ti_meaning.specs.Laws.{IsFirstWith, OwnersAreFirst, ExpansionsStay, ExpansionsAreFound, WaysAreFound, IsUseFault, nobody_owns, leads_back, owner_unresolved, owner_resolved, UseFaultsAreFound, UsesAreFound, OwnersAreTold, Resolves}
 use Rattle.ti_meaning.proofs.Owning.{nobody, somebody, owning}
 use Rattle.ti_meaning.proofs.Depth.{expand-le, bounded}
 use Rattle.ti_meaning.proofs.UseFaults.{use_fault_missing, use_fault_circular, use_fault_open, use_fault_none}
-use Rattle.ti_meaning.proofs.Leading.{leads_to-LeadsTo, LeadsTo-leads_to}
+use Rattle.ti_meaning.proofs.Leading.{any_use-used, used-any_use, is_owner-from, is_owner-is, leads_to-LeadsTo, LeadsTo-leads_to}
 
 -- ---- owners
 
@@ -76,6 +76,14 @@ found_expansions = record {
   found = λ bs at depth b ms s e. bounded bs depth at b ms s e;
   resolves = λ bs at b s. (λ t. (suc (length bs), t), λ r. is_resolved bs at b s r);
 }
+
+-- ---- names
+
+pub found_uses : UsesAreFound
+found_uses = λ name items. (λ t. any_use-used name items t, λ u. used-any_use name items u)
+
+pub told_owners : OwnersAreTold
+told_owners = λ bs name at. (λ t. is_owner-is bs name at t, λ o. is_owner-from bs name at o)
 
 -- ---- ways and faults
 

@@ -1,6 +1,8 @@
 -- Whether a way leads from a name to a name of a block: a search one block deep for each of the list finds every way.
-use Rattle.std.proofs.Common.{◌≡◌, ℕ, zero, suc, ◌<◌, ◌⊎◌, inl, inr, Bool, true, false, ◌||◌, List, [], ◌∷◌, length, Option, Some, None, slice_get, nat_eq, refl, sym, ◌∙◌, ap}
+use Rattle.std.proofs.Common.{◌≡◌, ℕ, zero, suc, ◌<◌, ◌⊎◌, inl, inr, Bool, true, false, ◌||◌, List, [], ◌∷◌, length, Option, Some, None, slice_get, nat_eq, refl, sym, ◌∙◌, ap, subst}
 use Rattle.std.specs.Option.{option_map_or}
+use Rattle.std.specs.Str.{bytes_eq}
+use Rattle.std.specs.Cmp.Lexicographic.{bytes_decides}
 use Rattle.std.proofs.lemmas.Bool.{false≢true, or_cases, eqb-true, eq-eqb}
 use Rattle.std.proofs.lemmas.Option.{slice_get_within}
 use Rattle.ti_source.specs.Reading.{Reading, ReadItem}
@@ -43,6 +45,13 @@ use_passes-same f g h (Some n) = h n
 any_use-same : (f g : List ℕ → Bool) → ((n : List ℕ) → f n ≡ g n) → (is : List ReadItem) → any_use f is ≡ any_use g is
 any_use-same f g h [] = refl
 any_use-same f g h (i ∷ is) = rw (use_passes-same f g h (used_name i.said), any_use-same f g h is) refl
+
+-- a name is found exactly where an item uses it
+pub any_use-used : (name : List ℕ) (is : List ReadItem) → any_use (bytes_eq name) is ≡ true → Uses is name
+any_use-used name is e = let w = any_use-uses (bytes_eq name) is e in subst (Uses is) (sym ((bytes_decides name w.0).0 w.2)) w.1
+
+pub used-any_use : (name : List ℕ) (is : List ReadItem) → Uses is name → any_use (bytes_eq name) is ≡ true
+used-any_use name is u = any_use-from (bytes_eq name) is name u ((bytes_decides name name).1 refl)
 
 any_use-grows : (f g : List ℕ → Bool) → ((n : List ℕ) → f n ≡ true → g n ≡ true) → (is : List ReadItem) → any_use f is ≡ true → any_use g is ≡ true
 any_use-grows f g h is e = let w = any_use-uses f is e in any_use-from g is w.0 w.1 (h w.0 w.2)
@@ -131,10 +140,10 @@ leads-settles bs at k n e =
 
 -- ---- ways
 
-is_owner-from : (bs : List Reading) (n : List ℕ) (at : ℕ) → owner bs n ≡ Some at → is_owner bs n at ≡ true
+pub is_owner-from : (bs : List Reading) (n : List ℕ) (at : ℕ) → owner bs n ≡ Some at → is_owner bs n at ≡ true
 is_owner-from bs n at e = rw e (eq-eqb at at refl)
 
-is_owner-is : (bs : List Reading) (n : List ℕ) (at : ℕ) → is_owner bs n at ≡ true → owner bs n ≡ Some at
+pub is_owner-is : (bs : List Reading) (n : List ℕ) (at : ℕ) → is_owner bs n at ≡ true → owner bs n ≡ Some at
 is_owner-is bs n at e =
     elim (owner bs n) as (λ v. option_map_or (λ place. nat_eq place at) v false ≡ true → v ≡ Some at) [
       | None ↦ λ h. absurd (false≢true h)

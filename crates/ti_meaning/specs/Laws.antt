@@ -1,11 +1,12 @@
 -- Laws of the definitions, by which the computing ones say what the relations say.
 use Rattle.std.specs.Prelude.{[], ◌∷◌, ◌++◌, map, ℕ, ◌≡◌, ◌≤◌, ◌<◌, ◌↔◌, List, Option, Some, None, IsSome, IsTrue, slice_get}
+use Rattle.std.specs.Str.{bytes_eq}
 use Rattle.ti_source.specs.declared.code.Code.{Code}
 use Rattle.ti_source.specs.declared.code.Code.TheVariants.{MissingUse, Circular, Unresolved}
 use Rattle.ti_source.specs.Reading.{Reading, ReadItem, ReadFault}
-use Rattle.ti_meaning.specs.Owner.{is_among, owner, owner_block}
+use Rattle.ti_meaning.specs.Owner.{is_among, is_owner, owner, owner_block}
 use Rattle.ti_meaning.specs.Expansion.{Mention, expand, expansion, resolves}
-use Rattle.ti_meaning.specs.Reaching.{used_name, LeadsTo, leads_to}
+use Rattle.ti_meaning.specs.Reaching.{any_use, used_name, Uses, LeadsTo, leads_to}
 use Rattle.ti_meaning.specs.Faults.{SourceFault, local_fault, use_fault, fault_of_item, faults_before, faults_from, item_faults}
 
 -- the name is the block's at that position, and no block before has it
@@ -37,6 +38,14 @@ pub record ExpansionsAreFound : Type 0 where
       → expand (owner_block blocks) depth block ≡ Some mentions → expansion blocks block ≡ Some mentions
   pub resolves : (blocks : List Reading) (at : ℕ) (block : Reading) → slice_get blocks at ≡ Some block
       → IsTrue (resolves blocks block) ↔ Resolves (owner_block blocks) block
+
+-- the test of what items use finds a name exactly where one of them uses it
+abbrev pub UsesAreFound : Type 0
+UsesAreFound = (name : List ℕ) (items : List ReadItem) → IsTrue (any_use (bytes_eq name) items) ↔ Uses items name
+
+-- the test of whose a name is finds the position of its owner, and no other
+abbrev pub OwnersAreTold : Type 0
+OwnersAreTold = (blocks : List Reading) (name : List ℕ) (at : ℕ) → IsTrue (is_owner blocks name at) ↔ (owner blocks name ≡ Some at)
 
 -- the search for a way finds one exactly where there is one
 abbrev pub WaysAreFound : Type 0

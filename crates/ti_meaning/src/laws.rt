@@ -1,5 +1,5 @@
 // Laws of the definitions that the calls of this crate stand on. They compute nothing.
-ghost use Rattle.ti_meaning.specs.Laws.{ItemFaultsAreInOrder, ExpansionsAreFound, ExpansionsStay, OwnersAreFirst, UseFaultsAreFound, WaysAreFound};
+ghost use Rattle.ti_meaning.specs.Laws.{ItemFaultsAreInOrder, ExpansionsAreFound, ExpansionsStay, OwnersAreFirst, OwnersAreTold, UseFaultsAreFound, UsesAreFound, WaysAreFound};
 
 /// A name belongs to the first block that has it.
 pub fn owners_are_first()
@@ -15,6 +15,13 @@ pub fn expansions_stay()
 /// block of the source does.
 pub fn expansions_are_found()
     ensures { ExpansionsAreFound }
+{}
+
+/// What is computed of one name says what the relations say: whether one of the items uses it, and
+/// whether it belongs to the block at a position.
+pub fn uses_and_owners_are_told()
+    ensures uses { UsesAreFound }
+    ensures owners { OwnersAreTold }
 {}
 
 /// A way of used names leads from a name to a block exactly where one does that comes to no block

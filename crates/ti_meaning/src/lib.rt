@@ -28,7 +28,7 @@ pub use faults::Fault;
 pub use item_laws::{item_faults_go_by_ordinal, names_are_distinct, read_items_are_ordered};
 pub use laws::{
     expansions_are_found, expansions_stay, item_faults_are_in_order, owners_are_first,
-    use_faults_are_found, ways_are_found,
+    use_faults_are_found, uses_and_owners_are_told, ways_are_found,
 };
 pub use use_laws::{
     circular_uses_share_a_component, leading_is_reaching, leading_is_walking,

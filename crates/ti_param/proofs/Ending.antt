@@ -5,9 +5,9 @@ use Rattle.ti_param.specs.declared.errors.ParamError.{ParamError}
 use Rattle.ti_param.specs.declared.errors.ParamError.TheVariants.{BadFormat, StackFull, Memory}
 use Rattle.ti_param.specs.Formats.{FormatTree, IsTree, IsStuck}
 use Rattle.ti_param.specs.inside.Formats.{stuck_place, tree_of}
-use Rattle.ti_param.specs.Meaning.{FormatArgument, MachineState, MachineOutcome, start, meaning}
+use Rattle.ti_param.specs.Meaning.{FormatArgument, MachineState, start, meaning}
 use Rattle.ti_param.specs.Expansion.{Expands, Overflows}
-use Rattle.ti_param.specs.inside.Expansion.{expanded, expansion_by, unless_stuck, format_expansion, EndsWith, HasOutcome, IsStuckError}
+use Rattle.ti_param.specs.inside.Expansion.{HasOutcome, IsStuckError}
 use Rattle.ti_param.proofs.Laws.{is_computed}
 
 -- the tree of a format that is not stuck
@@ -24,13 +24,6 @@ refused-bad_format format (BadFormat at) refusal place = (
 )
 refused-bad_format format (StackFull at) refusal place = absurd refusal
 refused-bad_format format Memory refusal place = absurd refusal
-
-pub refused-computed : (format : List ℕ) (parameters : List FormatArgument) (statics : List ℤ) (e : ParamError) → IsStuckError e (stuck_place format) →
-    EndsWith e (format_expansion format parameters statics)
-unfolding format_expansion
-refused-computed format parameters statics (BadFormat at) refusal = ap (λ stuck. unless_stuck stuck (meaning (tree_of format) (start parameters statics))) refusal
-refused-computed format parameters statics (StackFull at) refusal = absurd refusal
-refused-computed format parameters statics Memory refusal = absurd refusal
 
 -- ---- the format is run
 
@@ -60,18 +53,6 @@ run-stack_full format parameters statics before after e none begins runs place i
 pub run-memory : (format : List ℕ) → stuck_place format ≡ None → (t : FormatTree) × IsTree format t
 run-memory format none = (tree_of format, whole format none)
 
-pub run-computed : (format : List ℕ) (parameters : List FormatArgument) (statics : List ℤ) (before after : MachineState) (e : ParamError) →
-    stuck_place format ≡ None → before ≡ start parameters statics → Runs format before (Err e) after → EndsWith e (format_expansion format parameters statics)
-unfolding format_expansion
-run-computed format parameters statics before after e none begins runs =
-    rw none (subst (λ s. EndsWith e (expansion_by (meaning (tree_of format) s))) begins (ends e (meaning (tree_of format) before) (runs (tree_of format) (whole format none))))
-  where
-    ends : (e : ParamError) (o : MachineOutcome) → HasOutcome (Err e) after o → EndsWith e (expansion_by o)
-    ends (BadFormat place) o ran = absurd ran
-    ends (StackFull place) o ran = ap expansion_by ran
-    ends Memory (Ok final) ran = tt
-    ends Memory (Err place) ran = tt
-
 pub done-expands : (format : List ℕ) (parameters : List FormatArgument) (statics : List ℤ) (before final : MachineState) (output : List ℕ) (after : List ℤ) →
     stuck_place format ≡ None → before ≡ start parameters statics → Runs format before (Ok tt) final → output ≡ final.output → after ≡ final.statics →
     Expands format parameters statics output after
@@ -83,14 +64,6 @@ done-expands format parameters statics before final output after none begins run
   output_is = output_is;
   statics_are = statics_are;
 }
-
-pub done-computed : (format : List ℕ) (parameters : List FormatArgument) (statics : List ℤ) (before final : MachineState) (output : List ℕ) (after : List ℤ) →
-    stuck_place format ≡ None → before ≡ start parameters statics → Runs format before (Ok tt) final → output ≡ final.output → after ≡ final.statics →
-    format_expansion format parameters statics ≡ expanded output after
-unfolding format_expansion
-done-computed format parameters statics before final output after none begins runs output_is statics_are =
-    rw none (ap expansion_by (ap (meaning (tree_of format)) (sym begins) ∙ runs (tree_of format) (whole format none))
-    ∙ ap (λ o. expanded o final.statics) (sym output_is) ∙ ap (expanded output) (sym statics_are))
 
 pub done-bad_format : {T : Type 0} (format : List ℕ) (x : T) → stuck_place format ≡ None →
     (place : ℕ) → IsErrOf {T = T} {E = ParamError} (Ok x) (BadFormat place) ↔ IsStuck format place

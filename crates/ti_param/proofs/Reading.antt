@@ -9,9 +9,9 @@ use Rattle.ti_printing.specs.declared.printf.Conversion.{Conversion}
 use Rattle.ti_printing.specs.declared.printf.Directive.{Directive}
 use Rattle.ti_printing.specs.declared.printf.Flags.{Flags}
 use Rattle.ti_text.specs.Lists.{AllAre}
-use Rattle.ti_param.specs.Codes.{row_for, span, simple_tokens, conversions, is_flag, IsFlags, signed_flags, plain_flags, IsPrecision, without_precision, with_precision, begins_zero, IsDirective, directive, IsCode, simple_code, parameter_code, store_code, fetch_code, byte_code, number_code, print_code}
+use Rattle.ti_param.specs.Codes.{OneCode, row_for, span, simple_tokens, conversions, is_flag, IsFlags, signed_flags, plain_flags, IsPrecision, without_precision, with_precision, begins_zero, IsDirective, directive, IsCode, simple_code, parameter_code, store_code, fetch_code, byte_code, number_code, print_code}
 use Rattle.ti_text.specs.Digits.{is_decimal_digit, decimal_value}
-use Rattle.ti_param.specs.inside.Codes.{Front, parameter_after, store_after, fetch_after, byte_after, constant_before, number_after, flags_of, flags_after, precision_of, precision_after, directive_with, directive_after, begins_directive, letter_after, token_after, OneCode}
+use Rattle.ti_param.specs.inside.Codes.{Front, parameter_after, store_after, fetch_after, byte_after, constant_before, number_after, flags_of, flags_after, precision_of, precision_after, directive_with, directive_after, begins_directive, letter_after, token_after}
 use Rattle.ti_param.proofs.Fronts.{chosen, mapped, found-row, span-whole, span-all, span-append, braced}
 
 -- ---- what may stand after flags, digits and a precision
@@ -364,4 +364,7 @@ pub code_so : (text rest : List ℕ) (token : Token) → token_after text ≡ So
 code_so text rest token h = code_found text (token, rest) h
 
 pub one_code : OneCode
-one_code = record { reads = code_read; read_so = code_so }
+one_code front other rest left token t same is_code is_other =
+    let read : Some (token, rest) ≡ Some (t, left) = sym (code_read front rest token is_code) ∙ ap token_after same ∙ code_read other left t is_other in
+    let pair : ◌≡◌ {A = Token × List ℕ} (token, rest) (t, left) = cc read in
+    (ap (λ p. p.0) pair, ap (λ p. p.1) pair)

@@ -1,5 +1,5 @@
 -- The codes of a parameter string: the table under "Parameterized Strings" of terminfo(5), after the `%`. A text has
--- at most one of them at its front, `IsCode` says which, and `token_after` computes it.
+-- at most one of them at its front, and `IsCode` says which.
 use Rattle.std.specs.Prelude.{◌≡◌, ℕ, ◌-◌, ◌<◌, ◌≤◌, Bool, true, false, ◌&&◌, ◌||◌, List, [], ◌∷◌, ◌++◌, length, map, pos, if◌then◌else◌, ◌==◌, nat_le, Option}
 use Rattle.std.specs.Prelude.{Some, None}
 use Rattle.ti_text.specs.Ascii.{byte_of}
@@ -129,3 +129,7 @@ pub data IsCode : List ℕ → Token → Type 0 where
   number_code : (ds : List ℕ) → AllAre is_decimal_digit ds → 0 < length ds → decimal_value ds ≤ number_max →
       IsCode (ascii.open_brace ∷ (ds ++ ascii.close_brace ∷ [])) (Operation (Constant (pos (decimal_value ds))))
   print_code : (text : List ℕ) {form : Directive} → IsDirective text form → IsCode text (Operation (Print form))
+
+-- the law of codes: no code's text begins another's, so a text has at most one code at its front
+abbrev pub OneCode : Type 0
+OneCode = (front other rest left : List ℕ) (token t : Token) → front ++ rest ≡ other ++ left → IsCode front token → IsCode other t → (token ≡ t) × (rest ≡ left)

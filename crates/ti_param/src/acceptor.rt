@@ -2,7 +2,7 @@
 ghost use Rattle.std.specs.Prelude.{◌≡◌, ℕ, ◌≤◌, List, MatchBool, reverse};
 ghost use Rattle.arrayvec.specs.ArrayVec.{array_vec_len};
 ghost use Rattle.ti_param.specs.Formats.{HasOneTree, most_open};
-ghost use Rattle.ti_param.specs.inside.Formats.{phases_after, IsFormatComputed};
+ghost use Rattle.ti_param.specs.inside.Formats.{phases_after};
 
 use crate::codes::Token;
 use arrayvec::ArrayVec;
@@ -60,9 +60,4 @@ pub(crate) fn advance(phases: &mut ArrayVec<Phase, MOST>, token: &Token) -> bool
 /// The law of formats: each has exactly one tree, or exactly one place where it is stuck.
 pub fn one_reading()
     ensures { (format : List ℕ) → HasOneTree format }
-{}
-
-/// The law of the computing reader: it gives the tree, and the place, that there are.
-pub fn reading_is_computed()
-    ensures { (format : List ℕ) → IsFormatComputed format }
 {}

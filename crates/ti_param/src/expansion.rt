@@ -1,10 +1,10 @@
 //! The bytes that a parameter string sends to the terminal.
-ghost use Rattle.std.specs.Prelude.{◌≡◌, ℕ, ◌+◌, ◌^◌, ◌<◌, ◌≤◌, ◌↔◌, IfOk, OnErr, IsErrOf, map, length, MatchResult};
+ghost use Rattle.std.specs.Prelude.{◌≡◌, ℕ, ◌+◌, ◌^◌, ◌<◌, ◌≤◌, ◌↔◌, IfOk, OnErr, IsErrOf, map, length};
 ghost use Rattle.ti_param.specs.Formats.{FormatTree, AreTokensOf, IsTree, IsStuck};
 ghost use Rattle.ti_param.specs.inside.Formats.{after_part, left_of, level_after};
 ghost use Rattle.ti_param.specs.Meaning.{argument_of, meaning};
 ghost use Rattle.ti_param.specs.Expansion.{Expands, Overflows};
-ghost use Rattle.ti_param.specs.inside.Expansion.{EndsWith, format_expansion, expanded, HasOutcome};
+ghost use Rattle.ti_param.specs.inside.Expansion.{HasOutcome};
 
 use crate::codes::Token;
 use crate::errors::ParamError;
@@ -38,11 +38,6 @@ pub fn expand(
     ensures stack_full { (place : ℕ) → IsErrOf result (ParamError.StackFull place) → Overflows format.now (map argument_of params.now) statics.old place }
     ensures memory { IsErrOf result ParamError.Memory → (t : FormatTree) × IsTree format.now t }
     ensures err { OnErr result (statics.new ≡ statics.old) }
-
-    // the same, computed
-    ensures computed { MatchResult result
-        (λ output. format_expansion format.now (map argument_of params.now) statics.old ≡ expanded output.items statics.new)
-        (λ error. EndsWith error (format_expansion format.now (map argument_of params.now) statics.old)) }
 {
     let mut lexer = Lexer::new(format);
     let mut machine = Machine::new(alloc, params, statics);

@@ -3,14 +3,15 @@
 //!
 //! - `values`: what is handed to a parameter string, and the static variables; `specs/Limits.antt` says how many.
 //! - `expansion`: the bytes that a parameter string sends to the terminal; `errors`: why there are none.
-//! - `codes`: the codes of a format; `reader`, `directives` and `decimals`: reading one; `lexer`: a format as its tokens.
-//! - `acceptor`: whether a format is whole, before any of it is run.
+//! - `codes`: the codes of a format; `reader`, `directives` and `decimals`: reading one; `lexer`: a format as its tokens, as far
+//!   as they may stand where they do.
+//! - `acceptor`: whether a token may stand in the conditionals that are open.
 //! - `machine`, `arithmetic`: the stack, the variables, and what each code does to them.
 //!
 //! The crate `ti_printing` below it has what a printf form prints, and padding, whose call is public here too.
 //!
 //! A format is a tree: `specs/Formats.antt` has the grammar, `specs/Codes.antt` the table of codes and
-//! `specs/Meaning.antt` what a tree does. `one_code`, `one_reading` and `reading_is_computed` are laws of these.
+//! `specs/Meaning.antt` what a tree does. `one_code` and `one_reading` are laws of these.
 #![tactic(auto)]
 
 mod acceptor;
@@ -25,7 +26,7 @@ mod machine;
 mod reader;
 mod values;
 
-pub use acceptor::{one_reading, reading_is_computed};
+pub use acceptor::one_reading;
 pub use errors::ParamError;
 pub use expansion::expand;
 pub use reader::one_code;

@@ -3,7 +3,8 @@
 //! Each reader takes the text at which it begins, and gives what it read and the text after it.
 ghost use Rattle.std.specs.Prelude.{◌≡◌, Some, None};
 ghost use Rattle.ti_param.specs.declared.codes.Code.TheVariants.{Print};
-ghost use Rattle.ti_param.specs.inside.Codes.{OneCode, code_of, token_after, parameter_after, store_after, fetch_after, byte_after, number_after, plain_form};
+ghost use Rattle.ti_param.specs.Codes.{OneCode};
+ghost use Rattle.ti_param.specs.inside.Codes.{code_of, token_after, parameter_after, store_after, fetch_after, byte_after, number_after, plain_form};
 ghost use Rattle.ti_param.specs.inside.Reader.{with_rest};
 
 use crate::codes::{Code, Operator, ordinal_of, variable_of};
@@ -134,7 +135,7 @@ fn number_constant(text: &[u8]) -> Option<(Code, &[u8])>
 /// The largest number that a `%{n}` may push.
 const LARGEST: u32 = NUMBER_MAX;
 
-/// The law of codes: no code's text begins another's, and a text is read as the code that it begins with.
+/// The law of codes: no code's text begins another's, so a text has at most one code at its front.
 pub fn one_code()
     ensures { OneCode }
 {}

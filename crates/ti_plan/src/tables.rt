@@ -6,7 +6,7 @@ ghost use Rattle.ti_source.specs.Reading.{reading_of, said_import, said_of};
 ghost use Rattle.ti_layout.specs.Image.{image, image_limit};
 ghost use Rattle.ti_layout.specs.Laws.{without_cancel};
 ghost use Rattle.ti_layout.specs.Values.{contents};
-ghost use Rattle.ti_compiled.specs.Image.{contents_in};
+ghost use Rattle.ti_compiled.specs.Image.{bytes_of, held_by};
 ghost use Rattle.ti_meaning.specs.Expansion.{Mention, is_broken};
 ghost use Rattle.ti_meaning.specs.Compiled.{state_of, state_with};
 ghost use Rattle.ti_meaning.specs.Dependents.{work_of};
@@ -100,8 +100,8 @@ fn make_table(
 fn make_image(alloc: Global, slot: &Slot, table: &Table) -> Result<Image, WriteError>
     requires whole { is_broken (reading_of slot.now.block) ≡ false }
     requires usable { IsUsable (reading_of slot.now.block) }
-    ensures image { IfOk result (λ i. i ≡ image slot.now.block.field.items (contents table.now)) }
-    ensures contents { IfOk result (λ i. (c : Capability) → IsCapability c → contents_in i c ≡ without_cancel (contents table.now c)) }
+    ensures image { IfOk result (λ i. bytes_of i ≡ image slot.now.block.field.items (contents table.now)) }
+    ensures contents { IfOk result (λ i. (c : Capability) → IsCapability c → held_by i c ≡ without_cancel (contents table.now c)) }
     ensures too_large { IsErrOf result WriteError.TooLarge
         ↔ (image_limit (contents table.now) < length (image slot.now.block.field.items (contents table.now))) }
     ensures names_fit { IsErrOf result WriteError.NamesTooLong → ⊥ }
@@ -109,7 +109,7 @@ fn make_image(alloc: Global, slot: &Slot, table: &Table) -> Result<Image, WriteE
     let names = &slot.block.field;
     match slot.settled.state.entry() {
         Some(before) if before.image.names() == names.as_slice() => {
-            before.image.patch(alloc, &before.table, table)
+            before.image.patch(&before.table, table)
         }
         _ => Image::new(alloc, names, table),
     }

@@ -2,11 +2,14 @@
 use Rattle.std.proofs.Common.{◌≡◌, ℕ, zero, suc, ◌-◌, ◌<◌, ◌≤◌, List, [], ◌∷◌, ◌++◌, length, drop, take, get_or, Some, None, refl, sym, ap, subst, ◌∙◌, arith}
 use Rattle.std.proofs.lemmas.List.{length-append, take_all}
 use Rattle.std.proofs.Math.Seq.{drop-append_seam}
+use Rattle.std.specs.Prelude.{Result, Ok, Err, IfOk, ◌↔◌}
+use Rattle.std.specs.Global.{Vec}
+use Rattle.ti_printing.specs.declared.padding.Line.{Line}
 use Rattle.ti_printing.specs.declared.padding.Padding.{Padding}
 use Rattle.ti_printing.specs.declared.padding.Part.{Part}
 use Rattle.ti_printing.specs.declared.padding.Part.TheVariants.{Literal, Delay}
-use Rattle.ti_printing.specs.Padding.{BeginsNoPadding, IsPadding, IsCutIntoParts, cut_nothing, cut_literal, cut_padding, TextsHaveOneCut}
-use Rattle.ti_printing.specs.inside.Padding.{first_part, taken_by, padding_at, parts_after, parts_of}
+use Rattle.ti_printing.specs.Padding.{AsksForTooMuch, BeginsNoPadding, IsPadded, IsPadding, IsCutIntoParts, cut_nothing, cut_literal, cut_padding, pad_bytes_max, padded_parts, padding_of_parts, TextsHaveOneCut}
+use Rattle.ti_printing.specs.inside.Padding.{first_part, taken_by, padding_at, padding_of, parts_after, parts_of, with_pad_bytes}
 use Rattle.ti_printing.proofs.Paddings.{padding_at-some, padding_at-found}
 
 -- what a padding takes is passed over
@@ -92,8 +95,41 @@ cut_within (suc most) (byte ∷ text) within =
           subst (λ t. IsCutIntoParts t (parts_of t)) (sym spelled) (subst (IsCutIntoParts (front ++ found.1)) (sym (parts_of-padding front found.1 found.0 is)) (cut_padding is (cut_within most found.1 shorter)))
     ] refl
 
+the_cut : (text : List ℕ) → IsCutIntoParts text (parts_of text)
+the_cut text = cut_within (length text) text (omega arith)
+
 pub one_cut : TextsHaveOneCut
-one_cut text parts = (parts_of_cut text parts, λ e. subst (IsCutIntoParts text) (sym e) (cut_within (length text) text (omega arith)))
+one_cut text = record {
+  some = (parts_of text, the_cut text);
+  one = λ parts others cut other. parts_of_cut text parts cut ∙ sym (parts_of_cut text others other);
+}
+
+-- ---- the padded text is computed
+
+pub padded_is : (text : List ℕ) (lines : ℕ) (line : Line) (out : List ℕ) → out ≡ with_pad_bytes text lines line → IsPadded text lines line out
+unfolding with_pad_bytes
+padded_is text lines line out h = record { parts = parts_of text; cut = the_cut text; written = h }
+
+pub padded_computed : (text : List ℕ) (lines : ℕ) (line : Line) (out : List ℕ) → IsPadded text lines line out → out ≡ with_pad_bytes text lines line
+unfolding with_pad_bytes
+padded_computed text lines line out h = h.written ∙ ap (padded_parts lines line) (parts_of_cut text h.parts h.cut)
+
+pub too_much_computed : (text : List ℕ) (lines : ℕ) (line : Line) → AsksForTooMuch text lines line ↔ (pad_bytes_max < padding_of text lines line)
+unfolding padding_of
+too_much_computed text lines line = (
+  λ asks. subst (λ parts. pad_bytes_max < padding_of_parts lines line parts) (parts_of_cut text asks.parts asks.cut) asks.many,
+  λ many. record { parts = parts_of text; cut = the_cut text; many = many },
+)
+
+-- so an answer that is right as computed is right
+pub padded_ok : {E : Type 0} (text : List ℕ) (lines : ℕ) (line : Line) (result : Result (Vec ℕ) E) →
+    IfOk result (λ out. out.items ≡ with_pad_bytes text lines line) → IfOk result (λ out. IsPadded text lines line out.items)
+padded_ok text lines line (Ok out) h = padded_is text lines line out.items h
+padded_ok text lines line (Err e) h = h
+
+pub padded_too_much : {R : Type 0} (text : List ℕ) (lines : ℕ) (line : Line) → R ↔ (pad_bytes_max < padding_of text lines line) → R ↔ AsksForTooMuch text lines line
+padded_too_much text lines line h =
+    let asks = too_much_computed text lines line in (λ r. asks.1 (h.0 r), λ a. h.1 (asks.0 a))
 
 -- no more parts than bytes
 length-parts_after : (taken : ℕ) (text : List ℕ) → length (parts_after taken text) ≤ length text

@@ -3,7 +3,8 @@ use Rattle.std.proofs.Common.{◌≡◌, ◌≢◌, ℕ, suc, ◌<◌, List, [],
 use Rattle.std.proofs.lemmas.Bool.{eq-eqb, ne_eqb}
 use Rattle.memchr.specs.Find.{Nowhere, Passes, is_byte}
 use Rattle.ti_printing.specs.declared.padding.Line.{Line}
-use Rattle.ti_printing.specs.Padding.{with_pad_bytes, padded_parts, padding_of, padding_of_parts}
+use Rattle.ti_printing.specs.Padding.{padded_parts, padding_of_parts}
+use Rattle.ti_printing.specs.inside.Padding.{with_pad_bytes, padding_of}
 use Rattle.ti_printing.specs.inside.Padding.{padding_at, parts_after, parts_of}
 
 -- no byte is a `$`

@@ -1,6 +1,6 @@
 -- Padding: terminfo(5), "Delays and Padding". A delay is written as so many pad bytes, by the line's speed.
 use Rattle.std.specs.Prelude.{◌≡◌, ℕ, ◌+◌, ◌*◌, ◌<◌, ◌≤◌, Bool, true, false, not, ◌&&◌, ◌||◌, List, [], ◌∷◌, ◌++◌, length, replicate, if◌then◌else◌, nat_le}
-use Rattle.std.specs.Prelude.{is_some, unwrap_or, ◌↔◌}
+use Rattle.std.specs.Prelude.{is_some, unwrap_or}
 use Rattle.std.specs.Int.{div_ceil}
 use Rattle.ti_text.specs.Ascii as ascii
 use Rattle.ti_text.specs.Digits.{is_decimal_digit, decimal_digit_value, decimal_value}
@@ -8,10 +8,13 @@ use Rattle.ti_text.specs.Lists.{AllAre}
 use Rattle.ti_printing.specs.declared.padding.Line.{Line}
 use Rattle.ti_printing.specs.declared.padding.Padding.{Padding}
 use Rattle.ti_printing.specs.declared.padding.Part.{Part}
-use Rattle.ti_printing.specs.inside.Padding.{delay_digits_max, parts_of}
 use Rattle.ti_printing.specs.declared.padding.Part.TheVariants.{Literal, Delay}
 
 -- ---- what a padding is
+
+-- the most digits of the milliseconds (own)
+abbrev pub delay_digits_max : ℕ
+delay_digits_max = 5
 
 -- decimal digits, at least one and `delay_digits_max` at most, which are the milliseconds
 pub record AreMilliseconds (text : List ℕ) (number : ℕ) : Type 0 where
@@ -60,9 +63,14 @@ pub data IsCutIntoParts : List ℕ → List Part → Type 0 where
   cut_padding : {text rest : List ℕ} {padding : Padding} {parts : List Part} → IsPadding text padding → IsCutIntoParts rest parts
       → IsCutIntoParts (text ++ rest) (Delay padding ∷ parts)
 
--- the law of the cut: each text has exactly one, and it is `parts_of`
+-- the text has exactly one cut
+pub record HasOneCut (text : List ℕ) : Type 0 where
+  pub some : (parts : List Part) × IsCutIntoParts text parts
+  pub one : (parts others : List Part) → IsCutIntoParts text parts → IsCutIntoParts text others → parts ≡ others
+
+-- the law of the cut: each text has exactly one
 abbrev pub TextsHaveOneCut : Type 0
-TextsHaveOneCut = (text : List ℕ) (parts : List Part) → IsCutIntoParts text parts ↔ (parts ≡ parts_of text)
+TextsHaveOneCut = (text : List ℕ) → HasOneCut text
 
 -- ---- the padded text
 
@@ -94,10 +102,14 @@ padding_of_parts lines line (Delay padding ∷ parts) = pad_count lines line pad
 abbrev pub pad_bytes_max : ℕ
 pad_bytes_max = 65536
 
--- the text with each padding as its pad bytes
-unfoldable pub with_pad_bytes : List ℕ → ℕ → Line → List ℕ
-with_pad_bytes text lines line = padded_parts lines line (parts_of text)
+-- the bytes are the text, with each padding of its cut as its pad bytes
+pub record IsPadded (text : List ℕ) (lines : ℕ) (line : Line) (out : List ℕ) : Type 0 where
+  pub parts : List Part
+  pub cut : IsCutIntoParts text parts
+  pub written : out ≡ padded_parts lines line parts
 
--- how many pad bytes that are in all
-unfoldable pub padding_of : List ℕ → ℕ → Line → ℕ
-padding_of text lines line = padding_of_parts lines line (parts_of text)
+-- the paddings of the text are more pad bytes in all than one text may ask for
+pub record AsksForTooMuch (text : List ℕ) (lines : ℕ) (line : Line) : Type 0 where
+  pub parts : List Part
+  pub cut : IsCutIntoParts text parts
+  pub many : pad_bytes_max < padding_of_parts lines line parts

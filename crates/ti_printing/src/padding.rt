@@ -1,8 +1,8 @@
 //! Padding: a capability's text as bytes for the terminal, with pad bytes at the line's speed.
 ghost use Rattle.std.specs.Prelude.{◌≡◌, ◌+◌, ◌<◌, ◌≤◌, ◌++◌, ◌↔◌, length, IfOk, IfSome, SomeIff, MatchOption, vec_len, vec_capacity};
 ghost use Rattle.std.specs.Iterator.{YieldsFirst, item_count};
-ghost use Rattle.ti_printing.specs.Padding.{TextsHaveOneCut, with_pad_bytes, pad_bytes_max, padding_of, pad_count};
-ghost use Rattle.ti_printing.specs.inside.Padding.{parts_of, padding_at, after_byte, delay_digits_max, digits_len, milliseconds_at, tenths_at, mark_at, marks_at};
+ghost use Rattle.ti_printing.specs.Padding.{AsksForTooMuch, IsPadded, TextsHaveOneCut, delay_digits_max, pad_bytes_max, pad_count};
+ghost use Rattle.ti_printing.specs.inside.Padding.{parts_of, padding_at, padding_of, after_byte, digits_len, milliseconds_at, tenths_at, mark_at, marks_at, with_pad_bytes};
 
 use memchr::memchr;
 use std::alloc::{AllocError, Global};
@@ -57,8 +57,8 @@ impl From<AllocError> for PadError {
 /// `TooMuch` where the text asks for more than 65,536 pad bytes, which is found before any room is made;
 /// `Memory` where the room was refused.
 pub fn pad(alloc: Global, text: &[u8], lines: u32, line: &Line) -> Result<Vec<u8>, PadError>
-    ensures ok { IfOk result (λ out. out.items ≡ with_pad_bytes text.now lines line.now) }
-    ensures too_much { (result ≡ Err PadError.TooMuch) ↔ (pad_bytes_max < padding_of text.now lines line.now) }
+    ensures ok { IfOk result (λ out. IsPadded text.now lines line.now out.items) }
+    ensures too_much { (result ≡ Err PadError.TooMuch) ↔ AsksForTooMuch text.now lines line.now }
 {
     match memchr(b'$', text) {
         None => Ok(Vec::from_slice(alloc, text)?),
@@ -66,14 +66,14 @@ pub fn pad(alloc: Global, text: &[u8], lines: u32, line: &Line) -> Result<Vec<u8
     }
 }
 
-/// The same of a text that the caller gives up: one without padding is given back as it is, and takes no memory.
+/// A text that the caller gives up, padded as [`pad`] does: one without padding is given back as it is, and takes no memory.
 ///
 /// # Errors
 ///
 /// Those of [`pad`].
 pub fn pad_owned(alloc: Global, text: Vec<u8>, lines: u32, line: &Line) -> Result<Vec<u8>, PadError>
-    ensures ok { IfOk result (λ out. out.items ≡ with_pad_bytes text.items lines line.now) }
-    ensures too_much { (result ≡ Err PadError.TooMuch) ↔ (pad_bytes_max < padding_of text.items lines line.now) }
+    ensures ok { IfOk result (λ out. IsPadded text.items lines line.now out.items) }
+    ensures too_much { (result ≡ Err PadError.TooMuch) ↔ AsksForTooMuch text.items lines line.now }
 {
     match memchr(b'$', text.as_slice()) {
         None => Ok(text),
@@ -81,10 +81,10 @@ pub fn pad_owned(alloc: Global, text: Vec<u8>, lines: u32, line: &Line) -> Resul
     }
 }
 
-// The same, part by part.
+// A text, padded part by part.
 fn pad_parts(alloc: Global, text: &[u8], lines: u32, line: &Line) -> Result<Vec<u8>, PadError>
-    ensures ok { IfOk result (λ out. out.items ≡ with_pad_bytes text.now lines line.now) }
-    ensures too_much { (result ≡ Err PadError.TooMuch) ↔ (pad_bytes_max < padding_of text.now lines line.now) }
+    ensures ok { IfOk result (λ out. IsPadded text.now lines line.now out.items) }
+    ensures too_much { (result ≡ Err PadError.TooMuch) ↔ AsksForTooMuch text.now lines line.now }
 {
     let Some(pads) = pads_in(text, lines, line) else {
         return Err(PadError::TooMuch);
@@ -146,7 +146,7 @@ impl<'a> Iterator for Parts<'a> {
 }
 
 /// How many pad bytes the text asks for, where they are not too many.
-#[tactic(auto, unfolding(crate::specs::Padding::padding_of))]
+#[tactic(auto, unfolding(crate::specs::inside::Padding::padding_of))]
 fn pads_in(text: &[u8], lines: u32, line: &Line) -> Option<usize>
     ensures { SomeIff result (padding_of text.now lines line.now ≤ pad_bytes_max) (padding_of text.now lines line.now) }
 {
@@ -164,7 +164,7 @@ fn pads_in(text: &[u8], lines: u32, line: &Line) -> Option<usize>
 }
 
 /// Appends the padded text, for which the caller has made room.
-#[tactic(auto, using(crate::proofs::Cuts::parts_fit), unfolding(crate::specs::Padding::padding_of, crate::specs::Padding::with_pad_bytes))]
+#[tactic(auto, using(crate::proofs::Cuts::parts_fit), unfolding(crate::specs::inside::Padding::padding_of, crate::specs::inside::Padding::with_pad_bytes))]
 fn write(out: &mut Vec<u8>, text: &[u8], lines: u32, line: &Line)
     requires { vec_len out.old + length text.now + padding_of text.now lines line.now ≤ vec_capacity out.old }
     ensures { out.new.items ≡ out.old.items ++ with_pad_bytes text.now lines line.now }

@@ -1,5 +1,5 @@
 //! The printf forms of a parameter string: `%d`, `%o`, `%x`, `%X` and `%s` with flags, width and precision.
-ghost use Rattle.std.specs.Prelude.{◌≡◌, ◌≢◌, ◌+◌, ◌^◌, ◌<◌, ◌≤◌, ◌++◌, length, map, drop, replicate, slice_index, OnOk, OnErr};
+ghost use Rattle.std.specs.Prelude.{◌≡◌, ◌≢◌, ◌+◌, ◌^◌, ◌<◌, ◌≤◌, ◌++◌, length, map, drop, replicate, slice_index, vec_len, vec_capacity, OnOk, OnErr};
 ghost use Rattle.std.specs.Fmt.{digit_glyph};
 ghost use Rattle.std.specs.Int.Digits.{digits_of};
 ghost use Rattle.ti_printing.specs.inside.Printf.{digits_max, parts_text};
@@ -183,12 +183,38 @@ fn push_parts(out: &mut Vec<u8>, layout: &Layout<'_>) -> Result<(), AllocError>
         after,
     } = *layout;
     out.reserve(before + front.len() + zeros + shown.len() + after)?;
-    fill_reserved(out, b' ', before);
-    append_reserved(out, front);
-    fill_reserved(out, b'0', zeros);
+    fill(out, b' ', before);
+    append(out, front);
+    fill(out, b'0', zeros);
     append_reserved(out, shown);
-    fill_reserved(out, b' ', after);
+    fill(out, b' ', after);
     Ok(())
+}
+
+/// Appends the byte so many times, mostly none, for which the caller has made room.
+#[inline(always)]
+fn fill(out: &mut Vec<u8>, byte: u8, count: usize)
+    requires { vec_len out.old + count ≤ vec_capacity out.old }
+    ensures items { out.new.items ≡ out.old.items ++ replicate count byte }
+    ensures len { vec_len out.new ≡ vec_len out.old + count }
+    ensures capacity { vec_capacity out.old ≤ vec_capacity out.new }
+{
+    if count > 0 {
+        fill_reserved(out, byte, count);
+    }
+}
+
+/// Appends the bytes, mostly none, for which the caller has made room.
+#[inline(always)]
+fn append(out: &mut Vec<u8>, bytes: &[u8])
+    requires { vec_len out.old + length bytes.now ≤ vec_capacity out.old }
+    ensures items { out.new.items ≡ out.old.items ++ bytes.now }
+    ensures len { vec_len out.new ≡ vec_len out.old + length bytes.now }
+    ensures capacity { vec_capacity out.old ≤ vec_capacity out.new }
+{
+    if !bytes.is_empty() {
+        append_reserved(out, bytes);
+    }
 }
 
 /// The sign and the prefix.

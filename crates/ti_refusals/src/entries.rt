@@ -93,7 +93,82 @@ fn patch(
     Ok(image.set(cap, Some(Value::Text(text))))
 }
 
-/// An entry that is written, patched and copied.
+/// What an image is given: the first flag, or a first text of so many times `A`.
+#[derive(Clone, Copy)]
+enum Given {
+    Flag,
+    Text(usize),
+}
+
+// Gives an image a flag or a text.
+fn give(alloc: Global, image: &mut Image, given: Given) -> Result<Result<(), WriteError>, Trouble> {
+    let kind = match given {
+        Given::Flag => Kind::Flag,
+        Given::Text(_) => Kind::Text,
+    };
+    let Some(cap) = Cap::at(kind, 0) else {
+        return Err(Trouble::Wrong("no capability"));
+    };
+    match given {
+        Given::Flag => Ok(image.set(cap, Some(Value::True))),
+        Given::Text(count) => {
+            let text = RcSlice::from_slice(alloc, &vec![in alloc; b'A'; count]?)?;
+            if !has_no_nul(text.as_slice()) {
+                return Err(Trouble::Wrong("a text holds a NUL"));
+            }
+            Ok(image.set(cap, Some(Value::Text(text))))
+        }
+    }
+}
+
+// Gives an image a flag or a text, and once more where memory was refused; what is refused leaves the image.
+fn give_again(
+    alloc: Global,
+    image: &mut Image,
+    given: Given,
+    tried: &mut Tried,
+) -> Result<Result<(), WriteError>, Trouble> {
+    let before = Vec::from_slice(alloc, image.bytes())?;
+    let answer = give(alloc, image, given)?;
+    if answer.is_err() && image.bytes() != before.as_slice() {
+        return Err(Trouble::Wrong("a refused value has changed an image"));
+    }
+    if answer != Err(WriteError::Memory) {
+        return Ok(answer);
+    }
+    tried.count_refusal();
+    give(alloc, image, given)
+}
+
+/// What an image of `xy` is given, and what it answers: the last text is too long by far.
+const GIVEN: [(Given, Result<(), WriteError>); 3] = [
+    (Given::Flag, Ok(())),
+    (Given::Text(1), Ok(())),
+    (Given::Text(4078), Err(WriteError::TooLarge)),
+];
+
+// Gives an image of `xy` what it may have, and a text that makes it too large.
+fn add_full_image(alloc: Global, tried: &mut Tried) -> Result<(), Trouble> {
+    let names: &[u8] = b"xy";
+    if names.is_empty() || !has_no_nul(names) {
+        return Err(Trouble::Wrong("the names hold a NUL"));
+    }
+    let table = Table::new(alloc);
+    let made = again!(tried, WriteError::Memory => Image::new(alloc, names, &table));
+    let Ok(mut image) = made else {
+        return Err(Trouble::Wrong("Image::new"));
+    };
+    tried.add(image.bytes());
+    for (given, wanted) in GIVEN {
+        if give_again(alloc, &mut image, given, tried)? != wanted {
+            return Err(Trouble::Wrong("Image::set"));
+        }
+        tried.add(image.bytes());
+    }
+    Ok(())
+}
+
+/// An entry that is written, patched and copied, and one that is given more than it may have.
 ///
 /// # Errors
 /// As of a scenario.
@@ -125,9 +200,10 @@ pub fn image(alloc: Global) -> Result<Tried, Trouble> {
         }
         tried.add(image.bytes());
     }
-    let Ok(copy) = again!(tried, AllocError => image.copy(alloc)) else {
+    let Ok(copy) = again!(tried, AllocError => image.copy()) else {
         return Err(Trouble::Wrong("Image::copy"));
     };
     tried.add(copy.bytes());
+    add_full_image(alloc, &mut tried)?;
     Ok(tried)
 }

@@ -22,7 +22,7 @@ use Rattle.ti_meaning.specs.Compiled.{image_of, is_too_large, entry_of, entry, c
 use Rattle.ti_list.specs.Items.{no_more, CanBeListed, IsListable}
 use Rattle.ti_list.specs.declared.layout.Layout.{Layout}
 use Rattle.ti_layout.specs.View.{Entry}
-use Rattle.ti_list.specs.RelativeSource.{differing_contents, use_lines, relative, with_others}
+use Rattle.ti_list.specs.RelativeSource.{Listed, differing_contents, entries_of, relative, with_others}
 use Rattle.ti_relisting.specs.Relisting.{CanHave, CanBeShown, CanBeUsed, ListingsCompile, RelativesCompile}
 use Rattle.ti_relisting.specs.Entries.{IsEntry, IsUsedEntry, ShownEntry, listings, Relisting, Relistings, RelativeSource}
 use Rattle.ti_relisting.specs.ReadingBack.{PartsAreBlocks}
@@ -31,7 +31,7 @@ use Rattle.ti_relisting.proofs.Fitting.{MentionFits, ItemFits, items-fit, unbrok
 use Rattle.ti_relisting.proofs.Heading.{block-listable, first-lookup}
 use Rattle.ti_relisting.proofs.Compiling.{uncancelled-twice}
 use Rattle.ti_relisting.proofs.Relating.{All-at, uses-can, differing-can}
-use Rattle.ti_relisting.proofs.Listing.{listed-all, uses-tail, all-can}
+use Rattle.ti_relisting.proofs.Listing.{listed-all, relative-all, all-can}
 use Rattle.ti_relisting.proofs.Orders.{all_in}
 use Rattle.ti_relisting.proofs.Standing.{single-cut}
 use Rattle.ti_relisting.specs.Layouts.{uses_of}
@@ -216,26 +216,31 @@ used-can known shown used =
     let can = (is-shown known used.bytes shown used.entry).can in
     record { shown = can; first = record { lookup = first-lookup shown.names can.names can.listable.header; bare = used.bare } }
 
-listings-stand : EachKindIsInOrder → PartsAreBlocks → (layout : Layout) (others : List Entry) → All CanBeUsed others → All OneBlock (map (λ (other : Entry). listing other.names other.contents layout) others)
-listings-stand ordered stands layout [] used = All-nil OneBlock
-listings-stand ordered stands layout (other ∷ others) used =
-    All-cons OneBlock (listing other.names other.contents layout) (map (λ (other : Entry). listing other.names other.contents layout) others)
-    (listing-stands ordered stands other layout (All-head CanBeUsed other others used).shown) (listings-stand ordered stands layout others (All-tail CanBeUsed other others used))
+abbrev listing_of : Listed → List ℕ
+listing_of one = listing one.0.names one.0.contents one.1
 
-relative-stands : EachKindIsInOrder → PartsAreBlocks → (entry : Entry) (others : List Entry) (layout : Layout) → CanBeShown entry → All CanBeUsed others → All OneBlock (with_others entry others layout)
-relative-stands ordered stands shown others layout can used =
+listings-stand : EachKindIsInOrder → PartsAreBlocks → (listed : List Listed) → All CanBeUsed (entries_of listed) → All OneBlock (map listing_of listed)
+listings-stand ordered stands [] used = All-nil OneBlock
+listings-stand ordered stands (one ∷ listed) used =
+    All-cons OneBlock (listing_of one) (map listing_of listed)
+    (listing-stands ordered stands one.0 one.1 (All-head CanBeUsed one.0 (entries_of listed) used).shown) (listings-stand ordered stands listed (All-tail CanBeUsed one.0 (entries_of listed) used))
+
+relative-stands : EachKindIsInOrder → PartsAreBlocks → (entry : Entry) (layout : Layout) (listed : List Listed) → CanBeShown entry → All CanBeUsed (entries_of listed)
+    → All OneBlock (with_others entry layout listed)
+relative-stands ordered stands shown layout listed can used =
+    let others = entries_of listed in
     let table = differing_contents shown.contents others in
-    All-cons OneBlock (relative shown others layout) (map (λ (other : Entry). listing other.names other.contents layout) others)
+    All-cons OneBlock (relative shown others layout) (map listing_of listed)
     (stands shown.names can.names (items_for table (all_in layout.order) ++ uses_of others) (relative shown others layout) can.listable
     (all-can ordered table layout (uses_of others) (differing-can shown.contents others can.holds) (uses-can others used))
-    (listed-all shown.names table layout (uses_of others) (use_lines others (10 ∷ [])) (uses-tail others)))
-    (listings-stand ordered stands layout others used)
+    (relative-all shown others layout))
+    (listings-stand ordered stands listed used)
 
 pub relative_source : AreKnown → PartsAreBlocks → RelativesCompile → RelativeSource
-relative_source known stands compiles bytes shown others layout is_entry used owns =
+relative_source known stands compiles bytes shown layout listed is_entry used owns =
     let is = is-shown known bytes shown is_entry in
-    let can = All-weaker IsUsedEntry CanBeUsed (used-can known) others used in
-    let single = relative-stands known.ordered stands shown others layout is.can can in (
-      record { cut = single-cut (with_others shown others layout) single; single = single },
-      compiles shown others layout is.can can owns is.within ∙ ap (λ b. Some b) is.image_is,
+    let can = All-weaker IsUsedEntry CanBeUsed (used-can known) (entries_of listed) used in
+    let single = relative-stands known.ordered stands shown layout listed is.can can in (
+      record { cut = single-cut (with_others shown layout listed) single; single = single },
+      compiles shown layout listed is.can can owns is.within ∙ ap (λ b. Some b) is.image_is,
     )

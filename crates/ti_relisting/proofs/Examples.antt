@@ -43,12 +43,12 @@ slashed = record { names = codes "a\\"; contents = nothing }
 abbrev plain : Entry
 plain = record { names = codes "b"; contents = nothing }
 
-slashed-owns : owner (readings (with_others plain (slashed ∷ []) layout)) (first_name slashed.names) ≡ Some 1
+slashed-owns : owner (readings (with_others plain layout ((slashed, layout) ∷ []))) (first_name slashed.names) ≡ Some 1
 unfolding reading_of_text in_order
 slashed-owns = refl
 
 -- a relative source that uses it does not resolve
-slashed-lost : compiled (with_others plain (slashed ∷ []) layout) 0 ≡ None
+slashed-lost : compiled (with_others plain layout ((slashed, layout) ∷ [])) 0 ≡ None
 unfolding reading_of_text in_order
 slashed-lost = refl
 

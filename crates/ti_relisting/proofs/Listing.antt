@@ -17,28 +17,36 @@ use Rattle.ti_list.specs.declared.layout.Layout.{Layout}
 use Rattle.ti_list.specs.Items.{item_text, IsTail, no_more, same_line, new_line, IsListing, CanBeListed}
 use Rattle.ti_list.specs.Listing.{item_for, items_for, kind_items, in_order, size_of, further_items, lines_of, source_lines, listing}
 use Rattle.ti_layout.specs.View.{Entry}
-use Rattle.ti_list.specs.RelativeSource.{first_name, differing_contents, use_lines}
+use Rattle.ti_list.specs.RelativeSource.{first_name, differing_contents, relative, use_lines}
 use Rattle.ti_relisting.specs.Relisting.{CanHave, CanHaveAll}
 use Rattle.ti_relisting.specs.Layouts.{entry_items, uses_of, ListingsAreLaidOut, RelativesAreLaidOut}
 use Rattle.ti_relisting.proofs.Orders.{is_among, all_in, all_in-all}
 
 -- ---- the layout
 
-further-tail : (layout : Layout) (column : ℕ) (items more : List Said) (rest : List ℕ) → IsTail more rest → IsTail (items ++ more) (further_items layout column items rest)
+-- an item with its comma, and what stands behind it
+item-then : (item : Said) (later rest : List ℕ) → item_text item ++ 44 ∷ (later ++ rest) ≡ (item_text item ++ 44 ∷ later) ++ rest
+item-then item later rest = sym (append_assoc (item_text item) (44 ∷ later) rest)
+
+further-tail : (layout : Layout) (column : ℕ) (items more : List Said) (rest : List ℕ) → IsTail more rest → IsTail (items ++ more) (further_items layout column items ++ rest)
 further-tail layout column [] more rest laid = laid
 further-tail layout column (item ∷ items) more rest laid =
-    let broken = further-tail layout (8 + size_of item) items more rest laid in
-    let same = further-tail layout (column + 1 + size_of item) items more rest laid in
+    let below = further_items layout (8 + size_of item) items in
+    let beside = further_items layout (column + 1 + size_of item) items in
+    let broken = new_line item (items ++ more) (below ++ rest) (further-tail layout (8 + size_of item) items more rest laid) in
+    let same = same_line item (items ++ more) (beside ++ rest) (further-tail layout (column + 1 + size_of item) items more rest laid) in
     elim (layout.one_per_line || nat_lt layout.width (column + 1 + size_of item))
-    as (λ b. IsTail (item ∷ (items ++ more)) (cond b (10 ∷ 9 ∷ item_text item ++ 44 ∷ further_items layout (8 + size_of item) items rest) (32 ∷ item_text item ++ 44 ∷ further_items layout (column + 1 + size_of item) items rest))) [
-      | true ↦ new_line item (items ++ more) (further_items layout (8 + size_of item) items rest) broken
-      | false ↦ same_line item (items ++ more) (further_items layout (column + 1 + size_of item) items rest) same
+    as (λ b. IsTail (item ∷ (items ++ more)) (cond b (10 ∷ 9 ∷ item_text item ++ 44 ∷ below) (32 ∷ item_text item ++ 44 ∷ beside) ++ rest)) [
+      | true ↦ subst (λ t. IsTail (item ∷ (items ++ more)) (10 ∷ 9 ∷ t)) (item-then item below rest) broken
+      | false ↦ subst (λ t. IsTail (item ∷ (items ++ more)) (32 ∷ t)) (item-then item beside rest) same
     ]
 
-pub lines-tail : (layout : Layout) (items more : List Said) (rest : List ℕ) → IsTail more rest → IsTail (items ++ more) (lines_of layout items rest)
+pub lines-tail : (layout : Layout) (items more : List Said) (rest : List ℕ) → IsTail more rest → IsTail (items ++ more) (lines_of layout items ++ rest)
 lines-tail layout [] more rest laid = laid
 lines-tail layout (item ∷ items) more rest laid =
-    new_line item (items ++ more) (further_items layout (8 + size_of item) items rest) (further-tail layout (8 + size_of item) items more rest laid)
+    let below = further_items layout (8 + size_of item) items in
+    subst (λ t. IsTail (item ∷ (items ++ more)) (10 ∷ 9 ∷ t)) (item-then item below rest)
+    (new_line item (items ++ more) (below ++ rest) (further-tail layout (8 + size_of item) items more rest laid))
 
 items_for-append : (table : Contents) (cs ds : List Capability) → items_for table (cs ++ ds) ≡ items_for table cs ++ items_for table ds
 items_for-append table [] ds = refl
@@ -53,35 +61,54 @@ entry_items-all layout table =
     sym (items_for-append table flags (numbers ++ texts) ∙ ap (λ l. items_for table flags ++ l) (items_for-append table numbers texts))
 
 -- a listing in any layout is one of the items of its entry, and then of those of the rest
-listed-is : (field : List ℕ) (table : Contents) (layout : Layout) (more : List Said) (rest : List ℕ) → IsTail more rest → IsListing field (entry_items layout table ++ more) (source_lines field table layout rest)
+listed-is : (field : List ℕ) (table : Contents) (layout : Layout) (more : List Said) (rest : List ℕ) → IsTail more rest → IsListing field (entry_items layout table ++ more) (source_lines field table layout ++ rest)
 listed-is field table layout more rest laid =
     let flags = kind_items layout table Flag in
     let numbers = kind_items layout table Number in
     let texts = kind_items layout table Text in
-    let tail = lines_of layout flags (lines_of layout numbers (lines_of layout texts rest)) in
+    let flag_lines = lines_of layout flags in
+    let number_lines = lines_of layout numbers in
+    let text_lines = lines_of layout texts in
+    let tail = flag_lines ++ (number_lines ++ (text_lines ++ rest)) in
     let by_kind : IsTail (flags ++ (numbers ++ (texts ++ more))) tail =
-    lines-tail layout flags (numbers ++ (texts ++ more)) (lines_of layout numbers (lines_of layout texts rest))
-    (lines-tail layout numbers (texts ++ more) (lines_of layout texts rest) (lines-tail layout texts more rest laid)) in
+    lines-tail layout flags (numbers ++ (texts ++ more)) (number_lines ++ (text_lines ++ rest))
+    (lines-tail layout numbers (texts ++ more) (text_lines ++ rest) (lines-tail layout texts more rest laid)) in
     let together : (flags ++ (numbers ++ texts)) ++ more ≡ flags ++ (numbers ++ (texts ++ more)) =
     append_assoc flags (numbers ++ texts) more ∙ ap (λ l. flags ++ l) (append_assoc numbers texts more) in
-    record { tail = tail; whole = refl; is_tail = subst (λ items. IsTail items tail) (sym together) by_kind }
+    let whole : source_lines field table layout ++ rest ≡ field ++ 44 ∷ tail =
+    append_assoc ((field ++ 44 ∷ flag_lines) ++ number_lines) text_lines rest ∙ append_assoc (field ++ 44 ∷ flag_lines) number_lines (text_lines ++ rest)
+    ∙ append_assoc field (44 ∷ flag_lines) (number_lines ++ (text_lines ++ rest)) in
+    record { tail = tail; whole = whole; is_tail = subst (λ items. IsTail items tail) (sym together) by_kind }
 
 pub listings_laid_out : ListingsAreLaidOut
 listings_laid_out field table layout =
     subst (λ items. IsListing field items (listing field table layout)) (append-nil (entry_items layout table)) (listed-is field table layout [] (10 ∷ []) no_more)
 
-pub uses-tail : (others : List Entry) → IsTail (uses_of others) (use_lines others (10 ∷ []))
+pub uses-tail : (others : List Entry) → IsTail (uses_of others) (use_lines others ++ 10 ∷ [])
 uses-tail [] = no_more
-uses-tail (other ∷ others) = new_line (said_import (first_name other.names)) (uses_of others) (use_lines others (10 ∷ [])) (uses-tail others)
+uses-tail (other ∷ others) =
+    let use_other = said_import (first_name other.names) in
+    subst (λ t. IsTail (use_other ∷ uses_of others) (10 ∷ 9 ∷ t)) (item-then use_other (use_lines others) (10 ∷ []))
+    (new_line use_other (uses_of others) (use_lines others ++ 10 ∷ []) (uses-tail others))
 
 pub relatives_laid_out : RelativesAreLaidOut
-relatives_laid_out entry others layout = listed-is entry.names (differing_contents entry.contents others) layout (uses_of others) (use_lines others (10 ∷ [])) (uses-tail others)
+relatives_laid_out entry others layout =
+    let lines = source_lines entry.names (differing_contents entry.contents others) layout in
+    subst (λ text. IsListing entry.names (entry_items layout (differing_contents entry.contents others) ++ uses_of others) text)
+    (sym (append_assoc lines (use_lines others) (10 ∷ [])))
+    (listed-is entry.names (differing_contents entry.contents others) layout (uses_of others) (use_lines others ++ 10 ∷ []) (uses-tail others))
 
 -- the same of the items of all capabilities
 pub listed-all : (field : List ℕ) (table : Contents) (layout : Layout) (more : List Said) (rest : List ℕ) → IsTail more rest
-    → IsListing field (items_for table (all_in layout.order) ++ more) (source_lines field table layout rest)
+    → IsListing field (items_for table (all_in layout.order) ++ more) (source_lines field table layout ++ rest)
 listed-all field table layout more rest laid =
-    subst (λ items. IsListing field (items ++ more) (source_lines field table layout rest)) (entry_items-all layout table) (listed-is field table layout more rest laid)
+    subst (λ items. IsListing field (items ++ more) (source_lines field table layout ++ rest)) (entry_items-all layout table) (listed-is field table layout more rest laid)
+
+pub relative-all : (entry : Entry) (others : List Entry) (layout : Layout)
+    → IsListing entry.names (items_for (differing_contents entry.contents others) (all_in layout.order) ++ uses_of others) (relative entry others layout)
+relative-all entry others layout =
+    subst (λ items. IsListing entry.names (items ++ uses_of others) (relative entry others layout)) (entry_items-all layout (differing_contents entry.contents others))
+    (relatives_laid_out entry others layout)
 
 -- ---- what can be listed
 

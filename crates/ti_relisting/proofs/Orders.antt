@@ -6,8 +6,7 @@ use Rattle.std.proofs.lemmas.List.Elements.{All-nil, All-cons, All-append, All-w
 use Rattle.std.proofs.lemmas.List.Sums.{AllPass-from_list_all}
 use Rattle.ti_caps.specs.Tables.{Capability, capability, IsCapability, count_of, same_capability}
 use Rattle.ti_caps.proofs.Same.{same_capability-itself}
-use Rattle.ti_caps.specs.inside.NameOrder.{in_name_order}
-use Rattle.ti_caps.specs.NameOrder.{EachKindIsInOrder}
+use Rattle.ti_caps.specs.NameOrder.{EachKindIsInOrder, in_name_order}
 use Rattle.ti_caps.specs.declared.capability.Kind.{Kind}
 use Rattle.ti_caps.specs.declared.capability.Kind.TheVariants.{Flag, Number, Text}
 use Rattle.ti_list.specs.declared.layout.Order.{Order}

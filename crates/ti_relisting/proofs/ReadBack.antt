@@ -11,7 +11,7 @@ use Rattle.ti_source.specs.inside.Folding.{folding_of}
 use Rattle.ti_source.specs.Items.{bytes, HasNoComma, Begins, field_and_rest, AreItems, last_item, piece_of, without_white_front, States, empty_item}
 use Rattle.ti_source.specs.Reading.{Said, said_flag, said_number, said_text, said_cancel, said_import, ReadItem, Reading}
 use Rattle.ti_source.specs.Parsing.{accepted, Parses, reading_of_text, HasReading, BlocksHaveOneReading}
-use Rattle.ti_source.specs.Judging.{Judged, item_ignored, item_judged, AreJudged, no_item, item_and_rest, items_from, faults_from, header_faults, reading_by}
+use Rattle.ti_source.specs.Judging.{Judged, item_ignored, item_judged, AreJudged, no_item, item_and_rest, items_from, faults_from, reading_by}
 use Rattle.ti_source.specs.Header.{HeaderNames}
 use Rattle.ti_source.proofs.FoldingLaws.{folds_computed}
 use Rattle.ti_spelling.specs.Spelling.{WrittenSpells}

@@ -19,13 +19,13 @@ use Rattle.ti_list.specs.declared.layout.Layout.{Layout}
 use Rattle.ti_list.specs.Items.{CanBeListed, IsReadAs}
 use Rattle.ti_list.specs.Listing.{listing}
 use Rattle.ti_layout.specs.View.{Entry}
-use Rattle.ti_list.specs.RelativeSource.{first_name, same_content, first_of, difference, differing_contents, use_lines, relative, with_others}
+use Rattle.ti_list.specs.RelativeSource.{Listed, entries_of, first_name, same_content, first_of, difference, differing_contents, relative, with_others}
 use Rattle.ti_list.specs.Listing.{items_for}
 use Rattle.ti_relisting.specs.Layouts.{uses_of}
 use Rattle.ti_relisting.specs.Relisting.{CanHave, CanHaveAll, CanBeUsed, RelativesCompile}
 use Rattle.ti_relisting.specs.ReadingBack.{PartsAreRead}
 use Rattle.ti_relisting.proofs.Orders.{all_in}
-use Rattle.ti_relisting.proofs.Listing.{listed-all, uses-tail, all-can, mentions_for, expand_says, before}
+use Rattle.ti_relisting.proofs.Listing.{relative-all, all-can, mentions_for, expand_says, before}
 use Rattle.ti_relisting.proofs.Compiling.{used_at, own-at, entry-is, listing-expands, all-contents}
 
 -- ---- what the entry and the others say together is what the entry says
@@ -79,22 +79,23 @@ uses-can (other ∷ others) can =
     All-cons CanBeListed (said_import (first_name other.names)) (uses_of others) (first.lookup, first.bare) (uses-can others (All-tail CanBeUsed other others can))
 
 -- the mentions of the others, in turn
-abbrev pub used_mentions : Layout → List Entry → List Mention
-used_mentions layout [] = []
-used_mentions layout (other ∷ others) = mentions_for other.contents (all_in layout.order) ++ used_mentions layout others
+abbrev pub used_mentions : List Listed → List Mention
+used_mentions [] = []
+used_mentions (one ∷ listed) = mentions_for one.0.contents (all_in one.1.order) ++ used_mentions listed
 
-uses-expand : (of_name : List ℕ → Option (List Mention)) (layout : Layout) (others : List Entry)
-    → ((i : ℕ) (other : Entry) → slice_get others i ≡ Some other → of_name (first_name other.names) ≡ Some (mentions_for other.contents (all_in layout.order)))
-    → expand_says of_name (uses_of others) ≡ Some (used_mentions layout others)
-uses-expand of_name layout [] h = refl
-uses-expand of_name layout (other ∷ others) h =
-    let later = uses-expand of_name layout others (λ i o e. h (suc i) o e) in
-    let first = h 0 other refl in
+uses-expand : (of_name : List ℕ → Option (List Mention)) (listed : List Listed)
+    → ((i : ℕ) (one : Listed) → slice_get listed i ≡ Some one → of_name (first_name one.0.names) ≡ Some (mentions_for one.0.contents (all_in one.1.order)))
+    → expand_says of_name (uses_of (entries_of listed)) ≡ Some (used_mentions listed)
+uses-expand of_name [] h = refl
+uses-expand of_name (one ∷ listed) h =
+    let later = uses-expand of_name listed (λ i o e. h (suc i) o e) in
+    let first = h 0 one refl in
     rw (first, later) refl
 
-used-contents : EachKindIsInOrder → (layout : Layout) (others : List Entry) (c : Capability) → IsCapability c → leftmost_content (used_mentions layout others) c ≡ first_of others c
-used-contents ordered layout [] c is = refl
-used-contents ordered layout (other ∷ others) c is = all-contents ordered other.contents layout (used_mentions layout others) c is ∙ ap (option_or (other.contents c)) (used-contents ordered layout others c is)
+used-contents : EachKindIsInOrder → (listed : List Listed) (c : Capability) → IsCapability c → leftmost_content (used_mentions listed) c ≡ first_of (entries_of listed) c
+used-contents ordered [] c is = refl
+used-contents ordered (one ∷ listed) c is =
+    all-contents ordered one.0.contents one.1 (used_mentions listed) c is ∙ ap (option_or (one.0.contents c)) (used-contents ordered listed c is)
 
 -- ---- the owners
 
@@ -124,27 +125,28 @@ All-at P (y ∷ xs) zero x all e = subst P (same_Some y x e) (All-head P y xs al
 All-at P (y ∷ xs) (suc i) x all e = All-at P xs i x (All-tail P y xs all) e
 
 pub relatives_compile : EachKindIsInOrder → PartsAreRead → ImagesAreOfValues → LimitsAreOfValues → RelativesCompile
-relatives_compile ordered read images limits e others layout shown used owns within =
+relatives_compile ordered read images limits e layout listed shown used owns within =
+    let others = entries_of listed in
     let text = relative e others layout in
-    let blocks = readings (with_others e others layout) in
+    let blocks = readings (with_others e layout listed) in
     let block = reading_of_text text in
     let table = differing_contents e.contents others in
     let has : CanHaveAll table = differing-can e.contents others shown.holds in
     let own = items_for table (all_in layout.order) in
     let is : IsReadAs e.names shown.names (own ++ uses_of others) block =
     read e.names shown.names (own ++ uses_of others) text shown.listable
-    (all-can ordered table layout (uses_of others) has (uses-can others used)) (listed-all e.names table layout (uses_of others) (use_lines others (10 ∷ [])) (uses-tail others)) in
-    let list_other : Entry → List ℕ = λ other. listing other.names other.contents layout in
-    let expands : (i : ℕ) (other : Entry) → slice_get others i ≡ Some other → used_at (owner_block blocks) (length blocks) (first_name other.names) ≡ Some (mentions_for other.contents (all_in layout.order)) =
-    λ i other at.
-    let other_shown = (All-at CanBeUsed others i other used at).shown in
-    let stands : slice_get blocks (suc i) ≡ Some (reading_of_text (list_other other)) = at-place reading_of_text (map list_other others) i (list_other other) (at-place list_other others i other at) in
-    ap (option_and_then (expand (owner_block blocks) (length blocks))) (owned-at blocks (first_name other.names) (suc i) (owns i other at) ∙ stands)
-    ∙ listing-expands ordered read (owner_block blocks) (length (map reading_of_text (map list_other others))) other.names other_shown.names other.contents layout other_shown.listable other_shown.holds in
-    let ms = mentions_for table (all_in layout.order) ++ used_mentions layout others in
+    (all-can ordered table layout (uses_of others) has (uses-can others used)) (relative-all e others layout) in
+    let list_one : Listed → List ℕ = λ one. listing one.0.names one.0.contents one.1 in
+    let expands : (i : ℕ) (one : Listed) → slice_get listed i ≡ Some one → used_at (owner_block blocks) (length blocks) (first_name one.0.names) ≡ Some (mentions_for one.0.contents (all_in one.1.order)) =
+    λ i one at.
+    let one_shown = (All-at CanBeUsed others i one.0 used (at-place (λ (o : Listed). o.0) listed i one at)).shown in
+    let stands : slice_get blocks (suc i) ≡ Some (reading_of_text (list_one one)) = at-place reading_of_text (map list_one listed) i (list_one one) (at-place list_one listed i one at) in
+    ap (option_and_then (expand (owner_block blocks) (length blocks))) (owned-at blocks (first_name one.0.names) (suc i) (owns i one at) ∙ stands)
+    ∙ listing-expands ordered read (owner_block blocks) (length (map reading_of_text (map list_one listed))) one.0.names one_shown.names one.0.contents one.1 one_shown.listable one_shown.holds in
+    let ms = mentions_for table (all_in layout.order) ++ used_mentions listed in
     let expanded : expansion blocks block ≡ Some ms =
     own-at (owner_block blocks) (length blocks) block table (all_in layout.order) (uses_of others) is.none_wrong is.says
-    ∙ ap (before (mentions_for table (all_in layout.order))) (uses-expand (used_at (owner_block blocks) (length blocks)) layout others expands) in
+    ∙ ap (before (mentions_for table (all_in layout.order))) (uses-expand (used_at (owner_block blocks) (length blocks)) listed expands) in
     let tells : (c : Capability) → IsCapability c → without_cancel (leftmost_content ms c) ≡ without_cancel (e.contents c) =
-    λ c cap. ap without_cancel (all-contents ordered table layout (used_mentions layout others) c cap ∙ ap (option_or (table c)) (used-contents ordered layout others c cap)) ∙ restores (e.contents c) (first_of others c) in
+    λ c cap. ap without_cancel (all-contents ordered table layout (used_mentions listed) c cap ∙ ap (option_or (table c)) (used-contents ordered listed c cap)) ∙ restores (e.contents c) (first_of others c) in
     entry-is images limits blocks block e.names e.contents ms expanded is.same_field tells within

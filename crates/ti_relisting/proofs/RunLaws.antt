@@ -39,5 +39,5 @@ relisted_by_run law entries layout last of_sources made i entry here =
     ap (λ (texts : List (List ℕ)). compiled texts i) (runs_leave (listings entries layout) last made) ∙ (law entries layout of_sources).1 i entry here
 
 pub relative_by_run : RelativeSource → RelativeSourceByRun
-relative_by_run law bytes shown others layout last is used owned made =
-    ap (λ (texts : List (List ℕ)). compiled texts 0) (runs_leave (with_others shown others layout) last made) ∙ (law bytes shown others layout is used owned).1
+relative_by_run law bytes shown layout listed last is used owned made =
+    ap (λ (texts : List (List ℕ)). compiled texts 0) (runs_leave (with_others shown layout listed) last made) ∙ (law bytes shown layout listed is used owned).1

@@ -12,9 +12,9 @@ use Rattle.ti_text.specs.WhiteSpace.{is_white_space}
 use Rattle.ti_source.specs.Folding.{PlacedByte}
 use Rattle.ti_source.specs.inside.Folding.{in_comment, folding_of}
 use Rattle.ti_source.specs.Items.{bytes, Begins, all_field, field_and_rest, AreItems, last_item, item_ends, pair_of_bytes, single_byte, without_front, piece_of, Claim, claims_flag, claims_number, claims_text, claims_cancel, Statement, States, empty_item, disabled_item, number_item, text_item, cancel_item, flag_item}
-use Rattle.ti_source.specs.Reading.{Said, said_flag, said_number, said_text, said_cancel, said_import, ReadItem, ReadFault}
+use Rattle.ti_source.specs.Reading.{Said, said_flag, said_number, said_text, said_cancel, said_import, ReadItem}
 use Rattle.ti_source.specs.Parsing.{reading_of_text, HasReading}
-use Rattle.ti_source.specs.Judging.{Judged, IsJudged, item_ignored, item_judged, AreJudged, no_item, item_and_rest, items_from}
+use Rattle.ti_source.specs.Judging.{Judged, item_ignored, item_judged, AreJudged, no_item, item_and_rest, items_from}
 use Rattle.ti_source.specs.Verdicts.{Verdict, accepted, accepted_odd, refused, is_import, ReadClaim, IsReadAs, flag_read, number_read_as, text_read_as, cancel_read, number_verdict, text_verdict, fitting_verdict, named_verdict, verdict_on, Judges, items_by}
 use Rattle.ti_source.proofs.FoldingLaws.{only_folded}
 use Rattle.ti_spelling.specs.declared.spelling.UnescapeError.{UnescapeError}

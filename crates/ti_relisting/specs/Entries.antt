@@ -6,7 +6,7 @@ use Rattle.ti_source.specs.Cutting.{last_byte, Cut, OneBlock}
 use Rattle.ti_layout.specs.Reading.{Reads}
 use Rattle.ti_meaning.specs.Compiled.{compiled}
 use Rattle.ti_layout.specs.View.{Entry}
-use Rattle.ti_list.specs.RelativeSource.{first_name, with_others}
+use Rattle.ti_list.specs.RelativeSource.{Listed, entries_of, first_name, with_others}
 use Rattle.ti_relisting.specs.Relisting.{OwnTheirNames}
 use Rattle.std.specs.List.{concat}
 use Rattle.ti_list.specs.declared.layout.Layout.{Layout}
@@ -62,9 +62,10 @@ Relistings =
     → IsSourceOf (concat (listings entries layout)) (listings entries layout)
     × ((i : ℕ) (entry : ShownEntry) → slice_get entries i ≡ Some entry → compiled (listings entries layout) i ≡ Some entry.0)
 
--- The relative source of a compiled entry, with the listings of the entries that it uses behind it, is a source of these blocks, of which the first
--- compiles to the entry, byte for byte.
+-- The relative source of a compiled entry, with the listings of the entries that it uses behind it, each in any layout, is a source of these blocks,
+-- of which the first compiles to the entry, byte for byte.
 abbrev pub RelativeSource : Type 0
 RelativeSource =
-    (bytes : List ℕ) (shown : Entry) (others : List Entry) (layout : Layout) → IsEntry bytes shown → All IsUsedEntry others → OwnTheirNames shown others layout
-    → IsSourceOf (concat (with_others shown others layout)) (with_others shown others layout) × (compiled (with_others shown others layout) 0 ≡ Some bytes)
+    (bytes : List ℕ) (shown : Entry) (layout : Layout) (listed : List Listed)
+    → IsEntry bytes shown → All IsUsedEntry (entries_of listed) → OwnTheirNames shown layout listed
+    → IsSourceOf (concat (with_others shown layout listed)) (with_others shown layout listed) × (compiled (with_others shown layout listed) 0 ≡ Some bytes)

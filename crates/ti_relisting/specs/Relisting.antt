@@ -7,7 +7,7 @@ use Rattle.ti_source.specs.Header.{IsLookupName}
 use Rattle.ti_layout.specs.Values.{Content, content_true, content_number, content_text, content_cancelled, Contents, Agrees}
 use Rattle.ti_list.specs.Items.{IsListable}
 use Rattle.ti_layout.specs.View.{Entry}
-use Rattle.ti_list.specs.RelativeSource.{first_name, with_others}
+use Rattle.ti_list.specs.RelativeSource.{Listed, entries_of, first_name, with_others}
 use Rattle.ti_layout.specs.Image.{image, ImageFits}
 use Rattle.ti_meaning.specs.Owner.{readings, owner}
 use Rattle.ti_meaning.specs.Compiled.{compiled}
@@ -49,13 +49,13 @@ ListingsCompile =
     → (texts : List (List ℕ)) (at : ℕ) → slice_get texts at ≡ Some (listing field table layout) → compiled texts at ≡ Some (image field table)
 
 -- the first name of each of the others belongs to its listing, which stands behind the relative source of the entry
-abbrev pub OwnTheirNames : Entry → List Entry → Layout → Type 0
-OwnTheirNames entry others layout =
-    (i : ℕ) (other : Entry) → slice_get others i ≡ Some other → owner (readings (with_others entry others layout)) (first_name other.names) ≡ Some (suc i)
+abbrev pub OwnTheirNames : Entry → Layout → List Listed → Type 0
+OwnTheirNames entry layout listed =
+    (i : ℕ) (one : Listed) → slice_get listed i ≡ Some one → owner (readings (with_others entry layout listed)) (first_name one.0.names) ≡ Some (suc i)
 
--- The relative source of an entry compiles to the image of the entry, with the listings of the others behind it.
+-- The relative source of an entry compiles to the image of the entry, with the listings of the others behind it, each in any layout.
 abbrev pub RelativesCompile : Type 0
 RelativesCompile =
-    (entry : Entry) (others : List Entry) (layout : Layout) → CanBeShown entry → All CanBeUsed others → OwnTheirNames entry others layout
+    (entry : Entry) (layout : Layout) (listed : List Listed) → CanBeShown entry → All CanBeUsed (entries_of listed) → OwnTheirNames entry layout listed
     → ImageFits entry.names entry.contents
-    → compiled (with_others entry others layout) 0 ≡ Some (image entry.names entry.contents)
+    → compiled (with_others entry layout listed) 0 ≡ Some (image entry.names entry.contents)

@@ -2,7 +2,7 @@
 use Rattle.std.specs.Prelude.{ℕ, suc, ◌≡◌, List, [], ◌∷◌, All, Some, slice_get}
 use Rattle.ti_layout.specs.View.{Entry}
 use Rattle.ti_list.specs.declared.layout.Layout.{Layout}
-use Rattle.ti_list.specs.RelativeSource.{with_others}
+use Rattle.ti_list.specs.RelativeSource.{Listed, entries_of, with_others}
 use Rattle.ti_meaning.specs.Compiled.{compiled}
 use Rattle.ti_meaning.specs.Edits.{Change, EditRun, insertion}
 use Rattle.ti_meaning.specs.declared.edits.Outcome.{Outcome}
@@ -33,5 +33,6 @@ RelistingsByRun =
 -- Where they are the relative source of a compiled entry and the listings of the entries that it uses, the first compiles to the entry.
 abbrev pub RelativeSourceByRun : Type 0
 RelativeSourceByRun =
-    (bytes : List ℕ) (shown : Entry) (others : List Entry) (layout : Layout) (last : List (List ℕ)) → IsEntry bytes shown → All IsUsedEntry others
-    → OwnTheirNames shown others layout → IsMadeOf (with_others shown others layout) last → compiled last 0 ≡ Some bytes
+    (bytes : List ℕ) (shown : Entry) (layout : Layout) (listed : List Listed) (last : List (List ℕ)) → IsEntry bytes shown
+    → All IsUsedEntry (entries_of listed) → OwnTheirNames shown layout listed → IsMadeOf (with_others shown layout listed) last
+    → compiled last 0 ≡ Some bytes

@@ -4,6 +4,7 @@ use Rattle.std.specs.Rc.{rc_slice_items}
 use Rattle.ti_source.specs.Reading.{Reading}
 use Rattle.ti_layout.specs.declared.values.Table.{Table}
 use Rattle.ti_layout.specs.Values.{contents}
+use Rattle.ti_compiled.specs.Image.{bytes_of}
 use Rattle.ti_meaning.specs.Compiled.{EntryState, unresolved, oversized, written, state_of}
 use Rattle.ti_meaning.specs.Faults.{SourceFault}
 use Rattle.ti_meaning.specs.KeptBlocks.{lasting_faults}
@@ -18,7 +19,7 @@ use Rattle.ti_slots.specs.declared.slots.State.TheVariants as s
 abbrev pub state_seen : State → EntryState
 state_seen s.Unresolved = unresolved
 state_seen (s.TooLarge table) = oversized
-state_seen (s.Compiled entry) = written entry.image
+state_seen (s.Compiled entry) = written (bytes_of entry.image)
 
 -- the table of its values, where it resolves
 abbrev pub table_of : State → Option Table

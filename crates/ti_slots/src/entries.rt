@@ -3,7 +3,7 @@ ghost use Rattle.std.specs.Prelude.{◌≡◌};
 ghost use Rattle.ti_caps.specs.Tables.{Capability, IsCapability};
 ghost use Rattle.ti_layout.specs.Laws.{without_cancel};
 ghost use Rattle.ti_layout.specs.Values.{contents};
-ghost use Rattle.ti_compiled.specs.Image.{contents_in};
+ghost use Rattle.ti_compiled.specs.Image.{held_by};
 
 use ti_compiled::{Image, Table};
 
@@ -14,5 +14,5 @@ pub struct BlockEntry {
     pub table: Table,
     /// The entry.
     pub image: Image,
-    pub ghost held: { (c : Capability) → IsCapability c → contents_in image c ≡ without_cancel (contents table c) },
+    pub ghost held: { (c : Capability) → IsCapability c → held_by image c ≡ without_cancel (contents table c) },
 }

@@ -1,5 +1,5 @@
 -- The parts of a names field, and what the tests of a header say.
-use Rattle.std.proofs.Common.{◌≡◌, ◌≢◌, ℕ, zero, suc, ◌+◌, ◌-◌, ◌<◌, ◌≤◌, Bool, true, false, not, ◌==◌, nat_le, List, [], ◌∷◌, ◌++◌, length, take, drop, get_or, Option, Some, None, All, Any, Contains, refl, sym, ap, subst, ◌∙◌, inl, inr, arith}
+use Rattle.std.proofs.Common.{◌≡◌, ◌≢◌, ℕ, zero, suc, ◌+◌, ◌-◌, ◌<◌, ◌≤◌, Bool, true, false, not, ◌==◌, nat_le, List, [], ◌∷◌, ◌++◌, length, take, drop, get_or, Option, Some, None, is_some, All, Any, Contains, refl, sym, ap, subst, ◌∙◌, inl, inr, arith}
 use Rattle.std.specs.Bool.{Decides}
 use Rattle.std.specs.List.{list_all, list_any, join_with_byte, onto_first, AllByRecursion}
 use Rattle.std.proofs.lemmas.Bool.{cases_Bool, eqb-true, ne_eqb, leb-true, le-leb, and_cases, not-false, false_from_ne_true, false≢true}
@@ -9,7 +9,7 @@ use Rattle.std.proofs.Math.Seq.{take-append_seam}
 use Rattle.std.proofs.lemmas.List.Elements.{All-from_recursion, recursion_from_All, Decides-contains}
 use Rattle.std.proofs.lemmas.List.Splits.{slice_split-cons_yes, slice_split-cons_no, slice_split_none, slice_split_at, length-slice_split, join_with_byte-slice_split}
 use Rattle.std.proofs.lemmas.Slice.Eq.{bytes_eq-Decides}
-use Rattle.memchr.specs.Find.{IsLastByte, is_byte}
+use Rattle.memchr.specs.Find.{IsFirstByte, IsLastByte, is_byte}
 use Rattle.ti_source.specs.Header.{IsNameByte, IsLookupName, is_name_byte, is_lookup_name, PartsOf, lookup_parts, HeaderNames, IsBadHeader, ReadsNames, EachHeaderIsRead, HeadersHaveOneReading}
 use Rattle.ti_source.specs.inside.Header.{header_parts, is_header, header_names, HeadersAreComputed}
 
@@ -52,6 +52,11 @@ nul_decides : (field : List ℕ) → Decides (list_any (λ b. b == 0) field) (Co
 nul_decides field =
     Decides-contains field 0 _
     (Decides-by_or (λ b. b == 0) (λ b. b ≡ 0) (list_any (λ b. b == 0)) (λ b. Decides-eqb b 0) refl (λ _ _. refl) field)
+
+pub nul_sought : (field : List ℕ) (r : Option ℕ) → IsFirstByte (is_byte 0) field r → is_some r ≡ list_any (λ b. b == 0) field
+nul_sought field None none =
+    sym (false_from_ne_true _ (λ t. let at = (nul_decides field).0 t in none at.0 (omega arith) at.1 ((Decides-eqb _ 0).1 at.2)))
+nul_sought field (Some k) first = sym ((nul_decides field).1 (k, first.0.high, (Decides-eqb _ 0).0 first.1))
 
 header_decides : (field : List ℕ)
     → Decides (is_header field) (((Contains field 0 → ⊥) × All (λ part. part ≢ []) (header_parts field)) × All IsLookupName (lookup_parts (header_parts field)))

@@ -1,12 +1,13 @@
 //! The names field of a block, and the names that a terminal can be looked up by.
 ghost use Rattle.std.specs.Prelude.{◌≡◌, ◌==◌, ◌↔◌, IsTrue, IfOk, map, not, length};
-ghost use Rattle.std.specs.List.{list_all};
+ghost use Rattle.std.specs.List.{list_all, list_any};
 ghost use Rattle.std.specs.Option.{option_map};
 ghost use Rattle.std.specs.Rc.{rc_slice_items};
+ghost use Rattle.ti_text.specs.Ascii as ascii;
 ghost use Rattle.ti_source.specs.Header as spec;
 ghost use Rattle.ti_source.specs.inside.Header as computed;
 
-use memchr::memrchr;
+use memchr::{memchr, memrchr};
 use std::alloc::{AllocError, Global};
 use std::rc::RcSlice;
 
@@ -57,10 +58,16 @@ fn are_lookup_names(joined: &[u8]) -> bool
         .all(|name| is_lookup_name(name))
 }
 
+fn has_nul(field: &[u8]) -> bool
+    ensures { result ≡ list_any (λ b. b == ascii.nul) field.now }
+{
+    memchr(0, field).is_some()
+}
+
 fn is_header(field: &[u8]) -> bool
     ensures { result ≡ computed.is_header field.now }
 {
-    !field.contains(&0) && has_no_empty_part(field) && are_lookup_names(without_description(field))
+    !has_nul(field) && has_no_empty_part(field) && are_lookup_names(without_description(field))
 }
 
 fn parts(alloc: Global, joined: &[u8]) -> Result<Vec<RcSlice<u8>>, AllocError>

@@ -96,34 +96,75 @@ fn help_of(alloc: Global, tool: &str) -> Result<String, Fail> {
     }
 }
 
-// Whether what is said is no help, and begins so.
-fn is_fault(said: &Option<Refusal>, begin: &str) -> bool {
-    match said {
-        Some(Refusal::Usage(Some(text))) => text.as_str().starts_with(begin),
-        _ => false,
+// What is said of words of bad usage; empty where it is something else.
+fn usage_of(alloc: Global, texts: &[&str]) -> Result<String, AllocError> {
+    match said_of(alloc, texts)? {
+        Some(Refusal::Usage(text)) => Ok(text),
+        _ => Ok(String::new(alloc)),
     }
 }
 
-// Whether nothing is said of words that clap takes, but no tool does.
-fn is_silent(said: &Option<Refusal>) -> bool {
-    match said {
-        Some(Refusal::Usage(None)) => true,
-        _ => false,
+// Words that clap refuses, also where they ask for help behind the mistake, and how its sentence begins.
+const CLAP_SAYS: [(&[&str], &str); 5] = [
+    (
+        &["ti", "tic", "-x"],
+        "error: unexpected argument '-x' found\n",
+    ),
+    (
+        &["ti", "tput", "--rate=x", "-h"],
+        "error: invalid value 'x' for '--rate <N>': invalid digit found in string\n",
+    ),
+    (
+        &["ti", "tput", "--rate", "4294967296", "cols"],
+        "error: invalid value '4294967296' for '--rate <N>': 4294967296 is not in 0..=4294967295\n",
+    ),
+    (
+        &["ti", "infocmp", "-sl", "-h"],
+        "error: invalid value 'l' for '-s <ORDER>'\n  [possible values: d, i]\n",
+    ),
+    (
+        &["ti", "infocmp", "-w", "19"],
+        "error: invalid value '19' for '-w <N>': 19 is not in 20..=4096\n",
+    ),
+];
+
+// Words that clap takes and no tool does, and why.
+const TOOLS_SAY: [(&[&str], &str); 9] = [
+    (&["ti", "tput"], "no capability is named"),
+    (&["ti", "tput", "-T", "dumb"], "no capability is named"),
+    (&["ti", "tput", "-S", "cup"], "-S takes no capability"),
+    (
+        &[
+            "ti", "tput", "u0", "0", "1", "2", "3", "4", "5", "6", "7", "8", "9",
+        ],
+        "more than nine parameters",
+    ),
+    (
+        &["ti", "infocmp", "-c", "-n", "a", "b"],
+        "-c and -n exclude each other",
+    ),
+    (
+        &["ti", "infocmp", "-u", "-I", "-d"],
+        "-I and -d exclude each other",
+    ),
+    (&["ti", "infocmp", "-d", "a"], "-d needs two names"),
+    (&["ti", "infocmp", "-u"], "-u needs two names"),
+    (&["ti", "infocmp", "-n", "a"], "-n needs two names, or none"),
+];
+
+#[test]
+fn what_is_said_of_bad_usage(rt: HostRuntime) -> Result<(), AllocError> {
+    let alloc = rt.alloc();
+    for (texts, begin) in CLAP_SAYS {
+        let said = usage_of(alloc, texts)?;
+        assert!(rt; said.as_str().starts_with(begin), "{said}");
     }
-}
-
-#[test]
-fn what_is_said_of_a_wrong_option(rt: HostRuntime) -> Result<(), AllocError> {
-    let said = said_of(rt.alloc(), &["ti", "tic", "-x"])?;
-    assert!(rt; is_fault(&said, "error: unexpected argument '-x' found\n"));
-    assert!(rt; said_of(rt.alloc(), &["ti", "tic", "-c"])?.is_none());
-    Ok(())
-}
-
-#[test]
-fn nothing_is_said_of_words_that_clap_takes(rt: HostRuntime) -> Result<(), AllocError> {
-    let said = said_of(rt.alloc(), &["ti", "tput", "-S", "cup"])?;
-    assert!(rt; is_silent(&said));
+    for (texts, why) in TOOLS_SAY {
+        let said = usage_of(alloc, texts)?;
+        let expected = format!(in alloc; "ti: bad usage: {why}\n")?;
+        assert!(rt; said == expected, "{said}");
+    }
+    assert!(rt; said_of(alloc, &["ti", "tic", "-c"])?.is_none());
     Ok(())
 }
 

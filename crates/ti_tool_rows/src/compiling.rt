@@ -3,10 +3,12 @@ use crate::listing::dumb;
 use std::alloc::{AllocError, Global};
 use ti_tools::{File, MemTree, TicOptions, TicOutcome, ToolError, place, tic};
 
-const DUMB: &[u8] =
+/// The source of the entry that `dumb` gives.
+pub const DUMB: &[u8] =
     b"dumb|80-column dumb tty,\n\tam, cols#80, bel=^G, cr=\\r, cud1=\\n, ind=\\n,\n";
 
-fn tic_outcome(alloc: Global, source: &[u8], check: bool) -> Result<TicOutcome, ToolError> {
+/// What `tic -o out` makes of a source.
+pub fn tic_outcome(alloc: Global, source: &[u8], check: bool) -> Result<TicOutcome, ToolError> {
     let dir = String::from_str(alloc, "out")?;
     tic(alloc, source, &TicOptions { check, dir })
 }
@@ -131,26 +133,41 @@ fn sources_with_faults(rt: HostRuntime) -> Result<(), ToolError> {
     Ok(())
 }
 
-// Whether the files are two with the same 20 bytes, at the paths of the names `a` and `b`.
-fn are_of_two_names(files: &[File]) -> bool {
+// Whether the files are two of the same bytes, at the paths of the names `a` and `b`.
+fn are_of_two_names(files: &[File], bytes: &[u8]) -> bool {
     match files {
         [first, second] => {
             first.path.as_str() == "out/a/a"
                 && second.path.as_str() == "out/b/b"
-                && first.bytes == second.bytes
-                && first.bytes.len() == 20
+                && first.bytes.as_slice() == bytes
+                && second.bytes.as_slice() == bytes
         }
         _ => false,
     }
 }
 
+/// A block with two lookup names, and its entry.
+const TWO_NAMES: [Compiled; 2] = [
+    Compiled {
+        source: b"# c\na|b|d,foo,\n",
+        entry: b"\x1a\x01\x06\0\0\0\0\0\0\0\0\0a|b|d\0",
+    },
+    Compiled {
+        source: b"# c\na|b|a|d,foo,\n",
+        entry: b"\x1a\x01\x08\0\0\0\0\0\0\0\0\0a|b|a|d\0",
+    },
+];
+
 #[test]
 fn the_files_of_a_block_with_two_names(rt: HostRuntime) -> Result<(), ToolError> {
-    let source = b"# c\na|b|a|d,foo,\n";
-    let checked = tic_outcome(rt.alloc(), source, true)?;
-    assert!(rt; is_outcome(&checked, b"2: W1 UnknownCapability foo\n", 0, 0));
-    let outcome = tic_outcome(rt.alloc(), source, false)?;
-    assert!(rt; are_of_two_names(outcome.files.as_slice()));
+    let report = b"2: W1 UnknownCapability foo\n";
+    for row in &TWO_NAMES {
+        let checked = tic_outcome(rt.alloc(), row.source, true)?;
+        assert!(rt; is_outcome(&checked, report, 0, 0));
+        let outcome = tic_outcome(rt.alloc(), row.source, false)?;
+        assert!(rt; is_outcome(&outcome, report, 0, 2));
+        assert!(rt; are_of_two_names(outcome.files.as_slice(), row.entry));
+    }
     Ok(())
 }
 

@@ -1,4 +1,5 @@
-//! The relative source of an entry, compiled again.
+//! Listings and the relative source of an entry, compiled again.
+use crate::listing::{LISTINGS_OF_DUMB, dumb};
 use std::alloc::Global;
 use std::test::Fail;
 use ti_layout::View;
@@ -55,5 +56,27 @@ fn relative_source_compiles_back(rt: HostRuntime) -> Result<(), Fail> {
     assert!(rt; first_entry(alloc, &text)? == a);
     let common = printed_alone(alloc, &b, InfocmpMode::Common);
     assert!(rt; common == Err(ToolError::Usage));
+    Ok(())
+}
+
+// The listing of an entry by `infocmp`.
+fn listing(alloc: Global, entry: &[u8], layout: Layout) -> Result<Vec<u8>, Fail> {
+    let view = View::read(entry)?;
+    let options = InfocmpOptions {
+        mode: InfocmpMode::List,
+        layout,
+    };
+    Ok(infocmp(alloc, &[view], &options)?)
+}
+
+#[test]
+fn listings_compile_back(rt: HostRuntime) -> Result<(), Fail> {
+    let alloc = rt.alloc();
+    let entry = dumb(alloc)?;
+    for wanted in &LISTINGS_OF_DUMB {
+        let text = listing(alloc, &entry, wanted.layout)?;
+        assert!(rt; text.as_slice() == wanted.text);
+        assert!(rt; first_entry(alloc, &text)? == entry);
+    }
     Ok(())
 }

@@ -3,9 +3,9 @@
 //!
 //! - `commands`: command lines, the jobs that they ask for and what is said of others
 //! - `compiling`: sources with their files and reports
-//! - `infocmp`: relative source that compiles back
+//! - `infocmp`: listings and relative source that compile back
 //! - `listing`: entries listed and compared
-//! - `placing`: files placed into trees
+//! - `placing`: files placed into trees, and found there
 //! - `stopping`: ends of tools, their statuses and messages
 #![tactic(auto)]
 

@@ -1,5 +1,6 @@
 //! Entries as they are listed and compared.
 use std::alloc::{AllocError, Global};
+use std::str::from_utf8;
 use std::test::Fail;
 use ti_layout::View;
 use ti_list::{Layout, ListError, Mode, Order, compare, list, relative};
@@ -46,13 +47,13 @@ fn listing(alloc: Global, entry: &[u8], layout: &Layout) -> Result<Vec<u8>, Fail
 }
 
 /// How an entry is listed, and its listing.
-struct Listed {
-    layout: Layout,
-    text: &'static [u8],
+pub struct Listed {
+    pub layout: Layout,
+    pub text: &'static [u8],
 }
 
 #[rattlefmt::skip]
-const LISTINGS_OF_DUMB: [Listed; 3] = [
+pub const LISTINGS_OF_DUMB: [Listed; 3] = [
     Listed {
         layout: Layout { width: 60, one_per_line: false, order: Order::Name },
         text: b"dumb|80-column dumb tty,\n\tam,\n\tcols#80,\n\tbel=^G, cr=\\r, cud1=\\n, ind=\\n,\n",
@@ -135,13 +136,34 @@ fn compares_two_entries(rt: HostRuntime) -> Result<(), Fail> {
     Ok(())
 }
 
+// How many lines below a heading begin with a tab.
+fn rows_below(text: &str, heading: &str) -> usize {
+    match text.split_once(heading) {
+        Some((_, rest)) => {
+            let rows = match rest.split_once("    comparing ") {
+                Some((rows, _)) => rows,
+                None => rest,
+            };
+            rows.bytes().filter(|byte| *byte == b'\t').count()
+        }
+        None => 0,
+    }
+}
+
+const BOTH_LACK: [(&str, usize); 3] = [
+    ("    comparing booleans.\n", 43),
+    ("    comparing numbers.\n", 38),
+    ("    comparing strings.\n", 412),
+];
+
 #[test]
 fn says_what_two_entries_both_lack(rt: HostRuntime) -> Result<(), Fail> {
     let by_name = comparison(rt.alloc(), Mode::Neither, Order::Name)?;
-    let count = by_name.iter().filter(|byte| **byte == b'!').count();
-    assert!(rt; count == 43 + 38 + 412);
-    let front = b"comparing a to b.\n    comparing booleans.\n\t!OTMT.\n";
-    assert!(rt; by_name.as_slice().starts_with(front));
+    let text = from_utf8(by_name.as_slice())?;
+    for (heading, count) in BOTH_LACK {
+        assert!(rt; rows_below(text, heading) == count, "{heading}");
+    }
+    assert!(rt; text.starts_with("comparing a to b.\n    comparing booleans.\n\t!OTMT.\n"));
     let by_table = comparison(rt.alloc(), Mode::Neither, Order::Table)?;
     let front = b"comparing a to b.\n    comparing booleans.\n\t!bw.\n";
     assert!(rt; by_table.as_slice().starts_with(front));

@@ -1,7 +1,11 @@
 //! Files placed into a tree in memory, and a tree that fails when it is told to.
+use crate::compiling::{DUMB, tic_outcome};
+use crate::listing::dumb;
 use std::alloc::{AllocError, Global};
 use std::process::Abort;
+use std::test::Fail;
 use ti_devices::{File, MemTree, Tree, TreeFault, place};
+use ti_tools::{ToolError, locate};
 
 // Files of these paths and bytes.
 fn files(alloc: Global, rows: &[(&str, &[u8])]) -> Result<Vec<File>, AllocError> {
@@ -82,5 +86,49 @@ fn the_call_that_is_to_fail_fails_once(rt: HostRuntime) -> Result<(), AllocError
     let files = files(alloc, &TWO_FILES)?;
     expect_that_a_write_fails_once(&rt, &mut tree, files.as_slice());
     expect_that_a_read_fails_once(&rt, &mut tree, alloc);
+    Ok(())
+}
+
+#[test]
+fn a_compiled_file_that_cannot_be_written(rt: HostRuntime) -> Result<(), ToolError> {
+    let alloc = rt.alloc();
+    let outcome = tic_outcome(alloc, b"# c\na|b|d,foo,\n", false)?;
+    let mut tree = MemTree::new(alloc);
+    tree.fail_at(2);
+    assert!(rt; place(&mut tree, outcome.files.as_slice()) == Err((1, TreeFault::Failed)));
+    let entry = b"\x1a\x01\x06\0\0\0\0\0\0\0\0\0a|b|d\0";
+    assert!(rt; holds(&tree, "out/a/a", Some(entry)));
+    assert!(rt; holds(&tree, "out/b/b", None));
+    Ok(())
+}
+
+// Two places, of which the first has nothing.
+fn places(alloc: Global) -> Result<Vec<String>, AllocError> {
+    let mut places = Vec::new(alloc);
+    for place in ["nil", "out"] {
+        places.push(String::from_str(alloc, place)?)?;
+    }
+    Ok(places)
+}
+
+// The file of a name in a tree.
+fn located(alloc: Global, tree: &mut MemTree, name: &str) -> Result<Vec<u8>, ToolError> {
+    let places = places(alloc)?;
+    locate(alloc, tree, name, places.as_slice())
+}
+
+#[test]
+fn a_compiled_entry_is_located(rt: HostRuntime) -> Result<(), Fail> {
+    let alloc = rt.alloc();
+    let outcome = tic_outcome(alloc, DUMB, false)?;
+    let mut tree = MemTree::new(alloc);
+    assert!(rt; place(&mut tree, outcome.files.as_slice()) == Ok(()));
+    let entry = dumb(alloc)?;
+    assert!(rt; located(alloc, &mut tree, "dumb")? == entry);
+    assert!(rt; located(alloc, &mut tree, "no/name") == Err(ToolError::NoTerminal));
+    for call in [1, 2] {
+        tree.fail_at(call);
+        assert!(rt; located(alloc, &mut tree, "dumb") == Err(ToolError::ReadFault));
+    }
     Ok(())
 }

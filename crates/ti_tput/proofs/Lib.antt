@@ -2,8 +2,10 @@ pub mod Numbers
 pub mod Rows
 pub mod LongNames
 pub mod Named
+pub mod Padded
 pub mod Parting
 pub mod Replying
 pub mod Terminals
 pub mod Ending
+pub mod Expanded
 pub mod Searches

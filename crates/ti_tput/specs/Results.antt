@@ -8,7 +8,8 @@ use Rattle.ti_text.specs.Lists.{both_lists}
 use Rattle.ti_text.specs.Limits.{parameters_max}
 use Rattle.ti_param.specs.inside.Expansion.{Expansion, expanded, bad_format, stack_full, format_expansion}
 use Rattle.ti_printing.specs.declared.padding.Line.{Line}
-use Rattle.ti_printing.specs.Padding.{with_pad_bytes, padding_of, pad_bytes_max}
+use Rattle.ti_printing.specs.Padding.{pad_bytes_max}
+use Rattle.ti_printing.specs.inside.Padding.{with_pad_bytes, padding_of}
 use Rattle.ti_layout.specs.View.{Entry}
 use Rattle.ti_tput.specs.Entries.{Holding, flag_held, number_held, text_held, holding_of, text_value, line_at_rate}
 use Rattle.ti_tput.specs.Parameters.{parameters}

@@ -16,6 +16,7 @@ mod terminal;
 mod words;
 
 pub use commands::{bad_commands_change_nothing, tput};
+pub use entries::terminal_line;
 pub use replies::TputOutcome;
 pub use searching::{entry, locate, places};
 pub use streaming::tput_lines;

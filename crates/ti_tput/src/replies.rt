@@ -1,5 +1,7 @@
 //! What a command is answered: bytes for the terminal, and an exit status.
-ghost use Rattle.std.specs.Prelude.{◌≡◌, ℕ, ℤ, List, [], IfOk, OnErr, Some, map};
+ghost use Rattle.std.specs.Prelude.{◌≡◌, ℕ, ℤ, List, [], IfOk, OnErr, MatchResult, Some, map};
+ghost use Rattle.ti_param.specs.Meaning.{argument_of};
+ghost use Rattle.ti_param.specs.inside.Expansion.{EndsWith, expanded, format_expansion};
 ghost use Rattle.ti_layout.specs.View.{shown_entry};
 ghost use Rattle.ti_tput.specs.Entries.{line_at_rate, value_meaning};
 ghost use Rattle.ti_tput.specs.Results.{holding_reply, init_strings, long_name, named_reply, number_text};
@@ -12,7 +14,8 @@ use crate::parameters::parameters;
 use memchr::memrchr;
 use std::alloc::{AllocError, Global};
 use ti_layout::View;
-use ti_param::{Line, PadError, ParamError, Statics, expand, pad, pad_owned};
+use ti_param::{Line, PadError, ParamError, Statics, Value, expand, pad, pad_owned};
+use ti_text::limits::PARAMETERS_MAX;
 
 /// The exit status of a capability that is unknown, or of which the string is bad.
 pub const BAD_COMMAND: u8 = 4;
@@ -68,6 +71,21 @@ fn pad_each(
     Ok(Some(bytes))
 }
 
+// A string expanded with these parameters.
+fn expand_words(
+    alloc: Global,
+    text: &[u8],
+    params: &[Value<'_>; PARAMETERS_MAX],
+    statics: &mut Statics,
+) -> Result<Vec<u8>, ParamError>
+    ensures computed { MatchResult result
+        (λ output. format_expansion text.now (map argument_of params.now) statics.old ≡ expanded output.items statics.new)
+        (λ error. EndsWith error (format_expansion text.now (map argument_of params.now) statics.old)) }
+    ensures err { OnErr result (statics.new ≡ statics.old) }
+{
+    expand(alloc, text, params, statics)
+}
+
 // A string as it stands where there is no word, else expanded with the words; `None` where it is bad.
 fn string(
     alloc: Global,
@@ -85,7 +103,7 @@ fn string(
         return pad_once(alloc, text, line);
     }
     let mut after = *statics;
-    match expand(alloc, text, &parameters(cap, words), &mut after) {
+    match expand_words(alloc, text, &parameters(cap, words), &mut after) {
         Ok(output) => {
             let bytes = pad_output(alloc, output, line)?;
             if bytes.is_some() {

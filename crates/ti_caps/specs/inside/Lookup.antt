@@ -1,11 +1,31 @@
--- What a look-up by name finds at a place (own).
-use Rattle.std.specs.Prelude.{◌≢◌, ℕ, List, slice_index_or, All, Contains, map}
+-- The table of all capabilities in the order of the bytes of their names, and what a look-up by name finds at a place of it (own).
+use Rattle.std.specs.Prelude.{◌≢◌, ℕ, ◌-◌, List, slice_index_or, All, Contains, map, nat_lt, if◌then◌else◌}
 use Rattle.std.specs.Ordering.{nat_cmp}
 use Rattle.std.specs.Cmp.Lexicographic.{slice_cmp}
 use Rattle.std.specs.List.Sorted.{IsStrictlySortedBy}
 use Rattle.ti_caps.specs.declared.capability.Kind.{Kind}
-use Rattle.ti_caps.specs.Lookup.{NameRow}
+use Rattle.ti_caps.specs.declared.capability.Kind.TheVariants.{Flag, Number, Text}
+use Rattle.ti_caps.specs.declared.tables.TheConstants.{BY_NAME}
+use Rattle.ti_caps.specs.Tables.{Capability, capability, name_of, rank_in}
 use Rattle.std.specs.Borrow.{Bor}
+
+-- own: a row has a name, the kind and the index
+abbrev pub NameRow : Type 0
+NameRow = List ℕ × Kind × ℕ
+
+-- the capability that has a number: all are counted from 0, the flags first, then the numbers, then the texts, each in the order of its list
+abbrev pub capability_numbered : ℕ → Capability
+capability_numbered n =
+    if nat_lt n (rank_in Number) then capability Flag n
+    else (if nat_lt n (rank_in Text) then capability Number (n - rank_in Number) else capability Text (n - rank_in Text))
+
+-- the row of a capability
+abbrev pub row_of : Capability → NameRow
+row_of c = (name_of c, c.kind, c.index)
+
+-- the table that is searched
+unfoldable pub by_name : List NameRow
+by_name = map (λ n. row_of (capability_numbered n)) BY_NAME
 
 -- the table has this row
 abbrev pub IsTableRow : List NameRow → List ℕ → Kind → ℕ → Type 0

@@ -5,8 +5,9 @@ use Rattle.ti_caps.specs.Tables.{Capability, IsCapability, capability, count_of}
 use Rattle.ti_caps.specs.declared.capability.Kind.TheVariants.{Number}
 use Rattle.ti_layout.specs.Layout.{absent_mark}
 use Rattle.ti_layout.specs.declared.layout.Format.TheVariants.{Extended}
-use Rattle.ti_layout.specs.Image.{number_value, of_kind}
-use Rattle.ti_compiled.specs.Image.{contents_in, with_content}
+use Rattle.ti_layout.specs.Image.{image, number_value, of_kind, ImageFits, ImageIsTooLarge}
+use Rattle.ti_compiled.specs.Image.{NamedTable, held_by, with_content}
+use Rattle.ti_compiled.specs.inside.Image.{names_in, contents_in}
 use Rattle.ti_layout.specs.Laws.{without_cancel}
 use Rattle.ti_layout.specs.Values.{Content, content_true, content_number, content_text, content_of, Contents, AgreesIfSome}
 use Rattle.ti_layout.specs.declared.values.Value.{Value}
@@ -32,9 +33,21 @@ content_lent value = option_map (λ (v : Bor Value). content_of v.now) value
 abbrev pub text_lent : Option (Bor (List ℕ)) → Option Content
 text_lent text = text_content (option_map (λ (t : Bor (List ℕ)). t.now) text)
 
--- new bytes hold what the old ones do, but for a capability
-pub record IsSameBut (old new : List ℕ) (cap : Capability) : Type 0 where
-  pub says : (c : Capability) → IsCapability c → c ≢ cap → contents_in new c ≡ contents_in old c
+-- the image of what bytes hold, with another content of a capability
+abbrev pub image_with : List ℕ → Capability → Option Content → List ℕ
+image_with bytes cap content = image (names_in bytes) (with_content (contents_in bytes) cap content)
+
+-- that image is within its limit
+abbrev pub BytesFitWith : List ℕ → Capability → Option Content → Type 0
+BytesFitWith bytes cap content = ImageFits (names_in bytes) (with_content (contents_in bytes) cap content)
+
+-- that image is over its limit
+abbrev pub BytesAreOverWith : List ℕ → Capability → Option Content → Type 0
+BytesAreOverWith bytes cap content = ImageIsTooLarge (names_in bytes) (with_content (contents_in bytes) cap content)
+
+-- a new image holds what the old one does, but for a capability
+pub record IsSameBut (old new : NamedTable) (cap : Capability) : Type 0 where
+  pub says : (c : Capability) → IsCapability c → c ≢ cap → held_by new c ≡ held_by old c
 
 -- what is held of a capability once all that changes is taken away: what the old and the new values both say, and else nothing
 pub record IsLeft (old new held : Option Content) : Type 0 where

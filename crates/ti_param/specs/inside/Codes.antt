@@ -1,5 +1,5 @@
--- The code at the front of a text, and the text after it, computed; and the law that this is the table of `Codes` (own).
-use Rattle.std.specs.Prelude.{◌≡◌, ℕ, Bool, true, false, ◌&&◌, ◌||◌, List, [], ◌∷◌, ◌++◌, length, pos, if◌then◌else◌, ◌==◌, nat_lt, nat_le, Option, Some, None}
+-- The code at the front of a text, and the text after it, computed (own).
+use Rattle.std.specs.Prelude.{ℕ, Bool, true, false, ◌&&◌, ◌||◌, List, [], ◌∷◌, length, pos, if◌then◌else◌, ◌==◌, nat_lt, nat_le, Option, Some, None}
 use Rattle.std.specs.Prelude.{option_map, is_some}
 use Rattle.ti_text.specs.Ascii.{byte_of}
 use Rattle.ti_text.specs.Ascii as ascii
@@ -12,7 +12,7 @@ use Rattle.ti_param.specs.declared.codes.Token.TheVariants.{Literal, Operation, 
 use Rattle.ti_printing.specs.declared.printf.Conversion.{Conversion}
 use Rattle.ti_printing.specs.declared.printf.Directive.{Directive}
 use Rattle.ti_printing.specs.declared.printf.Flags.{Flags}
-use Rattle.ti_param.specs.Codes.{IsCode, begins_zero, conversions, flags_from, greatest_size, is_flag, no_flags, parameter_numbered, row_for, simple_tokens}
+use Rattle.ti_param.specs.Codes.{begins_zero, conversions, flags_from, greatest_size, is_flag, no_flags, parameter_numbered, row_for, simple_tokens}
 use Rattle.ti_param.specs.Codes.{span, variable_named}
 
 -- what a text has at its front, and the text after it, if it has such a thing there
@@ -120,9 +120,3 @@ code_of (Some (EndIf, rest)) = None
 -- the printf form of a conversion alone
 abbrev pub plain_form : Conversion → Directive
 plain_form conversion = record { flags = no_flags; width = 0; precision = None; conversion = conversion }
-
--- the law of codes: a text that begins with a code is read as that code and what follows it, and what is read is so
-pub record OneCode : Type 0 where
-  pub reads : (text rest : List ℕ) (token : Token) → IsCode text token → token_after (text ++ rest) ≡ Some (token, rest)
-  pub read_so : (text rest : List ℕ) (token : Token) → token_after text ≡ Some (token, rest) →
-      (front : List ℕ) × (text ≡ front ++ rest) × IsCode front token

@@ -3,13 +3,11 @@ use Rattle.std.specs.Prelude.{ℕ, zero, suc, ◌+◌, ◌-◌, ◌*◌, Bool, t
 use Rattle.std.specs.Prelude.{option_and_then}
 use Rattle.ti_text.specs.Ascii as ascii
 use Rattle.ti_text.specs.Digits.{is_decimal_digit, decimal_digit_value, decimal_value}
+use Rattle.ti_printing.specs.declared.padding.Line.{Line}
 use Rattle.ti_printing.specs.declared.padding.Padding.{Padding}
 use Rattle.ti_printing.specs.declared.padding.Part.{Part}
 use Rattle.ti_printing.specs.declared.padding.Part.TheVariants.{Literal, Delay}
-
--- the most digits of the milliseconds (own)
-abbrev pub delay_digits_max : ℕ
-delay_digits_max = 5
+use Rattle.ti_printing.specs.Padding.{delay_digits_max, padded_parts, padding_of_parts}
 
 -- what follows the byte, where the text begins with it
 abbrev pub after_byte : ℕ → List ℕ → Option (List ℕ)
@@ -89,3 +87,11 @@ parts_after zero (byte ∷ text) =
 -- the parts of a text: its paddings, and the bytes at which none begins
 unfoldable pub parts_of : List ℕ → List Part
 parts_of text = parts_after 0 text
+
+-- the text with each padding as its pad bytes
+unfoldable pub with_pad_bytes : List ℕ → ℕ → Line → List ℕ
+with_pad_bytes text lines line = padded_parts lines line (parts_of text)
+
+-- how many pad bytes that are in all
+unfoldable pub padding_of : List ℕ → ℕ → Line → ℕ
+padding_of text lines line = padding_of_parts lines line (parts_of text)

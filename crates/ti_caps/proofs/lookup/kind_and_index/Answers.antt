@@ -2,7 +2,7 @@
 use Rattle.std.proofs.Common.{◌<◌, Ok, Err, subst}
 use Rattle.std.proofs.lemmas.List.Sorted.{searched}
 use Rattle.ti_caps.specs.declared.keys.TheConstants.{KEYS}
-use Rattle.ti_caps.specs.Lookup.{by_name}
+use Rattle.ti_caps.specs.inside.Lookup.{by_name}
 use Rattle.ti_caps.specs.inside.Keys.{key_of}
 use Rattle.ti_caps.proofs.KeyTable.{as_long, keys_do_not_fall, only_place, no_place, none_then}
 use Rattle.ti_caps.proofs.lookup.kind_and_index.Goals as goal

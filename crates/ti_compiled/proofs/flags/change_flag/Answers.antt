@@ -2,7 +2,7 @@ use Rattle.std.proofs.Common.{◌≡◌, ◌+◌, ◌≤◌, ◌%◌, ℕ, suc, 
 use Rattle.ti_caps.specs.declared.capability.Kind.TheVariants.{Flag}
 use Rattle.ti_layout.specs.Image.{written_count}
 use Rattle.ti_compiled.specs.inside.Bytes.{Replaces, with_length}
-use Rattle.ti_compiled.specs.Image.{names_in, contents_in}
+use Rattle.ti_compiled.specs.inside.Image.{names_in, contents_in}
 use Rattle.ti_compiled.proofs.FlagPlaces.{flags_within}
 use Rattle.ti_compiled.proofs.FlagChange.{flag_lengths, flag_written, flag_cut, flag_changed}
 use Rattle.ti_compiled.proofs.flags.change_flag.Goals as goal

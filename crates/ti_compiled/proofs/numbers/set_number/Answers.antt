@@ -1,9 +1,9 @@
 use Rattle.std.proofs.Common.{◌≡◌, ◌≤◌, ℕ, List, length, sym, ap, ◌∙◌, subst, Option, arith, vec_capacity}
 use Rattle.ti_layout.specs.declared.layout.Header.{Header}
 use Rattle.ti_layout.specs.Image.{image, below, image_limit}
-use Rattle.ti_layout.specs.Writing.{HasSizes}
+use Rattle.ti_layout.specs.inside.Writing.{HasSizes}
 use Rattle.ti_compiled.specs.inside.Changes.{with_number, wide_value}
-use Rattle.ti_compiled.specs.Image.{names_in, contents_in}
+use Rattle.ti_compiled.specs.inside.Image.{names_in, contents_in}
 use Rattle.ti_compiled.proofs.Rooms.{when_ok, on_ok, on_err, none_ok, none_err, no_fault, image_again, sizes_again, names_room, flags_room, numbers_room, texts_room}
 use Rattle.ti_compiled.proofs.NumberChange.{number_room}
 use Rattle.ti_compiled.proofs.numbers.set_number.Goals as goal

@@ -2,21 +2,21 @@ use Rattle.std.proofs.Common.{List, sym, ap, subst, ◌∙◌}
 use Rattle.ti_layout.specs.Laws.{without_cancel}
 use Rattle.ti_layout.specs.Values.{TableEntry, contents}
 use Rattle.ti_compiled.specs.inside.Changes.{IsLeft}
-use Rattle.ti_compiled.specs.Image.{names_in, contents_in}
+use Rattle.ti_compiled.specs.Image.{NamedTable, held_by}
 use Rattle.ti_compiled.proofs.patching.changed_copy.Goals as goal
 
 pub take_all_changed_away-requires-clause-held : goal.take_all_changed_away-requires-clause-held
 take_all_changed_away-requires-clause-held c = λ d valid.
-    ap (λ i. contents_in i d) c.in_ok-copy.ensures ∙ c.requires.held d valid ∙ ap (λ (es : List TableEntry). without_cancel (contents es d)) (sym c.entries.ensures.entries)
+    ap (λ (i : NamedTable). held_by i d) c.in_ok-copy.ensures ∙ c.requires.held d valid ∙ ap (λ (es : List TableEntry). without_cancel (contents es d)) (sym c.entries.ensures.entries)
 
 pub give_all_changed-requires-clause-left : goal.give_all_changed-requires-clause-left
 give_all_changed-requires-clause-left c = λ d valid.
-    let held = contents_in c.take_all_changed_away.new.image d in
+    let held = held_by c.take_all_changed_away.new.image d in
     subst (λ (es : List TableEntry). IsLeft (contents c.args.old.now d) (contents es d) held) (sym c.entries-2.ensures.entries)
     (subst (λ (es : List TableEntry). IsLeft (contents es d) (contents c.args.new.now d) held) c.entries.ensures.entries (c.in_ok-take_all_changed_away.ensures.left d valid))
 
 pub returns-clause-names : goal.returns-clause-names
-returns-clause-names c = c.in_ok-give_all_changed.ensures.names ∙ c.in_ok-take_all_changed_away.ensures.names ∙ ap names_in c.in_ok-copy.ensures
+returns-clause-names c = c.in_ok-give_all_changed.ensures.names ∙ c.in_ok-take_all_changed_away.ensures.names ∙ ap (λ (i : NamedTable). i.names) c.in_ok-copy.ensures
 
 pub returns-clause-narrow : goal.returns-clause-narrow
 returns-clause-narrow c = (

@@ -3,7 +3,8 @@ use Rattle.ti_caps.specs.Tables.{capability}
 use Rattle.ti_caps.specs.declared.capability.Kind.TheVariants.{Text}
 use Rattle.ti_layout.specs.Image.{texts_below, written_count}
 use Rattle.ti_compiled.specs.inside.Changes.{text_content}
-use Rattle.ti_compiled.specs.Image.{names_in, contents_in, with_content}
+use Rattle.ti_compiled.specs.Image.{with_content}
+use Rattle.ti_compiled.specs.inside.Image.{names_in, contents_in}
 use Rattle.ti_compiled.specs.inside.Bytes.{ended_text}
 use Rattle.ti_compiled.proofs.TextFits.{gone_or_more, lengths_of, removed_found}
 use Rattle.ti_compiled.proofs.TextSteps.{table_changed, offsets_resized, put_here, put_other, put_fits, offset_there, offset_none, text_changed}

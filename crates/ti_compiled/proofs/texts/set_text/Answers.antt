@@ -2,10 +2,10 @@ use Rattle.std.proofs.Common.{◌≤◌, ℕ, List, length, sym, ap, ◌∙◌, 
 use Rattle.ti_caps.specs.Tables.{capability}
 use Rattle.ti_caps.specs.declared.capability.Kind.TheVariants.{Text}
 use Rattle.ti_layout.specs.Image.{image, image_limit}
-use Rattle.ti_layout.specs.Writing.{HasSizes}
-use Rattle.ti_compiled.specs.Changes.{image_with}
-use Rattle.ti_compiled.specs.inside.Changes.{text_content}
-use Rattle.ti_compiled.specs.Image.{names_in, contents_in, with_content}
+use Rattle.ti_layout.specs.inside.Writing.{HasSizes}
+use Rattle.ti_compiled.specs.inside.Changes.{image_with, text_content}
+use Rattle.ti_compiled.specs.Image.{with_content}
+use Rattle.ti_compiled.specs.inside.Image.{names_in, contents_in}
 use Rattle.ti_compiled.proofs.Rooms.{when_ok, on_ok, on_err, none_ok, none_err, no_fault, image_again, sizes_again, names_room, flags_room, numbers_room, texts_room}
 use Rattle.ti_compiled.proofs.texts.set_text.Goals as goal
 

@@ -2,7 +2,7 @@ use Rattle.std.proofs.Common.{◌≡◌, ◌≢◌, ◌≤◌, ℕ, List, [], �
 use Rattle.ti_caps.specs.declared.capability.Kind.TheVariants.{Text}
 use Rattle.ti_layout.specs.Image.{texts_below, text_piece, of_kind, written_count}
 use Rattle.ti_layout.proofs.Texts.{texts-more}
-use Rattle.ti_compiled.specs.Image.{names_in, contents_in}
+use Rattle.ti_compiled.specs.inside.Image.{names_in, contents_in}
 use Rattle.ti_compiled.proofs.TextPlaces.{offset_of, offset_found, offset_tells, texts_within, strings_exact, texts_past}
 use Rattle.ti_compiled.proofs.texts.start_of.Goals as goal
 

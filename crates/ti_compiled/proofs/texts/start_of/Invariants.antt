@@ -1,6 +1,6 @@
 use Rattle.std.proofs.Common.{◌≡◌, length}
 use Rattle.ti_layout.specs.Image.{texts_below}
-use Rattle.ti_compiled.specs.Image.{contents_in}
+use Rattle.ti_compiled.specs.inside.Image.{contents_in}
 use Rattle.ti_compiled.proofs.texts.start_of.Given as goal
 
 abbrev pub invariant-loop-at : goal.invariant-loop-at

@@ -1,6 +1,6 @@
 -- each step writes the item of one capability, or there is none
-use Rattle.std.proofs.Common.{◌≡◌, ◌≤◌, ◌++◌, map, option_map, Some, None, length, refl, sym, ◌∙◌, ap, arith}
-use Rattle.std.proofs.lemmas.List.{drop_all}
+use Rattle.std.proofs.Common.{◌≡◌, ◌≤◌, ◌++◌, [], map, option_map, Some, None, length, refl, sym, ◌∙◌, ap, arith}
+use Rattle.std.proofs.lemmas.List.{append-nil, drop_all}
 use Rattle.ti_layout.specs.View.{view_contents, shown_entry}
 use Rattle.ti_list.specs.inside.Contents.{plain_content}
 use Rattle.ti_list.specs.inside.Listing.{flow}
@@ -8,6 +8,7 @@ use Rattle.ti_list.specs.Listing.{in_order, items_for}
 use Rattle.ti_list.specs.RelativeSource.{differing_contents}
 use Rattle.ti_list.proofs.Orders.{length-in_order}
 use Rattle.ti_list.proofs.Rooms.{room-some, room-none}
+use Rattle.ti_list.proofs.Threads.{lines-then}
 use Rattle.ti_list.proofs.Steps.{flow-some, flow-none, flow-end}
 use Rattle.ti_list.proofs.listing.write_kind.Goals as goal
 use Rattle.ti_list.proofs.listing.write_kind.Goals.{in-Some, in_default}
@@ -48,9 +49,10 @@ loop-place-preserved c = elim c.match-said_of.branch [
 ]
 
 pub returns-clause-items : goal.returns-clause-items
-returns-clause-items c rest =
+returns-clause-items c =
     let table = differing_contents (view_contents c.args.view.now) (map (λ o. shown_entry o) c.args.others.now) in
     let caps = in_order c.args.layout.now.order c.args.kind in
     let past : length caps ≤ c.loop-place.place = rw length-in_order (omega (arith, c.count-place-end.ensures.value, c.loop-place-test.false)) in
-    let ended = ap (λ cs. flow c.args.layout.now c.loop-place.line (items_for table cs) rest) (drop_all c.loop-place.place caps past) ∙ flow-end c.args.layout.now c.loop-place.line rest in
-    ap (λ end. c.loop-place.out.items ++ end) (sym ended) ∙ c.loop-place.invariant.done rest
+    let ended = ap (λ cs. flow c.args.layout.now c.loop-place.line (items_for table cs) []) (drop_all c.loop-place.place caps past) ∙ flow-end c.args.layout.now c.loop-place.line [] in
+    sym (append-nil c.loop-place.out.items) ∙ ap (λ end. c.loop-place.out.items ++ end) (sym ended) ∙ c.loop-place.invariant.done []
+    ∙ ap (λ lines. c.args.out.now.items ++ lines) (lines-then c.args.layout.now (items_for table caps) [] ∙ append-nil _)

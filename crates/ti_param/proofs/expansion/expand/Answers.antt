@@ -4,7 +4,7 @@ use Rattle.std.proofs.lemmas.Result.{err_from_is_err_and}
 use Rattle.ti_param.specs.declared.errors.ParamError.TheVariants.{BadFormat}
 use Rattle.ti_param.specs.Formats.{AreTokensOf}
 use Rattle.ti_param.specs.inside.Formats.{stuck_place}
-use Rattle.ti_param.proofs.Ending.{Runs, refused-bad_format, refused-computed, run-bad_format, run-stack_full, run-memory, run-computed, done-expands, done-computed, done-bad_format}
+use Rattle.ti_param.proofs.Ending.{Runs, refused-bad_format, run-bad_format, run-stack_full, run-memory, done-expands, done-bad_format}
 use Rattle.ti_param.proofs.Laws.{tokens_parse, tokens_stop}
 use Rattle.ti_param.proofs.expansion.expand.Goals as goal
 
@@ -16,9 +16,6 @@ stuck c =
 
 pub returns-in-Some-clause-bad_format : goal.returns-in-Some-clause-bad_format
 returns-in-Some-clause-bad_format c = refused-bad_format c.args.format.now (BadFormat c.in-Some.place) (stuck c)
-
-pub returns-in-Some-clause-computed : goal.returns-in-Some-clause-computed
-returns-in-Some-clause-computed c = refused-computed c.args.format.now _ _ (BadFormat c.in-Some.place) (stuck c)
 
 -- ---- the run has failed
 
@@ -43,11 +40,6 @@ returns-in_err-ran-clause-stack_full c =
 pub returns-in_err-ran-clause-memory : goal.returns-in_err-ran-clause-memory
 returns-in_err-ran-clause-memory c = λ _. run-memory c.args.format.now (whole-in_err c)
 
-pub returns-in_err-ran-clause-computed : goal.returns-in_err-ran-clause-computed
-returns-in_err-ran-clause-computed c =
-    let p = err_from_is_err_and c.from_residual.result c.from_residual.ensures.1 in
-    rw (p.1, p.2) (run-computed _ _ _ _ _ _ (whole-in_err c) c.new-machine.ensures (runs-in_err c))
-
 -- ---- all was run
 
 whole : (c : goal.After-finish) → stuck_place c.args.format.now ≡ None
@@ -63,6 +55,3 @@ returns-clause-ok c = done-expands _ _ _ _ _ _ _ (whole c) c.new-machine.ensures
 
 pub returns-clause-bad_format : goal.returns-clause-bad_format
 returns-clause-bad_format c = done-bad_format c.args.format.now _ (whole c)
-
-pub returns-clause-computed : goal.returns-clause-computed
-returns-clause-computed c = done-computed _ _ _ _ _ _ _ (whole c) c.new-machine.ensures (runs c) c.finish.ensures.output c.finish.ensures.statics

@@ -4,6 +4,7 @@ use Rattle.std.proofs.lemmas.Bool.{cases_lt, false≢true}
 use Rattle.ti_source.specs.Reading.{reading_of}
 use Rattle.ti_layout.specs.Image.{image, image_limit}
 use Rattle.ti_layout.specs.Values.{contents}
+use Rattle.ti_compiled.specs.Image.{bytes_of}
 use Rattle.ti_meaning.specs.Compiled.{image_of}
 use Rattle.ti_meaning.proofs.Imaging.{image_says, limit_says}
 use Rattle.ti_plan.proofs.BlockValues.{within, over}
@@ -19,8 +20,8 @@ returns-in-Ok-clause-state c = λ mentions says.
       | inr fits ↦ fits
     ]
     in
-    within (reading_of c.args.slot.now.block) mentions c.in-Ok.image (c.in-Ok.ensures.image ∙ image_says field t mentions says)
-    (subst (λ n. length c.in-Ok.image ≤ n) (limit_says t mentions says) (subst (λ (i : List ℕ). length i ≤ image_limit t) (sym c.in-Ok.ensures.image) small))
+    within (reading_of c.args.slot.now.block) mentions (bytes_of c.in-Ok.image) (c.in-Ok.ensures.image ∙ image_says field t mentions says)
+    (subst (λ n. length (bytes_of c.in-Ok.image) ≤ n) (limit_says t mentions says) (subst (λ (i : List ℕ). length i ≤ image_limit t) (sym c.in-Ok.ensures.image) small))
 
 pub returns-in-Err-TooLarge-clause-state : goal.returns-in-Err-TooLarge-clause-state
 returns-in-Err-TooLarge-clause-state c = λ mentions says.

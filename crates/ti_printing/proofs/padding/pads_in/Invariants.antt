@@ -1,5 +1,6 @@
 use Rattle.std.proofs.Common.{◌≡◌, ◌+◌, ◌≤◌}
-use Rattle.ti_printing.specs.Padding.{padding_of, padding_of_parts}
+use Rattle.ti_printing.specs.Padding.{padding_of_parts}
+use Rattle.ti_printing.specs.inside.Padding.{padding_of}
 use Rattle.ti_printing.specs.inside.Padding.{parts_of}
 use Rattle.ti_printing.proofs.padding.pads_in.Given as goal
 

@@ -1,5 +1,6 @@
 use Rattle.std.proofs.Common.{◌≡◌, ◌+◌, ◌≤◌, ◌++◌, length, vec_len, vec_capacity}
-use Rattle.ti_printing.specs.Padding.{with_pad_bytes, padded_parts, padding_of_parts}
+use Rattle.ti_printing.specs.Padding.{padded_parts, padding_of_parts}
+use Rattle.ti_printing.specs.inside.Padding.{with_pad_bytes}
 use Rattle.ti_printing.specs.inside.Padding.{parts_of}
 use Rattle.ti_printing.proofs.padding.write.Given as goal
 

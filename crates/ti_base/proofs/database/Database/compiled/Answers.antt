@@ -8,7 +8,7 @@ use Rattle.ti_base.proofs.database.Database.compiled.Goals as goal
 pub returns-in-Compiled : goal.returns-in-Compiled
 returns-in-Compiled c =
     let kept = entry_of_slot c.self.inside.slots c.args.at c.slot_of.result.now c.self.invariant c.slot_of.ensures in
-    ap (λ x. Some x) c.bytes.ensures.bytes ∙ (ap (λ e. shown_entry (state_seen e)) (sym c.in-Compiled.is) ∙ (kept ∙ ap (λ texts. compiled texts c.args.at) c.self.view_is))
+    ap (λ x. Some x) c.bytes.ensures.image ∙ (ap (λ e. shown_entry (state_seen e)) (sym c.in-Compiled.is) ∙ (kept ∙ ap (λ texts. compiled texts c.args.at) c.self.view_is))
 
 pub returns-in_default : goal.returns-in_default
 returns-in_default c =

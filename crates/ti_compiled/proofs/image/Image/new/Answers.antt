@@ -1,5 +1,7 @@
-use Rattle.ti_layout.specs.Values.{contents}
+use Rattle.std.proofs.Common.{ap, ◌∙◌}
+use Rattle.ti_layout.specs.Values.{Contents, contents}
 use Rattle.ti_compiled.proofs.Kept.{Again, read_again, some_bytes}
+use Rattle.ti_compiled.proofs.Seen.{seen_bytes, seen_says}
 use Rattle.ti_compiled.proofs.image.Image.new.Goals as goal
 use Rattle.ti_compiled.proofs.image.Image.new.Goals.{In_ok-bytes}
 
@@ -15,4 +17,7 @@ pub returns-clause-names : goal.returns-clause-names
 returns-clause-names c = (again c).names_read
 
 pub returns-clause-contents : goal.returns-clause-contents
-returns-clause-contents c = (again c).contents_read
+returns-clause-contents c = λ d valid. ap (λ (f : Contents). f d) (seen_says c.in_ok-bytes.bytes.items (again c).kept) ∙ (again c).contents_read d valid
+
+pub returns-clause-image : goal.returns-clause-image
+returns-clause-image c = seen_bytes c.in_ok-bytes.bytes.items (again c).kept ∙ c.in_ok-bytes.ensures.ok.0

@@ -1,0 +1,61 @@
+#!/usr/bin/env python3
+"""Instructions that a call of libti takes, beside ncurses and unibilium, by valgrind's callgrind.
+
+    bench/library.py
+
+The C library is made already (`make library`). What a call takes is the difference of a run of 20,000
+calls and one of 10,000, by 10,000, on the system's entry of xterm-256color.
+"""
+
+import os
+import re
+import shutil
+import subprocess
+import sys
+import tempfile
+
+TOP = os.path.dirname(os.path.dirname(os.path.abspath(__file__)))
+LIBRARY = os.path.join(TOP, "crates", "ti_c", "out", "lib", "libti.a")
+DIRECTORIES = ("/etc/terminfo", "/lib/terminfo", "/usr/share/terminfo")
+THINGS = ("setaf", "cup", "find", "get", "read")
+LACKING = {"ncurses-get", "ncurses-read", "unibilium-find"}
+COUNT = 10_000
+
+
+def instructions(program, what, count, environment):
+    """How many instructions one run takes."""
+    words = ["valgrind", "--tool=callgrind", "--callgrind-out-file=/dev/null", program, what, str(count)]
+    done = subprocess.run(words, env=environment, capture_output=True, text=True, check=True)
+    return int(re.search(r"Collected : (\d+)", done.stderr)[1])
+
+
+def main():
+    files = [f"{it}/x/xterm-256color" for it in DIRECTORIES if os.path.exists(f"{it}/x/xterm-256color")]
+    if not files or not shutil.which("valgrind") or not os.path.exists(LIBRARY):
+        print("not measured: valgrind, the entry of xterm-256color and the C library are needed")
+        return 1
+    environment = {**os.environ, "TERMINFO_FILE": files[0]}
+    libraries = ["libti", "ncurses", "unibilium"]
+    with tempfile.TemporaryDirectory() as room:
+        program = os.path.join(room, "library")
+        words = [os.environ.get("CC") or "cc", "-O2", "-I", f"{TOP}/include", f"{TOP}/bench/library.c", LIBRARY]
+        words += ["-lncurses", "-ltinfo", "-o", program]
+        if subprocess.run([*words, "-DUNIBILIUM", "-lunibilium"], capture_output=True, check=False).returncode:
+            subprocess.run(words, check=True)
+            libraries.remove("unibilium")
+        print("instructions a call".ljust(24), *(it.rjust(10) for it in libraries))
+        for thing in THINGS:
+            row = []
+            for name in libraries:
+                what = f"{name}-{thing}"
+                if what in LACKING:
+                    row.append("")
+                    continue
+                runs = [instructions(program, what, count, environment) for count in (COUNT, 2 * COUNT)]
+                row.append(f"{(runs[1] - runs[0]) / COUNT:,.0f}")
+            print(thing.ljust(24), *(it.rjust(10) for it in row), flush=True)
+    return 0
+
+
+if __name__ == "__main__":
+    sys.exit(main())

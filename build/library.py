@@ -1,0 +1,65 @@
+#!/usr/bin/env python3
+"""Makes the C library of the repository: `make library` runs it.
+
+    build/library.py [DIRECTORY]       puts libti.a and libti.so.1 there; crates/ti_c/out/lib, if
+                                       none is named
+
+It proves and compiles the crate ti_c, unless nothing that it is made from has changed, and joins
+its archive, the toolchain's three functions over malloc and include/ti.c to one object in which
+`ti_..` alone is visible. It uses the C compiler that CC names, or cc, and ld, objcopy and ar.
+"""
+
+import os
+import shutil
+import subprocess
+import sys
+import tempfile
+
+from build import KIT, build_if_changed, place_of, tell
+from crates import TOP, read_crates
+
+SONAME = "libti.so.1"
+FLAGS = ["-std=c99", "-O2", "-fPIC", "-fvisibility=default", "-Wall", "-Wextra", "-Wpedantic"]
+SHARED = ["-shared", f"-Wl,-soname,{SONAME}", "-Wl,-z,defs", "-Wl,-z,text"]
+
+
+def compiler():
+    """The C compiler."""
+    return os.environ.get("CC") or "cc"
+
+
+def make(archive, directory):
+    """Makes the static and the shared library from the archive of the crate."""
+    os.makedirs(directory, exist_ok=True)
+    with tempfile.TemporaryDirectory() as room:
+        run = lambda *words: subprocess.run(words, cwd=room, check=True)
+        run(compiler(), *FLAGS, "-I", f"{TOP}/include", "-c", f"{TOP}/include/ti.c", "-o", "c.o")
+        whole = [archive, f"{KIT}/c/liblibc_c.a"]
+        run("ld", "-r", "-o", "ti.o", "c.o", "--whole-archive", *whole, "--no-whole-archive")
+        run("objcopy", "--wildcard", "--keep-global-symbol=ti_*", "ti.o")
+        run("ar", "rcsD", "libti.a", "ti.o")
+        run(compiler(), *SHARED, "-o", SONAME, "ti.o")
+        for name in ("libti.a", SONAME):
+            shutil.copy(f"{room}/{name}", f"{directory}/{name}.new")
+            os.replace(f"{directory}/{name}.new", f"{directory}/{name}")
+
+
+def main():
+    status = build_if_changed("ti_c")
+    if status:
+        return status
+    archive = place_of(read_crates()["ti_c"])
+    directory = os.path.abspath(sys.argv[1]) if len(sys.argv) > 1 else f"{os.path.dirname(archive)}/lib"
+    try:
+        make(archive, directory)
+    except (OSError, subprocess.CalledProcessError) as error:
+        tell(f"the C library was not made: {error}")
+        return 1
+    return 0
+
+
+if __name__ == "__main__":
+    try:
+        sys.exit(main())
+    except KeyboardInterrupt:
+        sys.exit(130)

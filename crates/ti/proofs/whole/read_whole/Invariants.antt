@@ -1,0 +1,6 @@
+use Rattle.std.proofs.Common.{◌≤◌, length}
+use Rattle.ti.proofs.whole.read_whole.Given as goal
+
+-- what was read before is within the limit
+abbrev pub invariant-loop : goal.invariant-loop
+invariant-loop g l = length l.bytes.items ≤ l.limit

@@ -1,0 +1,18 @@
+-- A format at which the machine is stuck is refused as such, and its place is the only one.
+use Rattle.std.proofs.Common.{refl}
+use Rattle.ti_c.proofs.expanding.ti_expand.Goals as goal
+
+pub returns-then-not-write_to-clause-stuck : goal.returns-then-not-write_to-clause-stuck
+returns-then-not-write_to-clause-stuck c = λ place stuck. let e = (c.in-Ok.ensures.bad_format place).1 stuck in absurd cc
+
+pub returns-else-not-write_to-clause-stuck : goal.returns-else-not-write_to-clause-stuck
+returns-else-not-write_to-clause-stuck c = λ place stuck. let e = (c.in-Ok.ensures.bad_format place).1 stuck in absurd cc
+
+pub returns-in-Err-BadFormat-clause-stuck : goal.returns-in-Err-BadFormat-clause-stuck
+returns-in-Err-BadFormat-clause-stuck c = λ place stuck. let e = (c.in-Err-BadFormat.ensures.bad_format place).1 stuck in (refl, cc)
+
+pub returns-in-Err-StackFull-clause-stuck : goal.returns-in-Err-StackFull-clause-stuck
+returns-in-Err-StackFull-clause-stuck c = λ place stuck. let e = (c.in-Err-StackFull.ensures.bad_format place).1 stuck in absurd cc
+
+pub returns-in-Err-Memory-clause-stuck : goal.returns-in-Err-Memory-clause-stuck
+returns-in-Err-Memory-clause-stuck c = λ place stuck. let e = (c.in-Err-Memory.ensures.bad_format place).1 stuck in absurd cc

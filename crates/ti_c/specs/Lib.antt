@@ -1,0 +1,6 @@
+pub mod Answers
+pub mod Capabilities
+pub mod Entries
+pub mod Expanding
+pub mod Padding
+pub mod Places

@@ -1,0 +1,105 @@
+//! A string with parameters as the bytes for the terminal.
+ghost use Rattle.std.specs.Prelude.{◌≡◌, ◌≢◌, ◌<◌, ◌≤◌, ℕ, map};
+ghost use Rattle.ti_param.specs.Expansion.{Overflows};
+ghost use Rattle.ti_param.specs.Formats.{FormatTree, IsTree, IsStuck};
+ghost use Rattle.ti_param.specs.Meaning.{argument_of};
+ghost use Rattle.ti_c.specs.Expanding.{argument_at, arguments_of, IsExpanded, IsTooLong};
+
+use crate::answers::{BAD_FORMAT, NO_MEMORY, NO_ROOM, OK, Outcome, STACK_FULL, write_to};
+use std::alloc::Global;
+use ti_param::{LETTERS, ParamError, Statics, Value, expand};
+use ti_text::limits::PARAMETERS_MAX;
+
+/// A parameter: a number where `kind` is 0, else a text.
+#[repr(C)]
+#[derive(Clone, Copy)]
+pub struct Parameter<'a> {
+    pub kind: u32,
+    pub number: i32,
+    pub text: &'a [u8],
+}
+
+/// The static variables `A` to `Z`.
+#[repr(C)]
+#[derive(Clone, Copy)]
+pub struct Variables {
+    pub values: [i32; LETTERS],
+}
+
+// The parameter at a place; one that is not given is the number 0.
+fn argument_at<'a>(params: &[Parameter<'a>], place: usize) -> Value<'a>
+    ensures { argument_of result ≡ argument_at params.now place }
+{
+    match params.get(place) {
+        None => Value::Number(0),
+        Some(param) if param.kind == 0 => Value::Number(param.number),
+        Some(param) => Value::Text(param.text),
+    }
+}
+
+// The nine parameters.
+#[tactic(auto, unfolding(crate::specs::Expanding::arguments_of))]
+fn arguments<'a>(params: &[Parameter<'a>]) -> [Value<'a>; PARAMETERS_MAX]
+    ensures { map argument_of result ≡ arguments_of params.now }
+{
+    [
+        argument_at(params, 0),
+        argument_at(params, 1),
+        argument_at(params, 2),
+        argument_at(params, 3),
+        argument_at(params, 4),
+        argument_at(params, 5),
+        argument_at(params, 6),
+        argument_at(params, 7),
+        argument_at(params, 8),
+    ]
+}
+
+/// Expands a string with its parameters, of which those after the ninth are not looked at, and writes the bytes to the
+/// front of `out`. The answer is `OK` with how many they are; `BAD_FORMAT` and `STACK_FULL` with the place of the `%`;
+/// `NO_ROOM` with how many bytes are needed; `NO_MEMORY`. After all but `OK`, `variables` and `out` are as they were.
+#[unsafe(no_mangle)]
+pub extern "C" fn ti_expand(
+    alloc: Global,
+    format: &[u8],
+    params: &[Parameter<'_>],
+    variables: &mut Variables,
+    out: &mut [u8],
+) -> Outcome
+    ensures known { result.status ≤ NO_ROOM }
+    ensures ok { result.status ≡ OK → IsExpanded format.now (arguments_of params.now) variables.old.values variables.new.values out.old out.new result.size }
+    ensures bad_format { result.status ≡ BAD_FORMAT → IsStuck format.now result.size }
+    ensures stuck { (place : ℕ) → IsStuck format.now place → (result.status ≡ BAD_FORMAT) × (result.size ≡ place) }
+    ensures stack_full { result.status ≡ STACK_FULL → Overflows format.now (arguments_of params.now) variables.old.values result.size }
+    ensures no_room { result.status ≡ NO_ROOM → IsTooLong format.now (arguments_of params.now) variables.old.values out.old result.size }
+    ensures no_memory { result.status ≡ NO_MEMORY → (t : FormatTree) × IsTree format.now t }
+    ensures variables_kept { result.status ≢ OK → variables.new ≡ variables.old }
+    ensures out_kept { result.status ≢ OK → out.new ≡ out.old }
+{
+    let mut statics = Statics::of_values(variables.values);
+    match expand(alloc, format, &arguments(params), &mut statics) {
+        Ok(output) => {
+            let size = output.len();
+            if !write_to(output.as_slice(), out) {
+                return Outcome {
+                    status: NO_ROOM,
+                    size,
+                };
+            }
+            variables.values = statics.values();
+            Outcome { status: OK, size }
+        }
+        Err(ParamError::BadFormat(place)) => Outcome {
+            status: BAD_FORMAT,
+            size: place,
+        },
+        Err(ParamError::StackFull(place)) => Outcome {
+            status: STACK_FULL,
+            size: place,
+        },
+        Err(ParamError::Memory) => Outcome {
+            status: NO_MEMORY,
+            size: 0,
+        },
+    }
+}

@@ -1,0 +1,31 @@
+//! The toolkit for programs in C: what `include/ti.h` declares. Each export calls the library's own function and states
+//! its contract again, in terms of what C hands over and sees.
+//!
+//! - `capabilities`: a capability by its name, and its name
+//! - `entry`: a compiled entry as C holds it; `entries`: reading one where its bytes lie or as a copy, and its values
+//! - `expanding`: a string with parameters as the bytes for the terminal
+//! - `padding`: such bytes with their delays as pad bytes, and the line to the terminal of an entry
+//! - `places`: the directories in which entries stand, and the file of one
+//! - `answers`: what a call says of the bytes that it wrote
+//!
+//! Nothing checks that a caller in C upholds what a type or a `requires` states: `include/ti.h` says it at each call.
+#![tactic(auto)]
+
+mod answers;
+mod capabilities;
+mod entries;
+mod entry;
+mod expanding;
+mod padding;
+mod places;
+
+pub use answers::Outcome;
+pub use capabilities::{Place, ti_capability, ti_name};
+pub use entries::{
+    ti_entry_new, ti_entry_read, ti_first_name, ti_flag, ti_long_name, ti_names, ti_number,
+    ti_string,
+};
+pub use entry::Entry;
+pub use expanding::{Parameter, Variables, ti_expand};
+pub use padding::{TerminalLine, ti_line, ti_pad};
+pub use places::{ti_path, ti_places};

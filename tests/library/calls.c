@@ -1,0 +1,413 @@
+/* Every call of libti: what it gives, each of its refusals, and that a refusal changes nothing. */
+#include "test.h"
+
+/* Room to write to, filled with a byte that no result has. */
+static uint8_t out[4096], untouched[4096];
+enum { FILL = 0xee };
+
+static void clear_out(void) {
+    memset(out, FILL, sizeof out);
+    memset(untouched, FILL, sizeof untouched);
+}
+
+/* Whether these bytes were written to the front of `out`, and nothing behind them. */
+static bool wrote(const char *bytes, size_t size) {
+    return memcmp(out, bytes, size) == 0 && memcmp(out + size, untouched, sizeof out - size) == 0;
+}
+
+/* ---- capabilities */
+
+static bool is_at(const char *name, uint32_t kind, uint32_t index) {
+    struct ti_place place = { 9, 9 };
+    struct ti_text text = TI_NOTHING;
+    return ti_capability((const uint8_t *)name, strlen(name), &place) && place.kind == kind &&
+           place.index == index && ti_name(kind, index, &text) &&
+           is_text(text, name, strlen(name));
+}
+
+static void capabilities(void) {
+    CHECK(is_at("bw", TI_FLAG, 0));
+    CHECK(is_at("am", TI_FLAG, 1));
+    CHECK(is_at("OTxr", TI_FLAG, 43));
+    CHECK(is_at("cols", TI_NUMBER, 0));
+    CHECK(is_at("colors", TI_NUMBER, 13));
+    CHECK(is_at("OTkn", TI_NUMBER, 38));
+    CHECK(is_at("cbt", TI_STRING, 0));
+    CHECK(is_at("cup", TI_STRING, 10));
+    CHECK(is_at("setaf", TI_STRING, 359));
+    CHECK(is_at("box1", TI_STRING, 413));
+    static const char *const unknown[] = { "", "CUP", "cu", "cupp", "cup ", "setaf\n" };
+    struct ti_place place = { 7, 8 };
+    for (int i = 0; i < 6; i++)
+        CHECK(!ti_capability((const uint8_t *)unknown[i], strlen(unknown[i]), &place));
+    CHECK(!ti_capability((const uint8_t *)"cup", 4, &place));
+    CHECK(place.kind == 7 && place.index == 8);
+    struct ti_text text = TI_NOTHING;
+    CHECK(!ti_name(TI_FLAG, TI_FLAGS, &text) && !ti_name(TI_NUMBER, TI_NUMBERS, &text));
+    CHECK(!ti_name(TI_STRING, TI_STRINGS, &text) && !ti_name(3, 0, &text));
+    CHECK(!ti_name(TI_FLAG, UINT32_MAX, &text) && !ti_name(UINT32_MAX, 0, &text));
+    CHECK(is_text(text, "", 0));
+}
+
+/* ---- reading */
+
+static uint8_t bytes[8192];
+
+static uint32_t refusal_of(size_t size) {
+    /* a block of just that size, so that a read past it is seen */
+    uint8_t *block = (uint8_t *)malloc(size ? size : 1);
+    struct ti_entry entry = TI_ENTRY_EMPTY, before = TI_ENTRY_EMPTY, *copy = NULL;
+    if (!block) abort();
+    memcpy(block, bytes, size);
+    uint32_t refusal = ti_entry_read(block, size, &entry);
+    if (refusal) CHECK(entry.names.size == 0 && entry.bytes.bytes == before.bytes.bytes);
+    CHECK(ti_entry_new(block, size, &copy) == refusal && (copy == NULL) == (refusal != 0));
+    ti_entry_free(copy);
+    free(block);
+    return refusal;
+}
+
+/* The refusal of the entry of these parts with one byte changed. */
+static uint32_t refusal_with(struct parts parts, size_t at, uint8_t byte) {
+    size_t size = put_entry(bytes, &parts);
+    bytes[at] = byte;
+    return refusal_of(size);
+}
+
+static void refusals(void) {
+    struct parts parts = dumb();
+    size_t size = put_entry(bytes, &parts);
+    size_t flags = 12 + strlen(parts.names) + 1, numbers = flags + 4, offsets = numbers + 6;
+    CHECK(refusal_of(size) == 0 && refusal_of(size + 100) == 0);
+    CHECK(refusal_of(0) == TI_SHORT && refusal_of(11) == TI_SHORT);
+    CHECK(refusal_of(12) == TI_TRUNCATED && refusal_of(size - 1) == TI_TRUNCATED);
+    CHECK(refusal_with(parts, 0, 0x1b) == TI_MAGIC && refusal_with(parts, 1, 2) == TI_MAGIC);
+    CHECK(refusal_with(parts, 3, 0x80) == TI_COUNTS && refusal_with(parts, 4, 45) == TI_COUNTS);
+    CHECK(refusal_with(parts, 6, 40) == TI_COUNTS && refusal_with(parts, 11, 0x80) == TI_COUNTS);
+    CHECK(refusal_with(parts, 9, 0x80) == TI_COUNTS && refusal_with(parts, 7, 1) == TI_COUNTS);
+    CHECK(refusal_with(parts, 14, 0) == TI_BAD_NAMES);
+    CHECK(refusal_with(parts, flags - 1, 'x') == TI_BAD_NAMES);
+    CHECK(refusal_with(parts, flags, 2) == TI_BAD_FLAG);
+    CHECK(refusal_with(parts, flags + 3, 0xfd) == TI_BAD_FLAG);
+    CHECK(refusal_with(parts, numbers + 4, 0xfd) == TI_BAD_NUMBER);
+    CHECK(refusal_with(parts, numbers + 1, 0x80) == TI_BAD_NUMBER);
+    CHECK(refusal_with(parts, offsets + 2 * DIM, 0xfd) == TI_BAD_OFFSET);
+    CHECK(refusal_with(parts, offsets + 2 * BEL, DUMB_TABLE) == TI_BAD_OFFSET);
+    CHECK(refusal_with(parts, offsets + 2 * BEL + 1, 0x7f) == TI_BAD_OFFSET);
+    /* an offset at the last byte of a table without a NUL there */
+    size = put_entry(bytes, &parts);
+    bytes[size - 1] = 'x';
+    bytes[offsets + 2 * BEL] = DUMB_TABLE - 1;
+    CHECK(refusal_of(size) == TI_BAD_OFFSET);
+    /* the first that holds decides */
+    size = put_entry(bytes, &parts);
+    bytes[flags] = 2, bytes[numbers + 4] = 0xfd, bytes[offsets + 2 * DIM] = 0xfd;
+    CHECK(refusal_of(size) == TI_BAD_FLAG);
+    bytes[14] = 0;
+    CHECK(refusal_of(size) == TI_BAD_NAMES && refusal_of(size - 1) == TI_TRUNCATED);
+    struct parts nameless = dumb();
+    nameless.names = "";
+    CHECK(refusal_of(put_entry(bytes, &nameless)) == TI_BAD_NAMES);
+}
+
+/* ---- values */
+
+static void values_of(const struct ti_entry *entry) {
+    struct ti_text text = TI_NOTHING;
+    ti_names(entry, &text);
+    CHECK(is_text(text, "dumb|tty|80-column dumb tty", 27));
+    ti_first_name(entry, &text);
+    CHECK(is_text(text, "dumb", 4));
+    ti_long_name(entry, &text);
+    CHECK(is_text(text, "80-column dumb tty", 18));
+    CHECK(ti_flag(entry, 0) == 0 && ti_flag(entry, 1) == 1 && ti_flag(entry, 2) == 0);
+    CHECK(ti_flag(entry, 3) == 0 && ti_flag(entry, 4) == 0 && ti_flag(entry, 43) == 0);
+    CHECK(ti_flag(entry, 44) == -1 && ti_flag(entry, UINT32_MAX) == -1);
+    CHECK(ti_number(entry, 0) == 80 && ti_number(entry, 1) == -1 && ti_number(entry, 2) == -1);
+    CHECK(ti_number(entry, 3) == -1 && ti_number(entry, 38) == -1);
+    CHECK(ti_number(entry, 39) == -2 && ti_number(entry, UINT32_MAX) == -2);
+    CHECK(ti_string(entry, 0, &text) == 1 && is_text(text, "", 0));
+    CHECK(ti_string(entry, CR, &text) == 1 && is_text(text, "\r$<20>", 6));
+    CHECK(ti_string(entry, CUD1, &text) == 1 && is_text(text, "\n", 1));
+    CHECK(ti_string(entry, BEL, &text) == 1 && is_text(text, "\a", 1));
+    CHECK(ti_string(entry, DIM, &text) == 0 && ti_string(entry, 3, &text) == 0);
+    CHECK(ti_string(entry, 413, &text) == 0 && ti_string(entry, 414, &text) == -1);
+    CHECK(ti_string(entry, UINT32_MAX, &text) == -1 && is_text(text, "\a", 1));
+    CHECK(ti_flag_named(entry, "am") == 1 && ti_flag_named(entry, "cols") == -1);
+    CHECK(ti_number_named(entry, "cols") == 80 && ti_number_named(entry, "am") == -2);
+    CHECK(ti_string_named(entry, "cud1", &text) == 1 && is_text(text, "\n", 1));
+    CHECK(ti_string_named(entry, "nosuch", &text) == -1);
+}
+
+static void values(void) {
+    struct parts parts = dumb();
+    struct ti_entry entry = TI_ENTRY_EMPTY, *copy = NULL;
+    size_t size = put_entry(bytes, &parts);
+    CHECK(ti_entry_read(bytes, size, &entry) == 0);
+    values_of(&entry);
+    CHECK(ti_entry_new(bytes, size, &copy) == 0);
+    memset(bytes, FILL, sizeof bytes);
+    values_of(copy);
+    ti_entry_free(copy);
+    ti_entry_free(NULL);
+    /* the extended number format */
+    static const int32_t numbers[] = { 2147483647, -1, -2, 70000 };
+    parts.wide = true, parts.numbers = numbers, parts.number_count = 4;
+    size = put_entry(bytes, &parts);
+    CHECK(ti_entry_read(bytes, size, &entry) == 0);
+    CHECK(ti_number(&entry, 0) == 2147483647 && ti_number(&entry, 1) == -1);
+    CHECK(ti_number(&entry, 2) == -1 && ti_number(&entry, 3) == 70000);
+    /* one name alone */
+    struct ti_text text = TI_NOTHING;
+    parts = dumb(), parts.names = "x";
+    CHECK(ti_entry_read(bytes, put_entry(bytes, &parts), &entry) == 0);
+    ti_names(&entry, &text), CHECK(is_text(text, "x", 1));
+    ti_first_name(&entry, &text), CHECK(is_text(text, "x", 1));
+    ti_long_name(&entry, &text), CHECK(is_text(text, "x", 1));
+    struct ti_entry empty = TI_ENTRY_EMPTY;
+    ti_names(&empty, &text), CHECK(is_text(text, "", 0));
+    CHECK(ti_flag(&empty, 1) == 0 && ti_number(&empty, 0) == -1 && ti_string(&empty, 0, &text) == 0);
+}
+
+/* ---- expansion */
+
+static struct ti_variables variables;
+
+static struct ti_outcome expand(const char *format, size_t size, const struct ti_parameter *params,
+                                size_t count, size_t room) {
+    clear_out();
+    return ti_expand((const uint8_t *)format, size, params, count, &variables, out, room);
+}
+
+/* Whether a format gives these bytes: with no room at first, and again with what is needed. */
+static bool gives(const char *format, const struct ti_parameter *params, size_t count,
+                  const char *wanted) {
+    struct ti_variables before = variables;
+    size_t size = strlen(wanted);
+    struct ti_outcome outcome = expand(format, strlen(format), params, count, 0);
+    bool asked = outcome.size == size && outcome.status == (size ? TI_NO_ROOM : TI_OK);
+    if (size) asked = asked && !memcmp(&before, &variables, sizeof before) && wrote("", 0);
+    if (size > 1) {
+        outcome = expand(format, strlen(format), params, count, size - 1);
+        asked = asked && outcome.status == TI_NO_ROOM && outcome.size == size && wrote("", 0);
+        asked = asked && !memcmp(&before, &variables, sizeof before);
+    }
+    outcome = expand(format, strlen(format), params, count, size);
+    return asked && outcome.status == TI_OK && outcome.size == size && wrote(wanted, size);
+}
+
+static bool gives_of(const char *format, int32_t first, int32_t second, const char *wanted) {
+    struct ti_parameter params[2] = { ti_number_given(first), ti_number_given(second) };
+    return gives(format, params, 2, wanted);
+}
+
+/* Whether a format is refused with this status at this place, and changes nothing. */
+static bool refuses(const char *format, size_t size, uint32_t status, size_t place) {
+    struct ti_variables before = variables;
+    struct ti_parameter none = ti_number_given(0);
+    struct ti_outcome outcome = expand(format, size, &none, 0, sizeof out);
+    return outcome.status == status && outcome.size == place && wrote("", 0) &&
+           !memcmp(&before, &variables, sizeof before);
+}
+
+static void expansion(void) {
+    const char *setaf = "\033[%?%p1%{8}%<%t3%p1%d%e%p1%{16}%<%t9%p1%{8}%-%d%e38;5;%p1%d%;m";
+    CHECK(gives_of("\033[%i%p1%d;%p2%dH", 4, 9, "\033[5;10H"));
+    CHECK(gives_of(setaf, 1, 0, "\033[31m"));
+    CHECK(gives_of(setaf, 9, 0, "\033[91m"));
+    CHECK(gives_of(setaf, 200, 0, "\033[38;5;200m"));
+    CHECK(gives_of("", 0, 0, "") && gives_of("plain$<5>", 0, 0, "plain$<5>") && gives_of("%%", 0, 0, "%"));
+    CHECK(gives_of("%p1%d %p2%x", -2147483647 - 1, -1, "-2147483648 ffffffff"));
+    CHECK(gives_of("%p1%{2}%/%d %p1%{0}%/%d %p1%{0}%m%d", -7, 0, "-3 0 0"));
+    CHECK(gives_of("%p1%c", 256, 0, "\x80") && gives_of("%p1%c", 65, 0, "A"));
+    CHECK(gives_of("%p1%:-5d|%p2%05d|%p1%.3d", 7, -42, "7    |-0042|007"));
+    /* parameters that are not given are 0, and those after the ninth are not looked at */
+    struct ti_parameter ten[10];
+    for (int i = 0; i < 10; i++) ten[i] = ti_number_given(i + 1);
+    ten[9].kind = 77;
+    CHECK(gives("%p9%d", ten, 10, "9") && gives("%p2%d%p9%d", ten, 2, "20"));
+    struct ti_parameter texts[2] = { ti_text_given((const uint8_t *)"ls\r", 3), ti_number_given(5) };
+    CHECK(gives("%p1%s:%p1%l%d:%p2%d:%p1%d", texts, 2, "ls\r:3:5:0"));
+    texts[0].kind = UINT32_MAX;
+    CHECK(gives("%p1%5.2s", texts, 1, "   ls"));
+    /* static variables stay from call to call, dynamic ones do not */
+    struct ti_variables clear = { { 0 } };
+    variables = clear;
+    CHECK(gives_of("%p1%PA%p2%Pa%gA%d%ga%d", 42, 7, "427"));
+    CHECK(variables.values[0] == 42 && variables.values[1] == 0 && variables.values[25] == 0);
+    CHECK(gives_of("%gA%d%ga%d", 0, 0, "420"));
+    CHECK(gives_of("%p1%PZ%gZ%d", -5, 0, "-5") && variables.values[25] == -5);
+    CHECK(refuses("%p1%PA%", 7, TI_BAD_FORMAT, 6) && refuses("ab%z", 4, TI_BAD_FORMAT, 2));
+    CHECK(refuses("%?%p1%t%;%;", 11, TI_BAD_FORMAT, 9) && refuses("%p0", 3, TI_BAD_FORMAT, 0));
+    CHECK(refuses("%{2147483648}", 13, TI_BAD_FORMAT, 0) && refuses("%e", 2, TI_BAD_FORMAT, 0));
+    char full[64] = "";
+    for (int i = 0; i < 21; i++) strcat(full, "%p1");
+    CHECK(refuses(full, 63, TI_STACK_FULL, 60));
+    full[60] = 0;
+    CHECK(gives_of(full, 1, 0, ""));
+    /* a byte 0 is a byte */
+    struct ti_parameter none = ti_number_given(0);
+    struct ti_outcome outcome = expand("a\0b", 3, &none, 0, sizeof out);
+    CHECK(outcome.status == TI_OK && outcome.size == 3 && wrote("a\0b", 3));
+}
+
+/* ---- padding */
+
+static struct ti_outcome pad(const char *text, uint32_t lines, struct ti_line line, size_t room) {
+    clear_out();
+    return ti_pad((const uint8_t *)text, strlen(text), lines, &line, out, room);
+}
+
+static bool pads(const char *text, uint32_t lines, struct ti_line line, const char *wanted) {
+    size_t size = strlen(wanted);
+    struct ti_outcome outcome = pad(text, lines, line, 0);
+    bool asked = outcome.size == size && outcome.status == (size ? TI_NO_ROOM : TI_OK);
+    asked = asked && wrote("", 0);
+    outcome = pad(text, lines, line, size);
+    return asked && outcome.status == TI_OK && outcome.size == size && wrote(wanted, size);
+}
+
+static void padding(void) {
+    struct ti_line line = { 9600, 0, false, true, '.' };
+    /* 2 milliseconds at 9,600 bits a second, ten bits a byte: 1.92 bytes, so 2 */
+    CHECK(pads("a$<2>b", 1, line, "a..b") && pads("a$<2*>b", 3, line, "a......b"));
+    CHECK(pads("$<0.1>", 1, line, ".") && pads("$<>$<x>$", 1, line, "$<>$<x>$"));
+    struct ti_line busy = { 9600, 0, true, true, '.' };
+    CHECK(pads("a$<2>b$<2/>c", 1, busy, "ab..c"));
+    struct ti_line slow = { 1200, 9600, false, true, '.' };
+    CHECK(pads("a$<20>b$<2/>c", 1, slow, "ab.c"));
+    struct ti_line none = { 9600, 0, false, false, '.' };
+    CHECK(pads("a$<20>b$<20/>c", 1, none, "abc"));
+    CHECK(pads("", 1, line, "") && pads("plain", 1, line, "plain"));
+    struct ti_outcome outcome = pad("a$<99999*>", UINT32_MAX, line, sizeof out);
+    CHECK(outcome.status == TI_TOO_MUCH && outcome.size == 0 && wrote("", 0));
+    /* 65,536 pad bytes are not too many: that many bits, times 10, in a second; one more is */
+    struct ti_line fast = { 655360, 0, false, true, '.' };
+    outcome = pad("$<1000>", 1, fast, sizeof out);
+    CHECK(outcome.status == TI_NO_ROOM && outcome.size == 65536);
+    fast.rate = 655361;
+    outcome = pad("$<1000>", 1, fast, sizeof out);
+    CHECK(outcome.status == TI_TOO_MUCH);
+}
+
+/* ---- the line of an entry */
+
+static struct ti_line line_with(size_t flag, int pad_from, const char *pad_text) {
+    uint8_t flags[44] = { 0 };
+    int32_t numbers[6] = { -1, -1, -1, -1, -1, pad_from };
+    int16_t offsets[105];
+    for (int i = 0; i < 105; i++) offsets[i] = -1;
+    if (pad_text) offsets[104] = 0;
+    if (flag < 44) flags[flag] = 1;
+    char table[8] = "";
+    if (pad_text) strcpy(table, pad_text);
+    struct parts parts = { false, "t", 44, 6, 105, 8, flags, numbers, offsets, table };
+    struct ti_entry entry = TI_ENTRY_EMPTY;
+    struct ti_line line = TI_LINE_EMPTY;
+    CHECK(ti_entry_read(bytes, put_entry(bytes, &parts), &entry) == 0);
+    ti_line(&entry, 38400, &line);
+    CHECK(line.rate == 38400);
+    return line;
+}
+
+static void lines(void) {
+    struct ti_line line = line_with(44, -1, NULL);
+    CHECK(!line.xon && line.pad_from == 0 && line.has_pad_byte && line.pad_byte == 0);
+    CHECK(line_with(20, -1, NULL).xon && line_with(44, 1200, NULL).pad_from == 1200);
+    line = line_with(44, -1, "xy");
+    CHECK(line.has_pad_byte && line.pad_byte == 'x');
+    CHECK(!line_with(25, -1, "xy").has_pad_byte);
+}
+
+/* ---- places and paths */
+
+static bool place_is(const char *terminfo, const char *dirs, uint32_t index, const char *wanted) {
+    struct ti_text own = ti_text_of(terminfo ? terminfo : ""), listed = ti_text_of(dirs ? dirs : "");
+    struct ti_text found = ti_text_of("as it was");
+    bool is = ti_places(own.bytes, own.size, dirs != NULL, listed.bytes, listed.size, index, &found);
+    if (!wanted) return !is && is_text(found, "as it was", 9);
+    return is && is_text(found, wanted, strlen(wanted));
+}
+
+static void places(void) {
+    const char *system = "/usr/share/terminfo";
+    CHECK(place_is(NULL, NULL, 0, system) && place_is(NULL, NULL, 1, NULL));
+    CHECK(place_is("", NULL, 0, system) && place_is("", NULL, 1, NULL));
+    CHECK(place_is("/own", NULL, 0, "/own") && place_is("/own", NULL, 1, system));
+    CHECK(place_is("/own", NULL, 2, NULL) && place_is("/own", NULL, UINT32_MAX, NULL));
+    CHECK(place_is(NULL, "", 0, system) && place_is(NULL, "", 1, system) && place_is(NULL, "", 2, NULL));
+    CHECK(place_is(NULL, "/a::/b:", 0, "/a") && place_is(NULL, "/a::/b:", 1, system));
+    CHECK(place_is(NULL, "/a::/b:", 2, "/b") && place_is(NULL, "/a::/b:", 3, system));
+    CHECK(place_is(NULL, "/a::/b:", 4, system) && place_is(NULL, "/a::/b:", 5, NULL));
+    CHECK(place_is("/own:x", "/a", 0, "/own:x") && place_is("/own:x", "/a", 1, "/a"));
+    CHECK(place_is("/own:x", "/a", 2, system) && place_is("/own:x", "/a", 3, NULL));
+}
+
+static struct ti_outcome path_of(const char *dir, const char *name, size_t size, size_t room) {
+    clear_out();
+    return ti_path((const uint8_t *)dir, strlen(dir), (const uint8_t *)name, size, out, room);
+}
+
+static void paths(void) {
+    struct ti_outcome outcome = path_of("/usr/share/terminfo", "xterm", 5, 28);
+    CHECK(outcome.status == TI_OK && outcome.size == 28);
+    CHECK(wrote("/usr/share/terminfo/x/xterm\0", 28));
+    outcome = path_of("/usr/share/terminfo", "xterm", 5, 27);
+    CHECK(outcome.status == TI_NO_ROOM && outcome.size == 28 && wrote("", 0));
+    outcome = path_of("", "a", 1, sizeof out);
+    CHECK(outcome.status == TI_OK && outcome.size == 5 && wrote("/a/a\0", 5));
+    static const char *const bad[] = { "", ".", "..", "a/b", "a|b", "a,b", "a b", "\x7f", "\xc3\xa9", "a\n" };
+    for (int i = 0; i < 10; i++) {
+        outcome = path_of("/d", bad[i], strlen(bad[i]), sizeof out);
+        CHECK(outcome.status == TI_BAD_NAME && outcome.size == 0 && wrote("", 0));
+    }
+    outcome = path_of("/d", "a\0", 2, sizeof out);
+    CHECK(outcome.status == TI_BAD_NAME);
+    outcome = path_of("/d", "...", 3, sizeof out);
+    CHECK(outcome.status == TI_OK && wrote("/d/./...\0", 9));
+}
+
+/* ---- output */
+
+static char written[70000];
+static size_t written_size, put_limit;
+
+static int put(int byte) {
+    if (written_size == put_limit) return -1;
+    written[written_size++] = (char)byte;
+    return byte;
+}
+
+static struct ti_outcome put_text(const char *text, size_t limit) {
+    struct ti_line line = { 9600, 0, false, true, '.' };
+    written_size = 0, put_limit = limit;
+    return ti_puts((const uint8_t *)text, strlen(text), 1, &line, put);
+}
+
+static void output(void) {
+    struct ti_outcome outcome = put_text("a$<2>b", sizeof written);
+    CHECK(outcome.status == TI_OK && outcome.size == 4 && !memcmp(written, "a..b", 4));
+    outcome = put_text("a$<5000>b", sizeof written);
+    CHECK(outcome.status == TI_OK && outcome.size == 4802 && written_size == 4802);
+    CHECK(written[0] == 'a' && written[4800] == '.' && written[4801] == 'b');
+    outcome = put_text("a$<5000>b", 100);
+    CHECK(outcome.status == TI_OK && outcome.size == 100);
+    outcome = put_text("a$<99999>$<99999>b", sizeof written);
+    CHECK(outcome.status == TI_TOO_MUCH && written_size == 0);
+    outcome = put_text("", 0);
+    CHECK(outcome.status == TI_OK && outcome.size == 0);
+}
+
+int main(void) {
+    CHECK(TI_VERSION_NUMBER == 10000 * TI_VERSION_MAJOR + 100 * TI_VERSION_MINOR + TI_VERSION_PATCH);
+    capabilities();
+    refusals();
+    values();
+    expansion();
+    padding();
+    lines();
+    places();
+    paths();
+    output();
+    return close_checks();
+}

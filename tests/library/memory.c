@@ -1,0 +1,121 @@
+/*
+ * Each allocation refused in turn: link with --wrap of malloc, realloc and free. After a refusal
+ * the call says so, nothing has changed and no block is left.
+ */
+#include "test.h"
+
+void *__real_malloc(size_t size);
+void *__real_realloc(void *block, size_t size);
+void __real_free(void *block);
+
+static long allowed, asked, blocks;
+
+/* Whether one more allocation is refused. */
+static bool refuses_now(void) { return asked++ == allowed; }
+
+void *__wrap_malloc(size_t size) {
+    void *block = refuses_now() ? NULL : __real_malloc(size);
+    blocks += block != NULL;
+    return block;
+}
+
+void *__wrap_realloc(void *block, size_t size) {
+    void *grown = refuses_now() ? NULL : __real_realloc(block, size);
+    blocks += grown && !block;
+    return grown;
+}
+
+void __wrap_free(void *block) {
+    blocks -= block != NULL;
+    __real_free(block);
+}
+
+enum { ROOM = 4096, MOST = 100 };
+static uint8_t bytes[ROOM], out[ROOM];
+static size_t size;
+
+/* A call, and whether it was refused memory. */
+typedef bool call(void);
+
+static bool copies(void) {
+    struct ti_entry *entry = NULL;
+    uint32_t answer = ti_entry_new(bytes, size, &entry);
+    CHECK(answer == 0 || (answer == TI_ENTRY_MEMORY && !entry));
+    ti_entry_free(entry);
+    return answer != 0;
+}
+
+static bool opens(void) {
+    struct ti_entry *entry = NULL;
+    uint32_t answer = ti_open("dumb", &entry);
+    CHECK(answer == 0 || (answer == TI_ENTRY_MEMORY && !entry));
+    ti_entry_free(entry);
+    return answer != 0;
+}
+
+static bool expands(void) {
+    const char *format = "%p1%PA\033[%i%p1%d;%p2%dH";
+    struct ti_parameter params[2] = { ti_number_given(4), ti_number_given(9) };
+    struct ti_variables variables = { { 0 } };
+    memset(out, 1, ROOM);
+    struct ti_outcome outcome =
+        ti_expand((const uint8_t *)format, strlen(format), params, 2, &variables, out, ROOM);
+    CHECK(outcome.status == TI_OK || (outcome.status == TI_NO_MEMORY && out[0] == 1 && !variables.values[0]));
+    return outcome.status != TI_OK;
+}
+
+static bool pads(void) {
+    struct ti_line line = { 9600, 0, false, true, 0 };
+    memset(out, 1, ROOM);
+    struct ti_outcome outcome = ti_pad((const uint8_t *)"a$<5>b", 6, 1, &line, out, ROOM);
+    CHECK(outcome.status == TI_OK || (outcome.status == TI_NO_MEMORY && out[0] == 1));
+    return outcome.status != TI_OK;
+}
+
+static bool finds_paths(void) {
+    memset(out, 1, ROOM);
+    struct ti_outcome outcome = ti_path((const uint8_t *)"/usr", 4, (const uint8_t *)"dumb", 4, out, ROOM);
+    CHECK(outcome.status == TI_OK || (outcome.status == TI_NO_MEMORY && out[0] == 1));
+    return outcome.status != TI_OK;
+}
+
+static int handed;
+
+static int put(int byte) {
+    handed++;
+    return byte;
+}
+
+static bool puts_bytes(void) {
+    struct ti_line line = { 9600, 0, false, true, 0 };
+    handed = 0;
+    struct ti_outcome outcome = ti_puts((const uint8_t *)"a$<500>b", 8, 1, &line, put);
+    CHECK((outcome.status == TI_OK && handed == 482) || (outcome.status == TI_NO_MEMORY && !handed));
+    return outcome.status != TI_OK;
+}
+
+/* Makes a call with each of its allocations refused, until none is. Gives how many it has. */
+static long refuse_each(call *made) {
+    for (allowed = 0; allowed < MOST; allowed++) {
+        asked = 0;
+        bool refused = made();
+        CHECK(blocks == 0);
+        if (!refused) return allowed;
+    }
+    CHECK(false);
+    return MOST;
+}
+
+int main(void) {
+    struct parts parts = dumb();
+    size = put_entry(bytes, &parts);
+    /* run.py has put the same entry into the directory of TERMINFO */
+    long counts[] = { refuse_each(copies), refuse_each(opens), refuse_each(expands), refuse_each(pads),
+                      refuse_each(finds_paths), refuse_each(puts_bytes) };
+    for (int i = 0; i < 6; i++) {
+        CHECK(counts[i] >= 1);
+        printf("%ld allocations refused\n", counts[i]);
+    }
+    allowed = -1;
+    return close_checks();
+}

@@ -1,0 +1,412 @@
+#!/usr/bin/env python3
+"""Tests the C library: its calls from C, and its answers beside other libraries.
+
+    tests/library/run.py [CASE..]      the cases named, or all of them
+
+The archive of crates/ti_c is built already, by the gate or by `make library`. The cases:
+
+header        ti.h is C99 and C++17 without a warning
+symbols       both libraries export what ti.h declares, and nothing else
+calls         every call and every refusal (calls.c), from each library and under sanitizers
+memory        each allocation refused in turn (memory.c)
+damaged       damaged entries (damaged.c), under sanitizers
+open          ti_open answers as ti-tput(1) does, with the same refusals
+tput          a program in C and `ti tput` write the same bytes
+ncurses       every entry of the system, beside ncurses (against_ncurses.c)
+tputs         its padding, beside tputs (against_tputs.c)
+unibilium     the same entries, beside unibilium (against_unibilium.c)
+page          the example of ti(3) is compiled, and writes what the page says
+examples      the programs of examples/ in C and Python
+install       `make install-library` puts what a program needs where it says
+
+What is not installed is skipped, and said to be. The last line is
+`library: N passed, M failed[, K skipped]`.
+"""
+
+import glob
+import hashlib
+import os
+import re
+import shutil
+import subprocess
+import sys
+import tempfile
+from concurrent.futures import ThreadPoolExecutor
+
+HERE = os.path.dirname(os.path.abspath(__file__))
+sys.path.insert(0, os.path.dirname(HERE))
+from common import PROGRAM, TOP, Skipped, Tally, is_missing, need, text_of  # noqa: E402
+import library  # noqa: E402
+
+ARCHIVE = os.path.join(TOP, "crates", "ti_c", "out", "libti_c.a")
+INCLUDE = os.path.join(TOP, "include")
+WARN = ["-Wall", "-Wextra", "-Wpedantic", "-Werror"]
+SANITIZE = ["-g", "-fsanitize=address,undefined", "-fno-sanitize-recover=all"]
+DIRECTORIES = ("/etc/terminfo", "/lib/terminfo", "/usr/share/terminfo")
+# how many processes compare the entries of the system
+AT_ONCE = 4
+
+
+def run(words, **more):
+    """Runs a command. Gives its status and all that it wrote."""
+    more = {"stdin": subprocess.DEVNULL, "timeout": 300, **more}
+    if "input" in more:
+        del more["stdin"]
+    done = subprocess.run(words, stdout=subprocess.PIPE, stderr=subprocess.STDOUT, check=False, **more)
+    return done.returncode, done.stdout.decode(errors="replace")
+
+
+class Room:
+    """A directory with both libraries, in which programs are compiled."""
+
+    def __init__(self, directory):
+        self.directory = directory
+        self.compiler = library.compiler()
+
+    def path(self, name):
+        return os.path.join(self.directory, name)
+
+    def compile(self, source, *words, libraries=(), shared=False):
+        """Compiles a source of this directory. Gives the program."""
+        name = f"{os.path.basename(source).partition('.')[0]}-{len(os.listdir(self.directory))}"
+        linked = ["-L", self.directory, "-l:libti.so.1", f"-Wl,-rpath,{self.directory}"]
+        status, said = run([
+            self.compiler, "-std=c99", "-D_DEFAULT_SOURCE", "-O1", *WARN, "-I", INCLUDE, *words,
+            os.path.join(HERE, source), *(linked if shared else [self.path("libti.a")]), *libraries,
+            "-o", self.path(name),
+        ])
+        if status:
+            raise AssertionError(f"{source} is not compiled: {said}")
+        return self.path(name)
+
+    def faults(self, words, **more):
+        """Runs a program. Gives its faults: what it said, unless it ended well."""
+        status, said = run(words, **more)
+        print(f"    {os.path.basename(words[0])}: {said.strip().splitlines()[-1:] or ['']}"[:160])
+        return [] if status == 0 else [f"status {status}"] + said.splitlines()[-20:]
+
+
+def has_header(room, header):
+    """Skips a case unless the header of another library is installed."""
+    status, _ = run([room.compiler, "-E", "-x", "c", "-"], input=f"#include <{header}>\n".encode())
+    if status:
+        raise Skipped(f"{header} is not installed")
+
+
+def check_header(room):
+    faults = []
+    source = room.path("uses.c")
+    with open(source, "w", encoding="utf-8") as file:
+        file.write('#include "ti.h"\n#include "ti.h"\nint main(void) { return TI_VERSION_MAJOR != 1; }\n')
+    compilers = [("gcc", "g++"), ("clang", "clang++")]
+    for pair in compilers:
+        for name, words in zip(pair, (["-std=c99", "-x", "c"], ["-std=c++17", "-x", "c++"])):
+            if shutil.which(name):
+                status, said = run([name, *words, *WARN, "-I", INCLUDE, "-fsyntax-only", source])
+                status2, said2 = run([name, *words, *WARN, "-I", INCLUDE, "-fsyntax-only", f"{INCLUDE}/ti.c"])
+                faults += said.splitlines() + said2.splitlines() if status or status2 else []
+    return faults
+
+
+def declared():
+    """The functions that ti.h declares and does not define itself."""
+    text = re.sub(r"/\*.*?\*/", "", text_of("include", "ti.h"), flags=re.S)
+    text = re.sub(r"static inline.*?\n}", "", text, flags=re.S)
+    return sorted(set(re.findall(r"\b(ti_\w+)\([^;{}]*\);", text)))
+
+
+def check_symbols(room):
+    wanted, faults = declared(), []
+    for words in (["nm", "-g", "--defined-only", room.path("libti.a")], ["nm", "-D", "--defined-only", room.path("libti.so.1")]):
+        _, said = run(words)
+        found = sorted(line.split()[2] for line in said.splitlines() if len(line.split()) == 3)
+        if found != wanted:
+            faults.append(f"{words[-1]}: {set(found) ^ set(wanted)}")
+    _, said = run(["readelf", "-d", room.path("libti.so.1")])
+    needed = re.findall(r"NEEDED.*\[(.*)\]", said)
+    if needed != ["libc.so.6"] or "[libti.so.1]" not in said or "TEXTREL" in said:
+        faults.append(f"libti.so.1: {said}")
+    return faults
+
+
+def check_calls(room):
+    faults = room.faults([room.compile("calls.c")])
+    faults += room.faults([room.compile("calls.c", shared=True)])
+    return faults + room.faults([room.compile("calls.c", *SANITIZE)])
+
+
+def dumb_entry(room):
+    """A directory of entries with `dumb`, and the entry's bytes."""
+    directory = room.path("entries")
+    os.makedirs(f"{directory}/d", exist_ok=True)
+    names = b"dumb|tty|80-column dumb tty\0"
+    offsets = [-1] * 12
+    offsets[1], offsets[2], offsets[11] = 0, 2, 4
+    table = b"\a\0\r\0\n\0"
+    words = lambda numbers: b"".join((number & 0xFFFF).to_bytes(2, "little") for number in numbers)
+    entry = words([0o432, len(names), 2, 1, 12, len(table)]) + names + b"\0\1" + words([80, *offsets]) + table
+    with open(f"{directory}/d/dumb", "wb") as file:
+        file.write(entry)
+    return directory, entry
+
+
+def clean_environment(**more):
+    kept = {name: value for name, value in os.environ.items() if not name.startswith("TERM")}
+    return {**kept, **more}
+
+
+def check_memory(room):
+    directory, _ = dumb_entry(room)
+    wraps = [f"-Wl,--wrap={name}" for name in ("malloc", "realloc", "free")]
+    program = room.compile("memory.c", "-fno-builtin", *wraps)
+    return room.faults([program], env=clean_environment(TERMINFO=directory))
+
+
+def check_damaged(room):
+    return room.faults([room.compile("damaged.c", *SANITIZE)])
+
+
+# What `ti tput` says on standard error of each refusal, and the answer of ti_open.
+REFUSALS = ["Short", "Magic", "Counts", "Truncated", "BadNames", "BadFlag", "BadNumber", "BadOffset"]
+
+
+def files_to_open(entry):
+    """Files in the place of an entry, by name, and the answer of ti_open to each; None is a directory."""
+    flags = 12 + len(b"dumb|tty|80-column dumb tty\0")
+    put = lambda at, byte: entry[:at] + bytes([byte]) + entry[at + 1:]
+    return {
+        "good": (entry, 0), "longer": (entry + b"x" * (65536 - len(entry)), 0),
+        "empty": (b"", 1), "magic": (put(0, 0), 2), "counts": (put(4, 45), 3),
+        "truncated": (entry[:-1], 4), "names": (put(14, 0), 5), "flag": (put(flags, 9), 6),
+        "number": (put(flags + 3, 0x80), 7), "offset": (put(flags + 4, 0xF0), 8),
+        "too-long": (entry + b"x" * (65537 - len(entry)), 3),
+        "too-long-and-bad": (put(flags, 9) + b"x" * 70000, 6), "directory": (None, 11),
+    }
+
+
+def check_open(room):
+    """Also whether `ti tput` refuses the same, where the program is built."""
+    directory, entry = dumb_entry(room)
+    program = room.compile("open.c", *SANITIZE)
+    faults, tried = [], 0
+    environment = clean_environment(TERMINFO=directory)
+
+    def expect(name, wanted, **variables):
+        nonlocal tried
+        tried += 1
+        used = clean_environment(**{"TERMINFO": directory, **variables})
+        status, said = run([program, *name], env=used)
+        if status or said.split("\n")[0] != str(wanted):
+            faults.append(f"{name}, {variables}: {said!r}, not {wanted}")
+
+    for name, (file_bytes, wanted) in files_to_open(entry).items():
+        path = os.path.join(directory, name[0], name)
+        os.makedirs(path if file_bytes is None else os.path.dirname(path), exist_ok=True)
+        if file_bytes is not None:
+            with open(path, "wb") as file:
+                file.write(file_bytes)
+        expect([name], wanted)
+        if os.access(PROGRAM, os.X_OK):
+            status, said = run([PROGRAM, "tput", "-T", name, "cols"], env=environment)
+            refused = next((at + 1 for at, word in enumerate(REFUSALS) if word in said), 11)
+            if (refused if status else 0) != wanted:
+                faults.append(f"ti tput -T {name}: {status}, {said!r}, and ti_open {wanted}")
+    for name in ("no-such", "", ".", "..", "a/b", "a b", "\u00e9"):
+        expect([name], 10)
+    expect(["dumb"], 0, TERMINFO="", TERMINFO_DIRS=f"/no-such:{directory}")
+    expect(["dumb"], 0, TERMINFO="/no-such", TERMINFO_DIRS=f"::{directory}::")
+    expect(["good"], 10, TERMINFO="/no-such", TERMINFO_DIRS=f"{directory}/d")
+    expect([], 0, TERM="dumb")
+    expect([], 10)
+    expect([], 10, TERM="")
+    # the first directory with a file of the name decides
+    os.makedirs(room.path("first/d"), exist_ok=True)
+    with open(room.path("first/d/dumb"), "wb") as file:
+        file.write(b"no entry")
+    expect(["dumb"], 1, TERMINFO=room.path("first"), TERMINFO_DIRS=directory)
+    print(f"    {tried} tried")
+    return faults
+
+
+def entries_of_system():
+    """A name and a file for each entry of the system that ncurses can find, each once."""
+    found, seen = [], set()
+    for directory in DIRECTORIES:
+        for path in sorted(glob.glob(f"{directory}/?/*")):
+            name = os.path.basename(path)
+            with open(path, "rb") as file:
+                content = file.read()
+            # ncurses takes the first directory that has the name
+            if name in {it for it, _ in found} or content[:2] not in (b"\x1a\x01", b"\x1e\x02"):
+                continue
+            digest = hashlib.sha256(content).digest()
+            if digest not in seen:
+                seen.add(digest)
+                found.append((name, path))
+    return found
+
+
+def compare_all(room, program, lines=None, words=None):
+    """Runs a comparison over the system's entries, in several processes. Gives its faults."""
+    entries = entries_of_system()
+    if not entries:
+        raise Skipped("the system has no terminfo entries")
+    environment = clean_environment(TERMINFO_DIRS=":".join(DIRECTORIES), TERM="dumb")
+    parts = [entries[at::AT_ONCE] for at in range(AT_ONCE)]
+
+    def compare(part):
+        if lines:
+            given = "".join(f"{name} {path}\n" for name, path in part).encode()
+            return room.faults([program], input=given, env=environment)
+        return room.faults([program, *(path for _, path in part)], env=environment)
+
+    with ThreadPoolExecutor(AT_ONCE) as pool:
+        return [fault for faults in pool.map(compare, parts) for fault in faults]
+
+
+def check_ncurses(room):
+    has_header(room, "term.h")
+    program = room.compile("against_ncurses.c", libraries=["-lncurses", "-ltinfo"])
+    return compare_all(room, program, lines=True)
+
+
+def check_tputs(room):
+    has_header(room, "term.h")
+    program = room.compile("against_tputs.c", libraries=["-lncurses", "-ltinfo"])
+    return compare_all(room, program, lines=True)
+
+
+def check_unibilium(room):
+    has_header(room, "unibilium.h")
+    return compare_all(room, room.compile("against_unibilium.c", libraries=["-lunibilium"]))
+
+
+# Commands, and how the same is asked of ti_expand and ti_pad by the program tput.c.
+COMMANDS = [
+    ["cup", "4", "9"], ["setaf", "200"], ["setaf", "1"], ["bel"], ["cr"], ["clear"], ["flash"],
+    ["csr", "3", "20"], ["sgr", "1", "0", "1", "0", "0", "1", "0", "0", "0"], ["smcup"], ["no-such"],
+]
+
+
+def check_tput(room):
+    if not os.access(PROGRAM, os.X_OK):
+        raise Skipped("crates/ti/out/ti is not built")
+    program = room.compile("tput.c", *SANITIZE)
+    faults, tried = [], 0
+    names = [name for name in ("xterm-256color", "vt100", "linux", "dumb") if any(os.path.exists(f"{it}/{name[0]}/{name}") for it in DIRECTORIES)]
+    if not names:
+        raise Skipped("the system has no terminfo entries")
+    environment = clean_environment(TERMINFO_DIRS=":".join(DIRECTORIES))
+    for name in names:
+        for words in COMMANDS:
+            tried += 1
+            ours = run([program, name, *words], env=environment)
+            theirs = run([PROGRAM, "tput", "-T", name, *words], env=environment)
+            if ours[0] != theirs[0] or (ours[0] == 0 and ours[1] != theirs[1]):
+                faults.append(f"{name} {words}: {ours}, ti tput {theirs}")
+    print(f"    {tried} commands")
+    return faults
+
+
+def check_page(room):
+    """The example of the page stands in it between `.Bd` and `.Ed`, with \\e for each backslash."""
+    page = text_of("man", "ti.3")
+    example = re.search(r"^\.Sh EXAMPLES\n.*?^\.Bd -literal[^\n]*\n(.*?)^\.Ed", page, re.S | re.M)[1]
+    source = room.path("page.c")
+    with open(source, "w", encoding="utf-8") as file:
+        file.write(example.replace("\\e", "\\").replace("\\(aq", "'").replace("\\&", ""))
+    directory, _ = dumb_entry(room)
+    program = room.compile(source, *SANITIZE)
+    status, said = run([program], env=clean_environment(TERMINFO=directory, TERM="dumb"))
+    faults = [] if (status, said) == (0, "dumb: 80 columns\n") else [f"{status}, {said!r}"]
+    missing = [name for name in declared() + re.findall(r"static inline .*?\b(ti_\w+)\(", text_of("include", "ti.h")) if name not in page]
+    faults += [f"the page says nothing of {name}" for name in missing]
+    if shutil.which("mandoc"):
+        status, said = run(["mandoc", "-T", "lint", "-W", "warning", os.path.join(TOP, "man", "ti.3")])
+        faults += said.splitlines() if status or said else []
+    return faults
+
+
+def check_examples(room):
+    names = [f"{it}/x/xterm-256color" for it in DIRECTORIES if os.path.exists(f"{it}/x/xterm-256color")]
+    if not names:
+        raise Skipped("the system has no entry of xterm-256color")
+    environment = clean_environment(TERMINFO_DIRS=":".join(DIRECTORIES), TERM="xterm-256color", LD_LIBRARY_PATH=room.directory)
+    faults = []
+    program = room.compile(os.path.join(TOP, "examples", "colours.c"))
+    status, said = run([program], env=environment)
+    if status or "\033[38;5;200m" not in said or "\033[2;3H" not in said:
+        faults.append(f"colours.c: {status}, {said!r}")
+    status, said = run([sys.executable, os.path.join(TOP, "examples", "colours.py")], env=environment)
+    if status or said != "\033[38;5;200mcolour 200\n":
+        faults.append(f"colours.py: {status}, {said!r}")
+    return faults
+
+
+def check_install(room):
+    target = room.path("target")
+    built = room.path("built")
+    os.makedirs(built, exist_ok=True)
+    for name in ("libti.a", "libti.so.1"):
+        shutil.copy(room.path(name), built)
+    words = ["make", "-s", "-C", TOP, f"DESTDIR={target}", "PREFIX=/opt/ti", "LIBDIR=/opt/ti/lib64", f"LIBRARY={built}"]
+    status, said = run([*words, "install-library"])
+    if status:
+        return [said]
+    wanted = ["opt/ti/include/ti.h", "opt/ti/lib64/libti.a", "opt/ti/lib64/libti.so", "opt/ti/lib64/libti.so.1",
+              "opt/ti/lib64/pkgconfig/ti.pc", "opt/ti/share/man/man3/ti.3"]
+    found = sorted(os.path.relpath(os.path.join(at, name), target) for at, _, names in os.walk(target) for name in names)
+    faults = [] if found == wanted else [f"installed: {found}"]
+    if shutil.which("pkg-config"):
+        environment = {**os.environ, "PKG_CONFIG_PATH": f"{target}/opt/ti/lib64/pkgconfig"}
+        status, said = run(["pkg-config", "--cflags", "--libs", "ti"], env=environment)
+        if said.split() != ["-I/opt/ti/include", "-L/opt/ti/lib64", "-lti"]:
+            faults.append(f"pkg-config: {said}")
+        _, version = run(["pkg-config", "--modversion", "ti"], env=environment)
+        if version.strip() != re.search(r'TI_VERSION "(.*)"', text_of("include", "ti.h"))[1]:
+            faults.append(f"pkg-config: version {version}")
+    status, said = run([
+        room.compiler, "-std=c99", "-I", f"{target}/opt/ti/include", f"{HERE}/calls.c",
+        "-L", f"{target}/opt/ti/lib64", "-lti", "-o", room.path("installed"),
+    ])
+    faults += [said] if status else room.faults([room.path("installed")], env={**os.environ, "LD_LIBRARY_PATH": f"{target}/opt/ti/lib64"})
+    status, said = run([*words, "uninstall-library"])
+    left = [name for _, _, names in os.walk(target) for name in names]
+    return faults + ([f"left behind: {left}, {said}"] if status or left else [])
+
+
+CASES = {
+    "header": check_header, "symbols": check_symbols, "calls": check_calls, "memory": check_memory,
+    "damaged": check_damaged, "open": check_open, "tput": check_tput, "ncurses": check_ncurses,
+    "tputs": check_tputs, "unibilium": check_unibilium, "page": check_page, "examples": check_examples,
+    "install": check_install,
+}
+
+
+def main():
+    tally = Tally("library")
+    if not shutil.which(library.compiler()):
+        tally.skip("library", f"{library.compiler()}, the C compiler, is not installed")
+        return tally.close()
+    if not os.path.exists(ARCHIVE):
+        print("crates/ti_c/out/libti_c.a is not built")
+        print("library: 0 passed, 1 failed")
+        return 1
+    with tempfile.TemporaryDirectory() as directory:
+        library.make(ARCHIVE, directory)
+        room = Room(directory)
+        for name, check in CASES.items():
+            if sys.argv[1:] and name not in sys.argv[1:]:
+                continue
+            try:
+                print(f"{name}:", flush=True)
+                tally.add(name, check(room))
+            except Skipped as why:
+                tally.skip(name, why)
+            except (AssertionError, OSError, subprocess.SubprocessError) as error:
+                tally.add(name, [str(error)])
+    return tally.close()
+
+
+if __name__ == "__main__":
+    sys.exit(main())
