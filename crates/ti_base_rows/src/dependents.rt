@@ -65,19 +65,75 @@ fn put_link(alloc: Global, database: &mut Database, at: usize) -> Result<(), Edi
 
 /// A chain of so many blocks, the first of which does not resolve.
 fn chain(alloc: Global, count: usize) -> Result<Database, EditError> {
-    let mut database = source_of(alloc, &[b"b0,use=zz,\n".as_slice()])?;
+    chain_from(alloc, b"b0,use=zz,\n", count)
+}
+
+/// A chain of so many blocks, of which this is the first.
+fn chain_from(alloc: Global, first: &[u8], count: usize) -> Result<Database, EditError> {
+    let mut database = source_of(alloc, &[first])?;
     for at in 1..count {
         put_link(alloc, &mut database, at)?;
     }
     Ok(database)
 }
 
+/// Each block of a chain but the first has this fault of the one before it; that of the first stands before them.
+fn faults_of_links(
+    alloc: Global,
+    first: &str,
+    fault: &str,
+    count: usize,
+) -> Result<String, AllocError> {
+    let mut report = String::new(alloc);
+    report.push_str(first)?;
+    for at in 1..count {
+        let (line, used) = (at + 1, at.saturating_sub(1));
+        let text = format!(in alloc; "{line}: {fault} b{used}\n")?;
+        report.push_str(&text)?;
+    }
+    Ok(report)
+}
+
+/// No block has an entry.
+fn expect_no_entries(rt: &impl Abort, database: &Database) {
+    for at in 0..database.len() {
+        assert!(rt; database.compiled(at).is_none(), "entry {at}");
+    }
+}
+
+/// No block of a chain whose first one uses a name that is nobody's has an entry, and each says why.
+fn expect_unresolved(rt: &impl Abort, alloc: Global, database: &Database) -> Result<(), EditError> {
+    let first = "1: E6 MissingUse zz\n";
+    let report = faults_of_links(alloc, first, "E8 Unresolved", database.len())?;
+    expect_no_entries(rt, database);
+    expect_report(rt, database, &report)?;
+    Ok(())
+}
+
+/// One block more than there may be is refused, and the list stays.
+fn expect_no_room(rt: &impl Abort, database: &mut Database) {
+    let end = database.len();
+    assert!(rt; database.insert(end, b"x,\n").err() == Some(EditError::TooMany));
+    assert!(rt; database.len() == end);
+}
+
 #[test]
 fn a_chain_is_rebuilt_whole(rt: HostRuntime) -> Result<(), EditError> {
     let mut database = chain(rt.alloc(), 65_535)?;
+    expect_unresolved(&rt, rt.alloc(), &database)?;
+    expect_no_room(&rt, &mut database);
     expect_first_replaced(&rt, &mut database, b"b0,cols#1,\n", 65_535, 65_535)?;
     expect_ends(&rt, &database, &[1, 0]);
     expect_report(&rt, &database, "")?;
+    Ok(())
+}
+
+#[test]
+fn a_ring_is_circular_throughout(rt: HostRuntime) -> Result<(), EditError> {
+    let database = chain_from(rt.alloc(), b"b0,use=b999,\n", 1_000)?;
+    let report = faults_of_links(rt.alloc(), "1: E7 Circular b999\n", "E7 Circular", 1_000)?;
+    expect_no_entries(&rt, &database);
+    expect_report(&rt, &database, &report)?;
     Ok(())
 }
 

@@ -5,10 +5,11 @@
 //! - `steps`: the steps that a source is led through, for the rows below
 //! - `dependents`: sources of many blocks that use one another
 //! - `limits`: what is refused, and the largest blocks and entries
+//! - `numbers`: numbers, from the source to the bytes of the entry
 //! - `owners`: whose name a use means
 //! - `reports`: what is said of a source, and where
 //! - `circular`: blocks that use one another
-//! - `runs`: a run of edits
+//! - `runs`: runs of edits
 //! - `insertions`: sources made by a run of insertions
 //! - `plans`: the plans of small lists
 #![tactic(auto)]
@@ -21,6 +22,8 @@ mod dependents;
 mod insertions;
 #[cfg(test)]
 mod limits;
+#[cfg(test)]
+mod numbers;
 #[cfg(test)]
 mod owners;
 #[cfg(test)]

@@ -187,12 +187,47 @@ fn the_largest_entry(rt: HostRuntime) -> Result<(), EditError> {
     expect_sizes(&rt, rt.alloc(), &LARGE)
 }
 
+/// The entry of `x` with a `cbt` of 4,079 bytes, up to these bytes: header, name, and the offset of the text.
+const LONGEST_FRONT: [u8; 16] = [0x1a, 1, 2, 0, 0, 0, 0, 0, 1, 0, 0xf0, 0x0f, b'x', 0, 0, 0];
+
+/// The source is one block with this entry.
+fn expect_entry(rt: &impl Abort, database: &Database, want: &[u8]) {
+    assert!(rt; database.len() == 1);
+    assert!(rt; database.compiled(0) == Some(want));
+}
+
+/// Each of the blocks in the place of the one before it; the first and the last have this entry.
+fn expect_first_bytes_again(
+    rt: &impl Abort,
+    alloc: Global,
+    blocks: &[Large<'_>],
+    want: &[u8],
+) -> Result<(), EditError> {
+    let Some((first, others)) = blocks.split_first() else {
+        return Ok(());
+    };
+    let mut database = source_of(alloc, &[text_of(alloc, first)?.as_slice()])?;
+    expect_entry(rt, &database, want);
+    for block in others {
+        expect_replaced(rt, alloc, &mut database, block)?;
+    }
+    expect_entry(rt, &database, want);
+    Ok(())
+}
+
+#[test]
+fn the_first_bytes_come_back(rt: HostRuntime) -> Result<(), EditError> {
+    let want = text_with_run(rt.alloc(), &LONGEST_FRONT, b'A', 4079, b"\0")?;
+    expect_first_bytes_again(&rt, rt.alloc(), &LARGE[..5], &want)
+}
+
 /// A number over 32,767 gives an entry 32,768 bytes; without it the same entry is over its limit.
 #[rattlefmt::skip]
-const LARGE_EXTENDED: [Large<'static>; 3] = [
-    Large { front: b"x,cbt=", count: 32_747, back: b",cols#32768,\n", size: Some(32_768) },
-    Large { front: b"x,cbt=", count: 32_748, back: b",cols#32768,\n", size: None },
-    Large { front: b"x,cbt=", count: 32_747, back: b",cols#80,\n", size: None },
+const LARGE_EXTENDED: [Large<'static>; 4] = [
+    Large { front: b"x,cols#32768,cbt=", count: 32_747, back: b",\n", size: Some(32_768) },
+    Large { front: b"x,cols#32768,cbt=", count: 32_748, back: b",\n", size: None },
+    Large { front: b"x,cols#32768,cbt=", count: 32_747, back: b",\n", size: Some(32_768) },
+    Large { front: b"x,cols#80,cbt=", count: 32_747, back: b",\n", size: None },
 ];
 
 #[test]

@@ -73,6 +73,29 @@ fn faults_stand_on_lines_of_their_blocks(rt: HostRuntime) -> Result<(), AllocErr
     expect_faults(&rt, &database)
 }
 
+/// Blocks of one line with a fault each.
+const FAULTY_LINES: [&[u8]; 3] = [b"a,foo,\n", b"b,use=zz,\n", b"c,cols#9x,\n"];
+
+/// The faults of the source stand in these blocks, on these lines of them.
+fn expect_places(
+    rt: &impl Abort,
+    database: &Database,
+    want: &[(usize, usize)],
+) -> Result<(), AllocError> {
+    let faults = database.faults()?;
+    assert!(rt; have_places(&faults, want));
+    Ok(())
+}
+
+#[test]
+fn faults_of_blocks_behind_others_stand_on_line_1(rt: HostRuntime) -> Result<(), EditError> {
+    let mut database = source_of(rt.alloc(), &FAULTY_LINES)?;
+    expect_places(&rt, &database, &[(0, 1), (1, 1), (2, 1)])?;
+    database.insert(0, b"k,\n# one\n# two\n")?;
+    expect_places(&rt, &database, &[(1, 1), (2, 1), (3, 1)])?;
+    Ok(())
+}
+
 const SHARED_NAMES: [&[u8]; 3] = [
     b"a|n|a|the first,\n",
     b"b|,\n",

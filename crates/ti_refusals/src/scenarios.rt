@@ -1,7 +1,7 @@
 //! The scenarios, and their names.
 use crate::{calls, entries, listings, scripts, strings, tools};
 use std::alloc::Global;
-use ti_tried_edits::blocks::{circular_edits, insertions, moves, owners, three};
+use ti_tried_edits::blocks::{circular_edits, insertions, moved_names, moves, owners, three};
 use ti_tried_edits::many::Many;
 use ti_tried_edits::{Tried, Trouble, edits, many, wholes};
 
@@ -12,11 +12,13 @@ pub enum Scenario {
     Circular,
     Owners,
     Moves,
+    MovedNames,
     Limit,
     RunThree,
     RunCircular,
     RunOwners,
     RunMoves,
+    RunMovedNames,
     RunLimit,
     RunInsertions,
     Reports,
@@ -42,16 +44,18 @@ pub enum Scenario {
 
 impl Scenario {
     /// All of them, each with the word that names it.
-    pub const ALL: [(Scenario, &'static str); 30] = [
+    pub const ALL: [(Scenario, &'static str); 32] = [
         (Scenario::Three, "edits-of-three-blocks"),
         (Scenario::Circular, "edits-of-circular-uses"),
         (Scenario::Owners, "edits-of-owners"),
         (Scenario::Moves, "edits-that-move"),
+        (Scenario::MovedNames, "edits-that-move-names"),
         (Scenario::Limit, "edits-at-the-limit"),
         (Scenario::RunThree, "run-of-three-blocks"),
         (Scenario::RunCircular, "run-of-circular-uses"),
         (Scenario::RunOwners, "run-of-owners"),
         (Scenario::RunMoves, "run-that-moves"),
+        (Scenario::RunMovedNames, "run-that-moves-names"),
         (Scenario::RunLimit, "run-at-the-limit"),
         (Scenario::RunInsertions, "run-of-insertions"),
         (Scenario::Reports, "reports"),
@@ -85,11 +89,13 @@ impl Scenario {
             Scenario::Circular => edits::apply_all(alloc, &circular_edits()),
             Scenario::Owners => edits::apply_all(alloc, &owners()),
             Scenario::Moves => edits::apply_all(alloc, &moves()),
+            Scenario::MovedNames => edits::apply_all(alloc, &moved_names()),
             Scenario::Limit => edits::apply_at_limit(alloc),
             Scenario::RunThree => wholes::run_all(alloc, &three()),
             Scenario::RunCircular => wholes::run_all(alloc, &circular_edits()),
             Scenario::RunOwners => wholes::run_all(alloc, &owners()),
             Scenario::RunMoves => wholes::run_all(alloc, &moves()),
+            Scenario::RunMovedNames => wholes::run_all(alloc, &moved_names()),
             Scenario::RunLimit => wholes::run_at_limit(alloc),
             Scenario::RunInsertions => wholes::run_all(alloc, &insertions()),
             Scenario::Reports => calls::reports(alloc),

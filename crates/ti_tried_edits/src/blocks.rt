@@ -55,6 +55,21 @@ pub fn moves() -> [Edit<'static>; 11] {
     ]
 }
 
+/// Two blocks that have one name, and its user: the first of the two is moved behind the others and back, then where it is and past
+/// the end.
+pub fn moved_names() -> [Edit<'static>; 8] {
+    [
+        insertion(0, b"n,cols#1,\n"),
+        insertion(1, b"n,cols#2,\n"),
+        insertion(2, b"u,use=n,\n"),
+        Edit::Relocate { from: 0, to: 2 },
+        Edit::Relocate { from: 2, to: 0 },
+        Edit::Relocate { from: 1, to: 1 },
+        Edit::Relocate { from: 3, to: 0 },
+        Edit::Relocate { from: 0, to: 3 },
+    ]
+}
+
 /// Blocks put in at the end: texts that they share, uses, circular ones, and faults; and a text that is no block.
 pub fn insertions() -> [Edit<'static>; 7] {
     [

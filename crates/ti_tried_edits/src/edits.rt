@@ -134,6 +134,9 @@ pub struct LongBlocks {
     too_long: Vec<u8>,
     longest_with_flag: Vec<u8>,
     too_long_with_flag: Vec<u8>,
+    // as long with two letters for a name, since a zero byte is then in the place of the flag
+    two_letters: Vec<u8>,
+    two_letters_with_flag: Vec<u8>,
 }
 
 impl LongBlocks {
@@ -147,11 +150,13 @@ impl LongBlocks {
             too_long: long_block(alloc, b"x,", 4080)?,
             longest_with_flag: long_block(alloc, b"x,bw,", 4077)?,
             too_long_with_flag: long_block(alloc, b"x,bw,", 4078)?,
+            two_letters: long_block(alloc, b"xy,", 4077)?,
+            two_letters_with_flag: long_block(alloc, b"xy,bw,", 4077)?,
         })
     }
 
-    /// Edits that exchange them to and fro, and a block that uses them.
-    pub fn edits(&self) -> [Edit<'_>; 7] {
+    /// Edits that exchange them to and fro, and a block that uses the first ones.
+    pub fn edits(&self) -> [Edit<'_>; 10] {
         [
             insertion(0, self.longest.as_slice()),
             insertion(1, b"v,cbt=B,use=x,\n"),
@@ -160,6 +165,9 @@ impl LongBlocks {
             replacement(0, self.too_long_with_flag.as_slice()),
             replacement(0, self.longest.as_slice()),
             Edit::Remove { at: 1 },
+            replacement(0, self.two_letters.as_slice()),
+            replacement(0, self.two_letters_with_flag.as_slice()),
+            replacement(0, self.two_letters.as_slice()),
         ]
     }
 }
