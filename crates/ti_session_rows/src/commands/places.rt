@@ -80,11 +80,38 @@ fn the_first_place_that_has_the_file(rt: HostRuntime) -> Result<(), ToolError> {
     Ok(())
 }
 
+// A file of so many bytes, which begins with these and goes on with zeros, is refused so.
+fn expect_refused(
+    rt: &impl Abort,
+    alloc: Global,
+    front: &[u8],
+    size: usize,
+    fault: ReadError,
+) -> Result<(), AllocError> {
+    let mut bytes = Vec::from_slice(alloc, front)?;
+    bytes.resize(size, 0)?;
+    assert!(rt;
+        entry(&bytes).err() == Some(ToolError::BadEntry(fault)),
+        "{front:?}"
+    );
+    Ok(())
+}
+
+/// One byte more than a file may have.
+const TOO_LONG: usize = 65_537;
+
 #[test]
-fn a_file_that_is_too_long_and_no_entry(rt: HostRuntime) -> Result<(), ToolError> {
-    let mut bytes = Vec::from_slice(rt.alloc(), b"\x1a\x02")?;
-    bytes.extend_from_slice(&[0; 65_535])?;
-    assert!(rt; entry(&bytes).err() == Some(ToolError::BadEntry(ReadError::Magic)));
+fn files_that_are_no_entries(rt: HostRuntime) -> Result<(), ToolError> {
+    let alloc = rt.alloc();
+    let mut bytes = dumb(alloc)?;
+    let size = bytes.len();
+    expect_refused(&rt, alloc, &bytes, TOO_LONG, ReadError::Counts)?;
+    expect_refused(&rt, alloc, b"\0", TOO_LONG, ReadError::Magic)?;
+    expect_refused(&rt, alloc, b"\x1a\x02", TOO_LONG, ReadError::Magic)?;
+    if let Some(second) = bytes.get_mut(1) {
+        *second = 2;
+    }
+    expect_refused(&rt, alloc, &bytes, size, ReadError::Magic)?;
     Ok(())
 }
 
