@@ -34,7 +34,7 @@ def make(archive, directory):
     with tempfile.TemporaryDirectory() as room:
         run = lambda *words: subprocess.run(words, cwd=room, check=True)
         run(compiler(), *FLAGS, "-I", f"{TOP}/include", "-c", f"{TOP}/include/ti.c", "-o", "c.o")
-        whole = [archive, f"{KIT}/c/liblibc_c.a"]
+        whole = [os.path.abspath(archive), f"{KIT}/c/liblibc_c.a"]
         run("ld", "-r", "-o", "ti.o", "c.o", "--whole-archive", *whole, "--no-whole-archive")
         run("objcopy", "--wildcard", "--keep-global-symbol=ti_*", "ti.o")
         run("ar", "rcsD", "libti.a", "ti.o")

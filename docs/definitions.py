@@ -5,7 +5,8 @@ Each crate's specs/ has one file a subject. The comment at its head says what it
 about and where it comes from; the comment above a definition says what it is. This
 lists those that public contracts cite, those that these name, and those that the latter name where the cited one is
 a record of them, by the section of the manual that they come from, each with its file and with the calls that cite it.
-With --check nothing is written, and the status is 1 where the page is out of date.
+With --check nothing is written, and the status is 1 where the page is out of date, or where the contract of a public
+call names a definition of specs/inside, which are for private contracts and proofs.
 """
 
 import os
@@ -231,6 +232,14 @@ def page():
     return "\n".join(out).rstrip() + "\n"
 
 
+def misplaced():
+    """The definitions of inside/ that the contract of a public call names."""
+    order = list(read_crates())
+    given = homes()
+    found = {(call, home_of(it, given)) for crate in order for call, cited in contracts(crate) for it in cited}
+    return sorted(f"{call} names {at}.{word}" for call, (at, word) in found if ".inside." in at)
+
+
 def main():
     text = page()
     if "--check" in sys.argv[1:]:
@@ -238,8 +247,12 @@ def main():
             is_current = file.read() == text
         if not is_current:
             print("docs/DEFINITIONS.md is out of date: run docs/definitions.py")
-        print("docs: 1 passed, 0 failed" if is_current else "docs: 0 passed, 1 failed")
-        return 0 if is_current else 1
+        inside = misplaced()
+        for it in inside:
+            print(f"specs/inside: {it}")
+        is_good = is_current and not inside
+        print("docs: 1 passed, 0 failed" if is_good else "docs: 0 passed, 1 failed")
+        return 0 if is_good else 1
     with open(PAGE, "w", encoding="utf-8") as file:
         file.write(text)
     return 0

@@ -28,9 +28,11 @@ def check_pages():
             lacking = [it for it in lacking if it not in ("SYNOPSIS", "ENVIRONMENT", "FILES", "EXIT STATUS")]
         if lacking:
             yield f"{name}: no section {', '.join(lacking)}"
+    every = sorted(os.listdir(os.path.join(TOP, "man")))
+    for name in every:
         yield from (f"{name}: the word {word}" for word in AVOIDED.findall(text_of("man", name)))
     need("mandoc")
-    for name in PAGES:
+    for name in every:
         # without the conventions of BSD's base systems, where .Os names nothing
         said = output(["mandoc", "-T", "lint", "-W", "style", name], cwd=os.path.join(TOP, "man"))
         for line in said.split("\n"):

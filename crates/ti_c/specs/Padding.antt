@@ -1,7 +1,7 @@
 -- The line to a terminal as C has it, and what padding answers: terminfo(5), "Delays and Padding".
 use Rattle.std.specs.Prelude.{◌≡◌, ◌<◌, ℕ, List, length, if◌then◌else◌, Option, Some, None}
 use Rattle.ti_printing.specs.declared.padding.Line.{Line}
-use Rattle.ti_printing.specs.Padding.{with_pad_bytes}
+use Rattle.ti_printing.specs.Padding.{IsPadded}
 use Rattle.ti_c.specs.Answers.{IsWritten}
 use Rattle.ti_c.specs.declared.padding.TerminalLine.{TerminalLine}
 
@@ -14,10 +14,11 @@ abbrev pub line_of : TerminalLine → Line
 line_of line = record { rate = line.rate; xon = line.xon; pad_from = line.pad_from; pad_byte = pad_byte_of line }
 
 -- the padded text was written, so many bytes
-abbrev pub IsPadded : List ℕ → ℕ → TerminalLine → (room written : List ℕ) → ℕ → Type 0
-IsPadded text lines line room written size =
-    (size ≡ length (with_pad_bytes text lines (line_of line))) × IsWritten (with_pad_bytes text lines (line_of line)) room written
+abbrev pub WritesPadded : List ℕ → ℕ → TerminalLine → (room written : List ℕ) → ℕ → Type 0
+WritesPadded text lines line room written size =
+    (padded : List ℕ) × IsPadded text lines (line_of line) padded × (size ≡ length padded) × IsWritten padded room written
 
 -- the padded text has so many bytes, which is more than the room has
 abbrev pub IsTooLong : List ℕ → ℕ → TerminalLine → List ℕ → ℕ → Type 0
-IsTooLong text lines line room size = (size ≡ length (with_pad_bytes text lines (line_of line))) × (length room < size)
+IsTooLong text lines line room size =
+    (padded : List ℕ) × IsPadded text lines (line_of line) padded × (size ≡ length padded) × (length room < size)

@@ -1,9 +1,9 @@
 //! Bytes for the terminal with their delays as pad bytes, and the line to the terminal of an entry.
 ghost use Rattle.std.specs.Prelude.{◌≡◌, ◌≢◌, ◌<◌, ◌≤◌, ◌↔◌, ◌⊎◌};
-ghost use Rattle.ti_printing.specs.Padding.{padding_of, pad_bytes_max};
+ghost use Rattle.ti_printing.specs.Padding.{AsksForTooMuch};
 ghost use Rattle.ti_tput.specs.Entries.{line_at_rate};
 ghost use Rattle.ti_c.specs.Entries.{entry_of};
-ghost use Rattle.ti_c.specs.Padding.{line_of, IsPadded, IsTooLong};
+ghost use Rattle.ti_c.specs.Padding.{line_of, WritesPadded, IsTooLong};
 
 use crate::answers::{NO_MEMORY, NO_ROOM, OK, Outcome, TOO_MUCH, write_to};
 use crate::entries::view_of;
@@ -54,8 +54,8 @@ pub extern "C" fn ti_pad(
     out: &mut [u8],
 ) -> Outcome
     ensures known { (result.status ≡ OK) ⊎ (result.status ≡ NO_MEMORY) ⊎ (result.status ≡ NO_ROOM) ⊎ (result.status ≡ TOO_MUCH) }
-    ensures ok { result.status ≡ OK → IsPadded text.now lines line.now out.old out.new result.size }
-    ensures too_much { (result.status ≡ TOO_MUCH) ↔ (pad_bytes_max < padding_of text.now lines (line_of line.now)) }
+    ensures ok { result.status ≡ OK → WritesPadded text.now lines line.now out.old out.new result.size }
+    ensures too_much { (result.status ≡ TOO_MUCH) ↔ AsksForTooMuch text.now lines (line_of line.now) }
     ensures no_room { result.status ≡ NO_ROOM → IsTooLong text.now lines line.now out.old result.size }
     ensures kept { result.status ≢ OK → out.new ≡ out.old }
 {

@@ -24,11 +24,16 @@ pub(crate) struct Tool<'a> {
 }
 
 /// What the program is, in its help.
-const TI_ABOUT: &str = "Tools for terminfo, the database of terminals.";
+const TI_ABOUT: &str = "ti 1.0.0: tools for terminfo, the database of terminals.";
 
-/// What stands below the options in the help of the program.
+/// What follows the options in the help of the program.
 const TI_NOTES: &str = "\
-Exit status: 0 where all went well, 1 at a fault, 2 at bad usage.
+Exit status:
+  0  all went well
+  1  there was a fault, or the source of tic has an error
+  2  bad usage
+  3 and more: see 'ti help tput'
+
 'ti help TOOL' says more of each tool.
 
 Examples:
@@ -61,7 +66,7 @@ const TIC: Tool<'static> = Tool {
     ],
     notes: "\
 The report of the faults in the source goes to standard error. A block without
-error gets its files also where another block has one. The tools look for an
+error gets its files also if another block has one. The tools look for an
 entry in $TERMINFO, $TERMINFO_DIRS and /usr/share/terminfo alone.
 
 Exit status:
@@ -105,9 +110,14 @@ const TPUT: Tool<'static> = Tool {
     notes: "The first WORD is a capability of terminfo(5), longname, init or reset.
 The entry is looked for in $TERMINFO, $TERMINFO_DIRS and /usr/share/terminfo.
 
-Exit status: 0; 1 where a flag or a string is absent; 2 at bad usage; 3 at an
-unknown terminal; 4 at an unknown capability or a bad string; 255 at a fault.
-With -S, 4 and the number of bad lines, 255 at most.
+Exit status:
+  0    what was asked for was written, or the boolean is there
+  1    the boolean or the string is absent
+  2    bad usage, or no terminal is named
+  3    the terminal is unknown, or its entry is bad or cannot be read
+  4    the capability is unknown, or its string is bad
+  255  something failed after the entry was read
+With -S: 0, or 4 and the number of bad lines, 255 at most.
 
 Examples:
   ti tput setaf 1
@@ -125,11 +135,11 @@ Each line of the script is a request; N is the position of a block, from 0:
   i N    put in, before block N, the block that follows up to a line '.'
   r N    put the block that follows up to a line '.' in the place of block N
   d N    take block N out
-  m N M  move block N, so that it then stands at M
+  m N M  move block N, so that it is then at M
   p N    print the entry of block N in hexadecimal, or 'none'
   f      print the faults of the source, and a line '.'
   w      print the positions that the last accepted edit rebuilt, or '-'
-An edit is answered 'ok' or 'refused' and why, what is no request 'unknown'.
+An edit is answered 'ok', or 'refused' and why; what is no request, 'unknown'.
 
 Exit status:
   0  the script was read to its end

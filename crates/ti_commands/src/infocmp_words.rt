@@ -37,17 +37,17 @@ pub(crate) const INFOCMP: Tool<'static> = Tool {
         Argument {
             id: "differ",
             form: Form::Flag('d'),
-            help: "Show where the first differs from each other [default for more]",
+            help: "Compare the first with each of the others: what differs",
         },
         Argument {
             id: "common",
             form: Form::Flag('c'),
-            help: "Show what the first and each other have in common",
+            help: "Compare the first with each of the others: what both have",
         },
         Argument {
             id: "neither",
             form: Form::Flag('n'),
-            help: "Show what neither the first nor each other has",
+            help: "Compare the first with each of the others: what neither has",
         },
         Argument {
             id: "relative",
@@ -67,7 +67,7 @@ pub(crate) const INFOCMP: Tool<'static> = Tool {
         Argument {
             id: "sort",
             form: Form::Choice('s', "ORDER", &["d", "i"]),
-            help: "Sort by place in the entry (d) or by name (i) [default: i]",
+            help: "Sort by place (d) or name (i) [default: i]",
         },
         Argument {
             id: "first",
@@ -86,10 +86,11 @@ pub(crate) const INFOCMP: Tool<'static> = Tool {
         },
     ],
     notes: "\
+Without a mode, -d is taken if there are two names or more.
 A listing of an entry that 'ti tic' wrote is source that it compiles back to the
-same entry; with '-u' it is, where the entries that it uses stand beside it.
-Entries are looked for in $TERMINFO, $TERMINFO_DIRS and /usr/share/terminfo,
-where no folder is named.
+same entry; so is that of '-u', together with the entries that it uses. Entries
+are looked for in $TERMINFO, $TERMINFO_DIRS and /usr/share/terminfo, unless -A
+or -B names a directory.
 
 Exit status:
   0  all entries were read, and the text was written
@@ -98,7 +99,7 @@ Exit status:
 
 Examples:
   ti infocmp -1 -A /lib/terminfo xterm
-  ti infocmp -d xterm vt100
+  TERMINFO_DIRS=/lib/terminfo: ti infocmp -d xterm vt100
   ti infocmp -u xterm-256color xterm",
 };
 

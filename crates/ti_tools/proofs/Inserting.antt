@@ -1,9 +1,10 @@
 -- What a run of insertions comes to, of the blocks of a source, and what a newline at the end changes.
-use Rattle.std.proofs.Common.{◌≡◌, ◌⊎◌, ℕ, suc, ◌==◌, Bool, false, List, [], ◌∷◌, ◌++◌, Option, Some, None, length, insert, refl, sym, ap, ◌∙◌, subst, arith}
-use Rattle.std.proofs.lemmas.List.{length-append}
+use Rattle.std.proofs.Common.{◌≡◌, ◌⊎◌, ℕ, suc, ◌==◌, Bool, false, List, [], ◌∷◌, ◌++◌, Option, Some, None, length, map, insert, refl, sym, ap, ◌∙◌, subst, arith}
+use Rattle.std.proofs.lemmas.List.{append_assoc, length-append, map-append}
 use Rattle.std.proofs.Math.Seq.{drop-length, take-length}
 use Rattle.ti_source.specs.Cutting.{last_byte}
-use Rattle.ti_meaning.specs.Edits.{EditRun, insertion}
+use Rattle.ti_meaning.specs.Edits.{Change, EditRun, change_of, insertion}
+use Rattle.ti_meaning.specs.declared.edits.Edit.{Edit}
 use Rattle.ti_meaning.specs.declared.edits.EditError.{EditError}
 use Rattle.ti_meaning.specs.declared.edits.EditError.TheVariants.{Memory}
 use Rattle.ti_meaning.specs.declared.edits.Outcome.{Outcome}
@@ -35,6 +36,13 @@ taken_by_run source blocks (block ∷ rest) (Accepted ∷ outcomes) last to run 
     (subst (λ (k : ℕ). EditRun (blocks ++ block ∷ []) (insertions k rest) outcomes last) longer
     (subst (λ (texts : List (List ℕ)). EditRun texts (insertions (suc (length blocks)) rest) outcomes last) next run.2))
 taken_by_run source blocks (block ∷ rest) (Refused error ∷ outcomes) last to run = refused_next source blocks block rest error to run.1.0
+
+-- one more insertion is made of the blocks that are left
+pub one_more : (edits : List Edit) (edit : Edit) (text : List ℕ) (rest : List (List ℕ)) (all : List Change) → change_of edit ≡ insertion (length edits) text
+    → map change_of edits ++ insertions (length edits) (text ∷ rest) ≡ all → map change_of (edits ++ edit ∷ []) ++ insertions (length (edits ++ edit ∷ [])) rest ≡ all
+one_more edits edit text rest all is e =
+    let longer : length (edits ++ edit ∷ []) ≡ suc (length edits) = length-append edits (edit ∷ []) ∙ (omega arith) in
+    rw (map-append change_of edits (edit ∷ []), append_assoc (map change_of edits) (change_of edit ∷ []) (insertions (length (edits ++ edit ∷ [])) rest), is, longer) e
 
 -- a newline that is put at the end of a source without one changes nothing
 pub newline_changes_nothing : (source : List ℕ) → (last_byte 10 source == 10) ≡ false → with_last_newline (source ++ 10 ∷ []) ≡ with_last_newline source

@@ -1,8 +1,8 @@
 -- Going over the blocks of a source: those before a place are taken, and the next is, or is refused.
-use Rattle.std.proofs.Common.{◌≡◌, ◌⊎◌, ◌==◌, ℕ, suc, ◌+◌, ◌<◌, ◌≤◌, Unit, All, List, [], ◌∷◌, ◌++◌, length, map, refl, sym, ap, subst, ◌∙◌, inl, inr, arith}
+use Rattle.std.proofs.Common.{◌≡◌, ◌⊎◌, ◌==◌, ℕ, suc, ◌+◌, ◌<◌, ◌≤◌, Unit, All, List, [], ◌∷◌, ◌++◌, length, map, take, refl, sym, ap, subst, ◌∙◌, inl, inr, arith}
 use Rattle.std.specs.List.{concat, sum_by}
 use Rattle.std.proofs.lemmas.Bool.{cases_Bool, eqb-true}
-use Rattle.std.proofs.lemmas.List.{append-nil, append_assoc, length-append}
+use Rattle.std.proofs.lemmas.List.{append-nil, append_assoc, length-append, take_at}
 use Rattle.std.proofs.lemmas.List.Elements.{All-head, All-tail}
 use Rattle.std.proofs.lemmas.List.Sums.{sum_by-append}
 use Rattle.ti_text.specs.Limits.{block_bytes_max, blocks_max}
@@ -247,12 +247,14 @@ checked_to_next add source offset count block rest c short few = record {
 
 -- the next block is too long
 pub checked_too_long : (source : List ℕ) (offset count : ℕ) (block : List ℕ) (rest : List (List ℕ)) (line : ℕ)
-    → (c : IsCheckedTo source offset count (block ∷ rest)) → (length (with_last_newline block) ≤ block_bytes_max → ⊥) → line ≡ line_count c.seen + 1
+    → IsCheckedTo source offset count (block ∷ rest) → (length (with_last_newline block) ≤ block_bytes_max → ⊥) → line ≡ line_count (take offset source) + 1
     → IsSourceRefusal source (tool.BlockTooLong line)
 checked_too_long source offset count block rest line c long is_line =
     let end : length c.blocks ≤ length c.blocks = omega arith in
     let first = first_refused source c.blocks (with_last_newline block) (map with_last_newline rest) TooLong c.to (end, long) in
-    (first, elim c.line [ inl none ↦ absurd (cc) | inr e ↦ is_line ∙ e ])
+    let front : take offset source ≡ c.seen = ap (take offset) c.whole ∙ take_at c.seen (concat (block ∷ rest)) offset c.at in
+    let seen : line ≡ line_count c.seen + 1 = is_line ∙ ap (λ (text : List ℕ). line_count text + 1) front in
+    (first, elim c.line [ inl none ↦ absurd (cc) | inr e ↦ seen ∙ e ])
 
 -- the next block is one too many
 pub checked_too_many : (source : List ℕ) (offset count : ℕ) (block : List ℕ) (rest : List (List ℕ))

@@ -16,10 +16,12 @@ use Rattle.ti_devices.specs.declared.line_reader.Next.TheVariants.{Line, LastLin
 use Rattle.ti_devices.specs.declared.tool_error.ToolError.{ToolError}
 use Rattle.ti_devices.specs.declared.tool_error.ToolError.TheVariants.{Usage, NoTerminal, BadEntry, ReadFault, WriteFault, LineTooLong, BlockTooLong, TooManyBlocks, Memory}
 use Rattle.ti_layout.specs.View.{Entry}
-use Rattle.ti_tput.specs.Runs.{Course, LineStep, line_step, run_status, lines_start, steps, tput_run}
+use Rattle.ti_tput.specs.Runs.{Course, LineStep, run_status, lines_start}
+use Rattle.ti_tput.specs.inside.Runs.{line_step, steps, tput_run}
 use Rattle.ti_tput.specs.Streaming.{CommandsEnd, HasLines, IsShortCommandLine, command_line_max}
 use Rattle.ti_tput.specs.inside.Terminal.{HasCourse, Took}
 use Rattle.ti_tput.specs.declared.terminal.Terminal.{Terminal}
+use Rattle.ti_tput.proofs.Answering.{steps_taken}
 
 -- what came of a line that is another line
 pub Took-same : (entry : Entry) (rate : ℕ) (course : Course) (line other : List ℕ) (terminal : Terminal) (before now : Observed)
@@ -120,6 +122,8 @@ module _ (entry : Entry) (rate : ℕ) where
     gives = Gives-none given;
     has_lines = HasLines-whole [] (record { each = tt; short = tt });
     short = omega arith;
+    step = steps entry rate lines_start [];
+    takes = steps_taken entry rate lines_start [];
     written = TakesAll-none before;
   }
 
@@ -179,6 +183,8 @@ module _ (entry : Entry) (rate : ℕ) where
           lines = p.lines ++ last_line_of next ∷ [];
           gives = gives-lines;
           are_begun = inl ([], HasLines-whole (p.lines ++ last_line_of next ∷ []) are-lines);
+          step = steps entry rate lines_start (p.lines ++ last_line_of next ∷ []);
+          takes = steps_taken entry rate lines_start (p.lines ++ last_line_of next ∷ []);
           written = subst (λ (t : List ℕ). TakesFront before now2 t) (written_more p.lines (last_line_of next))
               (TakesFront-then before now now2 (written_by p.lines) _ p.written took);
         }
@@ -195,6 +201,8 @@ module _ (entry : Entry) (rate : ℕ) where
               ∙ append_assoc (bytes_of p.lines ++ last_line_of next) (10 ∷ []) (ahead_of next)) gives-line;
           has_lines = HasLines-are p.lines (last_line_of next) p.are r.3;
           short = short (last_line_of next) r.4;
+          step = steps entry rate lines_start p.lines;
+          takes = steps_taken entry rate lines_start p.lines;
           written = subst (λ (w : Observed). TakesAll before w (written_by p.lines)) (sym took) p.written;
         }
 
@@ -219,6 +227,8 @@ module _ (entry : Entry) (rate : ℕ) where
             (Consumes-then given.bytes left.bytes later.bytes (bytes_of p.lines ++ ahead_of reading) r.0 p.gives.bytes r.1);
         has_lines = HasLines-are p.lines (ahead_of reading ++ r.0) p.are r.2;
         short = short (ahead_of reading ++ r.0) r.3;
+        step = steps entry rate lines_start p.lines;
+        takes = steps_taken entry rate lines_start p.lines;
         written = p.written;
         cause = cannot r.4 s;
       }
@@ -232,6 +242,8 @@ module _ (entry : Entry) (rate : ℕ) where
             (gives-more later r.0 r.3);
         has_lines = HasLines-are p.lines r.1 p.are r.5;
         long = subst (λ (n : ℕ). n < length r.1) p.limit r.6;
+        step = steps entry rate lines_start p.lines;
+        takes = steps_taken entry rate lines_start p.lines;
         written = p.written;
       }
       CommandsEnd-fault (BlockTooLong n) r s = absurd r
@@ -250,6 +262,8 @@ module _ (entry : Entry) (rate : ℕ) where
         at_end = r.2;
         has_lines = HasLines-whole p.lines p.are;
         short = omega arith;
+        step = steps entry rate lines_start p.lines;
+        takes = steps_taken entry rate lines_start p.lines;
         written = p.written;
         ends_with = is (after_lines p.lines) p.holds;
       }
@@ -276,6 +290,8 @@ module _ (entry : Entry) (rate : ℕ) where
           at_end = r.3;
           has_lines = has-last;
           short = short (last_line_of next) r.5;
+          step = steps entry rate lines_start (with_last p.lines (last_line_of next));
+          takes = steps_taken entry rate lines_start (with_last p.lines (last_line_of next));
           written = subst (λ (ls : List (List ℕ)). TakesAll before now2 (written_by ls)) (sym all)
               (subst (λ (t : List ℕ). TakesAll before now2 t) (written_more p.lines (last_line_of next))
               (TakesAll-then before now now2 (written_by p.lines) _ p.written took.1));
@@ -296,6 +312,8 @@ module _ (entry : Entry) (rate : ℕ) where
           lines = with_last p.lines (last_line_of next);
           gives = rw append-nil gives-last;
           are_begun = inr (p.lines, last_line_of next, has-last, refl, r.3, refl);
+          step = steps entry rate lines_start (with_last p.lines (last_line_of next));
+          takes = steps_taken entry rate lines_start (with_last p.lines (last_line_of next));
           written = subst (λ (ls : List (List ℕ)). TakesFront before now2 (written_by ls)) (sym all)
               (subst (λ (t : List ℕ). TakesFront before now2 t) (written_more p.lines (last_line_of next))
               (TakesFront-then before now now2 (written_by p.lines) _ p.written took));
@@ -311,5 +329,7 @@ module _ (entry : Entry) (rate : ℕ) where
           gives = rw append-nil gives-last;
           has_lines = has-last;
           short = short (last_line_of next) r.5;
+          step = steps entry rate lines_start p.lines;
+          takes = steps_taken entry rate lines_start p.lines;
           written = subst (λ (w : Observed). TakesAll before w (written_by p.lines)) (sym took) p.written;
         }

@@ -6,6 +6,7 @@ pub mod Padded
 pub mod Parting
 pub mod Replying
 pub mod Terminals
+pub mod Answering
 pub mod Ending
 pub mod Expanded
 pub mod Searches

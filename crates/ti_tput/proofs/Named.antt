@@ -3,7 +3,8 @@ use Rattle.std.proofs.Common.{◌≡◌, ℕ, true, false, List}
 use Rattle.std.specs.Prelude.{bytes_eq, codes, ℤ}
 use Rattle.ti_layout.specs.View.{Entry}
 use Rattle.ti_tput.specs.Entries.{line_at_rate}
-use Rattle.ti_tput.specs.Results.{init_strings, named_reply, padded_texts, sent_reply}
+use Rattle.ti_tput.specs.Results.{init_strings}
+use Rattle.ti_tput.specs.inside.Results.{named_reply, padded_texts, sent_reply}
 
 pub named_reply-init : (entry : Entry) (rate : ℕ) (cap : List ℕ) (words : List (List ℕ)) (statics : List ℤ) → bytes_eq cap (codes "longname") ≡ false
     → bytes_eq cap (codes "init") ≡ true → named_reply entry rate cap words statics ≡ sent_reply (padded_texts (line_at_rate entry rate) (init_strings entry)) statics statics

@@ -5,7 +5,7 @@ use Rattle.ti_printing.specs.declared.padding.Line.{Line}
 use Rattle.ti_printing.specs.Padding.{AsksForTooMuch, IsPadded}
 use Rattle.ti_printing.specs.inside.Padding.{padding_of, with_pad_bytes}
 use Rattle.ti_printing.proofs.Cuts.{padded_computed, too_much_computed}
-use Rattle.ti_tput.specs.Results.{padded_text}
+use Rattle.ti_tput.specs.inside.Results.{padded_text}
 
 pub padded_text-some : (line : Line) (text bytes : List ℕ) → IsPadded text 1 line bytes → (AsksForTooMuch text 1 line → ⊥) → Some bytes ≡ padded_text line text
 padded_text-some line text bytes padded few =

@@ -8,8 +8,10 @@ use Rattle.ti_printing.specs.declared.padding.Line.{Line}
 use Rattle.ti_layout.specs.View.{Entry}
 use Rattle.ti_tput.specs.Entries.{Holding, flag_held, number_held, text_held, holding_of, line_at_rate}
 use Rattle.ti_tput.specs.Parameters.{parameters}
-use Rattle.ti_tput.specs.Results.{Reply, holding_reply, init_strings, named_reply, padded_texts, padded_text, reset_strings, sent_reply, expansion_reply, string_reply, tput_result}
-use Rattle.ti_tput.specs.Runs.{Course, bad_step, command_step, line_step, reply_step, words_of}
+use Rattle.ti_tput.specs.Results.{Reply, init_strings, reset_strings}
+use Rattle.ti_tput.specs.inside.Results.{holding_reply, named_reply, padded_texts, padded_text, sent_reply, expansion_reply, string_reply, tput_result}
+use Rattle.ti_tput.specs.Runs.{Course, bad_step, reply_step, words_of}
+use Rattle.ti_tput.specs.inside.Runs.{command_step, line_step}
 
 -- a reply of status 4 writes nothing and leaves the variables
 Leaves : Reply → List ℤ → Type 0

@@ -9,7 +9,8 @@ use Rattle.ti_param.specs.Meaning.{number, text}
 use Rattle.ti_layout.specs.View.{Entry}
 use Rattle.ti_tput.specs.Entries.{holding_of}
 use Rattle.ti_tput.specs.Parameters.{word_number, parameters}
-use Rattle.ti_tput.specs.Results.{tput_result, reply}
+use Rattle.ti_tput.specs.Results.{reply}
+use Rattle.ti_tput.specs.inside.Results.{tput_result}
 
 pub row-number : word_number (codes "23") ≡ Some (pos 23)
 unfolding word_number

@@ -4,8 +4,10 @@ use Rattle.std.specs.Prelude.{min, ℤ}
 use Rattle.ti_layout.specs.View.{Entry, shown_entry}
 use Rattle.ti_tput.specs.Entries.{line_at_rate}
 use Rattle.ti_tput.specs.Replies.{reply_of}
-use Rattle.ti_tput.specs.Results.{Reply, tput_result}
-use Rattle.ti_tput.specs.Runs.{Course, LineStep, line_step, words_of, words_seen}
+use Rattle.ti_tput.specs.Results.{Reply}
+use Rattle.ti_tput.specs.inside.Results.{tput_result}
+use Rattle.ti_tput.specs.Runs.{Course, LineStep, words_of}
+use Rattle.ti_tput.specs.inside.Runs.{line_step, words_seen}
 use Rattle.ti_tput.specs.inside.Terminal.{HasCourse}
 use Rattle.ti_tput.specs.declared.replies.TputOutcome.{TputOutcome}
 use Rattle.ti_tput.specs.declared.terminal.Terminal.{Terminal}

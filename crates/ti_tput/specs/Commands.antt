@@ -1,18 +1,15 @@
 -- What the calls of `tput` answer (own).
-use Rattle.std.specs.Prelude.{◌≡◌, List, Option, Some, None, IsSome, Result, Ok, Err, ℤ}
+use Rattle.std.specs.Prelude.{ℕ, List, Some, None, Result, Ok, Err, ℤ}
 use Rattle.ti_devices.specs.declared.tool_error.ToolError.{ToolError}
 use Rattle.ti_devices.specs.declared.tool_error.ToolError.TheVariants.{Usage, Memory}
+use Rattle.ti_layout.specs.View.{Entry}
 use Rattle.ti_tput.specs.Replies.{reply_of}
-use Rattle.ti_tput.specs.Results.{Reply}
+use Rattle.ti_tput.specs.Results.{Reply, Answers}
 use Rattle.ti_tput.specs.declared.replies.TputOutcome.{TputOutcome}
 
--- the answer is the reply, with these variables after it; bad usage where there is none; or want of memory
-abbrev pub AnswersWords : Result TputOutcome ToolError → List ℤ → Option Reply → Type 0
-AnswersWords (Ok outcome) statics reply = reply ≡ Some (reply_of outcome statics)
-AnswersWords (Err Usage) statics reply = reply ≡ None
-AnswersWords (Err Memory) statics reply = IsSome reply
-AnswersWords (Err _) statics reply = ⊥
-
--- the same, whatever the variables are after it
-abbrev pub AnswersAlone : Result TputOutcome ToolError → Option Reply → Type 0
-AnswersAlone result reply = (statics : List ℤ) × AnswersWords result statics reply
+-- the answer to a command, whatever the variables are after it: bad usage where it is none, and want of memory where it is not
+abbrev pub AnswersCommand : Entry → ℕ → List ℤ → List (List ℕ) → Result TputOutcome ToolError → Type 0
+AnswersCommand entry rate statics words (Ok outcome) = (after : List ℤ) × Answers entry rate statics words (Some (reply_of outcome after))
+AnswersCommand entry rate statics words (Err Usage) = Answers entry rate statics words None
+AnswersCommand entry rate statics words (Err Memory) = (answer : Reply) × Answers entry rate statics words (Some answer)
+AnswersCommand entry rate statics words (Err _) = ⊥

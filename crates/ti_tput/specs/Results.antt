@@ -1,15 +1,14 @@
 -- What `tput` answers to a command (tput(1)): bytes, exit status and static variables.
-use Rattle.std.specs.Prelude.{ℕ, ◌||◌, nat_lt, ◌==◌, Bool, false, if◌then◌else◌, Option, Some, None, is_some, ℤ}
+use Rattle.std.specs.Prelude.{◌≡◌, ℕ, ◌<◌, ◌≤◌, ◌||◌, ◌==◌, Bool, true, false, if◌then◌else◌, Option, Some, None, is_some, ℤ}
 use Rattle.std.specs.Prelude.{List, [], ◌∷◌, ◌++◌, length, codes, bytes_eq}
 use Rattle.std.specs.Fmt.{decimal}
 use Rattle.std.specs.List.{after_last}
 use Rattle.ti_text.specs.Ascii as ascii
-use Rattle.ti_text.specs.Lists.{both_lists}
 use Rattle.ti_text.specs.Limits.{parameters_max}
-use Rattle.ti_param.specs.inside.Expansion.{Expansion, expanded, bad_format, stack_full, format_expansion}
+use Rattle.ti_param.specs.Expansion.{Expands, Overflows}
+use Rattle.ti_param.specs.Formats.{IsStuck}
 use Rattle.ti_printing.specs.declared.padding.Line.{Line}
-use Rattle.ti_printing.specs.Padding.{pad_bytes_max}
-use Rattle.ti_printing.specs.inside.Padding.{with_pad_bytes, padding_of}
+use Rattle.ti_printing.specs.Padding.{AsksForTooMuch, IsPadded}
 use Rattle.ti_layout.specs.View.{Entry}
 use Rattle.ti_tput.specs.Entries.{Holding, flag_held, number_held, text_held, holding_of, text_value, line_at_rate}
 use Rattle.ti_tput.specs.Parameters.{parameters}
@@ -26,32 +25,44 @@ reply bytes status statics = record { bytes = bytes; status = status; statics = 
 
 -- ---- strings
 
--- a string padded for one line; None where that is too much padding
-abbrev pub padded_text : Line → List ℕ → Option (List ℕ)
-padded_text line text = if nat_lt pad_bytes_max (padding_of text 1 line) then None else Some (with_pad_bytes text 1 line)
+-- the bytes are the text padded for one line, and its padding is not too much
+pub record IsSent (line : Line) (text bytes : List ℕ) : Type 0 where
+  pub padded : IsPadded text 1 line bytes
+  pub few : AsksForTooMuch text 1 line → ⊥
 
--- A string that was padded is written, and the variables are then those after it. One with too much padding is refused: nothing
--- is written, status 4, and the variables are as before.
-abbrev pub sent_reply : Option (List ℕ) → (before after : List ℤ) → Reply
-sent_reply None before after = reply [] 4 before
-sent_reply (Some bytes) before after = reply bytes 0 after
+-- A string is sent, and the variables are then those after it. One with too much padding is refused: nothing is written, status 4,
+-- and the variables are as before.
+pub data Sends (line : Line) (text : List ℕ) (before after : List ℤ) : Reply → Type 0 where
+  sent : {bytes : List ℕ} → IsSent line text bytes → Sends line text before after (reply bytes 0 after)
+  refused : AsksForTooMuch text 1 line → Sends line text before after (reply [] 4 before)
 
--- the string that an expansion gives; a fault of the format is refused alike
-abbrev pub expansion_reply : Line → List ℤ → Expansion → Reply
-expansion_reply line before (expanded output after) = sent_reply (padded_text line output) before after
-expansion_reply line before (bad_format place) = reply [] 4 before
-expansion_reply line before (stack_full place) = reply [] 4 before
+-- a string as it stands where there is no word, else expanded with the words; a fault of the format is refused as too much padding is
+pub data AnswersString (line : Line) (cap : List ℕ) : List (List ℕ) → (statics : List ℤ) (text : List ℕ) → Reply → Type 0 where
+  as_it_stands : {statics : List ℤ} {text : List ℕ} {answer : Reply} → Sends line text statics statics answer → AnswersString line cap [] statics text answer
+  by_expansion : {word : List ℕ} {words : List (List ℕ)} {statics after : List ℤ} {text output : List ℕ} {answer : Reply} →
+      Expands text (parameters cap (word ∷ words)) statics output after → Sends line output statics after answer →
+      AnswersString line cap (word ∷ words) statics text answer
+  by_fault : {word : List ℕ} {words : List (List ℕ)} {statics : List ℤ} {text : List ℕ} {place : ℕ} → IsStuck text place →
+      AnswersString line cap (word ∷ words) statics text (reply [] 4 statics)
+  by_overflow : {word : List ℕ} {words : List (List ℕ)} {statics : List ℤ} {text : List ℕ} {place : ℕ} →
+      Overflows text (parameters cap (word ∷ words)) statics place → AnswersString line cap (word ∷ words) statics text (reply [] 4 statics)
 
--- a string as it stands where there is no word, else expanded with the words
-abbrev pub string_reply : Line → List ℕ → List (List ℕ) → List ℤ → List ℕ → Reply
-string_reply line cap [] statics text = sent_reply (padded_text line text) statics statics
-string_reply line cap (word ∷ words) statics text = expansion_reply line statics (format_expansion text (parameters cap (word ∷ words)) statics)
+-- the bytes are those of the strings that are present, each padded for itself, in order
+pub data AreSent (line : Line) : List (Option (List ℕ)) → List ℕ → Type 0 where
+  no_string : AreSent line [] []
+  absent : {texts : List (Option (List ℕ))} {bytes : List ℕ} → AreSent line texts bytes → AreSent line (None ∷ texts) bytes
+  present : {text front bytes : List ℕ} {texts : List (Option (List ℕ))} → IsSent line text front → AreSent line texts bytes →
+      AreSent line (Some text ∷ texts) (front ++ bytes)
 
--- those of the strings that are present, each padded for itself, in order; None where one has too much padding
-abbrev pub padded_texts : Line → List (Option (List ℕ)) → Option (List ℕ)
-padded_texts line [] = Some []
-padded_texts line (None ∷ texts) = padded_texts line texts
-padded_texts line (Some text ∷ texts) = both_lists (padded_text line text) (padded_texts line texts)
+-- one of the strings has too much padding
+pub data OneAsksForTooMuch (line : Line) : List (Option (List ℕ)) → Type 0 where
+  at_first : {text : List ℕ} {texts : List (Option (List ℕ))} → AsksForTooMuch text 1 line → OneAsksForTooMuch line (Some text ∷ texts)
+  later : {text : Option (List ℕ)} {texts : List (Option (List ℕ))} → OneAsksForTooMuch line texts → OneAsksForTooMuch line (text ∷ texts)
+
+-- strings are sent, or all refused where one has too much padding
+pub data SendsAll (line : Line) (texts : List (Option (List ℕ))) (statics : List ℤ) : Reply → Type 0 where
+  all_sent : {bytes : List ℕ} → AreSent line texts bytes → SendsAll line texts statics (reply bytes 0 statics)
+  one_refused : OneAsksForTooMuch line texts → SendsAll line texts statics (reply [] 4 statics)
 
 -- the strings that initialize a terminal
 abbrev pub init_strings : Entry → List (Option (List ℕ))
@@ -84,23 +95,31 @@ number_text None = codes "-1" ++ ascii.newline ∷ []
 number_text (Some n) = decimal n ++ ascii.newline ∷ []
 
 -- what is answered of a capability: nothing is written of a flag or of a string that is absent, and the status is then 1
-abbrev pub holding_reply : Line → List ℕ → List (List ℕ) → List ℤ → Option Holding → Reply
-holding_reply line cap words statics None = reply [] 4 statics
-holding_reply line cap words statics (Some (flag_held set)) = reply [] (if set then 0 else 1) statics
-holding_reply line cap words statics (Some (number_held n)) = reply (number_text n) 0 statics
-holding_reply line cap words statics (Some (text_held None)) = reply [] 1 statics
-holding_reply line cap words statics (Some (text_held (Some text))) = string_reply line cap words statics text
+abbrev pub AnswersHolding : Line → List ℕ → List (List ℕ) → List ℤ → Option Holding → Reply → Type 0
+AnswersHolding line cap words statics None answer = answer ≡ reply [] 4 statics
+AnswersHolding line cap words statics (Some (flag_held set)) answer = answer ≡ reply [] (if set then 0 else 1) statics
+AnswersHolding line cap words statics (Some (number_held n)) answer = answer ≡ reply (number_text n) 0 statics
+AnswersHolding line cap words statics (Some (text_held None)) answer = answer ≡ reply [] 1 statics
+AnswersHolding line cap words statics (Some (text_held (Some text))) answer = AnswersString line cap words statics text answer
 
 -- what is answered to a name with these words after it
-abbrev pub named_reply : Entry → ℕ → List ℕ → List (List ℕ) → List ℤ → Reply
-named_reply entry rate cap words statics =
-    if bytes_eq cap (codes "longname") then reply (long_name entry.names) 0 statics
-    else if bytes_eq cap (codes "init") then sent_reply (padded_texts (line_at_rate entry rate) (init_strings entry)) statics statics
-    else if bytes_eq cap (codes "reset") then sent_reply (padded_texts (line_at_rate entry rate) (reset_strings entry)) statics statics
-    else holding_reply (line_at_rate entry rate) cap words statics (holding_of entry cap)
+pub data AnswersName (entry : Entry) (rate : ℕ) (cap : List ℕ) (words : List (List ℕ)) (statics : List ℤ) : Reply → Type 0 where
+  of_longname : bytes_eq cap (codes "longname") ≡ true → AnswersName entry rate cap words statics (reply (long_name entry.names) 0 statics)
+  of_init : {answer : Reply} → bytes_eq cap (codes "longname") ≡ false → bytes_eq cap (codes "init") ≡ true →
+      SendsAll (line_at_rate entry rate) (init_strings entry) statics answer → AnswersName entry rate cap words statics answer
+  of_reset : {answer : Reply} → bytes_eq cap (codes "longname") ≡ false → bytes_eq cap (codes "init") ≡ false → bytes_eq cap (codes "reset") ≡ true →
+      SendsAll (line_at_rate entry rate) (reset_strings entry) statics answer → AnswersName entry rate cap words statics answer
+  of_capability : {answer : Reply} → bytes_eq cap (codes "longname") ≡ false → bytes_eq cap (codes "init") ≡ false → bytes_eq cap (codes "reset") ≡ false →
+      AnswersHolding (line_at_rate entry rate) cap words statics (holding_of entry cap) answer → AnswersName entry rate cap words statics answer
 
 -- What a command answers; None is bad usage: no word, or more than nine parameters.
-unfoldable pub tput_result : Entry → List (List ℕ) → ℕ → List ℤ → Option Reply
-tput_result entry [] rate statics = None
-tput_result entry (cap ∷ words) rate statics =
-    if nat_lt parameters_max (length words) then None else Some (named_reply entry rate cap words statics)
+pub data Answers (entry : Entry) (rate : ℕ) (statics : List ℤ) : List (List ℕ) → Option Reply → Type 0 where
+  no_word : Answers entry rate statics [] None
+  too_many : {cap : List ℕ} {words : List (List ℕ)} → parameters_max < length words → Answers entry rate statics (cap ∷ words) None
+  answered : {cap : List ℕ} {words : List (List ℕ)} {answer : Reply} → length words ≤ parameters_max → AnswersName entry rate cap words statics answer →
+      Answers entry rate statics (cap ∷ words) (Some answer)
+
+-- the law of answers: each command has exactly one
+pub record HasOneAnswer (entry : Entry) (rate : ℕ) (statics : List ℤ) (words : List (List ℕ)) : Type 0 where
+  pub some : (answer : Option Reply) × Answers entry rate statics words answer
+  pub one : (answer other : Option Reply) → Answers entry rate statics words answer → Answers entry rate statics words other → answer ≡ other

@@ -5,7 +5,7 @@ use Rattle.std.specs.List.{slice_split}
 use Rattle.ti_text.specs.WhiteSpace.{is_white_space}
 use Rattle.ti_layout.specs.View.{Entry}
 use Rattle.ti_param.specs.Meaning.{no_variables}
-use Rattle.ti_tput.specs.Results.{Reply, tput_result}
+use Rattle.ti_tput.specs.Results.{Reply, Answers}
 
 -- ---- words
 
@@ -16,10 +16,6 @@ has_bytes word = nat_lt 0 (length word)
 -- the words of a line, which white space parts
 unfoldable pub words_of : List ℕ → List (List ℕ)
 words_of line = filter has_bytes (slice_split is_white_space line)
-
--- so many words of a line are looked at: a name and nine parameters are the most that a command may have, and one more is too many
-abbrev pub words_seen : ℕ
-words_seen = 11
 
 -- ---- lines
 
@@ -44,22 +40,22 @@ reply_step course (Some reply) =
     if reply.status == 4 then bad_step course
     else record { after = record { bad = course.bad; statics = reply.statics }; bytes = reply.bytes }
 
--- a line without words does nothing
-abbrev pub command_step : Entry → ℕ → Course → List (List ℕ) → LineStep
-command_step entry rate course [] = record { after = course; bytes = [] }
-command_step entry rate course (word ∷ words) = reply_step course (tput_result entry (word ∷ words) rate course.statics)
+-- what comes of the words of a line: nothing where there is none
+pub data TakesWords (entry : Entry) (rate : ℕ) (course : Course) : List (List ℕ) → LineStep → Type 0 where
+  no_words : TakesWords entry rate course [] (record { after = course; bytes = [] })
+  of_command : {word : List ℕ} {words : List (List ℕ)} {answer : Option Reply} → Answers entry rate course.statics (word ∷ words) answer →
+      TakesWords entry rate course (word ∷ words) (reply_step course answer)
 
 -- what comes of a line
-abbrev pub line_step : Entry → ℕ → Course → List ℕ → LineStep
-line_step entry rate course line = command_step entry rate course (words_of line)
+abbrev pub TakesLine : Entry → ℕ → Course → List ℕ → LineStep → Type 0
+TakesLine entry rate course line step = TakesWords entry rate course (words_of line) step
 
 -- what comes of lines, one after another
-unfoldable pub steps : Entry → ℕ → Course → List (List ℕ) → LineStep
-steps entry rate course [] = record { after = course; bytes = [] }
-steps entry rate course (line ∷ lines) =
-    let first = line_step entry rate course line in
-    let later = steps entry rate first.after lines in
-    record { after = later.after; bytes = first.bytes ++ later.bytes }
+pub data TakesLines (entry : Entry) (rate : ℕ) : Course → List (List ℕ) → LineStep → Type 0 where
+  no_lines : {course : Course} → TakesLines entry rate course [] (record { after = course; bytes = [] })
+  then_lines : {course : Course} {line : List ℕ} {lines : List (List ℕ)} {first later : LineStep} → TakesLine entry rate course line first →
+      TakesLines entry rate first.after lines later →
+      TakesLines entry rate course (line ∷ lines) (record { after = later.after; bytes = first.bytes ++ later.bytes })
 
 -- at the start no line was bad, and each static variable is 0
 abbrev pub lines_start : Course
@@ -70,19 +66,9 @@ abbrev pub run_status : ℕ → ℕ
 run_status zero = 0
 run_status (suc bad) = min 255 (4 + suc bad)
 
--- what the lines of an input write, and the exit status
-pub record LinesRun : Type 0 where
-  pub bytes : List ℕ
-  pub status : ℕ
-
--- what `tput -S` answers to lines
-abbrev pub tput_run : Entry → ℕ → List (List ℕ) → LinesRun
-tput_run entry rate lines =
-    let all = steps entry rate lines_start lines in record { bytes = all.bytes; status = run_status all.after.bad }
-
 -- ---- laws
 
 -- a command that would end with status 4 writes nothing, and leaves the variables
 abbrev pub BadCommandsChangeNothing : Type 0
 BadCommandsChangeNothing = (entry : Entry) (words : List (List ℕ)) (rate : ℕ) (statics : List ℤ) (reply : Reply)
-    → tput_result entry words rate statics ≡ Some reply → reply.status ≡ 4 → (reply.bytes ≡ []) × (reply.statics ≡ statics)
+    → Answers entry rate statics words (Some reply) → reply.status ≡ 4 → (reply.bytes ≡ []) × (reply.statics ≡ statics)

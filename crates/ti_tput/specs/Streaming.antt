@@ -10,7 +10,7 @@ use Rattle.ti_devices.specs.Writing.{TakesAll, TakesFront}
 use Rattle.ti_devices.specs.declared.tool_error.ToolError.{ToolError}
 use Rattle.ti_devices.specs.declared.tool_error.ToolError.TheVariants.{ReadFault, WriteFault, LineTooLong, Memory}
 use Rattle.ti_layout.specs.View.{Entry}
-use Rattle.ti_tput.specs.Runs.{tput_run}
+use Rattle.ti_tput.specs.Runs.{LineStep, TakesLines, lines_start, run_status}
 
 -- the greatest length of a line, without its newline
 abbrev pub command_line_max : ℕ
@@ -34,8 +34,10 @@ pub record CommandsComplete (entry : Entry) (rate : ℕ) (given left before now 
   pub at_end : IsAtEnd left.bytes
   pub has_lines : HasLines input lines line
   pub short : IsShortCommandLine line
-  pub written : TakesAll before now (tput_run entry rate (with_last lines line)).bytes
-  pub ends_with : status ≡ (tput_run entry rate (with_last lines line)).status
+  pub step : LineStep
+  pub takes : TakesLines entry rate lines_start (with_last lines line) step
+  pub written : TakesAll before now step.bytes
+  pub ends_with : status ≡ run_status step.after.bad
 
 -- no more can be read: what the complete lines write was written
 pub record CommandsStopReading (entry : Entry) (rate : ℕ) (given left before now : Observed) : Type 0 where
@@ -45,7 +47,9 @@ pub record CommandsStopReading (entry : Entry) (rate : ℕ) (given left before n
   pub gives : Consumes given.bytes left.bytes taken
   pub has_lines : HasLines taken lines line
   pub short : IsShortCommandLine line
-  pub written : TakesAll before now (tput_run entry rate lines).bytes
+  pub step : LineStep
+  pub takes : TakesLines entry rate lines_start lines step
+  pub written : TakesAll before now step.bytes
   pub cause : CannotReadOn given left
 
 -- a line that has begun is over the limit: what the lines before it write was written, and some bytes more were read
@@ -57,7 +61,9 @@ pub record CommandsFindLongLine (entry : Entry) (rate : ℕ) (given left before 
   pub gives : Gives given left (taken ++ rest)
   pub has_lines : HasLines taken lines line
   pub long : command_line_max < length line
-  pub written : TakesAll before now (tput_run entry rate lines).bytes
+  pub step : LineStep
+  pub takes : TakesLines entry rate lines_start lines step
+  pub written : TakesAll before now step.bytes
 
 -- memory was wanting for a line: what the lines before it write was written, and some bytes more were read
 pub record WantsMemory (entry : Entry) (rate : ℕ) (given left before now : Observed) : Type 0 where
@@ -68,7 +74,9 @@ pub record WantsMemory (entry : Entry) (rate : ℕ) (given left before now : Obs
   pub gives : Gives given left (taken ++ rest)
   pub has_lines : HasLines taken lines line
   pub short : IsShortCommandLine line
-  pub written : TakesAll before now (tput_run entry rate lines).bytes
+  pub step : LineStep
+  pub takes : TakesLines entry rate lines_start lines step
+  pub written : TakesAll before now step.bytes
 
 -- the lines of which a run has begun to write: those that are complete, or, where the input has ended, all
 abbrev pub AreBegun : List ℕ → List ℕ → Observed → List (List ℕ) → Type 0
@@ -83,7 +91,9 @@ pub record CommandsStopWriting (entry : Entry) (rate : ℕ) (given left before n
   pub lines : List (List ℕ)
   pub gives : Gives given left (taken ++ rest)
   pub are_begun : AreBegun taken rest left lines
-  pub written : TakesFront before now (tput_run entry rate lines).bytes
+  pub step : LineStep
+  pub takes : TakesLines entry rate lines_start lines step
+  pub written : TakesFront before now step.bytes
 
 -- how a run ends
 abbrev pub CommandsEnd : Entry → ℕ → Observed → Observed → Observed → Observed → Result ℕ ToolError → Type 0

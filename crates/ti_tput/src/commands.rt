@@ -1,10 +1,12 @@
 //! `tput` of one command: a capability's name, and the words after it.
-ghost use Rattle.std.specs.Prelude.{◌≡◌, ℕ, OnErr, map};
-ghost use Rattle.ti_layout.specs.View.{shown_entry};
+ghost use Rattle.std.specs.Prelude.{◌≡◌, ℕ, ℤ, List, OnErr, map};
+ghost use Rattle.ti_layout.specs.View.{Entry, shown_entry};
 ghost use Rattle.ti_param.specs.Meaning.{no_variables};
 ghost use Rattle.ti_tput.specs.Entries.{line_at_rate};
-ghost use Rattle.ti_tput.specs.Commands.{AnswersWords, AnswersAlone};
-ghost use Rattle.ti_tput.specs.Results.{tput_result};
+ghost use Rattle.ti_tput.specs.Commands.{AnswersCommand};
+ghost use Rattle.ti_tput.specs.inside.Commands.{AnswersWords};
+ghost use Rattle.ti_tput.specs.inside.Results.{tput_result};
+ghost use Rattle.ti_tput.specs.Results.{HasOneAnswer};
 ghost use Rattle.ti_tput.specs.Runs.{BadCommandsChangeNothing};
 
 use crate::entries::terminal_line;
@@ -16,7 +18,7 @@ use ti_param::{Line, Statics};
 use ti_text::limits::PARAMETERS_MAX;
 
 /// What a command is answered on the line of its terminal, with the static variables of the commands before it.
-#[tactic(auto, unfolding(crate::specs::Results::tput_result))]
+#[tactic(auto, unfolding(crate::specs::inside::Results::tput_result))]
 pub(crate) fn answer(
     alloc: Global,
     view: &View<'_>,
@@ -59,7 +61,7 @@ pub fn tput(
     words: &[&[u8]],
     rate: u32,
 ) -> Result<TputOutcome, ToolError>
-    ensures { AnswersAlone result (tput_result (shown_entry view.now) (map (λ word. word.now) words.now) rate no_variables) }
+    ensures { AnswersCommand (shown_entry view.now) rate no_variables (map (λ word. word.now) words.now) result }
 {
     let line = terminal_line(view, rate);
     let mut statics = Statics::new();
@@ -69,4 +71,9 @@ pub fn tput(
 /// A command that would end with status 4 writes nothing, and leaves the static variables.
 pub fn bad_commands_change_nothing()
     ensures { BadCommandsChangeNothing }
+{}
+
+/// The law of answers: each command has exactly one.
+pub fn one_answer()
+    ensures { (entry : Entry) (rate : ℕ) (statics : List ℤ) (words : List (List ℕ)) → HasOneAnswer entry rate statics words }
 {}

@@ -15,7 +15,7 @@ mod streaming;
 mod terminal;
 mod words;
 
-pub use commands::{bad_commands_change_nothing, tput};
+pub use commands::{bad_commands_change_nothing, one_answer, tput};
 pub use entries::terminal_line;
 pub use replies::TputOutcome;
 pub use searching::{entry, locate, places};

@@ -4,8 +4,10 @@ ghost use Rattle.ti_param.specs.Meaning.{argument_of};
 ghost use Rattle.ti_param.specs.inside.Expansion.{EndsWith, expanded, format_expansion};
 ghost use Rattle.ti_layout.specs.View.{shown_entry};
 ghost use Rattle.ti_tput.specs.Entries.{line_at_rate, value_meaning};
-ghost use Rattle.ti_tput.specs.Results.{holding_reply, init_strings, long_name, named_reply, number_text};
-ghost use Rattle.ti_tput.specs.Results.{padded_texts, padded_text, reply, reset_strings, sent_reply, string_reply};
+ghost use Rattle.ti_tput.specs.Results.{init_strings, long_name, number_text};
+ghost use Rattle.ti_tput.specs.inside.Results.{holding_reply, named_reply};
+ghost use Rattle.ti_tput.specs.Results.{reply, reset_strings};
+ghost use Rattle.ti_tput.specs.inside.Results.{padded_texts, padded_text, sent_reply, string_reply};
 ghost use Rattle.ti_tput.specs.inside.Replies.{made_bytes, given_texts};
 ghost use Rattle.ti_tput.specs.Replies.{reply_of};
 

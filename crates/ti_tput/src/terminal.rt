@@ -2,7 +2,8 @@
 ghost use Rattle.std.specs.Prelude.{◌≡◌, ◌==◌, ℕ, IfOk};
 ghost use Rattle.ti_devices.specs.Counted.{observation};
 ghost use Rattle.ti_layout.specs.View.{Entry, shown_entry};
-ghost use Rattle.ti_tput.specs.Runs.{Course, line_step, run_status, lines_start};
+ghost use Rattle.ti_tput.specs.Runs.{Course, run_status, lines_start};
+ghost use Rattle.ti_tput.specs.inside.Runs.{line_step};
 
 use crate::commands::answer;
 use crate::entries::terminal_line;

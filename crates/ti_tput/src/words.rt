@@ -1,7 +1,8 @@
 //! The words of a line.
 ghost use Rattle.std.specs.Prelude.{◌≡◌, ◌∷◌, ◌<◌, [], MatchOption, length, map, not, position, take};
 ghost use Rattle.ti_text.specs.WhiteSpace.{is_white_space};
-ghost use Rattle.ti_tput.specs.Runs.{words_of, words_seen};
+ghost use Rattle.ti_tput.specs.Runs.{words_of};
+ghost use Rattle.ti_tput.specs.inside.Runs.{words_seen};
 
 use arrayvec::ArrayVec;
 use ti_text::is_white_space;

@@ -9,3 +9,10 @@ loop-text-init c =
     let start = checked_to_start source _ _ (texts_single c.blocks_are_single.ensures c.each_has_cut.ensures source)
     c.blocks-cut.ensures.cut c.blocks-cut.ensures.preface c.blocks-cut.ensures.blocks in
     rw c.preface-offset.ensures start
+
+pub loop-text-preserved : goal.loop-text-preserved
+loop-text-preserved c =
+    let source = c.args.source.now in
+    let now = subst (λ (rest : List (List ℕ)). IsCheckedTo source c.loop-text.offset c.loop-text.count rest) c.in-Some.ensures.steps.0 c.loop-text.invariant in
+    let short : length (with_last_newline c.in-Some.text.now) ≤ 1048576 = omega (arith, c.ended_len.ensures) in
+    checked_to_next c.lines_add.ensures source _ _ c.in-Some.text.now _ now short (omega arith)

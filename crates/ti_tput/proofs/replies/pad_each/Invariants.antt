@@ -1,7 +1,7 @@
 use Rattle.std.proofs.Common.{◌≡◌, Some, drop}
 use Rattle.ti_tput.specs.inside.Replies.{given_texts}
 use Rattle.ti_text.specs.Lists.{both_lists}
-use Rattle.ti_tput.specs.Results.{padded_texts}
+use Rattle.ti_tput.specs.inside.Results.{padded_texts}
 use Rattle.ti_tput.proofs.replies.pad_each.Given as goal
 
 -- the strings so far, and what is left of them

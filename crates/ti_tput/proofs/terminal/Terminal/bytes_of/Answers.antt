@@ -1,7 +1,8 @@
 use Rattle.std.proofs.Common.{◌≡◌, ◌<◌, ◌∙◌, List, ℕ, length, map, take, refl, rules, sym, subst, arith, Bor}
 use Rattle.std.proofs.lemmas.Bool.{eqb-false, eqb-true}
 use Rattle.std.proofs.lemmas.List.{length-map}
-use Rattle.ti_tput.specs.Runs.{line_step, words_of, words_seen}
+use Rattle.ti_tput.specs.Runs.{words_of}
+use Rattle.ti_tput.specs.inside.Runs.{line_step, words_seen}
 use Rattle.ti_tput.specs.inside.Terminal.{HasCourse}
 use Rattle.ti_tput.specs.declared.terminal.Terminal.{Terminal}
 use Rattle.ti_tput.proofs.Terminals.{HasCourse-bad, HasCourse-good, HasCourse-usage, of_rate}

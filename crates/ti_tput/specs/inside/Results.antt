@@ -1,0 +1,66 @@
+-- What `tput` answers to a command, computed (own).
+use Rattle.std.specs.Prelude.{ℕ, nat_lt, if◌then◌else◌, Option, Some, None, ℤ}
+use Rattle.std.specs.Prelude.{List, [], ◌∷◌, length, codes, bytes_eq}
+use Rattle.ti_text.specs.Lists.{both_lists}
+use Rattle.ti_text.specs.Limits.{parameters_max}
+use Rattle.ti_param.specs.inside.Expansion.{Expansion, expanded, bad_format, stack_full, format_expansion}
+use Rattle.ti_printing.specs.declared.padding.Line.{Line}
+use Rattle.ti_printing.specs.Padding.{pad_bytes_max}
+use Rattle.ti_printing.specs.inside.Padding.{with_pad_bytes, padding_of}
+use Rattle.ti_layout.specs.View.{Entry}
+use Rattle.ti_tput.specs.Entries.{Holding, flag_held, number_held, text_held, holding_of, line_at_rate}
+use Rattle.ti_tput.specs.Parameters.{parameters}
+use Rattle.ti_tput.specs.Results.{Reply, reply, init_strings, long_name, number_text, reset_strings}
+
+-- ---- strings
+
+-- a string padded for one line; None where that is too much padding
+abbrev pub padded_text : Line → List ℕ → Option (List ℕ)
+padded_text line text = if nat_lt pad_bytes_max (padding_of text 1 line) then None else Some (with_pad_bytes text 1 line)
+
+-- A string that was padded is written, and the variables are then those after it. One with too much padding is refused: nothing
+-- is written, status 4, and the variables are as before.
+abbrev pub sent_reply : Option (List ℕ) → (before after : List ℤ) → Reply
+sent_reply None before after = reply [] 4 before
+sent_reply (Some bytes) before after = reply bytes 0 after
+
+-- the string that an expansion gives; a fault of the format is refused alike
+abbrev pub expansion_reply : Line → List ℤ → Expansion → Reply
+expansion_reply line before (expanded output after) = sent_reply (padded_text line output) before after
+expansion_reply line before (bad_format place) = reply [] 4 before
+expansion_reply line before (stack_full place) = reply [] 4 before
+
+-- a string as it stands where there is no word, else expanded with the words
+abbrev pub string_reply : Line → List ℕ → List (List ℕ) → List ℤ → List ℕ → Reply
+string_reply line cap [] statics text = sent_reply (padded_text line text) statics statics
+string_reply line cap (word ∷ words) statics text = expansion_reply line statics (format_expansion text (parameters cap (word ∷ words)) statics)
+
+-- those of the strings that are present, each padded for itself, in order; None where one has too much padding
+abbrev pub padded_texts : Line → List (Option (List ℕ)) → Option (List ℕ)
+padded_texts line [] = Some []
+padded_texts line (None ∷ texts) = padded_texts line texts
+padded_texts line (Some text ∷ texts) = both_lists (padded_text line text) (padded_texts line texts)
+
+-- ---- commands
+
+-- what is answered of a capability: nothing is written of a flag or of a string that is absent, and the status is then 1
+abbrev pub holding_reply : Line → List ℕ → List (List ℕ) → List ℤ → Option Holding → Reply
+holding_reply line cap words statics None = reply [] 4 statics
+holding_reply line cap words statics (Some (flag_held set)) = reply [] (if set then 0 else 1) statics
+holding_reply line cap words statics (Some (number_held n)) = reply (number_text n) 0 statics
+holding_reply line cap words statics (Some (text_held None)) = reply [] 1 statics
+holding_reply line cap words statics (Some (text_held (Some text))) = string_reply line cap words statics text
+
+-- what is answered to a name with these words after it
+abbrev pub named_reply : Entry → ℕ → List ℕ → List (List ℕ) → List ℤ → Reply
+named_reply entry rate cap words statics =
+    if bytes_eq cap (codes "longname") then reply (long_name entry.names) 0 statics
+    else if bytes_eq cap (codes "init") then sent_reply (padded_texts (line_at_rate entry rate) (init_strings entry)) statics statics
+    else if bytes_eq cap (codes "reset") then sent_reply (padded_texts (line_at_rate entry rate) (reset_strings entry)) statics statics
+    else holding_reply (line_at_rate entry rate) cap words statics (holding_of entry cap)
+
+-- What a command answers; None is bad usage: no word, or more than nine parameters.
+unfoldable pub tput_result : Entry → List (List ℕ) → ℕ → List ℤ → Option Reply
+tput_result entry [] rate statics = None
+tput_result entry (cap ∷ words) rate statics =
+    if nat_lt parameters_max (length words) then None else Some (named_reply entry rate cap words statics)
