@@ -8,15 +8,18 @@ use std::alloc::{AllocError, Global};
 use std::process::Abort;
 use ti_base::{Database, Edit, EditError, Outcome, run};
 
+/// The insertions of these blocks, each behind those before it.
+fn insertions_of<'a>(alloc: Global, texts: &[&'a [u8]]) -> Result<Vec<Edit<'a>>, AllocError> {
+    let mut edits = Vec::with_capacity(alloc, texts.len())?;
+    for (at, text) in texts.iter().enumerate() {
+        edits.push(Edit::Insert { at, text })?;
+    }
+    Ok(edits)
+}
+
 /// The source that a run of insertions makes of these blocks; if one is refused, why the first was.
 fn run_of(alloc: Global, texts: &[&[u8]]) -> Result<Database, EditError> {
-    let mut edits = Vec::with_capacity(alloc, texts.len())?;
-    for text in texts {
-        edits.push(Edit::Insert {
-            at: edits.len(),
-            text,
-        })?;
-    }
+    let edits = insertions_of(alloc, texts)?;
     let (database, outcomes) = run(alloc, &edits)?;
     for outcome in &outcomes {
         if let Outcome::Refused(error) = *outcome {
