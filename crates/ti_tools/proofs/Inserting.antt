@@ -1,8 +1,8 @@
 -- What a run of insertions comes to, of the blocks of a source, and what a newline at the end changes.
-use Rattle.std.proofs.Common.{◌≡◌, ◌⊎◌, ℕ, suc, ◌==◌, Bool, false, List, [], ◌∷◌, ◌++◌, Option, Some, None, length, map, insert, refl, sym, ap, ◌∙◌, subst, arith}
+use Rattle.std.proofs.Common.{◌≡◌, ◌⊎◌, ℕ, suc, ◌==◌, All, false, List, [], ◌∷◌, ◌++◌, Option, Some, None, length, map, insert, refl, sym, ap, ◌∙◌, subst, arith}
 use Rattle.std.proofs.lemmas.List.{append_assoc, length-append, map-append}
 use Rattle.std.proofs.Math.Seq.{drop-length, take-length}
-use Rattle.ti_source.specs.Cutting.{last_byte}
+use Rattle.ti_source.specs.Cutting.{OneBlock, blocks_from_head, last_byte}
 use Rattle.ti_meaning.specs.Edits.{Change, EditRun, change_of, insertion}
 use Rattle.ti_meaning.specs.declared.edits.Edit.{Edit}
 use Rattle.ti_meaning.specs.declared.edits.EditError.{EditError}
@@ -13,7 +13,7 @@ use Rattle.ti_devices.specs.declared.tool_error.ToolError.{ToolError}
 use Rattle.ti_tools.specs.Sources.{AreTaken, IsSourceRefusal, source_texts, with_last_newline}
 use Rattle.ti_tools.specs.inside.Loading.{first_refusal, insertions}
 use Rattle.ti_tools.proofs.Ending.{ended-of_newline, last_byte-newline}
-use Rattle.ti_tools.proofs.Refusing.{IsTakenTo, refused_next, taken_to_end, taken_to_next}
+use Rattle.ti_tools.proofs.Refusing.{IsTakenTo, refused_next, taken_to_end, taken_to_next, taken_to_start}
 
 insert-end : (texts : List (List ℕ)) (text : List ℕ) → insert texts (length texts) text ≡ texts ++ text ∷ []
 insert-end texts text = rw (take-length texts, drop-length texts)
@@ -36,6 +36,14 @@ taken_by_run source blocks (block ∷ rest) (Accepted ∷ outcomes) last to run 
     (subst (λ (k : ℕ). EditRun (blocks ++ block ∷ []) (insertions k rest) outcomes last) longer
     (subst (λ (texts : List (List ℕ)). EditRun texts (insertions (suc (length blocks)) rest) outcomes last) next run.2))
 taken_by_run source blocks (block ∷ rest) (Refused error ∷ outcomes) last to run = refused_next source blocks block rest error to run.1.0
+
+-- the same of all blocks of a source that ends with a newline
+pub inserted_by_run : (source : List ℕ) (changes : List Change) (outcomes : List Outcome) (last : List (List ℕ)) → All OneBlock (source_texts source) → last_byte 10 source ≡ 10
+    → changes ≡ insertions 0 (blocks_from_head 10 source) → EditRun [] changes outcomes last → IsRunOf source last (first_refusal outcomes)
+inserted_by_run source changes outcomes last single is_ended whole run =
+    let texts : blocks_from_head 10 source ≡ source_texts source = ap (blocks_from_head 10) (sym (ended-of_newline source is_ended)) in
+    taken_by_run source [] (source_texts source) outcomes last (taken_to_start source single)
+    (subst (λ (cs : List Change). EditRun [] cs outcomes last) (whole ∙ ap (insertions 0) texts) run)
 
 -- one more insertion is made of the blocks that are left
 pub one_more : (edits : List Edit) (edit : Edit) (text : List ℕ) (rest : List (List ℕ)) (all : List Change) → change_of edit ≡ insertion (length edits) text

@@ -1,5 +1,5 @@
 -- Going over the blocks of a source: those before a place are taken, and the next is, or is refused.
-use Rattle.std.proofs.Common.{◌≡◌, ◌⊎◌, ◌==◌, ℕ, suc, ◌+◌, ◌<◌, ◌≤◌, Unit, All, List, [], ◌∷◌, ◌++◌, length, map, take, refl, sym, ap, subst, ◌∙◌, inl, inr, arith}
+use Rattle.std.proofs.Common.{◌≡◌, ◌⊎◌, ◌==◌, ℕ, suc, ◌+◌, ◌<◌, ◌≤◌, All, List, [], ◌∷◌, ◌++◌, length, map, take, refl, sym, ap, subst, ◌∙◌, inl, inr, arith}
 use Rattle.std.specs.List.{concat, sum_by}
 use Rattle.std.proofs.lemmas.Bool.{cases_Bool, eqb-true}
 use Rattle.std.proofs.lemmas.List.{append-nil, append_assoc, length-append, take_at}
@@ -145,7 +145,7 @@ taken_to_end source blocks to =
     let all : source_texts source ≡ blocks = to.whole ∙ append-nil blocks in
     (sym all, subst AreTaken (sym all) to.taken)
 
-first_refused : (source : List ℕ) (blocks : List (List ℕ)) (block : List ℕ) (rest : List (List ℕ)) (cause : EditError) → IsTakenTo source blocks (block ∷ rest)
+abbrev first_refused : (source : List ℕ) (blocks : List (List ℕ)) (block : List ℕ) (rest : List (List ℕ)) (cause : EditError) → IsTakenTo source blocks (block ∷ rest)
     → IsRefusal blocks (insertion (length blocks) block) cause → IsFirstRefused (source_texts source) cause
 first_refused source blocks block rest cause to refused = record {
   front = blocks;
@@ -252,7 +252,7 @@ pub checked_too_long : (source : List ℕ) (offset count : ℕ) (block : List �
 checked_too_long source offset count block rest line c long is_line =
     let end : length c.blocks ≤ length c.blocks = omega arith in
     let first = first_refused source c.blocks (with_last_newline block) (map with_last_newline rest) TooLong c.to (end, long) in
-    let front : take offset source ≡ c.seen = ap (take offset) c.whole ∙ take_at c.seen (concat (block ∷ rest)) offset c.at in
+    let front : take offset source ≡ c.seen = ap (take offset) c.whole ∙ take_at c.seen (concat (block ∷ rest)) offset (sym c.at) in
     let seen : line ≡ line_count c.seen + 1 = is_line ∙ ap (λ (text : List ℕ). line_count text + 1) front in
     (first, elim c.line [ inl none ↦ absurd (cc) | inr e ↦ seen ∙ e ])
 

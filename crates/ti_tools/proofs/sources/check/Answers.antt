@@ -1,6 +1,6 @@
-use Rattle.std.proofs.Common.{◌≤◌, ◌∙◌, List, ℕ, ap, arith, length, sym, subst}
+use Rattle.std.proofs.Common.{◌≤◌, ◌<◌, ◌+◌, List, ℕ, ap, arith, length, subst}
 use Rattle.ti_tools.specs.Sources.{with_last_newline}
-use Rattle.ti_tools.proofs.Refusing.{IsCheckedTo, checked_to_next, checked_to_start, checked_too_long, checked_too_many, taken_to_end, texts_single}
+use Rattle.ti_tools.proofs.Refusing.{IsCheckedTo, checked_to_next, checked_to_start, checked_too_long, checked_too_many, texts_single}
 use Rattle.ti_tools.proofs.sources.check.Goals as goal
 
 pub loop-text-init : goal.loop-text-init
@@ -16,3 +16,17 @@ loop-text-preserved c =
     let now = subst (λ (rest : List (List ℕ)). IsCheckedTo source c.loop-text.offset c.loop-text.count rest) c.in-Some.ensures.steps.0 c.loop-text.invariant in
     let short : length (with_last_newline c.in-Some.text.now) ≤ 1048576 = omega (arith, c.ended_len.ensures) in
     checked_to_next c.lines_add.ensures source _ _ c.in-Some.text.now _ now short (omega arith)
+
+pub returns-then-ended_len-gt-BLOCK_BYTES_MAX-clause-refused : goal.returns-then-ended_len-gt-BLOCK_BYTES_MAX-clause-refused
+returns-then-ended_len-gt-BLOCK_BYTES_MAX-clause-refused c =
+    let source = c.args.source.now in
+    let now = subst (λ (rest : List (List ℕ)). IsCheckedTo source c.loop-text.offset c.loop-text.count rest) c.in-Some.ensures.steps.0 c.loop-text.invariant in
+    let long : 1048576 < length (with_last_newline c.in-Some.text.now) = omega (arith, c.ended_len.ensures) in
+    checked_too_long source c.loop-text.offset c.loop-text.count c.in-Some.text.now _ _ now (λ short. omega (arith, short, long)) (ap (λ n. n + 1) c.count_lines.ensures.lines)
+
+pub returns-then-count-ge-BLOCKS_MAX-clause-refused : goal.returns-then-count-ge-BLOCKS_MAX-clause-refused
+returns-then-count-ge-BLOCKS_MAX-clause-refused c =
+    let source = c.args.source.now in
+    let now = subst (λ (rest : List (List ℕ)). IsCheckedTo source c.loop-text.offset c.loop-text.count rest) c.in-Some.ensures.steps.0 c.loop-text.invariant in
+    let short : length (with_last_newline c.in-Some.text.now) ≤ 1048576 = omega (arith, c.ended_len.ensures) in
+    checked_too_many source c.loop-text.offset c.loop-text.count c.in-Some.text.now _ now short (omega arith)
