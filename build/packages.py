@@ -131,6 +131,8 @@ def document(package, stage, when):
     write(os.path.join(documents, "changelog.Debian.gz"), compressed(fill("changelog", values)))
     with contextlib.suppress(FileNotFoundError):
         write(os.path.join(documents, "changelog.gz"), compressed(text_of("CHANGELOG.md").encode()))
+    overrides = os.path.join(stage, "usr", "share", "lintian", "overrides", package)
+    write(overrides, fill(f"{package}.overrides", {}))
     pages = os.path.join(stage, "usr", "share", "man")
     for name in files_below(pages):
         page = os.path.join(pages, name)
@@ -150,6 +152,9 @@ def control(package, stage, architecture, needs):
     write(os.path.join(stage, "DEBIAN", "control"), fill(f"{package}.control", values))
     sums = []
     for name in paths:
+        # a link has no sum of its own
+        if os.path.islink(os.path.join(stage, name)):
+            continue
         with open(os.path.join(stage, name), "rb") as file:
             sums.append(f"{hashlib.md5(file.read()).hexdigest()}  {name}\n")
     write(os.path.join(stage, "DEBIAN", "md5sums"), "".join(sums).encode())
@@ -201,7 +206,6 @@ def make_deb(made):
                 place = os.path.join(stage, "usr", "share", "doc", "ti", os.path.basename(name))
                 write(place, text_of(name).encode())
         write(os.path.join(stage, "usr", "share", "doc", "ti", "README.Debian"), fill("README.Debian", {}))
-        write(os.path.join(stage, "usr", "share", "lintian", "overrides", "ti"), fill("ti.overrides", {}))
         has_library = split(stage, other)
         needs = library_needs(os.path.join(stage, "usr", "bin", "ti"))
         yield build_deb(made, "ti", stage, architecture, needs)
