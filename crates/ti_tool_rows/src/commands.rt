@@ -198,7 +198,7 @@ Options:
   -h, --help  Print help
 
 The report of the faults in the source goes to standard error. A block without
-error gets its files also where another block has one. The tools look for an
+error gets its files also if another block has one. The tools look for an
 entry in $TERMINFO, $TERMINFO_DIRS and /usr/share/terminfo alone.
 
 Exit status:
