@@ -12,7 +12,7 @@ use Rattle.ti_source.specs.Parsing.{reading_of_text}
 use Rattle.ti_meaning.specs.Owner.{is_among, readings}
 use Rattle.ti_meaning.specs.Edits.{Change, IsInPlace, IsSoundEdit, list_after, insertion, replacement, removal, relocation}
 use Rattle.ti_meaning.specs.Exchange.{HasPlace, Exchange, IsExchange, exchange_of, block_from}
-use Rattle.ti_meaning.specs.Dependents.{AreDependents, IsDependent, Rebuilds, lookup_names_of, work}
+use Rattle.ti_meaning.specs.Dependents.{AreDependents, IsDependent, lookup_names_of, work}
 use Rattle.ti_meaning.proofs.EditedLists.{map-insert, map-remove, insert-remove, length-relocated}
 use Rattle.ti_meaning.proofs.Exchanging.{list_any-append}
 use Rattle.ti_meaning.proofs.Placing.{get-insert, get-insert_at, split-insert}
@@ -21,12 +21,13 @@ use Rattle.ti_slots.specs.declared.slots.Slots.{Slots}
 use Rattle.ti_slots.specs.Slots.{blocks_of, slot_texts}
 use Rattle.ti_slots.specs.Settled.{IsSettled}
 use Rattle.ti_dependents.specs.Dependents.{IsExchangeOf}
-use Rattle.ti_plan.specs.Plans.{OthersAreSettled, IsReady}
+use Rattle.ti_plan.specs.Plans.{OthersAreSettled}
 use Rattle.ti_base.specs.inside.Database.{AreRead, SlotsAreSettled, SlotsAreSound, IsSoundSlot, PlacedSlot, slots_of, reading_seen, text_seen, with_slot, block_seen, exchange_with, with_settled}
-use Rattle.ti_base.specs.inside.Exchanges.{out_position, put_position, new_text, IsNewOf, names_seen, without, slot_out, slot_put, spare_after, placed, placed_put, with_exchange, IsOfSlots, CanExchange, IsExchanged}
+use Rattle.ti_base.specs.inside.Texts.{IsBlockText}
+use Rattle.ti_base.specs.inside.Exchanges.{out_position, put_position, new_text, IsNewOf, names_seen, without, slot_out, slot_put, spare_after, placed, placed_put, with_exchange, IsOfSlots, CanExchange, IsMade, IsUndone, IsEdited}
 use Rattle.ti_base.proofs.SlotLists.{AreFilled, are_filled, blocks_seen, texts_seen, length_slots, length_texts, slot_there, blocks_read, readings_with}
 use Rattle.ti_base.proofs.Untouched.{others_settled, settled_in}
-use Rattle.ti_base.proofs.SlotExchanges.{gone, fits_slots}
+use Rattle.ti_base.proofs.SlotExchanges.{gone, fits_slots, exchanged_back}
 
 -- ---- sound slots
 
@@ -70,12 +71,13 @@ can_edit slots (insertion at text) None h l n = absurd (none-some text n.text)
 can_edit slots (insertion at text) (Some new) h l n = record {
   indexed = h.indexed;
   out = tt;
-  put = (let m : at ≤ length slots.order.listed = omega (arith, length_texts slots) in m);
+  put = (let k : at ≤ length (slot_texts slots) = l in let m : at ≤ length slots.order.listed = omega (arith, length_texts slots) in m);
   slots = refl;
   room = n.room;
 }
 can_edit slots (replacement at text) None h l n = absurd (none-some text n.text)
 can_edit slots (replacement at text) (Some new) h l n =
+    let k : at < length (slot_texts slots) = l in
     let m : at < length slots.order.listed = omega (arith, length_texts slots) in
     let left = length-remove slots.order.listed at m in
     record {
@@ -88,22 +90,31 @@ can_edit slots (replacement at text) (Some new) h l n =
 can_edit slots (removal at) (Some new) h l n = absurd (none-some new.text.items (sym n.text))
 can_edit slots (removal at) None h l n = record {
   indexed = h.indexed;
-  out = (let m : at < length slots.order.listed = omega (arith, length_texts slots) in m);
+  out = (let k : at < length (slot_texts slots) = l in let m : at < length slots.order.listed = omega (arith, length_texts slots) in m);
   put = tt;
   slots = refl;
   room = tt;
 }
 can_edit slots (relocation from to) (Some new) h l n = absurd (none-some new.text.items (sym n.text))
 can_edit slots (relocation from to) None h l n =
-    let m : from < length slots.order.listed = (let k = l.0 in omega (arith, length_texts slots)) in
+    let f : from < length (slot_texts slots) = l.0 in
+    let t : to < length (slot_texts slots) = l.1 in
+    let m : from < length slots.order.listed = omega (arith, length_texts slots) in
     let left = length-remove slots.order.listed from m in
     record {
       indexed = h.indexed;
       out = m;
-      put = (let k : to ≤ length (remove slots.order.listed from) = (let k = l.1 in omega (arith, length_texts slots)) in k);
+      put = (let k : to ≤ length (remove slots.order.listed from) = omega (arith, length_texts slots) in k);
       slots = tt;
       room = tt;
     }
+
+-- the text that an edit brings is that of a block
+pub new_is_block : (texts : List (List ℕ)) (change : Change) (text : List ℕ) → IsSoundEdit texts change → Some text ≡ new_text change → IsBlockText text
+new_is_block texts (insertion at one) text h e = subst IsBlockText (sym (same_Some text one e)) (record { block = h.block; short = h.short })
+new_is_block texts (replacement at one) text h e = subst IsBlockText (sym (same_Some text one e)) (record { block = h.block; short = h.short })
+new_is_block texts (removal at) text h e = absurd (none-some text (sym e))
+new_is_block texts (relocation from to) text h e = absurd (none-some text (sym e))
 
 insert-set : {X : Type 0} (xs : List X) (at : ℕ) (x : X) → at < length xs → insert (remove xs at) at x ≡ set xs at x
 insert-set [] at x l = absurd (omega arith)
@@ -116,6 +127,7 @@ texts_after xs (insertion at text) None f l e = absurd (none-some text e)
 texts_after xs (insertion at text) (Some new) f l e = map-insert text_seen xs at (Some new) ∙ ap (insert (map text_seen xs) at) (same_Some new.text.items text e)
 texts_after xs (replacement at text) None f l e = absurd (none-some text e)
 texts_after xs (replacement at text) (Some new) f l e =
+    let k : at < length (map text_seen xs) = l in
     let m : at < length xs = omega (arith, length-map xs text_seen) in
     let there = f at m in
     let put : Option Slot = Some (with_settled there.0.settled new) in
@@ -125,13 +137,15 @@ texts_after xs (removal at) (Some new) f l e = absurd (none-some new.text.items 
 texts_after xs (removal at) None f l e = map-remove text_seen xs at
 texts_after xs (relocation from to) (Some new) f l e = absurd (none-some new.text.items (sym e))
 texts_after xs (relocation from to) None f l e =
-    let there = f from (let m : from < length xs = (let k = l.0 in omega (arith, length-map xs text_seen)) in m) in
+    let k : from < length (map text_seen xs) = l.0 in
+    let m : from < length xs = omega (arith, length-map xs text_seen) in
+    let there = f from m in
     rw (slice_get-map text_seen xs from, there.1) (map-insert text_seen (remove xs from) to (Some there.0) ∙ ap (λ ts. insert ts to there.0.text.items) (map-remove text_seen xs from))
 
 few_after : (texts : List (List ℕ)) (change : Change) → IsSoundEdit texts change → length texts ≤ blocks_max → length (list_after texts change) ≤ blocks_max
-few_after texts (insertion at text) h l = (let n = length-insert texts at text h.in_place in let k : length texts < blocks_max = h.room in omega arith)
+few_after texts (insertion at text) h l = (let n = length-insert texts at text h.in_place in let k : length texts < blocks_max = h.room in let m : length (insert texts at text) ≤ blocks_max = omega arith in m)
 few_after texts (replacement at text) h l = rw (length-set texts at text) l
-few_after texts (removal at) h l = (let n = length-remove texts at h.in_place in omega arith)
+few_after texts (removal at) h l = (let n = length-remove texts at h.in_place in let m : length (remove texts at) ≤ blocks_max = omega arith in m)
 few_after texts (relocation from to) h l = rw (length-relocated texts from to h.in_place.0 h.in_place.1) l
 
 readings_seen : (slots : Slots) → AreRead slots → readings (slot_texts slots) ≡ map reading_seen (slots_of slots)
@@ -146,40 +160,40 @@ block_there bs slots from to slot e s =
     let here : slice_get bs from ≡ Some (reading_of slot.block) = ap (λ xs. slice_get xs from) e ∙ (rw (slice_get-map reading_seen slots from, s) refl) in
     rw here refl
 
-text_there : (at : ℕ) (slot : Slot) → IsSoundSlot slot → Some (record { at = at; block = reading_of_text slot.text.items }) ≡ Some (block_seen (record { at = at; slot = slot }))
-text_there at slot h = ap (λ b. Some (record { at = at; block = b })) (sym h.read)
+text_there : (at : ℕ) (text : List ℕ) (new : Slot) → IsSoundSlot new → new.text.items ≡ text → Some (record { at = at; block = reading_of_text text }) ≡ Some (block_seen (record { at = at; slot = new }))
+text_there at text new h e = ap (λ b. Some (record { at = at; block = b })) (ap reading_of_text (sym e) ∙ sym h.read)
 
 -- the exchange of blocks that it is
-exchange_seen : (old : Slots) (change : Change) (spare : Option Slot) → AreRead old → IsInPlace (slot_texts old) change → IsNewOf old change spare → exchange_of (slot_texts old) change ≡ exchange_with (without (slots_of old) (out_position change)) (placed (out_position change) (slot_out (slots_of old) (out_position change))) (placed_put (slots_of old) (out_position change) (put_position change) spare)
-exchange_seen old change spare h l n = by_case change spare l n.text n.sound where
-  bs : List Reading
-  bs = readings (slot_texts old)
-  xs : List (Option Slot)
-  xs = slots_of old
-  filled : (at : ℕ) → at < length (slot_texts old) → (slot : Slot) × (slice_get xs at ≡ Some (Some slot))
-  filled at l = are_filled old h.indexed at (let m : at < length xs = omega (arith, length_texts old, length_slots old) in m)
-  left : (at : ℕ) → remove bs at ≡ map reading_seen (remove xs at)
-  left at = ap (λ bs. remove bs at) (readings_seen old h) ∙ sym (map-remove reading_seen xs at)
-  new_seen : (at : ℕ) (text : List ℕ) (new : Slot) → IsSoundSlot new → new.text.items ≡ text → Some (record { at = at; block = reading_of_text text }) ≡ Some (block_seen (record { at = at; slot = new }))
-  new_seen at text new sound e = ap (λ b. Some (record { at = at; block = b })) (ap reading_of_text (sym e) ∙ sym sound.read)
-  by_case : (change : Change) (spare : Option Slot) → IsInPlace (slot_texts old) change → option_map (λ slot. slot.text.items) spare ≡ new_text change → IfSome spare IsSoundSlot → exchange_of (slot_texts old) change ≡ exchange_with (without xs (out_position change)) (placed (out_position change) (slot_out xs (out_position change))) (placed_put xs (out_position change) (put_position change) spare)
-  by_case (insertion at text) None l e sound = absurd (none-some text e)
-  by_case (insertion at text) (Some new) l e sound =
-      exchange_same (exchange_of (slot_texts old) (insertion at text)) xs None (Some (record { at = at; slot = new })) (readings_seen old h) refl (new_seen at text new sound (same_Some new.text.items text e))
-  by_case (replacement at text) None l e sound = absurd (none-some text e)
-  by_case (replacement at text) (Some new) l e sound =
-      let there = filled at l in
-      rw there.1 (exchange_same (exchange_of (slot_texts old) (replacement at text)) (remove xs at) (Some (record { at = at; slot = there.0 })) (Some (record { at = at; slot = with_settled there.0.settled new }))
-      (left at) (block_there bs xs at at there.0 (readings_seen old h) there.1) (new_seen at text new sound (same_Some new.text.items text e)))
-  by_case (removal at) (Some new) l e sound = absurd (none-some new.text.items (sym e))
-  by_case (removal at) None l e sound =
-      let there = filled at l in
-      rw there.1 (exchange_same (exchange_of (slot_texts old) (removal at)) (remove xs at) (Some (record { at = at; slot = there.0 })) None (left at) (block_there bs xs at at there.0 (readings_seen old h) there.1) refl)
-  by_case (relocation from to) (Some new) l e sound = absurd (none-some new.text.items (sym e))
-  by_case (relocation from to) None l e sound =
-      let there = filled from l.0 in
-      rw there.1 (exchange_same (exchange_of (slot_texts old) (relocation from to)) (remove xs from) (Some (record { at = from; slot = there.0 })) (Some (record { at = to; slot = there.0 }))
-      (left from) (block_there bs xs from from there.0 (readings_seen old h) there.1) (block_there bs xs from to there.0 (readings_seen old h) there.1))
+abbrev seen_by : (old : Slots) (change : Change) (spare : Option Slot) → Type 0
+seen_by old change spare =
+    exchange_of (slot_texts old) change
+    ≡ exchange_with (without (slots_of old) (out_position change)) (placed (out_position change) (slot_out (slots_of old) (out_position change))) (placed_put (slots_of old) (out_position change) (put_position change) spare)
+
+there_in : (old : Slots) (at : ℕ) → AreRead old → at < length (slot_texts old) → (slot : Slot) × (slice_get (slots_of old) at ≡ Some (Some slot))
+there_in old at h l = are_filled old h.indexed at (let m : at < length (slots_of old) = omega (arith, length_texts old, length_slots old) in m)
+
+left_in : (old : Slots) (at : ℕ) → AreRead old → remove (readings (slot_texts old)) at ≡ map reading_seen (remove (slots_of old) at)
+left_in old at h = ap (λ bs. remove bs at) (readings_seen old h) ∙ sym (map-remove reading_seen (slots_of old) at)
+
+exchange_seen : (old : Slots) (change : Change) (spare : Option Slot) → AreRead old → IsInPlace (slot_texts old) change → IsNewOf old change spare → seen_by old change spare
+exchange_seen old (insertion at text) None h l n = absurd (none-some text n.text)
+exchange_seen old (insertion at text) (Some new) h l n =
+    exchange_same (exchange_of (slot_texts old) (insertion at text)) (slots_of old) None (Some (record { at = at; slot = new })) (readings_seen old h) refl (text_there at text new n.sound (same_Some new.text.items text n.text))
+exchange_seen old (replacement at text) None h l n = absurd (none-some text n.text)
+exchange_seen old (replacement at text) (Some new) h l n =
+    let there = there_in old at h l in
+    rw there.1 (exchange_same (exchange_of (slot_texts old) (replacement at text)) (remove (slots_of old) at) (Some (record { at = at; slot = there.0 })) (Some (record { at = at; slot = with_settled there.0.settled new }))
+    (left_in old at h) (block_there (readings (slot_texts old)) (slots_of old) at at there.0 (readings_seen old h) there.1) (text_there at text new n.sound (same_Some new.text.items text n.text)))
+exchange_seen old (removal at) (Some new) h l n = absurd (none-some new.text.items (sym n.text))
+exchange_seen old (removal at) None h l n =
+    let there = there_in old at h l in
+    rw there.1 (exchange_same (exchange_of (slot_texts old) (removal at)) (remove (slots_of old) at) (Some (record { at = at; slot = there.0 })) None
+    (left_in old at h) (block_there (readings (slot_texts old)) (slots_of old) at at there.0 (readings_seen old h) there.1) refl)
+exchange_seen old (relocation from to) (Some new) h l n = absurd (none-some new.text.items (sym n.text))
+exchange_seen old (relocation from to) None h l n =
+    let there = there_in old from h l.0 in
+    rw there.1 (exchange_same (exchange_of (slot_texts old) (relocation from to)) (remove (slots_of old) from) (Some (record { at = from; slot = there.0 })) (Some (record { at = to; slot = there.0 }))
+    (left_in old from h) (block_there (readings (slot_texts old)) (slots_of old) from from there.0 (readings_seen old h) there.1) (block_there (readings (slot_texts old)) (slots_of old) from to there.0 (readings_seen old h) there.1))
 
 -- ---- a block taken out that has the names of the block put in
 
@@ -213,11 +227,11 @@ old_slots xs (Some at) f l = let there = f at l in rw there.1 (sym (insert-remov
 placed_fits : (rest : List (Option Slot)) (at : Option ℕ) (slot : Option Slot) → IfSome at (λ k. k ≤ length rest) → HasPlace (map reading_seen rest) (option_map block_seen (placed at slot))
 placed_fits rest None slot l = tt
 placed_fits rest (Some at) None l = tt
-placed_fits rest (Some at) (Some slot) l = rw (length-map rest reading_seen) l
+placed_fits rest (Some at) (Some slot) l = (let k : at ≤ length rest = l in let m : at ≤ length (map reading_seen rest) = omega (arith, length-map rest reading_seen) in m)
 
 out_fits : (xs : List (Option Slot)) (out : Option ℕ) → IfSome out (λ at. at < length xs) → IfSome out (λ at. at ≤ length (without xs out))
 out_fits xs None l = tt
-out_fits xs (Some at) l = (let n = length-remove xs at l in omega arith)
+out_fits xs (Some at) l = (let k : at < length xs = l in let n = length-remove xs at k in let m : at ≤ length (remove xs at) = omega arith in m)
 
 names_out : (out put : Option ℕ) (after : Option Slot) → IsOfSlots put out after → lookup_names_of (option_map block_seen (placed out after)) ≡ names_seen after
 names_out None None after h = absurd h
@@ -232,14 +246,7 @@ others_ready new rest out put fits before is at other stands free slot e =
     let blocks : map reading_seen (with_slot rest put) ≡ blocks_of new = ap (map reading_seen) (sym is) ∙ sym (blocks_seen new) in
     subst (λ r. IsSettled (blocks_of new) at r slot.settled) (sym (ap reading_seen e)) (settled_in (map reading_seen (with_slot rest put)) (blocks_of new) at (reading_of slot.block) slot.settled blocks now)
 
--- the list after an edit, what planning asks of it, and what is rebuilt, given by the id of the block put in and the names of that which is spare
-pub record IsEdited (old new : Slots) (change : Change) (id : Option ℕ) (names : List (List ℕ)) : Type 0 where
-  pub read : AreRead new
-  pub texts : slot_texts new ≡ list_after (slot_texts old) change
-  pub ready : SlotsAreSettled (slots_of old) → IsReady new id names
-  pub rebuilds : (places : List ℕ) (steps : ℕ) → ((e : Exchange) → IsExchangeOf new id names e → AreDependents e places) → steps ≡ work (blocks_of new) places → Rebuilds (slot_texts old) change places steps
-
-pub edited : (old new : Slots) (change : Change) (spare after : Option Slot) (id : Option ℕ) → AreRead old → IsSoundEdit (slot_texts old) change → IsNewOf old change spare → IsExchanged old new (out_position change) (put_position change) spare after id → IsEdited old new change id (names_seen after)
+pub edited : (old new : Slots) (change : Change) (spare after : Option Slot) (id : Option ℕ) → AreRead old → IsSoundEdit (slot_texts old) change → IsNewOf old change spare → IsMade old new change spare after id → IsEdited old new change id (names_seen after)
 edited old new change spare after id h sound n x =
     let out = out_position change in
     let put = put_position change in
@@ -253,10 +260,10 @@ edited old new change spare after id h sound n x =
     let within = within_slots out can.out in
     let fits = fits_slots old out put can.put in
     let texts : slot_texts new ≡ list_after (slot_texts old) change =
-        texts_seen new ∙ (ap (map text_seen) x.slots ∙ (texts_after xs change spare filled (subst (λ ts. IsInPlace ts change) (texts_seen old) sound.in_place) n.text ∙ ap (λ ts. list_after ts change) (sym (texts_seen old)))) in
+    texts_seen new ∙ (ap (map text_seen) x.slots ∙ (texts_after xs change spare filled (subst (λ ts. IsInPlace ts change) (texts_seen old) sound.in_place) n.text ∙ ap (λ ts. list_after ts change) (sym (texts_seen old)))) in
     let read : AreRead new = record {
       indexed = x.back.indexed;
-      few = (let k = few_after (slot_texts old) change sound (rw (length_texts old) h.few) in rw (← length_texts new, texts) k);
+      few = (let k = few_after (slot_texts old) change sound (let n = h.few in omega (arith, length_texts old)) in let n : length (slot_texts new) ≡ length (list_after (slot_texts old) change) = ap (λ ts. length ts) texts in omega (arith, length_texts new));
       sound = subst SlotsAreSound (sym x.slots) (sound_exchanged xs out put spare fits h.sound n.sound);
     } in
     let put_fits : HasPlace (map reading_seen rest) (option_map block_seen come) = placed_fits rest put (slot_put (slot_out xs out) spare) fits in
@@ -267,12 +274,16 @@ edited old new change spare after id h sound n x =
       put_id = x.id;
     } in
     let same : (k : ℕ) → IsDependent (exchange_with rest was come) k ↔ IsDependent (exchange_with rest half come) k =
-        λ k. subst (λ s. IsDependent (exchange_with rest was come) k ↔ IsDependent (exchange_with rest (placed out s) come) k) (sym x.spare) (same_dependents xs out put spare filled within k) in
+    λ k. subst (λ s. IsDependent (exchange_with rest was come) k ↔ IsDependent (exchange_with rest (placed out s) come) k) (sym x.spare) (same_dependents xs out put spare filled within k) in
     record {
       read = read;
       texts = texts;
-      ready = λ settled. (exchange_with rest half come, is, λ at other stands free. others_ready new rest was come (record { out = placed_fits rest out (slot_out xs out) (out_fits xs out within); put = put_fits })
-          (subst SlotsAreSettled (old_slots xs out filled within) settled) x.slots at other stands (λ d. free ((same at).0 d)));
+      ready = λ settled. (
+        exchange_with rest half come,
+        is,
+        λ at other stands free. others_ready new rest was come (record { out = placed_fits rest out (slot_out xs out) (out_fits xs out within); put = put_fits })
+            (subst SlotsAreSettled (old_slots xs out filled within) settled) x.slots at other stands (λ d. free ((same at).0 d)),
+      );
       rebuilds = λ places steps dependents steps_are.
           let d = dependents (exchange_with rest half come) is in
           let all : AreDependents (exchange_with rest was come) places = record {
@@ -287,4 +298,12 @@ edited old new change spare after id h sound n x =
   where
     within_slots : (out : Option ℕ) → IfSome out (λ at. at < length old.order.listed) → IfSome out (λ at. at < length (slots_of old))
     within_slots None l = tt
-    within_slots (Some at) l = rw (length_slots old) l
+    within_slots (Some at) l = (let k : at < length old.order.listed = l in let m : at < length (slots_of old) = omega (arith, length_slots old) in m)
+
+-- ---- the way back
+
+pub edit_undone : (old new tried back : Slots) (change : Change) (spare after : Option Slot) (id : Option ℕ) → AreRead old → IsSoundEdit (slot_texts old) change → IsNewOf old change spare → IsMade old new change spare after id → tried ≡ new → IsUndone tried back change after → slots_of back ≡ slots_of old
+edit_undone old new tried back change spare after id h sound n made same undone =
+    undone.1
+    ∙ (ap (λ s. with_exchange (slots_of s) (put_position change) (out_position change) after) same
+    ∙ exchanged_back old new (out_position change) (put_position change) spare after id (can_edit old change spare h sound.in_place n) made)

@@ -123,7 +123,7 @@ exchanged_out old rest (Some at) spare taken can is =
       back = record {
         indexed = left.indexed;
         out = tt;
-        put = (let m : length rest.order.listed ≡ length (remove old.order.listed at) = ap (λ xs. length xs) left.listed in let l : at < length old.order.listed = can.out in omega arith);
+        put = (let m : length rest.order.listed ≡ length (remove old.order.listed at) = ap (λ xs. length xs) left.listed in let l : at < length old.order.listed = can.out in let k : at ≤ length rest.order.listed = omega arith in k);
         slots = rw is.1 refl;
         room = rw is.1 is.2.room;
       };
@@ -185,7 +185,13 @@ exchanged_put law old rest new out to id spare taken after slot can is put e f =
   where
     out_fits : (out : Option ℕ) → IfSome out (λ at. at < length old.order.listed) → remove new.order.listed to ≡ without old.order.listed out → IfSome out (λ at. at ≤ length (remove new.order.listed to))
     out_fits None l e = tt
-    out_fits (Some at) l e = (let n = length-remove old.order.listed at l in rw e (omega arith))
+    out_fits (Some at) l e =
+        let n = length-remove old.order.listed at l in
+        let m : length (remove new.order.listed to) ≡ length (remove old.order.listed at) = ap (λ xs. length xs) e in
+        let k : at < length old.order.listed = l in
+        let fits : at ≤ length (remove new.order.listed to) = omega arith in
+        fits
+
     of_slots : (out : Option ℕ) (spare taken after : Option Slot) → IsOut old rest out taken → after ≡ slot_left taken spare → IsOfSlots (Some to) out after
     of_slots None None taken after is f = f
     of_slots None (Some one) taken after is f = f ∙ ap (λ t. unsettled_as t one) is.1
@@ -195,8 +201,13 @@ exchanged_put law old rest new out to id spare taken after slot can is put e f =
 
 pub fits_slots : (slots : Slots) (out put : Option ℕ) → IfSome put (λ to. to ≤ length (without slots.order.listed out)) → IfSome put (λ to. to ≤ length (without (slots_of slots) out))
 fits_slots slots out None l = tt
-fits_slots slots None (Some to) l = rw (length_slots slots) l
-fits_slots slots (Some at) (Some to) l = rw (← map-remove (slot_at slots.slots.items) slots.order.listed at, length-map (remove slots.order.listed at) (slot_at slots.slots.items)) l
+fits_slots slots None (Some to) l = (let k : to ≤ length slots.order.listed = l in let m : to ≤ length (slots_of slots) = omega (arith, length_slots slots) in m)
+fits_slots slots (Some at) (Some to) l =
+    let f = slot_at slots.slots.items in
+    let n : length (remove (slots_of slots) at) ≡ length (remove slots.order.listed at) = ap (λ xs. length xs) (sym (map-remove f slots.order.listed at)) ∙ length-map (remove slots.order.listed at) f in
+    let k : to ≤ length (remove slots.order.listed at) = l in
+    let m : to ≤ length (remove (slots_of slots) at) = omega arith in
+    m
 
 back_at : (rest : List (Option Slot)) (to : ℕ) (x : Option Slot) → to ≤ length rest → (remove (insert rest to x) to ≡ rest) × (slot_out (insert rest to x) (Some to) ≡ x)
 back_at rest to x l = (remove-insert rest to x l, ap option_flatten (get-insert_at rest to x l))
@@ -209,20 +220,24 @@ undone xs None (Some to) (Some new) f s l m = remove-insert xs to (Some new) m
 undone xs (Some at) None spare f s l m = let there = f at l in rw there.1 (insert-remove xs at (Some there.0) there.1)
 undone xs (Some at) (Some to) None f s l m =
     let there = f at l in
-    let b = back_at (remove xs at) to (Some there.0) m in
-    rw (there.1, b.0, b.1) (insert-remove xs at (Some there.0) there.1)
+    let rest = remove xs at in
+    let put : Option Slot = Some there.0 in
+    let b = back_at rest to put m in
+    rw there.1 (ap (λ o. with_slot (remove (insert rest to put) to) (placed (Some at) (slot_put o None))) b.1 ∙ (ap (λ ys. insert ys at put) b.0 ∙ insert-remove xs at put there.1))
 undone xs (Some at) (Some to) (Some new) f s l m =
     let there = f at l in
-    let b = back_at (remove xs at) to (Some (with_settled there.0.settled new)) m in
-    rw (there.1, b.0, b.1) (insert-remove xs at (Some there.0) there.1)
+    let rest = remove xs at in
+    let put : Option Slot = Some (with_settled there.0.settled new) in
+    let b = back_at rest to put m in
+    rw there.1 (ap (λ o. with_slot (remove (insert rest to put) to) (placed (Some at) (slot_put o (Some (with_settled new.settled there.0))))) b.1
+    ∙ (ap (λ ys. insert ys at (Some there.0)) b.0 ∙ insert-remove xs at (Some there.0) there.1))
 
-pub exchanged_back : (old new back : Slots) (out put : Option ℕ) (spare after again : Option Slot) (id one : Option ℕ) → CanExchange old out put spare → IsExchanged old new out put spare after id → IsExchanged new back put out after again one → slots_of back ≡ slots_of old
-exchanged_back old new back out put spare after again id one can x y =
-    y.slots
-    ∙ (ap (λ a. with_exchange (slots_of new) put out a) x.spare
+pub exchanged_back : (old new : Slots) (out put : Option ℕ) (spare after : Option Slot) (id : Option ℕ) → CanExchange old out put spare → IsExchanged old new out put spare after id → with_exchange (slots_of new) put out after ≡ slots_of old
+exchanged_back old new out put spare after id can x =
+    ap (λ a. with_exchange (slots_of new) put out a) x.spare
     ∙ (ap (λ xs. with_exchange xs put out (spare_after put (slot_out (slots_of old) out) spare)) x.slots
-    ∙ undone (slots_of old) out put spare (are_filled old can.indexed) can.slots (out_within out can.out) (fits_slots old out put can.put)))
+    ∙ undone (slots_of old) out put spare (are_filled old can.indexed) can.slots (out_within out can.out) (fits_slots old out put can.put))
   where
     out_within : (out : Option ℕ) → IfSome out (λ at. at < length old.order.listed) → IfSome out (λ at. at < length (slots_of old))
     out_within None l = tt
-    out_within (Some at) l = rw (length_slots old) l
+    out_within (Some at) l = (let k : at < length old.order.listed = l in let m : at < length (slots_of old) = omega (arith, length_slots old) in m)

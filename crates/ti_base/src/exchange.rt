@@ -1,13 +1,13 @@
 // An edit of a list as an exchange: at most one block is taken out, and at most one is put in. A block
 // that moves is both.
-ghost use Rattle.std.specs.Prelude.{◌≡◌, ◌<◌, IfOk, IfSome, IsSome, OnErr, OnOk, Some, length, map, option_map};
+ghost use Rattle.std.specs.Prelude.{◌≡◌, ◌<◌, IfOk, IfSome, OnErr, OnOk, length, map, option_map};
 ghost use Rattle.std.specs.Rc.{rc_slice_items};
 ghost use Rattle.ti_source.specs.Reading.{reading_of};
 ghost use Rattle.ti_meaning.specs.Edits.{IsSoundEdit, change_of};
 ghost use Rattle.ti_slots.specs.Slots.{IsIndexed, slot_texts};
 ghost use Rattle.ti_slots.specs.Changes.{HasForgotten, HasRoomFor};
 ghost use Rattle.ti_base.specs.inside.Database.{AreRead, slots_of};
-ghost use Rattle.ti_base.specs.inside.Exchanges.{CanExchange, IsExchanged, IsNewOf, IsOut, names_seen, new_text, out_position, put_position, settled_as, slot_left, slot_put, unsettled_as};
+ghost use Rattle.ti_base.specs.inside.Exchanges.{CanExchange, CanUndo, IsEdited, IsExchanged, IsMade, IsNewOf, IsOut, IsUndone, names_seen, new_text, out_position, put_position, settled_as, slot_left, slot_put, unsettled_as};
 
 use crate::texts::read_slot;
 use std::alloc::{AllocError, Global};
@@ -18,7 +18,7 @@ use ti_slots::{Slot, Slots, changes_are_undone};
 use ti_source::{Parsed, SharedTexts};
 
 /// The position from which an edit takes a block out, and the one at which it puts one in.
-pub(crate) fn positions(edit: &Edit<'_>) -> (Option<usize>, Option<usize>)
+fn positions(edit: &Edit<'_>) -> (Option<usize>, Option<usize>)
     ensures out { result.0 ≡ out_position (change_of edit.now) }
     ensures put { result.1 ≡ put_position (change_of edit.now) }
 {
@@ -47,6 +47,7 @@ fn reserve(slots: &mut Slots, block: &Parsed) -> Result<(), AllocError>
     requires { AreRead slots.old }
     ensures read { AreRead slots.new }
     ensures slots { slots_of slots.new ≡ slots_of slots.old }
+    ensures texts { slot_texts slots.new ≡ slot_texts slots.old }
     ensures room { OnOk result (HasRoomFor slots.new (reading_of block.now)) }
     ensures forgotten { OnErr result (HasForgotten slots.new (reading_of block.now)) }
 {
@@ -70,6 +71,7 @@ pub(crate) fn read_new(
     requires sound { IsSoundEdit (slot_texts slots.old) (change_of edit.now) }
     ensures read { AreRead slots.new }
     ensures slots { slots_of slots.new ≡ slots_of slots.old }
+    ensures texts { slot_texts slots.new ≡ slot_texts slots.old }
     ensures new { IfOk result (IsNewOf slots.new (change_of edit.now)) }
 {
     let Some(text) = text_of(edit) else {
@@ -105,22 +107,24 @@ fn swap_settled(mut new: Slot, taken: &mut Option<Slot>) -> Slot
     new
 }
 
-/// The slot to be put in: the new one if there is one, else the one taken out. The other is left.
-fn choose(new: Option<Slot>, taken: &mut Option<Slot>) -> Slot
-    requires { IsSome (slot_put taken.old new) }
-    ensures put { Some result ≡ slot_put taken.old new }
-    ensures left { taken.new ≡ slot_left taken.old new }
+/// The slot to be put in: the spare one, or the one taken out if there is none. The other one is spare then.
+fn trade(taken: Option<Slot>, spare: &mut Option<Slot>) -> Option<Slot>
+    ensures put { result ≡ slot_put taken spare.old }
+    ensures left { spare.new ≡ slot_left taken spare.old }
 {
-    match new {
-        Some(new) => swap_settled(new, taken),
-        None => taken.take().unwrap(),
+    match spare.take() {
+        Some(new) => {
+            *spare = taken;
+            Some(swap_settled(new, spare))
+        }
+        None => taken,
     }
 }
 
-/// Takes a block out of the list and puts one in, where the positions are given, and gives the id of the
-/// one put in. That is the spare one, or the one taken out if there is none; the other one is spare
-/// then. It takes no memory, and so does the same with the positions exchanged, which undoes it.
-pub(crate) fn exchange(
+/// Takes a block out of the list and puts one in, if the positions are given, and gives the id of the one
+/// put in. That is the spare one, or the one taken out if there is none; the other one is spare then. It
+/// takes no memory, and so does the same with the positions exchanged, which undoes it.
+fn exchange(
     slots: &mut Slots,
     out: Option<usize>,
     put: Option<usize>,
@@ -131,10 +135,38 @@ pub(crate) fn exchange(
 {
     changes_are_undone();
     let taken = take_out(slots, out);
-    let new = mem::replace(spare, taken);
-    let at = put?;
-    let slot = choose(new, spare);
-    Some(slots.put_in(at, slot))
+    match put {
+        Some(at) => {
+            let slot = trade(taken, spare).unwrap();
+            Some(slots.put_in(at, slot))
+        }
+        None => {
+            *spare = taken;
+            None
+        }
+    }
+}
+
+/// Makes the change of an edit, with the new block that was read for it, and gives the id of the block put
+/// in. A block taken out that is not the one put in is spare then. It takes no memory.
+pub(crate) fn make(slots: &mut Slots, edit: &Edit<'_>, spare: &mut Option<Slot>) -> Option<u32>
+    requires read { AreRead slots.old }
+    requires sound { IsSoundEdit (slot_texts slots.old) (change_of edit.now) }
+    requires new { IsNewOf slots.old (change_of edit.now) spare.old }
+    ensures made { IsMade slots.old slots.new (change_of edit.now) spare.old spare.new result }
+    ensures edited { IsEdited slots.old slots.new (change_of edit.now) result (names_seen spare.new) }
+{
+    let (out, put) = positions(edit);
+    exchange(slots, out, put, spare)
+}
+
+/// Takes the change of an edit back. It takes no memory.
+pub(crate) fn undo(slots: &mut Slots, edit: &Edit<'_>, spare: &mut Option<Slot>)
+    requires { CanUndo slots.old (change_of edit.now) spare.old }
+    ensures { IsUndone slots.old slots.new (change_of edit.now) spare.old }
+{
+    let (out, put) = positions(edit);
+    exchange(slots, put, out, spare);
 }
 
 /// The names of a block that is not in the list, if there is one.
@@ -153,6 +185,7 @@ pub(crate) fn forget(slots: &mut Slots, spare: &Option<Slot>)
     requires { AreRead slots.old }
     ensures read { AreRead slots.new }
     ensures slots { slots_of slots.new ≡ slots_of slots.old }
+    ensures texts { slot_texts slots.new ≡ slot_texts slots.old }
     ensures forgotten { IfSome spare.now (λ slot. HasForgotten slots.new (reading_of slot.block)) }
 {
     if let Some(slot) = spare {

@@ -5,7 +5,7 @@ ghost use Rattle.ti_meaning.specs.Edits.{EditRun, EditStep, IsSoundEdit, change_
 ghost use Rattle.ti_slots.specs.Slots.{slot_texts};
 ghost use Rattle.ti_base.specs.inside.Database.{AreKept, AreRead};
 
-use crate::exchange::{exchange, forget, positions, read_new};
+use crate::exchange::{forget, make, read_new};
 use crate::judging::judge;
 use crate::rebuilding::rebuild_all;
 use std::alloc::{AllocError, Global};
@@ -27,8 +27,7 @@ fn change_sound(
     ensures err { OnErr result (slot_texts slots.new ≡ slot_texts slots.old) }
 {
     let mut spare = read_new(alloc, slots, Some(shared), edit)?;
-    let (out, put) = positions(edit);
-    exchange(slots, out, put, &mut spare);
+    make(slots, edit, &mut spare);
     forget(slots, &spare);
     Ok(())
 }

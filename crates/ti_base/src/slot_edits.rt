@@ -6,7 +6,7 @@ ghost use Rattle.ti_meaning.specs.Dependents.{Rebuilds};
 ghost use Rattle.ti_slots.specs.Slots.{slot_texts};
 ghost use Rattle.ti_base.specs.inside.Database.{AreKept};
 
-use crate::exchange::{exchange, forget, names_of, positions, read_new};
+use crate::exchange::{forget, make, names_of, read_new, undo};
 use crate::rebuilding::rebuild;
 use std::alloc::{AllocError, Global};
 use ti_meaning::{Edit, Edited};
@@ -26,15 +26,14 @@ pub(crate) fn edit_sound(
     ensures err { OnErr result (slot_texts slots.new ≡ slot_texts slots.old) }
 {
     let mut spare = read_new(alloc, slots, None, edit)?;
-    let (out, put) = positions(edit);
-    let id = exchange(slots, out, put, &mut spare);
+    let id = make(slots, edit, &mut spare);
     match rebuild(alloc, slots, id, names_of(&spare)) {
         Ok(edited) => {
             forget(slots, &spare);
             Ok(edited)
         }
         Err(error) => {
-            exchange(slots, put, out, &mut spare);
+            undo(slots, edit, &mut spare);
             forget(slots, &spare);
             Err(error)
         }

@@ -2,13 +2,17 @@
 use Rattle.std.specs.Prelude.{ℕ, ◌≡◌, ◌<◌, ◌≤◌, ⊤, List, [], length, remove, Option, Some, None, option_map, slice_get, IfSome, IsSome}
 use Rattle.std.specs.Option.{option_flatten}
 use Rattle.ti_source.specs.Reading.{Reading, reading_of}
-use Rattle.ti_meaning.specs.Edits.{Change, insertion, replacement, removal, relocation}
+use Rattle.ti_meaning.specs.Edits.{Change, insertion, replacement, removal, relocation, list_after}
+use Rattle.ti_meaning.specs.Exchange.{Exchange}
+use Rattle.ti_meaning.specs.Dependents.{AreDependents, Rebuilds, work}
 use Rattle.ti_index.specs.Labels.{AreDistinct}
 use Rattle.ti_slots.specs.declared.slots.Slot.{Slot}
 use Rattle.ti_slots.specs.declared.slots.Slots.{Slots}
-use Rattle.ti_slots.specs.Slots.{IsIndexed, StandsAt}
+use Rattle.ti_slots.specs.Slots.{IsIndexed, StandsAt, blocks_of, slot_texts}
 use Rattle.ti_slots.specs.Changes.{HasRoomFor, TakesOut}
-use Rattle.ti_base.specs.inside.Database.{IsSoundSlot, PlacedSlot, HasId, slots_of, with_settled, with_slot}
+use Rattle.ti_dependents.specs.Dependents.{IsExchangeOf}
+use Rattle.ti_plan.specs.Plans.{IsReady}
+use Rattle.ti_base.specs.inside.Database.{AreRead, SlotsAreSettled, IsSoundSlot, PlacedSlot, HasId, slots_of, with_settled, with_slot}
 
 -- ---- an edit in its parts
 
@@ -127,3 +131,21 @@ pub record IsExchanged (old new : Slots) (out put : Option ℕ) (before after : 
   pub id : HasId new (placed_put (slots_of old) out put before) id
   pub listed : (n : ℕ) → id ≡ Some n → (at : ℕ) × StandsAt new at n
   pub back : CanExchange new put out after
+
+-- the same of an edit, and of the way back
+abbrev pub IsMade : Slots → Slots → Change → Option Slot → Option Slot → Option ℕ → Type 0
+IsMade old new change before after id = IsExchanged old new (out_position change) (put_position change) before after id
+
+abbrev pub CanUndo : Slots → Change → Option Slot → Type 0
+CanUndo slots change spare = CanExchange slots (put_position change) (out_position change) spare
+
+abbrev pub IsUndone : Slots → Slots → Change → Option Slot → Type 0
+IsUndone old new change spare = IsIndexed new × (slots_of new ≡ with_exchange (slots_of old) (put_position change) (out_position change) spare)
+
+-- the list after an edit; what planning asks of it, given the id of the block put in and the names of one that is spare; and what is rebuilt
+pub record IsEdited (old new : Slots) (change : Change) (id : Option ℕ) (names : List (List ℕ)) : Type 0 where
+  pub read : AreRead new
+  pub texts : slot_texts new ≡ list_after (slot_texts old) change
+  pub ready : SlotsAreSettled (slots_of old) → IsReady new id names
+  pub rebuilds : (places : List ℕ) (steps : ℕ) → ((e : Exchange) → IsExchangeOf new id names e → AreDependents e places) → steps ≡ work (blocks_of new) places
+      → Rebuilds (slot_texts old) change places steps
