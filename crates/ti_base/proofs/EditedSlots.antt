@@ -70,9 +70,9 @@ pub can_edit : (slots : Slots) (change : Change) (spare : Option Slot) → AreRe
 can_edit slots (insertion at text) None h l n = absurd (none-some text n.text)
 can_edit slots (insertion at text) (Some new) h l n = record {
   indexed = h.indexed;
-  out = tt;
-  put = (let k : at ≤ length (slot_texts slots) = l in let m : at ≤ length slots.order.listed = omega (arith, length_texts slots) in m);
-  slots = refl;
+  from = tt;
+  into = (let k : at ≤ length (slot_texts slots) = l in let m : at ≤ length slots.order.listed = omega (arith, length_texts slots) in m);
+  other = refl;
   room = n.room;
 }
 can_edit slots (replacement at text) None h l n = absurd (none-some text n.text)
@@ -82,17 +82,17 @@ can_edit slots (replacement at text) (Some new) h l n =
     let left = length-remove slots.order.listed at m in
     record {
       indexed = h.indexed;
-      out = m;
-      put = (let k : at ≤ length (remove slots.order.listed at) = omega arith in k);
-      slots = tt;
+      from = m;
+      into = (let k : at ≤ length (remove slots.order.listed at) = omega arith in k);
+      other = tt;
       room = λ rest taken t. t.rooms (reading_of new.block) n.room;
     }
 can_edit slots (removal at) (Some new) h l n = absurd (none-some new.text.items (sym n.text))
 can_edit slots (removal at) None h l n = record {
   indexed = h.indexed;
-  out = (let k : at < length (slot_texts slots) = l in let m : at < length slots.order.listed = omega (arith, length_texts slots) in m);
-  put = tt;
-  slots = refl;
+  from = (let k : at < length (slot_texts slots) = l in let m : at < length slots.order.listed = omega (arith, length_texts slots) in m);
+  into = tt;
+  other = refl;
   room = tt;
 }
 can_edit slots (relocation from to) (Some new) h l n = absurd (none-some new.text.items (sym n.text))
@@ -103,9 +103,9 @@ can_edit slots (relocation from to) None h l n =
     let left = length-remove slots.order.listed from m in
     record {
       indexed = h.indexed;
-      out = m;
-      put = (let k : to ≤ length (remove slots.order.listed from) = omega (arith, length_texts slots) in k);
-      slots = tt;
+      from = m;
+      into = (let k : to ≤ length (remove slots.order.listed from) = omega (arith, length_texts slots) in k);
+      other = tt;
       room = tt;
     }
 
@@ -257,8 +257,8 @@ edited old new change spare after id h sound n x =
     let half = placed out after in
     let filled = are_filled old h.indexed in
     let can = can_edit old change spare h sound.in_place n in
-    let within = within_slots out can.out in
-    let fits = fits_slots old out put can.put in
+    let within = within_slots out can.from in
+    let fits = fits_slots old out put can.into in
     let texts : slot_texts new ≡ list_after (slot_texts old) change =
     texts_seen new ∙ (ap (map text_seen) x.slots ∙ (texts_after xs change spare filled (subst (λ ts. IsInPlace ts change) (texts_seen old) sound.in_place) n.text ∙ ap (λ ts. list_after ts change) (sym (texts_seen old)))) in
     let read : AreRead new = record {
@@ -270,8 +270,8 @@ edited old new change spare after id h sound n x =
     let is : IsExchangeOf new id (names_seen after) (exchange_with rest half come) = record {
       fits = record { out = placed_fits rest out after (out_fits xs out within); put = put_fits };
       new = sym (readings_with rest come) ∙ (ap (map reading_seen) (sym x.slots) ∙ sym (blocks_seen new));
-      out_names = names_out out put after x.back.slots;
-      put_id = x.id;
+      out_names = names_out out put after x.back.other;
+      put_id = x.has_id;
     } in
     let same : (k : ℕ) → IsDependent (exchange_with rest was come) k ↔ IsDependent (exchange_with rest half come) k =
     λ k. subst (λ s. IsDependent (exchange_with rest was come) k ↔ IsDependent (exchange_with rest (placed out s) come) k) (sym x.spare) (same_dependents xs out put spare filled within k) in

@@ -111,31 +111,31 @@ is_left old rest (Some at) taken h is = record {
 
 -- nothing is put in
 pub exchanged_out : (old rest : Slots) (out : Option ℕ) (spare taken : Option Slot) → CanExchange old out None spare → IsOut old rest out taken → IsExchanged old rest out None spare taken None
-exchanged_out old rest None spare taken can is = absurd can.slots
+exchanged_out old rest None spare taken can is = absurd can.other
 exchanged_out old rest (Some at) spare taken can is =
     let left = is_left old rest (Some at) taken can.indexed is in
-    let n = length-remove old.order.listed at can.out in
+    let n = length-remove old.order.listed at can.from in
     record {
       slots = left.slots;
       spare = left.slot;
-      id = no_id rest;
+      has_id = no_id rest;
       listed = λ n e. absurd (none-some n e);
       back = record {
         indexed = left.indexed;
-        out = tt;
-        put = (let m : length rest.order.listed ≡ length (remove old.order.listed at) = ap (λ xs. length xs) left.listed in let l : at < length old.order.listed = can.out in let k : at ≤ length rest.order.listed = omega arith in k);
-        slots = rw is.1 refl;
+        from = tt;
+        into = (let m : length rest.order.listed ≡ length (remove old.order.listed at) = ap (λ xs. length xs) left.listed in let l : at < length old.order.listed = can.from in let k : at ≤ length rest.order.listed = omega arith in k);
+        other = rw is.1 refl;
         room = rw is.1 is.2.room;
       };
     }
 
 -- a block is put in: it is there, it fits, and there is room for it
 pub put_fits : (old rest : Slots) (out : Option ℕ) (to : ℕ) (spare taken : Option Slot) → CanExchange old out (Some to) spare → IsOut old rest out taken → to ≤ length rest.order.listed
-put_fits old rest out to spare taken can is = rw (is_left old rest out taken can.indexed is).listed can.put
+put_fits old rest out to spare taken can is = rw (is_left old rest out taken can.indexed is).listed can.into
 
 pub put_there : (old rest : Slots) (out : Option ℕ) (to : ℕ) (spare taken : Option Slot) → CanExchange old out (Some to) spare → IsOut old rest out taken → IsSome (slot_put taken spare)
 put_there old rest out to (Some new) taken can is = refl
-put_there old rest None to None taken can is = absurd (false≢true can.slots)
+put_there old rest None to None taken can is = absurd (false≢true can.other)
 put_there old rest (Some at) to None taken can is = rw is.1 refl
 
 room_then : (old rest : Slots) (out : Option ℕ) (taken : Option Slot) (block : Reading) → HasRoomThen old out block → IsOut old rest out taken → HasRoomFor rest block
@@ -150,7 +150,7 @@ pub put_room : (old rest : Slots) (out : Option ℕ) (to : ℕ) (spare taken : O
 put_room old rest out to (Some new) taken slot can is e =
     let same : slot.block ≡ new.block = ap (λ (s : Slot). s.block) (same_Some slot (settled_as taken new) e) ∙ same_block taken new in
     subst (λ b. HasRoomFor rest (reading_of b)) (sym same) (room_then old rest out taken (reading_of new.block) can.room is)
-put_room old rest None to None taken slot can is e = absurd (false≢true can.slots)
+put_room old rest None to None taken slot can is e = absurd (false≢true can.other)
 put_room old rest (Some at) to None taken slot can is e = subst (λ (s : Slot). HasRoomFor rest (reading_of s.block)) (sym (same_Some slot is.0 (e ∙ is.1))) is.2.room
 
 -- once it is taken out again, there is room for the one that was taken out before
@@ -172,13 +172,13 @@ exchanged_put law old rest new out to id spare taken after slot can is put e f =
     record {
       slots = slots_put rest new to id slot fits put ∙ (ap (λ xs. insert xs to (Some slot)) left.slots ∙ ap (with_slot (without (slots_of old) out)) come);
       spare = f ∙ ap (λ t. slot_left t spare) left.slot;
-      id = subst (λ o. HasId new o (Some id)) come (id_put rest new to id slot fits put);
+      has_id = subst (λ o. HasId new o (Some id)) come (id_put rest new to id slot fits put);
       listed = λ k e. (to, stands_put rest new to id slot fits put ∙ e);
       back = record {
         indexed = put.indexed;
-        out = (let l : to < length new.order.listed = omega arith in l);
-        put = out_fits out can.out (again ∙ left.listed);
-        slots = of_slots out spare taken after is f;
+        from = (let l : to < length new.order.listed = omega arith in l);
+        into = out_fits out can.from (again ∙ left.listed);
+        other = of_slots out spare taken after is f;
         room = subst (λ o. IfSome o (λ s. HasRoomThen new (Some to) (reading_of s.block))) (sym f) (room_back law old rest new out to id spare taken slot left.indexed fits is put);
       };
     }
@@ -236,7 +236,7 @@ pub exchanged_back : (old new : Slots) (out put : Option ℕ) (spare after : Opt
 exchanged_back old new out put spare after id can x =
     ap (λ a. with_exchange (slots_of new) put out a) x.spare
     ∙ (ap (λ xs. with_exchange xs put out (spare_after put (slot_out (slots_of old) out) spare)) x.slots
-    ∙ undone (slots_of old) out put spare (are_filled old can.indexed) can.slots (out_within out can.out) (fits_slots old out put can.put))
+    ∙ undone (slots_of old) out put spare (are_filled old can.indexed) can.other (out_within out can.from) (fits_slots old out put can.into))
   where
     out_within : (out : Option ℕ) → IfSome out (λ at. at < length old.order.listed) → IfSome out (λ at. at < length (slots_of old))
     out_within None l = tt

@@ -101,9 +101,10 @@ fn swap_settled(mut new: Slot, taken: &mut Option<Slot>) -> Slot
     ensures new { result ≡ settled_as taken.old new }
     ensures taken { taken.new ≡ unsettled_as taken.old new }
 {
-    if let Some(old) = taken {
-        mem::swap(&mut new.settled, &mut old.settled);
-    }
+    let Some(old) = taken else {
+        return new;
+    };
+    mem::swap(&mut new.settled, &mut old.settled);
     new
 }
 
@@ -188,7 +189,8 @@ pub(crate) fn forget(slots: &mut Slots, spare: &Option<Slot>)
     ensures texts { slot_texts slots.new ≡ slot_texts slots.old }
     ensures forgotten { IfSome spare.now (λ slot. HasForgotten slots.new (reading_of slot.block)) }
 {
-    if let Some(slot) = spare {
-        slots.forget_unused(&slot.block);
-    }
+    let Some(slot) = spare else {
+        return;
+    };
+    slots.forget_unused(&slot.block);
 }

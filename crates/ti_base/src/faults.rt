@@ -54,14 +54,15 @@ fn add_name_fault(
     ensures { OnOk result (map fault_seen faults.new.items ≡ map fault_seen faults.old.items
         ++ map (name_fault at) (filter (is_owned_before (blocks_of slots.now) at) (rc_slice_items name.now ∷ []))) }
 {
-    if is_owned_before(slots, at, name.as_slice()) {
-        faults.push(Fault {
-            block: at,
-            line: 1,
-            code: Code::DuplicateName,
-            detail: Some(name.clone()?),
-        })?;
+    if !is_owned_before(slots, at, name.as_slice()) {
+        return Ok(());
     }
+    faults.push(Fault {
+        block: at,
+        line: 1,
+        code: Code::DuplicateName,
+        detail: Some(name.clone()?),
+    })?;
     Ok(())
 }
 

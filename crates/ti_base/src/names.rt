@@ -21,9 +21,10 @@ fn add_unseen<'a>(
         ≡ map (λ name. rc_slice_items name.now) all.old.items
         ++ (if is_seen seen.old (rc_slice_items name.now) then [] else rc_slice_items name.now ∷ [])) }
 {
-    if seen.insert(name.as_slice())? {
-        all.push(name)?;
+    if !seen.insert(name.as_slice())? {
+        return Ok(());
     }
+    all.push(name)?;
     Ok(())
 }
 

@@ -114,9 +114,9 @@ HasRoomThen slots (Some at) block = (rest : Slots) (taken : Slot) → TakesOut s
 -- the positions are there, and there is a slot to be put in, and room for it
 pub record CanExchange (slots : Slots) (out put : Option ℕ) (spare : Option Slot) : Type 0 where
   pub indexed : IsIndexed slots
-  pub out : IfSome out (λ at. at < length slots.order.listed)
-  pub put : IfSome put (λ to. to ≤ length (without slots.order.listed out))
-  pub slots : IsOfSlots out put spare
+  pub from : IfSome out (λ at. at < length slots.order.listed)
+  pub into : IfSome put (λ to. to ≤ length (without slots.order.listed out))
+  pub other : IsOfSlots out put spare
   pub room : IfSome spare (λ slot. HasRoomThen slots out (reading_of slot.block))
 
 -- the slot at a position, if one is given, was taken out
@@ -128,7 +128,7 @@ IsOut old new (Some at) taken = (slot : Slot) × (taken ≡ Some slot) × TakesO
 pub record IsExchanged (old new : Slots) (out put : Option ℕ) (before after : Option Slot) (id : Option ℕ) : Type 0 where
   pub slots : slots_of new ≡ with_exchange (slots_of old) out put before
   pub spare : after ≡ spare_after put (slot_out (slots_of old) out) before
-  pub id : HasId new (placed_put (slots_of old) out put before) id
+  pub has_id : HasId new (placed_put (slots_of old) out put before) id
   pub listed : (n : ℕ) → id ≡ Some n → (at : ℕ) × StandsAt new at n
   pub back : CanExchange new put out after
 
