@@ -109,6 +109,9 @@ is_left old rest (Some at) taken h is = record {
   listed = is.2.listed;
 }
 
+no_id : (slots : Slots) → HasId slots None None
+no_id slots = λ at other stands. ((λ h. absurd h), (λ e. absurd (none-some other e)))
+
 -- nothing is put in
 pub exchanged_out : (old rest : Slots) (out : Option ℕ) (spare taken : Option Slot) → CanExchange old out None spare → IsOut old rest out taken → IsExchanged old rest out None spare taken None
 exchanged_out old rest None spare taken can is = absurd can.other
