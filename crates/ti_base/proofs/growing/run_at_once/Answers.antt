@@ -1,4 +1,4 @@
-use Rattle.ti_base.proofs.ReadSlots.{read_none}
+use Rattle.ti_base.proofs.SlotExchanges.{read_none}
 use Rattle.ti_base.proofs.growing.run_at_once.Goals as goal
 
 pub change_all-requires-clause-read : goal.change_all-requires-clause-read
