@@ -1,6 +1,6 @@
-//! The worked rows of the database and of its plans as tests, with entries and reports by hand; no code of the
-//! product. They stand in tables, and what goes over a table is proved once: a test that makes many calls in a row
-//! takes long to prove.
+//! The worked rows of the database as tests, with entries and reports by hand; no code of the
+//! product. The rows are in tables, and what goes over a table is proved once: a test that makes
+//! many calls in a row takes long to prove.
 //!
 //! - `steps`: the steps that a source is led through, for the rows below
 //! - `dependents`: sources of many blocks that use one another
@@ -11,7 +11,6 @@
 //! - `circular`: blocks that use one another
 //! - `runs`: runs of edits
 //! - `insertions`: sources made by a run of insertions
-//! - `plans`: the plans of small lists
 #![tactic(auto)]
 
 #[cfg(test)]
@@ -26,8 +25,6 @@ mod limits;
 mod numbers;
 #[cfg(test)]
 mod owners;
-#[cfg(test)]
-mod plans;
 #[cfg(test)]
 mod reports;
 #[cfg(test)]

@@ -2,7 +2,7 @@ use Rattle.std.proofs.Common.{ℕ, ◌≡◌, ◌+◌, ◌<◌, inl, inr, true, 
 use Rattle.std.specs.List.{list_any}
 use Rattle.std.proofs.lemmas.Bool.{cases_eq}
 use Rattle.std.proofs.lemmas.Map.Views.{Contains-from_any}
-use Rattle.ti_base_rows.proofs.plans.are_all.Goals as goal
+use Rattle.ti_plan_rows.proofs.plans.are_all.Goals as goal
 
 same : (x y : ℕ) → nat_eq y x ≡ true → x ≡ y
 same x y e = grind (arith, e)

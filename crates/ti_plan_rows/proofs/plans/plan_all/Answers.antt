@@ -1,5 +1,5 @@
-use Rattle.ti_base_rows.proofs.PutFirst.{ready_all}
-use Rattle.ti_base_rows.proofs.plans.plan_all.Goals as goal
+use Rattle.ti_plan_rows.proofs.PutFirst.{ready_all}
+use Rattle.ti_plan_rows.proofs.plans.plan_all.Goals as goal
 
 pub plan-requires-clause-ready : goal.plan-requires-clause-ready
 plan-requires-clause-ready c =
