@@ -2,7 +2,7 @@
 use Rattle.std.specs.Prelude.{◌≡◌, ◌<◌, ◌++◌, ◌∷◌, [], ℕ, Bool, if◌then◌else◌, List, length, Option, Some, None, slice_get}
 use Rattle.ti_text.specs.Ascii as ascii
 use Rattle.ti_devices.specs.Paths.{path_of}
-use Rattle.ti_tput.specs.Searching.{places_of}
+use Rattle.ti_devices.specs.Searching.{directories_of}
 use Rattle.ti_c.specs.Answers.{IsWritten}
 
 -- what a variable of the environment holds, where it is set
@@ -11,7 +11,7 @@ set_to is_set value = if is_set then Some value else None
 
 -- the directory at a place of the order in which they are looked through; None where they are not that many
 abbrev pub directory_at : List ℕ → Bool → List ℕ → ℕ → Option (List ℕ)
-directory_at terminfo is_set dirs index = slice_get (places_of (Some terminfo) (set_to is_set dirs)) index
+directory_at terminfo is_set dirs index = slice_get (directories_of (Some terminfo) (set_to is_set dirs)) index
 
 -- the path of a name's entry below a directory, with a NUL behind it
 abbrev pub path_bytes : List ℕ → List ℕ → List ℕ

@@ -8,7 +8,8 @@
 //! - `buffer`: bytes with a limit, for which the room was made at the start
 //! - `line_reader`: lines read one at a time, with a limit on their length and on the reads; `read_ahead`
 //!   holds what was read and not used yet. `lines`: bytes are cut into lines in one way alone
-//! - `paths`: where the entries of terminals stand below a folder
+//! - `paths`: the paths of entries below a directory; `searching`: the directories in which an entry is
+//!   looked for, its file, and the entry in it
 //! - `tree`: what a tree of files is; `memory_tree` is one in memory, and `placing` writes files into a tree
 #![tactic(auto)]
 
@@ -21,6 +22,7 @@ pub mod paths;
 pub mod placing;
 mod read_ahead;
 pub mod reading;
+mod searching;
 pub mod tally;
 pub mod tool_error;
 pub mod tree;
@@ -34,6 +36,7 @@ pub use memory_tree::MemTree;
 pub use paths::entry_path;
 pub use placing::{File, place};
 pub use reading::read_piece;
+pub use searching::{SYSTEM_DIRECTORY, entry, locate, places};
 pub use tally::Tally;
 pub use tool_error::ToolError;
 pub use tree::{Tree, TreeFault};

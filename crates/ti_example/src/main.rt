@@ -12,9 +12,8 @@ use std::rt::{Env, Files};
 use std::{env, fs, io};
 use terminal::{find_entry, string_for};
 use ti_base::Database;
-use ti_devices::{MemTree, ToolError};
+use ti_devices::{MemTree, ToolError, entry};
 use ti_param::Value;
-use ti_tput::entry;
 
 /// Where the entries stand in the tree.
 const PLACE: &str = "entries";

@@ -1,10 +1,9 @@
 //! Driving a terminal: its entry found, a string of it expanded and padded.
 use std::alloc::Global;
 use ti_caps::{Kind, find};
-use ti_devices::{ToolError, Tree};
+use ti_devices::{ToolError, Tree, locate};
 use ti_layout::View;
 use ti_param::{Line, ParamError, Statics, Value, expand, pad};
-use ti_tput::locate;
 
 /// The file of a terminal's entry in one place of a tree.
 ///

@@ -27,7 +27,10 @@ pub use outcome::{TicOptions, TicOutcome};
 pub use sources::sources_have_one_refusal;
 pub use stopping::{message, status};
 pub use ti_commands::{InfocmpMode, Job, Refusal, UsageError, job, job_or_refusal};
-pub use ti_devices::{Counted, File, MemTree, Tally, ToolError, Tree, TreeFault, place};
+pub use ti_devices::{
+    Counted, File, MemTree, SYSTEM_DIRECTORY, Tally, ToolError, Tree, TreeFault, entry, locate,
+    place, places,
+};
 pub use ti_list::{Layout, Order};
 pub use ti_session::session;
-pub use ti_tput::{TputOutcome, entry, locate, places, tput, tput_lines};
+pub use ti_tput::{TputOutcome, tput, tput_lines};

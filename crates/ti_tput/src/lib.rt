@@ -3,14 +3,12 @@
 //! - `commands`: what one command is answered; `replies` makes its bytes and status, of what `entries` finds
 //!   in the entry and of the words, which `parameters` reads as numbers and texts
 //! - `streaming`: commands read line by line; `terminal` is what takes them, and `words` parts a line
-//! - `searching`: where an entry is looked for, its file, and the entry in it
 #![tactic(auto)]
 
 mod commands;
 mod entries;
 mod parameters;
 mod replies;
-mod searching;
 mod streaming;
 mod terminal;
 mod words;
@@ -18,5 +16,4 @@ mod words;
 pub use commands::{bad_commands_change_nothing, one_answer, tput};
 pub use entries::terminal_line;
 pub use replies::TputOutcome;
-pub use searching::{entry, locate, places};
 pub use streaming::tput_lines;

@@ -5,9 +5,9 @@ mod places;
 use std::alloc::{AllocError, Global};
 use std::process::Abort;
 use ti_caps::find;
-use ti_devices::ToolError;
+use ti_devices::{ToolError, entry};
 use ti_layout::View;
-use ti_tput::{entry, tput};
+use ti_tput::tput;
 
 // A size as the two bytes that an entry has of it.
 fn word(size: usize) -> [u8; 2] {

@@ -3,9 +3,9 @@ use super::{dumb, entry_bytes};
 use crate::devices::{Drip, End, Narrow};
 use std::alloc::{AllocError, Global};
 use std::process::Abort;
-use ti_devices::{Counted, ToolError};
+use ti_devices::{Counted, ToolError, entry};
 use ti_layout::View;
-use ti_tput::{entry, tput_lines};
+use ti_tput::tput_lines;
 
 // What the lines write, and how they end.
 fn run(

@@ -2,9 +2,8 @@
 use super::dumb;
 use std::alloc::{AllocError, Global};
 use std::process::Abort;
-use ti_devices::{MemTree, ToolError, Tree};
+use ti_devices::{MemTree, ToolError, Tree, entry, locate, places};
 use ti_layout::ReadError;
-use ti_tput::{entry, locate, places};
 
 fn strings(alloc: Global, texts: &[&str]) -> Result<Vec<String>, AllocError> {
     let mut strings = Vec::new(alloc);

@@ -5,8 +5,8 @@ use Rattle.ti_layout.specs.View.{names_of, view_contents}
 use Rattle.ti_layout.specs.Values.{Contents}
 use Rattle.ti_layout.specs.declared.fault.ReadError.{ReadError}
 use Rattle.ti_layout.specs.declared.fault.ReadError.TheVariants.{Counts}
-use Rattle.ti_tput.specs.Searching.{IsTooLong}
-use Rattle.ti_tput.proofs.searching.entry_within.Goals as goal
+use Rattle.ti_devices.specs.Searching.{IsTooLong}
+use Rattle.ti_devices.proofs.searching.entry_within.Goals as goal
 
 -- the first bytes of a file that is too long are refused, or are an entry
 refused_front : (limit : ℕ) (bytes : List ℕ) (error : ReadError) → limit < length bytes → FailsToRead (take (limit + 1) bytes) error → IsTooLong limit bytes error
