@@ -14,9 +14,7 @@ mod tput_tool;
 mod whole;
 
 use crate::failure::Failure;
-use crate::infocmp_tool::InfocmpNames;
 use crate::job_end::end_job;
-use crate::tput_tool::TputWords;
 use std::process::ExitCode;
 use std::rt::{Clock, Env, Files};
 use std::{env, io};
@@ -52,15 +50,7 @@ fn run_job<R: Clock + Env + Files + Input + Print + Eprint + AllocGlobal>(rt: &R
             term,
             rate,
             words,
-        } => {
-            let asked = TputWords {
-                lines: *lines,
-                term: term.as_deref(),
-                rate: *rate,
-                words: words.as_slice(),
-            };
-            tput_tool::run(rt, job, asked)
-        }
+        } => { tput_tool::run(rt, job, *lines, term.as_deref(), *rate, words.as_slice()) }
         Job::Infocmp {
             mode,
             names,
@@ -68,16 +58,18 @@ fn run_job<R: Clock + Env + Files + Input + Print + Eprint + AllocGlobal>(rt: &R
             first_dir,
             other_dir,
         } => {
-            let asked = InfocmpNames {
-                names: names.as_slice(),
-                first_dir: first_dir.as_deref(),
-                other_dir: other_dir.as_deref(),
-            };
             let options = InfocmpOptions {
                 mode: *mode,
                 layout: *layout,
             };
-            infocmp_tool::run(rt, job, asked, &options)
+            infocmp_tool::run(
+                rt,
+                job,
+                names.as_slice(),
+                first_dir.as_deref(),
+                other_dir.as_deref(),
+                &options,
+            )
         }
         Job::Session => match session_tool::run(rt) {
             Ok(()) => 0,

@@ -5,7 +5,7 @@ use std::alloc::Global;
 use std::fs;
 use std::io::{self, ErrorKind, Read};
 use std::rt::Files;
-use ti_devices::line_reader::READS_MAX;
+use ti_devices::READS_MAX;
 use ti_tools::ToolError;
 
 /// How many bytes of a source are asked for at a time.
