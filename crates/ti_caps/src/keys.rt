@@ -2,6 +2,8 @@
 ghost use Rattle.std.specs.Prelude.{◌≡◌};
 ghost use Rattle.ti_caps.specs.inside.Keys.{key_of};
 
+use crate::tables::CAPABILITY_COUNT;
+
 /// How many bytes of a name its key has.
 const KEY_BYTES: usize = 8;
 
@@ -22,7 +24,7 @@ pub fn key_of(name: &[u8]) -> u64
 }
 
 /// The keys of all names, in the order of the table of names.
-pub static KEYS: [u64; 497] = [
+pub static KEYS: [u64; CAPABILITY_COUNT] = [
     0x4f54473100000000,
     0x4f54473200000000,
     0x4f54473300000000,

@@ -17,3 +17,4 @@ mod tables;
 pub use capability::{Cap, Kind};
 pub use lookup::{count, every_name_is_found, find, name, names_are_distinct};
 pub use name_order::{by_name, each_kind_is_in_order, orders_by_name_are_one};
+pub use tables::{CAPABILITY_COUNT, FLAG_COUNT, NUMBER_COUNT, TEXT_COUNT};

@@ -8,6 +8,9 @@ pub const NUMBER_COUNT: usize = 39;
 /// How many texts there are.
 pub const TEXT_COUNT: usize = 414;
 
+/// How many capabilities there are of all kinds.
+pub const CAPABILITY_COUNT: usize = FLAG_COUNT + NUMBER_COUNT + TEXT_COUNT;
+
 /// The names of the flags, by index.
 pub static FLAGS: [&str; FLAG_COUNT] = [
     "bw", "am", "xsb", "xhp", "xenl", "eo", "gn", "hc", "km", "hs", "in", "da", "db", "mir",
@@ -65,7 +68,7 @@ pub static TEXTS: [&str; TEXT_COUNT] = [
 
 /// Every capability, in the order of the bytes of the names, by its number: all of them are counted from 0, the
 /// flags first, then the numbers, then the texts, each in the order of its list.
-pub static BY_NAME: [u16; 497] = [
+pub static BY_NAME: [u16; CAPABILITY_COUNT] = [
     485, 483, 484, 486, 493, 490, 491, 488, 487, 489, 492, 40, 41, 480, 37, 80, 78, 79, 81, 477,
     82, 481, 482, 39, 479, 38, 42, 478, 77, 43, 229, 1, 28, 84, 455, 454, 453, 75, 76, 109, 110,
     496, 74, 60, 0, 83, 27, 389, 23, 96, 88, 92, 99, 456, 57, 44, 387, 35, 72, 85, 31, 446, 437,

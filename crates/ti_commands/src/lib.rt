@@ -7,12 +7,12 @@
 //! - `matches`: what clap's matches say of an argument
 #![tactic(auto)]
 
-pub mod arguments;
-pub mod commands;
+mod arguments;
+mod commands;
 mod infocmp_words;
-pub mod jobs;
+mod jobs;
 mod matches;
-pub mod mistakes;
+mod mistakes;
 mod rules;
 
 pub use arguments::{Refusal, UsageError, job, job_or_refusal};

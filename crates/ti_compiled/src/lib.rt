@@ -18,6 +18,6 @@ mod texts;
 
 pub use image::Image;
 pub use ti_layout::{
-    Format, HEADER_SIZE, Header, Mentions, ReadError, Table, Value, View, WriteError,
-    format_wanted, images_are_of_values, images_are_read, number, one_reading, word, write,
+    Mentions, ReadError, Table, Value, View, WriteError, images_are_of_values, images_are_read,
+    one_reading, write,
 };

@@ -16,11 +16,9 @@ ghost use Rattle.ti_compiled.specs.inside.Bytes.{Replaces};
 use crate::bytes::{overwrite, resize_part};
 use crate::header::{header_of, make_room, write_header};
 use byteorder::{ByteOrder, LittleEndian};
+use ti_caps::NUMBER_COUNT;
 use ti_layout::{Format, HEADER_SIZE, Header, WriteError, number};
 use ti_text::limits::LEGACY_NUMBER_MAX;
-
-// How many numbers there are.
-const NUMBERS: usize = 39;
 
 // What stands for a number that is absent, of either format.
 const ABSENT: u32 = u32::MAX;
@@ -35,12 +33,12 @@ fn numbers_place(header: &Header) -> usize
 }
 
 // The numbers of an image, each with what stands for it.
-fn read_numbers(bytes: &[u8], header: &Header) -> [u32; NUMBERS]
+fn read_numbers(bytes: &[u8], header: &Header) -> [u32; NUMBER_COUNT]
     requires image { IsImage bytes.now }
     requires sizes { HasSizes (names_in bytes.now) (contents_in bytes.now) header.now }
     ensures { result ≡ below (wide_value (contents_in bytes.now)) (count_of Number) }
 {
-    let mut values = [ABSENT; NUMBERS];
+    let mut values = [ABSENT; NUMBER_COUNT];
     let place = numbers_place(header);
     let width = header.format.width();
     for at in 0..header.numbers {
@@ -103,7 +101,12 @@ fn put_numbers(bytes: &mut Vec<u8>, place: usize, format: Format, values: &[u32]
 }
 
 // The numbers of the image when one is given or taken away.
-fn numbers_with(bytes: &[u8], old: &Header, index: usize, number: Option<u32>) -> [u32; NUMBERS]
+fn numbers_with(
+    bytes: &[u8],
+    old: &Header,
+    index: usize,
+    number: Option<u32>,
+) -> [u32; NUMBER_COUNT]
     requires image { IsImage bytes.now }
     requires old { HasSizes (names_in bytes.now) (contents_in bytes.now) old.now }
     requires index { index < count_of Number }

@@ -13,24 +13,24 @@
 //! - `tree`: what a tree of files is; `memory_tree` is one in memory, and `placing` writes files into a tree
 #![tactic(auto)]
 
-pub mod buffer;
-pub mod counted;
-pub mod line_reader;
-pub mod lines;
-pub mod memory_tree;
-pub mod paths;
-pub mod placing;
+mod buffer;
+mod counted;
+mod line_reader;
+mod lines;
+mod memory_tree;
+mod paths;
+mod placing;
 mod read_ahead;
-pub mod reading;
+mod reading;
 mod searching;
-pub mod tally;
-pub mod tool_error;
-pub mod tree;
-pub mod writing;
+mod tally;
+mod tool_error;
+mod tree;
+mod writing;
 
 pub use buffer::Buffer;
 pub use counted::Counted;
-pub use line_reader::{LineReader, Next};
+pub use line_reader::{LineReader, Next, READS_MAX};
 pub use lines::one_split;
 pub use memory_tree::MemTree;
 pub use paths::entry_path;

@@ -10,21 +10,18 @@ use crate::merging::{copy_of, push_copy};
 use crate::values::{Table, Value, rank};
 use std::alloc::{AllocError, Global};
 use std::marker::Model;
-use ti_caps::Cap;
-
-/// How many capabilities there are.
-const CAPABILITIES: usize = 497;
+use ti_caps::{CAPABILITY_COUNT, Cap};
 
 /// So many mentions are brought into order by a walk over the places of all capabilities; fewer are inserted one by one.
 const MANY: usize = 24;
 
 // For each capability, by its place in the order of the entry, one more than the place of its first mention; 0 where there
 // is none.
-fn first_places(mentions: &[(Cap, Value)]) -> [u16; CAPABILITIES]
+fn first_places(mentions: &[(Cap, Value)]) -> [u16; CAPABILITY_COUNT]
     requires few { FitsTwoBytes (length mentions.now) }
     ensures { AreMentionPlaces (entries_of mentions.now) result }
 {
-    let mut places = [0; CAPABILITIES];
+    let mut places = [0; CAPABILITY_COUNT];
     for (index, mention) in mentions.iter().enumerate() {
         let rank = rank(mention.0);
         if places[rank] == 0 {
@@ -42,7 +39,7 @@ fn first_mentions(alloc: Global, mentions: &[(Cap, Value)]) -> Result<Vec<(Cap, 
     ensures said { IfOk result (λ v. (c : Capability) → IsCapability c → contents (entries_of v.items) c ≡ contents (entries_of mentions.now) c) }
 {
     let places = first_places(mentions);
-    let mut entries = Vec::with_capacity(alloc, mentions.len().min(CAPABILITIES))?;
+    let mut entries = Vec::with_capacity(alloc, mentions.len().min(CAPABILITY_COUNT))?;
     for place in &places {
         if *place > 0 {
             push_copy(&mut entries, &mentions[*place as usize - 1])?;

@@ -8,17 +8,12 @@ use crate::fault::ReadError;
 use crate::layout::{Format, HEADER_SIZE, Header};
 use byteorder::{ByteOrder, LittleEndian};
 use memchr::{memchr, memrchr};
+use ti_caps::{FLAG_COUNT, NUMBER_COUNT, TEXT_COUNT};
 
 /// The first size or offset that is negative as a signed number of 16 bits.
 const NEGATIVE: usize = 0x8000;
 /// -2, a cancelled offset; -1 is an absent one.
 const CANCELLED: usize = 0xfffe;
-
-const FLAGS_MAX: usize = 44;
-
-const NUMBERS_MAX: usize = 39;
-
-const TEXTS_MAX: usize = 414;
 
 /// The sections of an entry, as they lie in its bytes; the names with their NUL.
 #[derive(Clone, Copy)]
@@ -75,9 +70,9 @@ fn read_header(bytes: &[u8]) -> Result<Header, ReadError>
         strings: word(bytes, 10),
     };
     if header.names >= NEGATIVE
-        || header.flags > FLAGS_MAX
-        || header.numbers > NUMBERS_MAX
-        || header.texts > TEXTS_MAX
+        || header.flags > FLAG_COUNT
+        || header.numbers > NUMBER_COUNT
+        || header.texts > TEXT_COUNT
         || header.strings >= NEGATIVE
     {
         return Err(ReadError::Counts);

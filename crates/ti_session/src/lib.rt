@@ -10,8 +10,8 @@
 mod editor;
 mod replies;
 mod requests;
-pub mod script_laws;
-pub mod streaming;
+mod script_laws;
+mod streaming;
 
 pub use script_laws::{one_answer, one_output};
 pub use streaming::session;

@@ -40,5 +40,4 @@ pub use parsing::{
 };
 pub use sharing::SharedTexts;
 pub use ti_spelling::{UnescapeError, Unescaped, escape, one_outcome, unescape, written_spells};
-pub use ti_text::lines_add;
 pub use walk::Blocks;

@@ -1,16 +1,15 @@
 // Text that grows in room made before, and its lines.
 use std::test::Fail;
 use ti_text::count_lines;
-use ti_text::room::{append_reserved, fill_reserved, insert_reserved};
+use ti_text::room::{append_reserved, fill_reserved};
 
 #[test]
 fn grows_in_room_made_before(rt: HostRuntime) -> Result<(), Fail> {
-    let mut text = Vec::with_capacity(rt.alloc(), 7)?;
+    let mut text = Vec::with_capacity(rt.alloc(), 6)?;
     append_reserved(&mut text, b"ab");
     fill_reserved(&mut text, b'-', 3);
     append_reserved(&mut text, b"c");
-    insert_reserved(&mut text, 1, b'|');
-    assert_eq!(rt; text.as_slice(), b"a|b---c".as_slice());
+    assert_eq!(rt; text.as_slice(), b"ab---c".as_slice());
     Ok(())
 }
 

@@ -9,4 +9,4 @@ mod spelling;
 mod writing;
 
 pub use spelling::{UnescapeError, Unescaped, one_outcome, unescape};
-pub use writing::{MOST_ESCAPED, escape, escaped_len, push_escaped, write_escaped, written_spells};
+pub use writing::{MOST_ESCAPED, escape, push_escaped, write_escaped, written_spells};

@@ -90,44 +90,6 @@ fn write_byte(text: &mut Vec<u8>, percent: bool, edge: bool, byte: u8)
     }
 }
 
-/// How many bytes the text of one byte has, where `percent` and `edge` are as in [`write_byte`].
-#[tactic(auto, unfolding(crate::specs::Spelling::byte_text))]
-fn byte_len(percent: bool, edge: bool, byte: u8) -> usize
-    ensures value { result ≡ length (byte_text percent edge byte) }
-    ensures most { result ≤ 4 }
-{
-    if is_plain(byte) {
-        return 1;
-    }
-    if short_escape(byte).is_some() {
-        return 2;
-    }
-    match byte {
-        b' ' if edge => 2,
-        b'^' if !percent => 2,
-        0x1c | 0x80..=0xff => 4,
-        0x01..=0x1f | 0x7f if percent => 4,
-        0x01..=0x1f | 0x7f => 2,
-        _ => 1,
-    }
-}
-
-/// How many bytes the text has that spells `value`: one to four for each of its bytes.
-pub fn escaped_len(value: &[u8]) -> usize
-    requires { length value.now < 2 ^ 61 }
-    ensures len { result ≡ length (spelling_of value.now) }
-    ensures most { result ≤ 4 * length value.now }
-{
-    let mut len = 0;
-    let mut before = 0;
-    for (i, &byte) in value.iter().enumerate() {
-        let at_edge = i == 0 || i == value.len() - 1;
-        len += byte_len(before == b'%', at_edge, byte);
-        before = byte;
-    }
-    len
-}
-
 /// Appends the text that spells `value`, as [`escape`] gives it, into room for four bytes for each of its own. It takes no
 /// memory.
 pub fn write_escaped(text: &mut Vec<u8>, value: &[u8])

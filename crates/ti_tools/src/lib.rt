@@ -12,14 +12,14 @@
 //! tools need of them is public here too, as is `ti_tput`.
 #![tactic(auto)]
 
-pub mod compiling;
+mod compiling;
 mod entry_files;
-pub mod laws;
+mod laws;
 mod listings;
 mod loading;
 mod outcome;
 mod sources;
-pub mod stopping;
+mod stopping;
 
 pub use compiling::tic;
 pub use listings::{InfocmpOptions, infocmp};
