@@ -2,7 +2,8 @@
 // node, and with the nodes of open components on one path.
 ghost use Rattle.std.specs.Prelude.{◌≡◌, ◌<◌, ◌≤◌, ℕ, Some, slice_get, vec_len, OnOk, IfOk};
 ghost use Rattle.ti_components.specs.Graph.{IsGraph};
-ghost use Rattle.ti_components.specs.inside.Search.{AreNodes, ClosesPath, Enters, Follows, IsCutOffAt, IsFresh, IsIdle, IsMarked, IsSearched, IsWalkOf, Leaves, Rises, Steps, WalksFrom};
+ghost use Rattle.ti_components.specs.inside.Search.{ClosesPath, Enters, Follows, IsCutOffAt, IsFresh, IsIdle, IsMarked, IsSearched, IsWalkOf, Leaves, Rises, Steps, WalksFrom};
+ghost use Rattle.ti_text.specs.Lists.{AreBelow};
 ghost use Rattle.ti_components.specs.declared.search.Progress.TheVariants.{Unseen};
 
 use crate::graph::Graph;
@@ -91,7 +92,7 @@ impl Search {
     /// Closes the component of the nodes that stand on the path from a place on.
     fn close(&mut self, start: usize) -> Result<(), AllocError>
         requires within { start ≤ vec_len self.old.path }
-        requires nodes { AreNodes self.old.path.items (vec_len self.old.progress) }
+        requires nodes { AreBelow self.old.path.items (vec_len self.old.progress) }
         ensures { OnOk result (ClosesPath self.old self.new start) }
     {
         let number = self.order.len();
@@ -108,7 +109,7 @@ impl Search {
         requires active { 0 < vec_len self.old.active }
         requires starts { 0 < vec_len self.old.starts }
         requires within { (k : ℕ) (place : ℕ) → slice_get self.old.active.items k ≡ Some place → place < vec_len self.old.path }
-        requires nodes { AreNodes self.old.path.items (vec_len self.old.progress) }
+        requires nodes { AreBelow self.old.path.items (vec_len self.old.progress) }
         ensures { OnOk result (Leaves self.old self.new) }
     {
         let top = self.active.len() - 1;
@@ -171,7 +172,7 @@ fn cut_above(starts: &mut Vec<usize>, place: usize)
 
 /// Closes nodes under a number.
 fn mark_closed(progress: &mut Vec<Progress>, nodes: &[usize], number: usize)
-    requires { AreNodes nodes.now (vec_len progress.old) }
+    requires { AreBelow nodes.now (vec_len progress.old) }
     ensures { IsMarked progress.old.items progress.new.items nodes.now number }
 {
     for node in nodes {

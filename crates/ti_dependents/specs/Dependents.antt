@@ -1,5 +1,6 @@
 -- What a search finds of the blocks that depend on an edit (own).
 use Rattle.std.specs.Prelude.{ℕ, ◌≡◌, ◌<◌, ◌↔◌, List, length, Option, Some, slice_get, Contains}
+use Rattle.ti_text.specs.Lists.{AreDistinct}
 use Rattle.ti_source.specs.Reading.{ReadItem}
 use Rattle.ti_meaning.specs.Reaching.{used_name}
 use Rattle.ti_meaning.specs.Exchange.{Exchange, IsExchange, new_list}
@@ -21,7 +22,7 @@ pub record IsExchangeOf (slots : Slots) (put : Option ℕ) (out : List (List ℕ
 pub record AreDependentIds (slots : Slots) (put : Option ℕ) (out : List (List ℕ)) (ids places : List ℕ) : Type 0 where
   pub as_many : length places ≡ length ids
   pub stands : (i id at : ℕ) → slice_get ids i ≡ Some id → slice_get places i ≡ Some at → StandsAt slots at id
-  pub once : (i j id : ℕ) → slice_get ids i ≡ Some id → slice_get ids j ≡ Some id → i ≡ j
+  pub once : AreDistinct ids
   pub dependents : (exchange : Exchange) → IsExchangeOf slots put out exchange → (at : ℕ) → Contains places at ↔ IsDependent exchange at
   pub closed : AreFound (blocks_of slots) places
 

@@ -2,8 +2,7 @@
 ghost use Rattle.std.specs.Prelude.{◌≡◌, ◌<◌, ℕ, Some, IsSome, map, nat_eq, slice_get, OnOk, IfOk};
 ghost use Rattle.ti_source.specs.Reading.{item_of};
 ghost use Rattle.std.specs.List.{IsDistinct};
-ghost use Rattle.ti_text.specs.Lists.{Has};
-ghost use Rattle.ti_index.specs.Labels.{AreDistinct};
+ghost use Rattle.ti_text.specs.Lists.{Has, AreDistinct};
 ghost use Rattle.ti_slots.specs.Slots.{slot_at, IsIndexed};
 ghost use Rattle.ti_components.specs.Graph.{IsGraph};
 ghost use Rattle.ti_dependents.specs.Dependents.{IsEdgeOf, IsGraphOfUses};

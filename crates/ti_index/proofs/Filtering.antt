@@ -4,11 +4,10 @@ use Rattle.std.proofs.lemmas.Bool.{cases_lt, cases_eq, cases_Bool, false≢true,
 use Rattle.std.proofs.lemmas.List.Elements.{filter-append}
 use Rattle.std.proofs.lemmas.Option.{same_Some, none-some}
 use Rattle.ti_index.specs.inside.Labels.{AreLabelled}
-use Rattle.ti_text.specs.Lists.{Has}
-use Rattle.ti_index.specs.Labels.{AreKnown, AreDistinct}
+use Rattle.ti_text.specs.Lists.{Has, AreBelow, AreDistinct}
 use Rattle.ti_index.specs.Listing.{Lists, ListsBefore, ListsToo, ListsNoMore}
 use Rattle.ti_index.proofs.Placing.{labels_decide_before}
-use Rattle.ti_index.proofs.Lists.{get_back, take_get, drop_get}
+use Rattle.ti_text.proofs.Lists.{get_back, take_get, drop_get}
 
 -- ---- the place of an element that passes
 
@@ -228,12 +227,12 @@ take_there listed list id count place d f before h t e =
 
 -- ---- a comparison by labels
 
-pub decided_true : (ids labels : List ℕ) (x id : ℕ) → AreLabelled ids labels → AreKnown ids (length labels) → get_or labels x 0 < get_or labels id 0 → IsDecidedBefore ids x id true
+pub decided_true : (ids labels : List ℕ) (x id : ℕ) → AreLabelled ids labels → AreBelow ids (length labels) → get_or labels x 0 < get_or labels id 0 → IsDecidedBefore ids x id true
 decided_true ids labels x id labelled known less i j e f =
     let decided = labels_decide_before ids labels i j x id labelled known e f in
     ((λ t. decided.0 less), λ l. refl)
 
-pub decided_false : (ids labels : List ℕ) (x id : ℕ) → AreLabelled ids labels → AreKnown ids (length labels) → get_or labels id 0 ≤ get_or labels x 0 → IsDecidedBefore ids x id false
+pub decided_false : (ids labels : List ℕ) (x id : ℕ) → AreLabelled ids labels → AreBelow ids (length labels) → get_or labels id 0 ≤ get_or labels x 0 → IsDecidedBefore ids x id false
 decided_false ids labels x id labelled known more i j e f =
     let decided = labels_decide_before ids labels i j x id labelled known e f in
     ((λ t. absurd (false≢true t)), λ l. (let less = decided.1 l in absurd (omega arith)))

@@ -3,8 +3,7 @@ use Rattle.std.proofs.Common.{◌≡◌, ℕ, ◌+◌, ◌<◌, ◌≤◌, inl, 
 use Rattle.std.proofs.lemmas.Bool.{cases_lt, cases_eq}
 use Rattle.std.proofs.lemmas.Option.{same_Some, slice_get_within, slice_get-get_or}
 use Rattle.ti_index.specs.inside.Labels.{HasLabel, AreLabelled}
-use Rattle.ti_text.specs.Lists.{Has}
-use Rattle.ti_index.specs.Labels.{AreKnown}
+use Rattle.ti_text.specs.Lists.{Has, AreBelow}
 
 -- the id stands in the list, and between the bounds
 pub record IsBetween (ids : List ℕ) (id low high : ℕ) : Type 0 where
@@ -16,7 +15,7 @@ pub record IsBetween (ids : List ℕ) (id low high : ℕ) : Type 0 where
   pub some : low ≡ high → place < length ids
 
 -- the label of the id at a place of the list
-label_read : (ids labels : List ℕ) (i id : ℕ) → AreKnown ids (length labels) → slice_get ids i ≡ Some id → HasLabel ids labels i (get_or labels id 0)
+label_read : (ids labels : List ℕ) (i id : ℕ) → AreBelow ids (length labels) → slice_get ids i ≡ Some id → HasLabel ids labels i (get_or labels id 0)
 label_read ids labels i id known e = (id, e, slice_get-get_or labels id 0 (known i id e))
 
 pub between_begun : (ids : List ℕ) (id : ℕ) → Has ids id → IsBetween ids id 0 (length ids)
@@ -24,7 +23,7 @@ between_begun ids id h =
     let l = slice_get_within ids h.0 id h.1 in
     record { within = omega arith; place = h.0; stands = h.1; from_low = omega arith; to_high = omega arith; some = λ e. l }
 
-pub between_above : (ids labels : List ℕ) (id low high middle : ℕ) → AreLabelled ids labels → AreKnown ids (length labels) → IsBetween ids id low high → low ≤ middle → middle < high → get_or labels (get_or ids middle 0) 0 < get_or labels id 0 → IsBetween ids id (middle + 1) high
+pub between_above : (ids labels : List ℕ) (id low high middle : ℕ) → AreLabelled ids labels → AreBelow ids (length labels) → IsBetween ids id low high → low ≤ middle → middle < high → get_or labels (get_or ids middle 0) 0 < get_or labels id 0 → IsBetween ids id (middle + 1) high
 between_above ids labels id low high middle labelled known h l m less =
     let here = label_read ids labels h.place id known h.stands in
     let within = h.within in
@@ -48,7 +47,7 @@ between_above ids labels id low high middle labelled known h l m less =
       some = λ e. bound;
     }
 
-pub between_below : (ids labels : List ℕ) (id low high middle : ℕ) → AreLabelled ids labels → AreKnown ids (length labels) → IsBetween ids id low high → low ≤ middle → middle < high → get_or labels id 0 ≤ get_or labels (get_or ids middle 0) 0 → IsBetween ids id low middle
+pub between_below : (ids labels : List ℕ) (id low high middle : ℕ) → AreLabelled ids labels → AreBelow ids (length labels) → IsBetween ids id low high → low ≤ middle → middle < high → get_or labels id 0 ≤ get_or labels (get_or ids middle 0) 0 → IsBetween ids id low middle
 between_below ids labels id low high middle labelled known h l m more =
     let here = label_read ids labels h.place id known h.stands in
     let within = h.within in
@@ -74,7 +73,7 @@ between_found ids id low high h l =
     rw same at h.stands
 
 -- labels say which of two stands first
-pub labels_decide_before : (ids labels : List ℕ) (i j one other : ℕ) → AreLabelled ids labels → AreKnown ids (length labels) → slice_get ids i ≡ Some one → slice_get ids j ≡ Some other → (get_or labels one 0 < get_or labels other 0 → i < j) × (i < j → get_or labels one 0 < get_or labels other 0)
+pub labels_decide_before : (ids labels : List ℕ) (i j one other : ℕ) → AreLabelled ids labels → AreBelow ids (length labels) → slice_get ids i ≡ Some one → slice_get ids j ≡ Some other → (get_or labels one 0 < get_or labels other 0 → i < j) × (i < j → get_or labels one 0 < get_or labels other 0)
 labels_decide_before ids labels i j one other labelled known e f =
     let a = label_read ids labels i one known e in
     let b = label_read ids labels j other known f in (

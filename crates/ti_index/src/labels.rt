@@ -1,8 +1,7 @@
 // Labels that rise along a list of ids, with room between for labels of ids that are put in.
 ghost use Rattle.std.specs.Prelude.{◌≡◌, ◌<◌, ◌≤◌, ◌*◌, ◌+◌, ◌^◌, ℕ, Some, slice_get, length, vec_len};
 ghost use Rattle.ti_index.specs.inside.Labels.{AreLabelled, FitsAt, IsGap};
-ghost use Rattle.ti_text.specs.Lists.{Has};
-ghost use Rattle.ti_index.specs.Labels.{AreKnown, AreDistinct};
+ghost use Rattle.ti_text.specs.Lists.{Has, AreBelow, AreDistinct};
 
 /// Labels stay below this.
 const LABEL_END: u64 = 1 << 63;
@@ -13,7 +12,7 @@ const LABEL_STEP: u64 = 1 << 32;
 
 /// Gives the ids labels anew, far apart.
 fn relabel(ids: &[u32], labels: &mut Vec<u64>)
-    requires known { AreKnown ids.now (vec_len labels.old) }
+    requires known { AreBelow ids.now (vec_len labels.old) }
     requires distinct { AreDistinct ids.now }
     requires few { length ids.now < 2 ^ 31 }
     ensures len { vec_len labels.new ≡ vec_len labels.old }
@@ -26,7 +25,7 @@ fn relabel(ids: &[u32], labels: &mut Vec<u64>)
 
 /// The labels of the ids before and behind a place between ids, or the ends.
 fn gap_at(ids: &[u32], labels: &[u64], position: usize) -> (u64, u64)
-    requires known { AreKnown ids.now (length labels.now) }
+    requires known { AreBelow ids.now (length labels.now) }
     requires labelled { AreLabelled ids.now labels.now }
     requires within { position ≤ length ids.now }
     ensures { IsGap ids.now labels.now position result.0 result.1 }
@@ -47,7 +46,7 @@ fn gap_at(ids: &[u32], labels: &[u64], position: usize) -> (u64, u64)
 /// A label for an id to be put in at a position. Where there is no room between its neighbours, all
 /// ids get labels anew.
 pub(crate) fn make_label(ids: &[u32], labels: &mut Vec<u64>, position: usize) -> u64
-    requires known { AreKnown ids.now (vec_len labels.old) }
+    requires known { AreBelow ids.now (vec_len labels.old) }
     requires distinct { AreDistinct ids.now }
     requires labelled { AreLabelled ids.now labels.old.items }
     requires few { length ids.now < 2 ^ 31 }
@@ -76,7 +75,7 @@ fn label_within(low: u64, high: u64) -> u64
 
 /// The place of an id that stands in the list, by a binary search for its label.
 pub(crate) fn find_place(ids: &[u32], labels: &[u64], id: u32) -> usize
-    requires known { AreKnown ids.now (length labels.now) }
+    requires known { AreBelow ids.now (length labels.now) }
     requires labelled { AreLabelled ids.now labels.now }
     requires stands { Has ids.now id }
     ensures { slice_get ids.now result ≡ Some id }

@@ -1,7 +1,6 @@
 // The ids of blocks in the order of their list.
 ghost use Rattle.std.specs.Prelude.{◌≡◌, ◌<◌, ◌≤◌, ◌+◌, ◌^◌, ◌++◌, ◌∷◌, ◌↔◌, [], ℕ, Some, slice_get, length, insert, remove, vec_capacity, IsTrue, OnOk, OnErr};
-ghost use Rattle.ti_text.specs.Lists.{Has};
-ghost use Rattle.ti_index.specs.Labels.{AreKnown, AreDistinct};
+ghost use Rattle.ti_text.specs.Lists.{Has, AreBelow, AreDistinct};
 ghost use Rattle.ti_index.specs.Listing.{AreAmong, ListsBefore};
 
 use crate::labels::{find_place, make_label};
@@ -57,8 +56,8 @@ impl Order {
     /// that number.
     pub fn count(&self) -> usize
         ensures count { result ≡ length self.now.listed + length self.now.free }
-        ensures listed { AreKnown self.now.listed result }
-        ensures free { AreKnown self.now.free result }
+        ensures listed { AreBelow self.now.listed result }
+        ensures free { AreBelow self.now.free result }
     {
         self.labels.len()
     }

@@ -1,5 +1,6 @@
 -- When the plan of an edit is right (own).
 use Rattle.std.specs.Prelude.{ℕ, ◌≡◌, ◌<◌, ◌↔◌, List, length, Option, Some, slice_get, Contains}
+use Rattle.ti_text.specs.Lists.{AreDistinct}
 use Rattle.ti_source.specs.Sound.{IsRising}
 use Rattle.ti_meaning.specs.Exchange.{Exchange}
 use Rattle.ti_meaning.specs.Dependents.{AreDependents, IsDependent, work}
@@ -28,7 +29,7 @@ IsReady slots put out = (exchange : Exchange) × IsExchangeOf slots put out exch
 -- and the work
 pub record IsPlan (slots : Slots) (put : Option ℕ) (out : List (List ℕ)) (plan : Plan) : Type 0 where
   pub as_many : length plan.settled.items ≡ length plan.ids.items
-  pub once : (i j id : ℕ) → slice_get plan.ids.items i ≡ Some id → slice_get plan.ids.items j ≡ Some id → i ≡ j
+  pub once : AreDistinct plan.ids.items
   pub stands : (i id : ℕ) → slice_get plan.ids.items i ≡ Some id → (at : ℕ) × StandsAt slots at id
   pub rebuilt : (at id : ℕ) → StandsAt slots at id → Contains plan.rebuilt.items at ↔ ((i : ℕ) × (slice_get plan.ids.items i ≡ Some id))
   pub settled : (i at id : ℕ) (settled : Settled) → slice_get plan.ids.items i ≡ Some id → slice_get plan.settled.items i ≡ Some settled

@@ -3,7 +3,7 @@
 use Rattle.std.specs.Prelude.{ℕ, suc, ◌≡◌, ◌<◌, ◌≤◌, ◌+◌, ◌-◌, ◌*◌, ◌⊎◌, ◌++◌, List, [], ◌∷◌, length, take, drop, Option, Some, slice_get, slice_set}
 use Rattle.ti_components.specs.Graph.{Rows, HasEdge}
 use Rattle.ti_components.specs.Leading.{Leads}
-use Rattle.ti_text.specs.Lists.{Has}
+use Rattle.ti_text.specs.Lists.{Has, AreDistinct}
 use Rattle.ti_components.specs.declared.search.Progress.{Progress}
 use Rattle.ti_components.specs.declared.search.Progress.TheVariants.{Unseen, OnPath, Closed}
 use Rattle.ti_components.specs.declared.search.Search.{Search}
@@ -52,7 +52,7 @@ pub record IsOrderSoFar (progress : List Progress) (order : List ℕ) : Type 0 w
   pub closed : (i u : ℕ) → slice_get order i ≡ Some u → (c : ℕ) × (slice_get progress u ≡ Some (Closed c)) × (c ≤ i)
   pub early : (j w d u c : ℕ) → slice_get order j ≡ Some w → slice_get progress w ≡ Some (Closed d) → slice_get progress u ≡ Some (Closed c) → d < c → j < c
   pub first : (u c : ℕ) → slice_get progress u ≡ Some (Closed c) → (v : ℕ) × (slice_get order c ≡ Some v) × (slice_get progress v ≡ Some (Closed c))
-  pub once : (i j u : ℕ) → slice_get order i ≡ Some u → slice_get order j ≡ Some u → i ≡ j
+  pub once : AreDistinct order
 
 pub record IsWalk (graph : Rows) (progress : List Progress) (cursors path starts active order : List ℕ) : Type 0 where
   pub going : IsPath graph progress cursors path starts active
@@ -127,10 +127,6 @@ pub record Leaves (old new : Search) : Type 0 where
   pub met : KeepsMet old new
   pub fewer : length new.active.items + 1 ≡ length old.active.items
   pub left : (graph : Rows) (place : ℕ) → IsWalkOf graph old → IsTop old.active.items place → IsSpent graph old place → IsWalkOf graph new
-
--- the nodes of the path are nodes
-abbrev pub AreNodes : List ℕ → ℕ → Type 0
-AreNodes path count = (k v : ℕ) → slice_get path k ≡ Some v → v < count
 
 -- how many edges were not gone through
 abbrev pub edges_left : Rows → List ℕ → ℕ

@@ -1,7 +1,7 @@
 -- What the steps that make the places and the graph of the blocks found have made so far (own).
 use Rattle.std.specs.Prelude.{ℕ, ◌≡◌, ◌++◌, ◌∷◌, [], List, length, nat_eq, Option, Some, slice_get}
 use Rattle.std.specs.List.{IsDistinct}
-use Rattle.ti_index.specs.Labels.{AreDistinct}
+use Rattle.ti_text.specs.Lists.{AreDistinct}
 use Rattle.ti_source.specs.Reading.{ReadItem}
 use Rattle.ti_components.specs.Graph.{Rows}
 use Rattle.ti_slots.specs.declared.slots.Slots.{Slots}

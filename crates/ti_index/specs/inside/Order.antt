@@ -1,7 +1,7 @@
 -- Ids in the order of a list (own).
 use Rattle.std.specs.Prelude.{ℕ, ◌≡◌, ◌≤◌, ◌+◌, ◌^◌, List, length, Some, slice_get}
 use Rattle.ti_index.specs.inside.Labels.{AreLabelled}
-use Rattle.ti_index.specs.Labels.{AreKnown, AreDistinct}
+use Rattle.ti_text.specs.Lists.{AreBelow, AreDistinct}
 
 -- the ids of a list, in its order, and those that stand nowhere, the last freed at the end
 pub record Ids : Type 0 where
@@ -12,8 +12,8 @@ pub record Ids : Type 0 where
 -- is room to move every id
 pub record IsOrder (ids labels free : List ℕ) (ids_room free_room : ℕ) : Type 0 where
   pub labelled : AreLabelled ids labels
-  pub ids_known : AreKnown ids (length labels)
-  pub free_known : AreKnown free (length labels)
+  pub ids_known : AreBelow ids (length labels)
+  pub free_known : AreBelow free (length labels)
   pub ids_distinct : AreDistinct ids
   pub free_distinct : AreDistinct free
   pub apart : (i j id : ℕ) → slice_get ids i ≡ Some id → slice_get free j ≡ Some id → ⊥

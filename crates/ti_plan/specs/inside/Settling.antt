@@ -13,7 +13,7 @@ use Rattle.ti_meaning.specs.UseLaws.{AreFound, HaveOneNumber}
 use Rattle.ti_meaning.specs.ValueTables.{HasTable, IsTableOfMentions}
 use Rattle.ti_components.specs.Graph.{Rows, HasEdge, IsGraph}
 use Rattle.ti_components.specs.Components.{AreComponents}
-use Rattle.ti_index.specs.Labels.{AreDistinct}
+use Rattle.ti_text.specs.Lists.{AreDistinct}
 use Rattle.ti_slots.specs.declared.slots.Slots.{Slots}
 use Rattle.ti_slots.specs.declared.slots.Settled.{Settled}
 use Rattle.ti_slots.specs.declared.slots.State.{State}
@@ -32,7 +32,7 @@ pub record AreFoundIn (slots : Slots) (dependents : Dependents) : Type 0 where
   pub distinct : AreDistinct slots.order.listed
   pub as_many : length dependents.places.items ≡ length dependents.ids.items
   pub stands : (i id at : ℕ) → slice_get dependents.ids.items i ≡ Some id → slice_get dependents.places.items i ≡ Some at → StandsAt slots at id
-  pub once : (i j id : ℕ) → slice_get dependents.ids.items i ≡ Some id → slice_get dependents.ids.items j ≡ Some id → i ≡ j
+  pub once : AreDistinct dependents.ids.items
   pub closed : AreFound (blocks_of slots) dependents.places.items
   pub graph : IsGraphOfUses slots dependents.ids.items dependents.uses
   pub whole : IsGraph dependents.uses

@@ -1,6 +1,10 @@
 -- Elements of lists by their places.
-use Rattle.std.proofs.Common.{◌≡◌, ℕ, zero, suc, ◌+◌, ◌<◌, ◌⊎◌, inl, inr, List, [], ◌∷◌, ◌++◌, length, set, take, drop, Some, slice_get, refl, sym, ap, arith}
+use Rattle.std.proofs.Common.{◌≡◌, ℕ, zero, suc, ◌+◌, ◌<◌, ◌⊎◌, inl, inr, true, List, [], ◌∷◌, ◌++◌, length, get_or, set, take, drop, map, nat_eq, Some, slice_get, refl, sym, ap, arith}
+use Rattle.std.specs.List.{list_any}
+use Rattle.std.proofs.lemmas.Bool.{false≢true, or_cases, eqb-true}
+use Rattle.std.proofs.lemmas.List.{map-append, take_more}
 use Rattle.std.proofs.lemmas.Option.{same_Some, none-some}
+use Rattle.ti_text.specs.Lists.{Has}
 
 module _ {X : Type 0} where
   pub get_front : (xs ys : List X) (i : ℕ) (x : X) → slice_get xs i ≡ Some x → slice_get (xs ++ ys) i ≡ Some x
@@ -73,3 +77,39 @@ module _ {X : Type 0} where
   item_at [] i l = absurd (omega arith)
   item_at (x ∷ xs) zero l = (x, refl)
   item_at (x ∷ xs) (suc i) l = item_at xs i (omega arith)
+
+-- ---- what stands in a list
+
+pub Has_front : (xs ys : List ℕ) (x : ℕ) → Has xs x → Has (xs ++ ys) x
+Has_front xs ys x h = (h.0, get_front xs ys h.0 x h.1)
+
+pub Has_last : (xs : List ℕ) (y : ℕ) → Has (xs ++ y ∷ []) y
+Has_last xs y = (length xs, get_last xs y)
+
+pub Has_push : (xs : List ℕ) (y x : ℕ) → Has (xs ++ y ∷ []) x → Has xs x ⊎ (x ≡ y)
+Has_push xs y x h = elim (push_cases xs y h.0 x h.1) [ inl here ↦ inl (h.0, here) | inr last ↦ inr last.1 ]
+
+pub Has_split : (xs ys : List ℕ) (x : ℕ) → Has (xs ++ ys) x → Has xs x ⊎ Has ys x
+Has_split xs ys x h =
+    elim (get_cases xs ys h.0 x h.1) [ inl here ↦ inl (h.0, here) | inr there ↦ inr (there.0, there.2) ]
+
+pub Has_one : (y x : ℕ) → Has (y ∷ []) x → x ≡ y
+Has_one y x (zero, e) = sym (same_Some y x e)
+Has_one y x (suc i, e) = absurd (none-some x e)
+
+pub Has_none : (x : ℕ) → Has [] x → ⊥
+Has_none x h = none-some x h.1
+
+pub Has_from_any : (xs : List ℕ) (x : ℕ) → list_any (nat_eq x) xs ≡ true → Has xs x
+Has_from_any [] x e = absurd (false≢true e)
+Has_from_any (y ∷ ys) x e =
+    elim (or_cases (nat_eq x y) (list_any (nat_eq x) ys) e) [
+      | inl here ↦ (0, ap (λ z. Some z) (sym (eqb-true x y here)))
+      | inr later ↦ let w = Has_from_any ys x later in (suc w.0, w.1)
+    ]
+
+pub take_item : {X : Type 0} (xs : List X) (i : ℕ) (x : X) → i < length xs → x ≡ get_or xs i x → take (i + 1) xs ≡ take i xs ++ x ∷ []
+take_item xs i x l e = rw (take_more xs i x l, ← e) refl
+
+pub map-take_item : {X Y : Type 0} (f : X → Y) (xs : List X) (i : ℕ) (x : X) → i < length xs → x ≡ get_or xs i x → map f (take (i + 1) xs) ≡ map f (take i xs) ++ f x ∷ []
+map-take_item f xs i x l e = rw (take_more xs i x l, map-append f (take i xs) (get_or xs i x ∷ []), ← e) refl
