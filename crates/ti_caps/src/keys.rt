@@ -5,8 +5,8 @@ ghost use Rattle.ti_caps.specs.inside.Keys.{key_of};
 /// How many bytes of a name its key has.
 const KEY_BYTES: usize = 8;
 
-/// The key of a name: its first eight bytes as one number, with zeros behind a shorter name. Names in the
-/// order of their bytes have their keys in order.
+/// The key of a name: its first eight bytes as one number, with zeros after a shorter name. Names
+/// in the order of their bytes have their keys in order.
 pub fn key_of(name: &[u8]) -> u64
     ensures { result ≡ key_of name.now }
 {

@@ -1,4 +1,4 @@
-//! Padding: a capability's text as bytes for the terminal, with pad bytes at the line's speed.
+//! Padding: a capability's string as bytes for the terminal, with pad bytes at the line's speed.
 ghost use Rattle.std.specs.Prelude.{◌≡◌, ◌+◌, ◌<◌, ◌≤◌, ◌++◌, ◌↔◌, length, IfOk, IfSome, SomeIff, MatchOption, vec_len, vec_capacity};
 ghost use Rattle.std.specs.Iterator.{YieldsFirst, item_count};
 ghost use Rattle.ti_printing.specs.Padding.{AsksForTooMuch, IsPadded, TextsHaveOneCut, delay_digits_max, pad_bytes_max, pad_count};
@@ -12,13 +12,13 @@ use ti_text::room::fill_reserved;
 /// The line to the terminal.
 #[derive(Clone, Copy, Debug, PartialEq, Eq)]
 pub struct Line {
-    /// The speed in bits a second; a byte takes ten bits.
+    /// The speed in bits per second; a byte takes ten bits.
     pub rate: u32,
-    /// The terminal stops the line by itself, so that only mandatory padding is written.
+    /// The terminal stops the line itself, so that only mandatory padding is written.
     pub xon: bool,
-    /// The least rate at which padding is written.
+    /// The least rate, in bits per second, at which padding is written.
     pub pad_from: u32,
-    /// The byte that passes the time; None where the terminal has none, and no padding is written.
+    /// The byte that passes the time; `None` if the terminal has none: then no padding is written.
     pub pad_byte: Option<u8>,
 }
 
@@ -49,13 +49,13 @@ impl From<AllocError> for PadError {
     }
 }
 
-/// The text with each padding `$<..>` as pad bytes, where it takes effect on `lines` lines. See "Delays
-/// and Padding" in terminfo(5).
+/// The text with each padding `$<..>` as pad bytes, if it takes effect on `lines` lines. See
+/// "Delays and Padding" in terminfo(5).
 ///
 /// # Errors
 ///
-/// `TooMuch` where the text asks for more than 65,536 pad bytes, which is found before any room is made;
-/// `Memory` where the room was refused.
+/// `TooMuch` if the text asks for more than 65,536 pad bytes, which is found before any room is
+/// made; `Memory` if the room was refused.
 pub fn pad(alloc: Global, text: &[u8], lines: u32, line: &Line) -> Result<Vec<u8>, PadError>
     ensures ok { IfOk result (λ out. IsPadded text.now lines line.now out.items) }
     ensures too_much { (result ≡ Err PadError.TooMuch) ↔ AsksForTooMuch text.now lines line.now }
@@ -66,7 +66,8 @@ pub fn pad(alloc: Global, text: &[u8], lines: u32, line: &Line) -> Result<Vec<u8
     }
 }
 
-/// A text that the caller gives up, padded as [`pad`] does: one without padding is given back as it is, and takes no memory.
+/// A text that the caller gives up, padded as [`pad`] does. A text without padding is given back as
+/// it is, and takes no memory.
 ///
 /// # Errors
 ///
@@ -81,7 +82,7 @@ pub fn pad_owned(alloc: Global, text: Vec<u8>, lines: u32, line: &Line) -> Resul
     }
 }
 
-// A text, padded part by part.
+// Pads a text, part by part.
 fn pad_parts(alloc: Global, text: &[u8], lines: u32, line: &Line) -> Result<Vec<u8>, PadError>
     ensures ok { IfOk result (λ out. IsPadded text.now lines line.now out.items) }
     ensures too_much { (result ≡ Err PadError.TooMuch) ↔ AsksForTooMuch text.now lines line.now }
@@ -94,8 +95,8 @@ fn pad_parts(alloc: Global, text: &[u8], lines: u32, line: &Line) -> Result<Vec<
     Ok(out)
 }
 
-/// The law of the cut that `pad` rests on: each text is cut from the left in exactly one way, into paddings
-/// and bytes at which none begins.
+/// The law of the cut that `pad` follows: each text is cut from the left in exactly one way, into
+/// paddings and bytes at which no padding begins.
 pub fn one_cut()
     ensures { TextsHaveOneCut }
 {}
@@ -145,7 +146,7 @@ impl<'a> Iterator for Parts<'a> {
     }
 }
 
-/// How many pad bytes the text asks for, where they are not too many.
+/// How many pad bytes the text asks for, if they are not too many.
 #[tactic(auto, unfolding(crate::specs::inside::Padding::padding_of))]
 fn pads_in(text: &[u8], lines: u32, line: &Line) -> Option<usize>
     ensures { SomeIff result (padding_of text.now lines line.now ≤ pad_bytes_max) (padding_of text.now lines line.now) }
@@ -163,7 +164,7 @@ fn pads_in(text: &[u8], lines: u32, line: &Line) -> Option<usize>
     Some(total as usize)
 }
 
-/// Appends the padded text, for which the caller has made room.
+/// Appends the padded text. The caller has made room for it.
 #[tactic(auto, using(crate::proofs::Cuts::parts_fit), unfolding(crate::specs::inside::Padding::padding_of, crate::specs::inside::Padding::with_pad_bytes))]
 fn write(out: &mut Vec<u8>, text: &[u8], lines: u32, line: &Line)
     requires { vec_len out.old + length text.now + padding_of text.now lines line.now ≤ vec_capacity out.old }
@@ -218,7 +219,7 @@ fn padding_at(text: &[u8]) -> Option<(Padding, &[u8])>
     Some((padding, rest))
 }
 
-/// What follows the byte, where the text begins with it.
+/// What follows the byte, if the text begins with it.
 fn after_byte(text: &[u8], byte: u8) -> Option<&[u8]>
     ensures { MatchOption result (after_byte byte text.now ≡ None) (λ rest. after_byte byte text.now ≡ Some rest.now) }
 {
@@ -264,7 +265,7 @@ fn tenths_at(text: &[u8]) -> (u32, &[u8])
     }
 }
 
-/// Whether `*` and `/` stand there, and what follows.
+/// Whether `*` and `/` are there, and what follows.
 fn marks_at(text: &[u8]) -> (bool, bool, &[u8])
     ensures { (result.0, result.1, result.2.now) ≡ marks_at text.now }
 {
@@ -278,7 +279,7 @@ fn marks_at(text: &[u8]) -> (bool, bool, &[u8])
     (star, slash, rest)
 }
 
-/// Whether the byte stands there, and what follows.
+/// Whether the byte is there, and what follows.
 fn mark_at(text: &[u8], byte: u8) -> (bool, &[u8])
     ensures { (result.0, result.1.now) ≡ mark_at byte text.now }
 {
