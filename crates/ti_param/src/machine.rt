@@ -1,4 +1,5 @@
-//! The machine that runs a format: its stack, its parameters and variables, and what each code does to them.
+//! The machine that runs a format: its stack, its parameters and variables, and what each code does
+//! to them.
 ghost use Rattle.std.specs.Prelude.{◌≡◌, ◌∷◌, [], map};
 ghost use Rattle.ti_param.specs.Meaning.{MachineState, argument_of, start, with_print, with_output, push_outcome, without_top, top, top_number, with_variable, code_outcome, variable_value, with_increment};
 ghost use Rattle.ti_param.specs.inside.Expansion.{HasOutcome};
@@ -68,7 +69,7 @@ impl<'a> Machine<'a> {
         self.output
     }
 
-    /// Makes room for so many bytes more.
+    /// Makes room for the given number of bytes more.
     pub(crate) fn make_room(&mut self, count: usize) -> Result<(), ParamError>
         ensures { HasOutcome result self.new (Ok self.old) }
     {
@@ -84,7 +85,7 @@ impl<'a> Machine<'a> {
         Ok(())
     }
 
-    /// Takes the number at the top of the stack; a text is 0, and so is nothing.
+    /// Takes the number at the top of the stack. A string is 0, and so is an empty stack.
     pub(crate) fn pop_number(&mut self) -> i32
         ensures value { result ≡ top_number self.old }
         ensures rest { self.new ≡ without_top self.old }
@@ -92,7 +93,7 @@ impl<'a> Machine<'a> {
         self.pop().number()
     }
 
-    /// Takes the value at the top of the stack, the number 0 where there is none.
+    /// Takes the value at the top of the stack, the number 0 if there is none.
     fn pop(&mut self) -> Value<'a>
         ensures value { argument_of result ≡ top self.old }
         ensures rest { self.new ≡ without_top self.old }
@@ -129,7 +130,7 @@ impl<'a> Machine<'a> {
         }
     }
 
-    /// Adds one to the first two parameters where they are numbers.
+    /// Adds one to the first two parameters if they are numbers.
     fn increment(&mut self)
         ensures { self.new ≡ with_increment self.old }
     {

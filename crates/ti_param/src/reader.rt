@@ -1,4 +1,4 @@
-//! Reading one code of a format.
+//! Reads one code of a format.
 //!
 //! Each reader takes the text at which it begins, and gives what it read and the text after it.
 ghost use Rattle.std.specs.Prelude.{◌≡◌, Some, None};
@@ -13,7 +13,7 @@ use crate::directives::directive;
 use ti_printing::printf::{Conversion, Directive, Flags};
 use ti_text::limits::NUMBER_MAX;
 
-/// The code that stands by itself at the front of the text after a `%`.
+/// The code by itself at the front of the text after a `%`.
 #[tactic(auto, unfolding(crate::specs::inside::Codes::token_after, crate::specs::inside::Codes::letter_after))]
 #[inline(always)]
 pub(crate) fn read_code(text: &[u8]) -> Option<(Code, &[u8])>
