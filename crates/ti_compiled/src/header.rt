@@ -57,7 +57,7 @@ pub fn names_of(bytes: &[u8]) -> &[u8]
     &bytes[HEADER_SIZE..HEADER_SIZE + word(bytes, 2) - 1]
 }
 
-/// Makes room for an image of these sizes, where it is within its limit.
+/// Makes room for an image of these sizes, if it is within its limit.
 ///
 /// # Errors
 /// `TooLarge` for an image over its limit, then `Memory`.
@@ -108,7 +108,7 @@ fn header_bytes(header: &Header) -> [u8; HEADER_SIZE]
     ]
 }
 
-/// Writes a header over the one that the bytes begin with.
+/// Writes a header over the one with which the bytes begin.
 pub fn write_header(bytes: &mut Vec<u8>, header: &Header)
     requires { layout.header_size ≤ vec_len bytes.old }
     ensures header { Replaces bytes.old.items bytes.new.items 0 layout.header_size

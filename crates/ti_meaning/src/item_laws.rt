@@ -13,7 +13,7 @@ pub fn read_items_are_ordered()
     ensures { ReadItemsAreOrdered }
 {}
 
-/// Duplicates are sought for each name of a block once, in the order of their first places.
+/// Duplicates are looked up for each name of a block once, in the order of their first places.
 pub fn names_are_distinct()
     ensures { DistinctHasEachOnce }
 {}
