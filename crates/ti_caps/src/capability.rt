@@ -1,4 +1,4 @@
-// What a capability is: a kind, and a place in the list of the names of that kind.
+//! What a capability is: a kind, and a place in the list of the names of that kind.
 ghost use Rattle.std.specs.Prelude.{◌≡◌, ◌<◌, ◌↔◌, IsSome, IfSome};
 ghost use Rattle.ti_caps.specs.Tables.{IsCapability, count_of, capability};
 

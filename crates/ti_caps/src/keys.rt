@@ -1,8 +1,8 @@
-// The keys of the names, by which a look-up searches.
+//! The keys of the names, by which a look-up searches.
 ghost use Rattle.std.specs.Prelude.{◌≡◌};
 ghost use Rattle.ti_caps.specs.inside.Keys.{key_of};
 
-/// How many bytes of a name its key has.
+// How many bytes of a name its key has.
 const KEY_BYTES: usize = 8;
 
 /// The key of a name: its first eight bytes as one number, with zeros after a shorter name. Names

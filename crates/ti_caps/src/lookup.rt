@@ -1,4 +1,4 @@
-// From the name of a capability to the capability, and back.
+//! From the name of a capability to the capability, and back.
 ghost use Rattle.std.specs.Prelude.{◌≡◌, ◌≢◌, ◌<◌, length, [], IfSome, IfNone};
 ghost use Rattle.std.specs.List.{slice_index_or};
 ghost use Rattle.ti_caps.specs.Tables.{Capability, IsCapability, capability, capability_named, count_of, name_of, names, EveryNameIsFound, CapabilityNamesAreDistinct};

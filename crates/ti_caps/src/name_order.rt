@@ -1,4 +1,4 @@
-// The capabilities of each kind in the order of the bytes of their names.
+//! The capabilities of each kind in the order of the bytes of their names.
 ghost use Rattle.std.specs.Prelude.{◌≡◌, map, slice_get};
 ghost use Rattle.ti_caps.specs.Tables.{capability};
 ghost use Rattle.ti_caps.specs.NameOrder.{EachKindIsInOrder, OrdersByNameAreOne, in_name_order};

@@ -1,5 +1,6 @@
-// The names of the capabilities, in the order of the compiled entry, and the capabilities in the
-// order of their names.
+//! The names of the capabilities, in the order of the compiled entry, and the capabilities in the
+//! order of their names.
+
 /// How many booleans there are.
 pub const FLAG_COUNT: usize = 44;
 

@@ -1,4 +1,4 @@
-// The header of an image: the sizes of its sections.
+//! The header of an image: the sizes of its sections.
 ghost use Rattle.std.specs.Prelude.{◌≡◌, ◌≢◌, ℕ, suc, ◌+◌, ◌≤◌, ◌<◌, ◌↔◌, List, [], length, vec_len, vec_capacity, IsErrOf, OnOk};
 ghost use Rattle.ti_text.specs.Limits.{names_max};
 ghost use Rattle.ti_caps.specs.declared.capability.Kind.TheVariants.{Text};
@@ -15,7 +15,7 @@ use crate::bytes::overwrite;
 use byteorder::{ByteOrder, LittleEndian};
 use ti_layout::{Format, HEADER_SIZE, Header, WriteError, word};
 
-/// The numbers that a header spells.
+// The numbers that a header spells.
 fn read_header(bytes: &[u8]) -> Header
     requires { layout.header_size ≤ length bytes.now }
     ensures { IsHeaderAt bytes.now result }

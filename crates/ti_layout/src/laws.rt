@@ -1,4 +1,4 @@
-// Laws of the definitions on which the contracts of this crate depend. They compute nothing.
+//! Laws of the definitions on which the contracts of this crate depend. They compute nothing.
 ghost use Rattle.ti_layout.specs.Laws.{ImagesAreOfValues, ImagesAreRead, LimitsAreOfValues};
 ghost use Rattle.ti_layout.specs.Reading.{EntriesHaveOneReading};
 

@@ -1,4 +1,4 @@
-// The two formats of a compiled entry, and the numbers of its header.
+//! The two formats of a compiled entry, and the numbers of its header.
 ghost use Rattle.std.specs.Prelude.{◌≡◌, ◌≤◌, ◌^◌, ◌-◌, min};
 ghost use Rattle.ti_layout.specs.Layout as layout;
 

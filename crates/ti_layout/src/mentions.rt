@@ -1,4 +1,4 @@
-// A table made of mentions of capabilities, of which the first of each decides.
+//! A table made of mentions of capabilities, of which the first of each decides.
 ghost use Rattle.std.specs.Prelude.{◌≡◌, ◌<◌, ◌≤◌, [], length, All, Some, None, IfOk, OnOk, if◌then◌else◌};
 ghost use Rattle.std.specs.Option.{option_or};
 ghost use Rattle.ti_caps.specs.Tables.{Capability, IsCapability, same_capability};
@@ -12,11 +12,11 @@ use std::alloc::{AllocError, Global};
 use std::marker::Model;
 use ti_caps::Cap;
 
-/// How many capabilities there are.
+// How many capabilities there are.
 const CAPABILITIES: usize = 497;
 
-/// This number of mentions, or more, is brought into order by a walk over the places of all
-/// capabilities; fewer are inserted one by one.
+// This number of mentions, or more, is brought into order by a walk over the places of all
+// capabilities; fewer are inserted one by one.
 const MANY: usize = 24;
 
 // For each capability, by its place in the order of the entry, one more than the place of its first
@@ -35,7 +35,7 @@ fn first_places(mentions: &[(Cap, Value)]) -> [u16; CAPABILITIES]
     places
 }
 
-/// The first mention of each capability, in the order of the entry. Strings are shared.
+// The first mention of each capability, in the order of the entry. Strings are shared.
 fn first_mentions(alloc: Global, mentions: &[(Cap, Value)]) -> Result<Vec<(Cap, Value)>, AllocError>
     requires few { FitsTwoBytes (length mentions.now) }
     requires agree { All (λ e. Agrees e.0 e.1) (entries_of mentions.now) }
@@ -52,8 +52,8 @@ fn first_mentions(alloc: Global, mentions: &[(Cap, Value)]) -> Result<Vec<(Cap, 
     Ok(entries)
 }
 
-/// How many mentions there are when a table is made of them, so that those of a long block take no
-/// more memory than those of a short one.
+// How many mentions there are when a table is made of them, so that those of a long block take no
+// more memory than those of a short one.
 const RECENT_MAX: usize = 1000;
 
 // Adds what a table does not have yet, mention by mention.

@@ -1,4 +1,4 @@
-// A walk over two tables, each in the order of the entry, and two tables made one by it.
+//! A walk over two tables, each in the order of the entry, and two tables made one by it.
 ghost use Rattle.std.specs.Prelude.{◌≡◌, ◌++◌, ◌∷◌, [], IfOk, OnOk, MatchOption};
 ghost use Rattle.std.specs.Option.{option_or};
 ghost use Rattle.ti_caps.specs.Tables.{Capability};

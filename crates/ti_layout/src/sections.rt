@@ -1,4 +1,4 @@
-// The sections of a compiled entry: cut by the header's numbers, and each looked through once.
+//! The sections of a compiled entry: cut by the header's numbers, and each looked through once.
 ghost use Rattle.std.specs.Prelude.{◌≡◌, ◌+◌, ◌*◌, ◌<◌, ◌≤◌, length, MatchBool, IfOk, IfErr};
 ghost use Rattle.ti_layout.specs.Layout as layout;
 ghost use Rattle.ti_layout.specs.Reading.{word_at, number_at, FailsToRead, HasBadNames, HasBadFlag, HasBadNumber, HasBadOffset};
@@ -9,9 +9,9 @@ use crate::layout::{Format, HEADER_SIZE, Header};
 use byteorder::{ByteOrder, LittleEndian};
 use memchr::{memchr, memrchr};
 
-/// The first size or offset that is negative as a signed number of 16 bits.
+// The first size or offset that is negative as a signed number of 16 bits.
 const NEGATIVE: usize = 0x8000;
-/// -2, a cancelled offset; -1 is an absent one.
+// -2, a cancelled offset; -1 is an absent one.
 const CANCELLED: usize = 0xfffe;
 
 const FLAGS_MAX: usize = 44;
@@ -53,7 +53,7 @@ pub fn number(bytes: &[u8], at: usize, format: Format) -> u32
     }
 }
 
-/// The header's numbers, or the first of Short, Magic and Counts that holds.
+// The header's numbers, or the first of Short, Magic and Counts that holds.
 fn read_header(bytes: &[u8]) -> Result<Header, ReadError>
     ensures found { IfOk result (λ h. HasHeader bytes.now h) }
     ensures refused { IfErr result (λ e. FailsToRead bytes.now e) }

@@ -1,4 +1,4 @@
-// The values of an entry, and the table that holds them by capability.
+//! The values of an entry, and the table that holds them by capability.
 ghost use Rattle.std.specs.Prelude.{◌≡◌, ◌≢◌, Option, Some, None, option_map, OnOk, OnErr, IfOk, IfErr, IfSome, IsNone, IsOk, IsSome, if◌then◌else◌};
 ghost use Rattle.std.specs.Option.{option_or};
 ghost use Rattle.ti_caps.specs.Tables.{Capability, IsCapability, same_capability};
@@ -135,7 +135,7 @@ impl Table {
     }
 }
 
-// The place of a capability among all, in the order of the compiled entry.
+/// The place of a capability among all, in the order of the compiled entry.
 pub(crate) fn rank(cap: Cap) -> usize
     ensures value { result ≡ rank_of cap }
     ensures valid { IsCapability cap }

@@ -1,4 +1,4 @@
-// A compiled entry read where it is: each name and value is a slice of the caller's bytes.
+//! A compiled entry read where it is: each name and value is a slice of the caller's bytes.
 ghost use Rattle.std.specs.Prelude.{◌≡◌, ◌==◌, ◌<◌, length, IfOk, IfErr};
 ghost use Rattle.std.specs.List.{before_first};
 ghost use Rattle.std.specs.Option.{option_copied};
@@ -15,7 +15,7 @@ use crate::view_parts::ViewParts;
 use memchr::memchr;
 use ti_caps::Cap;
 
-/// The first offset that is negative as a signed number of 16 bits.
+// The first offset that is negative as a signed number of 16 bits.
 const NEGATIVE: usize = 0x8000;
 
 /// A compiled entry of term(5), in the legacy storage format or the extended number format, read
@@ -31,7 +31,7 @@ pub struct View<'a> {
     strings: &'a [u8],
     // each plain offset leads into the string table
     ghost ends: { OffsetsEnd offsets.now strings.now },
-    // the string table is no longer than a header can say
+    /// the string table is no longer than a header can say
     pub ghost short: { length strings.now < first_negative Legacy },
 }
 

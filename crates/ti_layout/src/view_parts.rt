@@ -1,4 +1,4 @@
-// An entry that was read, as its sections: for a caller that holds them in another struct.
+//! An entry that was read, as its sections: for a caller that holds them in another struct.
 ghost use Rattle.std.specs.Prelude.{◌<◌, length};
 ghost use Rattle.ti_layout.specs.Layout.{first_negative};
 ghost use Rattle.ti_layout.specs.declared.layout.Format.TheVariants.{Legacy};
@@ -22,8 +22,8 @@ pub struct ViewParts<'a> {
     pub offsets: &'a [u8],
     /// The string table.
     pub strings: &'a [u8],
-    // each plain offset leads into the string table
+    /// each plain offset leads into the string table
     pub ghost ends: { OffsetsEnd offsets.now strings.now },
-    // the string table is no longer than a header can say
+    /// the string table is no longer than a header can say
     pub ghost short: { length strings.now < first_negative Legacy },
 }

@@ -1,4 +1,4 @@
-// Laws on edits, and on what they leave. They compute nothing.
+//! Laws on edits, and on what they leave. They compute nothing.
 ghost use Rattle.ti_meaning.specs.Exchange.{EditsAreExchanges};
 ghost use Rattle.ti_meaning.specs.Dependents.{DependentsAreDetermined, DependentsAreFound, RebuildsAreDetermined, UsersOfDependentsDepend};
 ghost use Rattle.ti_meaning.specs.Edits.{EditsHaveOneCause};

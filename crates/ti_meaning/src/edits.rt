@@ -1,4 +1,4 @@
-// What an edit of a source is, and what comes of it.
+//! What an edit of a source is, and what comes of it.
 ghost use Rattle.std.specs.Prelude.{◌≡◌};
 ghost use Rattle.ti_meaning.specs.declared.edits.EditError.TheVariants.{Memory};
 

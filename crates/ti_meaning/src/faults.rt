@@ -1,4 +1,4 @@
-// What is wrong with a source.
+//! What is wrong with a source.
 use std::rc::RcSlice;
 use ti_source::Code;
 

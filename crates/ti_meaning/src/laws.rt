@@ -1,4 +1,4 @@
-// Laws of the definitions on which the contracts of this crate depend. They compute nothing.
+//! Laws of the definitions on which the contracts of this crate depend. They compute nothing.
 ghost use Rattle.ti_meaning.specs.Laws.{ItemFaultsAreInOrder, ExpansionsAreFound, ExpansionsStay, OwnersAreFirst, OwnersAreTold, UseFaultsAreFound, UsesAreFound, WaysAreFound};
 
 /// A name belongs to the first block that has it.

@@ -1,4 +1,4 @@
-// Laws on what blocks reach, and on the faults of their uses. They compute nothing.
+//! Laws on what blocks reach, and on the faults of their uses. They compute nothing.
 ghost use Rattle.ti_meaning.specs.UseLaws.{CircularUsesShareAComponent, LeadingIsReaching, LeadingIsWalking, UnresolvedBlocksHaveACause};
 
 /// A name leads to a block exactly if its owner is that block, or reaches a name that it owns.

@@ -52,10 +52,10 @@ pub fn expand(
     Ok(machine.finish(statics))
 }
 
-/// The most bytes for which room is made at once at the start: most strings of an entry give fewer.
+// The most bytes for which room is made at once at the start: most strings of an entry give fewer.
 const FIRST_ROOM: usize = 64;
 
-/// Runs the tokens that are left, after it made room for the given number of bytes.
+// Runs the tokens that are left, after it made room for the given number of bytes.
 #[inline(always)]
 fn run(lexer: &mut Lexer<'_>, machine: &mut Machine<'_>, room: usize) -> Result<(), ParamError>
     requires { length (left_of lexer.old).tokens < 2 ^ 64 }
@@ -80,9 +80,9 @@ fn run(lexer: &mut Lexer<'_>, machine: &mut Machine<'_>, room: usize) -> Result<
     Ok(())
 }
 
-/// Skips the part of a conditional that is not taken, by a count of the conditionals in it: to
-/// after the `%;` that ends it, or to after its `%e` if `to_else` is set and that comes first, or
-/// to the end of the tokens.
+// Skips the part of a conditional that is not taken, by a count of the conditionals in it: to
+// after the `%;` that ends it, or to after its `%e` if `to_else` is set and that comes first, or
+// to the end of the tokens.
 #[inline(always)]
 fn skip(lexer: &mut Lexer<'_>, to_else: bool)
     requires { length (left_of lexer.old).tokens < 2 ^ 64 }
@@ -99,8 +99,8 @@ fn skip(lexer: &mut Lexer<'_>, to_else: bool)
     }
 }
 
-/// How many conditionals are open in the skipped part after one more token; `None` if the token
-/// ends the part.
+// How many conditionals are open in the skipped part after one more token; `None` if the token
+// ends the part.
 #[inline(always)]
 fn level_after(level: usize, to_else: bool, token: Token) -> Option<usize>
     requires { level + 1 < 2 ^ 64 }

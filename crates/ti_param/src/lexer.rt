@@ -19,10 +19,10 @@ pub(crate) struct Placed {
 /// there.
 #[derive(Drop)]
 pub(crate) struct Lexer<'a> {
-    /// The length of the whole format.
+    // The length of the whole format.
     total: usize,
     rest: &'a [u8],
-    /// The open conditionals, the innermost last.
+    // The open conditionals, the innermost last.
     phases: ArrayVec<Phase, MOST>,
 }
 
@@ -82,7 +82,7 @@ impl<'a> Lexer<'a> {
         }
     }
 
-    /// Takes the token at the front, before this rest; `None` if it may not come there.
+    // Takes the token at the front, before this rest; `None` if it may not come there.
     #[inline(always)]
     fn take(&mut self, token: Token, rest: &'a [u8]) -> Option<Placed>
         requires { front_of self.old.text ≡ Some (token, rest.now) }
@@ -107,8 +107,8 @@ impl<'a> Lexer<'a> {
         self.stop()
     }
 
-    /// If no token is left, the place of the `%` that begins no code which may come there, or
-    /// `None` at the format's end.
+    // If no token is left, the place of the `%` that begins no code which may come there, or
+    // `None` at the format's end.
     fn stop(&self) -> Option<usize>
         requires { (left_of self.now).tokens ≡ [] }
         ensures { result ≡ (left_of self.now).stop }

@@ -14,7 +14,7 @@ use std::marker::Model;
 use ti_printing::printf::{self, Directive};
 use ti_text::limits::PARAMETERS_MAX;
 
-/// How many values the stack holds.
+// How many values the stack holds.
 const DEPTH: usize = 20;
 
 /// The state of an expansion.
@@ -93,7 +93,7 @@ impl<'a> Machine<'a> {
         self.pop().number()
     }
 
-    /// Takes the value at the top of the stack, the number 0 if there is none.
+    // Takes the value at the top of the stack, the number 0 if there is none.
     fn pop(&mut self) -> Value<'a>
         ensures value { argument_of result ≡ top self.old }
         ensures rest { self.new ≡ without_top self.old }
@@ -101,7 +101,7 @@ impl<'a> Machine<'a> {
         self.stack.pop().unwrap_or(Value::Number(0))
     }
 
-    /// Pushes a value for the code at the place.
+    // Pushes a value for the code at the place.
     fn push(&mut self, place: usize, value: Value<'a>) -> Result<(), ParamError>
         ensures { HasOutcome result self.new (push_outcome place (argument_of value.entry) self.old) }
     {
@@ -110,7 +110,7 @@ impl<'a> Machine<'a> {
             .map_err(|_| ParamError::StackFull(place))
     }
 
-    /// Sets a variable.
+    // Sets a variable.
     fn store(&mut self, variable: Variable, number: i32)
         ensures { self.new ≡ with_variable variable number self.old }
     {
@@ -120,7 +120,7 @@ impl<'a> Machine<'a> {
         }
     }
 
-    /// The value of a variable.
+    // The value of a variable.
     fn fetch(&self, variable: Variable) -> i32
         ensures { result ≡ variable_value variable self.now }
     {
@@ -130,7 +130,7 @@ impl<'a> Machine<'a> {
         }
     }
 
-    /// Adds one to the first two parameters if they are numbers.
+    // Adds one to the first two parameters if they are numbers.
     fn increment(&mut self)
         ensures { self.new ≡ with_increment self.old }
     {
@@ -138,7 +138,7 @@ impl<'a> Machine<'a> {
         self.parameters[1] = self.parameters[1].increment();
     }
 
-    /// Prints a value.
+    // Prints a value.
     fn print(&mut self, form: Directive) -> Result<(), ParamError>
         ensures { HasOutcome result self.new (Ok (with_print form self.old)) }
     {

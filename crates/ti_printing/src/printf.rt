@@ -79,24 +79,24 @@ pub fn one_numeral()
     ensures { OneNumeral }
 {}
 
-/// As many digits as 32 bits have to the base 8.
+// As many digits as 32 bits have to the base 8.
 const MOST_DIGITS: usize = 11;
 
-/// What is printed, part by part.
+// What is printed, part by part.
 #[derive(Clone, Copy)]
 struct Layout<'a> {
-    /// Blanks.
+    // Blanks.
     before: usize,
-    /// The sign and the prefix.
+    // The sign and the prefix.
     front: &'a [u8],
     zeros: usize,
-    /// The digits, or a string.
+    // The digits, or a string.
     shown: &'a [u8],
-    /// Blanks.
+    // Blanks.
     after: usize,
 }
 
-/// Appends what the form prints of a string.
+// Appends what the form prints of a string.
 fn print_text(out: &mut Vec<u8>, directive: &Directive, text: &[u8]) -> Result<(), AllocError>
     ensures ok { OnOk result (out.new.items ≡ out.old.items ++ printed_text directive.now text.now) }
     ensures err { OnErr result (out.new.items ≡ out.old.items) }
@@ -121,7 +121,7 @@ fn print_text(out: &mut Vec<u8>, directive: &Directive, text: &[u8]) -> Result<(
     push_parts(out, &layout)
 }
 
-/// Appends what the form prints of a number.
+// Appends what the form prints of a number.
 fn print_number(out: &mut Vec<u8>, directive: &Directive, number: i32) -> Result<(), AllocError>
     ensures ok { OnOk result (out.new.items ≡ out.old.items ++ printed_number directive.now number) }
     ensures err { OnErr result (out.new.items ≡ out.old.items) }
@@ -134,7 +134,7 @@ fn print_number(out: &mut Vec<u8>, directive: &Directive, number: i32) -> Result
     push_parts(out, &arrange(directive, front, zeros, digits))
 }
 
-/// The parts of a number: blanks or zeros fill it up to the width.
+// The parts of a number: blanks or zeros fill it up to the width.
 fn arrange<'a>(directive: &Directive, front: &'a [u8], zeros: usize, shown: &'a [u8]) -> Layout<'a>
     requires { length front.now + zeros + length shown.now < 2 ^ 32 }
     ensures parts { parts_text result.before result.front.now result.zeros result.shown.now result.after
@@ -170,7 +170,7 @@ fn arrange<'a>(directive: &Directive, front: &'a [u8], zeros: usize, shown: &'a 
     }
 }
 
-/// Makes room for all parts, and then appends them.
+// Makes room for all parts, and then appends them.
 fn push_parts(out: &mut Vec<u8>, layout: &Layout<'_>) -> Result<(), AllocError>
     requires { layout.now.before + length layout.now.front.now + layout.now.zeros + length layout.now.shown.now + layout.now.after < 2 ^ 64 }
     ensures ok { OnOk result (out.new.items
@@ -193,7 +193,7 @@ fn push_parts(out: &mut Vec<u8>, layout: &Layout<'_>) -> Result<(), AllocError>
     Ok(())
 }
 
-/// Appends the byte `count` times, mostly none. The caller has made room for them.
+// Appends the byte `count` times, mostly none. The caller has made room for them.
 #[inline(always)]
 fn fill(out: &mut Vec<u8>, byte: u8, count: usize)
     requires { vec_len out.old + count ≤ vec_capacity out.old }
@@ -206,7 +206,7 @@ fn fill(out: &mut Vec<u8>, byte: u8, count: usize)
     }
 }
 
-/// Appends the bytes, mostly none. The caller has made room for them.
+// Appends the bytes, mostly none. The caller has made room for them.
 #[inline(always)]
 fn append(out: &mut Vec<u8>, bytes: &[u8])
     requires { vec_len out.old + length bytes.now ≤ vec_capacity out.old }
@@ -219,7 +219,7 @@ fn append(out: &mut Vec<u8>, bytes: &[u8])
     }
 }
 
-/// The sign and the prefix.
+// The sign and the prefix.
 fn front_of(directive: &Directive, number: i32) -> &'static [u8]
     ensures value { result.now ≡ sign_in directive.now.conversion directive.now.flags number
         ++ prefix_in directive.now.conversion directive.now.flags number }
@@ -236,7 +236,7 @@ fn front_of(directive: &Directive, number: i32) -> &'static [u8]
     }
 }
 
-/// How many zeros are before the digits, for the precision and the leading 0 of `o`.
+// How many zeros are before the digits, for the precision and the leading 0 of `o`.
 fn zeros_before(directive: &Directive, digits: &[u8]) -> usize
     requires { slice_index digits.now 0 ≢ ascii.digit_0 }
     ensures value { replicate result ascii.digit_0 ++ digits.now ≡ digits_in directive.now.conversion directive.now.flags directive.now.precision digits.now }
@@ -250,7 +250,7 @@ fn zeros_before(directive: &Directive, digits: &[u8]) -> usize
     }
 }
 
-/// Writes the number's digits to the end of the buffer, and answers where they begin.
+// Writes the number's digits to the end of the buffer, and answers where they begin.
 fn write_numeral(buffer: &mut [u8; MOST_DIGITS], conversion: Conversion, number: i32) -> usize
     ensures bound { result ≤ digits_max }
     ensures digits { drop result buffer.new ≡ numeral conversion number }
@@ -265,8 +265,8 @@ fn write_numeral(buffer: &mut [u8; MOST_DIGITS], conversion: Conversion, number:
     }
 }
 
-/// Writes the digits of a number to a base to the end of the buffer, none for 0, and answers where
-/// they begin.
+// Writes the digits of a number to a base to the end of the buffer, none for 0, and answers where
+// they begin.
 fn write_digits(buffer: &mut [u8; MOST_DIGITS], number: u32, base: u32, upper: bool) -> usize
     requires { (8 ≤ base) × (base ≤ 16) }
     ensures bound { result ≤ digits_max }
@@ -283,7 +283,7 @@ fn write_digits(buffer: &mut [u8; MOST_DIGITS], number: u32, base: u32, upper: b
     at
 }
 
-/// The byte for a digit.
+// The byte for a digit.
 fn glyph(digit: u8, upper: bool) -> u8
     requires { digit < 16 }
     ensures { result ≡ digit_glyph upper digit }

@@ -1,4 +1,4 @@
-// The codes of the faults of a description.
+//! The codes of the faults of a description.
 ghost use Rattle.std.specs.Prelude.{◌≡◌, Some};
 ghost use Rattle.ti_source.specs.Code.{label_of, code_name, code_text, is_error, is_of_header};
 

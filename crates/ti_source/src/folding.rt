@@ -1,4 +1,4 @@
-// The text of a block, folded: without its comments and its line breaks.
+//! The text of a block, folded: without its comments and its line breaks.
 ghost use Rattle.std.specs.Prelude.{◌≡◌, ◌+◌, ◌<◌, ◌≤◌, ◌^◌, ◌==◌, ◌&&◌, IfSome, IfNone, length};
 ghost use Rattle.std.specs.Iterator.{YieldsFirst, item_count};
 ghost use Rattle.ti_text.specs.Ascii as ascii;

@@ -1,4 +1,4 @@
-// The names field and the items of a block, and what an item states.
+//! The names field and the items of a block, and what an item states.
 ghost use Rattle.std.specs.Prelude.{◌≡◌, ◌+◌, ◌<◌, ◌≤◌, IfOk, IfSome, OnOk, length, take, drop, slice_index, option_map};
 ghost use Rattle.memchr.specs.Find.{IsFirstByte};
 ghost use Rattle.std.specs.Option.{option_map_or};

@@ -9,7 +9,7 @@ use crate::white_space::trim_end;
 use thiserror::Error;
 use ti_text::limits::NUMBER_MAX;
 
-/// The greatest value of a number.
+// The greatest value of a number.
 const GREATEST: u32 = NUMBER_MAX;
 
 /// Why a text is no number.

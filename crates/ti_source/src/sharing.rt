@@ -1,4 +1,4 @@
-// Strings that blocks share: the last one that was read of each capability.
+//! Strings that blocks share: the last one that was read of each capability.
 ghost use Rattle.std.specs.Prelude.{◌≡◌, None, Ok, false, length, All, IfOk, IfSome};
 ghost use Rattle.std.specs.Rc.{rc_slice_items};
 ghost use Rattle.ti_caps.specs.Tables.{count_of};
@@ -9,10 +9,10 @@ use std::alloc::{AllocError, Global};
 use std::rc::RcSlice;
 use ti_caps::{Cap, Kind, count};
 
-/// A longer spelling is not stored, so that what is stored is small whatever a source says.
+// A longer spelling is not stored, so that what is stored is small whatever a source says.
 const SPELLING_MAX: usize = 512;
 
-/// A string, and how it was spelled, by escapes that the manual names.
+// A string, and how it was spelled, by escapes that the manual names.
 #[derive(Drop)]
 struct SpelledText {
     spelling: Vec<u8>,

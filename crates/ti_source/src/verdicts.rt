@@ -1,4 +1,4 @@
-// What comes of what an item states.
+//! What comes of what an item states.
 ghost use Rattle.std.specs.Prelude.{◌≡◌, IfOk};
 ghost use Rattle.ti_source.specs.inside.Items.{statement_in_memory};
 ghost use Rattle.ti_source.specs.inside.Numbers.{number_read};

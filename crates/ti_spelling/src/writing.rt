@@ -7,8 +7,8 @@ ghost use Rattle.ti_spelling.specs.inside.Writing.{is_plain};
 use std::alloc::{AllocError, Global};
 use ti_text::room::append_reserved;
 
-/// Whether `byte` is its own text wherever it is. Most bytes of most values are, and need no look
-/// at the tables.
+// Whether `byte` is its own text wherever it is. Most bytes of most values are, and need no look
+// at the tables.
 #[inline(always)]
 fn is_plain(byte: u8) -> bool
     ensures { result ≡ is_plain byte }
@@ -16,7 +16,7 @@ fn is_plain(byte: u8) -> bool
     matches!(byte, b'!'..=b'+' | b'-'..=b'[' | b']' | b'_'..=b'~')
 }
 
-/// The letter that spells `byte` after a backslash, if there is one.
+// The letter that spells `byte` after a backslash, if there is one.
 fn short_escape(byte: u8) -> Option<u8>
     ensures { result ≡ short_escape byte }
 {
@@ -36,7 +36,7 @@ fn short_escape(byte: u8) -> Option<u8>
 /// The most bytes that the text of one byte has.
 pub const MOST_ESCAPED: usize = 4;
 
-/// Appends a backslash and three octal digits. There is room for them.
+// Appends a backslash and three octal digits. There is room for them.
 fn write_octal(text: &mut Vec<u8>, byte: u8)
     requires { vec_len text.old + 4 ≤ vec_capacity text.old }
     ensures items { text.new.items ≡ text.old.items ++ octal_text byte }
@@ -52,7 +52,7 @@ fn write_octal(text: &mut Vec<u8>, byte: u8)
     append_reserved(text, &digits);
 }
 
-/// Appends two bytes. There is room for them.
+// Appends two bytes. There is room for them.
 fn write_pair(text: &mut Vec<u8>, first: u8, second: u8)
     requires { vec_len text.old + 2 ≤ vec_capacity text.old }
     ensures items { text.new.items ≡ text.old.items ++ first ∷ second ∷ [] }
@@ -63,8 +63,8 @@ fn write_pair(text: &mut Vec<u8>, first: u8, second: u8)
     text.push_reserved(second);
 }
 
-/// Appends the text of one byte: `percent` if it follows a `%`, `edge` if it is the first or the
-/// last of its value. There is room for any such text.
+// Appends the text of one byte: `percent` if it follows a `%`, `edge` if it is the first or the
+// last of its value. There is room for any such text.
 #[tactic(auto, unfolding(crate::specs::Spelling::byte_text))]
 fn write_byte(text: &mut Vec<u8>, percent: bool, edge: bool, byte: u8)
     requires { vec_len text.old + 4 ≤ vec_capacity text.old }
@@ -91,7 +91,7 @@ fn write_byte(text: &mut Vec<u8>, percent: bool, edge: bool, byte: u8)
     }
 }
 
-/// How many bytes the text of one byte has, with `percent` and `edge` as in [`write_byte`].
+// How many bytes the text of one byte has, with `percent` and `edge` as in [`write_byte`].
 #[tactic(auto, unfolding(crate::specs::Spelling::byte_text))]
 fn byte_len(percent: bool, edge: bool, byte: u8) -> usize
     ensures value { result ≡ length (byte_text percent edge byte) }
