@@ -1,3 +1,5 @@
+//! Why bytes are no compiled entry.
+
 use thiserror::Error;
 
 /// Why bytes are no compiled entry: the first of these that holds, in this order.

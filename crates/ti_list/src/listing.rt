@@ -85,7 +85,8 @@ fn write_further(
 }
 
 // Appends an item with its comma: after a space if it has room on the line, else on a new line.
-// `line` has the columns that are taken, if a line has begun. Gives the columns that are then taken.
+// `line` has the columns that are taken, if a line has begun. Gives the columns that are then
+// taken.
 fn write_placed(
     out: &mut Vec<u8>,
     layout: &Layout,

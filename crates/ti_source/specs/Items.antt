@@ -11,7 +11,7 @@ use Rattle.ti_source.specs.Folding.{PlacedByte}
 abbrev pub bytes : List PlacedByte → List ℕ
 bytes text = map (λ x. x.0) text
 
--- ---- the names field: the bytes before the first comma, or all of them if there is none; a backslash or `^` means nothing in it
+-- ---- the names field: the bytes before the first comma, or all; a backslash means nothing in it
 
 -- no byte is a comma
 abbrev pub HasNoComma : List PlacedByte → Type 0
