@@ -1,5 +1,5 @@
-//! The capabilities of a terminal description, as terminfo(5) lists them: 44 flags, 39 numbers and
-//! 414 texts, each with its name and its place in the compiled entry.
+//! The capabilities of a terminal description, as terminfo(5) lists them: 44 booleans, 39 numbers
+//! and 414 strings, each with its name and its place in the compiled entry.
 //!
 //! - `capability`: what a capability is, its kind and its index
 //! - `tables`: the names in the order of the compiled entry, and all of them by name

@@ -1,16 +1,18 @@
-//! What the tools read from and write to: readers and writers whose failures are counted, trees of files,
-//! and the faults that stop a tool.
+//! What the tools read from and write to: readers and writers whose failures are counted, trees of
+//! files, and the faults that stop a tool.
 //!
 //! - `tool_error`: why a tool stops
-//! - `counted`: readers and writers with a count of their failures and of their reads; `tally` is such a
-//!   count, which contracts alone see
+//! - `counted`: readers and writers with a count of their failures and of their reads; `tally` is
+//!   such a count, which only contracts see
 //! - `reading` and `writing`: bytes read as they come, and bytes written to their end
 //! - `buffer`: bytes with a limit, for which the room was made at the start
-//! - `line_reader`: lines read one at a time, with a limit on their length and on the reads; `read_ahead`
-//!   holds what was read and not used yet. `lines`: bytes are cut into lines in one way alone
-//! - `paths`: the paths of entries below a directory; `searching`: the directories in which an entry is
-//!   looked for, its file, and the entry in it
-//! - `tree`: what a tree of files is; `memory_tree` is one in memory, and `placing` writes files into a tree
+//! - `line_reader`: lines read one at a time, with a limit on their length and on the reads;
+//!   `read_ahead` holds what was read and not used yet. `lines`: bytes are cut into lines in only
+//!   one way
+//! - `paths`: the paths of entries below a directory; `searching`: the directories in which an entry
+//!   is looked for, its file, and the entry in it
+//! - `tree`: what a tree of files is; `memory_tree` is one in memory, and `placing` writes files
+//!   into a tree
 #![tactic(auto)]
 
 mod buffer;

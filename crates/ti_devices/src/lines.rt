@@ -1,7 +1,7 @@
-//! What the definition of lines leaves open: nothing.
+//! The law of lines: the definition leaves nothing open.
 ghost use Rattle.ti_devices.specs.Lines.{OneSplit};
 
-/// Bytes are cut into lines in one way alone.
+/// Bytes are cut into lines in only one way.
 pub fn one_split()
     ensures { OneSplit }
 {}

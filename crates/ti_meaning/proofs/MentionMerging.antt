@@ -1,4 +1,5 @@
--- What adding mentions to a table makes of it, item by item; and where a block has no expansion at a depth.
+-- What adding mentions to a table makes of it, item by item; and when a block has no expansion at a
+-- depth.
 use Rattle.std.proofs.Common.{◌≡◌, ℕ, zero, suc, append_assoc, ◌+◌, inl, inr, Bool, true, false, cond, List, [], ◌∷◌, ◌++◌, Option, Some, None, slice_get, refl, sym, ◌∙◌, ap, arith}
 use Rattle.std.specs.Option.{option_or}
 use Rattle.std.proofs.lemmas.Option.{same_Some, none-some}
@@ -26,7 +27,7 @@ if_or : (b : Bool) (x : Option Content) (o p : Option Content) (v : Content) →
 if_or true x o p v = refl
 if_or false x o p v = refl
 
--- mentions after one another say what the first say, and else what the others say
+-- mentions one after another say what the first say, and else what the others say
 pub said-append : (ms ns : List Mention) (c : Capability) → leftmost_content (ms ++ ns) c ≡ option_or (leftmost_content ms c) (leftmost_content ns c)
 said-append [] ns c = refl
 said-append (m ∷ ms) ns c =
@@ -78,7 +79,7 @@ table_of_one_more bs is i f g t h =
 pub table_of_block : (bs : List Reading) (b : Reading) (f : Contents) → is_broken b ≡ false → IsTableOfItems bs b.items f → IsTableOf bs b f
 table_of_block bs b f sound t = record { depth = suc t.depth; mentions = t.mentions; expands = rw (sound, t.expands) refl; is_table = t.is_table }
 
--- ---- no depth expands what stays open
+-- ---- no depth expands what remains open
 
 pub uses_at : (items : List ReadItem) (i : ℕ) (item : ReadItem) (name : List ℕ) → slice_get items i ≡ Some item → used_name item.said ≡ Some name → Uses items name
 uses_at [] i item name s u = absurd (none-some item s)

@@ -6,9 +6,10 @@ ghost use Rattle.ti_text.specs.Ascii as ascii;
 use crate::heads::{begins_with_head, ends_with_newline, next_head, preface_len};
 use crate::walk::Blocks;
 
-/// The preface and the blocks of `source`, as parts of it: a block is a line that is not empty and begins with neither
-/// white space nor `#`, with the lines after it up to the next such line (X/Open Curses Issue 7, "Terminfo Source Format").
-/// A last line without a newline belongs to the last block as it stands.
+/// The preface and the blocks of `source`, as parts of it. A block is a line that is not empty and
+/// begins with neither white space nor `#`, with the lines after it up to the next such line
+/// (X/Open Curses Issue 7, "Terminfo Source Format"). A last line without a newline belongs to the
+/// last block, unchanged.
 pub fn blocks(source: &[u8]) -> Blocks<'_>
     ensures cut { spec.Cut source.now result.preface result.blocks }
     ensures preface { result.preface ≡ spec.front_of ascii.newline source.now }
@@ -31,7 +32,7 @@ pub fn each_has_cut()
     ensures { spec.EachHasCut }
 {}
 
-/// A source has one cut alone.
+/// A source has only one cut.
 pub fn one_cut()
     ensures { spec.IsOnlyCut }
 {}

@@ -1,15 +1,18 @@
-//! The terminfo source format, as terminfo(5) and X/Open Curses Issue 7 ("Terminfo Source Format") describe it: what a
-//! source says, with no files.
+//! The terminfo source format, as terminfo(5) and X/Open Curses Issue 7 ("Terminfo Source Format")
+//! describe it: what a source says, with no files.
 //!
 //! - `code`: the codes of the faults that a description may have.
-//! - `cutting` and `walk`: a source as a preface and blocks, one for each entry; `heads` finds where they begin.
+//! - `cutting` and `walk`: a source as a preface and blocks, one for each entry; `heads` finds
+//!   where they begin.
 //! - `header`: the names field of a block, and its lookup names.
-//! - `numbers`: the value of a number, or why a text is none; `white_space`: what stands after it.
-//! - `folding`: a block without its comments and line breaks; `items`: the names field and the items of a block, and
-//!   what an item states; `verdicts`: what comes of that; `sharing`: texts that blocks share; `parsing`: a block as it is
-//!   read, with its faults.
+//! - `numbers`: the value of a number, or why a text is none; `white_space`: the white space at the
+//!   end of a text.
+//! - `folding`: a block without its comments and line breaks; `items`: the names field and the
+//!   items of a block, and what an item states; `verdicts`: what comes of that; `sharing`: strings
+//!   that blocks share; `parsing`: a block as it is read, with its faults.
 //!
-//! The crate `ti_spelling` below it has the spelling of string values; what the layers above need of it is public here too.
+//! The crate `ti_spelling` has the spelling of string values. What the layers above need of it is
+//! public here too.
 #![tactic(auto)]
 
 mod code;

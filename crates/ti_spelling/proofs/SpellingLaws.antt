@@ -151,7 +151,7 @@ pub fails_computes : {before : ℕ} {raw : List ℕ} {cause : UnescapeError} →
 fails_computes (fails_here {before = before} {raw = raw} {cause = cause} r) = refuses before raw cause (refusal_some r) (refusal_computes r)
 fails_computes (fails_later {byte = byte} {text = text} {odd = odd} p later) = begins_piece p ∙ ap (with_piece (record { size = length text; byte = byte; odd = odd })) (fails_computes later)
 
--- and back
+-- the way back: what begins with a piece is read as one
 abbrev pub Outcome : ℕ → List ℕ → Result (List ℕ × Bool) UnescapeError → Type 0
 Outcome before raw r = MatchResult r (λ found. SpellsAfter before raw found.0 found.1) (FailsAfter before raw)
 
@@ -228,7 +228,7 @@ one_outcome raw = record {
 
 -- ---- an answer
 
--- no refusal is want of memory
+-- no refusal is out of memory
 fails_not_memory : {before : ℕ} {raw : List ℕ} {cause : UnescapeError} → FailsAfter before raw cause → cause ≢ Memory
 fails_not_memory (fails_here (refused_octal over)) e = cc
 fails_not_memory (fails_here (refused_control takes none)) e = cc

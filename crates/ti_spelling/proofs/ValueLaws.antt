@@ -99,7 +99,7 @@ spelled_bytes spells_nothing bytes = All-nil (λ byte. byte < 256)
 spelled_bytes (spells_piece {byte = byte} {text = text} {rest = rest} {value = value} p later) bytes =
     All-cons (λ byte. byte < 256) byte value (byte_fits p bytes) (spelled_bytes later (bytes_of_rest text rest bytes))
 
--- ---- the law, and of an answer
+-- ---- the law, and what it says of an answer
 
 pub values_are_sound : ValuesAreSound
 values_are_sound raw value odd s = record { no_nul = spelled_no_nul s; no_longer = spelled_no_longer s; bytes = spelled_bytes s }

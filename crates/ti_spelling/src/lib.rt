@@ -1,8 +1,9 @@
-//! How terminfo source spells the bytes of a string, as terminfo(5) and X/Open Curses Issue 7 ("Terminfo Source
-//! Format") describe it.
+//! How terminfo source spells the bytes of a string, as terminfo(5) and X/Open Curses Issue 7
+//! ("Terminfo Source Format") describe it.
 //!
-//! - `spelling`: from the text of a string value to the bytes that it spells, or why it spells none
-//! - `writing`: back, from bytes to the text that spells them
+//! - `spelling`: from the text of a string value to the bytes that it spells, or the reason that it
+//!   spells none
+//! - `writing`: from bytes to the text that spells them
 #![tactic(auto)]
 
 mod spelling;

@@ -1,4 +1,4 @@
--- two capabilities of one name are one
+-- two capabilities with the same name are equal
 use Rattle.ti_caps.proofs.Named.{every_name}
 use Rattle.ti_caps.proofs.lookup.every_name_is_found.Goals as goal
 
