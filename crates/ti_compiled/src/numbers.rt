@@ -101,7 +101,12 @@ fn put_numbers(bytes: &mut Vec<u8>, place: usize, format: Format, values: &[u32]
 }
 
 // The numbers of the image when one is given or taken away.
-fn numbers_with(bytes: &[u8], old: &Header, index: usize, number: Option<u32>) -> [u32; NUMBER_COUNT]
+fn numbers_with(
+    bytes: &[u8],
+    old: &Header,
+    index: usize,
+    number: Option<u32>,
+) -> [u32; NUMBER_COUNT]
     requires image { IsImage bytes.now }
     requires old { HasSizes (names_in bytes.now) (contents_in bytes.now) old.now }
     requires index { index < count_of Number }
