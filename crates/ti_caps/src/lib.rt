@@ -6,15 +6,20 @@
 //! - `keys`: a number for each name, by which a look-up searches
 //! - `lookup`: from a name to its capability, and back
 //! - `name_order`: the capabilities of each kind by name
+//! - `laws`: names are distinct, each is found, and the order by name is the only one
 #![tactic(auto)]
 
 mod capability;
 mod keys;
+mod laws;
 mod lookup;
 mod name_order;
 mod tables;
 
 pub use capability::{Cap, Kind};
-pub use lookup::{count, every_name_is_found, find, name, names_are_distinct};
-pub use name_order::{by_name, each_kind_is_in_order, orders_by_name_are_one};
+pub use laws::{
+    each_kind_is_in_order, every_name_is_found, names_are_distinct, orders_by_name_are_one,
+};
+pub use lookup::{count, find, name};
+pub use name_order::by_name;
 pub use tables::{CAPABILITY_COUNT, FLAG_COUNT, NUMBER_COUNT, TEXT_COUNT};

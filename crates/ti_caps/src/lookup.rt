@@ -49,16 +49,6 @@ fn kind_and_index(name: &[u8]) -> Option<(Kind, usize)>
     }
 }
 
-/// No two capabilities have the same name.
-pub fn names_are_distinct()
-    ensures { CapabilityNamesAreDistinct }
-{}
-
-/// The name of each capability leads back to it.
-pub fn every_name_is_found()
-    ensures { EveryNameIsFound }
-{}
-
 // The name of the capability of a kind at a place of its list.
 fn text_of(kind: Kind, index: usize) -> &'static str
     requires { index < count_of kind }

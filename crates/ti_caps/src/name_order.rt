@@ -64,13 +64,3 @@ pub fn by_name(kind: Kind, place: usize) -> Option<Cap>
     let index = *indexes_by_name(kind).get(place)?;
     Cap::at(kind, index as usize)
 }
-
-/// The order by name has each capability of a kind, and its names rise, byte by byte.
-pub fn each_kind_is_in_order()
-    ensures { EachKindIsInOrder }
-{}
-
-/// The capabilities of a kind have only one order by name.
-pub fn orders_by_name_are_one()
-    ensures { OrdersByNameAreOne }
-{}

@@ -7,7 +7,7 @@
 //! - `reading` and `writing`: bytes read as they come, and bytes written to their end
 //! - `buffer`: bytes with a limit, for which the room was made at the start
 //! - `line_reader`: lines read one at a time, with a limit on their length and on the reads;
-//!   `read_ahead` holds what was read and not used yet. `lines`: bytes are cut into lines in only
+//!   `read_ahead` holds what was read and not used yet. `laws`: bytes are cut into lines in only
 //!   one way
 //! - `paths`: the paths of entries below a directory; `searching`: the directories in which an entry
 //!   is looked for, its file, and the entry in it
@@ -17,8 +17,8 @@
 
 mod buffer;
 mod counted;
+mod laws;
 mod line_reader;
-mod lines;
 mod memory_tree;
 mod paths;
 mod placing;
@@ -32,8 +32,8 @@ mod writing;
 
 pub use buffer::Buffer;
 pub use counted::Counted;
+pub use laws::one_split;
 pub use line_reader::{LineReader, Next, READS_MAX};
-pub use lines::one_split;
 pub use memory_tree::MemTree;
 pub use paths::entry_path;
 pub use placing::{File, place};

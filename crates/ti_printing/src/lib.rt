@@ -3,9 +3,12 @@
 //!
 //! - `printf`: what one of the printf forms prints
 //! - `padding`: a string with its padding as pad bytes, at a line's speed
+//! - `laws`: that a text has one cut, and a number one numeral
 #![tactic(auto)]
 
+mod laws;
 pub mod padding;
 pub mod printf;
 
+pub use laws::{one_cut, one_numeral};
 pub use padding::{Line, PadError, pad, pad_owned};

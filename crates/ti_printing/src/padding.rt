@@ -95,12 +95,6 @@ fn pad_parts(alloc: Global, text: &[u8], lines: u32, line: &Line) -> Result<Vec<
     Ok(out)
 }
 
-/// The law of the cut that `pad` follows: each text is cut from the left in exactly one way, into
-/// paddings and bytes at which no padding begins.
-pub fn one_cut()
-    ensures { TextsHaveOneCut }
-{}
-
 // A time, and when it is waited.
 #[derive(Clone, Copy)]
 struct Padding {

@@ -73,12 +73,6 @@ pub fn print(
     }
 }
 
-/// The law of numerals that `print` follows: to each base a number has exactly one numeral, the
-/// digits without a leading 0 whose number it is.
-pub fn one_numeral()
-    ensures { OneNumeral }
-{}
-
 // As many digits as 32 bits have to the base 8.
 const MOST_DIGITS: usize = 11;
 

@@ -1,4 +1,4 @@
-//! Cutting a source into blocks, and the laws of the cut.
+//! Cutting a source into blocks.
 ghost use Rattle.std.specs.Prelude.{◌≡◌, ◌≤◌, ◌↔◌, IsTrue, length};
 ghost use Rattle.ti_source.specs.Cutting as spec;
 ghost use Rattle.ti_text.specs.Ascii as ascii;
@@ -26,23 +26,3 @@ pub fn is_block(text: &[u8]) -> bool
 {
     begins_with_head(text) && ends_with_newline(text) && next_head(text) == text.len()
 }
-
-/// Each source has a cut.
-pub fn each_has_cut()
-    ensures { spec.EachHasCut }
-{}
-
-/// A source has only one cut.
-pub fn one_cut()
-    ensures { spec.IsOnlyCut }
-{}
-
-/// Each block of a source that ends with a newline is one block by itself.
-pub fn blocks_are_single()
-    ensures { spec.BlocksAreSingle }
-{}
-
-/// Each block of a source is one block by itself, once a newline ends its last line.
-pub fn blocks_are_single_once_ended()
-    ensures { spec.BlocksAreSingleOnceEnded }
-{}

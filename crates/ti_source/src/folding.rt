@@ -166,9 +166,3 @@ impl<'a> Iterator for Folded<'a> {
         None
     }
 }
-
-/// A block has one folded text. A reading of the block begins with it.
-pub fn one_folding()
-    ensures each { EachIsFolded }
-    ensures only { OneFolding }
-{}

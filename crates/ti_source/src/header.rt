@@ -107,13 +107,3 @@ pub(crate) fn read_names(
     let names = parts(alloc, without_description(field))?;
     Ok(Some(names))
 }
-
-/// Each names field has lookup names or is bad.
-pub fn each_header_is_read()
-    ensures { spec.EachHeaderIsRead }
-{}
-
-/// A names field has only one reading.
-pub fn headers_have_one_reading()
-    ensures { spec.HeadersHaveOneReading }
-{}

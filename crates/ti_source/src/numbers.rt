@@ -88,18 +88,3 @@ pub fn read_number(text: &[u8]) -> Result<u32, NumberError>
         Some(value) => Ok(value),
     }
 }
-
-/// A text has at most one value.
-pub fn numerals_have_one_value()
-    ensures { spec.NumeralsHaveOneValue }
-{}
-
-/// Each text reads as a value, as one over the limit, or as none.
-pub fn each_number_is_read()
-    ensures { spec.EachTextIsRead }
-{}
-
-/// A text has no other reading.
-pub fn numbers_have_one_reading()
-    ensures { spec.NumbersHaveOneReading }
-{}

@@ -12,6 +12,7 @@ use crate::code::Code;
 use crate::folding::Folded;
 use crate::header::read_names;
 use crate::items::{read_field, read_item, statement_of};
+use crate::laws::{each_is_well_read, one_reading};
 use crate::sharing::SharedTexts;
 use crate::verdicts::{Verdict, judge};
 use std::alloc::{AllocError, Global};
@@ -237,19 +238,3 @@ fn push_fault(
     })?;
     Ok(())
 }
-
-/// What is known of each block that is read: its lookup names are such, its items set their kinds,
-/// its lines are its own, and if no fault is an error its names field can be written.
-pub fn each_is_well_read()
-    ensures { EachIsWellRead }
-{
-    count(Kind::Flag);
-    count(Kind::Number);
-    count(Kind::Text);
-}
-
-/// Each block has one reading, which `parse` gives.
-pub fn one_reading()
-    ensures each { HasReading }
-    ensures only { BlocksHaveOneReading }
-{}

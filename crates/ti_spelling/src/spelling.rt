@@ -310,9 +310,3 @@ pub fn unescape(alloc: Global, raw: &[u8]) -> Result<Unescaped, UnescapeError>
     check(raw)?;
     Err(UnescapeError::Memory)
 }
-
-/// Each text spells one value or has one first fault, and a value is no longer than its text.
-pub fn one_outcome()
-    ensures outcome { OneOutcome }
-    ensures values { ValuesAreSound }
-{}

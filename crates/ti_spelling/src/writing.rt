@@ -135,8 +135,3 @@ pub fn escape(alloc: Global, value: &[u8]) -> Result<Vec<u8>, AllocError>
     push_escaped(&mut text, value)?;
     Ok(text)
 }
-
-/// The text that is written spells the value.
-pub fn written_spells()
-    ensures { WrittenSpells }
-{}

@@ -4,15 +4,17 @@
 //!   a text by its bytes alone, `Lists` what is said of lists of any kind, `Digits` what decimal
 //!   digits write, and `Limits` what the limits of the product are.
 //! - `limits`: the limits, for the code
-//! - `lines`: counts lines, and states the law of it
+//! - `lines`: counts lines; `laws`: the lines of joined texts
 //! - `room`: growth of a vector into room that was made before
 //! - `white_space`: the white space of the source format
 #![tactic(auto)]
 
+mod laws;
 pub mod limits;
 mod lines;
 pub mod room;
 mod white_space;
 
-pub use lines::{count_lines, lines_add};
+pub use laws::lines_add;
+pub use lines::count_lines;
 pub use white_space::is_white_space;

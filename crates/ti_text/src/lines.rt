@@ -40,8 +40,3 @@ pub fn count_lines(text: &[u8]) -> usize
     }
     lines + count_each(&text[at..])
 }
-
-/// Joined texts have the lines of both.
-pub fn lines_add()
-    ensures { LinesAdd }
-{}

@@ -67,13 +67,3 @@ pub fn tput(
     let mut statics = Statics::new();
     answer(alloc, view, &line, words, &mut statics)
 }
-
-/// A command that would end with status 4 writes nothing, and leaves the static variables.
-pub fn bad_commands_change_nothing()
-    ensures { BadCommandsChangeNothing }
-{}
-
-/// The law of answers: each command has exactly one.
-pub fn one_answer()
-    ensures { (entry : Entry) (rate : ℕ) (statics : List ℤ) (words : List (List ℕ)) → HasOneAnswer entry rate statics words }
-{}
