@@ -13,12 +13,7 @@ pub fn end_job<R: Eprint>(rt: &R, job: &Job, name: &str, failure: Failure, found
             status(job, &error, found)
         }
         Failure::NotText(what) => {
-            let tool = match job {
-                Job::Tic { .. } => "tic",
-                Job::Tput { .. } => "tput",
-                Job::Session => "session",
-                Job::Infocmp { .. } => "infocmp",
-            };
+            let tool = job.tool_name();
             let _ = eprintln!(rt; "{tool}: {what} is not text");
             status(job, &ToolError::Usage, found)
         }

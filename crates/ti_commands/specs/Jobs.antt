@@ -1,5 +1,5 @@
 -- The jobs of the program, and why words ask for none (own).
-use Rattle.std.specs.Prelude.{◌≡◌, ◌⊎◌, ⊤, List, [], Some, None, Option, Ok, Err, true, map, option_map}
+use Rattle.std.specs.Prelude.{◌≡◌, ◌⊎◌, ⊤, ℕ, List, [], codes, Some, None, Option, Ok, Err, true, map, option_map}
 use Rattle.std.specs.String.{string_bytes}
 use Rattle.clap.specs.Kinds.{IsAmong, Kinds}
 use Rattle.clap.specs.declared.error.kind.ErrorKind.{ErrorKind}
@@ -32,6 +32,13 @@ task_of (Infocmp mode names layout first_dir other_dir) = task_infocmp (record {
   first_dir = option_map string_bytes first_dir;
   other_dir = option_map string_bytes other_dir;
 })
+
+-- the name of the tool that does the job
+abbrev pub tool_name : Job → List ℕ
+tool_name (Tic check dir file) = codes "tic"
+tool_name (Infocmp mode names layout first_dir other_dir) = codes "infocmp"
+tool_name (Tput lines term rate words) = codes "tput"
+tool_name Session = codes "session"
 
 -- a refusal, without what is said
 abbrev pub cause_of : Refusal → UsageError

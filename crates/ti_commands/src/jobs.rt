@@ -1,4 +1,6 @@
 //! The jobs of the program.
+ghost use Rattle.std.specs.Prelude.{◌≡◌};
+
 use ti_list::Layout;
 
 /// What `infocmp` prints of its entries.
@@ -54,4 +56,20 @@ pub enum Job {
         /// The only place for those of the other names, where it was said.
         other_dir: Option<String>,
     },
+}
+
+impl Job {
+    ghost use Rattle.ti_commands.specs.Jobs.{tool_name};
+
+    /// The name of the tool that does the job.
+    pub fn tool_name(&self) -> &'static str
+        ensures { result.now ≡ tool_name self.now }
+    {
+        match self {
+            Job::Tic { .. } => "tic",
+            Job::Infocmp { .. } => "infocmp",
+            Job::Tput { .. } => "tput",
+            Job::Session => "session",
+        }
+    }
 }
