@@ -24,6 +24,8 @@ struct SpelledText {
 /// and it is made once. Most of the entries of a family say the same of a capability.
 #[derive(Drop)]
 pub struct SharedTexts {
+    // what the spelling that is read spells, before it is known how it is kept
+    pub(crate) room: Vec<u8>,
     // by the index of the capability among the strings
     last: Vec<Option<SpelledText>>,
 }
@@ -41,12 +43,16 @@ impl SharedTexts {
         for _place in 0..count(Kind::Text) {
             last.push(None)?;
         }
-        Ok(SharedTexts { last })
+        Ok(SharedTexts {
+            room: Vec::new(alloc),
+            last,
+        })
     }
 
     /// No string, and no place for one, so that none is shared.
     pub(crate) fn without_places(alloc: Global) -> SharedTexts {
         SharedTexts {
+            room: Vec::new(alloc),
             last: Vec::new(alloc),
         }
     }

@@ -14,7 +14,7 @@ use crate::sharing::SharedTexts;
 use std::alloc::{AllocError, Global};
 use std::rc::RcSlice;
 use ti_caps::{Cap, Kind, find};
-use ti_spelling::{UnescapeError, unescape};
+use ti_spelling::{UnescapeError, unescape_into};
 
 /// What comes of a statement: it is accepted, accepted though an escape in it is odd, or refused by
 /// a fault.
@@ -74,10 +74,10 @@ fn judge_text(
     if let Some(text) = shared.text_of(cap, value) {
         return Ok(Verdict::Accepted(What::Text(cap, text.clone()?)));
     }
-    match unescape(alloc, value) {
-        Ok(found) => {
-            let text = RcSlice::from_vec(found.bytes)?;
-            if found.odd {
+    match unescape_into(&mut shared.room, value) {
+        Ok(odd) => {
+            let text = RcSlice::from_slice(alloc, shared.room.as_slice())?;
+            if odd {
                 return Ok(Verdict::AcceptedOdd(What::Text(cap, text)));
             }
             shared.keep(alloc, cap, value, &text)?;

@@ -12,5 +12,5 @@ mod spelling;
 mod writing;
 
 pub use laws::{one_outcome, written_spells};
-pub use spelling::{UnescapeError, Unescaped, unescape};
+pub use spelling::{UnescapeError, Unescaped, unescape, unescape_into};
 pub use writing::{MOST_ESCAPED, escape, push_escaped, write_escaped};

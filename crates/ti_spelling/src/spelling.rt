@@ -268,18 +268,20 @@ fn check(raw: &[u8]) -> Result<(), UnescapeError>
     Ok(())
 }
 
-// What `raw` spells, in one walk over it. The error may be `Memory` though `raw` spells nothing.
-fn decode(alloc: Global, raw: &[u8]) -> Result<Unescaped, UnescapeError>
-    ensures { IfOk result (λ found. unescape_result raw.now ≡ Ok (found.bytes.items, found.odd)) }
+// Puts what `raw` spells into `bytes`, in one walk over it, and answers whether an escape is odd.
+// The error may be `Memory` though `raw` spells nothing.
+fn decode(bytes: &mut Vec<u8>, raw: &[u8]) -> Result<bool, UnescapeError>
+    ensures { IfOk result (λ odd. unescape_result raw.now ≡ Ok (bytes.new.items, odd)) }
 {
     let mut pieces = Pieces::new(raw);
+    bytes.clear();
     // a value is no longer than its text
-    let mut bytes = Vec::with_capacity(alloc, raw.len())?;
+    bytes.reserve(raw.len())?;
     let mut odd = false;
     loop {
         bytes.extend_from_slice(pieces.take_literal())?;
         let Some(piece) = pieces.next_piece()? else {
-            return Ok(Unescaped { bytes, odd });
+            return Ok(odd);
         };
         bytes.push(piece.byte)?;
         odd |= piece.odd;
@@ -304,8 +306,25 @@ pub fn unescape(alloc: Global, raw: &[u8]) -> Result<Unescaped, UnescapeError>
     ensures no_nul { IfOk result (λ found. HasNoNul found.bytes.items) }
     ensures no_longer { IfOk result (λ found. length found.bytes.items ≤ length raw.now) }
 {
-    if let Ok(found) = decode(alloc, raw) {
-        return Ok(found);
+    let mut bytes = Vec::new(alloc);
+    let odd = unescape_into(&mut bytes, raw)?;
+    Ok(Unescaped { bytes, odd })
+}
+
+/// Puts the bytes that `raw` spells, which [`unescape`] gives, into `bytes` in the place of what was
+/// there, and answers whether an escape is odd. Room that `bytes` has is used again.
+///
+/// # Errors
+///
+/// Those of [`unescape`]. What `bytes` has then is not told.
+pub fn unescape_into(bytes: &mut Vec<u8>, raw: &[u8]) -> Result<bool, UnescapeError>
+    ensures ok { IfOk result (λ odd. Spells raw.now bytes.new.items odd) }
+    ensures err { IfErr result (λ cause. IsCauseOf cause raw.now) }
+    ensures no_nul { IfOk result (λ odd. HasNoNul bytes.new.items) }
+    ensures no_longer { IfOk result (λ odd. length bytes.new.items ≤ length raw.now) }
+{
+    if let Ok(odd) = decode(bytes, raw) {
+        return Ok(odd);
     }
     check(raw)?;
     Err(UnescapeError::Memory)

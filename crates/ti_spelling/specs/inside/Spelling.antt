@@ -1,14 +1,12 @@
 -- What a text spells, computed, and the law that joins this to the relations of `Spelling` (own).
 --   unescape_result raw  what the text spells, `Ok (bytes, odd)`, or its first fault
---   GivesUnescaped       an answer of `unescape` is that, or Memory if the text spells something
 -- The law: UnescapedAgrees.
 use Rattle.std.specs.Prelude.{◌≡◌, ℕ, zero, suc, ◌+◌, ◌-◌, ◌==◌, Bool, true, false, not, ◌&&◌, ◌||◌, ◌↔◌, if◌then◌else◌, nat_le, List, [], ◌∷◌, length}
-use Rattle.std.specs.Prelude.{bit_and, IsOk}
+use Rattle.std.specs.Prelude.{bit_and}
 use Rattle.std.specs.Prelude.{Option, Some, None, Result, Ok, Err}
 use Rattle.ti_text.specs.Ascii as ascii
 use Rattle.ti_spelling.specs.declared.spelling.UnescapeError.{UnescapeError}
-use Rattle.ti_spelling.specs.declared.spelling.UnescapeError.TheVariants.{BadOctal, BadControl, BadByte, Memory}
-use Rattle.ti_spelling.specs.declared.spelling.Unescaped.{Unescaped}
+use Rattle.ti_spelling.specs.declared.spelling.UnescapeError.TheVariants.{BadOctal, BadControl, BadByte}
 use Rattle.ti_spelling.specs.declared.spelling.Piece.{Piece}
 use Rattle.ti_spelling.specs.Spelling.{Fails, Spells, is_octal_digit, is_percent, named_escape, not_nul, octal_digits, octal_value}
 use Rattle.std.specs.Prelude.{◌≡◌, ℕ, ◌<◌, Bool, false, ◌||◌, List, [], ◌++◌, length, Option, Some, None, Result, Ok, Err}
@@ -77,12 +75,6 @@ unescaped_from (suc left) before (x ∷ xs) = unescaped_from left x xs
 -- the bytes that the whole text spells, and whether an escape is odd; or its first fault
 unfoldable pub unescape_result : List ℕ → Result (List ℕ × Bool) UnescapeError
 unescape_result raw = unescaped_from 0 0 raw
-
--- an answer of `unescape`: `Memory` comes only if the text spells something
-abbrev pub GivesUnescaped : List ℕ → Result Unescaped UnescapeError → Type 0
-GivesUnescaped raw (Ok found) = unescape_result raw ≡ Ok (found.bytes.items, found.odd)
-GivesUnescaped raw (Err Memory) = IsOk (unescape_result raw)
-GivesUnescaped raw (Err cause) = unescape_result raw ≡ Err cause
 
 -- what is computed is what the relations say
 pub record IsUnescapeComputed (raw : List ℕ) : Type 0 where
