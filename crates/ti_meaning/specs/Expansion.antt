@@ -1,13 +1,13 @@
 -- What a block says once its uses are expanded (terminfo(5), "Similar Terminals"): a use is
 -- replaced by all that the owner of the name says, in order, expanded in the same way, and the
 -- leftmost mention of a capability decides.
-use Rattle.std.specs.Prelude.{ℕ, zero, suc, List, [], ◌∷◌, length, Option, Some, None, is_some, option_and_then, Bool, if◌then◌else◌}
+use Rattle.std.specs.Prelude.{ℕ, zero, suc, List, [], ◌∷◌, map, length, Option, Some, None, is_some, option_and_then, Bool, if◌then◌else◌}
 use Rattle.std.specs.List.{list_any}
 use Rattle.ti_text.specs.Lists.{both_lists}
-use Rattle.ti_caps.specs.Tables.{Capability, same_capability}
+use Rattle.ti_caps.specs.Tables.{Capability}
 use Rattle.ti_source.specs.Code.{is_error}
 use Rattle.ti_source.specs.Reading.{Reading, ReadItem, ReadFault, Said, said_flag, said_number, said_text, said_cancel, said_import}
-use Rattle.ti_layout.specs.Values.{Content, content_true, content_number, content_text, content_cancelled, Contents}
+use Rattle.ti_layout.specs.Values.{Content, content_true, content_number, content_text, content_cancelled, Contents, contents}
 use Rattle.ti_layout.specs.Laws.{without_cancel}
 use Rattle.ti_meaning.specs.Owner.{owner_block}
 
@@ -16,11 +16,10 @@ pub record Mention : Type 0 where
   pub capability : Capability
   pub says : Content
 
--- what the leftmost mention of the capability says, a cancel too, if there is one
+-- what the leftmost mention of the capability says, a cancel too, if there is one: what the mentions
+-- say as the entries of a table
 abbrev pub leftmost_content : List Mention → Contents
-leftmost_content [] capability = None
-leftmost_content (mention ∷ mentions) capability =
-    if same_capability mention.capability capability then Some mention.says else leftmost_content mentions capability
+leftmost_content mentions = contents (map (λ (mention : Mention). (mention.capability, mention.says)) mentions)
 
 -- the value of each capability: what its leftmost mention gives it, and absent if that is a cancel
 -- or there is none

@@ -28,7 +28,7 @@ abbrev hidden : List ℕ
 hidden = codes "\n #x,\n"
 
 hidden-compiles : compiled (hidden ∷ []) 0 ≡ Some (image (codes "#x") nothing)
-unfolding reading_of_text capability_named names flag_names number_names text_names last_passing some_below below texts_below number_section image
+unfolding reading_of_text capability_named names flag_names number_names text_names last_passing some_below below texts_below number_section image contents
 hidden-compiles = refl
 
 -- its listing is a comment, and has no entry

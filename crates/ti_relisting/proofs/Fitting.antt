@@ -7,7 +7,7 @@ use Rattle.std.proofs.lemmas.List.Elements.{All-nil, All-cons, All-head, All-tai
 use Rattle.ti_caps.specs.Tables.{Capability, IsCapability, same_capability}
 use Rattle.ti_source.specs.Reading.{Said, said_flag, said_number, said_text, said_cancel, said_import, ReadItem, Reading}
 use Rattle.ti_source.specs.Sound.{SetsItsKind}
-use Rattle.ti_layout.specs.Values.{Content, content_true, content_number, content_text, content_cancelled, AgreesIfSome}
+use Rattle.ti_layout.specs.Values.{Content, content_true, content_number, content_text, content_cancelled, AgreesIfSome, contents}
 use Rattle.ti_layout.specs.Laws.{without_cancel}
 use Rattle.ti_meaning.specs.Owner.{is_among, owner_block}
 use Rattle.ti_text.specs.Lists.{both_lists}
@@ -119,6 +119,7 @@ owned-has P (b ∷ bs) name block all e =
 -- ---- what the mentions say
 
 pub said-has : (ms : List Mention) (c : Capability) → All MentionFits ms → CanHave c (leftmost_content ms c)
+unfolding contents
 said-has [] c fits = tt
 said-has (m ∷ ms) c fits =
     elim (cases_Bool (same_capability m.capability c)) [

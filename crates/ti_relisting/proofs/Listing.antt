@@ -10,7 +10,7 @@ use Rattle.ti_caps.specs.Tables.{Capability, IsCapability, same_capability}
 use Rattle.ti_caps.proofs.Same.{same_capability-true}
 use Rattle.ti_caps.specs.declared.capability.Kind.TheVariants.{Flag, Number, Text}
 use Rattle.ti_source.specs.Reading.{Said, said_flag, said_number, said_text, said_cancel, said_import, ReadItem}
-use Rattle.ti_layout.specs.Values.{Content, content_true, content_number, content_text, content_cancelled, Contents}
+use Rattle.ti_layout.specs.Values.{Content, content_true, content_number, content_text, content_cancelled, Contents, contents}
 use Rattle.ti_text.specs.Lists.{both_lists}
 use Rattle.ti_meaning.specs.Expansion.{Mention, leftmost_content, mentions_of, expand_items}
 use Rattle.ti_list.specs.declared.layout.Layout.{Layout}
@@ -185,15 +185,18 @@ told table cs c = cond (is_among cs c) (table c) None
 
 mention-same : (d c : Capability) (o : Option Content) (b : Bool) (ms : List Mention) (later : Option Content) → same_capability d c ≡ true
     → leftmost_content ms c ≡ option_or (cond b o None) later → leftmost_content (mention_for d o ++ ms) c ≡ option_or o later
+unfolding contents
 mention-same d c None true ms later s e = e
 mention-same d c None false ms later s e = e
 mention-same d c (Some content) b ms later s e = rw s refl
 
 mention-other : (d c : Capability) (o : Option Content) (ms : List Mention) → same_capability d c ≡ false → leftmost_content (mention_for d o ++ ms) c ≡ leftmost_content ms c
+unfolding contents
 mention-other d c None ms f = refl
 mention-other d c (Some content) ms f = rw f refl
 
 items-say : (table : Contents) (cs : List Capability) (ms : List Mention) (c : Capability) → leftmost_content (mentions_for table cs ++ ms) c ≡ option_or (told table cs c) (leftmost_content ms c)
+unfolding contents
 items-say table [] ms c = refl
 items-say table (d ∷ cs) ms c =
     let later = items-say table cs ms c in
