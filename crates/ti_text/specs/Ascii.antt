@@ -16,7 +16,7 @@ size = 128
 abbrev pub nul : ℕ
 nul = 0
 
--- 0x80, which stands in a string for the NUL that would end it
+-- 0x80, which a string has in place of the NUL that would end it
 abbrev pub in_place_of_nul : ℕ
 in_place_of_nul = 128
 

@@ -15,6 +15,6 @@ abbrev pub decimal_from : ℕ → List ℕ → ℕ
 decimal_from n [] = n
 decimal_from n (d ∷ ds) = decimal_from (10 * n + decimal_digit_value d) ds
 
--- the number that decimal digits write, 0 where there are none
+-- the number that decimal digits write, 0 if there are none
 abbrev pub decimal_value : List ℕ → ℕ
 decimal_value digits = decimal_from 0 digits

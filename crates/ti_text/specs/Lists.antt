@@ -2,7 +2,7 @@
 use Rattle.std.specs.Prelude.{◌≡◌, ◌<◌, ℕ, Bool, true, List, ◌++◌, Option, Some, None, slice_get}
 use Rattle.std.specs.List.{AllByRecursion}
 
--- a number stands in the list
+-- a number is in the list
 abbrev pub Has : List ℕ → ℕ → Type 0
 Has xs x = (i : ℕ) × (slice_get xs i ≡ Some x)
 
@@ -18,7 +18,7 @@ AreDistinct {X} xs = (i j : ℕ) (x : X) → slice_get xs i ≡ Some x → slice
 abbrev pub AllAre : (ℕ → Bool) → List ℕ → Type 0
 AllAre p xs = AllByRecursion (λ x. p x ≡ true) xs
 
--- two lists after one another, where both are there
+-- two lists after one another, if both are there
 abbrev pub both_lists : {X : Type 0} → Option (List X) → Option (List X) → Option (List X)
 both_lists None _ = None
 both_lists (Some xs) None = None
