@@ -9,13 +9,13 @@ use crate::search::{Progress, Search, search_graph};
 use std::alloc::{AllocError, Global};
 
 /// The strongly connected components of a directed graph: two nodes are in one component exactly
-/// where each leads to the other.
+/// if each leads to the other.
 #[derive(Drop)]
 pub struct Components {
     /// The number of each node's component. Along an edge no number rises.
     pub component_of: Vec<usize>,
-    /// All nodes, each behind those that its edges lead to, but for nodes of its own component. A
-    /// component's nodes stand together, and its number is the place of the first.
+    /// All nodes, each after those that its edges lead to, but for nodes of its own component. A
+    /// component's nodes are next to each other, and its number is the place of the first.
     pub order: Vec<usize>,
 }
 
@@ -24,7 +24,7 @@ impl Components {
     /// time linear in its nodes and edges. Each edge leads to a node or nowhere.
     ///
     /// # Errors
-    /// Want of memory.
+    /// Out of memory.
     pub fn find(alloc: Global, graph: &Graph) -> Result<Components, AllocError>
         requires { IsGraph graph.now }
         ensures components { IfOk result (λ c. AreComponents graph.now c.component_of.items) }

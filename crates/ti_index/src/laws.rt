@@ -1,7 +1,7 @@
-// Laws of the lists that an index keeps, for what stands on them. They compute nothing.
+// Laws of the lists that an index keeps, for the crates above. They compute nothing.
 ghost use Rattle.ti_index.specs.Laws.{FirstsAreFirst, ListsAgree, ListsAreAmong, ListsFit, ListsStay};
 
-/// Each id of a list stands in the order of all.
+/// Each id of a list is in the order of all.
 pub fn lists_are_among()
     ensures { ListsAreAmong }
 {}
