@@ -1,8 +1,9 @@
-//! The session: a script that edits a source and asks of it, over any reader and writer, and its replies.
+//! The session: a script that edits a source and asks about it, over any reader and writer, and its
+//! replies.
 //!
-//! - `streaming`: the session. `editor` holds the source and the block that is open, `requests` says
-//!   what a line asks for, and `replies` writes what it is answered
-//! - `script_laws`: the definition of a session leaves nothing open but want of memory
+//! - `streaming`: the session. `editor` holds the source and the block that is open, `requests`
+//!   says what a line asks for, and `replies` writes the answer
+//! - `script_laws`: the definition of a session leaves open only when memory is refused
 //!
 //! The devices that it reads from and writes to are those of `ti_devices`.
 #![tactic(auto)]

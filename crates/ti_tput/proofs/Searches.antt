@@ -23,7 +23,7 @@ unfolding first_file
 Finds-here count None name place places b e = tt
 Finds-here count (Some files) name place places b e = at_some count (files (path_of place name)) (first_file files name places) b e
 
--- a place that has not
+-- a place that does not have the file
 pub Finds-later : (count : ℕ) (files : Option Files) (name place : List ℕ) (places : List (List ℕ)) (found : Option (List ℕ))
     → FindsFile (path_of place name) count files None → Finds count files name places found → Finds count files name (place ∷ places) found
 unfolding first_file

@@ -1,8 +1,9 @@
-//! `tput`: the bytes that drive a terminal, from a compiled entry, as tput(1) has it.
+//! The command `tput`: the bytes that drive a terminal, from a compiled entry, as tput(1) has it.
 //!
-//! - `commands`: what one command is answered; `replies` makes its bytes and status, of what `entries` finds
-//!   in the entry and of the words, which `parameters` reads as numbers and texts
-//! - `streaming`: commands read line by line; `terminal` is what takes them, and `words` parts a line
+//! - `commands`: the answer to one command; `replies` makes its bytes and status, from what
+//!   `entries` finds in the entry and from the words, which `parameters` reads as numbers and
+//!   strings
+//! - `streaming`: commands read line by line; `terminal` takes them, and `words` splits a line
 //! - `searching`: where an entry is looked for, its file, and the entry in it
 #![tactic(auto)]
 

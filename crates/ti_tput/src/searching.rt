@@ -11,10 +11,10 @@ use ti_devices::{ToolError, Tree, TreeFault, entry_path};
 use ti_layout::{ReadError, View};
 use ti_source::is_lookup_name;
 
-/// The place of the system's entries.
+// The place of the system's entries.
 const SYSTEM_PLACE: &str = "/usr/share/terminfo";
 
-/// The longest file that may be an entry.
+// The longest file that may be an entry.
 const FILE_MAX: usize = 65_536;
 
 // Adds a place.
@@ -54,12 +54,12 @@ fn add_listed(alloc: Global, places: &mut Vec<String>, dirs: &str) -> Result<(),
     Ok(())
 }
 
-/// The places at which an entry is looked for, in their order: `terminfo` (what TERMINFO is set to) where it is not empty,
-/// the parts of `dirs` (what TERMINFO_DIRS is set to) between colons, an empty part being `/usr/share/terminfo`, and
-/// `/usr/share/terminfo`. See term(5), "Storage location".
+/// The places at which an entry is looked for, in order: `terminfo` (the value of TERMINFO) if it
+/// is not empty; the parts of `dirs` (the value of TERMINFO_DIRS) between colons, where an empty
+/// part means `/usr/share/terminfo`; and `/usr/share/terminfo`. See term(5), "Storage location".
 ///
 /// # Errors
-/// Want of memory.
+/// `AllocError` if memory ran out.
 #[tactic(auto, unfolding(crate::specs::Searching::places_of))]
 pub fn places(
     alloc: Global,
@@ -82,7 +82,8 @@ pub fn places(
     Ok(places)
 }
 
-// The file of a name at the first of the places that has it, of a longer file its first `limit + 1` bytes.
+// The file of a name at the first of the places that has it; of a longer file, its first
+// `limit + 1` bytes.
 fn search<T: Tree>(
     alloc: Global,
     tree: &mut T,
@@ -110,12 +111,12 @@ fn search<T: Tree>(
     Ok(None)
 }
 
-/// The file of a terminal's entry: `P/c/n` at the first place `P` that has it, `n` being the name and `c` its first byte. Of
-/// a file over 65,536 bytes it gives the first 65,537.
+/// The file of a terminal's entry: `P/c/n` at the first place `P` that has it, with the name `n`
+/// and its first byte `c`. Of a file over 65,536 bytes it gives the first 65,537.
 ///
 /// # Errors
-/// `NoTerminal` where the name is no lookup name, or no place has its file; `ReadFault` where the tree failed; `Memory`. The
-/// last two come at the place where they happen.
+/// `NoTerminal` if the name is no lookup name, or no place has its file; `ReadFault` if the tree
+/// failed; `Memory`. The last two end the search at the place where they happen.
 pub fn locate<T: Tree>(
     alloc: Global,
     tree: &mut T,
@@ -153,10 +154,11 @@ fn entry_within(bytes: &[u8], limit: usize) -> Result<View<'_>, ToolError>
     }
 }
 
-/// The entry that a file's bytes are, read where they lie: it takes no memory.
+/// The entry that a file's bytes are, read where they are: it takes no memory.
 ///
 /// # Errors
-/// `BadEntry` with the refusal of the bytes; of more than 65,536 bytes, with that of the first 65,537, or `Counts`.
+/// `BadEntry` with the refusal of the bytes; for more than 65,536 bytes, with that of the first
+/// 65,537, or `Counts`.
 pub fn entry(bytes: &[u8]) -> Result<View<'_>, ToolError>
     ensures { Opens file_bytes_max bytes.now result }
 {
