@@ -17,7 +17,7 @@ fn variable<R: Env + AllocGlobal>(rt: &R, name: &'static str) -> Result<Option<S
 /// The name of the terminal that `TERM` names.
 ///
 /// # Errors
-/// `Usage` where it is not set; that it is not text; `Memory`.
+/// `Usage` if it is not set; `NotText` if it is not UTF-8; `Memory`.
 pub fn own_terminal<R: Env + AllocGlobal>(rt: &R) -> Result<String, Failure> {
     match variable(rt, "TERM")? {
         Some(term) => Ok(term),
@@ -28,7 +28,7 @@ pub fn own_terminal<R: Env + AllocGlobal>(rt: &R) -> Result<String, Failure> {
 /// The places of entries, by `TERMINFO` and `TERMINFO_DIRS`.
 ///
 /// # Errors
-/// That one of them is not text; `Memory`.
+/// `NotText` if one of them is not UTF-8; `Memory`.
 pub fn entry_places<R: Env + AllocGlobal>(rt: &R) -> Result<Vec<String>, Failure> {
     let terminfo = variable(rt, "TERMINFO")?;
     let dirs = variable(rt, "TERMINFO_DIRS")?;

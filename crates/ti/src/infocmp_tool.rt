@@ -1,4 +1,4 @@
-//! `ti infocmp`: prints entries as source, compares them, or tells one by others.
+//! `ti infocmp`: lists entries as source, or compares them.
 use crate::disk_tree::DiskTree;
 use crate::environment::{entry_places, own_terminal};
 use crate::failure::Failure;
@@ -8,10 +8,10 @@ use std::io::{self, Write};
 use std::rt::{Clock, Env, Files};
 use ti_tools::{InfocmpMode, InfocmpOptions, Job, ToolError, entry, infocmp, locate};
 
-/// Whose entries `infocmp` reads, and where.
+/// The terminals whose entries `infocmp` reads, and where it looks for them.
 #[derive(Clone, Copy)]
 pub struct InfocmpNames<'a> {
-    /// The names of the terminals; none where the terminal's own is meant.
+    /// The names of the terminals; none if the terminal's own is meant.
     pub names: &'a [String],
     /// The only place for the first name.
     pub first_dir: Option<&'a str>,
@@ -19,8 +19,9 @@ pub struct InfocmpNames<'a> {
     pub other_dir: Option<&'a str>,
 }
 
-/// Prints what the options ask for to standard output, and says on standard error why it did not. The entries are read in the
-/// order of their names, and the first that can't be ends the run. The answer is the status of the process.
+/// Prints what the options ask for on standard output, or says on standard error why it did not.
+/// The entries are read in the order of their names, and the first that can't be read ends the run.
+/// Answers the status of the process.
 pub fn run<R: Clock + Env + Files + Print + Eprint + AllocGlobal>(
     rt: &R,
     job: &Job,
@@ -49,7 +50,7 @@ fn own_names<R: Env + AllocGlobal>(rt: &R, mode: InfocmpMode) -> Result<Vec<Stri
     Ok(copies(rt.alloc(), name.as_str(), count)?)
 }
 
-// A text so many times.
+// A number of copies of a string.
 fn copies(alloc: Global, text: &str, count: usize) -> Result<Vec<String>, AllocError> {
     let mut copies = Vec::new(alloc);
     for _ in 0..count {
@@ -58,7 +59,7 @@ fn copies(alloc: Global, text: &str, count: usize) -> Result<Vec<String>, AllocE
     Ok(copies)
 }
 
-// The same for names that are there.
+// A copy of names that are there.
 fn run_names<R: Clock + Env + Files + Print + Eprint + AllocGlobal>(
     rt: &R,
     job: &Job,
@@ -84,7 +85,8 @@ fn run_names<R: Clock + Env + Files + Print + Eprint + AllocGlobal>(
     }
 }
 
-// The file of a terminal's entry, looked for at one place alone where that is said. Its bytes are an entry.
+// The file of a terminal's entry, looked for at only one place if that is given. Its bytes are an
+// entry.
 fn entry_file<R: Clock + Env + Files + AllocGlobal>(
     rt: &R,
     name: &str,

@@ -7,14 +7,14 @@ use std::rt::{Clock, Env, Files};
 use std::str;
 use ti_tools::{TicOptions, ToolError, TreeFault, place, tic};
 
-/// Where entries stand unless something else is said.
+// The directory of entries if no other is given.
 const SYSTEM_FOLDER: &str = "/usr/share/terminfo";
 
 /// Compiles the source in `file`, or on standard input, and writes the files below `dir`. Nothing
-/// is written before the whole source is compiled. The answer is the status of the process.
+/// is written before the whole source is compiled. Answers the status of the process.
 ///
 /// # Errors
-/// Why it stopped. Where a file could not be written, the report and earlier files stand.
+/// Why it stopped. If a file could not be written, the report and earlier files have been.
 pub fn run<R: Clock + Env + Files + Input + Eprint + AllocGlobal>(
     rt: &R,
     check: bool,
@@ -34,8 +34,8 @@ pub fn run<R: Clock + Env + Files + Input + Eprint + AllocGlobal>(
     }
 }
 
-// The folder of `-o`, else that of `TERMINFO` where it is set and not empty, else the system's. Nothing is
-// written for `-c`, so `TERMINFO` is not read then.
+// The directory of `-o`, else that of `TERMINFO` if it is set and not empty, else the system's.
+// With `-c` nothing is written, so `TERMINFO` is not read.
 fn folder<R: Env + AllocGlobal>(rt: &R, check: bool, dir: Option<&str>) -> Result<String, Failure> {
     if let Some(dir) = dir {
         return Ok(String::from_str(rt.alloc(), dir)?);

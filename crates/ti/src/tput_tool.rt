@@ -22,8 +22,8 @@ pub struct TputWords<'a> {
     pub words: &'a [String],
 }
 
-/// Writes what the words ask of a terminal to standard output, and says on standard error why it did not. The answer is the
-/// status of the process.
+/// Writes what the words ask of a terminal to standard output, or says on standard error why it did
+/// not. Answers the status of the process.
 pub fn run<R: Clock + Env + Files + Input + Print + Eprint + AllocGlobal>(
     rt: &R,
     job: &Job,
