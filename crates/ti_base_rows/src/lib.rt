@@ -1,13 +1,13 @@
-//! The worked rows of the database and of its plans as tests, with entries and reports by hand; no code of the
-//! product. They stand in tables, and what goes over a table is proved once: a test that makes many calls in a row
-//! takes long to prove.
+//! The worked rows of the database and of its plans as tests, with entries and reports by hand; no
+//! code of the product. They are in tables, and the function that goes over a table is proved once:
+//! a test that makes many calls in a row takes long to prove.
 //!
 //! - `steps`: the steps that a source is led through, for the rows below
 //! - `dependents`: sources of many blocks that use one another
 //! - `limits`: what is refused, and the largest blocks and entries
 //! - `numbers`: numbers, from the source to the bytes of the entry
-//! - `owners`: whose name a use means
-//! - `reports`: what is said of a source, and where
+//! - `owners`: the block that a use means
+//! - `reports`: what a report says of a source, and where
 //! - `circular`: blocks that use one another
 //! - `runs`: runs of edits
 //! - `insertions`: sources made by a run of insertions

@@ -1,8 +1,8 @@
-//! Edits made at random as a test of the database, which is compared with one made afresh after each. No code of the
-//! product; the worked rows stand in `ti_base_rows`.
+//! Edits made at random as a test of the database, which is compared after each with one that is
+//! made anew. No code of the product; the worked rows are in `ti_base_rows`.
 //!
 //! - `random`: the edits, and what is compared
-//! - `runs`: lists of such edits that are made in one call, compared with the same edits one by one
+//! - `runs`: lists of such edits that are made in one call, compared with the edits made one by one
 #![tactic(auto)]
 
 #[cfg(test)]

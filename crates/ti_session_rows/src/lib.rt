@@ -1,5 +1,5 @@
-//! The worked rows of the session and of `tput` as tests, with answers from the manuals and by hand; no code of the
-//! product.
+//! The worked rows of the session and of `tput` as tests, with answers from the manuals and by
+//! hand; no code of the product.
 //!
 //! - `devices`: readers and writers that fail in mid-stream, for the rows below
 //! - `scripts`: scripts of the session

@@ -1,9 +1,9 @@
-// Values with the texts that spell them.
+//! Values with the texts that spell them.
 use std::alloc::{AllocError, Global};
 use std::test::Fail;
 use ti_spelling::{escape, escaped_len};
 
-/// A value, and the text that spells it.
+// A value, and the text that spells it.
 static ROWS: [(&'static [u8], &'static [u8]); 16] = [
     (b"", b""),
     (b"\x1b[,\\^\x1c\x80\x7f ", b"\\E[\\,\\\\\\^\\034\\200^?\\s"),
@@ -23,7 +23,7 @@ static ROWS: [(&'static [u8], &'static [u8]); 16] = [
     (b"%%\x01", b"%%\\001"),
 ];
 
-/// Whether a value is spelled by this text, and its length is known.
+// Whether a value is spelled by this text, and its length is known.
 fn is_spelled(alloc: Global, value: &[u8], text: &[u8]) -> Result<bool, AllocError> {
     if value.len() > 1_000 {
         return Ok(false);

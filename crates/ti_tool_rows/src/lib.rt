@@ -1,7 +1,7 @@
-//! The worked rows of the tools, of their command lines, and of the listings and trees of files that they rest on, as
-//! tests, with answers from the manuals and by hand; no code of the product.
+//! The worked rows of the tools, of their command lines, and of the listings and trees of files
+//! under them, as tests, with answers from the manuals and by hand; no code of the product.
 //!
-//! - `commands`: command lines, the jobs that they ask for and what is said of others
+//! - `commands`: command lines, the jobs that they ask for, and the messages for others
 //! - `compiling`: sources with their files and reports
 //! - `infocmp`: listings and relative source that compile back
 //! - `listing`: entries listed and compared
