@@ -198,8 +198,8 @@ Options:
   -h, --help  Print help
 
 The report of the faults in the source goes to standard error. A block without
-error gets its files also if another block has one. The tools look for an
-entry in $TERMINFO, $TERMINFO_DIRS and /usr/share/terminfo alone.
+an error gets its files, even if another block has an error. The tools look for
+an entry only in $TERMINFO, $TERMINFO_DIRS and /usr/share/terminfo.
 
 Exit status:
   0  the source has no error, but perhaps warnings
