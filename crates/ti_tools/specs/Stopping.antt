@@ -1,4 +1,5 @@
--- How a tool that stops ends: its exit status, and the line on standard error (tput(1); the texts are own).
+-- How a tool that stops ends: its exit status, and the line on standard error (tput(1); the texts
+-- are own).
 use Rattle.std.specs.Prelude.{ℕ, Bool, if◌then◌else◌, ◌||◌, List, [], ◌∷◌, codes, bytes_eq, decimal, Option, Some, None, is_some}
 use Rattle.std.specs.List.{concat}
 use Rattle.ti_caps.specs.Tables.{capability_named}
@@ -36,7 +37,7 @@ status_of (Tput lines term rate words) error found = tput_status error found
 status_of Session error found = plain_status error
 status_of (Infocmp mode names layout first_dir other_dir) error found = plain_status error
 
--- ---- the line on standard error
+-- the line on standard error
 
 -- the name of the tool of a job
 abbrev pub tool_name : Job → List ℕ
@@ -72,12 +73,13 @@ plain_text Memory = codes "out of memory"
 abbrev pub is_known : List ℕ → Bool
 is_known name = is_some (capability_named name) || bytes_eq name (codes "init") || bytes_eq name (codes "reset")
 
--- the parts of a line: the name of the tool, the bytes before a name, the name, the bytes behind it, a detail, and the end
+-- the parts of a line: the name of the tool, the bytes before a name, the name, the bytes after it,
+-- a detail, and the end
 abbrev pub line_parts : List ℕ → List ℕ → List ℕ → List ℕ → List ℕ → List ℕ → List (List ℕ)
 line_parts tool head subject link detail end = tool ∷ head ∷ subject ∷ link ∷ detail ∷ end ∷ []
 
--- The line, in parts: the name of the tool, and what the fault is; where there is none, the capability of that name is
--- unknown or its string is bad.
+-- The line, in parts: the name of the tool, and what the fault is; if there is none, the capability
+-- of that name is unknown or its string is bad.
 abbrev pub message_parts : List ℕ → List ℕ → Option ToolError → List (List ℕ)
 message_parts tool name None =
     line_parts tool (if is_known name then codes ": bad string \"" else codes ": unknown terminfo capability \"") name [] [] (codes "\"\n")
