@@ -156,7 +156,8 @@ fn change(alloc: Global, slots: &mut Slots, shared: &mut SharedTexts, edit: &Edi
     }
 }
 
-/// Makes all edits in order, with nothing found out in between. An error says that no edit was made.
+/// Makes all edits in order, with nothing found out in between. An error says that no edit was
+/// made.
 fn change_all(
     alloc: Global,
     slots: &mut Slots,
@@ -178,8 +179,8 @@ fn change_all(
     Ok(())
 }
 
-/// The slots that the edits make of no blocks, settled once after the last of them. An edit that memory
-/// was refused for is refused so; an error says that memory was refused for the whole.
+/// The slots that the edits make of no blocks, settled once after the last of them. An edit that
+/// memory was refused for is refused so; an error says that memory was refused for the whole.
 pub(crate) fn run_at_once(
     alloc: Global,
     edits: &[Edit<'_>],

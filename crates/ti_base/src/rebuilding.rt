@@ -70,8 +70,8 @@ pub(crate) fn rebuild(
     Ok(install(slots, plan))
 }
 
-/// Finds out what there is to find out about each block of a list that is made in one go. At an error
-/// all is as before.
+/// Finds out what there is to find out about each block of a list that is made in one go. At an
+/// error all is as before.
 pub(crate) fn rebuild_all(alloc: Global, slots: &mut Slots) -> Result<(), AllocError>
     requires { AreRead slots.old }
     ensures kept { OnOk result (AreKept slots.new) }

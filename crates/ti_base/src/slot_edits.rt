@@ -18,7 +18,8 @@ use ti_meaning::{Edit, Edited};
 use ti_slots::{Slot, Slots, changes_are_undone};
 use ti_source::Parsed;
 
-/// Makes room for a block. All stays as it is; at an error the index lets go of the names that nobody has or uses.
+/// Makes room for a block. All stays as it is; at an error the index lets go of the names that
+/// nobody has or uses.
 pub(crate) fn reserve(slots: &mut Slots, block: &Parsed) -> Result<(), AllocError>
     requires indexed { IsIndexed slots.old }
     requires few { length slots.old.order.listed ≤ blocks_max }
@@ -51,7 +52,8 @@ fn read_with_room(alloc: Global, slots: &mut Slots, text: &[u8]) -> Result<Slot,
     Ok(slot)
 }
 
-/// Lets go of a slot that is not in the list, and of what the index keeps of names of its block that nobody has or uses any more.
+/// Lets go of a slot that is not in the list, and of what the index keeps of names of its block
+/// that nobody has or uses any more.
 fn discard(slots: &mut Slots, slot: Slot)
     requires { AreKept slots.old }
     ensures forgotten { HasForgotten slots.new (reading_of slot.block) }
@@ -75,8 +77,8 @@ pub(crate) fn put_slot(slots: &mut Slots, at: usize, slot: Slot) -> u32
     slots.put_in(at, slot)
 }
 
-/// The same in place of a slot that was taken out, the two having what was found out about each other's
-/// blocks: the entry that stood here is there to be patched until the new block is rebuilt.
+/// The same in place of a slot that was taken out, the two having what was found out about each
+/// other's blocks: the entry that stood here is there to be patched until the new block is rebuilt.
 fn put_slot_over(slots: &mut Slots, at: usize, mut slot: Slot, old: &mut Slot) -> u32
     requires indexed { IsIndexed slots.old }
     requires within { at ≤ length slots.old.order.listed }

@@ -8,23 +8,23 @@ use crate::graph::Graph;
 use crate::search::{Progress, Search, search_graph};
 use std::alloc::{AllocError, Global};
 
-/// The strongly connected components of a directed graph: two nodes are in one component exactly
-/// where each leads to the other.
+/// The strongly connected components of a directed graph: two nodes are in one component exactly if
+/// each leads to the other.
 #[derive(Drop)]
 pub struct Components {
     /// The number of each node's component. Along an edge no number rises.
     pub component_of: Vec<usize>,
-    /// All nodes, each behind those that its edges lead to, but for nodes of its own component. A
-    /// component's nodes stand together, and its number is the place of the first.
+    /// All nodes, each after those that its edges lead to, except nodes of its own component. A
+    /// component's nodes are next to each other, and its number is the place of the first.
     pub order: Vec<usize>,
 }
 
 impl Components {
-    /// The components of a graph, by the path search of Purdom and Munro (1970) and Gabow (2000), in
-    /// time linear in its nodes and edges. Each edge leads to a node or nowhere.
+    /// The components of a graph, by the path search of Purdom and Munro (1970) and Gabow (2000),
+    /// in time linear in its nodes and edges. Each edge leads to a node or nowhere.
     ///
     /// # Errors
-    /// Want of memory.
+    /// `AllocError` if memory ran out.
     pub fn find(alloc: Global, graph: &Graph) -> Result<Components, AllocError>
         requires { IsGraph graph.now }
         ensures components { IfOk result (λ c. AreComponents graph.now c.component_of.items) }

@@ -26,10 +26,10 @@ impl Model for Graph {
 }
 
 impl Graph {
-    /// A graph without nodes, with room for so many nodes and edges in all.
+    /// A graph without nodes, with room for these numbers of nodes and edges.
     ///
     /// # Errors
-    /// Want of memory.
+    /// `AllocError` if memory ran out.
     pub fn with_capacity(alloc: Global, nodes: usize, edges: usize) -> Result<Graph, AllocError>
         ensures { IfOk result (λ graph. graph ≡ []) }
     {
@@ -55,7 +55,7 @@ impl Graph {
         self.targets.len() - self.starts[0]
     }
 
-    /// Adds a node without edges, the last of all. Where memory is short the graph stays.
+    /// Adds a node without edges, the last of all. If memory is short the graph does not change.
     pub fn add_node(&mut self) -> Result<(), AllocError>
         ensures ok { OnOk result (self.new ≡ self.old ++ [] ∷ []) }
         ensures err { OnErr result (self.new ≡ self.old) }
@@ -64,7 +64,8 @@ impl Graph {
         Ok(())
     }
 
-    /// Adds an edge to the last node's row, behind the others. Where memory is short the graph stays.
+    /// Adds an edge to the last node's row, after the others. If memory is short the graph does not
+    /// change.
     pub fn add_edge(&mut self, target: Option<usize>) -> Result<(), AllocError>
         requires { 0 < length self.old }
         ensures ok { OnOk result (AddsEdge self.old self.new target) }

@@ -13,7 +13,7 @@ use std::alloc::{AllocError, Global};
 pub(crate) enum Progress {
     /// It was not met.
     Unseen,
-    /// It stands at this place of the path, in a component that is still open.
+    /// It is at this place of the path, in a component that is still open.
     OnPath(usize),
     /// Its component was closed and has this number.
     Closed(usize),
@@ -70,8 +70,8 @@ impl Search {
         Ok(())
     }
 
-    /// Follows an edge: a node that was not met is put on the path, and where the edge leads back on
-    /// the path no component starts behind that node.
+    /// Follows an edge: a node that was not met is put on the path, and if the edge leads back on
+    /// the path no component starts after that node.
     fn follow(&mut self, edge: Option<usize>) -> Result<(), AllocError>
         requires within { (target : ℕ) → edge ≡ Some target → target < vec_len self.old.progress }
         requires rises { Rises self.old.starts.items }
@@ -88,7 +88,7 @@ impl Search {
         Ok(())
     }
 
-    /// Closes the component of the nodes that stand on the path from a place on.
+    /// Closes the component of the nodes that are on the path from a place on.
     fn close(&mut self, start: usize) -> Result<(), AllocError>
         requires within { start ≤ vec_len self.old.path }
         requires nodes { AreNodes self.old.path.items (vec_len self.old.progress) }

@@ -17,7 +17,7 @@ use ti_index::Order;
 use ti_slots::Slots;
 use ti_source::{Item, What};
 
-/// Where each of the ids stands in the list, in which no id stands twice.
+/// The position of each of the ids in the list, in which no id is twice.
 pub(crate) fn places_of(alloc: Global, order: &Order, ids: &[u32]) -> Result<Vec<usize>, AllocError>
     requires { (i id : ℕ) → slice_get ids.now i ≡ Some id → Has order.now.listed id }
     ensures places { IfOk result (λ places. ArePositions order.now.listed ids.now places.items) }

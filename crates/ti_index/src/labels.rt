@@ -24,7 +24,7 @@ fn relabel(ids: &[u32], labels: &mut Vec<u64>)
     }
 }
 
-/// The labels of the ids before and behind a place between ids, or the ends.
+/// The labels of the ids before and after a place between ids, or the ends.
 fn gap_at(ids: &[u32], labels: &[u64], position: usize) -> (u64, u64)
     requires known { AreKnown ids.now (length labels.now) }
     requires labelled { AreLabelled ids.now labels.now }
@@ -44,7 +44,7 @@ fn gap_at(ids: &[u32], labels: &[u64], position: usize) -> (u64, u64)
     (low, high)
 }
 
-/// A label for an id to be put in at a position. Where there is no room between its neighbours, all
+/// A label for an id to be put in at a position. If there is no room between its neighbours, all
 /// ids get labels anew.
 pub(crate) fn make_label(ids: &[u32], labels: &mut Vec<u64>, position: usize) -> u64
     requires known { AreKnown ids.now (vec_len labels.old) }
@@ -74,7 +74,7 @@ fn label_within(low: u64, high: u64) -> u64
     low + ((high - low) / 2).min(LABEL_STEP)
 }
 
-/// The place of an id that stands in the list, by a binary search for its label.
+/// The place of an id that is in the list, by a binary search for its label.
 pub(crate) fn find_place(ids: &[u32], labels: &[u64], id: u32) -> usize
     requires known { AreKnown ids.now (length labels.now) }
     requires labelled { AreLabelled ids.now labels.now }

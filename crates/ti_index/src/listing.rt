@@ -5,7 +5,7 @@ ghost use Rattle.ti_index.specs.Listing.{AreAmong, Lists, ListsNoMore, ListsToo}
 
 use crate::order::Order;
 
-/// Puts an id into a list, unless it is there. Where it is not, the list has room for it.
+/// Puts an id into a list, unless it is there. If it is not, the list has room for it.
 pub(crate) fn put_in(order: &Order, list: &mut Vec<u32>, id: u32)
     requires stands { Has order.now.listed id }
     requires among { AreAmong list.old.items order.now.listed }

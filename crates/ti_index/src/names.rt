@@ -57,7 +57,7 @@ impl NameIndex {
         }
     }
 
-    /// Puts a block among those that have a name. Room is needed where it is not one of them yet.
+    /// Puts a block among those that have a name. Room is needed if it is not one of them yet.
     pub fn add_holder(&mut self, order: &Order, name: &[u8], id: u32)
         requires stands { Has order.now.listed id }
         requires among { AreAmong (holders_at self.old name.now) order.now.listed }
@@ -72,7 +72,7 @@ impl NameIndex {
         }
     }
 
-    /// Puts a block among those that use a name. Room is needed where it is not one of them yet.
+    /// Puts a block among those that use a name. Room is needed if it is not one of them yet.
     pub fn add_user(&mut self, order: &Order, name: &[u8], id: u32)
         requires stands { Has order.now.listed id }
         requires among { AreAmong (users_at self.old name.now) order.now.listed }
@@ -115,8 +115,8 @@ impl NameIndex {
         }
     }
 
-    /// Makes room for one more block that has a name, and for one more that uses it. No look-up shows
-    /// a difference, also where memory is short.
+    /// Makes room for one more block that has a name, and for one more that uses it. No look-up
+    /// shows a difference, even if memory is short.
     pub fn reserve(&mut self, name: &[u8]) -> Result<(), AllocError>
         ensures seen { (other : List ℕ) → IsSeenSame self.old self.new other }
         ensures capacity { (other : List ℕ) → KeepsCapacity self.old self.new other }

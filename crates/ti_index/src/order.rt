@@ -8,12 +8,12 @@ use crate::labels::{find_place, make_label};
 use std::alloc::{AllocError, Global};
 use std::marker::Model;
 
-/// Ids in the order of a list. An id stays with its block while others come and go, and is used
+/// Ids in the order of a list. An id remains with its block while others come and go, and is used
 /// again once its block has gone. Its place in the list is found by a label that rises along the
-/// list, as is which of two ids stands first.
+/// list, and so is which of two ids is first.
 #[derive(Drop)]
 pub struct Order {
-    /// The ids that stand in the list, in its order.
+    /// The ids that are in the list, in its order.
     ids: Vec<u32>,
     /// The label of each id.
     labels: Vec<u64>,
@@ -53,7 +53,7 @@ impl Order {
         &self.ids
     }
 
-    /// How many ids there are, those that stand in the list and those that are free. Each is below
+    /// How many ids there are, those that are in the list and those that are free. Each is below
     /// that number.
     pub fn count(&self) -> usize
         ensures count { result ≡ length self.now.listed + length self.now.free }
@@ -63,7 +63,7 @@ impl Order {
         self.labels.len()
     }
 
-    /// The position of an id that stands in the list, in time logarithmic in the list's length.
+    /// The position of an id that is in the list, in time logarithmic in the list's length.
     pub fn position(&self, id: u32) -> usize
         requires { Has self.now.listed id }
         ensures { slice_get self.now.listed result ≡ Some id }
@@ -71,7 +71,7 @@ impl Order {
         find_place(&self.ids, &self.labels, id)
     }
 
-    /// Whether one id stands before another in the list.
+    /// Whether one id is before another in the list.
     pub fn is_before(&self, one: u32, other: u32) -> bool
         requires one { Has self.now.listed one }
         requires other { Has self.now.listed other }
@@ -81,7 +81,7 @@ impl Order {
         self.labels[one as usize] < self.labels[other as usize]
     }
 
-    /// How many ids of a list, which are in the order of all, stand before an id.
+    /// How many ids of a list, which are in the order of all, are before an id.
     pub(crate) fn count_before(&self, list: &[u32], id: u32) -> usize
         requires stands { Has self.now.listed id }
         requires among { AreAmong list.now self.now.listed }
@@ -103,8 +103,8 @@ impl Order {
         low
     }
 
-    /// Sees to a free id, so that one can be put in. Nothing else changes; where memory is short
-    /// nothing does.
+    /// Makes sure that an id is free, so that one can be put in. Nothing else changes; if memory is
+    /// short, nothing does.
     pub fn reserve(&mut self) -> Result<(), AllocError>
         requires { length self.old.listed < 2 ^ 31 }
         ensures listed { self.new.listed ≡ self.old.listed }

@@ -20,7 +20,7 @@ pub(crate) struct Known<'a> {
 }
 
 /// What became of the owner of a name, which an item of the block at a node uses; or what is wrong
-/// with the use, where the name has no owner or leads back to the block.
+/// with the use, if the name has no owner or leads back to the block.
 fn owner_state<'a>(
     known: &Known<'a>,
     node: usize,

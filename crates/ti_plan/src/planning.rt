@@ -131,10 +131,10 @@ fn make_plan(alloc: Global, slots: &Slots, dependents: Dependents) -> Result<Pla
 }
 
 /// The plan of an edit of a list: of the block put in, which has the id `put`, and each block that
-/// reaches a name of it or one of the names `out` of the block taken out, what is found out about it
-/// in the new list. The list is the new one; what its slots hold of all other blocks is right. The
-/// time is linear, up to a logarithm, in what the blocks found say, in how many use their names and
-/// in the values that they have. It fails where memory is short, and changes nothing.
+/// reaches a name of it or one of the names `out` of the block taken out, what is found out about
+/// it in the new list. The list is the new one; what its slots hold of all other blocks is right.
+/// The time is linear, up to a logarithm, in what the blocks found say, in how many use their names
+/// and in the values that they have. It fails if memory is short, and changes nothing.
 pub fn plan(
     alloc: Global,
     slots: &Slots,
@@ -154,9 +154,9 @@ pub fn plan(
 }
 
 /// The plan of a list that is made in one go: what is found out about each of its blocks. Nothing
-/// that the slots hold of a block is asked to be right; an entry that they hold is patched, as in the
+/// that the slots hold of a block has to be right; an entry that they hold is patched, as in the
 /// plan of an edit. The time is linear, up to a logarithm, in what the blocks say and in the values
-/// that they have. It fails where memory is short, and changes nothing.
+/// that they have. It fails if memory is short, and changes nothing.
 pub fn plan_all(alloc: Global, slots: &Slots) -> Result<Plan, AllocError>
     requires indexed { IsIndexed slots.now }
     requires usable { All IsUsable (blocks_of slots.now) }

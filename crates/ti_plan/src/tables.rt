@@ -21,7 +21,7 @@ use ti_compiled::{Image, Mentions, Table, Value, WriteError};
 use ti_slots::{BlockEntry, Slot, State};
 use ti_source::{Parsed, What};
 
-/// Adds all values of the owner of a name, which an item of the block at a node uses, behind the
+/// Adds all values of the owner of a name, which an item of the block at a node uses, after the
 /// mentions.
 fn merge_owner(
     known: &Known,
@@ -42,7 +42,7 @@ fn merge_owner(
     mentions.merge(used)
 }
 
-/// Adds what an item of the block at a node stands for, behind the mentions.
+/// Adds what an item of the block at a node stands for, after the mentions.
 fn add_item(
     known: &Known,
     node: usize,
@@ -95,8 +95,8 @@ fn make_table(
     mentions.into_table()
 }
 
-/// The image of a sound block that has this table. Where the entry that the block had before has the
-/// same names, a copy of it is patched; else the image is written anew.
+/// The image of a sound block that has this table. Where the entry that the block had before has
+/// the same names, a copy of it is patched; else the image is written anew.
 fn make_image(alloc: Global, slot: &Slot, table: &Table) -> Result<Image, WriteError>
     requires whole { is_broken (reading_of slot.now.block) ≡ false }
     requires usable { IsUsable (reading_of slot.now.block) }

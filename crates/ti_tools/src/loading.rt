@@ -39,12 +39,12 @@ fn check_outcomes(outcomes: &[Outcome]) -> Result<(), EditError>
     Ok(())
 }
 
-/// A database that holds the blocks of a source in order. It takes the blocks of each source that
-/// is not refused, and of no other.
+/// A database that holds the blocks of a source in their order. It takes the blocks of each source
+/// that is not refused, and of no other.
 ///
 /// # Errors
-/// Why the first block that the database does not take is refused: what is wrong with the source,
-/// or `Memory`.
+/// Why the first block that the database does not take is refused there: what is wrong with the
+/// source, or want of memory.
 pub fn database_of(alloc: Global, source: &[u8]) -> Result<Database, EditError>
     requires { last_byte ascii.newline source.now ≡ ascii.newline }
     ensures held { IfOk result (λ database. database ≡ source_texts source.now) }

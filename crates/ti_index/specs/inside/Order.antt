@@ -3,13 +3,13 @@ use Rattle.std.specs.Prelude.{ℕ, ◌≡◌, ◌≤◌, ◌+◌, ◌^◌, List,
 use Rattle.ti_index.specs.inside.Labels.{AreLabelled}
 use Rattle.ti_index.specs.Labels.{AreKnown, AreDistinct}
 
--- the ids of a list, in its order, and those that stand nowhere, the last freed at the end
+-- the ids of a list, in its order, and those that are in no list, the last freed at the end
 pub record Ids : Type 0 where
   pub listed : List ℕ
   pub free : List ℕ
 
--- what is kept: each id below the number of labels stands in the list or is free, once; labels rise along the list; there
--- is room to move every id
+-- what holds of an order: each id below the number of labels is in the list or is free, once;
+-- labels rise along the list; there is room to move every id
 pub record IsOrder (ids labels free : List ℕ) (ids_room free_room : ℕ) : Type 0 where
   pub labelled : AreLabelled ids labels
   pub ids_known : AreKnown ids (length labels)
