@@ -1,4 +1,4 @@
-// The edited source: its blocks under stable ids, with what was found out about each.
+//! The edited source: its blocks under stable ids, with what was found out about each.
 ghost use Rattle.std.specs.Prelude.{◌≡◌, ◌<◌, ◌≤◌, [], length, map, slice_get, Some, option_map, vec_capacity, IfOk};
 ghost use Rattle.std.specs.Rc.{rc_slice_items};
 ghost use Rattle.ti_meaning.specs.Edits.{EditRun, change_of};
@@ -188,8 +188,8 @@ impl Database {
     }
 }
 
-/// The database that the edits make of no blocks, each made by `apply`, so that what one rebuilds
-/// takes no more memory than it needs.
+// The database that the edits make of no blocks, each made by `apply`, so that what one rebuilds
+// takes no more memory than it needs.
 fn run_one_by_one(alloc: Global, edits: &[Edit<'_>], outcomes: &mut Vec<Outcome>) -> Database
     requires empty { outcomes.old.items ≡ [] }
     requires room { length edits.now ≤ vec_capacity outcomes.old }

@@ -1,4 +1,4 @@
-// Whether an edit is refused, and why.
+//! Whether an edit is refused, and why.
 ghost use Rattle.std.specs.Prelude.{IfErr, OnOk};
 ghost use Rattle.ti_slots.specs.Slots.{slot_texts};
 ghost use Rattle.ti_meaning.specs.Edits.{change_of, IsRefusal, IsSoundEdit};

@@ -52,8 +52,8 @@ fn write_code(out: &mut Vec<u8>, code: Code) -> Result<(), AllocError>
     Ok(())
 }
 
-/// Appends the line of a fault that is on the line of that number, such as `2: E6 MissingUse zz`
-/// and a newline. At an error a part may have been appended.
+/// Appends the line of a fault that stands on the line of that number, such as
+/// `2: E6 MissingUse zz` and a newline. At an error a part may have been appended.
 pub fn write_fault(
     alloc: Global,
     out: &mut Vec<u8>,

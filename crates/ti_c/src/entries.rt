@@ -16,7 +16,7 @@ use std::alloc::{AllocError, Global};
 use ti_caps::{Cap, Kind};
 use ti_layout::{Format, ReadError, View, ViewParts};
 
-/// The answer of a call that was refused memory for an entry.
+// The answer of a call that was refused memory for an entry.
 const NO_MEMORY: u32 = 9;
 
 // The format of an entry.
@@ -40,7 +40,7 @@ fn is_wide(format: Format) -> bool
     }
 }
 
-// The entry that C holds, as a view.
+/// The entry that C holds, as a view.
 #[tactic(auto, unfolding(crate::specs::Entries::entry_contents))]
 pub(crate) fn view_of<'a>(entry: &Entry<'a>) -> View<'a>
     ensures names { names_of result ≡ entry_names entry.now }

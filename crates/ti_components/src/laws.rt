@@ -1,4 +1,4 @@
-// Laws of components, for what stands on their numbers. They compute nothing.
+//! Laws of components, for what stands on their numbers. They compute nothing.
 ghost use Rattle.ti_components.specs.Laws.{ComponentsAreDetermined, NumbersFall, CyclesShareANumber, WalksJoin};
 
 /// The ends of an edge are in one component exactly if the edge is on a cycle.

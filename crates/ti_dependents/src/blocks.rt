@@ -1,4 +1,4 @@
-// A block by its id.
+//! A block by its id.
 ghost use Rattle.std.specs.Prelude.{◌≡◌, IsSome};
 ghost use Rattle.ti_source.specs.Reading.{reading_of};
 ghost use Rattle.ti_slots.specs.Slots.{reading_at, slot_at};

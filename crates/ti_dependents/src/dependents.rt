@@ -1,4 +1,4 @@
-// The blocks that depend on an edit.
+//! The blocks that depend on an edit.
 ghost use Rattle.std.specs.Prelude.{◌≡◌, ℕ, Some, map, slice_get, IfOk};
 ghost use Rattle.std.specs.Rc.{rc_slice_items};
 ghost use Rattle.ti_text.specs.Lists.{Has};
@@ -49,7 +49,7 @@ pub fn find_dependents(
     blocks_found(alloc, slots, &found)
 }
 
-/// Blocks that a search found, their positions, and which of them use each other.
+// Blocks that a search found, their positions, and which of them use each other.
 fn blocks_found(
     alloc: Global,
     slots: &Slots,
@@ -80,7 +80,7 @@ pub fn find_all(alloc: Global, slots: &Slots) -> Result<Dependents, AllocError>
     blocks_listed(alloc, slots, &listed)
 }
 
-/// All blocks of a list, in its order, their positions, and which of them use each other.
+// All blocks of a list, in its order, their positions, and which of them use each other.
 fn blocks_listed(
     alloc: Global,
     slots: &Slots,

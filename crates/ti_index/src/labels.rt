@@ -1,17 +1,17 @@
-// Labels that rise along a list of ids, with room between for labels of ids that are put in.
+//! Labels that rise along a list of ids, with room between for labels of ids that are put in.
 ghost use Rattle.std.specs.Prelude.{◌≡◌, ◌<◌, ◌≤◌, ◌*◌, ◌+◌, ◌^◌, ℕ, Some, slice_get, length, vec_len};
 ghost use Rattle.ti_index.specs.inside.Labels.{AreLabelled, FitsAt, IsGap};
 ghost use Rattle.ti_text.specs.Lists.{Has};
 ghost use Rattle.ti_index.specs.Labels.{AreKnown, AreDistinct};
 
-/// Labels stay below this.
+// Labels stay below this.
 const LABEL_END: u64 = 1 << 63;
 
-/// The step between labels that are given anew, and the greatest between a new label and the one
-/// before it.
+// The step between labels that are given anew, and the greatest between a new label and the one
+// before it.
 const LABEL_STEP: u64 = 1 << 32;
 
-/// Gives the ids labels anew, far apart.
+// Gives the ids labels anew, far apart.
 fn relabel(ids: &[u32], labels: &mut Vec<u64>)
     requires known { AreKnown ids.now (vec_len labels.old) }
     requires distinct { AreDistinct ids.now }
@@ -24,7 +24,7 @@ fn relabel(ids: &[u32], labels: &mut Vec<u64>)
     }
 }
 
-/// The labels of the ids before and after a place between ids, or the ends.
+// The labels of the ids before and after a place between ids, or the ends.
 fn gap_at(ids: &[u32], labels: &[u64], position: usize) -> (u64, u64)
     requires known { AreKnown ids.now (length labels.now) }
     requires labelled { AreLabelled ids.now labels.now }
@@ -65,7 +65,7 @@ pub(crate) fn make_label(ids: &[u32], labels: &mut Vec<u64>, position: usize) ->
     label_within(low, high)
 }
 
-/// A label between two, not far above the lower.
+// A label between two, not far above the lower.
 fn label_within(low: u64, high: u64) -> u64
     requires { low + 1 < high }
     ensures above { low < result }

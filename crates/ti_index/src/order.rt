@@ -1,4 +1,4 @@
-// The ids of blocks in the order of their list.
+//! The ids of blocks in the order of their list.
 ghost use Rattle.std.specs.Prelude.{◌≡◌, ◌<◌, ◌≤◌, ◌+◌, ◌^◌, ◌++◌, ◌∷◌, ◌↔◌, [], ℕ, Some, slice_get, length, insert, remove, vec_capacity, IsTrue, OnOk, OnErr};
 ghost use Rattle.ti_text.specs.Lists.{Has};
 ghost use Rattle.ti_index.specs.Labels.{AreKnown, AreDistinct};
@@ -13,11 +13,11 @@ use std::marker::Model;
 /// list, and so is which of two ids is first.
 #[derive(Drop)]
 pub struct Order {
-    /// The ids that are in the list, in its order.
+    // The ids that are in the list, in its order.
     ids: Vec<u32>,
-    /// The label of each id.
+    // The label of each id.
     labels: Vec<u64>,
-    /// The ids that stand nowhere.
+    // The ids that stand nowhere.
     free: Vec<u32>,
 }
 

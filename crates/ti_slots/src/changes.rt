@@ -1,4 +1,4 @@
-// Blocks come to the list and leave it. Room is made first, and then no change takes memory.
+//! Blocks come to the list and leave it. Room is made first, and then no change takes memory.
 ghost use Rattle.std.specs.Prelude.{◌≡◌, ◌<◌, ◌≤◌, ◌+◌, ◌^◌, ℕ, length, OnOk};
 ghost use Rattle.ti_source.specs.Reading.{reading_of};
 ghost use Rattle.ti_slots.specs.Changes.{HasForgotten, HasRoomFor, KeepsCapacities, KeepsRooms, PutsIn, ShowsSame, TakesOut};
@@ -13,7 +13,7 @@ use std::alloc::AllocError;
 use ti_index::Order;
 use ti_source::Parsed;
 
-/// Sees to a free id, and to a place among the slots for each id.
+// Sees to a free id, and to a place among the slots for each id.
 fn make_place(order: &mut Order, slots: &mut Vec<Option<Slot>>) -> Result<(), AllocError>
     requires few { length order.old.listed < 2 ^ 31 }
     requires places { length order.old.listed + length order.old.free ≤ length slots.old.items }

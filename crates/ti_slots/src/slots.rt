@@ -1,4 +1,4 @@
-// The blocks of a source, each in a slot under an id that stays with it.
+//! The blocks of a source, each in a slot under an id that stays with it.
 ghost use Rattle.std.specs.Prelude.{◌≡◌, ℕ, [], None, Some, IsSome, IfOk, option_map};
 ghost use Rattle.std.specs.Rc.{rc_slice_items};
 ghost use Rattle.ti_meaning.specs.Owner.{owner};

@@ -109,7 +109,7 @@ fn write_parts<W: Write>(writer: &mut Counted<W>, parts: &[&[u8]]) -> Result<(),
     Ok(())
 }
 
-/// A line that begins with the name of a tool.
+// A line that begins with the name of a tool.
 #[derive(Clone, Copy)]
 struct Line<'a> {
     tool: &'a [u8],
