@@ -1,6 +1,5 @@
--- What a block says once its uses are expanded (terminfo(5), "Similar Terminals"): a use is
--- replaced by all that the owner of the name says, in order, expanded in the same way, and the
--- leftmost mention of a capability decides.
+-- What a block says once its uses are expanded (terminfo(5), "Similar Terminals"): a use stands for all that the owner of
+-- the name says, in order, expanded in the same way, and the leftmost mention of a capability decides.
 use Rattle.std.specs.Prelude.{ℕ, zero, suc, List, [], ◌∷◌, length, Option, Some, None, is_some, option_and_then, Bool, if◌then◌else◌}
 use Rattle.std.specs.List.{list_any}
 use Rattle.ti_text.specs.Lists.{both_lists}
