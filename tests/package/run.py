@@ -11,7 +11,7 @@ bash, fish, zsh
 pages        the pages are clean under `mandoc -T lint`, and each says what a page is to say
 markdown     the links of pages lead to files, lines keep to the width, and the picture of the
              crates is that of crates.txt
-readme       the first command of README, as it stands there, writes what is said of it, and the
+readme       the first command of README writes what README says of it, and the
              second is what CI runs
 install      what `make install` puts into a directory runs from there, and `make uninstall`
              takes all of it away

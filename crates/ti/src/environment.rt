@@ -40,7 +40,7 @@ pub fn own_directory<R: Env + AllocGlobal>(rt: &R) -> Result<String, Failure> {
 /// The directories in which entries are looked for, by `TERMINFO` and `TERMINFO_DIRS`.
 ///
 /// # Errors
-/// That one of them is not text; `Memory`.
+/// `NotText` if one of them is not UTF-8; `Memory`.
 pub fn entry_places<R: Env + AllocGlobal>(rt: &R) -> Result<Vec<String>, Failure> {
     let terminfo = variable(rt, "TERMINFO")?;
     let dirs = variable(rt, "TERMINFO_DIRS")?;

@@ -1,4 +1,4 @@
-//! `ti infocmp`: prints entries as source, compares them, or tells one by others.
+//! `ti infocmp`: lists entries as source, or compares them.
 use crate::disk_tree::DiskTree;
 use crate::environment::{entry_places, own_terminal};
 use crate::failure::Failure;
@@ -38,7 +38,7 @@ fn own_names<R: Env + AllocGlobal>(rt: &R, mode: InfocmpMode) -> Result<Vec<Stri
     Ok(copies(rt.alloc(), name.as_str(), count)?)
 }
 
-// A text so many times.
+// A number of copies of a string.
 fn copies(alloc: Global, text: &str, count: usize) -> Result<Vec<String>, AllocError> {
     let mut copies = Vec::new(alloc);
     for _ in 0..count {

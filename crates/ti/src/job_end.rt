@@ -3,8 +3,8 @@ use crate::error_stream::ErrorStream;
 use crate::failure::Failure;
 use ti_tools::{Counted, Job, ToolError, message, status};
 
-/// Says on standard error why a job stopped; `name` is that of the terminal, and `found` says that its entry was read. The
-/// answer is the status of the process, also where standard error takes nothing.
+/// Says on standard error why a job stopped; `name` is that of the terminal, and `found` says that
+/// its entry was read. Answers the status of the process, even if standard error takes nothing.
 pub fn end_job<R: Eprint>(rt: &R, job: &Job, name: &str, failure: Failure, found: bool) -> u8 {
     match failure {
         Failure::Tool(error) => {

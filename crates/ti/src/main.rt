@@ -24,7 +24,7 @@ fn main(rt: HostRuntime) -> ExitCode {
     ExitCode::from(run(&rt))
 }
 
-// Does what the command line asks for. The answer is the status of the process.
+// Does what the command line asks for. Answers the status of the process.
 fn run<R: Clock + Env + Files + Input + Print + Eprint + AllocGlobal>(rt: &R) -> u8 {
     let words = match words(rt) {
         Ok(words) => words,
@@ -36,7 +36,7 @@ fn run<R: Clock + Env + Files + Input + Print + Eprint + AllocGlobal>(rt: &R) ->
     }
 }
 
-// Does a job. The answer is the status of the process.
+// Does a job. Answers the status of the process.
 fn run_job<R: Clock + Env + Files + Input + Print + Eprint + AllocGlobal>(rt: &R, job: &Job) -> u8 {
     match job {
         Job::Tic { check, dir, file } => {
@@ -92,15 +92,15 @@ fn words<R: Env + AllocGlobal>(rt: &R) -> Result<Vec<String>, Failure> {
     }
 }
 
-// Says in one line why a tool stopped. The status stays where standard error takes nothing.
+// Says in one line why a tool stopped. The status is the same if standard error takes nothing.
 fn print_failure<R: Eprint>(rt: &R, tool: &str, failure: Failure) -> u8 {
     let status = failure.status();
     let _ = eprintln!(rt; "{tool}: {failure}");
     status
 }
 
-// Prints the help that the words ask for, or what is wrong with them. An error of usage has status 2, also where
-// standard error takes nothing.
+// Prints the help that the words ask for, or what is wrong with them. An error of usage has status
+// 2, even if standard error takes nothing.
 fn print_refusal<R: Print + Eprint>(rt: &R, refusal: &Refusal) -> u8 {
     match refusal {
         Refusal::Memory => print_failure(rt, "ti", Failure::Tool(ToolError::Memory)),

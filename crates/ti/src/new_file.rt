@@ -1,16 +1,16 @@
-//! Replacing a file whole, by a new file that takes its name.
+//! Replaces a file whole, by a new file that takes its name.
 use std::fs::{self, File, OpenFile};
 use std::io::{self, ErrorKind, Write};
 use std::rt::{Clock, Files};
 use std::time::Duration;
 
-/// After how many seconds a new file counts as left over from a run that was killed: a run that still
-/// lives takes far less for the largest entry.
+// After how many seconds a new file counts as left over from a run that was killed: a run that
+// still lives takes far less for the largest entry.
 const LEFT_OVER_AFTER: u64 = 3600;
 
-/// Puts a file of these bytes at the path, in place of what is there, and makes the directories on its
-/// path that are missing. A regular file that is replaced keeps its permissions, if the file system
-/// has any. After a failure nothing new is left.
+/// Puts a file of these bytes at the path, in place of what is there, and makes the directories on
+/// its path that are missing. A regular file that is replaced keeps its permissions, if the file
+/// system has any. After a failure no new file is left.
 ///
 /// # Errors
 /// What the system answers; `OutOfMemory` if a growth of memory was refused.
@@ -20,7 +20,7 @@ pub fn replace_file<R: Files + Clock + AllocGlobal>(
     bytes: &[u8],
 ) -> io::Result<()> {
     let (new_path, file) = match create_beside(rt, path) {
-        // The directory is there for most files, so it is made only if the file can't be.
+        // The directory is there for most files, so it is made only if the file can't be made.
         Err(error) if is_absent(&error) => {
             make_directories(rt, path)?;
             create_beside(rt, path)?
@@ -66,7 +66,7 @@ fn create_beside<R: Files + Clock + AllocGlobal>(
     Err(io::Error::from(ErrorKind::AlreadyExists))
 }
 
-// A new file of this name; `None` if another run has one. One that was left over gives way.
+// A new file of this name; `None` if another run has one. One that was left over is removed.
 fn create<R: Files + Clock>(rt: &R, path: &str) -> io::Result<Option<R::File>> {
     match create_new(rt, path)? {
         Some(file) => Ok(Some(file)),
@@ -97,8 +97,8 @@ fn age<R: Files + Clock>(rt: &R, path: &str) -> io::Result<Duration> {
     fs::symlink_metadata(rt, path)?.modified()?.elapsed(rt)
 }
 
-// Writes all of these bytes into a new file, gives it the permissions of the regular file that it is
-// to replace, and closes it.
+// Writes all of these bytes into a new file, gives it the permissions of the regular file that it
+// is to replace, and closes it.
 fn fill<R: Files>(rt: &R, mut file: R::File, path: &str, bytes: &[u8]) -> io::Result<()> {
     file.write_all(bytes)?;
     match fs::symlink_metadata(rt, path) {

@@ -8,7 +8,7 @@ use std::str;
 use ti_tools::{TicOptions, ToolError, TreeFault, place, tic};
 
 /// Compiles the source in `file`, or on standard input, and writes the files below `dir`. Nothing
-/// is written before the whole source is compiled. The answer is the status of the process.
+/// is written before the whole source is compiled. Answers the status of the process.
 ///
 /// # Errors
 /// Why it stopped. If a file could not be written, the report and earlier files stay.

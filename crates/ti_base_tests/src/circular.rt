@@ -9,7 +9,7 @@ const NONE_OF_TWO: [Entry; 2] = [Absent, Absent];
 
 const NONE_OF_THREE: [Entry; 3] = [Absent, Absent, Absent];
 
-/// What is said of `a,cols#x,use=b,` before `b,use=a,`.
+// The report of `a,cols#x,use=b,` before `b,use=a,`.
 const CIRCULAR_AND_FAULTY: &str = "1: E3 BadNumber cols\n1: E7 Circular b\n2: E7 Circular a\n";
 
 #[rattlefmt::skip]
@@ -68,11 +68,12 @@ fn a_block_that_uses_its_own_name(rt: HostRuntime) -> Result<(), AllocError> {
     expect_source(&rt, rt.alloc(), &USE_OF_ITS_OWN_NAME)
 }
 
-/// What is said of `a,use=b,` before `b,use=a,` before `a,use=b,`: the last is not circular, since the first owns its name.
+// The report of `a,use=b,` before `b,use=a,` before `a,use=b,`: the last is not circular, since
+// the first owns its name.
 const CIRCULAR_AND_USER: &str =
     "1: E7 Circular b\n2: E7 Circular a\n3: W4 DuplicateName a\n3: E8 Unresolved b\n";
 
-// The same three blocks, put in one after the other in each order.
+// Three blocks, put in one after the other in each order.
 #[rattlefmt::skip]
 const FIRST_SECOND_THIRD: [Step<'static>; 3] = [
     Step { edit: Edit::Insert { at: 0, text: b"a,use=b,\n" }, outcome: Ok((&[0], 0)), entries: &[Absent], report: "1: E6 MissingUse b\n" },
@@ -121,7 +122,7 @@ const THIRD_SECOND_FIRST: [Step<'static>; 3] = [
     Step { edit: Edit::Insert { at: 0, text: b"a,use=b,\n" }, outcome: Ok((&[0, 1, 2], 0)), entries: &NONE_OF_THREE, report: CIRCULAR_AND_USER },
 ];
 
-/// Each block replaced by one that uses none, and put back.
+// Each block replaced by one that uses none, and put back.
 #[rattlefmt::skip]
 const BROKEN_BY_REPLACEMENTS: [Step<'static>; 4] = [
     Step { edit: Edit::Replace { at: 1, text: b"b,cols#1,\n" }, outcome: Ok((&[0, 1, 2], 3)),
@@ -132,7 +133,7 @@ const BROKEN_BY_REPLACEMENTS: [Step<'static>; 4] = [
     Step { edit: Edit::Replace { at: 0, text: b"a,use=b,\n" }, outcome: Ok((&[0, 1, 2], 0)), entries: &NONE_OF_THREE, report: CIRCULAR_AND_USER },
 ];
 
-/// Each block taken out, and put back.
+// Each block taken out, and put back.
 #[rattlefmt::skip]
 const BROKEN_BY_REMOVALS: [Step<'static>; 6] = [
     Step { edit: Edit::Remove { at: 0 }, outcome: Ok((&[0, 1], 0)), entries: &NONE_OF_TWO,
@@ -146,7 +147,7 @@ const BROKEN_BY_REMOVALS: [Step<'static>; 6] = [
     Step { edit: Edit::Insert { at: 2, text: b"a,use=b,\n" }, outcome: Ok((&[0, 1, 2], 0)), entries: &NONE_OF_THREE, report: CIRCULAR_AND_USER },
 ];
 
-/// Blocks moved, and back.
+// Blocks moved, and back.
 #[rattlefmt::skip]
 const MOVES: [Step<'static>; 4] = [
     Step { edit: Edit::Relocate { from: 0, to: 2 }, outcome: Ok((&[0, 1, 2], 0)), entries: &NONE_OF_THREE,
@@ -157,7 +158,7 @@ const MOVES: [Step<'static>; 4] = [
     Step { edit: Edit::Relocate { from: 2, to: 1 }, outcome: Ok((&[0, 1, 2], 0)), entries: &NONE_OF_THREE, report: CIRCULAR_AND_USER },
 ];
 
-/// The blocks put in by these steps, then the circular uses broken and made again in each way.
+// The blocks put in by these steps, then the circular uses broken and made again in each way.
 fn expect_circular_and_user(
     rt: &impl Abort,
     alloc: Global,
@@ -168,14 +169,14 @@ fn expect_circular_and_user(
     expect_mended(rt, &mut database)
 }
 
-/// The circular uses broken and made again in each way.
+// The circular uses broken and made again in each way.
 fn expect_mended(rt: &impl Abort, database: &mut Database) -> Result<(), AllocError> {
     expect_broken_by_replacements(rt, database)?;
     expect_broken_by_removals(rt, database)?;
     expect_steps(rt, database, &MOVES)
 }
 
-// What goes over two large tables takes long to prove, so that each has a function of its own.
+// A table of many edits takes long to prove, so that each of the two has a function of its own.
 fn expect_broken_by_replacements(
     rt: &impl Abort,
     database: &mut Database,

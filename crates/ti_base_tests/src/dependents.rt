@@ -6,17 +6,17 @@ use std::alloc::{AllocError, Global};
 use std::process::Abort;
 use ti_base::{Database, EditError, Edited};
 
-/// A block of a name that uses another, both a letter and a number.
+// A block of a name that uses another, both a letter and a number.
 fn link(alloc: Global, at: usize, used: usize) -> Result<String, AllocError> {
     format!(in alloc; "b{at},use=b{used},\n")
 }
 
-/// The same with the other used twice.
+// A block of a name that uses another twice.
 fn doubled_link(alloc: Global, at: usize, used: usize) -> Result<String, AllocError> {
     format!(in alloc; "d{at},use=d{used},use=d{used},\n")
 }
 
-/// Whether all positions from 0 on were rebuilt, so many, with so many steps.
+// Whether all positions from 0 on were rebuilt, `count` in all, with this many steps.
 fn are_all_rebuilt(edited: &Edited, count: usize, work: u64) -> bool {
     for at in 0..edited.rebuilt.len() {
         if edited.rebuilt[at] != at {
@@ -26,7 +26,7 @@ fn are_all_rebuilt(edited: &Edited, count: usize, work: u64) -> bool {
     edited.rebuilt.len() == count && edited.work == work
 }
 
-/// Whether there is an entry at this position, and ends with these bytes.
+// Whether there is an entry at this position, and ends with these bytes.
 fn ends_with(database: &Database, at: usize, end: &[u8]) -> bool
     requires { at < length database.now }
 {
@@ -36,14 +36,14 @@ fn ends_with(database: &Database, at: usize, end: &[u8]) -> bool
     }
 }
 
-/// All entries end with these bytes.
+// All entries end with these bytes.
 fn expect_ends(rt: &impl Abort, database: &Database, end: &[u8]) {
     for at in 0..database.len() {
         assert!(rt; ends_with(database, at, end), "entry {at}");
     }
 }
 
-/// Another first block: all blocks are rebuilt, so many, with so many steps.
+// Puts another first block in: all blocks are rebuilt, with this count of steps.
 fn expect_first_replaced(
     rt: &impl Abort,
     database: &mut Database,
@@ -56,19 +56,19 @@ fn expect_first_replaced(
     Ok(())
 }
 
-/// Puts in a block that uses the one before it.
+// Puts in a block that uses the one before it.
 fn put_link(alloc: Global, database: &mut Database, at: usize) -> Result<(), EditError> {
     let text = link(alloc, at, at.saturating_sub(1))?;
     database.insert(at, text.as_bytes())?;
     Ok(())
 }
 
-/// A chain of so many blocks, the first of which does not resolve.
+// A chain of this many blocks, the first of which does not resolve.
 fn chain(alloc: Global, count: usize) -> Result<Database, EditError> {
     chain_from(alloc, b"b0,use=zz,\n", count)
 }
 
-/// A chain of so many blocks, of which this is the first.
+// A chain of this many blocks, with this first block.
 fn chain_from(alloc: Global, first: &[u8], count: usize) -> Result<Database, EditError> {
     let mut database = source_of(alloc, &[first])?;
     for at in 1..count {
@@ -77,7 +77,8 @@ fn chain_from(alloc: Global, first: &[u8], count: usize) -> Result<Database, Edi
     Ok(database)
 }
 
-/// Each block of a chain but the first has this fault of the one before it; that of the first stands before them.
+// Each block of a chain but the first has this fault about the one before it; the fault of the
+// first is before them.
 fn faults_of_links(
     alloc: Global,
     first: &str,
@@ -94,14 +95,15 @@ fn faults_of_links(
     Ok(report)
 }
 
-/// No block has an entry.
+// No block has an entry.
 fn expect_no_entries(rt: &impl Abort, database: &Database) {
     for at in 0..database.len() {
         assert!(rt; database.compiled(at).is_none(), "entry {at}");
     }
 }
 
-/// No block of a chain whose first one uses a name that is nobody's has an entry, and each says why.
+// No block of a chain whose first one uses a name that nobody owns has an entry, and each says
+// why.
 fn expect_unresolved(rt: &impl Abort, alloc: Global, database: &Database) -> Result<(), EditError> {
     let first = "1: E6 MissingUse zz\n";
     let report = faults_of_links(alloc, first, "E8 Unresolved", database.len())?;
@@ -110,7 +112,7 @@ fn expect_unresolved(rt: &impl Abort, alloc: Global, database: &Database) -> Res
     Ok(())
 }
 
-/// One block more than there may be is refused, and the list stays.
+// One block more than there may be is refused, and the list does not change.
 fn expect_no_room(rt: &impl Abort, database: &mut Database) {
     let end = database.len();
     assert!(rt; database.insert(end, b"x,\n").err() == Some(EditError::TooMany));
@@ -137,7 +139,7 @@ fn a_ring_is_circular_throughout(rt: HostRuntime) -> Result<(), EditError> {
     Ok(())
 }
 
-/// Puts in a block that uses the one before it twice: no other is rebuilt, with two steps.
+// Puts in a block that uses the one before it twice: no other is rebuilt, with two steps.
 fn put_diamond(
     rt: &impl Abort,
     alloc: Global,
@@ -150,7 +152,7 @@ fn put_diamond(
     Ok(())
 }
 
-/// The first of the blocks below, alone.
+// The first of the blocks below, alone.
 fn first_diamond(rt: &impl Abort, alloc: Global) -> Result<Database, EditError> {
     let mut database = Database::new(alloc);
     let edited = database.insert(0, b"d0,cols#1,\n")?;
@@ -158,7 +160,7 @@ fn first_diamond(rt: &impl Abort, alloc: Global) -> Result<Database, EditError> 
     Ok(database)
 }
 
-/// Blocks of which each uses the one before it twice.
+// Blocks of which each uses the one before it twice.
 fn diamonds(rt: &impl Abort, alloc: Global, count: usize) -> Result<Database, EditError> {
     let mut database = first_diamond(rt, alloc)?;
     for at in 1..count {
@@ -167,7 +169,7 @@ fn diamonds(rt: &impl Abort, alloc: Global, count: usize) -> Result<Database, Ed
     Ok(database)
 }
 
-/// The last block reaches the first in 2 to the 40 ways.
+// The last block reaches the first in 2 to the 40 ways.
 #[test]
 fn doubled_diamonds_are_rebuilt_once(rt: HostRuntime) -> Result<(), EditError> {
     let mut database = diamonds(&rt, rt.alloc(), 41)?;

@@ -1,5 +1,5 @@
-//! Sources made by a run of insertions, each behind those before it: what is found out about their blocks, and why
-//! others are refused.
+//! Sources made by a run of insertions, each after those before it: what is found out about their
+//! blocks, and why others are refused.
 ghost use Rattle.std.specs.Prelude.{◌<◌, length};
 
 use super::steps::Entry::Cols;
@@ -8,7 +8,7 @@ use std::alloc::{AllocError, Global};
 use std::process::Abort;
 use ti_base::{Database, Edit, EditError, Outcome, run};
 
-/// The insertions of these blocks, each behind those before it.
+// The insertions of these blocks, each after those before it.
 fn insertions_of<'a>(alloc: Global, texts: &[&'a [u8]]) -> Result<Vec<Edit<'a>>, AllocError> {
     let mut edits = Vec::with_capacity(alloc, texts.len())?;
     for (at, text) in texts.iter().enumerate() {
@@ -17,7 +17,7 @@ fn insertions_of<'a>(alloc: Global, texts: &[&'a [u8]]) -> Result<Vec<Edit<'a>>,
     Ok(edits)
 }
 
-/// The source that a run of insertions makes of these blocks; if one is refused, why the first was.
+// The source that a run of insertions makes of these blocks; if one is refused, why the first was.
 fn run_of(alloc: Global, texts: &[&[u8]]) -> Result<Database, EditError> {
     let edits = insertions_of(alloc, texts)?;
     let (database, outcomes) = run(alloc, &edits)?;
@@ -38,7 +38,7 @@ fn owners_come_last(rt: HostRuntime) -> Result<(), EditError> {
     Ok(())
 }
 
-/// Whether two sources have the same text and the same entry at a position.
+// Whether two sources have equal text and an equal entry at a position.
 fn is_same_block(one: &Database, other: &Database, at: usize) -> bool
     requires one { at < length one.now }
     requires other { at < length other.now }
@@ -46,7 +46,7 @@ fn is_same_block(one: &Database, other: &Database, at: usize) -> bool
     one.text(at) == other.text(at) && one.compiled(at) == other.compiled(at)
 }
 
-/// Whether two sources have the same blocks with the same entries.
+// Whether two sources have equal blocks with equal entries.
 fn are_same(one: &Database, other: &Database) -> bool {
     if one.len() != other.len() {
         return false;
@@ -59,7 +59,7 @@ fn are_same(one: &Database, other: &Database) -> bool {
     true
 }
 
-/// Blocks, and the report of a source of them.
+// Blocks, and the report of a source of them.
 struct Blocks<'a> {
     texts: &'a [&'a [u8]],
     report: &'a str,
@@ -74,14 +74,14 @@ const BLOCKS: [Blocks<'static>; 4] = [
         report: "1: E6 MissingUse zz\n2: E3 BadNumber cols\n3: E8 Unresolved c\n" },
 ];
 
-/// The blocks inserted in one run are the same source as those inserted one by one, and have this report.
+// The blocks inserted in one run make the source that they make one by one, and have this report.
 fn expect_same(rt: &impl Abort, alloc: Global, blocks: &Blocks<'_>) -> Result<(), EditError> {
     let made = run_of(alloc, blocks.texts)?;
     expect_report(rt, &made, blocks.report)?;
     expect_inserted(rt, alloc, &made, blocks)
 }
 
-/// The blocks inserted one by one are the same source as this one, and have their report.
+// The blocks inserted one by one make this source, and have its report.
 fn expect_inserted(
     rt: &impl Abort,
     alloc: Global,
@@ -102,7 +102,7 @@ fn a_run_makes_what_one_by_one_makes(rt: HostRuntime) -> Result<(), EditError> {
     Ok(())
 }
 
-/// A block of a name and a comment, so many bytes in all.
+// A block of a name and a comment, with this many bytes in all.
 fn with_comment(alloc: Global, count: usize) -> Result<Vec<u8>, AllocError> {
     let mut text = Vec::from_slice(alloc, b"x,\n#")?;
     for _ in 5..count {
@@ -112,7 +112,7 @@ fn with_comment(alloc: Global, count: usize) -> Result<Vec<u8>, AllocError> {
     Ok(text)
 }
 
-/// So many blocks of one name.
+// This many blocks of one name.
 fn blocks_of_one_name(alloc: Global, count: usize) -> Result<Vec<&'static [u8]>, AllocError> {
     let mut texts: Vec<&'static [u8]> = Vec::new(alloc);
     for _ in 0..count {
@@ -121,7 +121,7 @@ fn blocks_of_one_name(alloc: Global, count: usize) -> Result<Vec<&'static [u8]>,
     Ok(texts)
 }
 
-/// The first refusal of a run of these blocks, if one is refused.
+// The first refusal of a run of these blocks, if one is refused.
 fn expect_refusal(rt: &impl Abort, alloc: Global, texts: &[&[u8]], want: Option<EditError>) {
     assert!(rt; run_of(alloc, texts).err() == want);
 }
@@ -146,7 +146,7 @@ fn the_first_refusal(rt: HostRuntime) -> Result<(), AllocError> {
     Ok(())
 }
 
-/// The first refusal of a run of so many blocks of one name, if one is refused.
+// The first refusal of a run of this many blocks of one name, if one is refused.
 fn expect_refusal_of_many(
     rt: &impl Abort,
     alloc: Global,

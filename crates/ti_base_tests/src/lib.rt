@@ -6,8 +6,8 @@
 //! - `dependents`: sources of many blocks that use one another
 //! - `limits`: what is refused, and the largest blocks and entries
 //! - `numbers`: numbers, from the source to the bytes of the entry
-//! - `owners`: whose name a use means
-//! - `reports`: what is said of a source, and where
+//! - `owners`: the block that a use means
+//! - `reports`: what a report says of a source, and where
 //! - `circular`: blocks that use one another
 //! - `runs`: runs of edits
 //! - `insertions`: sources made by a run of insertions

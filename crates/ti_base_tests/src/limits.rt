@@ -43,7 +43,7 @@ fn each_refusal_of_no_blocks(rt: HostRuntime) -> Result<(), AllocError> {
     expect_source(&rt, rt.alloc(), &REFUSALS_OF_NO_BLOCKS)
 }
 
-/// These bytes, so many times `middle`, and these bytes.
+// These bytes, with the byte `middle` this many times between them.
 fn text_with_run(
     alloc: Global,
     front: &[u8],
@@ -59,7 +59,7 @@ fn text_with_run(
     Ok(text)
 }
 
-/// Whether an edit is refused for this cause.
+// Whether an edit is refused for this cause.
 fn is_refused(seen: &Result<Edited, EditError>, want: EditError) -> bool {
     match seen {
         Ok(_) => false,
@@ -67,7 +67,8 @@ fn is_refused(seen: &Result<Edited, EditError>, want: EditError) -> bool {
     }
 }
 
-/// A text that is too long is refused as that at a position that is there, and as `Position` at another.
+// A text that is too long is refused as such at a position that is there, and as `Position` at
+// another.
 fn expect_too_long(rt: &impl Abort, database: &mut Database, text: &[u8]) {
     assert!(rt; database.len() == 1);
     assert!(rt; is_refused(&database.replace(0, text), EditError::TooLong));
@@ -76,7 +77,7 @@ fn expect_too_long(rt: &impl Abort, database: &mut Database, text: &[u8]) {
     assert!(rt; is_refused(&database.insert(2, text), EditError::Position));
 }
 
-/// A source of one block, as long as a block may be.
+// A source of one block, as long as a block may be.
 fn longest_block(rt: &impl Abort, alloc: Global) -> Result<Database, EditError> {
     let text = text_with_run(alloc, b"x,\n#", b'a', 1_048_571, b"\n")?;
     assert!(rt; text.len() == 1_048_576);
@@ -91,12 +92,12 @@ fn the_longest_block(rt: HostRuntime) -> Result<(), EditError> {
     Ok(())
 }
 
-/// A block with a long `cbt`: what stands before its bytes, how many they are, and what follows them.
+// A block with a long `cbt`: what is before its bytes, how many they are, and what follows them.
 struct Large<'a> {
     front: &'a [u8],
     count: usize,
     back: &'a [u8],
-    /// How many bytes its entry has; `None` where it is over the limit.
+    // How many bytes its entry has; `None` if it is over the limit.
     size: Option<usize>,
 }
 
@@ -104,7 +105,7 @@ fn text_of(alloc: Global, block: &Large<'_>) -> Result<Vec<u8>, AllocError> {
     text_with_run(alloc, block.front, b'A', block.count, block.back)
 }
 
-/// The report of a source whose only block is `x` or `xy` with a `cbt`.
+// The report of a source whose only block is `x` or `xy` with a `cbt`.
 const fn report_of(size: Option<usize>) -> &'static str {
     match size {
         Some(_) => "",
@@ -112,7 +113,7 @@ const fn report_of(size: Option<usize>) -> &'static str {
     }
 }
 
-/// Whether an entry has so many bytes, or there is none and none is wanted.
+// Whether an entry has this many bytes, or there is none and none is wanted.
 fn is_size(entry: Option<&[u8]>, want: Option<usize>) -> bool {
     match (entry, want) {
         (Some(bytes), Some(size)) => bytes.len() == size,
@@ -121,7 +122,7 @@ fn is_size(entry: Option<&[u8]>, want: Option<usize>) -> bool {
     }
 }
 
-/// The source is one block, whose entry has so many bytes.
+// The source is one block, whose entry has this many bytes.
 fn expect_size(rt: &impl Abort, database: &Database, want: Option<usize>) -> Result<(), EditError> {
     assert!(rt; database.len() == 1);
     assert!(rt; is_size(database.compiled(0), want));
@@ -129,7 +130,7 @@ fn expect_size(rt: &impl Abort, database: &Database, want: Option<usize>) -> Res
     Ok(())
 }
 
-/// The first block alone, and each of the others in the place of the one before it.
+// The first block alone, and each of the others in the place of the one before it.
 fn expect_sizes(rt: &impl Abort, alloc: Global, blocks: &[Large<'_>]) -> Result<(), EditError> {
     let mut database = source_of(alloc, &[b"y,\n".as_slice()])?;
     for block in blocks {
@@ -138,7 +139,7 @@ fn expect_sizes(rt: &impl Abort, alloc: Global, blocks: &[Large<'_>]) -> Result<
     Ok(())
 }
 
-/// The block in the place of the one that is there, and alone.
+// The block in the place of the one that is there, and alone.
 fn expect_replaced(
     rt: &impl Abort,
     alloc: Global,
@@ -151,7 +152,7 @@ fn expect_replaced(
     expect_alone(rt, alloc, database, &text, block.size)
 }
 
-/// A source of the block alone has the same entry.
+// A source of the block alone has an equal entry.
 fn expect_alone(
     rt: &impl Abort,
     alloc: Global,
@@ -187,16 +188,17 @@ fn the_largest_entry(rt: HostRuntime) -> Result<(), EditError> {
     expect_sizes(&rt, rt.alloc(), &LARGE)
 }
 
-/// The entry of `x` with a `cbt` of 4,079 bytes, up to these bytes: header, name, and the offset of the text.
+// The entry of `x` with a `cbt` of 4,079 bytes, up to these bytes: header, name, and the offset of
+// the string.
 const LONGEST_FRONT: [u8; 16] = [0x1a, 1, 2, 0, 0, 0, 0, 0, 1, 0, 0xf0, 0x0f, b'x', 0, 0, 0];
 
-/// The source is one block with this entry.
+// The source is one block with this entry.
 fn expect_entry(rt: &impl Abort, database: &Database, want: &[u8]) {
     assert!(rt; database.len() == 1);
     assert!(rt; database.compiled(0) == Some(want));
 }
 
-/// Each of the blocks in the place of the one before it; the first and the last have this entry.
+// Each of the blocks in the place of the one before it; the first and the last have this entry.
 fn expect_first_bytes_again(
     rt: &impl Abort,
     alloc: Global,
@@ -221,7 +223,7 @@ fn the_first_bytes_come_back(rt: HostRuntime) -> Result<(), EditError> {
     expect_first_bytes_again(&rt, rt.alloc(), &LARGE[..5], &want)
 }
 
-/// A number over 32,767 gives an entry 32,768 bytes; without it the same entry is over its limit.
+// A number over 32,767 gives an entry 32,768 bytes; without it the entry is over its limit.
 #[rattlefmt::skip]
 const LARGE_EXTENDED: [Large<'static>; 4] = [
     Large { front: b"x,cols#32768,cbt=", count: 32_747, back: b",\n", size: Some(32_768) },
@@ -235,18 +237,18 @@ fn the_largest_extended_entry(rt: HostRuntime) -> Result<(), EditError> {
     expect_sizes(&rt, rt.alloc(), &LARGE_EXTENDED)
 }
 
-/// The entry of `v` with `cbt=B`.
+// The entry of `v` with `cbt=B`.
 const ENTRY_WITH_CBT: [u8; 18] = [
     0x1a, 1, 2, 0, 0, 0, 0, 0, 1, 0, 2, 0, b'v', 0, 0, 0, b'B', 0,
 ];
 
-/// A block whose entry is too large, and one that uses it.
+// A block whose entry is too large, and one that uses it.
 fn large_and_user(alloc: Global) -> Result<Database, EditError> {
     let large = text_with_run(alloc, b"x,cbt=", b'A', 4080, b",\n")?;
     source_of(alloc, &[large.as_slice(), b"v,cbt=B,use=x,\n"])
 }
 
-/// Whether the first of two blocks has no entry, and the second has this one.
+// Whether the first of two blocks has no entry, and the second has this one.
 fn has_second_entry_alone(database: &Database, entry: &[u8]) -> bool {
     database.len() == 2 && database.compiled(0).is_none() && database.compiled(1) == Some(entry)
 }

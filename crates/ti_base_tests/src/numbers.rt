@@ -4,7 +4,7 @@ use std::alloc::Global;
 use std::process::Abort;
 use ti_base::{Database, EditError};
 
-/// A block with a number, its entry, if it has one, and its report.
+// A block with a number, its entry, if it has one, and its report.
 struct Numbered<'a> {
     text: &'a [u8],
     entry: Option<&'a [u8]>,
@@ -20,12 +20,12 @@ const NUMBERS: [Numbered<'static>; 5] = [
     Numbered { text: b"x,cols#2147483648,\n", entry: None, report: "1: E4 NumberTooLarge cols\n" },
 ];
 
-/// Whether the source is one block with this entry, or with none.
+// Whether the source is one block with this entry, or with none.
 fn is_entry(database: &Database, want: Option<&[u8]>) -> bool {
     database.len() == 1 && database.compiled(0) == want
 }
 
-/// A source of the block alone has its entry and its report.
+// A source of the block alone has its entry and its report.
 fn expect_number(rt: &impl Abort, alloc: Global, number: &Numbered<'_>) -> Result<(), EditError> {
     let database = source_of(alloc, &[number.text])?;
     assert!(rt; is_entry(&database, number.entry));

@@ -1,4 +1,4 @@
-//! Whose name a use means, and what is rebuilt where that changes.
+//! The block that a use means, and what is rebuilt when that changes.
 use super::steps::Entry::{Absent, Cols, Empty};
 use super::steps::{Step, expect_source, expect_steps};
 use std::alloc::AllocError;
@@ -74,7 +74,7 @@ const LAST_GOES: [Step<'static>; 1] = [
     Step { edit: Edit::Remove { at: 0 }, outcome: Ok((&[], 0)), entries: &[], report: "" },
 ];
 
-/// The steps go as they say, and then the name `n` belongs to the block at this position.
+// The steps go as they say, and then the name `n` belongs to the block at this position.
 fn expect_owner_after(
     rt: &impl Abort,
     database: &mut Database,
@@ -86,7 +86,7 @@ fn expect_owner_after(
     Ok(())
 }
 
-/// From no blocks the holders of the name come and go.
+// From no blocks the holders of the name come and go.
 fn expect_holders(rt: &impl Abort, database: &mut Database) -> Result<(), AllocError> {
     expect_owner_after(rt, database, &EARLIER_HOLDER_COMES, Some(0))?;
     expect_owner_after(rt, database, &HOLDERS_GO, None)?;

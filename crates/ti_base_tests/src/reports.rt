@@ -1,4 +1,4 @@
-//! What is said of a source, and where.
+//! What a report says of a source, and where.
 use super::steps::Entry::{Absent, Am, Empty};
 use super::steps::{Step, expect_source, expect_steps, source_of};
 use std::alloc::AllocError;
@@ -37,7 +37,7 @@ const BLOCKS_OF_LINES: [Step<'static>; 3] = [
         entries: &[Empty(b'k'), Empty(b'a'), Absent], report: "4: W1 UnknownCapability foo\n6: E6 MissingUse zz\n" },
 ];
 
-/// Whether the faults stand in these blocks, on these lines of them.
+// Whether the faults are in these blocks, on these lines of them.
 fn have_places(faults: &[Fault], want: &[(usize, usize)]) -> bool {
     if faults.len() != want.len() {
         return false;
@@ -50,7 +50,7 @@ fn have_places(faults: &[Fault], want: &[(usize, usize)]) -> bool {
     true
 }
 
-/// Whether the last of the faults is of this code.
+// Whether the last of the faults is of this code.
 fn is_last(faults: &[Fault], want: Code) -> bool {
     match faults.last() {
         Some(fault) => fault.code == want,
@@ -58,7 +58,7 @@ fn is_last(faults: &[Fault], want: Code) -> bool {
     }
 }
 
-/// A fault on the first line of the second block, and on the second of the third.
+// A fault on the first line of the second block, and on the second of the third.
 fn expect_faults(rt: &impl Abort, database: &Database) -> Result<(), AllocError> {
     let faults = database.faults()?;
     assert!(rt; have_places(&faults, &[(1, 1), (2, 2)]));
@@ -73,10 +73,10 @@ fn faults_stand_on_lines_of_their_blocks(rt: HostRuntime) -> Result<(), AllocErr
     expect_faults(&rt, &database)
 }
 
-/// Blocks of one line with a fault each.
+// Blocks of one line with a fault each.
 const FAULTY_LINES: [&[u8]; 3] = [b"a,foo,\n", b"b,use=zz,\n", b"c,cols#9x,\n"];
 
-/// The faults of the source stand in these blocks, on these lines of them.
+// The faults of the source are in these blocks, on these lines of them.
 fn expect_places(
     rt: &impl Abort,
     database: &Database,
@@ -102,10 +102,10 @@ const SHARED_NAMES: [&[u8]; 3] = [
     b"n|c|n|the last,\n\tuse=zz,\n",
 ];
 
-/// The lookup names of each of these blocks, all of one byte.
+// The lookup names of each of these blocks, all of one byte.
 const NAMES: [&[u8]; 3] = [b"ana", b"", b"ncn"];
 
-/// Whether the names are these bytes.
+// Whether the names are these bytes.
 fn are_names(names: &[RcSlice<u8>], want: &[u8]) -> bool {
     if names.len() != want.len() {
         return false;
@@ -131,7 +131,7 @@ fn names_of_blocks(rt: HostRuntime) -> Result<(), EditError> {
     Ok(())
 }
 
-/// The report of the faults of a source that are found before it is asked for.
+// The report of the faults of a source that are found before it is asked for.
 fn report_of_faults(database: &Database) -> Result<Vec<u8>, AllocError> {
     let faults = database.faults()?;
     database.report_of(&faults, 7)

@@ -19,10 +19,10 @@ const OUTCOMES: [Outcome; 4] = [
     Outcome::Accepted,
 ];
 
-/// The entry of `b` with `cols#3`.
+// The entry of `b` with `cols#3`.
 const LAST_ENTRY: [u8; 16] = [0x1a, 1, 2, 0, 0, 0, 1, 0, 0, 0, 0, 0, b'b', 0, 3, 0];
 
-/// Whether the source is one block, with this text and this entry.
+// Whether the source is one block, with this text and this entry.
 fn is_one_block(database: &Database, text: &[u8], entry: &[u8]) -> bool {
     database.len() == 1 && database.compiled(0) == Some(entry) && database.text(0) == text
 }
@@ -35,7 +35,7 @@ fn a_run_goes_on_after_a_refusal(rt: HostRuntime) -> Result<(), AllocError> {
     Ok(())
 }
 
-/// Whether all edits were accepted, so many.
+// Whether all edits were accepted, this many in all.
 fn are_accepted(outcomes: &[Outcome], count: usize) -> bool {
     outcomes.len() == count && outcomes.iter().all(|outcome| *outcome == Outcome::Accepted)
 }
@@ -43,8 +43,9 @@ fn are_accepted(outcomes: &[Outcome], count: usize) -> bool {
 const DUMB_SOURCE: &[u8] =
     b"dumb|80-column dumb tty,\n\tam, cols#80, bel=^G, cr=\\r, cud1=\\n, ind=\\n,\n";
 
-/// Its entry in pieces, behind each of which so many bytes `ff` stand, two for each text that it does not have: header, names, the
-/// flag, a byte for even places and the number; the offsets of `bel` and `cr`; that of `cud1`; that of `ind`, and the texts.
+// Its entry in pieces. After each piece come bytes `ff`, two for each string that it does not
+// have: header, names, the boolean, a byte for even places and the number; the offsets of `bel`
+// and `cr`; that of `cud1`; that of `ind`, and the strings.
 #[rattlefmt::skip]
 const DUMB_ENTRY: [(&[u8], usize); 4] = [
     (b"\x1a\x01\x18\0\x02\0\x01\0\x82\0\x08\0dumb|80-column dumb tty\0\0\x01\x50\0", 2),
@@ -53,7 +54,7 @@ const DUMB_ENTRY: [(&[u8], usize); 4] = [
     (&[6, 0, 0x07, 0, 0x0d, 0, 0x0a, 0, 0x0a, 0], 0),
 ];
 
-/// Adds so many bytes `ff`.
+// Adds this many bytes `ff`.
 fn push_absent(bytes: &mut Vec<u8>, count: usize) -> Result<(), AllocError> {
     for _ in 0..count {
         bytes.push(0xff)?;
@@ -61,7 +62,7 @@ fn push_absent(bytes: &mut Vec<u8>, count: usize) -> Result<(), AllocError> {
     Ok(())
 }
 
-/// An entry from its pieces.
+// An entry from its pieces.
 fn entry_of(alloc: Global, pieces: &[(&[u8], usize)]) -> Result<Vec<u8>, AllocError> {
     let mut bytes = Vec::new(alloc);
     for piece in pieces {

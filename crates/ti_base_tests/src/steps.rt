@@ -6,13 +6,13 @@ use ti_base::{Database, Edit, EditError, Edited};
 /// The entry of a block whose name has one byte.
 #[derive(Clone, Copy)]
 pub enum Entry {
-    /// There is none.
+    /// There is no entry.
     Absent,
-    /// One of this name that says nothing.
+    /// The entry of this name that says nothing.
     Empty(u8),
-    /// One of this name with `am` and nothing else.
+    /// The entry of this name with `am` and nothing else.
     Am(u8),
-    /// One of this name with `cols` and nothing else.
+    /// The entry of this name with `cols` and nothing else.
     Cols(u8, u8),
 }
 
@@ -38,7 +38,7 @@ const fn entry_with_cols(name: u8, cols: u8) -> [u8; 16] {
     [0x1a, 1, 2, 0, 0, 0, 1, 0, 0, 0, 0, 0, name, 0, cols, 0]
 }
 
-/// Whether these bytes, or that there are none, are the entry.
+// Whether these bytes are the entry, or there are none and there is no entry.
 fn is_entry(seen: Option<&[u8]>, want: Entry) -> bool {
     match (seen, want) {
         (None, Entry::Absent) => true,
@@ -69,7 +69,7 @@ pub fn expect_report(rt: &impl Abort, database: &Database, want: &str) -> Result
     Ok(())
 }
 
-/// Whether an edit answered this.
+// Whether an edit answered this.
 fn is_outcome(seen: &Result<Edited, EditError>, want: &Result<(&[usize], u64), EditError>) -> bool {
     match (seen, want) {
         (Ok(edited), Ok((rebuilt, work))) => {
@@ -80,7 +80,7 @@ fn is_outcome(seen: &Result<Edited, EditError>, want: &Result<(&[usize], u64), E
     }
 }
 
-/// The step of that number goes as it says.
+// The step of that number goes as it says.
 fn expect_step(
     rt: &impl Abort,
     database: &mut Database,

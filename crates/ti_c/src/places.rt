@@ -81,9 +81,10 @@ fn place<'a>(terminfo: &'a [u8], is_set: bool, dirs: &'a [u8], index: usize) -> 
     place_behind(is_set, dirs, index - 1)
 }
 
-/// The directory at a place of the order in which entries are looked for: what TERMINFO is set to, where it is not empty; the
-/// parts of TERMINFO_DIRS between colons, where it is set, an empty part being `/usr/share/terminfo`; and
-/// `/usr/share/terminfo`. False where they are not that many, and `found` is then as it was.
+/// The directory at a place of the order in which entries are looked for: the value of TERMINFO, if
+/// it is not empty; the parts of TERMINFO_DIRS between colons, if it is set, with
+/// `/usr/share/terminfo` for an empty part; and `/usr/share/terminfo`. False if there are not that
+/// many, and `found` is then as it was.
 #[unsafe(no_mangle)]
 pub extern "C" fn ti_places<'a>(
     terminfo: &'a [u8],
@@ -119,9 +120,9 @@ fn path(alloc: Global, dir: &[u8], name: &[u8]) -> Result<Vec<u8>, AllocError>
     Ok(path)
 }
 
-/// Writes to the front of `out` where the entry of a name stands below a directory, with a NUL behind it. The answer is `OK`
-/// with how many bytes that are; `NO_ROOM` with how many are needed; `BAD_NAME` where no terminal can have the name;
-/// `NO_MEMORY`. After all but `OK`, `out` is as it was.
+/// Writes to the front of `out` the path of a name's entry below a directory, with a NUL after it.
+/// The answer is `OK` with how many bytes that are; `NO_ROOM` with how many are needed; `BAD_NAME`
+/// if no terminal can have the name; `NO_MEMORY`. After all but `OK`, `out` is as it was.
 #[unsafe(no_mangle)]
 pub extern "C" fn ti_path(alloc: Global, dir: &[u8], name: &[u8], out: &mut [u8]) -> Outcome
     ensures known { (result.status ≡ OK) ⊎ (result.status ≡ NO_MEMORY) ⊎ (result.status ≡ NO_ROOM) ⊎ (result.status ≡ BAD_NAME) }

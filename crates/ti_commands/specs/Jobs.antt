@@ -52,8 +52,8 @@ refusal_of kind.DisplayHelp = usage.Help
 refusal_of kind.OutOfMemory = usage.Memory
 refusal_of _ = usage.Usage
 
--- why words are refused in which clap's definition finds these faults, and which ask for this job:
--- by one of the faults, or as no job
+-- why words are refused, given the faults that clap's definition finds in them and the job that
+-- they ask for: by one of the faults, or as no job
 abbrev pub IsUsageFault : Kinds → Option Task → UsageError → Type 0
 IsUsageFault faults job e =
     ((k : ErrorKind) × IsAmong k faults × (e ≡ refusal_of k)) ⊎ ((faults ≡ []) × (job ≡ None) × (e ≡ usage.Usage))
@@ -76,7 +76,8 @@ abbrev pub SaysWrong : Asked → Refusal → Type 0
 SaysWrong (Err wrong) (refusal.Usage said) = string_bytes said ≡ usage_line wrong
 SaysWrong _ _ = ⊤
 
--- the same with what is said: where clap's definition finds no fault that is the line of the mistake
+-- a refusal of usage says what is wrong: if clap's definition finds no fault, its message is the
+-- line of the mistake
 abbrev pub IsRefusalOf : List Text → Refusal → Type 0
 IsRefusalOf words refused =
     (refused ≡ refusal.Memory) ⊎ OfProgram (λ app. IsUsageFault (fault_of app words) (job_of app words) (cause_of refused)

@@ -82,7 +82,7 @@ fn words_that_ask_for_no_job(rt: HostRuntime) -> Result<(), AllocError> {
     Ok(())
 }
 
-// What is said of words that ask for no job.
+// The message for words that ask for no job.
 fn said_of(alloc: Global, texts: &[&str]) -> Result<Option<Refusal>, AllocError> {
     let words = words(alloc, texts)?;
     Ok(job_or_refusal(alloc, words.as_slice()).err())
@@ -96,7 +96,7 @@ fn help_of(alloc: Global, tool: &str) -> Result<String, Fail> {
     }
 }
 
-// What is said of words of bad usage; empty where it is something else.
+// The message for words of bad usage; empty if it is something else.
 fn usage_of(alloc: Global, texts: &[&str]) -> Result<String, AllocError> {
     match said_of(alloc, texts)? {
         Some(Refusal::Usage(text)) => Ok(text),
@@ -104,7 +104,7 @@ fn usage_of(alloc: Global, texts: &[&str]) -> Result<String, AllocError> {
     }
 }
 
-// Words that clap refuses, also where they ask for help behind the mistake, and how its sentence begins.
+// Words that clap refuses, also if they ask for help after the mistake, and how its message begins.
 const CLAP_SAYS: [(&[&str], &str); 5] = [
     (
         &["ti", "tic", "-x"],
@@ -198,8 +198,8 @@ Options:
   -h, --help  Print help
 
 The report of the faults in the source goes to standard error. A block without
-error gets its files also if another block has one. The tools look for an
-entry in $TERMINFO, $TERMINFO_DIRS and /usr/share/terminfo alone.
+an error gets its files, even if another block has an error. The tools look for
+an entry only in $TERMINFO, $TERMINFO_DIRS and /usr/share/terminfo.
 
 Exit status:
   0  the source has no error, but perhaps warnings

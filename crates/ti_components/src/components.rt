@@ -1,4 +1,4 @@
-// The strongly connected components of a graph.
+//! The strongly connected components of a graph.
 ghost use Rattle.std.specs.Prelude.{ℕ, ◌<◌, length, IfOk};
 ghost use Rattle.ti_components.specs.Graph.{IsGraph};
 ghost use Rattle.ti_components.specs.Components.{AreComponents, IsClosingOrder};
@@ -20,8 +20,8 @@ pub struct Components {
 }
 
 impl Components {
-    /// The components of a graph, by the path search of Purdom and Munro (1970) and Gabow (2000), in
-    /// time linear in its nodes and edges. Each edge leads to a node or nowhere.
+    /// The components of a graph, by the path search of Purdom and Munro (1970) and Gabow (2000),
+    /// in time linear in its nodes and edges. Each edge leads to a node or nowhere.
     ///
     /// # Errors
     /// Out of memory.
@@ -46,7 +46,7 @@ impl Components {
     }
 }
 
-/// The numbers of closed components.
+// The numbers of closed components.
 fn numbers(alloc: Global, progress: &[Progress]) -> Result<Vec<usize>, AllocError>
     requires { (v : ℕ) → v < length progress.now → IsClosed progress.now v }
     ensures { IfOk result (λ numbers. AreClosedNumbers progress.now numbers.items) }

@@ -1,5 +1,5 @@
-// The path search of Purdom and Munro, as Gabow simplified it: depth first, with a cursor for each
-// node, and with the nodes of open components on one path.
+//! The path search of Purdom and Munro, as Gabow simplified it: depth first, with a cursor for each
+//! node, and with the nodes of open components on one path.
 ghost use Rattle.std.specs.Prelude.{◌≡◌, ◌<◌, ◌≤◌, ℕ, Some, slice_get, vec_len, OnOk, IfOk};
 ghost use Rattle.ti_components.specs.Graph.{IsGraph};
 ghost use Rattle.ti_components.specs.inside.Search.{ClosesPath, Enters, Follows, IsCutOffAt, IsFresh, IsIdle, IsMarked, IsSearched, IsWalkOf, Leaves, Rises, Steps, WalksFrom};
@@ -38,7 +38,7 @@ pub(crate) struct Search {
 }
 
 impl Search {
-    /// A search that has met no node.
+    // A search that has met no node.
     fn new(alloc: Global, nodes: usize) -> Result<Search, AllocError>
         ensures { IfOk result (λ search. IsFresh search nodes) }
     {
@@ -58,7 +58,7 @@ impl Search {
         })
     }
 
-    /// Puts a node at the end of the path, as the start of a component of its own.
+    // Puts a node at the end of the path, as the start of a component of its own.
     fn enter(&mut self, node: usize) -> Result<(), AllocError>
         requires { node < vec_len self.old.progress }
         ensures { OnOk result (Enters self.old self.new node) }
@@ -103,8 +103,8 @@ impl Search {
         Ok(())
     }
 
-    /// Leaves the last active place, of which no edge is left, and closes the component that starts
-    /// there, if one does.
+    // Leaves the last active place, of which no edge is left, and closes the component that starts
+    // there, if one does.
     fn leave(&mut self) -> Result<(), AllocError>
         requires active { 0 < vec_len self.old.active }
         requires starts { 0 < vec_len self.old.starts }
@@ -123,7 +123,7 @@ impl Search {
         Ok(())
     }
 
-    /// Follows one more edge of the node at the last active place, or leaves that place.
+    // Follows one more edge of the node at the last active place, or leaves that place.
     fn step(&mut self, graph: &Graph) -> Result<(), AllocError>
         requires graph { IsGraph graph.now }
         requires walk { IsWalkOf graph.now self.old }
@@ -143,7 +143,7 @@ impl Search {
         Ok(())
     }
 
-    /// Closes the component of a node that was not met, and before it those that it leads to.
+    // Closes the component of a node that was not met, and before it those that it leads to.
     fn walk(&mut self, graph: &Graph, root: usize) -> Result<(), AllocError>
         requires graph { IsGraph graph.now }
         requires idle { IsIdle graph.now self.old }
@@ -158,7 +158,7 @@ impl Search {
     }
 }
 
-/// Takes the starts above a place off.
+// Takes the starts above a place off.
 fn cut_above(starts: &mut Vec<usize>, place: usize)
     requires { Rises starts.old.items }
     ensures { IsCutOffAt starts.old.items starts.new.items place }
@@ -170,7 +170,7 @@ fn cut_above(starts: &mut Vec<usize>, place: usize)
     starts.truncate(count);
 }
 
-/// Closes nodes under a number.
+// Closes nodes under a number.
 fn mark_closed(progress: &mut Vec<Progress>, nodes: &[usize], number: usize)
     requires { AreBelow nodes.now (vec_len progress.old) }
     ensures { IsMarked progress.old.items progress.new.items nodes.now number }

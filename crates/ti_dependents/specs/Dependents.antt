@@ -11,14 +11,16 @@ use Rattle.ti_slots.specs.declared.slots.Slots.{Slots}
 use Rattle.ti_slots.specs.Slots.{blocks_of, reading_at, StandsAt}
 pub use Rattle.ti_slots.specs.Slots.{IsOwnerId}
 
--- the exchange by which the list came about: the block put in has the id `put`, the block taken out the names `out`
+-- the exchange by which the list came about: the block put in has the id `put`, the block taken out
+-- the names `out`
 pub record IsExchangeOf (slots : Slots) (put : Option ℕ) (out : List (List ℕ)) (exchange : Exchange) : Type 0 where
   pub fits : IsExchange exchange
   pub new : new_list exchange ≡ blocks_of slots
   pub out_names : lookup_names_of exchange.out ≡ out
   pub put_id : (at id : ℕ) → StandsAt slots at id → IsPutAt exchange.put at ↔ (put ≡ Some id)
 
--- these are the blocks that depend on it, each once, by their ids and their positions; with each block they have its users
+-- these are the blocks that depend on it, each once, by their ids and their positions; with each
+-- block they have its users
 pub record AreDependentIds (slots : Slots) (put : Option ℕ) (out : List (List ℕ)) (ids places : List ℕ) : Type 0 where
   pub as_many : length places ≡ length ids
   pub stands : (i id at : ℕ) → slice_get ids i ≡ Some id → slice_get places i ≡ Some at → StandsAt slots at id
@@ -32,7 +34,8 @@ pub record AreAllIds (slots : Slots) (ids places : List ℕ) : Type 0 where
   pub as_many : length places ≡ length ids
   pub placed : (i : ℕ) → i < length ids → slice_get places i ≡ Some i
 
--- the edge of an item leads to the place among the ids of the owner of the name that it uses, and nowhere if there is none
+-- the edge of an item leads to the place among the ids of the owner of the name that it uses, and
+-- nowhere if there is none
 abbrev pub IsEdgeOf : Slots → List ℕ → ReadItem → Option ℕ → Type 0
 IsEdgeOf slots ids item edge =
     (place : ℕ) → (edge ≡ Some place)

@@ -1,4 +1,4 @@
-// All blocks of a list, in its order.
+//! All blocks of a list, in its order.
 ghost use Rattle.std.specs.Prelude.{◌≡◌, ◌<◌, ℕ, Some, length, slice_get, IfOk};
 ghost use Rattle.ti_text.specs.Lists.{AreDistinct};
 

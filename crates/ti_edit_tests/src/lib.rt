@@ -2,7 +2,7 @@
 //! product; the worked rows are in `ti_base_tests`.
 //!
 //! - `random`: the edits, and what is compared
-//! - `runs`: lists of such edits that are made in one call, compared with the same edits one by one
+//! - `runs`: lists of such edits that are made in one call, compared with the edits made one by one
 #![tactic(auto)]
 
 #[cfg(test)]

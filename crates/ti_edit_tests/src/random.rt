@@ -1,13 +1,13 @@
-//! Edits made at random of blocks with few names. After each the database is compared with one that is made afresh of
-//! the list, which is kept beside it.
+//! Edits made at random of blocks with few names. A list of the texts is edited too, and after each
+//! edit the database is compared with one that is made anew of the list.
 use std::alloc::{AllocError, Global};
 use std::test::Fail;
 use ti_base::{Database, Edit, EditError, Fault, run};
 
-/// How many edits are made.
+// How many edits are made.
 const EDITS: u32 = 2_000;
 
-/// The blocks that the list has room for.
+// The blocks that the list has room for.
 const BLOCKS_MAX: usize = 9;
 
 const HEADS: [&str; 8] = [
@@ -42,7 +42,7 @@ pub(crate) struct Draws {
 }
 
 impl Draws {
-    /// A number below the count, and 0 where that is 0.
+    /// A number below the count, and 0 if the count is 0.
     pub(crate) fn below(&mut self, count: usize) -> usize {
         self.state = self
             .state
@@ -54,7 +54,7 @@ impl Draws {
         (self.state >> 33) as usize % count
     }
 
-    /// One of the words.
+    // One of the words.
     fn word(&mut self, words: &[&'static str]) -> &'static str {
         let at = self.below(words.len());
         if at < words.len() { words[at] } else { "" }
@@ -72,7 +72,7 @@ pub(crate) fn make_text(alloc: Global, draws: &mut Draws) -> Result<Vec<u8>, All
     Ok(text)
 }
 
-/// An edit of a list of so many blocks. Its positions may lie one behind the list.
+/// An edit of a list of this many blocks. Its positions may lie one after the list.
 pub(crate) fn make_edit<'a>(draws: &mut Draws, len: usize, text: &'a [u8]) -> Edit<'a> {
     let places = len.saturating_add(1);
     let at = draws.below(places);
@@ -89,7 +89,7 @@ pub(crate) fn make_edit<'a>(draws: &mut Draws, len: usize, text: &'a [u8]) -> Ed
     }
 }
 
-/// Makes the edit in a list of texts, if its positions are of the list. Whether they are.
+// Makes the edit in a list of texts, if its positions are of the list. Answers whether they are.
 fn change_texts(
     alloc: Global,
     texts: &mut Vec<Vec<u8>>,
@@ -154,12 +154,12 @@ fn has_same_faults(one: &Database, other: &Database) -> Result<bool, AllocError>
     Ok(one.report(1)?.as_slice() == other.report(1)?.as_slice())
 }
 
-/// Whether two databases show the same.
+/// Whether two databases show equal texts, entries and reports.
 pub(crate) fn is_same(one: &Database, other: &Database) -> Result<bool, AllocError> {
     Ok(has_same_entries(one, other) && has_same_owners(one, other) && has_same_faults(one, other)?)
 }
 
-/// Whether the database shows what one shows that a run of insertions makes of these texts.
+// Whether the database shows what a run of insertions of these texts makes.
 fn is_afresh(alloc: Global, database: &Database, texts: &[Vec<u8>]) -> Result<bool, AllocError> {
     let mut edits = Vec::with_capacity(alloc, texts.len())?;
     for text in texts {
@@ -172,7 +172,8 @@ fn is_afresh(alloc: Global, database: &Database, texts: &[Vec<u8>]) -> Result<bo
     is_same(database, &fresh)
 }
 
-/// Makes an edit in the database and in the list. Whether it answers as it must, and both show the same.
+// Makes an edit in the database and in the list. Answers whether the outcome is right, and both
+// show the same.
 fn try_edit(
     alloc: Global,
     database: &mut Database,

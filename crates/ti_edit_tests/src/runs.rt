@@ -1,17 +1,17 @@
-//! Lists of edits made at random that are made in one call. The outcomes are those of the same edits one by one, and what
-//! is left shows the same.
+//! Lists of edits made at random that are made in one call. The outcomes are those of the edits
+//! made one by one, and so is what is left.
 use super::random::{Draws, is_same, make_edit, make_text};
 use std::alloc::{AllocError, Global};
 use std::test::Fail;
 use ti_base::{Database, Edit, Outcome, run};
 
-/// How many lists are made.
+// How many lists are made.
 const RUNS: u32 = 150;
 
-/// How many edits each of them has.
+// How many edits each of them has.
 const EDITS: u32 = 24;
 
-/// A block, and now and then a text that is none.
+// A block, and now and then a text that is no block.
 fn make_any_text(alloc: Global, draws: &mut Draws) -> Result<Vec<u8>, AllocError> {
     if draws.below(8) == 0 {
         return Vec::from_slice(alloc, b"a,\nb,\n");
@@ -27,7 +27,8 @@ fn make_texts(alloc: Global, draws: &mut Draws) -> Result<Vec<Vec<u8>>, AllocErr
     Ok(texts)
 }
 
-/// Makes an edit of these texts, if it is to have one, in the database, and adds it with its outcome to the lists.
+// Makes an edit of these texts, if it is to have one, in the database, and adds it with its
+// outcome to the lists.
 fn add_edit<'a>(
     database: &mut Database,
     draws: &mut Draws,
@@ -41,7 +42,7 @@ fn add_edit<'a>(
     Ok(())
 }
 
-/// Whether a list of edits has the same answer in one call and one by one.
+// Whether a list of edits has equal answers in one call and one by one.
 fn try_run(alloc: Global, draws: &mut Draws) -> Result<bool, AllocError> {
     let texts = make_texts(alloc, draws)?;
     let mut one_by_one = Database::new(alloc);

@@ -1,3 +1,5 @@
+//! Entries changed in place.
+
 use crate::tables::{Given, has_no_nul, table_of};
 use std::alloc::{AllocError, Global};
 use std::process::Abort;
@@ -14,7 +16,7 @@ fn empty_image(alloc: Global, names: &[u8]) -> Result<Image, WriteError> {
     Image::new(alloc, names, &Table::new(alloc))
 }
 
-// Gives an image a text, where it holds no NUL.
+// Gives an image a string, if it holds no NUL.
 fn give_text(
     image: &mut Image,
     alloc: Global,
@@ -30,7 +32,7 @@ fn give_text(
     }
 }
 
-// Gives an image a number, where it is none too great.
+// Gives an image a number, if it is not too great.
 fn give_number(image: &mut Image, index: usize, number: u32) -> Option<Result<(), WriteError>> {
     let cap = Cap::at(Kind::Number, index)?;
     if number <= 2_147_483_647 {
@@ -55,7 +57,7 @@ fn take_text(image: &mut Image, index: usize) -> Option<Result<(), WriteError>> 
     Some(image.set(cap, None))
 }
 
-// What an image answers to what it is given; `None` where it may not be called.
+// What an image answers to what it is given; `None` if it may not be called.
 fn give(image: &mut Image, alloc: Global, given: Given<'_>) -> Option<Result<(), WriteError>> {
     match given {
         Given::Flag(index) => give_flag(image, index),
@@ -66,7 +68,7 @@ fn give(image: &mut Image, alloc: Global, given: Given<'_>) -> Option<Result<(),
     }
 }
 
-/// What an image is given and takes, how many bytes it has then, and which of them stand at a place.
+// What an image is given and takes, how many bytes it has then, and which of them are at a place.
 struct Step<'a> {
     given: Given<'a>,
     len: usize,
@@ -129,7 +131,7 @@ const FLAG_AND_TEXT: [Step<'static>; 2] = [
     Step { given: Given::Text(0, b"A"), len: 20, place: 12, bytes: b"xy\0\x01\0\0A\0" },
 ];
 
-/// A text that makes the entry too large is refused, and leaves the image.
+// A string that makes the entry too large is refused, and leaves the image as it was.
 fn expect_too_large(rt: &impl Abort, alloc: Global, image: &mut Image) -> Result<(), AllocError> {
     let long = vec![in alloc; b'A'; 4078]?;
     let before = image.copy()?;
@@ -148,7 +150,7 @@ fn a_flag_changes_the_parity(rt: HostRuntime) -> Result<(), WriteError> {
     Ok(())
 }
 
-/// The entry of `x` with `cbt` of 4,079 times `A`, which is as long as an entry may be.
+// The entry of `x` with `cbt` of 4,079 times `A`, which is as long as an entry may be.
 fn longest_entry(alloc: Global) -> Result<Vec<u8>, AllocError> {
     let mut bytes = Vec::from_slice(alloc, b"\x1a\x01\x02\0\0\0\0\0\x01\0\xf0\x0fx\0\0\0")?;
     bytes.resize(4095, b'A')?;
@@ -156,7 +158,7 @@ fn longest_entry(alloc: Global) -> Result<Vec<u8>, AllocError> {
     Ok(bytes)
 }
 
-// What an image answers to a `cbt` of so many times `A`.
+// What an image answers to a `cbt` with this many bytes `A`.
 fn give_long(
     image: &mut Image,
     alloc: Global,

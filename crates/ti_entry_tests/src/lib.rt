@@ -3,7 +3,7 @@
 //! - `writing`: entries written from values
 //! - `reading`: entries read, whole and damaged
 //! - `images`: entries changed in place
-//! - `tables`: what these share: values for a table or an image, and the entry of `dumb`
+//! - `tables`: what the others share: values for a table or an image, and the entry of `dumb`
 #![tactic(auto)]
 
 #[cfg(test)]

@@ -1,4 +1,4 @@
-// The worked entries of the reader: damaged files, shared texts, values of old writers.
+//! The worked entries of the reader: damaged files, shared strings, values of old writers.
 ghost use Rattle.std.specs.Prelude.{◌≡◌, IfSome};
 
 use crate::tables::dumb;
@@ -8,13 +8,13 @@ use std::test::Fail;
 use ti_caps::{Cap, Kind, find};
 use ti_layout::{ReadError, View};
 
-/// Two texts that overlap.
+// Two strings that overlap.
 const OVERLAP: [u8; 23] = [
     0x1a, 0x01, 0x02, 0x00, 0x01, 0x00, 0x00, 0x00, 0x02, 0x00, 0x03, 0x00, 0x78, 0x00, 0x01, 0x00,
     0x00, 0x00, 0x01, 0x00, 0x41, 0x42, 0x00,
 ];
 
-/// The bytes with some of them changed.
+// The bytes with some of them changed.
 fn with(alloc: Global, bytes: &[u8], changes: &[(usize, u8)]) -> Result<Vec<u8>, AllocError> {
     let mut changed = Vec::from_slice(alloc, bytes)?;
     for &(at, byte) in changes {
@@ -25,12 +25,12 @@ fn with(alloc: Global, bytes: &[u8], changes: &[(usize, u8)]) -> Result<Vec<u8>,
     Ok(changed)
 }
 
-/// Why the bytes are refused, if they are.
+// Why the bytes are refused, if they are.
 fn refusal(bytes: &[u8]) -> Option<ReadError> {
     View::read(bytes).err()
 }
 
-/// The capability of a name, and of that kind.
+// The capability of a name, and of that kind.
 fn cap_of_name(name: &str, kind: Kind) -> Option<Cap>
     ensures { IfSome result (λ c. c.kind ≡ kind) }
 {
@@ -56,7 +56,7 @@ fn text<'a>(view: &View<'a>, name: &str) -> Option<&'a [u8]> {
     }
 }
 
-// What bytes have of the flag of a name, or why they are refused; the next two say so of a number and of a text.
+// What bytes have of the boolean of a name, or why they are refused.
 fn flag_in(bytes: &[u8], name: &str) -> Result<bool, ReadError> {
     Ok(flag(&View::read(bytes)?, name))
 }
@@ -127,7 +127,7 @@ fn a_cut_entry_is_short_or_truncated(rt: HostRuntime) -> Result<(), AllocError> 
     Ok(())
 }
 
-/// What bytes are changed to, and why they are refused then.
+// What bytes are changed to, and why they are refused then.
 type Damage = (&'static [(usize, u8)], ReadError);
 
 fn expect_refused(
@@ -179,7 +179,7 @@ fn further_bytes_are_accepted(rt: HostRuntime) -> Result<(), AllocError> {
     Ok(())
 }
 
-/// Whether the bytes are read, and have the name, the flag and the texts of `OVERLAP`.
+// Whether the bytes are read, and have the name, the boolean and the strings of `OVERLAP`.
 fn is_overlap(bytes: &[u8]) -> bool {
     match View::read(bytes) {
         Ok(view) => {
@@ -222,7 +222,8 @@ fn damaged_texts_are_refused(rt: HostRuntime) -> Result<(), AllocError> {
     expect_refused(&rt, rt.alloc(), &OVERLAP, &DAMAGED_TEXTS)
 }
 
-/// Whether the first name is no longer than the names field; every getter is asked too, and answers.
+// Whether the first name is no longer than the names field. Every getter is asked too, and
+// answers.
 fn answers(view: &View<'_>) -> bool {
     for name in ["am", "OTxr"] {
         let _ = flag(view, name);
@@ -236,7 +237,7 @@ fn answers(view: &View<'_>) -> bool {
     view.first_name().len() <= view.names().len()
 }
 
-/// Whatever a byte is changed to, reading answers, and so does every getter.
+// Whatever a byte is changed to, reading answers, and so does every getter.
 #[test]
 fn any_changed_byte_is_answered(rt: HostRuntime) -> Result<(), AllocError> {
     let bytes = dumb(rt.alloc())?;
@@ -254,7 +255,7 @@ fn any_changed_byte_is_answered(rt: HostRuntime) -> Result<(), AllocError> {
     Ok(())
 }
 
-/// Numbers of 32 bits, though none needs them.
+// Numbers of 32 bits, though none needs them.
 const EXTENDED: [u8; 18] = [
     0x1e, 0x02, 0x02, 0x00, 0x00, 0x00, 0x01, 0x00, 0x00, 0x00, 0x00, 0x00, 0x78, 0x00, 0x50, 0x00,
     0x00, 0x00,

@@ -1,4 +1,4 @@
-// The values that entries are made of, and the entry of `dumb` as bytes.
+//! The values that entries are made of, and the entry of `dumb` as bytes.
 ghost use Rattle.std.specs.Prelude.{◌↔◌, IsTrue};
 ghost use Rattle.ti_layout.specs.Values.{HasNoNul};
 
@@ -24,7 +24,7 @@ pub enum Given<'a> {
     NoText(usize),
 }
 
-// Gives a table a flag.
+// Gives a table a boolean.
 fn put_flag(table: &mut Table, index: usize) -> Result<(), AllocError> {
     match Cap::at(Kind::Flag, index) {
         Some(cap) => table.set(cap, Some(Value::True)),
@@ -32,7 +32,7 @@ fn put_flag(table: &mut Table, index: usize) -> Result<(), AllocError> {
     }
 }
 
-// Gives a table a number, where it is none too great.
+// Gives a table a number, if it is not too great.
 fn put_number(table: &mut Table, index: usize, number: u32) -> Result<(), AllocError> {
     match Cap::at(Kind::Number, index) {
         Some(cap) if number <= 2_147_483_647 => table.set(cap, Some(Value::Number(number))),
@@ -40,7 +40,7 @@ fn put_number(table: &mut Table, index: usize, number: u32) -> Result<(), AllocE
     }
 }
 
-// Gives a table a text, where it holds no NUL.
+// Gives a table a string, if it holds no NUL.
 fn put_text(table: &mut Table, alloc: Global, index: usize, text: &[u8]) -> Result<(), AllocError> {
     let shared = RcSlice::from_slice(alloc, text)?;
     match Cap::at(Kind::Text, index) {
@@ -49,7 +49,7 @@ fn put_text(table: &mut Table, alloc: Global, index: usize, text: &[u8]) -> Resu
     }
 }
 
-// Gives a table what an image may be given; nothing is taken from it.
+// Gives a table what an image may be given. Nothing is taken from it.
 fn put(table: &mut Table, alloc: Global, given: Given<'_>) -> Result<(), AllocError> {
     match given {
         Given::Flag(index) => put_flag(table, index),
@@ -62,7 +62,7 @@ fn put(table: &mut Table, alloc: Global, given: Given<'_>) -> Result<(), AllocEr
 /// Gives a table what an image may be given, one after the other.
 ///
 /// # Errors
-/// Want of memory.
+/// `AllocError` if memory ran out.
 pub fn put_all(table: &mut Table, alloc: Global, all: &[Given<'_>]) -> Result<(), AllocError> {
     for given in all {
         put(table, alloc, *given)?;
@@ -73,7 +73,7 @@ pub fn put_all(table: &mut Table, alloc: Global, all: &[Given<'_>]) -> Result<()
 /// A table that is given these.
 ///
 /// # Errors
-/// Want of memory.
+/// `AllocError` if memory ran out.
 pub fn table_of(alloc: Global, all: &[Given<'_>]) -> Result<Table, AllocError> {
     let mut table = Table::new(alloc);
     put_all(&mut table, alloc, all)?;

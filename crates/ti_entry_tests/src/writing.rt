@@ -1,3 +1,5 @@
+//! Entries written from values.
+
 ghost use Rattle.std.specs.Prelude.{◌≤◌};
 
 use crate::tables::{Given, dumb, has_no_nul, put_all, table_of};
@@ -7,7 +9,7 @@ use std::rc::RcSlice;
 use ti_caps::{Cap, Kind, find};
 use ti_layout::{Mentions, Table, Value, WriteError, write};
 
-// The entry, or why there is none; `None` where `write` may not be called.
+// The entry, or why there is none; `None` if `write` may not be called.
 fn write_result(alloc: Global, names: &[u8], table: &Table) -> Option<Result<Vec<u8>, WriteError>> {
     if names.is_empty() || !has_no_nul(names) {
         return None;
@@ -65,7 +67,7 @@ fn cancel(table: &mut Table, name: &str) -> Result<(), AllocError> {
     }
 }
 
-// Whether a table has a text, and has it no longer once it is taken away.
+// Whether a table has a string, and no longer has it once it is taken away.
 fn gives_up_text(table: &mut Table, index: usize) -> Result<bool, AllocError> {
     let Some(cap) = Cap::at(Kind::Text, index) else {
         return Ok(false);
@@ -98,7 +100,8 @@ fn leaves_cancelled_out_and_shares_nothing(rt: HostRuntime) -> Result<(), AllocE
     Ok(())
 }
 
-/// How long a text is that replaces another, the names, and how long the entry is or why there is none.
+// How long a string is that replaces another, the names, and how long the entry is or why there is
+// none.
 struct Limit {
     text: usize,
     names: &'static [u8],
@@ -145,13 +148,14 @@ fn keeps_to_the_limits(rt: HostRuntime) -> Result<(), AllocError> {
     expect_limits(&rt, alloc, &mut table, &LIMITS_WITH_A_FLAG)
 }
 
-/// What a table is given besides, and the entry of `x` that it has then.
+// What a table is given besides, and the entry of `x` that it has then.
 struct Addition {
     given: &'static [Given<'static>],
     entry: &'static [u8],
 }
 
-// An entry with a number over 32,767 has numbers of 32 bits; every other one keeps its bytes.
+// An entry with a number over 32,767 has numbers of 32 bits; every other one has the bytes that it
+// had.
 #[rattlefmt::skip]
 const NUMBERS: [Addition; 4] = [
     Addition { given: &[Given::Number(0, 32767)], entry: b"\x1a\x01\x02\0\0\0\x01\0\0\0\0\0x\0\xff\x7f" },
@@ -174,7 +178,7 @@ fn writes_numbers_of_32_bits(rt: HostRuntime) -> Result<(), AllocError> {
     Ok(())
 }
 
-/// A number, how long a text is, and how long the entry of `x` with both is or why there is none.
+// A number, how long a string is, and how long the entry of `x` with both is or why there is none.
 const LIMITS_BY_FORMAT: [(u32, usize, Result<usize, WriteError>); 3] = [
     (32768, 32747, Ok(32768)),
     (80, 32747, Err(WriteError::TooLarge)),
@@ -214,7 +218,7 @@ fn merges_what_is_absent(rt: HostRuntime) -> Result<(), AllocError> {
     Ok(())
 }
 
-// A cancel of a flag, and behind it the flag, which the cancel keeps out.
+// A cancel of a boolean, and after it the boolean, which the cancel keeps out.
 fn cancel_then_offer_flag(table: &mut Table, index: usize) -> Result<(), AllocError> {
     match Cap::at(Kind::Flag, index) {
         Some(cap) => {
@@ -274,8 +278,8 @@ fn push_text(
     }
 }
 
-// A table of mentions: of `lines` a cancel and then a value, of `cols` so many values upward from 80, of text 1 "B", and
-// then those of another table, and a last one.
+// A table of mentions: of `lines` a cancel and then a value, of `cols` values upward from 80, of
+// string 1 "B", and then those of another table, and a last one.
 fn table_of_mentions(alloc: Global, used: &Table, values: u32) -> Result<Table, AllocError>
     requires { values ≤ 2000 }
 {
@@ -300,7 +304,8 @@ fn the_first_mention_decides(rt: HostRuntime) -> Result<(), AllocError> {
     let alloc = rt.alloc();
     let used = table_of(alloc, &USED)?;
     let want = b"\x1a\x01\x02\0\x02\0\x01\0\x02\0\x04\0x\0\0\x01\x50\0\0\0\x02\0A\0B\0";
-    // few, so many that they are brought into order first, and more than are kept at once
+    // few mentions, enough that they are brought into order first, and enough that a table is made
+    // before the end
     for values in [1, 30, 1200] {
         let table = table_of_mentions(alloc, &used, values)?;
         assert!(rt; is_written(alloc, b"x", &table, want));

@@ -4,16 +4,16 @@ use std::process::Abort;
 use std::test::Fail;
 use ti_param::{ParamError, Statics, Value, expand};
 
-/// A format, its first three parameters, the others being 0, and its expansion.
+// A format, its first three parameters (the others are 0), and its expansion.
 type Row = (&'static str, [i32; 3], &'static str);
 
-/// The usual way to one of 256 colours: 8 plain ones, 8 bright ones, and the rest by number.
+// The usual way to one of 256 colours: 8 plain ones, 8 bright ones, and the rest by number.
 const COLOUR: &str = "\x1b[%?%p1%{8}%<%t3%p1%d%e%p1%{16}%<%t9%p1%{8}%-%d%e38;5;%p1%d%;m";
 
-/// A conditional in the part taken of another.
+// A conditional in the part taken of another.
 const NESTED: &str = "%?%p1%t%?%p2%tA%eB%;C%eD%;E";
 
-/// A conditional in the rest of another.
+// A conditional in the rest of another.
 const CHAINED: &str = "%?%p1%tA%e%?%p2%tB%eC%;D%;E";
 
 static ROWS: [Row; 52] = [
@@ -71,7 +71,7 @@ static ROWS: [Row; 52] = [
     ("%p1%Pz%gz%gz%+%d", [21, 0, 0], "42"),
 ];
 
-/// A format that is stuck, and where.
+// A format that is stuck, and where.
 static STUCK: [(&str, usize); 21] = [
     ("a%e", 1),
     ("%t", 0),
@@ -112,7 +112,7 @@ fn numbers(first: &[i32; 3]) -> [Value<'static>; 9] {
     ]
 }
 
-/// The piece, so many times.
+// This many copies of the piece.
 fn repeat_piece(alloc: Global, piece: &[u8], count: usize) -> Result<Vec<u8>, AllocError> {
     let mut text = Vec::new(alloc);
     for _ in 0..count {
@@ -121,7 +121,7 @@ fn repeat_piece(alloc: Global, piece: &[u8], count: usize) -> Result<Vec<u8>, Al
     Ok(text)
 }
 
-/// Whether a format sends this, with static variables that are 0.
+// Whether a format sends this, with static variables that are 0.
 fn expands(
     alloc: Global,
     format: &[u8],
@@ -132,7 +132,7 @@ fn expands(
     Ok(expand(alloc, format, params, &mut statics)?.as_slice() == wanted)
 }
 
-/// Why a format is stuck, if it is.
+// Why a format is stuck, if it is.
 fn refusal(
     alloc: Global,
     format: &[u8],
@@ -159,7 +159,7 @@ fn expands_by_the_manual(rt: HostRuntime) -> Result<(), Fail> {
     Ok(())
 }
 
-/// Whether a format is stuck at a place.
+// Whether a format is stuck at a place.
 fn is_stuck(alloc: Global, format: &[u8], place: usize) -> bool {
     let none = numbers(&[0, 0, 0]);
     refusal(alloc, format, &none, &mut Statics::new()) == Some(ParamError::BadFormat(place))
@@ -175,7 +175,7 @@ fn names_the_place_where_a_format_is_stuck(rt: HostRuntime) {
     }
 }
 
-/// A width is at most 999 by its value, however many zeros stand before it.
+// A width is at most 999 by its value, however many zeros are before it.
 #[test]
 fn takes_a_width_with_many_zeros(rt: HostRuntime) -> Result<(), Fail> {
     let mut wanted = repeat_piece(rt.alloc(), b"0", 998)?;
@@ -191,7 +191,7 @@ fn takes_a_width_with_many_zeros(rt: HostRuntime) -> Result<(), Fail> {
     Ok(())
 }
 
-/// A number, and its low byte, which is 128 where that would be 0.
+// A number, and its low byte, which is 128 if that would be 0.
 static LOW_BYTES: [(i32, u8); 4] = [(256, 0x80), (0, 0x80), (321, 65), (-1, 255)];
 
 #[test]
@@ -206,7 +206,7 @@ fn writes_the_low_byte_of_a_number(rt: HostRuntime) -> Result<(), Fail> {
     Ok(())
 }
 
-/// A format, and what it sends where its first two parameters are `abc`.
+// A format, and what it sends if its first two parameters are `abc`.
 static OF_TEXTS: [(&str, &str); 7] = [
     ("%p1%s|%p1%l%d", "abc|3"),
     ("%p1%5.2s|", "   ab|"),
@@ -217,7 +217,7 @@ static OF_TEXTS: [(&str, &str); 7] = [
     ("%p1%d", "0"),
 ];
 
-/// The first two parameters are `abc`.
+// The first two parameters are `abc`.
 fn texts() -> [Value<'static>; 9] {
     let mut params = numbers(&[0, 0, 0]);
     params[0] = Value::Text(b"abc");
@@ -237,7 +237,7 @@ fn takes_texts_as_parameters(rt: HostRuntime) -> Result<(), Fail> {
     Ok(())
 }
 
-/// These pieces, the second so many times.
+// These pieces, with this many copies of the second.
 fn join_pieces(
     alloc: Global,
     first: &[u8],
@@ -249,7 +249,7 @@ fn join_pieces(
     Ok(text)
 }
 
-/// `A` is 6, and stays so where a format that would change it is stuck.
+// `A` is 6, and still is 6 after a format that would change it is stuck.
 fn expect_refusals(
     rt: &(impl Abort + AllocGlobal),
     params: &[Value<'_>; 9],
@@ -274,7 +274,7 @@ fn keeps_static_variables_but_after_an_error(rt: HostRuntime) -> Result<(), Fail
     Ok(())
 }
 
-/// A piece, how many times it stands in a format, and why that is stuck, if it is.
+// A piece, how many times it is in a format, and why that is stuck, if it is.
 static BOUNDS: [(&str, usize, Option<ParamError>); 4] = [
     ("%p1", 20, None),
     ("%p1", 21, Some(ParamError::StackFull(60))),
@@ -282,7 +282,7 @@ static BOUNDS: [(&str, usize, Option<ParamError>); 4] = [
     ("%?", 1_000_000, Some(ParamError::BadFormat(128))),
 ];
 
-/// Why a format of one piece so many times is stuck, if it is.
+// Why a format of this many copies of a piece is stuck, if it is.
 fn refusal_of_run(
     alloc: Global,
     piece: &[u8],

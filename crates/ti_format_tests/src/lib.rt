@@ -1,8 +1,8 @@
-//! The worked rows of parameter strings, printf forms and padding as tests, by the manuals and by what the printf of
-//! the GNU C library prints; no code of the product.
+//! The worked rows of parameter strings, printf forms and padding as tests, by the manuals and by
+//! what the printf of the GNU C library prints; no code of the product.
 //!
 //! - `expansion`: parameter strings
-//! - `padding`: texts with delays
+//! - `padding`: strings with delays
 //! - `printf`: forms
 #![tactic(auto)]
 

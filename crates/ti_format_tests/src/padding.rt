@@ -1,10 +1,10 @@
-//! Texts with their padding as pad bytes, and texts that ask for too much of it.
+//! Strings with their padding as pad bytes, and strings that ask for too much of it.
 use std::alloc::Global;
 use std::process::Abort;
 use std::test::Fail;
 use ti_printing::{Line, PadError, pad};
 
-/// 9,600 bits a second, no xon, padding at any rate, by NUL bytes.
+// 9,600 bits per second, no xon, padding at any rate, by NUL bytes.
 const PLAIN: Line = Line {
     rate: 9600,
     xon: false,
@@ -54,7 +54,8 @@ const FASTEST: Line = Line {
     pad_byte: Some(0),
 };
 
-/// A text, lines, the line, what is literal at the front of the padded text, and the NUL bytes after it.
+// A string, lines, the line, what is literal at the front of the padded string, and the NUL bytes
+// after it.
 type Row = (&'static str, u32, Line, &'static str, usize);
 
 static ROWS: [Row; 24] = [
@@ -84,7 +85,7 @@ static ROWS: [Row; 24] = [
     ("", 1, PLAIN, "", 0),
 ];
 
-/// Whether a text is padded to these literal bytes and so many NUL bytes after them.
+// Whether a string is padded to these literal bytes and this many NUL bytes after them.
 fn is_padded(
     alloc: Global,
     text: &[u8],
@@ -132,14 +133,14 @@ fn writes_the_pad_byte_between_the_pieces(rt: HostRuntime) -> Result<(), Fail> {
     Ok(())
 }
 
-/// A text that asks for too much, the lines and the line.
+// A string that asks for too much, the lines and the line.
 static TOO_MUCH: [(&'static str, u32, Line); 3] = [
     ("$<68266.7>", 1, PLAIN),
     ("$<68266.6>$<0.1>", 1, PLAIN),
     ("$<99999.9*/>", u32::MAX, FASTEST),
 ];
 
-/// Whether a text asks for too much.
+// Whether a string asks for too much.
 fn is_too_much(alloc: Global, text: &[u8], lines: u32, line: &Line) -> bool {
     pad(alloc, text, lines, line).err() == Some(PadError::TooMuch)
 }

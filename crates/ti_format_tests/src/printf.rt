@@ -1,11 +1,11 @@
-//! Forms against what the printf of the GNU C library prints.
+//! Forms compared with what the printf of the GNU C library prints.
 use std::alloc::AllocError;
 use std::process::Abort;
 use std::test::Fail;
 use ti_printing::printf::Conversion::{Decimal, LowerHex, Octal, UpperHex};
 use ti_printing::printf::{Conversion, Directive, Flags, print};
 
-/// Flags, width, precision, conversion, number and what is printed.
+// Flags, width, precision, conversion, number and what is printed.
 type NumberRow = (
     &'static str,
     u16,
@@ -15,7 +15,7 @@ type NumberRow = (
     &'static str,
 );
 
-/// Flags, width, precision, text and what is printed.
+// Flags, width, precision, string and what is printed.
 type TextRow = (&'static str, u16, Option<u16>, &'static str, &'static str);
 
 fn flags_of(text: &str) -> Flags {
@@ -28,7 +28,7 @@ fn flags_of(text: &str) -> Flags {
     }
 }
 
-/// Whether a number or a text is printed so.
+// Whether a number or a string is printed as wanted.
 fn is_printed(
     out: &mut Vec<u8>,
     directive: &Directive,

@@ -3,14 +3,14 @@ ghost use Rattle.std.specs.Prelude.{◌≡◌, ◌<◌, ◌≤◌, ◌*◌, ◌+
 ghost use Rattle.ti_index.specs.inside.Labels.{AreLabelled, FitsAt, IsGap};
 ghost use Rattle.ti_text.specs.Lists.{AreBelow, AreDistinct};
 
-/// Labels stay below this.
+// Labels stay below this.
 const LABEL_END: u64 = 1 << 63;
 
-/// The step between labels that are given anew, and the greatest between a new label and the one
-/// before it.
+// The step between labels that are given anew, and the greatest between a new label and the one
+// before it.
 const LABEL_STEP: u64 = 1 << 32;
 
-/// Gives the ids labels anew, far apart.
+// Gives the ids labels anew, far apart.
 fn relabel(ids: &[u32], labels: &mut Vec<u64>)
     requires known { AreBelow ids.now (vec_len labels.old) }
     requires distinct { AreDistinct ids.now }
@@ -64,7 +64,7 @@ pub(crate) fn make_label(ids: &[u32], labels: &mut Vec<u64>, position: usize) ->
     label_within(low, high)
 }
 
-/// A label between two, not far above the lower.
+// A label between two, not far above the lower.
 fn label_within(low: u64, high: u64) -> u64
     requires { low + 1 < high }
     ensures above { low < result }

@@ -6,7 +6,7 @@ pub fn lists_are_among()
     ensures { ListsAreAmong }
 {}
 
-/// A list stays as it is when an id that is not of it comes or goes.
+/// A list does not change when an id that is not of it comes or goes.
 pub fn lists_stay()
     ensures { ListsStay }
 {}

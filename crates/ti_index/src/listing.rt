@@ -1,4 +1,4 @@
-// Lists of ids in the order of all, changed id by id.
+//! Lists of ids in the order of all, changed id by id.
 ghost use Rattle.std.specs.Prelude.{◌<◌, ◌≤◌, ◌+◌, ◌⊎◌, vec_len, vec_capacity};
 ghost use Rattle.ti_text.specs.Lists.{Has};
 ghost use Rattle.ti_index.specs.Listing.{AreAmong, Lists, ListsNoMore, ListsToo};

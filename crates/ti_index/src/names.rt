@@ -1,4 +1,4 @@
-// Names, each with the blocks that have it and those that use it.
+//! Names, each with the blocks that have it and those that use it.
 ghost use Rattle.std.specs.Prelude.{◌≡◌, ◌⊎◌, ℕ, List, [], IsSome, OnOk};
 ghost use Rattle.ti_text.specs.Lists.{Has};
 ghost use Rattle.ti_index.specs.Listing.{AreAmong, Lists, ListsNoMore, ListsToo};
@@ -9,7 +9,7 @@ use crate::order::Order;
 use std::alloc::{AllocError, Global};
 use std::collections::BTreeMap;
 
-/// The ids of the blocks that have a name, and of those that use it.
+// The ids of the blocks that have a name, and of those that use it.
 #[derive(Drop)]
 struct Mentions {
     holders: Vec<u32>,
@@ -148,7 +148,7 @@ impl NameIndex {
         Ok(())
     }
 
-    /// Makes room in the entry of a name.
+    // Makes room in the entry of a name.
     fn grow(&mut self, name: &[u8]) -> Result<(), AllocError>
         requires { IsSome (mentions_at self.old name.now) }
         ensures seen { (other : List ℕ) → IsSeenSame self.old self.new other }

@@ -1,4 +1,4 @@
-// The ids of blocks in the order of their list.
+//! The ids of blocks in the order of their list.
 ghost use Rattle.std.specs.Prelude.{◌≡◌, ◌<◌, ◌≤◌, ◌+◌, ◌^◌, ◌++◌, ◌∷◌, ◌↔◌, [], ℕ, Some, slice_get, length, insert, remove, vec_capacity, IsTrue, OnOk, OnErr};
 ghost use Rattle.ti_text.specs.Lists.{Has, AreBelow, AreDistinct};
 ghost use Rattle.ti_index.specs.Listing.{AreAmong, ListsBefore};
@@ -14,7 +14,7 @@ use std::marker::Model;
 pub struct Order {
     /// The ids in the order of the list.
     ids: Vec<u32>,
-    /// The label of each id.
+    // The label of each id.
     labels: Vec<u64>,
     /// The ids that are not in the list.
     free: Vec<u32>,

@@ -14,7 +14,7 @@ pub struct Block<'a> {
     pub uses: &'a [&'a [u8]],
 }
 
-/// The items of a block that uses these names.
+// The items of a block that uses these names.
 fn items_of(alloc: Global, uses: &[&[u8]]) -> Result<Vec<Item>, AllocError> {
     let mut items = Vec::new(alloc);
     for (ordinal, name) in uses.iter().enumerate() {
@@ -28,7 +28,7 @@ fn items_of(alloc: Global, uses: &[&[u8]]) -> Result<Vec<Item>, AllocError> {
     Ok(items)
 }
 
-/// These names, as a block keeps them.
+// These names, as a block holds them.
 fn names_of(alloc: Global, names: &[&[u8]]) -> Result<Vec<RcSlice<u8>>, AllocError> {
     let mut kept = Vec::new(alloc);
     for name in names {
@@ -37,7 +37,7 @@ fn names_of(alloc: Global, names: &[&[u8]]) -> Result<Vec<RcSlice<u8>>, AllocErr
     Ok(kept)
 }
 
-/// A block as it is read.
+// A block as it is read.
 fn parsed(alloc: Global, block: &Block<'_>) -> Result<Parsed, AllocError> {
     Ok(Parsed {
         field: Vec::new(alloc),
@@ -47,7 +47,7 @@ fn parsed(alloc: Global, block: &Block<'_>) -> Result<Parsed, AllocError> {
     })
 }
 
-/// The slot of a block, with nothing found out yet.
+// The slot of a block, with nothing found out yet.
 fn slot_of(alloc: Global, block: &Block<'_>) -> Result<Slot, AllocError> {
     let settled = Settled {
         state: State::Unresolved,
@@ -60,7 +60,7 @@ fn slot_of(alloc: Global, block: &Block<'_>) -> Result<Slot, AllocError> {
     })
 }
 
-/// Puts a block in at the front.
+// Puts a block in at the front.
 fn put(alloc: Global, slots: &mut Slots, block: &Block<'_>) -> Result<(), Fail>
     requires { IsIndexed slots.old }
     ensures { IsIndexed slots.new }
@@ -74,8 +74,8 @@ fn put(alloc: Global, slots: &mut Slots, block: &Block<'_>) -> Result<(), Fail>
     Ok(())
 }
 
-/// A list of these blocks, each put in before those that were there: the last of them stands first. The id of each is its
-/// number among them.
+/// A list of these blocks, each put in before those that were there: the last of them is first. The
+/// id of each is its number among them.
 pub fn list_of(alloc: Global, blocks: &[Block<'_>]) -> Result<Slots, Fail>
     ensures { IfOk result IsIndexed }
 {

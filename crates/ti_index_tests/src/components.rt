@@ -1,9 +1,9 @@
-// Small graphs with components found by hand, and long ones.
+//! Small graphs with components found by hand, and long ones.
 use std::alloc::{AllocError, Global};
 use std::test::*;
 use ti_components::{Components, Graph};
 
-/// A graph by its rows.
+// A graph by its rows.
 fn graph_of(alloc: Global, rows: &[&[Option<usize>]]) -> Result<Graph, AllocError> {
     let mut graph = Graph::with_capacity(alloc, rows.len(), 0)?;
     for row in rows {
@@ -17,7 +17,7 @@ fn graph_of(alloc: Global, rows: &[&[Option<usize>]]) -> Result<Graph, AllocErro
     Ok(graph)
 }
 
-/// The components of a graph, unless an edge leads past its last node.
+// The components of a graph, unless an edge leads past its last node.
 fn components_of(alloc: Global, graph: &Graph) -> Result<Option<Components>, AllocError> {
     if !graph.is_whole() {
         return Ok(None);
@@ -25,7 +25,7 @@ fn components_of(alloc: Global, graph: &Graph) -> Result<Option<Components>, All
     Ok(Some(Components::find(alloc, graph)?))
 }
 
-/// A graph by its rows, the number of each node's component, and an order in which ends come first.
+// A graph by its rows, the number of each node's component, and an order in which ends come first.
 struct Case<'a> {
     rows: &'a [&'a [Option<usize>]],
     numbers: &'a [usize],
@@ -42,13 +42,13 @@ const CASES: [Case<'static>; 6] = [
     Case { rows: &[&[Some(0)], &[None, Some(0)]], numbers: &[0, 1], order: &[0, 1] },
     // A cycle above a cycle.
     Case { rows: &[&[Some(1)], &[Some(0), Some(2)], &[Some(3)], &[Some(2)]], numbers: &[2, 2, 0, 0], order: &[2, 3, 0, 1] },
-    // An edge between two cycles of one node each lies on no cycle.
+    // An edge between two cycles of one node each is on no cycle.
     Case { rows: &[&[Some(1), Some(0)], &[Some(1)]], numbers: &[1, 0], order: &[1, 0] },
-    // A node between two nodes of a cycle is of it, and one that only reaches it is not.
+    // A node between two nodes of a cycle belongs to it, and one that only reaches it does not.
     Case { rows: &[&[Some(2)], &[Some(2)], &[Some(3), Some(1)], &[Some(1)]], numbers: &[3, 0, 0, 0], order: &[2, 3, 1, 0] },
 ];
 
-/// Whether the components of a graph are these.
+// Whether the components of a graph are these.
 fn has_components(alloc: Global, case: &Case<'_>) -> Result<bool, AllocError> {
     let graph = graph_of(alloc, case.rows)?;
     match components_of(alloc, &graph)? {
@@ -67,7 +67,8 @@ fn components_of_small_graphs(rt: HostRuntime) -> Result<(), Fail> {
     Ok(())
 }
 
-/// A chain of so many nodes, each with an edge to the one before it, the first to the last given.
+// A chain of this many nodes, each with an edge to the one before it, and the first to the last
+// given.
 fn chain(alloc: Global, nodes: usize, first: Option<usize>) -> Result<Graph, AllocError> {
     let mut graph = Graph::with_capacity(alloc, nodes, nodes)?;
     for node in 0..nodes {
@@ -79,7 +80,7 @@ fn chain(alloc: Global, nodes: usize, first: Option<usize>) -> Result<Graph, All
     Ok(graph)
 }
 
-/// The number of each node's component in such a chain of 65,535 nodes.
+// The number of each node's component in such a chain of 65,535 nodes.
 fn numbers_of_chain(alloc: Global, first: Option<usize>) -> Result<Vec<usize>, Fail> {
     let graph = chain(alloc, 65_535, first)?;
     let components = components_of(alloc, &graph)?.ok_or("not whole")?;

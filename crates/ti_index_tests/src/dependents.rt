@@ -1,4 +1,4 @@
-// The dependents of small lists, by what it means to depend on an edit.
+//! The dependents of small lists, by what it means to depend on an edit.
 ghost use Rattle.ti_slots.specs.Slots.{IsIndexed};
 
 use super::blocks::{Block, list_of};
@@ -9,19 +9,19 @@ use std::test::*;
 use ti_dependents::{Dependents, find_all, find_dependents};
 use ti_slots::Slots;
 
-/// The blocks that own what a block uses, by their ids; `None` where no block does that is found.
+// The blocks that own what a block uses, by their ids; `None` if no block does that is found.
 struct Owners<'a> {
     id: u32,
     owners: &'a [Option<u32>],
 }
 
-/// What is to be found in a list of blocks.
+// What is to be found in a list of blocks.
 struct Wanted<'a> {
     places: &'a [usize],
     owners: &'a [Owners<'a>],
 }
 
-/// Whether the blocks found stand at these places.
+// Whether the blocks found are at these places.
 fn are_places(found: &Dependents, want: &[usize]) -> bool {
     if found.places.len() != want.len() {
         return false;
@@ -34,7 +34,7 @@ fn are_places(found: &Dependents, want: &[usize]) -> bool {
     true
 }
 
-/// Whether an edge of what was found leads to the block with this id, or nowhere.
+// Whether an edge of what was found leads to the block with this id, or nowhere.
 fn leads_to(found: &Dependents, edge: Option<usize>, owner: Option<u32>) -> bool {
     match edge {
         Some(node) => node < found.ids.len() && owner == Some(found.ids[node]),
@@ -42,7 +42,7 @@ fn leads_to(found: &Dependents, edge: Option<usize>, owner: Option<u32>) -> bool
     }
 }
 
-/// Whether the edges of the block with an id lead to the blocks with these ids, or nowhere.
+// Whether the edges of the block with an id lead to the blocks with these ids, or nowhere.
 fn has_owners(found: &Dependents, want: &Owners<'_>) -> bool {
     let Some(node) = found.ids.iter().position(|id| *id == want.id) else {
         return false;
@@ -62,7 +62,7 @@ fn has_owners(found: &Dependents, want: &Owners<'_>) -> bool {
     true
 }
 
-/// What was found is what is wanted.
+// What was found is what is wanted.
 fn expect_found(rt: &impl Abort, found: &Dependents, want: &Wanted<'_>) {
     assert!(rt; are_places(found, want.places));
     for owners in want.owners {
@@ -70,7 +70,7 @@ fn expect_found(rt: &impl Abort, found: &Dependents, want: &Wanted<'_>) {
     }
 }
 
-/// What depends on the block that was put in last.
+// What depends on the block that was put in last.
 fn dependents_of_first(alloc: Global, slots: &Slots) -> Result<Dependents, Fail>
     requires { IsIndexed slots.now }
 {
@@ -80,7 +80,7 @@ fn dependents_of_first(alloc: Global, slots: &Slots) -> Result<Dependents, Fail>
     }
 }
 
-/// In a list of these blocks, what depends on the block that was put in last is as it is wanted.
+// In a list of these blocks, what depends on the block that was put in last is as wanted.
 fn expect_put(
     rt: &impl Abort,
     alloc: Global,
@@ -109,7 +109,7 @@ fn a_block_alone(rt: HostRuntime) -> Result<(), Fail> {
     )
 }
 
-/// The list is a, b, c, d.
+// The list is a, b, c, d.
 #[rattlefmt::skip]
 const USERS: [Block<'static>; 4] = [
     Block { names: &[b"d"], uses: &[] },
@@ -133,7 +133,7 @@ fn users_and_their_users(rt: HostRuntime) -> Result<(), Fail> {
     expect_put(&rt, rt.alloc(), &USERS, &FOUND_OF_USERS)
 }
 
-/// The list is x, y, z.
+// The list is x, y, z.
 #[rattlefmt::skip]
 const CIRCULAR: [Block<'static>; 3] = [
     Block { names: &[b"z"], uses: &[] },
@@ -155,7 +155,7 @@ fn circular_uses(rt: HostRuntime) -> Result<(), Fail> {
     expect_put(&rt, rt.alloc(), &CIRCULAR, &FOUND_OF_CIRCULAR)
 }
 
-/// The list is a, o, u, x. The name n is that of o, so who uses it does not use x.
+// The list is a, o, u, x. The name n is that of o, so who uses it does not use x.
 #[rattlefmt::skip]
 const TWO_OF_A_NAME: [Block<'static>; 4] = [
     Block { names: &[b"x", b"n"], uses: &[b"a"] },
@@ -177,7 +177,7 @@ fn a_name_that_two_blocks_have(rt: HostRuntime) -> Result<(), Fail> {
     )
 }
 
-/// What depends on a block with this name that was taken out.
+// What depends on a block with this name that was taken out.
 fn dependents_of_name(alloc: Global, slots: &Slots, name: &[u8]) -> Result<Dependents, AllocError>
     requires { IsIndexed slots.now }
 {
@@ -201,7 +201,7 @@ fn a_block_taken_out(rt: HostRuntime) -> Result<(), Fail> {
     Ok(())
 }
 
-/// The list is a, b, d, and nothing depends on d but b and a.
+// The list is a, b, d, and nothing depends on d but b and a.
 #[rattlefmt::skip]
 const THREE: [Block<'static>; 3] = [
     Block { names: &[b"d"], uses: &[] },

@@ -1,4 +1,4 @@
-// An order of ids and an index of names at work, with room made and checked at run time.
+//! An order of ids and an index of names at work, with room made and checked at run time.
 ghost use Rattle.std.specs.Prelude.{IsTrue};
 ghost use Rattle.ti_text.specs.Lists.{Has};
 ghost use Rattle.ti_index.specs.Listing.{AreAmong};
@@ -8,7 +8,7 @@ use std::process::Abort;
 use std::test::*;
 use ti_index::{NameIndex, Order};
 
-/// Puts an id in at a position, if the list reaches so far.
+// Puts an id in at a position, if the list is long enough.
 fn put(order: &mut Order, position: usize) -> Result<Option<u32>, AllocError> {
     let len = order.ids().len();
     if position > len || len > 100_000 {
@@ -18,7 +18,7 @@ fn put(order: &mut Order, position: usize) -> Result<Option<u32>, AllocError> {
     Ok(Some(order.insert(position)))
 }
 
-/// Takes the id at a position out, if there is one.
+// Takes the id at a position out, if there is one.
 fn take(order: &mut Order, position: usize) -> Option<u32> {
     if position >= order.ids().len() {
         return None;
@@ -26,7 +26,7 @@ fn take(order: &mut Order, position: usize) -> Option<u32> {
     Some(order.remove(position))
 }
 
-/// Whether an id stands in the list.
+// Whether an id is in the list.
 fn stands(order: &Order, id: u32) -> bool
     ensures { IsTrue result → Has order.now.listed id }
 {
@@ -38,7 +38,7 @@ fn stands(order: &Order, id: u32) -> bool
     false
 }
 
-/// Whether each id stands in the list.
+// Whether each id is in the list.
 fn all_stand(order: &Order, ids: &[u32]) -> bool
     ensures { IsTrue result → AreAmong ids.now order.now.listed }
 {
@@ -50,7 +50,7 @@ fn all_stand(order: &Order, ids: &[u32]) -> bool
     true
 }
 
-/// Puts so many ids in at the front. Whether each was the next number.
+// Puts this many ids in at the front. Answers whether each was the next number.
 fn put_ids(order: &mut Order, count: u32) -> Result<bool, AllocError> {
     for number in 0..count {
         if put(order, 0)? != Some(number) {
@@ -60,12 +60,12 @@ fn put_ids(order: &mut Order, count: u32) -> Result<bool, AllocError> {
     Ok(true)
 }
 
-/// Whether an id stands at a position, and is found there.
+// Whether an id is at a position, and is found there.
 fn is_at(order: &Order, id: u32, position: usize) -> bool {
     stands(order, id) && order.position(id) == position
 }
 
-/// Whether a list of so many ids has the last number first.
+// Whether a list of this many ids has the last number first.
 fn is_turned(order: &Order, count: usize) -> bool {
     if order.ids().len() != count {
         return false;
@@ -79,7 +79,7 @@ fn is_turned(order: &Order, count: usize) -> bool {
     true
 }
 
-/// Whether one id stands before another, and not the other way.
+// Whether one id is before another, and not the other way round.
 fn is_before(order: &Order, one: u32, other: u32) -> bool {
     stands(order, one)
         && stands(order, other)
@@ -91,7 +91,7 @@ fn is_before(order: &Order, one: u32, other: u32) -> bool {
 #[test]
 fn ids_in_order(rt: HostRuntime) -> Result<(), Fail> {
     let mut order = Order::new(rt.alloc());
-    // So many at the front that there is no room between labels.
+    // Enough ids at the front that there is no room between labels.
     assert!(rt; put_ids(&mut order, 100)?);
     assert!(rt; is_turned(&order, 100) && is_before(&order, 8, 7));
     Ok(())
@@ -107,7 +107,7 @@ fn an_id_that_was_freed_is_used_again(rt: HostRuntime) -> Result<(), Fail> {
     Ok(())
 }
 
-/// Puts a block among those that have a name, or that use it.
+// Puts a block among those that have a name, or that use it.
 fn mention(
     names: &mut NameIndex,
     order: &Order,
@@ -129,7 +129,7 @@ fn mention(
     Ok(())
 }
 
-/// Takes a block that stands in the list out of those that have the name `n`, or that use it.
+// Takes a block that is in the list out of those that have the name `n`, or that use it.
 fn remove(names: &mut NameIndex, order: &Order, id: u32, uses: bool) {
     if !stands(order, id) {
         return;
@@ -143,19 +143,19 @@ fn remove(names: &mut NameIndex, order: &Order, id: u32, uses: bool) {
     }
 }
 
-/// Whether the name `n` has these holders and users.
+// Whether the name `n` has these holders and users.
 fn has(names: &NameIndex, holders: &[u32], users: &[u32]) -> bool {
     names.holders(b"n") == holders && names.users(b"n") == users
 }
 
-/// The list 2, 1, 0.
+// The list 2, 1, 0.
 fn three_ids(alloc: Global) -> Result<Order, AllocError> {
     let mut order = Order::new(alloc);
     put_ids(&mut order, 3)?;
     Ok(order)
 }
 
-/// The ids that have the name `n`, one of them twice, and those that use it.
+// The ids that have the name `n`, one of them twice, and those that use it.
 const MENTIONS: [(u32, bool); 6] = [
     (0, false),
     (2, false),
@@ -165,7 +165,7 @@ const MENTIONS: [(u32, bool); 6] = [
     (1, true),
 ];
 
-/// An index of these.
+// An index of these.
 fn mentioned(alloc: Global, order: &Order) -> Result<NameIndex, AllocError> {
     let mut names = NameIndex::new(alloc);
     for (id, uses) in &MENTIONS {
@@ -174,7 +174,7 @@ fn mentioned(alloc: Global, order: &Order) -> Result<NameIndex, AllocError> {
     Ok(names)
 }
 
-/// One of each is taken out.
+// One holder and one user are taken out.
 fn expect_removals(rt: &impl Abort, names: &mut NameIndex, order: &Order) {
     remove(names, order, 1, true);
     assert!(rt; has(names, &[2, 1, 0], &[0]));

@@ -1,5 +1,5 @@
-//! The worked rows of graphs, indexes, slots and dependents as tests, with small graphs and lists by hand; no code of
-//! the product.
+//! The worked rows of graphs, indexes, slots and dependents as tests, with small graphs and lists
+//! by hand; no code of the product.
 //!
 //! - `blocks`: lists of blocks, for the rows of slots and dependents
 //! - `components`: graphs and their components

@@ -1,4 +1,4 @@
-// Blocks come and go at run time: what the index then has, and the way back.
+//! Blocks come and go at run time: what the index then has, and the way back.
 ghost use Rattle.ti_slots.specs.Slots.{IsIndexed};
 
 use super::blocks::{Block, list_of};
@@ -6,7 +6,8 @@ use std::rc::RcSlice;
 use std::test::*;
 use ti_slots::{Slots, copy_detail};
 
-/// Takes the slot at a position out, and puts it back without memory. How many names it has.
+// Takes the slot at a position out, and puts it back without memory. Answers how many names it
+// has.
 fn exchange(slots: &mut Slots, at: usize) -> Option<usize>
     requires { IsIndexed slots.old }
     ensures { IsIndexed slots.new }
@@ -19,7 +20,7 @@ fn exchange(slots: &mut Slots, at: usize) -> Option<usize>
     Some(slots.slot(id).block.names.len())
 }
 
-/// Takes the slot at a position out for good.
+// Takes the slot at a position out for good.
 fn take(slots: &mut Slots, at: usize)
     requires { IsIndexed slots.old }
     ensures { IsIndexed slots.new }
@@ -30,7 +31,7 @@ fn take(slots: &mut Slots, at: usize)
     }
 }
 
-/// What a list shows: its ids, which of them have and use a name, and which owns one.
+// What a list shows: its ids, which of them have and use a name, and which owns one.
 struct Shown<'a> {
     ids: &'a [u32],
     holders_of_n: &'a [u32],
@@ -40,7 +41,7 @@ struct Shown<'a> {
     owner_of_m: Option<u32>,
 }
 
-/// Whether a list shows this.
+// Whether a list shows this.
 fn shows(slots: &Slots, want: &Shown<'_>) -> bool
     requires { IsIndexed slots.now }
 {
@@ -56,7 +57,7 @@ fn shows(slots: &Slots, want: &Shown<'_>) -> bool
 const NOTHING: Shown<'static> =
     Shown { ids: &[], holders_of_n: &[], users_of_m: &[], users_of_x: &[], owner_of_n: None, owner_of_m: None };
 
-/// The name `n` stands twice in the header of the first, which comes to stand last.
+// The name `n` is twice in the header of the first, which is last at the end.
 #[rattlefmt::skip]
 const BLOCKS: [Block<'static>; 2] = [
     Block { names: &[b"n", b"m", b"n"], uses: &[b"m", b"x", b"m"] },

@@ -25,8 +25,8 @@ OthersAreSettled slots exchange = (at id : ℕ) → StandsAt slots at id → (Is
 abbrev pub IsReady : Slots → Option ℕ → List (List ℕ) → Type 0
 IsReady slots put out = (exchange : Exchange) × IsExchangeOf slots put out exchange × OthersAreSettled slots exchange
 
--- the plan has the blocks that depend on the edit, each once, what is right for each, their positions in ascending order
--- and the work
+-- the plan has the blocks that depend on the edit, each once, what is right for each, their
+-- positions in ascending order and the work
 pub record IsPlan (slots : Slots) (put : Option ℕ) (out : List (List ℕ)) (plan : Plan) : Type 0 where
   pub as_many : length plan.settled.items ≡ length plan.ids.items
   pub once : AreDistinct plan.ids.items
@@ -37,7 +37,8 @@ pub record IsPlan (slots : Slots) (put : Option ℕ) (out : List (List ℕ)) (pl
   pub dependents : (exchange : Exchange) → IsExchangeOf slots put out exchange → AreDependents exchange plan.rebuilt.items
   pub steps : plan.work ≡ work (blocks_of slots) plan.rebuilt.items
 
--- the plan has all blocks of the list in its order, what is right for each, their positions in ascending order and the work
+-- the plan has all blocks of the list in its order, what is right for each, their positions in
+-- ascending order and the work
 pub record IsPlanOfAll (slots : Slots) (plan : Plan) : Type 0 where
   pub listed : plan.ids.items ≡ slots.order.listed
   pub as_many : length plan.settled.items ≡ length plan.ids.items

@@ -1,5 +1,5 @@
-// The plans of small lists, in which every block depends on the one put in last. What is wanted goes
-// by what it means to depend on an edit, and by what is wrong with a use.
+//! The plans of small lists, in which every block depends on the one put in last. What is wanted
+//! follows from what it means to depend on an edit, and from what is wrong with a use.
 ghost use Rattle.std.specs.Prelude.{ℕ, [], ◌<◌, Some, All, Contains, IfOk, IsTrue};
 ghost use Rattle.ti_meaning.specs.Exchange.{Exchange};
 ghost use Rattle.ti_meaning.specs.Usable.{IsUsable};
@@ -15,7 +15,7 @@ use ti_plan::{Plan, plan};
 use ti_slots::{KeptFault, Settled, Slot, Slots, State};
 use ti_source::{Code, is_block, parse};
 
-/// A block's slot, with nothing found out yet.
+// A block's slot, with nothing found out yet.
 fn slot_of(alloc: Global, text: &[u8]) -> Result<Slot, Fail>
     ensures { IfOk result (λ slot. IsUsable (reading_of slot.block)) }
 {
@@ -35,7 +35,7 @@ fn slot_of(alloc: Global, text: &[u8]) -> Result<Slot, Fail>
     })
 }
 
-/// Puts a block in at the front, and gives its id.
+// Puts a block in at the front, and gives its id.
 fn put(alloc: Global, slots: &mut Slots, text: &[u8]) -> Result<u32, Fail>
     requires indexed { IsIndexed slots.old }
     requires usable { All IsUsable (blocks_of slots.old) }
@@ -50,12 +50,12 @@ fn put(alloc: Global, slots: &mut Slots, text: &[u8]) -> Result<u32, Fail>
     let slot = slot_of(alloc, text)?;
     slots.make_room(&slot.block)?;
     let id = slots.put_in(0, slot);
-    // No id stands twice among these.
+    // Whether no id is there twice.
     let _listed = slots.order.ids();
     Ok(id)
 }
 
-/// Whether each position of a list so long is one of these.
+// Whether each position of a list of this length is one of these.
 fn are_all(count: usize, places: &[usize]) -> bool
     ensures { IsTrue result → (at : ℕ) → at < count → Contains places.now at }
 {
@@ -67,7 +67,7 @@ fn are_all(count: usize, places: &[usize]) -> bool
     true
 }
 
-/// The plan of putting the first block in, on which every block depends.
+// The plan of putting the first block in, on which every block depends.
 fn plan_all(alloc: Global, slots: &Slots, id: u32) -> Result<Plan, Fail>
     requires indexed { IsIndexed slots.now }
     requires usable { All IsUsable (blocks_of slots.now) }
@@ -81,23 +81,23 @@ fn plan_all(alloc: Global, slots: &Slots, id: u32) -> Result<Plan, Fail>
     Ok(plan(alloc, slots, Some(id), &[])?)
 }
 
-/// What a plan finds out about the block at a position.
+// What a plan finds out about the block at a position.
 struct Found<'a> {
     at: usize,
-    /// What its entry ends in; `None` where it has none.
+    // What its entry ends in; `None` if it has none.
     end: Option<&'a [u8]>,
-    /// The codes and the details of its faults.
+    // The codes and the details of its faults.
     faults: &'a [(Code, &'a [u8])],
 }
 
-/// What is wanted of a plan: the positions rebuilt, the work, and what it finds out.
+// What is wanted of a plan: the positions rebuilt, the work, and what it finds out.
 struct Wanted<'a> {
     rebuilt: &'a [usize],
     work: u64,
     found: &'a [Found<'a>],
 }
 
-/// Whether a block has become this: its entry ends in these bytes, or it has none.
+// Whether a block has become this: its entry ends in these bytes, or it has none.
 fn is_state(state: &State, end: Option<&[u8]>) -> bool {
     match (state, end) {
         (State::Compiled(entry), Some(end)) => entry.image.bytes().ends_with(end),
@@ -106,7 +106,7 @@ fn is_state(state: &State, end: Option<&[u8]>) -> bool {
     }
 }
 
-/// Whether a fault stands on the first line, with this code and this detail.
+// Whether a fault is on the first line, with this code and this detail.
 fn is_fault(fault: &KeptFault, code: Code, detail: &[u8]) -> bool {
     match &fault.detail {
         Some(name) => fault.line == 1 && fault.code == code && name.as_slice() == detail,
@@ -114,7 +114,7 @@ fn is_fault(fault: &KeptFault, code: Code, detail: &[u8]) -> bool {
     }
 }
 
-/// Whether the faults have these codes and details.
+// Whether the faults have these codes and details.
 fn are_faults(faults: &[KeptFault], want: &[(Code, &[u8])]) -> bool {
     if faults.len() != want.len() {
         return false;
@@ -127,13 +127,13 @@ fn are_faults(faults: &[KeptFault], want: &[(Code, &[u8])]) -> bool {
     true
 }
 
-/// What a plan finds out about the block with an id; `None` where it does not plan it.
+// What a plan finds out about the block with an id; `None` if it does not plan it.
 fn settled_of(plan: &Plan, id: u32) -> Option<&Settled> {
     let node = plan.ids.iter().position(|other| *other == id)?;
     plan.settled.get(node)
 }
 
-/// Whether the plan of a list of these ids finds this out.
+// Whether the plan of a list of these ids finds this out.
 fn is_found(ids: &[u32], plan: &Plan, want: &Found<'_>) -> bool {
     if want.at >= ids.len() {
         return false;
@@ -146,7 +146,7 @@ fn is_found(ids: &[u32], plan: &Plan, want: &Found<'_>) -> bool {
     }
 }
 
-/// The plan of a list of these ids is as it is wanted.
+// The plan of a list of these ids is as wanted.
 fn expect_plan(rt: &impl Abort, ids: &[u32], plan: &Plan, want: &Wanted<'_>) {
     assert!(rt; plan.rebuilt.as_slice() == want.rebuilt && plan.work == want.work);
     for found in want.found {
@@ -154,7 +154,7 @@ fn expect_plan(rt: &impl Abort, ids: &[u32], plan: &Plan, want: &Wanted<'_>) {
     }
 }
 
-/// A block put in at the front has the plan that is wanted.
+// A block put in at the front has the plan that is wanted.
 fn expect_put(
     rt: &impl Abort,
     alloc: Global,
@@ -173,7 +173,7 @@ fn expect_put(
     Ok(())
 }
 
-/// The list is `p`.
+// The list is `p`.
 #[rattlefmt::skip]
 const PLAN_OF_P: Wanted<'static> = Wanted {
     rebuilt: &[0],
@@ -181,7 +181,7 @@ const PLAN_OF_P: Wanted<'static> = Wanted {
     found: &[Found { at: 0, end: None, faults: &[(Code::MissingUse, b"q")] }],
 };
 
-/// The list is `q`, `p`.
+// The list is `q`, `p`.
 #[rattlefmt::skip]
 const PLAN_OF_Q: Wanted<'static> = Wanted {
     rebuilt: &[0, 1],
@@ -192,7 +192,7 @@ const PLAN_OF_Q: Wanted<'static> = Wanted {
     ],
 };
 
-/// The list is `r`, `q`, `p`.
+// The list is `r`, `q`, `p`.
 #[rattlefmt::skip]
 const PLAN_OF_R: Wanted<'static> = Wanted {
     rebuilt: &[0, 1, 2],
@@ -203,7 +203,7 @@ const PLAN_OF_R: Wanted<'static> = Wanted {
     ],
 };
 
-/// Among no blocks, each block put in is used by the one before it.
+// Among no blocks, each block put in is used by the one before it.
 fn expect_chain(rt: &impl Abort, alloc: Global, slots: &mut Slots) -> Result<(), Fail>
     requires indexed { IsIndexed slots.old }
     requires usable { All IsUsable (blocks_of slots.old) }
@@ -218,7 +218,7 @@ fn a_chain(rt: HostRuntime) -> Result<(), Fail> {
     expect_chain(&rt, rt.alloc(), &mut Slots::new(rt.alloc()))
 }
 
-/// The list is `a`, `b`. A broken block with a missing name is circular all the same.
+// The list is `a`, `b`. A broken block with a missing name is circular too.
 #[rattlefmt::skip]
 const PLAN_OF_CIRCULAR: Wanted<'static> = Wanted {
     rebuilt: &[0, 1],
@@ -243,7 +243,7 @@ fn broken_block_is_circular(rt: HostRuntime) -> Result<(), Fail> {
     )
 }
 
-/// Puts in the blocks `d`, `c`, `b` and `a`, and gives the ids of the list.
+// Puts in the blocks `d`, `c`, `b` and `a`, and gives the ids of the list.
 fn put_four(alloc: Global, slots: &mut Slots) -> Result<[u32; 4], Fail>
     requires indexed { IsIndexed slots.old }
     requires usable { All IsUsable (blocks_of slots.old) }
@@ -257,7 +257,7 @@ fn put_four(alloc: Global, slots: &mut Slots) -> Result<[u32; 4], Fail>
     Ok([a, b, c, d])
 }
 
-/// The list is `a`, `b`, `c`, `d`, and nothing was found out about any of them before.
+// The list is `a`, `b`, `c`, `d`, and nothing was found out about any of them before.
 #[rattlefmt::skip]
 const PLAN_OF_FOUR: Wanted<'static> = Wanted {
     rebuilt: &[0, 1, 2, 3],

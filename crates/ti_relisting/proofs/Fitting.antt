@@ -20,7 +20,7 @@ use Rattle.ti_caps.proofs.Same.{same_capability-true}
 abbrev pub MentionFits : Mention → Type 0
 MentionFits m = IsCapability m.capability × CanHave m.capability (Some m.says)
 
--- so is an item, unless it is a use
+-- an item says something that its capability can have, unless it is a use
 abbrev pub SaidFits : Said → Type 0
 SaidFits (said_flag c) = IsCapability c × CanHave c (Some content_true)
 SaidFits (said_number c n) = IsCapability c × CanHave c (Some (content_number n))
@@ -88,7 +88,7 @@ unbroken-expand env depth block ms e =
       | inr f ↦ f
     ]
 
--- something that follows from a value that is there
+-- what follows from a value that is there
 pub record Follows {X Y : Type 0} (f : X → Option Y) (o : Option X) (y : Y) : Type 0 where
   pub from : X
   pub is : o ≡ Some from

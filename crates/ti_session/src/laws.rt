@@ -1,4 +1,4 @@
-//! What the definition of a session leaves open: nothing but when memory is refused.
+//! What the definition of a session leaves open: only when memory is refused.
 ghost use Rattle.ti_session.specs.ScriptLaws.{OneAnswer, OneOutput};
 
 /// A line leads from a state to one state, with one reply, unless memory is refused.

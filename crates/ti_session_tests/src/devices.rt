@@ -26,7 +26,7 @@ impl End {
     }
 }
 
-/// A reader that gives one byte a read, so many times.
+/// A reader that gives one byte a read, this many times.
 #[derive(Drop)]
 pub struct Drip<'a> {
     pub rest: &'a [u8],
@@ -52,7 +52,7 @@ impl Read for Drip<'_> {
     }
 }
 
-/// A writer that takes one byte a call, and so many in all.
+/// A writer that takes one byte a call, and this many in all.
 #[derive(Drop)]
 pub struct Narrow {
     pub taken: Vec<u8>,

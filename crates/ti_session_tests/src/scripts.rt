@@ -5,7 +5,7 @@ use std::process::Abort;
 use std::test::Fail;
 use ti_session::{Counted, ToolError, session};
 
-/// Three blocks that are each at fault, one before them, and requests of all kinds.
+// Three blocks that are each at fault, one before them, and requests of all kinds.
 const SCRIPT: &[u8] = b"i 0\na,foo,\n.\ni 1\nb,use=zz,\n.\ni 2\nc,cols#9x,\n.\nf\n\
 i 0\nk,\n# one\n# two\n.\nf\np 0\nd 9\nzap\n";
 
@@ -14,7 +14,7 @@ const REPLIES: &[u8] = b"ok\nok\nok\n\
 ok\n4: W1 UnknownCapability foo\n5: E6 MissingUse zz\n6: E3 BadNumber cols\n.\n\
 1a01020000000000000000006b00\nrefused Position\nunknown\n";
 
-/// The script ends well, and has these replies.
+// The script ends well, and has these replies.
 fn expect_replies(rt: &impl Abort, alloc: Global, script: &[u8], want: &[u8]) {
     let mut reader = Counted::new(script);
     let mut writer = Counted::new(Vec::new(alloc));
@@ -24,7 +24,7 @@ fn expect_replies(rt: &impl Abort, alloc: Global, script: &[u8], want: &[u8]) {
     assert!(rt; written.as_slice() == want, "{script:?}: {written:?}");
 }
 
-/// Each script ends well, and has the replies beside it.
+// Each script ends well, and has the replies next to it.
 fn expect_all(rt: &impl Abort, alloc: Global, scripts: &[(&[u8], &[u8])]) {
     for (script, want) in scripts {
         expect_replies(rt, alloc, script, want);
@@ -91,7 +91,8 @@ fn small_scripts(rt: HostRuntime) {
     expect_all(&rt, rt.alloc(), &SMALL_SCRIPTS);
 }
 
-/// A writer that has so much room and then ends so stops the session: the replies before that are whole.
+// A writer with this much room, which then ends so, stops the session: the replies before that are
+// whole.
 fn expect_write_fault(rt: &impl Abort, alloc: Global, room: usize, end: End) {
     let mut reader = Counted::new(SCRIPT);
     let taken = Vec::new(alloc);
@@ -114,7 +115,7 @@ fn each_write_failing_in_turn(rt: HostRuntime) {
     }
 }
 
-/// The script in pieces, each with the replies that it adds.
+// The script in pieces, each with the replies that it adds.
 const COMMANDS: [(&[u8], &[u8]); 9] = [
     (b"i 0\na,foo,\n.\n", b"ok\n"),
     (b"i 1\nb,use=zz,\n.\n", b"ok\n"),
@@ -133,7 +134,7 @@ const COMMANDS: [(&[u8], &[u8]); 9] = [
     (b"zap\n", b"unknown\n"),
 ];
 
-/// The replies to the commands that are complete in so many bytes.
+// The replies to the commands that are complete in this many bytes.
 fn replies_before(alloc: Global, taken: usize) -> Result<Vec<u8>, AllocError> {
     let mut replies = Vec::new(alloc);
     let mut left = taken;
@@ -147,7 +148,7 @@ fn replies_before(alloc: Global, taken: usize) -> Result<Vec<u8>, AllocError> {
     Ok(replies)
 }
 
-/// How a session ends whose reader gives so many bytes and then ends so, and its replies.
+// How a session ends whose reader gives this many bytes and then ends so, and its replies.
 fn replies_to(alloc: Global, reads_left: usize, end: End) -> (Result<(), ToolError>, Vec<u8>) {
     let mut reader = Counted::new(Drip {
         rest: SCRIPT,
@@ -159,7 +160,8 @@ fn replies_to(alloc: Global, reads_left: usize, end: End) -> (Result<(), ToolErr
     (stop, writer.into_inner())
 }
 
-/// A reader that fails after so many bytes stops the session, after the replies to what is complete.
+// A reader that fails after this many bytes stops the session, after the replies to what is
+// complete.
 fn expect_read_fault(
     rt: &impl Abort,
     alloc: Global,
@@ -186,7 +188,7 @@ fn each_read_failing_in_turn(rt: HostRuntime) -> Result<(), Fail> {
     Ok(())
 }
 
-/// A reader that ends after so many bytes gives the replies of the script up to there.
+// A reader that ends after this many bytes gives the replies of the script up to there.
 fn expect_end(rt: &impl Abort, alloc: Global, reads: usize) {
     let (stop, written) = replies_to(alloc, reads, End::MovesNothing);
     assert!(rt; stop == Ok(()), "at {reads}");
@@ -201,14 +203,14 @@ fn each_read_ending_the_script(rt: HostRuntime) {
     }
 }
 
-// So many bytes `x`, and a newline.
+// This many bytes `x`, and a newline.
 fn line_of(alloc: Global, count: usize) -> Result<Vec<u8>, AllocError> {
     let mut line = vec![in alloc; b'x'; count]?;
     line.push(b'\n')?;
     Ok(line)
 }
 
-/// A script of one line of so many bytes ends so, with these replies.
+// A script of one line of this many bytes ends so, with these replies.
 fn expect_line(
     rt: &impl Abort,
     alloc: Global,

@@ -1,4 +1,4 @@
-// Sources cut into blocks.
+//! Sources cut into blocks.
 use ti_source::{blocks, is_block};
 
 const SOURCE: &[u8] =
@@ -14,7 +14,7 @@ static BLOCKS: [&'static [u8]; 5] = [
     b"last, it#8",
 ];
 
-/// Whether a source is cut into these.
+// Whether a source is cut into these.
 fn is_cut(source: &[u8], preface: &[u8], wanted: &[&[u8]]) -> bool {
     let mut cut = blocks(source);
     if cut.preface() != preface {

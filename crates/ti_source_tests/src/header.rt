@@ -1,10 +1,10 @@
-// Names fields, and the lookup names that they have.
+//! Names fields, and the lookup names that they have.
 use std::alloc::{AllocError, Global};
 use std::rc::RcSlice;
 use std::test::Fail;
 use ti_source::{Code, is_lookup_name, lookup_names};
 
-/// A names field, and its lookup names.
+// A names field, and its lookup names.
 #[rattlefmt::skip]
 static HEADERS: [(&'static [u8], &'static [&'static [u8]]); 4] = [
     (b"dumb", &[b"dumb"]),
@@ -13,12 +13,12 @@ static HEADERS: [(&'static [u8], &'static [&'static [u8]]); 4] = [
     (b"...|..", &[b"..."]),
 ];
 
-/// Texts that are no names field.
+// Texts that are no names field.
 static NO_HEADERS: [&'static [u8]; 11] = [
     b"", b"x|", b"|x", b"x||y", b"x y", b"x y|d", b"x|\0", b"..|d", b"a/b|d", b"a,b|d", b"\r",
 ];
 
-/// Whether these are the names.
+// Whether these are the names.
 fn are_names(names: &[RcSlice<u8>], wanted: &[&[u8]]) -> bool {
     if names.len() != wanted.len() {
         return false;
@@ -31,7 +31,7 @@ fn are_names(names: &[RcSlice<u8>], wanted: &[&[u8]]) -> bool {
     true
 }
 
-/// Whether a text is a names field with these lookup names.
+// Whether a text is a names field with these lookup names.
 fn has_names(alloc: Global, field: &[u8], wanted: &[&[u8]]) -> Result<bool, AllocError> {
     match lookup_names(alloc, field)? {
         Some(names) => Ok(are_names(&names, wanted)),

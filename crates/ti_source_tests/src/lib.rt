@@ -1,5 +1,5 @@
-//! The worked rows of the source format, and of the names and spellings that it rests on, as tests; no code of the
-//! product.
+//! The worked rows of the source format, and of the names and spellings under it, as tests; no code
+//! of the product.
 //!
 //! - `cutting`: sources cut into blocks
 //! - `header`: names fields
@@ -7,7 +7,7 @@
 //! - `names`: the names of the capabilities
 //! - `numbers`: numbers
 //! - `parsing`: blocks as they are read
-//! - `room`: text that grows in room made before, and its lines
+//! - `room`: bytes that grow in room made before, and their lines
 //! - `spelling`: texts and the bytes that they spell
 //! - `writing`: bytes and the texts that spell them
 #![tactic(auto)]

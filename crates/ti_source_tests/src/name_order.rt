@@ -1,4 +1,4 @@
-// The first and the last capability of each kind by name.
+//! The first and the last capability of each kind by name.
 use ti_caps::{Kind, by_name, count, each_kind_is_in_order, find};
 
 #[test]

@@ -1,4 +1,4 @@
-// The names of the capabilities, and their places among those of a kind.
+//! The names of the capabilities, and their places among those of a kind.
 use ti_caps::{Cap, Kind, count, every_name_is_found, find, name, names_are_distinct};
 
 #[test]
@@ -16,7 +16,7 @@ fn leads_from_each_name_back_to_the_capability(rt: HostRuntime) {
     assert_eq!(rt; seen, 497);
 }
 
-/// Names, each with its kind and its place among those of the kind.
+// Names, each with its kind and its place among those of the kind.
 static PLACES: [(&'static str, Kind, usize); 12] = [
     ("bw", Kind::Flag, 0),
     ("OTxr", Kind::Flag, 43),
@@ -32,10 +32,10 @@ static PLACES: [(&'static str, Kind, usize); 12] = [
     ("box1", Kind::Text, 413),
 ];
 
-/// Words that name no capability.
+// Words that name no capability.
 static NO_NAMES: [&'static str; 6] = ["", "a", "bw ", "BW", "kf64", "zz"];
 
-/// Whether a name is that of the capability at a place.
+// Whether a name is that of the capability at a place.
 fn is_named(word: &str, kind: Kind, index: usize) -> bool {
     match find(word.as_bytes()) {
         Some(cap) => {

@@ -1,4 +1,4 @@
-// Numbers, and texts that are none.
+//! Numbers, and texts that are none.
 use ti_source::{NumberError, read_number};
 
 #[test]

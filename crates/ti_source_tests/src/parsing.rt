@@ -1,11 +1,11 @@
-// Blocks as they are read, with their faults.
+//! Blocks as they are read, with their faults.
 use std::alloc::{AllocError, Global};
 use std::fmt::Write;
 use std::test::Fail;
 use ti_caps::name;
 use ti_source::{Item, Local, Parsed, SharedTexts, What, is_block, parse, parse_sharing};
 
-// What an item says, a text in hexadecimal.
+// What an item says, with a string in hexadecimal.
 fn say(said: &mut String, what: &What) -> Result<(), AllocError> {
     let (cap, mark, text) = match what {
         What::Flag(cap) => (name(*cap), "", None),
@@ -148,7 +148,7 @@ static SHARING: [(&'static str, &'static str); 4] = [
     ("w,bel=\\400,cr=\\r,\n", "1:1 cr=0d;0:1 E5 BadString bel;"),
 ];
 
-// Whether a text is a block, and this is read of it where it shares the texts of those before it.
+// Whether a text is a block, and this is read of it when it shares the strings of those before it.
 fn reads_sharing(
     alloc: Global,
     block: &[u8],
@@ -175,7 +175,7 @@ fn shares_texts(rt: HostRuntime) -> Result<(), Fail> {
     Ok(())
 }
 
-// A names field with two lookup names, and so many letters at its end.
+// A names field with two lookup names, and this many letters at its end.
 fn field_with(alloc: Global, letters: usize) -> Result<Vec<u8>, AllocError> {
     let mut field = b"n|m|a b\\".to_vec(alloc)?;
     for _ in 0..letters {

@@ -1,4 +1,4 @@
-// Text that grows in room made before, and its lines.
+//! Bytes that grow in room made before, and their lines.
 use std::test::Fail;
 use ti_text::count_lines;
 use ti_text::room::{append_reserved, fill_reserved};

@@ -1,10 +1,10 @@
-// Texts with the bytes that they spell, and texts that spell none.
+//! Texts with the bytes that they spell, and texts that spell none.
 use std::alloc::Global;
 use std::process::Abort;
 use std::test::Fail;
 use ti_spelling::{UnescapeError, unescape};
 
-/// A text and the bytes that it spells.
+// A text and the bytes that it spells.
 type Row = (&'static [u8], &'static [u8]);
 
 static SPELT: [Row; 26] = [
@@ -47,7 +47,7 @@ static ODD: [Row; 7] = [
     (b"\\%^A", b"%^A"),
 ];
 
-/// A text that spells none, and the first fault of it.
+// A text that spells none, and the first fault of it.
 static REFUSED: [(&'static [u8], UnescapeError); 14] = [
     (b"\\400", UnescapeError::BadOctal),
     (b"\\777", UnescapeError::BadOctal),
@@ -65,7 +65,8 @@ static REFUSED: [(&'static [u8], UnescapeError); 14] = [
     (b"ab\0^", UnescapeError::BadByte),
 ];
 
-/// Whether a text spells these bytes, and has an escape that terminfo(5) does not name where `odd` says so.
+// Whether a text spells these bytes, and has an escape that terminfo(5) does not name exactly if
+// `odd` says so.
 fn spells(alloc: Global, raw: &[u8], bytes: &[u8], odd: bool) -> Result<bool, UnescapeError> {
     let found = unescape(alloc, raw)?;
     Ok(found.bytes.as_slice() == bytes && found.odd == odd)
@@ -94,7 +95,7 @@ fn odd_escapes_are_known(rt: HostRuntime) -> Result<(), Fail> {
     Ok(())
 }
 
-/// Why a text spells none, if so.
+// Why a text spells no value, if it spells none.
 fn refusal(alloc: Global, raw: &[u8]) -> Option<UnescapeError> {
     unescape(alloc, raw).err()
 }

@@ -1,9 +1,9 @@
-// Values with the texts that spell them.
+//! Values with the texts that spell them.
 use std::alloc::{AllocError, Global};
 use std::test::Fail;
 use ti_spelling::escape;
 
-/// A value, and the text that spells it.
+// A value, and the text that spells it.
 static ROWS: [(&'static [u8], &'static [u8]); 16] = [
     (b"", b""),
     (b"\x1b[,\\^\x1c\x80\x7f ", b"\\E[\\,\\\\\\^\\034\\200^?\\s"),

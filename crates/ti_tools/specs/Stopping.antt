@@ -36,7 +36,7 @@ status_of (Tput lines term rate words) error found = tput_status error found
 status_of Session error found = plain_status error
 status_of (Infocmp mode names layout first_dir other_dir) error found = plain_status error
 
--- ---- the line on standard error
+-- the line on standard error
 
 -- the name of the refusal of an entry
 abbrev pub refusal_name : ReadError → List ℕ

@@ -1,15 +1,16 @@
 //! The tools over terminfo entries, over any files and streams: what a tool makes of its input.
 //!
 //! - `compiling`: what `tic` makes of a source: files, a report and a status. `loading` makes a
-//!   database of the blocks, `entry_files` names the files of the entries, and `sources` says why a source is refused
+//!   database of the blocks, `entry_files` names the files of the entries, and `sources` says why a
+//!   source is refused
 //! - `outcome`: what `tic` is asked for, and what it made
 //! - `listings`: what `infocmp` prints of entries
 //! - `stopping`: how a tool that stops ends: its status, and the line on standard error
 //! - `laws`: that the listing of an entry, and its relative source, compile back to the entry
 //!
-//! The crate `ti_commands` below it has the command lines and their jobs, `ti_session` the session, and
-//! `ti_devices` the counted devices, the trees of files and the errors of the tools; what users of the
-//! tools need of them is public here too, as is `ti_tput`.
+//! The crate `ti_commands` has the command lines and their jobs, `ti_session` the session, and
+//! `ti_devices` the counted devices, the trees of files and the errors of the tools. What users of
+//! the tools need of them is public here too, as is `ti_tput`.
 #![tactic(auto)]
 
 mod compiling;

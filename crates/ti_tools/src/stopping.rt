@@ -36,8 +36,9 @@ fn plain_status(error: &ToolError) -> u8
     }
 }
 
-/// The exit status of a tool that stops: 2 at bad usage, else 1; of `tput` 3 at an unknown terminal, at a bad entry and at a
-/// fault on the way to it, else 255. `found` says that the entry was read.
+/// The exit status of a tool that stops: 2 at bad usage, else 1. For `tput` it is 3 at an unknown
+/// terminal, at a bad entry and at a fault on the way to the entry, else 255. `found` says that the
+/// entry was read.
 pub fn status(job: &Job, error: &ToolError, found: bool) -> u8
     ensures { result ≡ status_of job.now error.now found }
 {
@@ -155,7 +156,7 @@ fn write_capability<W: Write>(
 /// `tput`: `name` is then a capability that is unknown, or whose string is bad.
 ///
 /// # Errors
-/// `WriteFault`.
+/// `WriteFault` if the stream fails.
 pub fn message<W: Write>(
     job: &Job,
     name: &str,

@@ -3,7 +3,7 @@ use crate::listing::dumb;
 use std::alloc::{AllocError, Global};
 use ti_tools::{File, MemTree, TicOptions, TicOutcome, ToolError, place, tic};
 
-/// The source of the entry that `dumb` gives.
+/// The source of the entry of `dumb`.
 pub const DUMB: &[u8] =
     b"dumb|80-column dumb tty,\n\tam, cols#80, bel=^G, cr=\\r, cud1=\\n, ind=\\n,\n";
 
@@ -20,7 +20,7 @@ fn push_many(bytes: &mut Vec<u8>, byte: u8, count: usize) -> Result<(), AllocErr
     Ok(())
 }
 
-// `before`, so many times `byte`, and `after`.
+// `before`, this many times `byte`, and `after`.
 fn text_with_run(
     alloc: Global,
     before: &[u8],
@@ -51,7 +51,7 @@ fn the_smallest_useful_entry(rt: HostRuntime) -> Result<(), ToolError> {
     Ok(())
 }
 
-/// A source without a fault, and its only entry.
+// A source without a fault, and its only entry.
 struct Compiled {
     source: &'static [u8],
     entry: &'static [u8],
@@ -88,7 +88,7 @@ fn the_first_entry_of_a_source(rt: HostRuntime) -> Result<(), ToolError> {
     Ok(())
 }
 
-/// What comes of a source: its report, its status and how many files it has.
+// What comes of a source: its report, its status and how many files it has.
 struct Reported {
     source: &'static [u8],
     report: &'static [u8],
@@ -119,7 +119,7 @@ const REPORTED: [Reported; 9] = [
     Reported { source: b"\n# only\n", report: b"", status: 0, files: 0 },
 ];
 
-// Whether an outcome has this report, this status and so many files.
+// Whether an outcome has this report, this status and this many files.
 fn is_outcome(outcome: &TicOutcome, report: &[u8], status: u8, files: usize) -> bool {
     outcome.report.as_slice() == report && outcome.status == status && outcome.files.len() == files
 }
@@ -133,7 +133,7 @@ fn sources_with_faults(rt: HostRuntime) -> Result<(), ToolError> {
     Ok(())
 }
 
-// Whether the files are two of the same bytes, at the paths of the names `a` and `b`.
+// Whether the files are two with equal bytes, at the paths of the names `a` and `b`.
 fn are_of_two_names(files: &[File], bytes: &[u8]) -> bool {
     match files {
         [first, second] => {
@@ -146,7 +146,7 @@ fn are_of_two_names(files: &[File], bytes: &[u8]) -> bool {
     }
 }
 
-/// A block with two lookup names, and its entry.
+// A block with two lookup names, and its entry.
 const TWO_NAMES: [Compiled; 2] = [
     Compiled {
         source: b"# c\na|b|d,foo,\n",
@@ -231,7 +231,7 @@ fn one_block_too_many(rt: HostRuntime) -> Result<(), AllocError> {
         source.extend_from_slice(b"x,\n")?;
     }
     assert!(rt; refusal(alloc, &source) == Some(ToolError::TooManyBlocks));
-    // the last block is too long besides, which is said first
+    // the last block is also too long, which is said first
     source.push(b'#')?;
     push_many(&mut source, b'a', 1_048_576)?;
     assert!(rt; refusal(alloc, &source) == Some(ToolError::BlockTooLong(65_536)));

@@ -5,7 +5,8 @@ use std::test::Fail;
 use ti_layout::View;
 use ti_list::{Layout, ListError, Mode, Order, compare, list, relative};
 
-// `a|first,am,cols#80,bel=^G,` as it is compiled, `b|second,cols#132,bel=^G,cr=\r,` and `v,bel=b,cbt=a,`.
+// `a|first,am,cols#80,bel=^G,` as it is compiled, `b|second,cols#132,bel=^G,cr=\r,` and
+// `v,bel=b,cbt=a,`.
 const A: &[u8] = b"\x1a\x01\x08\0\x02\0\x01\0\x02\0\x02\0a|first\0\0\x01\x50\0\xff\xff\0\0\x07\0";
 
 const B: &[u8] =
@@ -97,8 +98,8 @@ fn lists_an_entry(rt: HostRuntime) -> Result<(), Fail> {
     Ok(())
 }
 
-// The names field and 2 bytes, 5 for `am`, 18 for `cols`, and 11, 10, 12 and 11 for the texts: a listing that had to grow
-// would have other room.
+// The names field and 2 bytes, 5 for `am`, 18 for `cols`, and 11, 10, 12 and 11 for the strings: a
+// listing that had to grow would have other room.
 #[test]
 fn a_listing_has_the_room_that_was_made_before(rt: HostRuntime) -> Result<(), Fail> {
     let bytes = dumb(rt.alloc())?;
@@ -117,7 +118,7 @@ fn lists_in_the_order_asked_for(rt: HostRuntime) -> Result<(), Fail> {
     Ok(())
 }
 
-// What is said of A beside B.
+// What is said of A compared with B.
 fn comparison(alloc: Global, mode: Mode, order: Order) -> Result<Vec<u8>, Fail> {
     let (a, b) = (View::read(A)?, View::read(B)?);
     Ok(compare(alloc, &a, &b, mode, order)?)

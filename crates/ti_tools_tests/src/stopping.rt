@@ -38,7 +38,7 @@ fn statuses(rt: HostRuntime) {
     assert!(rt; status_of(Job::Session, ToolError::Usage, false) == 2);
 }
 
-/// What is said of a name and an error.
+// The line on a name and an error.
 struct Message {
     name: &'static str,
     error: Option<ToolError>,

@@ -1,4 +1,4 @@
-//! `tput`: the bytes that drive a terminal, from a compiled entry, as tput(1) has it.
+//! The command `tput`: the bytes that drive a terminal, from a compiled entry, as tput(1) has it.
 //!
 //! - `commands`: what one command is answered; `replies` makes its bytes and status, of what
 //!   `entries` finds in the entry and of the words, which `parameters` reads as numbers and texts

@@ -14,7 +14,7 @@ fn word(size: usize) -> [u8; 2] {
     u16::try_from(size).unwrap_or(u16::MAX).to_le_bytes()
 }
 
-// Where the texts of an entry begin, their bytes, and how many places they take.
+// Where the strings of an entry begin, their bytes, and how many places they take.
 #[derive(Drop)]
 struct Texts {
     offsets: Vec<u8>,
@@ -23,7 +23,7 @@ struct Texts {
 }
 
 impl Texts {
-    // Adds a text, behind those that the tables have before it.
+    // Adds a string, after those that the tables have before it.
     fn add(&mut self, name: &str, text: &[u8]) -> Result<(), AllocError> {
         let place = find(name.as_bytes()).map_or(0, |cap| cap.index());
         for _absent in self.count..place {
@@ -37,7 +37,7 @@ impl Texts {
     }
 }
 
-// The texts by their names, in the order of the tables.
+// The strings by their names, in the order of the tables.
 fn texts_of(alloc: Global, texts: &[(&str, &[u8])]) -> Result<Texts, AllocError> {
     let mut all = Texts {
         offsets: Vec::new(alloc),
@@ -59,7 +59,7 @@ fn header(alloc: Global, sizes: &[usize]) -> Result<Vec<u8>, AllocError> {
     Ok(bytes)
 }
 
-// Adds the names with their NUL, the flags, and a byte where the numbers would stand at an odd place.
+// Adds the names with their NUL, the booleans, and a byte if the numbers would be at an odd place.
 fn add_front(bytes: &mut Vec<u8>, names: &[u8], flags: &[u8]) -> Result<(), AllocError> {
     bytes.extend_from_slice(names)?;
     bytes.push(0)?;
@@ -77,7 +77,8 @@ fn add_numbers(bytes: &mut Vec<u8>, numbers: &[usize]) -> Result<(), AllocError>
     Ok(())
 }
 
-/// The bytes of an entry: a byte for each flag, the numbers, and the strings by their names, in the order of the tables.
+/// The bytes of an entry: a byte for each boolean, the numbers, and the strings by their names, in
+/// the order of the tables.
 pub fn entry_bytes(
     alloc: Global,
     names: &[u8],
@@ -160,7 +161,7 @@ fn commands_on_a_dumb_terminal(rt: HostRuntime) -> Result<(), ToolError> {
     Ok(())
 }
 
-// What `tput` answers to so many words `0` on a dumb terminal.
+// What `tput` answers to this many words `0` on a dumb terminal.
 fn status_of_zeros(alloc: Global, count: usize) -> Result<Result<u8, ToolError>, ToolError> {
     let bytes = dumb(alloc)?;
     let view = entry(bytes.as_slice())?;
@@ -190,7 +191,7 @@ fn strings_with_parameters(rt: HostRuntime) -> Result<(), ToolError> {
     expect_outcome(&rt, rt.alloc(), &view, &key, b"1:23", 0)
 }
 
-// The entry `v` with these texts writes so at `init` and at `reset`.
+// The entry `v` with these strings writes this at `init` and at `reset`.
 fn expect_resets(
     rt: &impl Abort,
     alloc: Global,

@@ -1,4 +1,4 @@
-//! Worked words behind `infocmp`.
+//! Worked words after `infocmp`.
 use super::{ask_for, refusal, some, words};
 use std::alloc::{AllocError, Global};
 use std::test::Fail;

@@ -1,4 +1,4 @@
-//! Worked words behind `tput`.
+//! Worked words after `tput`.
 use super::{ask_for, refusal, words};
 use std::alloc::{AllocError, Global};
 use std::test::Fail;

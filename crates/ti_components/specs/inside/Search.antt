@@ -1,5 +1,5 @@
--- What a path search keeps (own): the nodes of open components on a path, each reached from the one before it, and what is
--- known of where components start.
+-- What holds of a path search (own): the nodes of open components on a path, each reached from the
+-- one before it, and what is known of where components start.
 use Rattle.std.specs.Prelude.{ℕ, suc, ◌≡◌, ◌<◌, ◌≤◌, ◌+◌, ◌-◌, ◌*◌, ◌⊎◌, ◌++◌, List, [], ◌∷◌, length, take, drop, Option, Some, slice_get, slice_set}
 use Rattle.ti_components.specs.Graph.{Rows, HasEdge}
 use Rattle.ti_components.specs.Leading.{Leads}
@@ -16,8 +16,8 @@ Rises xs = (i j x y : ℕ) → i < j → slice_get xs i ≡ Some x → slice_get
 abbrev pub IsClosed : List Progress → ℕ → Type 0
 IsClosed progress node = (c : ℕ) × (slice_get progress node ≡ Some (Closed c))
 
--- an edge from the node at place `k` to the node `w` was gone through: the component of `w` is closed, or no component is
--- known to start between them
+-- an edge from the node at place `k` to the node `w` was gone through: the component of `w` is
+-- closed, or no component is known to start between them
 abbrev pub IsExplored : List Progress → List ℕ → List ℕ → ℕ → ℕ → Type 0
 IsExplored progress path starts k w = IsClosed progress w ⊎ ((m : ℕ) × (slice_get path m ≡ Some w) × ((s : ℕ) → Has starts s → s ≤ k → s ≤ m))
 
@@ -59,7 +59,7 @@ pub record IsWalk (graph : Rows) (progress : List Progress) (cursors path starts
   pub shut : AreGroups graph progress (length order)
   pub listing : IsOrderSoFar progress order
 
--- the search keeps it
+-- the search is as described
 abbrev pub IsWalkOf : Rows → Search → Type 0
 IsWalkOf graph s = IsWalk graph s.progress.items s.cursors.items s.path.items s.starts.items s.active.items s.order.items
 
@@ -93,7 +93,7 @@ pub record ClosesPath (old new : Search) (start : ℕ) : Type 0 where
   pub active : new.active.items ≡ old.active.items
   pub order : new.order.items ≡ old.order.items ++ drop start old.path.items
 
--- a node that was met stays met
+-- a node that was met remains met
 abbrev pub KeepsMet : Search → Search → Type 0
 KeepsMet old new = (v : ℕ) → slice_get new.progress.items v ≡ Some Unseen → slice_get old.progress.items v ≡ Some Unseen
 

@@ -20,7 +20,7 @@ fn run(
     (end, writer.into_inner())
 }
 
-/// The lines write this, and end so.
+// The lines write this, and end so.
 fn expect_lines(
     rt: &impl Abort,
     alloc: Global,
@@ -52,7 +52,7 @@ fn lines_on_a_dumb_terminal(rt: HostRuntime) -> Result<(), ToolError> {
     Ok(())
 }
 
-/// These bytes, and so many times others.
+// These bytes, with this many of another between them.
 fn text_with_run(
     alloc: Global,
     front: &[u8],
@@ -94,7 +94,8 @@ fn a_line_over_the_limit(rt: HostRuntime) -> Result<(), ToolError> {
     Ok(())
 }
 
-/// Two lines on an entry of these texts, the first of which sets a variable that the second writes.
+// Two lines on an entry of these strings, the first of which sets a variable that the second
+// writes.
 fn expect_shared(
     rt: &impl Abort,
     alloc: Global,
@@ -111,7 +112,7 @@ fn expect_shared(
 
 const SETS: [(&str, &[u8]); 2] = [("u0", b"%p1%PA"), ("u1", b"%gA%d")];
 
-/// The padding is too much, so that the line is bad and sets nothing.
+// The padding is too much, so that the line is bad and sets nothing.
 const SETS_AND_PADS: [(&str, &[u8]); 2] = [("u0", b"%p1%PA$<99999>"), ("u1", b"%gA%d")];
 
 #[test]
@@ -120,10 +121,10 @@ fn lines_that_share_variables(rt: HostRuntime) -> Result<(), ToolError> {
     expect_shared(&rt, rt.alloc(), &SETS_AND_PADS, 9600, b"0", 5)
 }
 
-/// Lines that write something, that are bad and that are skipped.
+// Lines that write something, that are bad and that are skipped.
 const LINES: &[u8] = b"cols\nzz\nbel\nyy\n\nlongname\n";
 
-/// What they write.
+// What these lines write.
 const WRITTEN: &[u8] = b"80\n\x0780-column dumb tty";
 
 #[test]
@@ -134,7 +135,8 @@ fn lines_that_write_and_lines_that_do_not(rt: HostRuntime) -> Result<(), ToolErr
     Ok(())
 }
 
-/// A writer that has so much room and then ends so stops the run: what it took before that is whole.
+// A writer with this much room, which then ends so, stops the run: what it took before that is
+// whole.
 fn expect_write_fault(rt: &impl Abort, alloc: Global, view: &View<'_>, room: usize, end: End) {
     let mut reader = Counted::new(LINES);
     let taken = Vec::new(alloc);
@@ -160,7 +162,7 @@ fn each_write_failing_in_turn(rt: HostRuntime) -> Result<(), ToolError> {
     Ok(())
 }
 
-/// The lines one by one, each with what it writes.
+// The lines one by one, each with what it writes.
 const PIECES: [(&[u8], &[u8]); 6] = [
     (b"cols\n", b"80\n"),
     (b"zz\n", b""),
@@ -170,7 +172,7 @@ const PIECES: [(&[u8], &[u8]); 6] = [
     (b"longname\n", b"80-column dumb tty"),
 ];
 
-/// What the lines that are complete in so many bytes write.
+// What the lines that are complete in this many bytes write.
 fn written_before(alloc: Global, taken: usize) -> Result<Vec<u8>, AllocError> {
     let mut written = Vec::new(alloc);
     let mut left = taken;
@@ -184,7 +186,7 @@ fn written_before(alloc: Global, taken: usize) -> Result<Vec<u8>, AllocError> {
     Ok(written)
 }
 
-/// How a run ends whose reader gives so many bytes and then ends so, and what it writes.
+// How a run ends whose reader gives this many bytes and then ends so, and what it writes.
 fn run_of(
     alloc: Global,
     view: &View<'_>,
@@ -201,7 +203,7 @@ fn run_of(
     (stop, writer.into_inner())
 }
 
-/// A reader that fails after so many bytes stops the run, after the lines that are complete.
+// A reader that fails after this many bytes stops the run, after the lines that are complete.
 fn expect_read_fault(
     rt: &impl Abort,
     alloc: Global,
@@ -216,7 +218,7 @@ fn expect_read_fault(
     Ok(())
 }
 
-/// A reader that ends after so many bytes gives what the lines up to there give.
+// A reader that ends after this many bytes gives what the lines up to there give.
 fn expect_end(rt: &impl Abort, alloc: Global, view: &View<'_>, reads: usize) {
     let (stop, written) = run_of(alloc, view, reads, End::MovesNothing);
     let front = LINES.get(..reads).unwrap_or(LINES);

@@ -79,7 +79,7 @@ fn the_first_place_that_has_the_file(rt: HostRuntime) -> Result<(), ToolError> {
     Ok(())
 }
 
-// A file of so many bytes, which begins with these and goes on with zeros, is refused so.
+// A file of this many bytes, which begins with these and goes on with zeros, is refused for this.
 fn expect_refused(
     rt: &impl Abort,
     alloc: Global,
@@ -96,7 +96,7 @@ fn expect_refused(
     Ok(())
 }
 
-/// One byte more than a file may have.
+// One byte more than a file may have.
 const TOO_LONG: usize = 65_537;
 
 #[test]
