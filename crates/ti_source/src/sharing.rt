@@ -57,6 +57,13 @@ impl SharedTexts {
         }
     }
 
+    /// The string whose bytes are in the room.
+    pub(crate) fn text_in_room(&self, alloc: Global) -> Result<RcSlice<u8>, AllocError>
+        ensures { IfOk result (λ text. rc_slice_items text ≡ self.now.room.items) }
+    {
+        RcSlice::from_slice(alloc, self.room.as_slice())
+    }
+
     /// The string of a spelling, if it is the one that was stored last for the capability.
     pub(crate) fn text_of(&self, cap: Cap, spelling: &[u8]) -> Option<&RcSlice<u8>>
         ensures { IfSome result (λ text. unescape_result spelling.now ≡ Ok (rc_slice_items text.now, false)) }

@@ -76,7 +76,7 @@ fn judge_text(
     }
     match unescape_into(&mut shared.room, value) {
         Ok(odd) => {
-            let text = RcSlice::from_slice(alloc, shared.room.as_slice())?;
+            let text = shared.text_in_room(alloc)?;
             if odd {
                 return Ok(Verdict::AcceptedOdd(What::Text(cap, text)));
             }
