@@ -1,4 +1,4 @@
-//! Replaces a file whole, by a new file that takes its name.
+//! Replacing a file whole, by a new file that takes its name.
 use std::fs::{self, File, OpenFile};
 use std::io::{self, ErrorKind, Write};
 use std::rt::{Clock, Files};
@@ -20,7 +20,7 @@ pub fn replace_file<R: Files + Clock + AllocGlobal>(
     bytes: &[u8],
 ) -> io::Result<()> {
     let (new_path, file) = match create_beside(rt, path) {
-        // The directory is there for most files, so it is made only if the file can't be made.
+        // The directory is there for most files, so it is made only if the file can't be.
         Err(error) if is_absent(&error) => {
             make_directories(rt, path)?;
             create_beside(rt, path)?
@@ -97,8 +97,8 @@ fn age<R: Files + Clock>(rt: &R, path: &str) -> io::Result<Duration> {
     fs::symlink_metadata(rt, path)?.modified()?.elapsed(rt)
 }
 
-// Writes all of these bytes into a new file, gives it the permissions of the regular file that it
-// is to replace, and closes it.
+// Writes all of these bytes into a new file, gives it the permissions of the regular file that it is
+// to replace, and closes it.
 fn fill<R: Files>(rt: &R, mut file: R::File, path: &str, bytes: &[u8]) -> io::Result<()> {
     file.write_all(bytes)?;
     match fs::symlink_metadata(rt, path) {

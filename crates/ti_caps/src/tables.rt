@@ -1,5 +1,4 @@
-//! The names of the capabilities, in the order of the compiled entry, and the capabilities in the
-//! order of their names.
+//! The names of the capabilities: in the order of the compiled entry, and by name.
 
 /// How many booleans there are.
 pub const FLAG_COUNT: usize = 44;

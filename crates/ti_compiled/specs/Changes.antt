@@ -15,7 +15,7 @@ pub record HoldsGiven (old new : NamedTable) (cap : Capability) (content : Optio
 abbrev pub FitsWith : NamedTable → Capability → Option Content → Type 0
 FitsWith i cap content = ImageFits i.names (with_content (held_by i) cap content)
 
--- that layout is over its limit
+-- the layout of what is then held is over its limit
 abbrev pub IsOverWith : NamedTable → Capability → Option Content → Type 0
 IsOverWith i cap content = ImageIsTooLarge i.names (with_content (held_by i) cap content)
 

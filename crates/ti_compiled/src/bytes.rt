@@ -1,5 +1,6 @@
-//! Parts of an entry's bytes that grow, shrink or are written over where they are. The room for
-//! them is there, so no call of this module takes memory.
+//! Parts of an entry's bytes that grow, shrink or are written over where they are.
+//!
+//! The room for them is there, so no call of this module takes memory.
 ghost use Rattle.std.specs.Prelude.{◌≡◌, ◌+◌, ◌≤◌, length, vec_len, vec_capacity};
 ghost use Rattle.ti_compiled.specs.inside.Bytes.{with_bytes_in, with_bytes_out, with_length, Replaces};
 

@@ -1,5 +1,7 @@
-//! A boolean of an image set or taken away: a byte for each boolean up to the last that is set, and
-//! then the zero byte if the names and the booleans are an odd number of bytes.
+//! A boolean of an image is set or taken away.
+//!
+//! The section has a byte for each boolean up to the last that is set, and then the zero byte if
+//! the names and the booleans are an odd number of bytes.
 ghost use Rattle.std.specs.Prelude.{◌≡◌, ◌≢◌, ℕ, suc, ◌<◌, ◌≤◌, ◌↔◌, length, slice_index, vec_capacity, IsErrOf, OnOk, OnErr};
 ghost use Rattle.ti_caps.specs.Tables.{capability, count_of};
 ghost use Rattle.ti_caps.specs.declared.capability.Kind.TheVariants.{Flag};

@@ -1,5 +1,7 @@
-//! A number of an image given, replaced or taken away. The section's numbers, 39 at most, are read
-//! and spelled again, wider or narrower if the format changes.
+//! A number of an image is given, replaced or taken away.
+//!
+//! The section's numbers, 39 at most, are read and spelled again, wider or narrower if the format
+//! changes.
 ghost use Rattle.std.specs.Prelude.{◌≡◌, ◌≢◌, ℕ, suc, ◌+◌, ◌*◌, ◌%◌, ◌<◌, ◌≤◌, List, length, take, slice_index, vec_len, vec_capacity, Option, IfSome, ◌↔◌, IsErrOf, OnOk, OnErr};
 ghost use Rattle.ti_text.specs.Limits.{number_max};
 ghost use Rattle.ti_caps.specs.Tables.{capability, count_of};

@@ -1,6 +1,8 @@
-//! An image given the values of another table: first each value that changes is taken away, then
-//! each new one is given. So each image on the way holds some of the old values, or some of the new
-//! ones, and none is over the limit, if that is the same for all of them.
+//! An image is given the values of another table.
+//!
+//! First each value that changes is taken away, then each new one is given. So each image on the way
+//! holds some of the old values, or some of the new ones, and none is over the limit, if that is the
+//! same for all of them.
 ghost use Rattle.std.specs.Prelude.{◌≡◌, ◌≢◌, ◌↔◌, Some, option_map, IfSome, IsTrue};
 ghost use Rattle.ti_caps.specs.Tables.{Capability, IsCapability};
 ghost use Rattle.ti_layout.specs.declared.layout.Format.TheVariants.{Extended};

@@ -1,5 +1,7 @@
-//! A string of an image given, replaced or taken away: the string table holds the strings one after
-//! the other, and an offset for each string up to the last that is there leads into it.
+//! A string of an image is given, replaced or taken away.
+//!
+//! The string table holds the strings one after the other, and an offset for each string up to the
+//! last that is there leads into it.
 ghost use Rattle.std.specs.Prelude.{◌≡◌, ◌≢◌, ℕ, suc, ◌+◌, ◌-◌, ◌*◌, ◌%◌, ◌<◌, ◌≤◌, List, ◌++◌, length, vec_len, vec_capacity, Option, option_map, ◌↔◌, IsErrOf, OnOk, OnErr};
 ghost use Rattle.ti_text.specs.Limits.{two_byte_count};
 ghost use Rattle.ti_caps.specs.Tables.{capability, count_of};

@@ -1,5 +1,6 @@
-//! Devices whose failures and reads are counted, so that contracts can tell a fault that the device
-//! gave from one that was made up.
+//! Devices whose failures and reads are counted.
+//!
+//! So contracts can tell a fault that the device gave from one that was made up.
 ghost use Rattle.std.specs.Prelude.{◌≡◌, ◌+◌};
 ghost use Rattle.std.specs.Io.{ReadsAtMost, WritesAtMost};
 ghost use Rattle.std.specs.Io.KnownBytes.{Keeps, ReadConsumes, WriteAppends};

@@ -1,6 +1,8 @@
-//! An entry written as term(5) lays it out. The entries of a table are in the order of the entry,
-//! so each section is written in one walk over them: what is absent before a value is filled up in
-//! one step, and what is absent after the last value is not written.
+//! An entry written as term(5) lays it out.
+//!
+//! The entries of a table are in the order of the entry, so each section is written in one walk over
+//! them: what is absent before a value is filled up in one step, and what is absent after the last
+//! value is not written.
 ghost use Rattle.std.specs.Prelude.{◌≡◌, ◌≢◌, ◌<◌, ◌≤◌, ◌↔◌, ◌+◌, ◌*◌, ◌++◌, [], length, replicate, Some, IfOk, IsErrOf, OnOk};
 ghost use Rattle.ti_text.specs.Limits.{names_max};
 ghost use Rattle.ti_caps.specs.declared.capability.Kind.TheVariants.{Flag, Number, Text};

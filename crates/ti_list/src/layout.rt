@@ -23,10 +23,10 @@ pub struct Layout {
 /// Which capabilities a comparison of two entries shows, as infocmp(1)'s `-d`, `-c` and `-n`.
 #[derive(Clone, Copy, PartialEq, Eq, Debug)]
 pub enum Mode {
-    /// Those whose values differ.
+    /// The capabilities whose values differ.
     Differ,
-    /// Those that both entries have, with equal values.
+    /// The capabilities that both entries have, with equal values.
     Common,
-    /// Those that neither entry has.
+    /// The capabilities that neither entry has.
     Neither,
 }

@@ -1,5 +1,4 @@
-//! The machine that runs a format: its stack, its parameters and variables, and what each code does
-//! to them.
+//! The machine that runs a format: its stack, parameters and variables, and what each code does.
 ghost use Rattle.std.specs.Prelude.{◌≡◌, ◌∷◌, [], map};
 ghost use Rattle.ti_param.specs.Meaning.{MachineState, argument_of, start, with_print, with_output, push_outcome, without_top, top, top_number, with_variable, code_outcome, variable_value, with_increment};
 ghost use Rattle.ti_param.specs.inside.Expansion.{HasOutcome};

@@ -1,5 +1,4 @@
-//! The printf forms of a parameter string: `%d`, `%o`, `%x`, `%X` and `%s` with flags, width and
-//! precision.
+//! The printf forms of a parameter string: `%d`, `%o`, `%x`, `%X` and `%s`.
 ghost use Rattle.std.specs.Prelude.{◌≡◌, ◌≢◌, ◌+◌, ◌^◌, ◌<◌, ◌≤◌, ◌++◌, length, map, drop, replicate, slice_index, vec_len, vec_capacity, OnOk, OnErr};
 ghost use Rattle.std.specs.Fmt.{digit_glyph};
 ghost use Rattle.std.specs.Int.Digits.{digits_of};

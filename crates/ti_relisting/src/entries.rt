@@ -1,5 +1,4 @@
-//! The laws of relisting and of relative source: compiled entries of sources come back byte for
-//! byte.
+//! The laws of compiled entries of sources: they come back byte for byte.
 ghost use Rattle.ti_relisting.specs.Entries.{EntriesOfSources, RelativeSource, Relisting, Relistings};
 
 use crate::reading_back::parts_are_blocks;

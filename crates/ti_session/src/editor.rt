@@ -1,5 +1,4 @@
-//! Takes a session's requests and gives the replies: the source that is edited, and the block that
-//! is open.
+//! Takes a session's requests and gives the replies: the source, and the block that is open.
 ghost use Rattle.std.specs.Prelude.{◌≡◌, IfOk, Some};
 ghost use Rattle.ti_meaning.specs.Edits.{change_of};
 ghost use Rattle.ti_devices.specs.Counted.{observation};

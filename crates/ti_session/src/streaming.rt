@@ -43,7 +43,7 @@ fn answer_lines<R: Read, W: Write>(
 
 /// Reads a script to its end, edits a source as its lines ask, and writes a reply to each.
 ///
-/// It holds one line, one block and the source, and never the whole script.
+/// The call holds one line, one block and the source, and never the whole script.
 ///
 /// # Errors
 /// `ReadFault` if the reader fails, and after 4,294,967,296 reads; `WriteFault` if the writer

@@ -7,7 +7,7 @@ use Rattle.ti_source.specs.WhiteSpace.{without_trailing_space}
 use Rattle.ti_source.specs.Cutting.{last_byte}
 use Rattle.ti_source.specs.Folding.{PlacedByte}
 
--- the bytes alone
+-- the bytes, without their lines
 abbrev pub bytes : List PlacedByte → List ℕ
 bytes text = map (λ x. x.0) text
 

@@ -10,7 +10,7 @@ use Rattle.ti_meaning.specs.Compiled.{compiled}
 use Rattle.ti_devices.specs.Paths.{path_of}
 use Rattle.ti_devices.specs.Tree.{FileAt}
 
--- those of the names that belong to the block at that position, each once
+-- the names that belong to the block at that position, each once
 abbrev pub own_names : List Reading → ℕ → List (List ℕ) → List (List ℕ)
 own_names blocks at names = filter (λ name. is_owner blocks name at) (distinct names)
 

@@ -37,11 +37,11 @@ text_lent text = text_content (option_map (λ (t : Bor (List ℕ)). t.now) text)
 abbrev pub image_with : List ℕ → Capability → Option Content → List ℕ
 image_with bytes cap content = image (names_in bytes) (with_content (contents_in bytes) cap content)
 
--- that image is within its limit
+-- the image with the other content is within its limit
 abbrev pub BytesFitWith : List ℕ → Capability → Option Content → Type 0
 BytesFitWith bytes cap content = ImageFits (names_in bytes) (with_content (contents_in bytes) cap content)
 
--- that image is over its limit
+-- the image with the other content is over its limit
 abbrev pub BytesAreOverWith : List ℕ → Capability → Option Content → Type 0
 BytesAreOverWith bytes cap content = ImageIsTooLarge (names_in bytes) (with_content (contents_in bytes) cap content)
 
