@@ -6,20 +6,14 @@ use Rattle.std.specs.Str.{bytes_eq}
 use Rattle.ti_source.specs.Reading.{reading_of}
 use Rattle.ti_meaning.specs.Owner.{is_among}
 use Rattle.ti_meaning.specs.Reaching.{any_use}
-use Rattle.ti_index.specs.declared.names.NameIndex.{NameIndex}
 use Rattle.ti_index.specs.Names.{holders_at, users_at}
 use Rattle.ti_slots.specs.declared.slots.Slot.{Slot}
 use Rattle.ti_slots.specs.declared.slots.Slots.{Slots}
 use Rattle.ti_slots.specs.Slots.{blocks_of, slot_texts, slot_at, empty_reading, IsIndexed}
 use Rattle.ti_slots.specs.inside.Indexing.{IsGrown}
 use Rattle.ti_slots.specs.Changes.{KeepsRooms, ShowsSame}
-use Rattle.ti_slots.proofs.Adding.{holder_room_grown, user_room_grown}
-
-pub grown_none : (index : NameIndex) → IsGrown index index
-grown_none index = record {
-  seen = λ name. record { holders = refl; users = refl };
-  capacity = λ name. record { holders = omega arith; users = omega arith };
-}
+use Rattle.ti_slots.specs.declared.indexing.Role.TheVariants.{Holder, User}
+use Rattle.ti_slots.proofs.Adding.{room_grown}
 
 -- the list and each slot are the same, a free id has stayed, and so has what the index had
 pub record IsRoomier (old new : Slots) : Type 0 where
@@ -62,6 +56,6 @@ module _ (old new : Slots) (h : IsRoomier old new) where
   pub roomier_rooms : KeepsRooms old new
   roomier_rooms block room = record {
     id = h.free room.id;
-    holders = λ name e. holder_room_grown old.names new.names name h.names (room.holders name e);
-    users = λ name e. user_room_grown old.names new.names name h.names (room.users name e);
+    holders = λ name e. room_grown old.names new.names h.names Holder name (room.holders name e);
+    users = λ name e. room_grown old.names new.names h.names User name (room.users name e);
   }

@@ -1,9 +1,8 @@
 -- What becomes of a list of blocks as one is put in or taken out (own).
 use Rattle.std.specs.Prelude.{ℕ, ◌≡◌, ◌≢◌, ◌≤◌, ◌<◌, [], ◌∷◌, ◌++◌, List, insert, remove, length, Some, None, true}
-use Rattle.std.specs.Str.{bytes_eq}
 use Rattle.ti_source.specs.Reading.{Reading, reading_of}
 use Rattle.ti_meaning.specs.Owner.{is_among}
-use Rattle.ti_meaning.specs.Reaching.{any_use}
+use Rattle.ti_meaning.specs.Reaching.{Uses}
 use Rattle.ti_text.specs.Lists.{Has}
 use Rattle.ti_index.specs.Names.{holders_at, users_at, HasHolderRoom, HasUserRoom, IsForgotten, KeepsCapacity}
 use Rattle.ti_slots.specs.declared.slots.Slot.{Slot}
@@ -14,13 +13,13 @@ use Rattle.ti_slots.specs.Slots.{blocks_of, slot_texts, slot_at, StandsAt, IsInd
 pub record HasRoomFor (slots : Slots) (block : Reading) : Type 0 where
   pub id : 0 < length slots.order.free
   pub holders : (name : List ℕ) → is_among name block.names ≡ true → HasHolderRoom slots.names name
-  pub users : (name : List ℕ) → any_use (bytes_eq name) block.items ≡ true → HasUserRoom slots.names name
+  pub users : (name : List ℕ) → Uses block.items name → HasUserRoom slots.names name
 
--- nothing is stored for those names of a block, and for those that it uses, which no block of the
--- list has or uses
+-- nothing is kept of those names of a block, and of those that it uses, which no block of the list
+-- has or uses
 pub record HasForgotten (slots : Slots) (block : Reading) : Type 0 where
   pub names : (name : List ℕ) → is_among name block.names ≡ true → IsForgotten slots.names name
-  pub uses : (name : List ℕ) → any_use (bytes_eq name) block.items ≡ true → IsForgotten slots.names name
+  pub uses : (name : List ℕ) → Uses block.items name → IsForgotten slots.names name
 
 -- each block that had room has it
 abbrev pub KeepsRooms : Slots → Slots → Type 0

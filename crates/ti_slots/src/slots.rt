@@ -11,22 +11,22 @@ use ti_compiled::Table;
 use ti_index::{NameIndex, Order};
 use ti_source::{Code, Parsed};
 
-/// A fault of a block, other than that of a name which an earlier block owns. It does not say where
-/// the block is.
+/// A fault of a block, any but that of a name which an earlier block owns. It does not depend on
+/// the position of the block.
 #[derive(Debug, Drop)]
 pub struct KeptFault {
     /// The line in the block, counted from 1.
     pub line: usize,
     /// What is wrong.
     pub code: Code,
-    /// The name that the fault is about, if it is about one.
+    /// The name that it is about, if it is about one.
     pub detail: Option<RcSlice<u8>>,
 }
 
 /// The same detail once more, its bytes shared.
 ///
 /// # Errors
-/// `AllocError` if memory ran out.
+/// Out of memory.
 pub fn copy_detail(detail: &Option<RcSlice<u8>>) -> Result<Option<RcSlice<u8>>, AllocError>
     ensures { IfOk result (λ d. option_map rc_slice_items d ≡ option_map rc_slice_items detail.now) }
 {
@@ -88,12 +88,12 @@ pub struct Slots {
     pub order: Order,
     /// The blocks that have a name, and those that use it.
     pub names: NameIndex,
-    /// The slot of each id that is in the list.
+    /// The slot of each id of the list.
     pub slots: Vec<Option<Slot>>,
 }
 
 impl Slots {
-    /// No blocks. It takes no memory.
+    /// No blocks. Takes no memory.
     pub fn new(alloc: Global) -> Slots
         ensures listed { result.order.listed ≡ [] }
         ensures indexed { IsIndexed result }
