@@ -111,7 +111,8 @@ def check_build():
         yield from edit_faults(checkout)
         yield from refusal_faults(checkout)
         yield from jobs_faults(checkout)
-        yield from library_faults(checkout)
+    with tempfile.TemporaryDirectory(prefix="ti-package-") as directory:
+        yield from library_faults(Checkout(directory))
 
 
 def first_build_faults(checkout):
