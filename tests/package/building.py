@@ -35,6 +35,7 @@ done
 sleep 0.1
 mkdir -p "${made%/*}"
 echo "$name" >>"$PROVED"
+rm -rf "$made"
 echo "$name" >"$made"
 """,
     "rattle-link": """
