@@ -209,12 +209,12 @@ def place_of(crate):
 
 
 def built_from(digests, crate):
-    """What the file beside a program says if that program was built from what is there now."""
+    """What the file next to a program says if that program was built from what is there now."""
     return f"{digests[crate.name]} {digest(read(place_of(crate)))}"
 
 
 def mark_built(digests, crate):
-    """Says beside a program that it was built from what is there now."""
+    """Says next to a program that it was built from what is there now."""
     with open(f"{place_of(crate)}.sum", "w", encoding="utf-8") as file:
         file.write(built_from(digests, crate))
 

@@ -12,7 +12,7 @@ from shared import TOP, need
 from crates import all_below, read_crates  # of build/, which shared has put on the path
 
 
-# What stands for the toolchain where only the order of a build is tried: its prover wants what a crate stands on to be there,
+# What takes the place of the toolchain if only the order of a build is tried: its prover needs what a crate depends on,
 # notes in the file PROVED what it proves, refuses the crate REFUSED and edits `ti_text` while it proves the crate EDITS; its
 # linker makes a program that prints `built`.
 STAND_IN = {
@@ -50,7 +50,7 @@ chmod +x "$made"
 
 
 def make_stand_in(folder):
-    """Puts the stand-in for the toolchain into a folder, and gives the folder of its commands."""
+    """Puts the stand-in for the toolchain into a directory, and gives the directory of its commands."""
     kit = os.path.join(folder, "kit")
     os.makedirs(os.path.join(kit, "bin"))
     for library in ("std", "arrayvec", "byteorder", "clap", "indexmap", "itoa", "memchr", "thiserror"):

@@ -5,13 +5,13 @@ use std::io::{self, ErrorKind, Write};
 use std::rt::{Clock, Files};
 use std::time::Duration;
 
-/// After how many seconds a new file counts as left over from a run that was killed: a run that still
-/// lives takes far less for the largest entry.
+// After how many seconds a new file counts as left over from a run that was killed: a run that
+// still lives takes far less for the largest entry.
 const LEFT_OVER_AFTER: u64 = 3600;
 
-/// Puts a file of these bytes at the path, in place of what is there, and makes the directories on its
-/// path that are missing. A regular file that is replaced keeps its permissions, if the file system
-/// has any. After a failure nothing new is left.
+/// Puts a file of these bytes at the path, in place of what is there, and makes the directories on
+/// its path that are missing. A regular file that is replaced keeps its permissions, if the file
+/// system has any. After a failure no new file is left.
 ///
 /// # Errors
 /// What the system answers; `OutOfMemory` if a growth of memory was refused.
@@ -70,7 +70,7 @@ fn create_beside<R: Files + Clock + AllocGlobal>(
     Err(io::Error::from(ErrorKind::AlreadyExists))
 }
 
-// A new file of this name; `None` if another run has one. One that was left over gives way.
+// A new file of this name; `None` if another run has one. One that was left over is removed.
 fn create<R: Files + Clock>(rt: &R, path: &str) -> io::Result<Option<R::File>> {
     match create_new(rt, path)? {
         Some(file) => Ok(Some(file)),

@@ -14,7 +14,7 @@ use Rattle.ti_meaning.proofs.EditedLists.{map-insert, map-remove, insert-remove,
 use Rattle.ti_meaning.proofs.Exchanging.{list_any-append}
 use Rattle.ti_meaning.proofs.ExchangeLaws.{exchanged}
 use Rattle.ti_meaning.proofs.Placing.{get-insert, get-insert_at, split-insert}
-use Rattle.ti_index.specs.Labels.{AreDistinct}
+use Rattle.ti_text.specs.Lists.{AreDistinct}
 use Rattle.ti_slots.specs.declared.slots.Settled.{Settled}
 use Rattle.ti_slots.specs.declared.slots.Slot.{Slot}
 use Rattle.ti_slots.specs.declared.slots.Slots.{Slots}

@@ -1,4 +1,4 @@
-// The faults of a source: those kept with each block, and between them those of its names.
+//! The faults of a source: those kept with each block, and between them those of its names.
 ghost use Rattle.std.specs.Prelude.{◌≡◌, ◌<◌, ◌++◌, ◌∷◌, [], List, ℕ, filter, map, length, slice_get, Some, true, not, ◌||◌, ◌&&◌, IfOk, OnOk};
 ghost use Rattle.std.specs.Str.{bytes_eq};
 ghost use Rattle.std.specs.Rc.{rc_slice_items};
@@ -17,7 +17,7 @@ use ti_meaning::Fault;
 use ti_slots::{KeptFault, Slots, copy_detail};
 use ti_source::{Code, Local};
 
-/// How many of the faults that reading gave are of the header.
+// How many of the faults that reading gave are of the header.
 fn count_of_header(locals: &[Local]) -> usize
     ensures { result ≡ length (filter (is_kept true) (map fault_of locals.now)) }
 {
@@ -30,7 +30,7 @@ fn count_of_header(locals: &[Local]) -> usize
     count
 }
 
-/// Adds faults that are kept with the block at a position.
+// Adds faults that are kept with the block at a position.
 fn add_kept(at: usize, kept: &[KeptFault], faults: &mut Vec<Fault>) -> Result<(), AllocError>
     ensures { OnOk result (map fault_seen faults.new.items ≡ map fault_seen faults.old.items ++ map (fault_at at) kept.now) }
 {
@@ -45,7 +45,7 @@ fn add_kept(at: usize, kept: &[KeptFault], faults: &mut Vec<Fault>) -> Result<()
     Ok(())
 }
 
-/// Puts a name among those whose fault was added.
+// Puts a name among those whose fault was added.
 fn add_named<'a>(named: &mut BTreeSet<&'a [u8]>, name: &'a [u8]) -> Result<(), AllocError>
     ensures { OnOk result ((other : List ℕ) → is_named named.new other ≡ (bytes_eq other name.now || is_named named.old other)) }
 {
@@ -53,7 +53,7 @@ fn add_named<'a>(named: &mut BTreeSet<&'a [u8]>, name: &'a [u8]) -> Result<(), A
     Ok(())
 }
 
-/// Whether the name belongs to a block before that position and has no fault yet.
+// Whether the name belongs to a block before that position and has no fault yet.
 fn is_new_duplicate<'a>(
     slots: &Slots,
     at: usize,
@@ -66,7 +66,7 @@ fn is_new_duplicate<'a>(
     is_owned_before(slots, at, name) && !named.contains(&name)
 }
 
-/// Adds the fault of a name that an earlier block owns.
+// Adds the fault of a name that an earlier block owns.
 fn add_name_fault(at: usize, name: &RcSlice<u8>, faults: &mut Vec<Fault>) -> Result<(), AllocError>
     ensures { OnOk result (map fault_seen faults.new.items
         ≡ map fault_seen faults.old.items ++ name_fault at (rc_slice_items name.now) ∷ []) }
@@ -80,7 +80,7 @@ fn add_name_fault(at: usize, name: &RcSlice<u8>, faults: &mut Vec<Fault>) -> Res
     Ok(())
 }
 
-/// Adds a fault for each lookup name of a block that an earlier block owns.
+// Adds a fault for each lookup name of a block that an earlier block owns.
 fn add_name_faults(
     alloc: Global,
     slots: &Slots,
@@ -102,7 +102,7 @@ fn add_name_faults(
     Ok(())
 }
 
-/// Adds the faults of the block at a position.
+// Adds the faults of the block at a position.
 fn add_block_faults(
     alloc: Global,
     slots: &Slots,

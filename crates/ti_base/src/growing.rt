@@ -1,5 +1,5 @@
-// A list that edits make with nothing found out about its blocks in between: all edits change the list,
-// and then what there is to find out about the last list is found once.
+//! A list that edits make with nothing found out about its blocks in between: all edits change the list,
+//! and then what there is to find out about the last list is found once.
 ghost use Rattle.std.specs.Prelude.{◌≡◌, ◌+◌, ◌<◌, ◌≤◌, [], Some, IfOk, OnErr, OnOk, insert, length, map, remove, slice_get, slice_set, vec_capacity};
 ghost use Rattle.ti_text.specs.Limits.{blocks_max};
 ghost use Rattle.ti_source.specs.Reading.{reading_of};
@@ -18,7 +18,7 @@ use ti_meaning::{Edit, EditError, Outcome};
 use ti_slots::{Slot, Slots};
 use ti_source::{Parsed, SharedTexts};
 
-/// The slot of a text, with room for its block. The list stays as it is.
+// The slot of a text, with room for its block. The list stays as it is.
 fn read_with_room(
     alloc: Global,
     slots: &mut Slots,
@@ -38,7 +38,7 @@ fn read_with_room(
     Ok(slot)
 }
 
-/// Puts a slot in that there is room for. It takes no memory.
+// Puts a slot in that there is room for. It takes no memory.
 fn put_read(slots: &mut Slots, at: usize, slot: Slot)
     requires read { AreRead slots.old }
     requires within { at ≤ length slots.old.order.listed }
@@ -51,7 +51,7 @@ fn put_read(slots: &mut Slots, at: usize, slot: Slot)
     put_slot(slots, at, slot);
 }
 
-/// Takes a slot out, for which there is room from then on. It takes no memory.
+// Takes a slot out, for which there is room from then on. It takes no memory.
 fn take_read(slots: &mut Slots, at: usize) -> Slot
     requires read { AreRead slots.old }
     requires within { at < length slots.old.order.listed }
@@ -66,7 +66,7 @@ fn take_read(slots: &mut Slots, at: usize) -> Slot
     take_slot(slots, at)
 }
 
-/// Lets go of what the index keeps of names of a block that nobody has or uses any more.
+// Lets go of what the index keeps of names of a block that nobody has or uses any more.
 fn forget_read(slots: &mut Slots, block: &Parsed)
     requires { AreRead slots.old }
     ensures forgotten { HasForgotten slots.new (reading_of block.now) }
@@ -76,7 +76,7 @@ fn forget_read(slots: &mut Slots, block: &Parsed)
     slots.forget_unused(block);
 }
 
-/// Exchanges a block for one that there is room for. It takes no memory.
+// Exchanges a block for one that there is room for. It takes no memory.
 fn replace_read(slots: &mut Slots, at: usize, slot: Slot)
     requires read { AreRead slots.old }
     requires within { at < length slots.old.order.listed }
@@ -90,7 +90,7 @@ fn replace_read(slots: &mut Slots, at: usize, slot: Slot)
     forget_read(slots, &old.block);
 }
 
-/// Takes a block out. It takes no memory.
+// Takes a block out. It takes no memory.
 fn remove_read(slots: &mut Slots, at: usize)
     requires read { AreRead slots.old }
     requires within { at < length slots.old.order.listed }
@@ -101,7 +101,7 @@ fn remove_read(slots: &mut Slots, at: usize)
     forget_read(slots, &old.block);
 }
 
-/// Moves a block. It takes no memory.
+// Moves a block. It takes no memory.
 fn move_read(slots: &mut Slots, from: usize, to: usize)
     requires read { AreRead slots.old }
     requires from { from < length slots.old.order.listed }
@@ -113,7 +113,7 @@ fn move_read(slots: &mut Slots, from: usize, to: usize)
     put_read(slots, to, slot);
 }
 
-/// Changes the list as an edit says that nothing is wrong with. At an error it is as before.
+// Changes the list as an edit says that nothing is wrong with. At an error it is as before.
 fn change_sound(
     alloc: Global,
     slots: &mut Slots,
@@ -141,7 +141,7 @@ fn change_sound(
     Ok(())
 }
 
-/// Changes the list as an edit says, or refuses the edit; then the list is as before.
+// Changes the list as an edit says, or refuses the edit; then the list is as before.
 fn change(alloc: Global, slots: &mut Slots, shared: &mut SharedTexts, edit: &Edit<'_>) -> Outcome
     requires { AreRead slots.old }
     ensures read { AreRead slots.new }
@@ -156,7 +156,8 @@ fn change(alloc: Global, slots: &mut Slots, shared: &mut SharedTexts, edit: &Edi
     }
 }
 
-/// Makes all edits in order, with nothing found out in between. An error says that no edit was made.
+// Makes all edits in order, with nothing found out in between. An error says that no edit was
+// made.
 fn change_all(
     alloc: Global,
     slots: &mut Slots,
@@ -178,8 +179,8 @@ fn change_all(
     Ok(())
 }
 
-/// The slots that the edits make of no blocks, settled once after the last of them. An edit that memory
-/// was refused for is refused so; an error says that memory was refused for the whole.
+/// The slots that the edits make of no blocks, settled once after the last of them. An edit that
+/// memory was refused for is refused so; an error says that memory was refused for the whole.
 pub(crate) fn run_at_once(
     alloc: Global,
     edits: &[Edit<'_>],

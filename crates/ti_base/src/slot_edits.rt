@@ -1,5 +1,5 @@
-// Edits of a list of slots: the slots exchanged, what depends on that rebuilt, and all taken back
-// where memory is short.
+//! Edits of a list of slots: the slots exchanged, what depends on that rebuilt, and all taken back
+//! where memory is short.
 ghost use Rattle.std.specs.Prelude.{◌≡◌, ◌<◌, ◌≤◌, ◌+◌, Some, None, length, insert, remove, slice_set, slice_get, IfOk, OnOk, OnErr};
 ghost use Rattle.ti_text.specs.Limits.{blocks_max};
 ghost use Rattle.ti_source.specs.Reading.{reading_of};
@@ -18,7 +18,8 @@ use ti_meaning::{Edit, Edited};
 use ti_slots::{Slot, Slots, changes_are_undone};
 use ti_source::Parsed;
 
-/// Makes room for a block. All stays as it is; at an error the index lets go of the names that nobody has or uses.
+/// Makes room for a block. All stays as it is; at an error the index lets go of the names that
+/// nobody has or uses.
 pub(crate) fn reserve(slots: &mut Slots, block: &Parsed) -> Result<(), AllocError>
     requires indexed { IsIndexed slots.old }
     requires few { length slots.old.order.listed ≤ blocks_max }
@@ -36,7 +37,7 @@ pub(crate) fn reserve(slots: &mut Slots, block: &Parsed) -> Result<(), AllocErro
     }
 }
 
-/// The slot of a text, with room for its block. All stays as it is.
+// The slot of a text, with room for its block. All stays as it is.
 fn read_with_room(alloc: Global, slots: &mut Slots, text: &[u8]) -> Result<Slot, AllocError>
     requires text { IsBlockText text.now }
     requires kept { AreKept slots.old }
@@ -51,7 +52,8 @@ fn read_with_room(alloc: Global, slots: &mut Slots, text: &[u8]) -> Result<Slot,
     Ok(slot)
 }
 
-/// Lets go of a slot that is not in the list, and of what the index keeps of names of its block that nobody has or uses any more.
+// Lets go of a slot that is not in the list, and of what the index keeps of names of its block
+// that nobody has or uses any more.
 fn discard(slots: &mut Slots, slot: Slot)
     requires { AreKept slots.old }
     ensures forgotten { HasForgotten slots.new (reading_of slot.block) }
@@ -75,8 +77,8 @@ pub(crate) fn put_slot(slots: &mut Slots, at: usize, slot: Slot) -> u32
     slots.put_in(at, slot)
 }
 
-/// The same in place of a slot that was taken out, the two having what was found out about each other's
-/// blocks: the entry that stood here is there to be patched until the new block is rebuilt.
+// The same in place of a slot that was taken out, the two having what was found out about each
+// other's blocks: the entry that stood here is there to be patched until the new block is rebuilt.
 fn put_slot_over(slots: &mut Slots, at: usize, mut slot: Slot, old: &mut Slot) -> u32
     requires indexed { IsIndexed slots.old }
     requires within { at ≤ length slots.old.order.listed }
@@ -104,7 +106,7 @@ pub(crate) fn take_slot(slots: &mut Slots, at: usize) -> Slot
     slots.take_out(at)
 }
 
-/// Puts a block in that there is room for. At an error the list is as before.
+// Puts a block in that there is room for. At an error the list is as before.
 fn insert_slot(
     alloc: Global,
     slots: &mut Slots,
@@ -132,7 +134,7 @@ fn insert_slot(
     }
 }
 
-/// Exchanges a block for one that there is room for. At an error the list is as before.
+// Exchanges a block for one that there is room for. At an error the list is as before.
 fn replace_slot(
     alloc: Global,
     slots: &mut Slots,
@@ -165,7 +167,7 @@ fn replace_slot(
     }
 }
 
-/// Takes a block out. At an error the list is as before.
+// Takes a block out. At an error the list is as before.
 fn remove_slot(alloc: Global, slots: &mut Slots, at: usize) -> Result<Edited, AllocError>
     requires kept { AreKept slots.old }
     requires within { at < length slots.old.order.listed }
@@ -187,7 +189,7 @@ fn remove_slot(alloc: Global, slots: &mut Slots, at: usize) -> Result<Edited, Al
     }
 }
 
-/// Moves a block. At an error the list is as before.
+// Moves a block. At an error the list is as before.
 fn move_slot(alloc: Global, slots: &mut Slots, from: usize, to: usize) -> Result<Edited, AllocError>
     requires kept { AreKept slots.old }
     requires from { from < length slots.old.order.listed }

@@ -4,9 +4,8 @@ use Rattle.std.specs.List.{list_any}
 use Rattle.std.proofs.lemmas.Bool.{cases_Bool}
 use Rattle.std.proofs.lemmas.List.{take_more}
 use Rattle.std.proofs.lemmas.Option.{slice_get-get_or}
-use Rattle.ti_index.specs.Labels.{AreDistinct}
-use Rattle.ti_index.proofs.Lists.{take_get}
-use Rattle.ti_dependents.proofs.Lists.{Has_from_any}
+use Rattle.ti_text.specs.Lists.{AreDistinct}
+use Rattle.ti_text.proofs.Lists.{take_get, Has_from_any}
 
 -- an id does not stand before its place
 not_before : (ids : List ℕ) (at id : ℕ) → AreDistinct ids → slice_get ids at ≡ Some id → list_any (nat_eq id) (take at ids) ≡ false

@@ -15,9 +15,8 @@ use Rattle.ti_meaning.proofs.Exchanging.{list_any-append}
 use Rattle.ti_meaning.proofs.ExchangeLaws.{found_dependents}
 use Rattle.ti_meaning.proofs.LawProofs.{first_owners}
 use Rattle.ti_meaning.proofs.Placing.{get-with_put}
-use Rattle.ti_text.specs.Lists.{Has}
-use Rattle.ti_index.specs.Labels.{AreDistinct}
-use Rattle.ti_index.proofs.Lists.{item_at}
+use Rattle.ti_text.specs.Lists.{Has, AreDistinct}
+use Rattle.ti_text.proofs.Lists.{item_at}
 use Rattle.ti_slots.specs.declared.slots.Slots.{Slots}
 use Rattle.ti_slots.specs.Slots.{blocks_of, reading_at, StandsAt, IsIndexed}
 use Rattle.ti_slots.proofs.Owners.{uses_user}

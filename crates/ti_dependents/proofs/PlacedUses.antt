@@ -6,8 +6,8 @@ use Rattle.ti_meaning.specs.Owner.{owner}
 use Rattle.ti_meaning.specs.Reaching.{used_name, Uses}
 use Rattle.ti_meaning.specs.UseLaws.{UsesBlock, IsGraphOf, HasOptionalEdge}
 use Rattle.ti_components.specs.Graph.{Rows, HasEdge as LeadsTo}
-use Rattle.ti_index.specs.Labels.{AreDistinct}
-use Rattle.ti_index.proofs.Lists.{item_at}
+use Rattle.ti_text.specs.Lists.{AreDistinct}
+use Rattle.ti_text.proofs.Lists.{item_at}
 use Rattle.ti_slots.specs.declared.slots.Slots.{Slots}
 use Rattle.ti_slots.specs.Slots.{blocks_of, reading_at, StandsAt, IsOwnerId}
 use Rattle.ti_dependents.specs.Dependents.{AreDependentIds, IsGraphOfUses, IsEdgeRowOf}

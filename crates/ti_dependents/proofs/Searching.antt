@@ -11,7 +11,7 @@ use Rattle.ti_slots.specs.Slots.{slot_at, reading_at, StandsAt, IsIndexed}
 use Rattle.ti_slots.proofs.Owners.{user_uses}
 use Rattle.ti_dependents.specs.inside.Search.{AddsPassing, IsUserOf, IsUserOfOne, IsUserOfOwned, IsPutOrUser, IsPutOrUserIn, Depends, IsSearch}
 use Rattle.ti_dependents.proofs.Adding.{adds_none}
-use Rattle.ti_dependents.proofs.Lists.{Has_front, Has_split, Has_none, Has_from_any}
+use Rattle.ti_text.proofs.Lists.{Has_front, Has_split, Has_none, Has_from_any}
 use Rattle.ti_dependents.proofs.Dependence.{put_depends, out_depends, names_depend, owned_depends}
 
 user_stands : (s : Slots) (name : List ℕ) (id : ℕ) → IsIndexed s → IsUserOf s name id → Has s.order.listed id

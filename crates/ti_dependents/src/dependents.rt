@@ -1,4 +1,4 @@
-// The blocks that depend on an edit.
+//! The blocks that depend on an edit.
 ghost use Rattle.std.specs.Prelude.{◌≡◌, ℕ, Some, map, slice_get, IfOk};
 ghost use Rattle.std.specs.Rc.{rc_slice_items};
 ghost use Rattle.ti_text.specs.Lists.{Has};
@@ -21,17 +21,17 @@ use ti_slots::Slots;
 pub struct Dependents {
     /// The ids of the blocks.
     pub ids: Vec<u32>,
-    /// Where each of them stands in the list.
+    /// Where each of them is in the list.
     pub places: Vec<usize>,
     /// A node for each of them, by its place in `ids`. Its row has an edge for each item: to the
-    /// node of the owner of the name that the item uses, where that is one of them, else nowhere.
+    /// node of the owner of the name that the item uses, if that is one of them, else nowhere.
     pub uses: Graph,
 }
 
 /// The blocks that depend on an edit of a list: the block put in, which has the id `put`, and each
 /// that reaches a name of it or one of the names `out` of the block taken out. The list is the new
 /// one. The time is linear, up to a logarithm, in what the blocks found say and in how many use
-/// their names. It fails where memory is short, and changes nothing.
+/// their names. It fails if memory is short, and changes nothing.
 pub fn find_dependents(
     alloc: Global,
     slots: &Slots,
@@ -49,7 +49,7 @@ pub fn find_dependents(
     blocks_found(alloc, slots, &found)
 }
 
-/// Blocks that a search found, where each of them stands, and which of them use each other.
+// Blocks that a search found, their positions, and which of them use each other.
 fn blocks_found(
     alloc: Global,
     slots: &Slots,
@@ -67,9 +67,9 @@ fn blocks_found(
     Ok(Dependents { ids, places, uses })
 }
 
-/// All blocks of a list, in its order, and which of them use each other: what depends on a list that
-/// is made in one go. The time is linear, up to a logarithm, in what the blocks say. It fails where
-/// memory is short, and changes nothing.
+/// All blocks of a list, in its order, and which of them use each other: what depends on a list
+/// that is made in one go. The time is linear, up to a logarithm, in what the blocks say. It fails
+/// if memory is short, and changes nothing.
 pub fn find_all(alloc: Global, slots: &Slots) -> Result<Dependents, AllocError>
     requires indexed { IsIndexed slots.now }
     ensures all { IfOk result (λ d. AreAllIds slots.now d.ids.items d.places.items) }
@@ -80,7 +80,7 @@ pub fn find_all(alloc: Global, slots: &Slots) -> Result<Dependents, AllocError>
     blocks_listed(alloc, slots, &listed)
 }
 
-/// All blocks of a list, in its order, where each of them stands, and which of them use each other.
+// All blocks of a list, in its order, their positions, and which of them use each other.
 fn blocks_listed(
     alloc: Global,
     slots: &Slots,

@@ -1,6 +1,6 @@
-// All blocks of a list, in its order.
+//! All blocks of a list, in its order.
 ghost use Rattle.std.specs.Prelude.{◌≡◌, ◌<◌, ℕ, Some, length, slice_get, IfOk};
-ghost use Rattle.ti_index.specs.Labels.{AreDistinct};
+ghost use Rattle.ti_text.specs.Lists.{AreDistinct};
 
 use indexmap::IndexSet;
 use std::alloc::{AllocError, Global};

@@ -5,7 +5,7 @@ use Rattle.std.proofs.lemmas.List.{length-set}
 use Rattle.std.proofs.lemmas.Option.{same_Some, none-some, slice_get_within, get_or_from_slice_get, slice_get-get_or}
 use Rattle.ti_source.specs.Reading.{Reading}
 use Rattle.ti_components.specs.Components.{AreComponents, IsClosingOrder}
-use Rattle.ti_components.proofs.Lists.{item_at, get-set_same, get-set_other}
+use Rattle.ti_text.proofs.Lists.{item_at, get-set_same, get-set_other}
 use Rattle.ti_slots.specs.declared.slots.Slots.{Slots}
 use Rattle.ti_slots.specs.declared.slots.Settled.{Settled}
 use Rattle.ti_slots.specs.Slots.{blocks_of}

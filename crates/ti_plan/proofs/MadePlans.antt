@@ -7,11 +7,11 @@ use Rattle.std.proofs.lemmas.Option.{same_Some, slice_get_within, slice_get-map,
 use Rattle.ti_source.specs.Sound.{IsRising}
 use Rattle.ti_meaning.specs.Dependents.{work, work_of}
 use Rattle.ti_components.specs.Components.{IsClosingOrder}
-use Rattle.ti_components.proofs.Lists.{item_at}
+use Rattle.ti_text.proofs.Lists.{item_at}
 use Rattle.ti_slots.specs.declared.slots.Slots.{Slots}
 use Rattle.ti_slots.specs.declared.slots.Settled.{Settled}
 use Rattle.ti_slots.specs.Slots.{blocks_of, IsIndexed}
-use Rattle.ti_index.specs.Labels.{AreDistinct}
+use Rattle.ti_text.specs.Lists.{AreDistinct}
 use Rattle.ti_components.specs.Graph.{IsGraph}
 use Rattle.ti_meaning.specs.Usable.{IsUsable}
 use Rattle.ti_dependents.specs.Dependents.{AreDependentIds, IsGraphOfUses}

@@ -7,7 +7,7 @@ use Rattle.ti_source.specs.Reading.{Reading}
 use Rattle.ti_meaning.specs.Expansion.{resolves}
 use Rattle.ti_meaning.specs.Dependents.{work, work_of}
 use Rattle.ti_components.specs.Graph.{Rows}
-use Rattle.ti_components.proofs.Lists.{item_at}
+use Rattle.ti_text.proofs.Lists.{item_at}
 use Rattle.ti_slots.specs.declared.slots.Slots.{Slots}
 use Rattle.ti_slots.specs.Slots.{blocks_of}
 use Rattle.ti_dependents.specs.declared.dependents.Dependents.{Dependents}

@@ -1,4 +1,4 @@
-// What becomes of the owners of used names, and what is wrong with a use.
+//! What becomes of the owners of used names, and what is wrong with a use.
 ghost use Rattle.std.specs.Prelude.{ℕ, ◌≡◌, Some, None, IfOk, IfErr};
 ghost use Rattle.ti_layout.specs.Values.{contents};
 ghost use Rattle.ti_meaning.specs.Faults.{use_fault};
@@ -19,8 +19,8 @@ pub(crate) struct Known<'a> {
     pub(crate) settled: &'a [Option<Settled>],
 }
 
-/// What became of the owner of a name, which an item of the block at a node uses; or what is wrong
-/// with the use, where the name has no owner or leads back to the block.
+// What became of the owner of a name, which an item of the block at a node uses; or what is wrong
+// with the use, if the name has no owner or leads back to the block.
 fn owner_state<'a>(
     known: &Known<'a>,
     node: usize,

@@ -1,4 +1,4 @@
-// The plan of an edit, made: the blocks found settled along the closing order of their uses.
+//! The plan of an edit, made: the blocks found settled along the closing order of their uses.
 ghost use Rattle.std.specs.Prelude.{ℕ, ◌≡◌, ◌+◌, ◌<◌, ◌^◌, length, map, Some, None, slice_get, sum_by, All, AllPairs, IfOk, OnOk};
 ghost use Rattle.std.specs.List.Sorted.{IsPermutation};
 ghost use Rattle.ti_source.specs.Sound.{IsRising};
@@ -19,7 +19,7 @@ use ti_components::Components;
 use ti_dependents::{Dependents, find_all, find_dependents};
 use ti_slots::{Settled, Slots};
 
-/// Nothing found out yet about so many blocks.
+// Nothing found out yet about so many blocks.
 fn unsettled_nodes(alloc: Global, count: usize) -> Result<Vec<Option<Settled>>, AllocError>
     ensures len { IfOk result (λ all. length all.items ≡ count) }
     ensures none { IfOk result (λ all. All (λ one. one ≡ None) all.items) }
@@ -31,7 +31,7 @@ fn unsettled_nodes(alloc: Global, count: usize) -> Result<Vec<Option<Settled>>, 
     Ok(all)
 }
 
-/// What is found out about each of the blocks, each after those of other components that it uses.
+// What is found out about each of the blocks, each after those of other components that it uses.
 fn settle_all(
     alloc: Global,
     slots: &Slots,
@@ -60,7 +60,7 @@ fn settle_all(
     Ok(settled)
 }
 
-/// The same, of blocks that are all settled.
+// The same, of blocks that are all settled.
 fn take_settled(alloc: Global, settled: Vec<Option<Settled>>) -> Result<Vec<Settled>, AllocError>
     requires { (node : ℕ) → node < length settled.items → (one : Settled) × (slice_get settled.items node ≡ Some (Some one)) }
     ensures { IfOk result (λ all. map (λ one. Some one) all.items ≡ settled.items) }
@@ -73,7 +73,7 @@ fn take_settled(alloc: Global, settled: Vec<Option<Settled>>) -> Result<Vec<Sett
     Ok(all)
 }
 
-/// The positions of the nodes' blocks.
+// The positions of the nodes' blocks.
 fn places_of(
     alloc: Global,
     dependents: &Dependents,
@@ -89,7 +89,7 @@ fn places_of(
     Ok(places)
 }
 
-/// The positions of the nodes' blocks in ascending order.
+// The positions of the nodes' blocks in ascending order.
 fn sorted_places(
     alloc: Global,
     dependents: &Dependents,
@@ -105,7 +105,7 @@ fn sorted_places(
     Ok(places)
 }
 
-/// The plan that rebuilds these blocks.
+// The plan that rebuilds these blocks.
 fn make_plan(alloc: Global, slots: &Slots, dependents: Dependents) -> Result<Plan, AllocError>
     requires { AreFoundIn slots.now dependents }
     ensures { IfOk result (λ plan. IsPlanOf slots.now dependents plan) }
@@ -131,10 +131,10 @@ fn make_plan(alloc: Global, slots: &Slots, dependents: Dependents) -> Result<Pla
 }
 
 /// The plan of an edit of a list: of the block put in, which has the id `put`, and each block that
-/// reaches a name of it or one of the names `out` of the block taken out, what is found out about it
-/// in the new list. The list is the new one; what its slots hold of all other blocks is right. The
-/// time is linear, up to a logarithm, in what the blocks found say, in how many use their names and
-/// in the values that they have. It fails where memory is short, and changes nothing.
+/// reaches a name of it or one of the names `out` of the block taken out, what is found out about
+/// it in the new list. The list is the new one; what its slots hold of all other blocks is right.
+/// The time is linear, up to a logarithm, in what the blocks found say, in how many use their names
+/// and in the values that they have. It fails if memory is short, and changes nothing.
 pub fn plan(
     alloc: Global,
     slots: &Slots,
@@ -154,9 +154,9 @@ pub fn plan(
 }
 
 /// The plan of a list that is made in one go: what is found out about each of its blocks. Nothing
-/// that the slots hold of a block is asked to be right; an entry that they hold is patched, as in the
+/// that the slots hold of a block has to be right; an entry that they hold is patched, as in the
 /// plan of an edit. The time is linear, up to a logarithm, in what the blocks say and in the values
-/// that they have. It fails where memory is short, and changes nothing.
+/// that they have. It fails if memory is short, and changes nothing.
 pub fn plan_all(alloc: Global, slots: &Slots) -> Result<Plan, AllocError>
     requires indexed { IsIndexed slots.now }
     requires usable { All IsUsable (blocks_of slots.now) }

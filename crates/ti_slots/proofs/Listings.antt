@@ -2,8 +2,7 @@
 use Rattle.std.proofs.Common.{◌≡◌, ◌≢◌, ◌<◌, ◌≤◌, ℕ, suc, zero, inl, inr, List, [], ◌∷◌, map, length, set, Bool, true, false, not, nat_eq, ◌&&◌, ◌||◌, Some, slice_get, filter, insert, remove, refl, sym, ◌∙◌, ap, arith, eq-eqb}
 use Rattle.std.proofs.lemmas.Bool.{cases_Bool, cases_eq, eqb-true, false≢true}
 use Rattle.std.proofs.lemmas.Option.{same_Some, none-some}
-use Rattle.ti_text.specs.Lists.{Has}
-use Rattle.ti_index.specs.Labels.{AreDistinct}
+use Rattle.ti_text.specs.Lists.{Has, AreDistinct}
 use Rattle.ti_index.proofs.LawProofs.{agreeing_lists, staying_lists}
 use Rattle.ti_index.proofs.Keeping.{insert_cases, remove_cases}
 

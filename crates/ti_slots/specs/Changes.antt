@@ -16,7 +16,8 @@ pub record HasRoomFor (slots : Slots) (block : Reading) : Type 0 where
   pub holders : (name : List ℕ) → is_among name block.names ≡ true → HasHolderRoom slots.names name
   pub users : (name : List ℕ) → any_use (bytes_eq name) block.items ≡ true → HasUserRoom slots.names name
 
--- nothing is kept of those names of a block, and of those that it uses, which no block of the list has or uses
+-- nothing is stored for those names of a block, and for those that it uses, which no block of the
+-- list has or uses
 pub record HasForgotten (slots : Slots) (block : Reading) : Type 0 where
   pub names : (name : List ℕ) → is_among name block.names ≡ true → IsForgotten slots.names name
   pub uses : (name : List ℕ) → any_use (bytes_eq name) block.items ≡ true → IsForgotten slots.names name
@@ -29,7 +30,7 @@ KeepsRooms old new = (block : Reading) → HasRoomFor old block → HasRoomFor n
 abbrev pub KeepsCapacities : Slots → Slots → Type 0
 KeepsCapacities old new = (name : List ℕ) → KeepsCapacity old.names new.names name
 
--- both show the same blocks
+-- both lists have the same blocks
 pub record ShowsSame (old new : Slots) : Type 0 where
   pub listed : new.order.listed ≡ old.order.listed
   pub slots : (id : ℕ) → slot_at new.slots.items id ≡ slot_at old.slots.items id
@@ -50,7 +51,8 @@ pub record PutsIn (old new : Slots) (at : ℕ) (slot : Slot) (id : ℕ) : Type 0
   pub blocks : blocks_of new ≡ insert (blocks_of old) at (reading_of slot.block)
   pub texts : slot_texts new ≡ insert (slot_texts old) at slot.text.items
 
--- the block at that position has left the list, with its slot; its id is the one freed last. There is room for it
+-- the block at that position has left the list, with its slot; its id is the one freed last. There
+-- is room for it
 pub record TakesOut (old new : Slots) (at : ℕ) (slot : Slot) : Type 0 where
   pub id : ℕ
   pub indexed : IsIndexed new

@@ -1,4 +1,4 @@
-// Blocks come to the list and leave it. Room is made first, and then no change takes memory.
+//! Blocks come to the list and leave it. Room is made first, and then no change takes memory.
 ghost use Rattle.std.specs.Prelude.{◌≡◌, ◌<◌, ◌≤◌, ◌+◌, ◌^◌, ℕ, length, OnOk};
 ghost use Rattle.ti_source.specs.Reading.{reading_of};
 ghost use Rattle.ti_slots.specs.Changes.{HasForgotten, HasRoomFor, KeepsCapacities, KeepsRooms, PutsIn, ShowsSame, TakesOut};
@@ -13,7 +13,7 @@ use std::alloc::AllocError;
 use ti_index::Order;
 use ti_source::Parsed;
 
-/// Sees to a free id, and to a place among the slots for each id.
+// Sees to a free id, and to a place among the slots for each id.
 fn make_place(order: &mut Order, slots: &mut Vec<Option<Slot>>) -> Result<(), AllocError>
     requires few { length order.old.listed < 2 ^ 31 }
     requires places { length order.old.listed + length order.old.free ≤ length slots.old.items }
@@ -31,7 +31,7 @@ fn make_place(order: &mut Order, slots: &mut Vec<Option<Slot>>) -> Result<(), Al
 
 impl Slots {
     /// Makes room for one more block that says this, so that it can be put in without memory. No
-    /// look-up shows a difference, also where memory is short, and room made before stays.
+    /// look-up shows a difference, even if memory is short, and room made before remains.
     pub fn make_room(&mut self, block: &Parsed) -> Result<(), AllocError>
         requires indexed { IsIndexed self.old }
         requires few { length self.old.order.listed < 2 ^ 31 }
@@ -46,8 +46,8 @@ impl Slots {
         reserve_uses(&mut self.names, &block.items)
     }
 
-    /// Puts a block in at a position of the list, under the id that was freed last, and gives the id.
-    /// It takes no memory.
+    /// Puts a block in at a position of the list, under the id that was freed last, and gives the
+    /// id. It takes no memory.
     pub fn put_in(&mut self, at: usize, slot: Slot) -> u32
         requires within { at ≤ length self.old.order.listed }
         requires indexed { IsIndexed self.old }
@@ -61,8 +61,8 @@ impl Slots {
         id
     }
 
-    /// Takes the block at a position out of the list, and gives its slot. Its id is free from then on.
-    /// It takes no memory, and the room that the block had stays.
+    /// Takes the block at a position out of the list, and gives its slot. Its id is free from then
+    /// on. It takes no memory, and the room that the block had remains.
     pub fn take_out(&mut self, at: usize) -> Slot
         requires within { at < length self.old.order.listed }
         requires indexed { IsIndexed self.old }
@@ -76,8 +76,8 @@ impl Slots {
         slot
     }
 
-    /// Lets go of what the index keeps of the names of a block that no block has or uses any more. No
-    /// look-up shows a difference; room made before may go.
+    /// Removes what the index stores for the names of a block that no block has or uses any more.
+    /// No look-up shows a difference; room made before may be given up.
     pub fn forget_unused(&mut self, block: &Parsed)
         requires { IsIndexed self.old }
         ensures forgotten { HasForgotten self.new (reading_of block.now) }

@@ -1,4 +1,4 @@
-// The index of names as a block comes or goes.
+//! The index of names as a block comes or goes.
 ghost use Rattle.std.specs.Prelude.{◌≡◌, ℕ, List, OnOk, true};
 ghost use Rattle.ti_text.specs.Lists.{Has};
 ghost use Rattle.ti_index.specs.Names.{holders_at, users_at, HasHolderRoom, HasUserRoom};

@@ -118,7 +118,7 @@ fn add_block(
 /// The files of all compiled entries of a source, in the order of its blocks and of their names.
 ///
 /// # Errors
-/// Want of memory.
+/// `AllocError` if memory ran out.
 pub fn entry_files(alloc: Global, database: &Database, dir: &str) -> Result<Vec<File>, AllocError>
     ensures { IfOk result (λ files. entries files.items ≡ source_files dir.now database.now) }
 {

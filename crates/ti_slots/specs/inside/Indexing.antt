@@ -23,7 +23,8 @@ is_used_by items name = any_use (bytes_eq name) (map item_of items)
 abbrev pub IsPart : List ℕ → List ℕ → Type 0
 IsPart listed list = (test : ℕ → Bool) × (list ≡ filter test listed)
 
--- the id has come to the lists of the names that pass a test. `lists` are those lists, `rest` the others
+-- the id has come to the lists of the names that pass a test. `lists` are those lists, `rest` the
+-- others
 pub record AddsId (lists rest : NameIndex → List ℕ → List ℕ) (listed : List ℕ) (passes : List ℕ → Bool) (id : ℕ) (old new : NameIndex) : Type 0 where
   pub added : (name : List ℕ) (test : ℕ → Bool) → lists old name ≡ filter test listed
       → lists new name ≡ filter (λ x. (nat_eq x id && passes name) || test x) listed
@@ -42,7 +43,7 @@ pub record Removes (lists rest : NameIndex → List ℕ → List ℕ) (listed : 
 abbrev pub ShowsSameNames : NameIndex → NameIndex → Type 0
 ShowsSameNames old new = (name : List ℕ) → IsSeenSame old new name
 
--- and has lost no capacity
+-- the index has lost no capacity
 pub record IsGrown (old new : NameIndex) : Type 0 where
   pub seen : ShowsSameNames old new
   pub capacity : (name : List ℕ) → KeepsCapacity old new name
@@ -51,7 +52,7 @@ pub record IsGrown (old new : NameIndex) : Type 0 where
 abbrev pub HasRoomAt : (List ℕ → Bool) → NameIndex → Type 0
 HasRoomAt passes index = (name : List ℕ) → passes name ≡ true → HasHolderRoom index name × HasUserRoom index name
 
--- the index shows the same; of the names that pass a test, those that no block has or uses are forgotten
+-- the index shows the same; names that pass a test and that no block has or uses are forgotten
 pub record Forgets (passes : List ℕ → Bool) (old new : NameIndex) : Type 0 where
   pub same : ShowsSameNames old new
   pub gone : (name : List ℕ) → passes name ≡ true → IsForgotten new name

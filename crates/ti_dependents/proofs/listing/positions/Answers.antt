@@ -1,7 +1,7 @@
 use Rattle.std.proofs.Common.{◌≡◌, ◌<◌, ◌+◌, ℕ, inl, inr, List, [], ◌∷◌, ◌++◌, length, Some, slice_get, sym, ◌∙◌, ap, arith}
 use Rattle.std.proofs.lemmas.Bool.{cases_eq}
 use Rattle.std.proofs.lemmas.List.{length_push}
-use Rattle.ti_index.proofs.Lists.{get_front, get_last}
+use Rattle.ti_text.proofs.Lists.{get_front, get_last}
 use Rattle.ti_dependents.proofs.listing.positions.Goals as goal
 
 -- one more position stands behind the others

@@ -1,7 +1,7 @@
 use Rattle.std.proofs.Common.{◌≡◌, ℕ, inl, inr, List, [], ◌∷◌, ◌++◌, length, get_or, take, Some, slice_get, subst, arith}
 use Rattle.std.proofs.lemmas.List.{length-append, take_all, take_more}
 use Rattle.std.proofs.lemmas.Option.{slice_get_within, slice_get-get_or}
-use Rattle.ti_components.proofs.Lists.{push_cases}
+use Rattle.ti_text.proofs.Lists.{push_cases}
 use Rattle.ti_dependents.specs.inside.Uses.{ArePositions}
 use Rattle.ti_dependents.proofs.uses.places_of.Goals as goal
 
