@@ -112,7 +112,7 @@ adds_more lists rest listed passes more id old mid new name by by_rest h step to
   capacity = λ n. capacity_more old mid new n (h.capacity n) (capacity_here mid new name n capacity others);
 }
 
--- a test that says the same
+-- a test that gives equal answers
 pub adds_same : (lists rest : NameIndex → List ℕ → List ℕ) (listed : List ℕ) (passes more : List ℕ → Bool) (id : ℕ) (old new : NameIndex) → AddsId lists rest listed passes id old new → ((n : List ℕ) → more n ≡ passes n) → AddsId lists rest listed more id old new
 adds_same lists rest listed passes more id old new h same = record {
   added = λ n test e. h.added n test e
@@ -249,7 +249,7 @@ pub used_same : (xs : List Item) (k : ℕ) (x : Item) → k < length xs → x �
 used_same xs k x within e other n =
     ap (λ ys. is_used_by ys n) (take_push xs k x within e) ∙ (used_push (take k xs) x n ∙ (ap (λ b. is_used_by (take k xs) n || b) (no_use x.what n other) ∙ or_none (is_used_by (take k xs) n)))
 
--- a name that stands in a list is one of its names
+-- a name that is in a list is one of its names
 pub named_here : (xs : List (RcSlice ℕ Global)) (k : ℕ) (x : RcSlice ℕ Global) (name : List ℕ) → k < length xs → x ≡ get_or xs k x → rc_slice_items x ≡ name → is_name_of xs name ≡ true
 named_here [] k x name within e is = absurd (omega arith)
 named_here (y ∷ xs) zero x name within e is =

@@ -39,7 +39,7 @@ pub record Removes (lists rest : NameIndex → List ℕ → List ℕ) (listed : 
   pub kept : (name : List ℕ) → rest new name ≡ rest old name
   pub capacity : (name : List ℕ) → KeepsCapacity old new name
 
--- the index shows the same
+-- the index shows what it showed
 abbrev pub ShowsSameNames : NameIndex → NameIndex → Type 0
 ShowsSameNames old new = (name : List ℕ) → IsSeenSame old new name
 
@@ -52,7 +52,8 @@ pub record IsGrown (old new : NameIndex) : Type 0 where
 abbrev pub HasRoomAt : (List ℕ → Bool) → NameIndex → Type 0
 HasRoomAt passes index = (name : List ℕ) → passes name ≡ true → HasHolderRoom index name × HasUserRoom index name
 
--- the index shows the same; names that pass a test and that no block has or uses are forgotten
+-- the index shows what it showed; names that pass a test and that no block has or uses are
+-- forgotten
 pub record Forgets (passes : List ℕ → Bool) (old new : NameIndex) : Type 0 where
   pub same : ShowsSameNames old new
   pub gone : (name : List ℕ) → passes name ≡ true → IsForgotten new name
