@@ -1,4 +1,4 @@
-//! Edits made at random as a test of the database, which is compared with one made afresh after
+//! Edits made at random as a test of the database, which is compared with one made anew after
 //! each. No code of the product; the worked rows are in `ti_base_tests`.
 //!
 //! - `random`: the edits, and what is compared
