@@ -9,11 +9,11 @@ use std::rt::{Clock, Env, Files};
 use ti_layout::View;
 use ti_tools::{InfocmpMode, InfocmpOptions, Job, ToolError, entry, infocmp, locate};
 
-/// Prints what the options ask for to standard output, and says on standard error why it did not.
-/// `names` are those of the terminals, or the one that `TERM` names if there is none. `first_dir` is
-/// the only directory for the first of them, `other_dir` the only one for the others. The entries are
-/// read in the order of their names, and the first that cannot be read ends the run. The answer is
-/// the status of the process.
+/// Prints what the options ask for on standard output, or says on standard error why it did not.
+/// `names` are those of the terminals, or the one that `TERM` names if there is none. `first_dir`
+/// is the only directory for the first of them, and `other_dir` the only one for the others. The
+/// entries are read in the order of their names, and the first that cannot be read ends the run.
+/// Answers the status of the process.
 pub fn run<R: Clock + Env + Files + Print + Eprint + AllocGlobal>(
     rt: &R,
     job: &Job,
@@ -47,7 +47,7 @@ fn copies(alloc: Global, text: &str, count: usize) -> Result<Vec<String>, AllocE
     Ok(copies)
 }
 
-// Prints what the options ask for of the terminals with these names, of which there is one at least.
+// Prints what the options ask for of the terminals with these names. There is at least one name.
 fn run_names<R: Clock + Env + Files + Print + Eprint + AllocGlobal>(
     rt: &R,
     job: &Job,
@@ -95,8 +95,8 @@ fn read_files<R: Clock + Env + Files + AllocGlobal>(
     Ok(())
 }
 
-// The file of a terminal's entry, in the only directory for it if there is one, else in those of the
-// environment, which are read from it once a run.
+// The file of a terminal's entry, in the only directory for it if there is one, else in those of
+// the environment, which are read from it once a run.
 fn entry_file<R: Clock + Env + Files + AllocGlobal>(
     rt: &R,
     name: &str,

@@ -10,8 +10,8 @@ use ti_layout::View;
 use ti_tools::{Counted, Job, ToolError, entry, locate, message, tput, tput_lines};
 
 /// Writes to standard output what the words ask of a terminal, or what each line of standard input
-/// asks if `lines` is set, and says on standard error why it did not. The terminal is `term`, else
-/// that of `TERM`; `rate` is the speed of its line in bits a second. The answer is the status of the
+/// asks if `lines` is set, or says on standard error why it did not. The terminal is `term`, else
+/// that of `TERM`; `rate` is the speed of its line in bits per second. Answers the status of the
 /// process.
 pub fn run<R: Clock + Env + Files + Input + Print + Eprint + AllocGlobal>(
     rt: &R,

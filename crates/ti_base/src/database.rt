@@ -138,9 +138,9 @@ impl Database {
         Ok(report)
     }
 
-    /// Puts a block in, so that it is then at `at`. The refusals, the first that holds: `Position`
-    /// if `at` is past the end, `TooLong`, `NotOneBlock`, `TooMany`, and `Memory` if a growth was
-    /// refused. After a refusal all is as before.
+    /// Puts a block in, so that it then stands at `at`. The refusals, the first that holds:
+    /// `Position` where `at` is past the end, `TooLong`, `NotOneBlock`, `TooMany`, and `Memory`
+    /// where a growth was refused. After a refusal all is as before.
     pub fn insert(&mut self, at: usize, text: &[u8]) -> Result<Edited, EditError>
         ensures step { EditStep self.old (insertion at text.now) (outcome_of result) self.new }
         ensures rebuilds { IfOk result (λ edited. Rebuilds self.old (insertion at text.now) edited.rebuilt.items edited.work) }

@@ -1,4 +1,5 @@
--- What the graph of the uses among dependents says of the blocks at their positions, for what settles them.
+-- What the graph of the uses among dependents says of the blocks at their positions, for what
+-- settles them.
 use Rattle.std.proofs.Common.{◌≡◌, ℕ, zero, suc, ◌<◌, inl, inr, List, [], ◌∷◌, length, Option, Some, slice_get, refl, sym, ◌∙◌, ap, subst, arith}
 use Rattle.std.proofs.lemmas.Option.{same_Some, none-some, slice_get_within}
 use Rattle.ti_source.specs.Reading.{Reading, ReadItem}
@@ -33,7 +34,7 @@ place_uses [] k item name e u = absurd (none-some item e)
 place_uses (x ∷ items) zero item name e u = inl (ap (λ y. used_name y.said) (same_Some x item e) ∙ u)
 place_uses (x ∷ items) (suc k) item name e u = inr (place_uses items k item name e u)
 
--- a name belongs to the block at the one place where its owner stands
+-- a name belongs to the block at the one place where its owner is
 pub owner_place : (s : Slots) (name : List ℕ) (id at : ℕ) → AreDistinct s.order.listed → IsOwnerId s name id → StandsAt s at id → owner (blocks_of s) name ≡ Some at
 owner_place s name id at once (place, owns, stands) here = owns ∙ ap (λ p. Some p) (once place at id stands here)
 
@@ -91,6 +92,6 @@ module _ (s : Slots) (ids places : List ℕ) (graph : Rows) (many : length place
   pub graph_of_places : IsGraphOf (blocks_of s) places (HasOptionalEdge graph)
   graph_of_places i j = ((λ e. edge_uses i j e), λ w. uses_edge i j w.0 w.1 w.2 w.3 w.4)
 
--- no id stands twice in an order (`Order::ids`)
+-- no id is twice in an order (`Order::ids`)
 pub placed_uses : (s : Slots) (put : Option ℕ) (out : List (List ℕ)) (ids places : List ℕ) (graph : Rows) → AreDependentIds s put out ids places → AreDistinct s.order.listed → IsGraphOfUses s ids graph → IsGraphOf (blocks_of s) places (HasOptionalEdge graph)
 placed_uses s put out ids places graph d once h = graph_of_places s ids places graph d.as_many d.stands once h

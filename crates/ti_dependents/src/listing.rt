@@ -6,7 +6,7 @@ use indexmap::IndexSet;
 use std::alloc::{AllocError, Global};
 use ti_index::Order;
 
-/// The ids of a list, in its order. None stands twice.
+/// The ids of a list, in its order. None is there twice.
 pub(crate) fn listed_ids(alloc: Global, order: &Order) -> Result<IndexSet<u32>, AllocError>
     ensures ids { IfOk result (λ found. found.keys ≡ order.now.listed) }
     ensures distinct { AreDistinct order.now.listed }

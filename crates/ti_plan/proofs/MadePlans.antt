@@ -44,7 +44,7 @@ module _ (slots : Slots) (d : Dependents) (component_of order : List ℕ) (found
   pub nodes_placed : All (λ node. node < length d.places.items) order
   nodes_placed k e l = slice_get_within d.places.items (get_or order k e) _ (place_stands slots d component_of order k (get_or order k e) found closing (slice_get-get_or order k e l))
 
-  -- no position stands twice
+  -- no position is there twice
   pub distinct_places : AllPairs (λ x y. x ≡ y → ⊥) (map (node_position d) order)
   distinct_places i j e l m = λ same.
       let xs = map (node_position d) order in

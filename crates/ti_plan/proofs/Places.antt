@@ -27,7 +27,7 @@ block_of slots id = reading_at slots.slots.items id
 pub block_at : (slots : Slots) (at id : ℕ) → StandsAt slots at id → slice_get (blocks_of slots) at ≡ Some (block_of slots id)
 block_at slots at id s = rw (slice_get-map (reading_at slots.slots.items) slots.order.listed at, s) refl
 
--- a position has an id where it has a block
+-- a position has an id if it has a block
 pub id_at : (slots : Slots) (at : ℕ) (block : Reading) → slice_get (blocks_of slots) at ≡ Some block → (id : ℕ) × StandsAt slots at id × (block_of slots id ≡ block)
 id_at slots at block e = there slots at block (slice_get slots.order.listed at) refl (sym (slice_get-map (reading_at slots.slots.items) slots.order.listed at) ∙ e) where
   there : (slots : Slots) (at : ℕ) (block : Reading) (o : Option ℕ) → slice_get slots.order.listed at ≡ o → option_map (block_of slots) o ≡ Some block → (id : ℕ) × StandsAt slots at id × (block_of slots id ≡ block)
@@ -106,7 +106,7 @@ row_at slots d h node at index name row p u r =
     let as_many = (h.graph.rows node n.0 row n.1.id_is r).as_many in
     omega arith
 
--- the graph has an edge between the nodes of blocks where the one uses the other
+-- the graph has an edge between the nodes of blocks if one uses the other
 pub graph_of : (slots : Slots) (d : Dependents) → AreFoundIn slots d → IsGraphOf (blocks_of slots) d.places.items (laws.HasOptionalEdge d.uses)
 graph_of slots d h i j = (there slots d h i j, back slots d h i j) where
   there : (slots : Slots) (d : Dependents) → AreFoundIn slots d → (i j : ℕ) → laws.HasOptionalEdge d.uses i j → (at : ℕ) × (used : ℕ) × (slice_get d.places.items i ≡ Some at) × (slice_get d.places.items j ≡ Some used) × UsesBlock (blocks_of slots) at used

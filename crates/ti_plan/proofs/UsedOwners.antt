@@ -36,7 +36,7 @@ module _ (slots : Slots) (d : Dependents) (component_of : List ℕ) (settled : L
   numbers : IsKnown slots d component_of settled → laws.MarksComponents (length d.places.items) (laws.HasOptionalEdge d.uses) (HaveOneNumber component_of)
   numbers k = components_of d.uses component_of (length d.places.items) k.components (omega (arith, k.found.as_many, k.found.graph.as_many))
 
-  -- where the use leads back, its edge leads to a node of the same component
+  -- if the use leads back, its edge leads to a node of the same component
   back_shares : (edge : Option ℕ) → IsFoundUse slots d component_of settled node at index name edge → LeadsTo (blocks_of slots) name at → (owner : ℕ) × (edge ≡ Some owner) × HaveOneNumber component_of node owner
   back_shares edge u lead =
       let found = u.known.found in

@@ -19,7 +19,7 @@ use ti_components::Components;
 use ti_dependents::{Dependents, find_all, find_dependents};
 use ti_slots::{Settled, Slots};
 
-// Nothing found out yet about so many blocks.
+// Nothing found out yet about this number of blocks.
 fn unsettled_nodes(alloc: Global, count: usize) -> Result<Vec<Option<Settled>>, AllocError>
     ensures len { IfOk result (λ all. length all.items ≡ count) }
     ensures none { IfOk result (λ all. All (λ one. one ≡ None) all.items) }
@@ -60,7 +60,7 @@ fn settle_all(
     Ok(settled)
 }
 
-// The same, of blocks that are all settled.
+// What was found out about each of the blocks, which are all settled.
 fn take_settled(alloc: Global, settled: Vec<Option<Settled>>) -> Result<Vec<Settled>, AllocError>
     requires { (node : ℕ) → node < length settled.items → (one : Settled) × (slice_get settled.items node ≡ Some (Some one)) }
     ensures { IfOk result (λ all. map (λ one. Some one) all.items ≡ settled.items) }
@@ -111,7 +111,8 @@ fn make_plan(alloc: Global, slots: &Slots, dependents: Dependents) -> Result<Pla
     ensures { IfOk result (λ plan. IsPlanOf slots.now dependents plan) }
 {
     let components = Components::find(alloc, &dependents.uses)?;
-    // A step is an item's, which has an edge: so the number of steps fits where this one does.
+    // A step is that of an item, which has an edge: so the number of steps fits if the number of
+    // edges does.
     let _edges = dependents.uses.edge_count();
     let mut work = 0;
     let settled = settle_all(alloc, slots, &dependents, &components, &mut work)?;
@@ -148,7 +149,7 @@ pub fn plan(
     ensures { IfOk result (λ plan. IsPlan slots.now put (map rc_slice_items out.now) plan) }
 {
     let dependents = find_dependents(alloc, slots, put, out)?;
-    // No id stands twice among these.
+    // No id is there twice.
     let _listed = slots.order.ids();
     make_plan(alloc, slots, dependents)
 }
@@ -163,7 +164,7 @@ pub fn plan_all(alloc: Global, slots: &Slots) -> Result<Plan, AllocError>
     ensures { IfOk result (λ plan. IsPlanOfAll slots.now plan) }
 {
     let all = find_all(alloc, slots)?;
-    // No id stands twice among these.
+    // No id is there twice.
     let _listed = slots.order.ids();
     make_plan(alloc, slots, all)
 }

@@ -6,8 +6,8 @@ pub fn one_answer()
     ensures { OneAnswer }
 {}
 
-/// Two outputs of one script are equal, or equal up to a place from which one goes on with the answer
-/// of out of memory.
+/// Two outputs of one script are equal, or equal up to a place from which one goes on with the
+/// answer of out of memory.
 pub fn one_output()
     ensures { OneOutput }
 {}

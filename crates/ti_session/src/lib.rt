@@ -1,8 +1,8 @@
 //! The session: a script that edits a source and asks of it, over any reader and writer, and its
 //! replies.
 //!
-//! - `streaming`: the session. `editor` holds the source and the block that is open, `requests` says
-//!   what a line asks for, and `replies` writes what it is answered
+//! - `streaming`: the session. `editor` holds the source and the block that is open, `requests`
+//!   says what a line asks for, and `replies` writes what it is answered
 //! - `laws`: the definition of a session leaves nothing open but out of memory
 //!
 //! The devices that it reads from and writes to are those of `ti_devices`.

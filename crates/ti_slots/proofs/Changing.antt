@@ -1,4 +1,4 @@
--- What is kept as a block is put in or taken out.
+-- What holds as a block is put in or taken out.
 use Rattle.std.proofs.Common.{◌≡◌, ◌≢◌, ◌<◌, ◌≤◌, ℕ, inl, inr, List, [], ◌∷◌, ◌++◌, map, length, get_or, set, Bool, false, not, nat_eq, ◌&&◌, Option, Some, None, slice_get, filter, insert, remove, refl, ◌∙◌, ap, arith, eq-eqb, length-append, length-set}
 use Rattle.std.specs.Option.{option_map_or, option_and_then, IsSome}
 use Rattle.std.specs.Str.{bytes_eq}
@@ -18,7 +18,7 @@ use Rattle.ti_slots.specs.Changes.{HasRoomFor, KeepsRooms, PutsIn, TakesOut}
 use Rattle.ti_meaning.proofs.Leading.{used-any_use}
 use Rattle.ti_slots.proofs.Listings.{list_before, list_with, list_left, list_without, fewer_pass, one_less, and_right, map_put, map_taken, get_set, get_set_other, stood_before, left_before, length-put, length-taken}
 
--- ---- what stands in a slot alone decides
+-- ---- the list is determined by what is in its slots
 
 slot_set : (slots : List (Option Slot)) (id : ℕ) (slot : Option Slot) → id < length slots → slot_at (set slots id slot) id ≡ slot
 slot_set slots id slot l = ap (λ o. option_and_then (λ s. s) o) (get_set slots id slot l)

@@ -31,7 +31,7 @@ none_owns read name (x ∷ listed) e =
       | inr lacks ↦ (let rest = none_owns read name listed (rw lacks at e) in rw (lacks, rest) refl)
     ]
 
--- the first of a name's holders owns it, and where there is none nobody does
+-- the first of a name's holders owns it, and if there is none nobody does
 pub first_holder : (slots : Slots) (name : List ℕ) (id : ℕ) → IsIndexed slots → slice_get (holders_at slots.names name) 0 ≡ Some id → IsOwnerId slots name id
 first_holder slots name id h e = first_owns (reading_at slots.slots.items) name slots.order.listed id (rw (h.holders name) at e)
 
@@ -66,14 +66,14 @@ stands_filter test (y ∷ xs) (suc at) x e passes =
       | inr t ↦ rw t w
     ]
 
--- each holder of a name stands in the list and has the name, and each block that has it is one
+-- each holder of a name is in the list and has the name, and each block that has it is one
 pub holder_has : (slots : Slots) (name : List ℕ) (k id : ℕ) → IsIndexed slots → slice_get (holders_at slots.names name) k ≡ Some id → (at : ℕ) × StandsAt slots at id × (has_name slots.slots.items name id ≡ true)
 holder_has slots name k id h e = filter_stands (has_name slots.slots.items name) slots.order.listed k id (rw (h.holders name) at e)
 
 pub has_holder : (slots : Slots) (name : List ℕ) (at id : ℕ) → IsIndexed slots → StandsAt slots at id → has_name slots.slots.items name id ≡ true → Has (holders_at slots.names name) id
 has_holder slots name at id h e has = rw (h.holders name) (stands_filter (has_name slots.slots.items name) slots.order.listed at id e has)
 
--- each user of a name stands in the list and uses it, and each block that uses it is one
+-- each user of a name is in the list and uses it, and each block that uses it is one
 pub user_uses : (slots : Slots) (name : List ℕ) (k id : ℕ) → IsIndexed slots → slice_get (users_at slots.names name) k ≡ Some id → (at : ℕ) × StandsAt slots at id × Uses (reading_at slots.slots.items id).items name
 user_uses slots name k id h e =
     let w = filter_stands (uses_name slots.slots.items name) slots.order.listed k id (rw (h.users name) at e) in

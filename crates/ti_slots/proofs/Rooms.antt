@@ -15,7 +15,7 @@ use Rattle.ti_slots.specs.Changes.{KeepsRooms, ShowsSame}
 use Rattle.ti_slots.specs.declared.indexing.Role.TheVariants.{Holder, User}
 use Rattle.ti_slots.proofs.Adding.{room_grown}
 
--- the list and each slot are the same, a free id has stayed, and so has what the index had
+-- the list and each slot are as before, a free id is still free, and the index has what it had
 pub record IsRoomier (old new : Slots) : Type 0 where
   pub listed : new.order.listed ≡ old.order.listed
   pub free : 0 < length old.order.free → 0 < length new.order.free
@@ -24,7 +24,7 @@ pub record IsRoomier (old new : Slots) : Type 0 where
   pub names : IsGrown old.names new.names
 
 module _ (old new : Slots) (h : IsRoomier old new) where
-  -- what holds of the list and of what stands in the slots
+  -- what holds of the list and of what is in the slots
   kept : (P : (ℕ → Option Slot) → List ℕ → Type 0) → P (slot_at old.slots.items) old.order.listed → P (slot_at new.slots.items) new.order.listed
   kept P p =
       let Q : List ℕ → Type 0 = λ listed. P (slot_at new.slots.items) listed in

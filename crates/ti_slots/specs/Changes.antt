@@ -67,7 +67,8 @@ pub record TakesOut (old new : Slots) (at : ℕ) (slot : Slot) : Type 0 where
   pub blocks : blocks_of new ≡ remove (blocks_of old) at
   pub texts : slot_texts new ≡ remove (slot_texts old) at
 
--- the same blocks under the same ids, with the same free ids and no less capacity
+-- the list has the blocks of before under the ids of before, with the same free ids and no less
+-- capacity
 pub record IsAgain (old new : Slots) : Type 0 where
   pub listed : new.order.listed ≡ old.order.listed
   pub free : new.order.free ≡ old.order.free

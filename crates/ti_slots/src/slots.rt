@@ -23,7 +23,7 @@ pub struct KeptFault {
     pub detail: Option<RcSlice<u8>>,
 }
 
-/// The same detail once more, its bytes shared.
+/// A copy of the detail. Its bytes are shared.
 ///
 /// # Errors
 /// Out of memory.

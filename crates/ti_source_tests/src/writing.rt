@@ -23,7 +23,7 @@ static ROWS: [(&'static [u8], &'static [u8]); 16] = [
     (b"%%\x01", b"%%\\001"),
 ];
 
-/// Whether a value is spelled by this text.
+// Whether a value is spelled by this text.
 fn is_spelled(alloc: Global, value: &[u8], text: &[u8]) -> Result<bool, AllocError> {
     if value.len() > 1_000 {
         return Ok(false);

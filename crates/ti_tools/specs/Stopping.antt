@@ -1,4 +1,5 @@
--- How a tool that stops ends: its exit status, and the line on standard error (tput(1); the texts are own).
+-- How a tool that stops ends: its exit status, and the line on standard error (tput(1); the texts
+-- are own).
 use Rattle.std.specs.Prelude.{ℕ, Bool, if◌then◌else◌, ◌||◌, List, ◌++◌, codes, bytes_eq, decimal, Option, Some, None, is_some}
 use Rattle.ti_caps.specs.Tables.{capability_named}
 use Rattle.ti_layout.specs.declared.fault.ReadError.{ReadError}

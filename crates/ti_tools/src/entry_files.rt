@@ -33,8 +33,8 @@ fn see<'a>(seen: &mut BTreeSet<&'a [u8]>, name: &'a [u8]) -> Result<bool, AllocE
     Ok(seen.insert(name)?)
 }
 
-// Whether a name of the block at `at` has a file of its own: it is the block's, and none of those seen.
-// Then it is seen from now on.
+// Whether a name of the block at `at` has a file of its own: it is the block's, and none of those
+// seen. Then it is seen from now on.
 fn has_file<'a>(
     database: &Database,
     seen: &mut BTreeSet<&'a [u8]>,

@@ -151,9 +151,9 @@ fn write_capability<W: Write>(
     )
 }
 
-/// Writes the line for standard error on which a tool that stops says why: the name of the tool, the
-/// fault, and in quotes the `name` of the terminal that it is about. `None` means the status 4 of
-/// `tput`: `name` is then a capability that is unknown, or whose string is bad.
+/// Writes the line for standard error on which a tool that stops says why: the name of the tool,
+/// the fault, and in quotes the `name` of the terminal that it is about. `None` means the status 4
+/// of `tput`: `name` is then a capability that is unknown, or whose string is bad.
 ///
 /// # Errors
 /// `WriteFault` if the stream fails.

@@ -83,7 +83,7 @@ pub record Removes (listed : List ℕ) (passes : Role → List ℕ → Bool) (id
       → ids_at role new name ≡ filter (λ x. not (nat_eq x id && passes role name) && test x) listed
   pub capacity : (name : List ℕ) → KeepsCapacity old new name
 
--- the index shows the same
+-- the index shows what it showed
 abbrev pub ShowsSameNames : NameIndex → NameIndex → Type 0
 ShowsSameNames old new = (name : List ℕ) → IsSeenSame old new name
 

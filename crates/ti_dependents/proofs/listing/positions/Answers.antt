@@ -4,7 +4,7 @@ use Rattle.std.proofs.lemmas.List.{length_push}
 use Rattle.ti_text.proofs.Lists.{get_front, get_last}
 use Rattle.ti_dependents.proofs.listing.positions.Goals as goal
 
--- one more position stands behind the others
+-- one more position follows the others
 positions_more : (places : List ℕ) (count : ℕ) → length places ≡ count → ((i : ℕ) → i < count → slice_get places i ≡ Some i) → (i : ℕ) → i < count + 1 → slice_get (places ++ count ∷ []) i ≡ Some i
 positions_more places count n h i l =
     elim (cases_eq i count) [

@@ -5,7 +5,7 @@ use Rattle.ti_text.proofs.Lists.{push_cases}
 use Rattle.ti_dependents.specs.inside.Uses.{ArePositions}
 use Rattle.ti_dependents.proofs.uses.places_of.Goals as goal
 
--- one more id stands there
+-- one more id is there
 places_more : (listed ids places : List ℕ) (id at : ℕ) → ArePositions listed ids places → slice_get listed at ≡ Some id → ArePositions listed (ids ++ id ∷ []) (places ++ at ∷ [])
 places_more listed ids places id at h here = record {
   as_many = (let n = h.as_many in omega (arith, length-append ids (id ∷ []), length-append places (at ∷ [])));

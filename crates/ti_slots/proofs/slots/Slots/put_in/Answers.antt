@@ -14,7 +14,7 @@ use Rattle.ti_slots.proofs.Listings.{get-inserted}
 use Rattle.ti_slots.proofs.Changing.{holders_before, users_before, put_done}
 use Rattle.ti_slots.proofs.slots.Slots.put_in.Goals as goal
 
--- where the id stands now
+-- the place of the id now
 stands_now : (listed new : List ℕ) (at id : ℕ) → at ≤ length listed → new ≡ insert listed at id → Has new id
 stands_now listed new at id within e = (at, rw e (get-inserted listed at id within))
 

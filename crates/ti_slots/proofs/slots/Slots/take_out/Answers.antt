@@ -10,7 +10,7 @@ use Rattle.ti_slots.specs.Slots.{has_name, uses_name, slot_at, IsIndexed}
 use Rattle.ti_slots.proofs.Changing.{taken_done, known_slot, read_slot}
 use Rattle.ti_slots.proofs.slots.Slots.take_out.Goals as goal
 
--- the id that was read stands there
+-- the id that was read is there
 stood_at : (listed ids : List ℕ) (at : ℕ) → ids ≡ listed → at < length listed → slice_get listed at ≡ Some (get_or ids at 0)
 stood_at listed ids at e l = rw e (slice_get-get_or listed at 0 l)
 
