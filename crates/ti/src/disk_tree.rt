@@ -2,6 +2,7 @@
 ghost use Rattle.std.specs.Prelude.{◌≡◌, ◌+◌, IfOk, option_map};
 ghost use Rattle.ti_devices.specs.Tree.{HasAtMost, failures_by};
 
+use crate::made_directories::MadeDirectories;
 use crate::new_file::{is_absent, replace_file};
 use crate::whole::read_whole;
 use std::alloc::Global;
@@ -23,6 +24,7 @@ const PIECE: usize = 2048;
 pub struct DiskTree<'a, R: Files + Clock + AllocGlobal> {
     rt: &'a R,
     failures: Tally,
+    made: MadeDirectories,
 }
 
 impl<'a, R: Files + Clock + AllocGlobal> DiskTree<'a, R> {
@@ -32,6 +34,7 @@ impl<'a, R: Files + Clock + AllocGlobal> DiskTree<'a, R> {
         DiskTree {
             rt,
             failures: Tally::zero(),
+            made: MadeDirectories::new(rt),
         }
     }
 
@@ -63,7 +66,7 @@ impl<'a, R: Files + Clock + AllocGlobal> Tree for DiskTree<'a, R> {
     }
 
     fn write(&mut self, path: &str, bytes: &[u8]) -> Result<(), TreeFault> {
-        match replace_file(self.rt, path, bytes) {
+        match replace_file(self.rt, &mut self.made, path, bytes) {
             Ok(()) => Ok(()),
             Err(error) => Err(self.fault(error)),
         }

@@ -7,6 +7,7 @@ mod error_stream;
 mod failure;
 mod infocmp_tool;
 mod job_end;
+mod made_directories;
 mod new_file;
 mod session_tool;
 mod tic_tool;

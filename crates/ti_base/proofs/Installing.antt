@@ -1,5 +1,5 @@
 -- What was found out about blocks is put into their slots: nothing else of them changes, and then all are settled.
-use Rattle.std.proofs.Common.{◌≡◌, ◌≢◌, ◌⊎◌, inl, inr, ℕ, zero, suc, ◌+◌, ◌<◌, ◌≤◌, Bool, List, [], ◌∷◌, length, get_or, set, drop, map, filter, All, Option, Some, None, option_map, slice_get, refl, sym, ◌∙◌, ap, subst, arith}
+use Rattle.std.proofs.Common.{◌≡◌, ◌≢◌, ◌⊎◌, inl, inr, ℕ, zero, suc, ◌+◌, ◌<◌, Bool, List, [], ◌∷◌, length, get_or, set, drop, map, filter, All, Option, Some, None, option_map, slice_get, refl, sym, ◌∙◌, ap, subst, arith}
 use Rattle.std.specs.Option.{IsSome, is_some}
 use Rattle.std.specs.Str.{bytes_eq}
 use Rattle.std.proofs.lemmas.Bool.{cases_eq}
@@ -221,11 +221,16 @@ all_settled old new put out plan ready is h at slot e =
     ] in
     settled_in (blocks_of old) (map reading_seen (slots_of new)) at (reading_of slot.block) slot.settled blocks (subst (λ r. IsSettled (blocks_of old) at r slot.settled) read here)
 
-pub kept_installed : (old new : Slots) (put : Option ℕ) (out : List (List ℕ)) (plan : Plan) → IsIndexed old → length old.order.listed ≤ blocks_max → SlotsAreSound (slots_of old) → IsReady old put out → IsPlan old put out plan → AreInstalled old new plan.ids.items plan.settled.items → AreKept new
-kept_installed old new put out plan indexed few sound ready is h = record {
-  indexed = index_stays old new plan.ids.items plan.settled.items h indexed;
-  few = (let n : length new.order.listed ≡ length old.order.listed = ap (λ o. length o.listed) h.order in omega arith);
-  sound = sound_stays old new plan.ids.items plan.settled.items is.as_many h sound;
+read_stays : (old new : Slots) (ids : List ℕ) (settled : List Settled) → length settled ≡ length ids → AreInstalled old new ids settled → AreRead old → AreRead new
+read_stays old new ids settled l h read = record {
+  indexed = index_stays old new ids settled h read.indexed;
+  few = (let n : length new.order.listed ≡ length old.order.listed = ap (λ o. length o.listed) h.order in let k = read.few in omega arith);
+  sound = sound_stays old new ids settled l h read.sound;
+}
+
+pub kept_installed : (old new : Slots) (put : Option ℕ) (out : List (List ℕ)) (plan : Plan) → AreRead old → IsReady old put out → IsPlan old put out plan → AreInstalled old new plan.ids.items plan.settled.items → AreKept new
+kept_installed old new put out plan read ready is h = record {
+  read = read_stays old new plan.ids.items plan.settled.items is.as_many h read;
   settled = all_settled old new put out plan ready is h;
 }
 
@@ -250,20 +255,18 @@ all_settled_once old new plan is h at slot e =
 
 pub kept_once : (old new : Slots) (plan : Plan) → AreRead old → IsPlanOfAll old plan → AreInstalled old new plan.ids.items plan.settled.items → AreKept new
 kept_once old new plan read is h = record {
-  indexed = index_stays old new plan.ids.items plan.settled.items h read.indexed;
-  few = (let n : length new.order.listed ≡ length old.order.listed = ap (λ o. length o.listed) h.order in let k = read.few in omega arith);
-  sound = sound_stays old new plan.ids.items plan.settled.items is.as_many h read.sound;
+  read = read_stays old new plan.ids.items plan.settled.items is.as_many h read;
   settled = all_settled_once old new plan is h;
 }
 
 -- ---- what planning and installing ask
 
-pub all_usable : (slots : Slots) → IsIndexed slots → SlotsAreSound (slots_of slots) → All IsUsable (blocks_of slots)
-all_usable slots h sound = λ k d l.
+pub all_usable : (slots : Slots) → AreRead slots → All IsUsable (blocks_of slots)
+all_usable slots h = λ k d l.
     let within : k < length (slots_of slots) = omega (arith, length_slots slots, length-map slots.order.listed (reading_at slots.slots.items)) in
-    let s = are_filled slots h k within in
+    let s = are_filled slots h.indexed k within in
     let here : slice_get (blocks_of slots) k ≡ Some (reading_of s.0.block) = ap (λ bs. slice_get bs k) (blocks_seen slots) ∙ (rw (slice_get-map reading_seen (slots_of slots) k, s.1) refl) in
-    subst IsUsable (sym (get_or_from_slice_get (blocks_of slots) k (reading_of s.0.block) d here)) (sound k s.0 s.1).usable
+    subst IsUsable (sym (get_or_from_slice_get (blocks_of slots) k (reading_of s.0.block) d here)) (h.sound k s.0 s.1).usable
 
 pub all_stand : (slots : Slots) (put : Option ℕ) (out : List (List ℕ)) (plan : Plan) → IsIndexed slots → IsPlan slots put out plan → All (λ id. IsSome (slot_at slots.slots.items id)) plan.ids.items
 all_stand slots put out plan h is = λ k d l.

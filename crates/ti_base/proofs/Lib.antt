@@ -4,9 +4,9 @@ pub mod Counting
 pub mod SlotLists
 pub mod Untouched
 pub mod Installing
-pub mod Exchanges
+pub mod SlotExchanges
+pub mod EditedSlots
 pub mod Naming
 pub mod KeptFaults
 pub mod SlotFaults
 pub mod SlotEntries
-pub mod ReadSlots

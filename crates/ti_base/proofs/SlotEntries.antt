@@ -37,8 +37,8 @@ text_of_slot slots at slot e = ap (λ ts. slice_get ts at) (texts_seen slots) �
 pub entry_of_slot : (slots : Slots) (at : ℕ) (slot : Slot) → AreKept slots → slice_get (slots_of slots) at ≡ Some (Some slot) → shown_entry (state_seen slot.settled.state) ≡ compiled (slot_texts slots) at
 entry_of_slot slots at slot h e =
     let block = reading_of slot.block in
-    let read : slice_get (readings (slot_texts slots)) at ≡ Some block = ap (λ bs. slice_get bs at) (sym (blocks_read slots h.indexed h.sound)) ∙ block_of_slot slots at slot e in
-    let state : state_seen slot.settled.state ≡ state_of (readings (slot_texts slots)) block = (h.settled at slot e).state ∙ ap (λ bs. state_of bs block) (sym (blocks_seen slots) ∙ blocks_read slots h.indexed h.sound) in
+    let read : slice_get (readings (slot_texts slots)) at ≡ Some block = ap (λ bs. slice_get bs at) (sym (blocks_read slots h.read)) ∙ block_of_slot slots at slot e in
+    let state : state_seen slot.settled.state ≡ state_of (readings (slot_texts slots)) block = (h.settled at slot e).state ∙ ap (λ bs. state_of bs block) (sym (blocks_seen slots) ∙ blocks_read slots h.read) in
     let there : compiled (slot_texts slots) at ≡ entry (readings (slot_texts slots)) block = rw read refl in
     ap shown_entry state ∙ (shown_with block (expansion (readings (slot_texts slots)) block) ∙ sym there)
 

@@ -15,7 +15,7 @@ pub block_of_slot : (slots : Slots) (at : ℕ) (slot : Slot) → slice_get (slot
 block_of_slot slots at slot e = ap (λ bs. slice_get bs at) (blocks_seen slots) ∙ (rw (slice_get-map reading_seen (slots_of slots) at, e) refl)
 
 pub others_of_slot : (slots : Slots) (at : ℕ) (slot : Slot) → AreKept slots → slice_get (slots_of slots) at ≡ Some (Some slot) → AreOthers (reading_of slot.block).faults
-others_of_slot slots at slot h e = subst (λ r. AreOthers r.faults) (sym (h.sound at slot e).read) (read_others slot.text.items)
+others_of_slot slots at slot h e = subst (λ r. AreOthers r.faults) (sym (h.read.sound at slot e).read) (read_others slot.text.items)
 
 pub kept_of_slot : (slots : Slots) (at : ℕ) (slot : Slot) → AreKept slots → slice_get (slots_of slots) at ≡ Some (Some slot) → map (fault_at at) slot.settled.faults.items ≡ lasting_faults (blocks_of slots) at (reading_of slot.block)
 kept_of_slot slots at slot h e = (h.settled at slot e).faults ∙ ap (λ bs. lasting_faults bs at (reading_of slot.block)) (sym (blocks_seen slots))

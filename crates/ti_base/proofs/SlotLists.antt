@@ -12,7 +12,7 @@ use Rattle.ti_text.proofs.Lists.{item_at}
 use Rattle.ti_slots.specs.declared.slots.Slot.{Slot}
 use Rattle.ti_slots.specs.declared.slots.Slots.{Slots}
 use Rattle.ti_slots.specs.Slots.{IsIndexed, StandsAt, slot_at, reading_at, text_at, blocks_of, slot_texts}
-use Rattle.ti_base.specs.inside.Database.{slots_of, reading_seen, text_seen, SlotsAreSound, PlacedSlot, with_slot, block_seen}
+use Rattle.ti_base.specs.inside.Database.{slots_of, reading_seen, text_seen, AreRead, SlotsAreSound, PlacedSlot, with_slot, block_seen}
 
 map-map : {X Y Z : Type 0} (f : Y → Z) (g : X → Y) (xs : List X) → map (λ x. f (g x)) xs ≡ map f (map g xs)
 map-map f g [] = refl
@@ -77,8 +77,8 @@ read_from_texts (Some slot ∷ listed) f h =
     let more : AreFilled listed = λ at l. f (suc at) (omega arith) in
     rw ((h 0 slot refl).read, read_from_texts listed more (λ at s e. h (suc at) s e)) refl
 
-pub blocks_read : (slots : Slots) → IsIndexed slots → SlotsAreSound (slots_of slots) → blocks_of slots ≡ readings (slot_texts slots)
-blocks_read slots h sound = blocks_seen slots ∙ (read_from_texts (slots_of slots) (are_filled slots h) sound ∙ ap readings (sym (texts_seen slots)))
+pub blocks_read : (slots : Slots) → AreRead slots → blocks_of slots ≡ readings (slot_texts slots)
+blocks_read slots h = blocks_seen slots ∙ (read_from_texts (slots_of slots) (are_filled slots h.indexed) h.sound ∙ ap readings (sym (texts_seen slots)))
 
 -- ---- a slot put in
 

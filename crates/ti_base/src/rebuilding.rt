@@ -1,14 +1,13 @@
-//! What an edit rebuilds, or a list that is made in one go: the plan of it, and what the plan found out
-//! put into the slots.
-ghost use Rattle.std.specs.Prelude.{◌≡◌, ◌≤◌, ℕ, Option, Some, All, IsSome, map, length, IfOk, OnOk, OnErr};
+// What an edit rebuilds, or a list that is made in one go: the plan of it, and what the plan found out
+// put into the slots.
+ghost use Rattle.std.specs.Prelude.{◌≡◌, ℕ, Option, Some, All, IsSome, map, length, IfOk, OnOk, OnErr};
 ghost use Rattle.std.specs.Rc.{rc_slice_items};
-ghost use Rattle.ti_text.specs.Limits.{blocks_max};
 ghost use Rattle.ti_meaning.specs.Exchange.{Exchange};
 ghost use Rattle.ti_meaning.specs.Dependents.{AreDependents, work};
-ghost use Rattle.ti_slots.specs.Slots.{IsIndexed, StandsAt, slot_at, blocks_of, slot_texts};
+ghost use Rattle.ti_slots.specs.Slots.{StandsAt, slot_at, blocks_of, slot_texts};
 ghost use Rattle.ti_dependents.specs.Dependents.{IsExchangeOf};
 ghost use Rattle.ti_plan.specs.Plans.{IsReady};
-ghost use Rattle.ti_base.specs.inside.Database.{AreKept, AreRead, SlotsAreSound, slots_of, settled_at, settled_all};
+ghost use Rattle.ti_base.specs.inside.Database.{AreKept, AreRead, settled_at, settled_all};
 
 use std::alloc::{AllocError, Global};
 use std::mem;
@@ -37,8 +36,8 @@ fn install(slots: &mut Slots, mut plan: Plan) -> Edited
     ensures rebuilt { result.rebuilt ≡ plan.rebuilt }
     ensures work { result.work ≡ plan.work }
 {
-    for place in 0..plan.ids.len() {
-        settle(&mut slots.slots, plan.ids[place], &mut plan.settled[place]);
+    for index in 0..plan.ids.len() {
+        settle(&mut slots.slots, plan.ids[index], &mut plan.settled[index]);
     }
     Edited {
         rebuilt: plan.rebuilt,
@@ -54,9 +53,7 @@ pub(crate) fn rebuild(
     put: Option<u32>,
     out: &[RcSlice<u8>],
 ) -> Result<Edited, AllocError>
-    requires indexed { IsIndexed slots.old }
-    requires few { length slots.old.order.listed ≤ blocks_max }
-    requires sound { SlotsAreSound (slots_of slots.old) }
+    requires read { AreRead slots.old }
     requires put { (id : ℕ) → put ≡ Some id → (at : ℕ) × StandsAt slots.old at id }
     requires ready { IsReady slots.old put (map rc_slice_items out.now) }
     ensures kept { OnOk result (AreKept slots.new) }

@@ -13,31 +13,24 @@ use ti_source::{Parsed, SharedTexts, is_block, parse, parse_sharing};
 use ti_text::limits::BLOCK_BYTES_MAX;
 
 /// The text of a block within the limit, copied, with the block as it is read; nothing is found out
-/// about it yet.
-pub(crate) fn read_slot(alloc: Global, text: &[u8]) -> Result<Slot, AllocError>
-    requires { IsBlockText text.now }
-    ensures text { IfOk result (λ slot. slot.text.items ≡ text.now) }
-    ensures sound { IfOk result IsSoundSlot }
-{
-    let block = parse(alloc, text)?;
-    slot_of(alloc, text, block)
-}
-
-/// The same, and texts of capabilities that were read before are shared.
-pub(crate) fn read_sharing_slot(
+/// about it yet. If there are texts of capabilities that were read before, they are shared.
+pub(crate) fn read_slot(
     alloc: Global,
     text: &[u8],
-    shared: &mut SharedTexts,
+    shared: Option<&mut SharedTexts>,
 ) -> Result<Slot, AllocError>
     requires { IsBlockText text.now }
     ensures text { IfOk result (λ slot. slot.text.items ≡ text.now) }
     ensures sound { IfOk result IsSoundSlot }
 {
-    let block = parse_sharing(alloc, text, shared)?;
+    let block = match shared {
+        Some(shared) => parse_sharing(alloc, text, shared)?,
+        None => parse(alloc, text)?,
+    };
     slot_of(alloc, text, block)
 }
 
-// A slot of a text and of the block that it is read as.
+/// The slot of a text and of the block that it is read as.
 fn slot_of(alloc: Global, text: &[u8], block: Parsed) -> Result<Slot, AllocError>
     requires text { IsBlockText text.now }
     requires computed { reading_of block ≡ reading_of_text text.now }

@@ -1,9 +1,9 @@
 //! Worked scripts, with replies from the manuals and by hand; devices that fail in mid-stream.
-use crate::devices::{Drip, End, Narrow};
 use std::alloc::{AllocError, Global};
 use std::process::Abort;
 use std::test::Fail;
 use ti_session::{Counted, ToolError, session};
+use ti_test_devices::{Drip, End, Narrow};
 
 // Three blocks that are each at fault, one before them, and requests of all kinds.
 const SCRIPT: &[u8] = b"i 0\na,foo,\n.\ni 1\nb,use=zz,\n.\ni 2\nc,cols#9x,\n.\nf\n\

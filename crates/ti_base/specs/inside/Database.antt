@@ -46,11 +46,9 @@ pub record AreRead (slots : Slots) : Type 0 where
   pub few : length slots.order.listed ≤ blocks_max
   pub sound : SlotsAreSound (slots_of slots)
 
--- a database whose slots are also settled
+-- and settled
 pub record AreKept (slots : Slots) : Type 0 where
-  pub indexed : IsIndexed slots
-  pub few : length slots.order.listed ≤ blocks_max
-  pub sound : SlotsAreSound (slots_of slots)
+  pub read : AreRead slots
   pub settled : SlotsAreSettled (slots_of slots)
 
 -- the slot of a block put in or taken out, and its position

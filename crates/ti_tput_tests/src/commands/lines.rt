@@ -1,10 +1,10 @@
 //! Worked lines of `-S`, and devices that fail in mid-stream.
 use super::{dumb, entry_bytes};
-use crate::devices::{Drip, End, Narrow};
 use std::alloc::{AllocError, Global};
 use std::process::Abort;
 use ti_devices::{Counted, ToolError, entry};
 use ti_layout::View;
+use ti_test_devices::{Drip, End, Narrow};
 use ti_tput::tput_lines;
 
 // What the lines write, and how they end.

@@ -4,16 +4,16 @@ use Rattle.ti_base.proofs.Installing.{all_usable, all_stand, kept_installed, tex
 use Rattle.ti_base.proofs.rebuilding.rebuild.Goals as goal
 
 pub plan-requires-clause-usable : goal.plan-requires-clause-usable
-plan-requires-clause-usable c = all_usable c.args.slots.now c.requires.indexed c.requires.sound
+plan-requires-clause-usable c = all_usable c.args.slots.now c.requires.read
 
 pub install-requires-clause-stand : goal.install-requires-clause-stand
 install-requires-clause-stand c =
-    all_stand c.args.slots.now c.args.put (map rc_slice_items c.args.out.now) c.in_ok-plan.plan c.requires.indexed c.in_ok-plan.ensures
+    all_stand c.args.slots.now c.args.put (map rc_slice_items c.args.out.now) c.in_ok-plan.plan c.requires.read.indexed c.in_ok-plan.ensures
 
 pub returns-clause-kept : goal.returns-clause-kept
 returns-clause-kept c =
     let e = c.install.ensures in
-    kept_installed c.args.slots.now c.install.new.slots c.args.put (map rc_slice_items c.args.out.now) c.in_ok-plan.plan c.requires.indexed c.requires.few c.requires.sound c.requires.ready c.in_ok-plan.ensures
+    kept_installed c.args.slots.now c.install.new.slots c.args.put (map rc_slice_items c.args.out.now) c.in_ok-plan.plan c.requires.read c.requires.ready c.in_ok-plan.ensures
     (record { order = e.order; names = e.names; slots = e.slots })
 
 pub returns-clause-texts : goal.returns-clause-texts

@@ -2,7 +2,7 @@ use Rattle.ti_base.proofs.Installing.{all_listed_stand, all_usable, kept_once, t
 use Rattle.ti_base.proofs.rebuilding.rebuild_all.Goals as goal
 
 pub plan_all-requires-clause-usable : goal.plan_all-requires-clause-usable
-plan_all-requires-clause-usable c = all_usable c.args.slots.now c.requires.indexed c.requires.sound
+plan_all-requires-clause-usable c = all_usable c.args.slots.now c.requires
 
 pub install-requires-clause-stand : goal.install-requires-clause-stand
 install-requires-clause-stand c = all_listed_stand c.args.slots.now c.in_ok-plan.plan c.requires.indexed c.in_ok-plan.ensures

@@ -9,7 +9,7 @@ use Rattle.ti_base.proofs.database.Database.names.Goals as goal
 pub returns : goal.returns
 returns c =
     let slots = c.self.inside.slots in
-    let read = blocks_read slots c.self.invariant.indexed c.self.invariant.sound ∙ ap readings c.self.view_is in
+    let read = blocks_read slots c.self.invariant.read ∙ ap readings c.self.view_is in
     let here = block_of_slot slots c.args.at c.slot_of.result.now c.slot_of.ensures in
     ap (λ (bs : List Reading). option_map (λ (b : Reading). b.names) (slice_get bs c.args.at)) (sym read)
     ∙ (ap (λ o. option_map (λ (b : Reading). b.names) o) here ∙ ap (λ names. Some (map rc_slice_items names)) (sym c.deref.ensures.value))

@@ -5,4 +5,4 @@ use Rattle.ti_base.proofs.database.Database.owner.Goals as goal
 
 pub returns : goal.returns
 returns c =
-    c.find_owner.ensures ∙ ap (λ bs. owner bs c.args.name.now) (blocks_read c.self.inside.slots c.self.invariant.indexed c.self.invariant.sound ∙ ap readings c.self.view_is)
+    c.find_owner.ensures ∙ ap (λ bs. owner bs c.args.name.now) (blocks_read c.self.inside.slots c.self.invariant.read ∙ ap readings c.self.view_is)

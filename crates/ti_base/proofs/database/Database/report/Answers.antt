@@ -7,4 +7,4 @@ use Rattle.ti_base.proofs.database.Database.report.Goals as goal
 pub report_of-requires-clause-all : goal.report_of-requires-clause-all
 report_of-requires-clause-all c =
     ap (map fault_seen) c.deref.ensures.value
-    ∙ (c.in_ok-found.ensures ∙ ap faults (blocks_read c.self.inside.slots c.self.invariant.indexed c.self.invariant.sound ∙ ap readings c.self.view_is))
+    ∙ (c.in_ok-found.ensures ∙ ap faults (blocks_read c.self.inside.slots c.self.invariant.read ∙ ap readings c.self.view_is))

@@ -16,10 +16,10 @@ placed_as n m all found e f h = rw (← e, f) h
 pub write_report-requires-clause-placed : goal.write_report-requires-clause-placed
 write_report-requires-clause-placed c =
     let slots = c.self.inside.slots in
-    let kept = c.self.invariant in
-    let read = blocks_read slots kept.indexed kept.sound ∙ ap readings c.self.view_is in
+    let read = c.self.invariant.read in
+    let texts_read = blocks_read slots read ∙ ap readings c.self.view_is in
     placed_as (length (blocks_of slots)) (length (slot_texts slots)) (faults (blocks_of slots)) (map fault_seen c.args.found.now) (length_blocks slots ∙ sym (length_texts slots))
-    (c.requires.all ∙ ap faults (sym read)) (faults_placed (blocks_of slots) (all_usable slots kept.indexed kept.sound))
+    (c.requires.all ∙ ap faults (sym texts_read)) (faults_placed (blocks_of slots) (all_usable slots read))
 
 pub returns : goal.returns
 returns c =

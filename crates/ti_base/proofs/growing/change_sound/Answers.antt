@@ -1,0 +1,11 @@
+use Rattle.std.proofs.Common.{ap, subst, sym, ◌∙◌}
+use Rattle.ti_meaning.specs.Edits.{IsSoundEdit, change_of, list_after}
+use Rattle.ti_base.proofs.growing.change_sound.Goals as goal
+
+pub make-requires-clause-sound : goal.make-requires-clause-sound
+make-requires-clause-sound c = subst (λ texts. IsSoundEdit texts (change_of c.args.edit.now)) (sym c.read_new.ensures.texts) c.requires.sound
+
+pub returns-clause-ok : goal.returns-clause-ok
+returns-clause-ok c =
+    c.forget.ensures.texts
+    ∙ (c.make.ensures.edited.texts ∙ ap (λ texts. list_after texts (change_of c.args.edit.now)) c.read_new.ensures.texts)
