@@ -53,7 +53,7 @@ pub fn find_dependents(
     blocks_found(alloc, slots, &found)
 }
 
-/// Blocks that a search found, their positions, and which of them use each other.
+// Blocks that a search found, their positions, and which of them use each other.
 fn blocks_found(
     alloc: Global,
     slots: &Slots,
@@ -91,7 +91,7 @@ pub fn find_all(alloc: Global, slots: &Slots) -> Result<Dependents, AllocError>
     blocks_listed(alloc, slots, &listed)
 }
 
-/// All blocks of a list, in its order, their positions, and which of them use each other.
+// All blocks of a list, in its order, their positions, and which of them use each other.
 fn blocks_listed(
     alloc: Global,
     slots: &Slots,

@@ -17,7 +17,7 @@ use ti_components::Components;
 use ti_dependents::{Dependents, find_all, find_dependents};
 use ti_slots::{Settled, Slots, State};
 
-/// What a list of so many blocks has for each before it is settled. None of it is read.
+// What a list of so many blocks has for each before it is settled. None of it is read.
 fn unsettled_nodes(alloc: Global, count: usize) -> Result<Vec<Settled>, AllocError>
     ensures { IfOk result (λ all. length all.items ≡ count) }
 {
@@ -61,7 +61,7 @@ fn settle_all(
     Ok(settled)
 }
 
-/// The plan that rebuilds these blocks.
+// The plan that rebuilds these blocks.
 fn make_plan(alloc: Global, slots: &Slots, dependents: Dependents) -> Result<Plan, AllocError>
     requires { AreFoundIn slots.now dependents }
     ensures { IfOk result (λ plan. IsPlanOf slots.now dependents plan) }

@@ -95,8 +95,8 @@ fn make_table(
     mentions.into_table()
 }
 
-/// The image of a sound block that has this table. Where the entry that the block had before has
-/// the same names, a copy of it is patched; else the image is written anew.
+// The image of a sound block that has this table. Where the entry that the block had before has
+// the same names, a copy of it is patched; else the image is written anew.
 fn make_image(alloc: Global, slot: &Slot, table: &Table) -> Result<Image, WriteError>
     requires whole { is_broken (reading_of slot.now.block) ≡ false }
     requires usable { IsUsable (reading_of slot.now.block) }
