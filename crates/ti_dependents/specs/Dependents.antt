@@ -21,18 +21,18 @@ pub record IsExchangeOf (slots : Slots) (put : Option ℕ) (out : List (List ℕ
 
 -- these are the blocks that depend on it, each once, by their ids and their positions; with each
 -- block they have its users
-pub record AreDependentIds (slots : Slots) (put : Option ℕ) (out : List (List ℕ)) (ids places : List ℕ) : Type 0 where
-  pub as_many : length places ≡ length ids
-  pub stands : (i id at : ℕ) → slice_get ids i ≡ Some id → slice_get places i ≡ Some at → StandsAt slots at id
+pub record AreDependentIds (slots : Slots) (put : Option ℕ) (out : List (List ℕ)) (ids positions : List ℕ) : Type 0 where
+  pub as_many : length positions ≡ length ids
+  pub stands : (i id at : ℕ) → slice_get ids i ≡ Some id → slice_get positions i ≡ Some at → StandsAt slots at id
   pub once : AreDistinct ids
-  pub dependents : (exchange : Exchange) → IsExchangeOf slots put out exchange → (at : ℕ) → Contains places at ↔ IsDependent exchange at
-  pub closed : AreFound (blocks_of slots) places
+  pub dependents : (exchange : Exchange) → IsExchangeOf slots put out exchange → (at : ℕ) → Contains positions at ↔ IsDependent exchange at
+  pub closed : AreFound (blocks_of slots) positions
 
 -- these are all blocks of the list, by their ids and their positions, in its order
-pub record AreAllIds (slots : Slots) (ids places : List ℕ) : Type 0 where
+pub record AreAllIds (slots : Slots) (ids positions : List ℕ) : Type 0 where
   pub listed : ids ≡ slots.order.listed
-  pub as_many : length places ≡ length ids
-  pub placed : (i : ℕ) → i < length ids → slice_get places i ≡ Some i
+  pub as_many : length positions ≡ length ids
+  pub placed : (i : ℕ) → i < length ids → slice_get positions i ≡ Some i
 
 -- the edge of an item leads to the place among the ids of the owner of the name that it uses, and
 -- nowhere if there is none

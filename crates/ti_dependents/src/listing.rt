@@ -21,12 +21,12 @@ pub(crate) fn listed_ids(alloc: Global, order: &Order) -> Result<IndexSet<u32>, 
 
 /// The positions of a list that is so long, in ascending order.
 pub(crate) fn positions(alloc: Global, count: usize) -> Result<Vec<usize>, AllocError>
-    ensures len { IfOk result (λ places. length places.items ≡ count) }
-    ensures each { IfOk result (λ places. (i : ℕ) → i < count → slice_get places.items i ≡ Some i) }
+    ensures len { IfOk result (λ positions. length positions.items ≡ count) }
+    ensures each { IfOk result (λ positions. (i : ℕ) → i < count → slice_get positions.items i ≡ Some i) }
 {
-    let mut places = Vec::with_capacity(alloc, count)?;
+    let mut positions = Vec::with_capacity(alloc, count)?;
     for place in 0..count {
-        places.push(place)?;
+        positions.push(place)?;
     }
-    Ok(places)
+    Ok(positions)
 }

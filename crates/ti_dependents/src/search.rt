@@ -88,7 +88,7 @@ fn add_first(
     add_users_of_names(slots, out, found)
 }
 
-/// Adds all blocks that depend on the edit, by their ids, if none was found before.
+/// Adds all blocks that depend on the edit, by their ids. None was found before.
 pub(crate) fn search(
     slots: &Slots,
     put: Option<u32>,

@@ -1,4 +1,4 @@
-//! The positions of the blocks found, and which of them use each other.
+// The positions of the blocks found, and which of them use each other.
 ghost use Rattle.std.specs.Prelude.{◌≡◌, ◌<◌, ℕ, Some, IsSome, map, nat_eq, slice_get, OnOk, IfOk};
 ghost use Rattle.ti_source.specs.Reading.{item_of};
 ghost use Rattle.std.specs.List.{IsDistinct};
@@ -17,18 +17,22 @@ use ti_slots::Slots;
 use ti_source::{Item, What};
 
 /// The position of each of the ids in the list, in which no id is twice.
-pub(crate) fn places_of(alloc: Global, order: &Order, ids: &[u32]) -> Result<Vec<usize>, AllocError>
+pub(crate) fn positions_of(
+    alloc: Global,
+    order: &Order,
+    ids: &[u32],
+) -> Result<Vec<usize>, AllocError>
     requires { (i id : ℕ) → slice_get ids.now i ≡ Some id → Has order.now.listed id }
-    ensures places { IfOk result (λ places. ArePositions order.now.listed ids.now places.items) }
+    ensures positions { IfOk result (λ positions. ArePositions order.now.listed ids.now positions.items) }
     ensures distinct { AreDistinct order.now.listed }
 {
-    // What the call says of the list is all that is wanted of it.
+    // The call is made for its clause `distinct` alone.
     let _listed = order.ids();
-    let mut places = Vec::with_capacity(alloc, ids.len())?;
+    let mut positions = Vec::with_capacity(alloc, ids.len())?;
     for id in ids {
-        places.push(order.position(*id))?;
+        positions.push(order.position(*id))?;
     }
-    Ok(places)
+    Ok(positions)
 }
 
 // The place among the blocks found of the owner of the name that an item uses.

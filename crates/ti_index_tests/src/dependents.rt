@@ -23,11 +23,11 @@ struct Wanted<'a> {
 
 // Whether the blocks found are at these places.
 fn are_places(found: &Dependents, want: &[usize]) -> bool {
-    if found.places.len() != want.len() {
+    if found.positions.len() != want.len() {
         return false;
     }
     for place in want {
-        if !found.places.contains(place) {
+        if !found.positions.contains(place) {
             return false;
         }
     }
@@ -225,7 +225,7 @@ fn all_blocks(rt: HostRuntime) -> Result<(), Fail> {
     let found = find_all(rt.alloc(), &slots)?;
     assert!(rt;
         found.ids.as_slice() == [2, 1, 0].as_slice()
-            && found.places.as_slice() == [0, 1, 2].as_slice()
+            && found.positions.as_slice() == [0, 1, 2].as_slice()
     );
     expect_found(&rt, &found, &FOUND_OF_THREE);
     Ok(())

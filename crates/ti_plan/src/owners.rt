@@ -16,7 +16,7 @@ pub(crate) struct Known<'a> {
     pub(crate) slots: &'a Slots,
     pub(crate) dependents: &'a Dependents,
     pub(crate) component_of: &'a [usize],
-    pub(crate) settled: &'a [Option<Settled>],
+    pub(crate) settled: &'a [Settled],
 }
 
 // What became of the owner of a name, which an item of the block at a node uses; or what is wrong
@@ -38,10 +38,7 @@ fn owner_state<'a>(
             if known.component_of[owner] == known.component_of[node] {
                 return Err(Code::Circular);
             }
-            match &known.settled[owner] {
-                Some(settled) => Ok(&settled.state),
-                None => unreachable!(),
-            }
+            Ok(&known.settled[owner].state)
         }
         None => match known.slots.owner(name) {
             Some(id) => Ok(&known.slots.slot(id).settled.state),

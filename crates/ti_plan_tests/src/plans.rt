@@ -75,7 +75,7 @@ fn plan_all(alloc: Global, slots: &Slots, id: u32) -> Result<Plan, Fail>
     requires put { (exchange : Exchange) × IsExchangeOf slots.now (Some id) [] exchange }
 {
     let found = find_dependents(alloc, slots, Some(id), &[])?;
-    if !are_all(slots.order.ids().len(), &found.places) {
+    if !are_all(slots.order.ids().len(), &found.positions) {
         return Err(Fail::new("a block that does not depend"));
     }
     Ok(plan(alloc, slots, Some(id), &[])?)

@@ -10,7 +10,7 @@ use std::alloc::AllocError;
 use ti_index::Order;
 use ti_source::Parsed;
 
-/// Makes sure that an id is free, and that each id has a place among the slots.
+// Makes sure that an id is free, and that each id has a place among the slots.
 fn make_place(order: &mut Order, slots: &mut Vec<Option<Slot>>) -> Result<(), AllocError>
     requires few { length order.old.listed < 2 ^ 31 }
     requires places { length order.old.listed + length order.old.free ≤ length slots.old.items }

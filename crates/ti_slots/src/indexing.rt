@@ -16,8 +16,8 @@ pub(crate) enum Role {
     User,
 }
 
-/// The name that a block says at a place, if it says one there: first come its names, then its
-/// items.
+// The name that a block says at a place, if it says one there: first come its names, then its
+// items.
 fn said_at(block: &Parsed, place: usize) -> Option<(Role, &[u8])>
     requires { place < length block.now.names.items + length block.now.items.items }
     ensures { slice_get (all_said block.now) place ≡ Some (option_map (λ said. (said.0, said.1.now)) result) }

@@ -34,7 +34,7 @@ IsUserOfOwned slots holder names id =
 abbrev pub IsPutOrUser : Slots → ℕ → ℕ → Type 0
 IsPutOrUser slots put id = (id ≡ put) ⊎ IsUserOfOne slots (reading_at slots.slots.items put).names id
 
--- the users and the block put in are there; if no block was put in, the users
+-- the same if a block was put in; nothing if none was
 abbrev pub IsPutOrUserIn : Slots → Option ℕ → ℕ → Type 0
 IsPutOrUserIn slots None id = ⊥
 IsPutOrUserIn slots (Some put) id = IsPutOrUser slots put id
