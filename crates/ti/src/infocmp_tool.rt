@@ -89,7 +89,10 @@ fn read_files<R: Clock + Env + Files + AllocGlobal>(
     let mut of_environment = None;
     let mut only = first_dir;
     for name in names {
-        files.push(entry_file(rt, name.as_str(), only, &mut of_environment)?)?;
+        let file = entry_file(rt, name.as_str(), only, &mut of_environment)?;
+        if files.push(file).is_err() {
+            return Err(Failure::Tool(ToolError::Memory));
+        }
         only = other_dir;
     }
     Ok(())
