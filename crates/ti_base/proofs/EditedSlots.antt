@@ -10,7 +10,7 @@ use Rattle.ti_text.specs.Limits.{blocks_max}
 use Rattle.ti_source.specs.Reading.{Reading, reading_of}
 use Rattle.ti_source.specs.Parsing.{reading_of_text}
 use Rattle.ti_meaning.specs.Owner.{is_among, readings}
-use Rattle.ti_meaning.specs.Edits.{Change, IsInPlace, IsSoundEdit, list_after, insertion, replacement, removal, relocation}
+use Rattle.ti_meaning.specs.Edits.{Change, IsInPlace, IsSoundEdit, list_after, insertion, replacement, removal, relocation, with_item_moved}
 use Rattle.ti_meaning.specs.Exchange.{HasPlace, Exchange, IsExchange, exchange_of, block_from}
 use Rattle.ti_meaning.specs.Dependents.{AreDependents, IsDependent, lookup_names_of, work}
 use Rattle.ti_meaning.proofs.EditedLists.{map-insert, map-remove, insert-remove, length-relocated}
@@ -144,9 +144,9 @@ texts_after xs (relocation from to) None f l e =
 
 few_after : (texts : List (List ℕ)) (change : Change) → IsSoundEdit texts change → length texts ≤ blocks_max → length (list_after texts change) ≤ blocks_max
 few_after texts (insertion at text) h l = (let n = length-insert texts at text h.in_place in let k : length texts < blocks_max = h.room in let m : length (insert texts at text) ≤ blocks_max = omega arith in m)
-few_after texts (replacement at text) h l = rw (length-set texts at text) l
+few_after texts (replacement at text) h l = (let n = length-set texts at text in let m : length (set texts at text) ≤ blocks_max = omega arith in m)
 few_after texts (removal at) h l = (let n = length-remove texts at h.in_place in let m : length (remove texts at) ≤ blocks_max = omega arith in m)
-few_after texts (relocation from to) h l = rw (length-relocated texts from to h.in_place.0 h.in_place.1) l
+few_after texts (relocation from to) h l = (let n = length-relocated texts from to h.in_place.0 h.in_place.1 in let m : length (with_item_moved texts from to) ≤ blocks_max = omega arith in m)
 
 readings_seen : (slots : Slots) → AreRead slots → readings (slot_texts slots) ≡ map reading_seen (slots_of slots)
 readings_seen slots h = sym (blocks_read slots h) ∙ blocks_seen slots

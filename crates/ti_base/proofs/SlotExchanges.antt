@@ -101,13 +101,16 @@ pub record IsLeft (old rest : Slots) (out : Option ℕ) (taken : Option Slot) : 
   pub listed : rest.order.listed ≡ without old.order.listed out
 
 pub is_left : (old rest : Slots) (out : Option ℕ) (taken : Option Slot) → IsIndexed old → IsOut old rest out taken → IsLeft old rest out taken
-is_left old rest None taken h is = record { indexed = subst IsIndexed (sym is.0) h; slots = ap slots_of is.0; slot = is.1; listed = ap (λ s. s.order.listed) is.0 }
+is_left old rest None taken h is = record { indexed = subst IsIndexed (sym is.0) h; slots = ap slots_of is.0; slot = is.1; listed = ap (λ (s : Slots). s.order.listed) is.0 }
 is_left old rest (Some at) taken h is = record {
   indexed = is.2.indexed;
   slots = slots_taken old rest at is.0 is.3 is.2;
   slot = is.1 ∙ sym (ap option_flatten (slot_taken old rest at is.0 is.2));
   listed = is.2.listed;
 }
+
+no_id : (slots : Slots) → HasId slots None None
+no_id slots = λ at other stands. ((λ h. absurd h), (λ e. absurd (none-some other e)))
 
 -- nothing is put in
 pub exchanged_out : (old rest : Slots) (out : Option ℕ) (spare taken : Option Slot) → CanExchange old out None spare → IsOut old rest out taken → IsExchanged old rest out None spare taken None

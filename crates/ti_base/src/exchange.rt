@@ -97,15 +97,17 @@ fn take_out(slots: &mut Slots, out: Option<usize>) -> Option<Slot>
 
 /// A new block with what was found out about the one taken out, if there is one, and that with what the
 /// new one had: the entry of before is there to be patched until the new block is rebuilt.
-fn swap_settled(mut new: Slot, taken: &mut Option<Slot>) -> Slot
-    ensures new { result ≡ settled_as taken.old new }
-    ensures taken { taken.new ≡ unsettled_as taken.old new }
+fn swap_settled(mut new: Slot, taken: Option<Slot>) -> (Slot, Option<Slot>)
+    ensures new { result.0 ≡ settled_as taken new }
+    ensures taken { result.1 ≡ unsettled_as taken new }
 {
-    let Some(old) = taken else {
-        return new;
-    };
-    mem::swap(&mut new.settled, &mut old.settled);
-    new
+    match taken {
+        Some(mut old) => {
+            mem::swap(&mut new.settled, &mut old.settled);
+            (new, Some(old))
+        }
+        None => (new, None),
+    }
 }
 
 /// The slot to be put in: the spare one, or the one taken out if there is none. The other one is spare then.
@@ -115,8 +117,9 @@ fn trade(taken: Option<Slot>, spare: &mut Option<Slot>) -> Option<Slot>
 {
     match spare.take() {
         Some(new) => {
-            *spare = taken;
-            Some(swap_settled(new, spare))
+            let (new, old) = swap_settled(new, taken);
+            *spare = old;
+            Some(new)
         }
         None => taken,
     }
