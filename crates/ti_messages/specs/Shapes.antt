@@ -1,6 +1,6 @@
 -- The values that a language server sends (LSP 3.17; the section is named at each). Members are in the order of their keys.
-use Rattle.std.specs.Prelude.{ℕ, List, codes, Bool, true, Option, None, Some, unwrap_or}
-use Rattle.serde_json.specs.Data.{Data, null, boolean, number, negative, unsigned, string, array, object, Items, Members, no_members, member}
+use Rattle.std.specs.Prelude.{ℕ, List, codes, true, Option, None, Some, unwrap_or}
+use Rattle.serde_json.specs.Data.{Data, null, boolean, number, negative, unsigned, string, array, object, Items, no_members, member}
 use Rattle.ti_messages.specs.Failures.{code_of, sentence_of}
 use Rattle.ti_messages.specs.declared.failures.Failure.{Failure}
 use Rattle.ti_messages.specs.declared.places.Position.{Position}

@@ -1,7 +1,8 @@
 //! Frames: a header that announces how long the body is, and the body ("Base Protocol").
-ghost use Rattle.std.specs.Prelude.{◌≡◌, ◌+◌, ◌<◌, ◌≤◌, ◌++◌, ◌∷◌, [], IfOk, MatchOption, OnOk, drop, length};
-ghost use Rattle.std.specs.Io.KnownBytes.{Consumes};
-ghost use Rattle.ti_messages.specs.Frames.{IsHeaderLine, IsLengthLine, are_blank, digits_number, line_end, number_of};
+ghost use Rattle.std.specs.Prelude.{◌≡◌, ◌+◌, ◌<◌, ◌≤◌, ◌++◌, ◌∷◌, [], ℕ, List, IfOk, MatchOption, OnOk, Some, drop, length, option_map};
+ghost use Rattle.std.specs.Io.KnownBytes.{Appends, Consumes};
+ghost use Rattle.ti_messages.specs.Frames.{IsHeader, IsHeaderLine, IsLengthLine, Reads, are_blank, digits_number, framed, line_end, number_of};
+ghost use Rattle.ti_messages.specs.inside.Headers.{FirstLength};
 
 use std::alloc::{AllocError, Global};
 use std::io;
@@ -84,11 +85,7 @@ fn without_return(mut line: Vec<u8>) -> Result<Vec<u8>, FrameFault>
 }
 
 // Reads a line of a header, without its end, which is counted in the room.
-fn read_line<R: Read>(
-    alloc: Global,
-    reader: &mut R,
-    room: usize,
-) -> Result<Vec<u8>, FrameFault>
+fn read_line<R: Read>(alloc: Global, reader: &mut R, room: usize) -> Result<Vec<u8>, FrameFault>
     ensures read { IfOk result (λ line. Consumes (R.remaining reader.old) (R.remaining reader.new)
         (line.items ++ line_end)) }
     ensures line { IfOk result (λ line. IsHeaderLine line.items) }
@@ -164,4 +161,142 @@ fn number(value: &[u8]) -> Option<u64>
         }
     }
     None
+}
+
+// The value of the first line that gives a length, once one more line came.
+fn first_value(
+    alloc: Global,
+    value: Option<Vec<u8>>,
+    line: &[u8],
+) -> Result<Option<Vec<u8>>, AllocError>
+    ensures { IfOk result (λ found. (lines : List (List ℕ))
+        → FirstLength lines (option_map (λ v. v.items) value)
+        → FirstLength (lines ++ line.now ∷ []) (option_map (λ v. v.items) found)) }
+{
+    if let Some(value) = value {
+        return Ok(Some(value));
+    }
+    match length_value(line) {
+        Some(value) => Ok(Some(Vec::from_slice(alloc, value)?)),
+        None => Ok(None),
+    }
+}
+
+// The length that a value gives.
+fn announced(value: Option<Vec<u8>>) -> Result<u64, FrameFault>
+    ensures { IfOk result (λ len. (bytes : List ℕ) × (option_map (λ v. v.items) value ≡ Some bytes)
+        × (number_of bytes ≡ Some len)) }
+{
+    let Some(value) = value else {
+        return Err(FrameFault::Broken);
+    };
+    match number(&value) {
+        Some(len) => Ok(len),
+        None => Err(FrameFault::Broken),
+    }
+}
+
+// Reads a header. The answer is the length that it announces.
+fn read_header<R: Read>(alloc: Global, reader: &mut R) -> Result<u64, FrameFault>
+    ensures { IfOk result (λ len. (header : List ℕ) × IsHeader header len
+        × Consumes (R.remaining reader.old) (R.remaining reader.new) header) }
+{
+    let mut room = HEADER_BYTES_MAX;
+    let mut value = None;
+    while room > 0 {
+        let line = read_line(alloc, reader, room)?;
+        if line.is_empty() {
+            return announced(value);
+        }
+        room -= line.len() + 2;
+        value = first_value(alloc, value, &line)?;
+    }
+    Err(FrameFault::Broken)
+}
+
+// Reads a piece of a body, and puts it at the end of what came before.
+fn read_piece<R: Read>(
+    reader: &mut R,
+    piece: &mut [u8],
+    body: &mut Vec<u8>,
+) -> Result<(), FrameFault>
+    ensures read { OnOk result (Consumes (R.remaining reader.old) (R.remaining reader.new) piece.new) }
+    ensures body { OnOk result (body.new.items ≡ body.old.items ++ piece.new) }
+{
+    reader.read_exact(piece)?;
+    body.extend_from_slice(piece)?;
+    Ok(())
+}
+
+// Reads a body of so many bytes. Memory grows with what comes.
+fn read_body<R: Read>(alloc: Global, reader: &mut R, len: usize) -> Result<Vec<u8>, FrameFault>
+    ensures read { IfOk result (λ body. Consumes (R.remaining reader.old) (R.remaining reader.new) body.items) }
+    ensures len { IfOk result (λ body. length body.items ≡ len) }
+{
+    let mut body = Vec::new(alloc);
+    let mut piece = [0_u8; PIECE_BYTES];
+    while body.len() < len {
+        let count = PIECE_BYTES.min(len - body.len());
+        read_piece(reader, &mut piece[..count], &mut body)?;
+    }
+    Ok(body)
+}
+
+// Reads so many bytes, and lets them go.
+fn skip_body<R: Read>(reader: &mut R, len: u64) -> Result<(), FrameFault>
+    ensures { OnOk result ((bytes : List ℕ) × Consumes (R.remaining reader.old) (R.remaining reader.new) bytes
+        × (length bytes ≡ len)) }
+{
+    let mut left = len;
+    let mut piece = [0_u8; PIECE_BYTES];
+    while left > 0 {
+        let count = left.min(PIECE_BYTES as u64);
+        reader.read_exact(&mut piece[..count as usize])?;
+        left -= count;
+    }
+    Ok(())
+}
+
+/// Reads a frame: a header of at most 4,096 bytes and its body. A field's name may be in any case; fields
+/// other than `Content-Length` are skipped, and the first of that name counts. Memory grows with what
+/// comes, not with what is announced. After an error nothing is known of the reader.
+///
+/// # Errors
+/// `Broken` if the reader fails or ends, if a line does not end with CR LF, and if the header is longer or
+/// gives no length; `Memory`.
+pub fn read_frame<R: Read>(alloc: Global, reader: &mut R) -> Result<Frame, FrameFault>
+    ensures { IfOk result (λ frame. Reads (R.remaining reader.old) (R.remaining reader.new) frame) }
+{
+    let len = read_header(alloc, reader)?;
+    if len > BODY_BYTES_MAX {
+        skip_body(reader, len)?;
+        return Ok(Frame::TooLong);
+    }
+    Ok(Frame::Body(read_body(alloc, reader, len as usize)?))
+}
+
+/// The frame of a body.
+///
+/// # Errors
+/// Out of memory.
+pub fn make_frame(alloc: Global, body: &[u8]) -> Result<Vec<u8>, AllocError>
+    ensures { IfOk result (λ bytes. bytes.items ≡ framed body.now) }
+{
+    let len = body.len();
+    let mut bytes = format!(in alloc; "Content-Length: {len}\r\n\r\n")?.into_bytes();
+    bytes.extend_from_slice(body)?;
+    Ok(bytes)
+}
+
+/// Writes the frame of a body at once, and flushes.
+///
+/// # Errors
+/// `Broken` if the writer fails; `Memory`.
+pub fn write_frame<W: Write>(alloc: Global, writer: &mut W, body: &[u8]) -> Result<(), FrameFault>
+    ensures { OnOk result (Appends (W.contents writer.old) (W.contents writer.new) (framed body.now)) }
+{
+    let bytes = make_frame(alloc, body)?;
+    writer.write_all(&bytes)?;
+    writer.flush()?;
+    Ok(())
 }
