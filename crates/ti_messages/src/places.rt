@@ -4,9 +4,9 @@
 #[derive(Clone, Copy, Debug, PartialEq, Eq)]
 pub struct Position {
     /// The line, from 0.
-    pub line: u32,
+    pub line: usize,
     /// The column in units of UTF-16, from 0.
-    pub column: u32,
+    pub column: usize,
 }
 
 /// A part of a text.

@@ -37,7 +37,10 @@ fn read_position(value: &Value) -> Option<Position>
 {
     let line = number_at(value, "line")?;
     let column = number_at(value, "character")?;
-    Some(Position { line, column })
+    Some(Position {
+        line: line as usize,
+        column: column as usize,
+    })
 }
 
 // A member that is a position.
