@@ -19,11 +19,11 @@ All-one P line here = All-cons P line [] here (All-nil P)
 pub FirstLength-found : (lines : List (List ℕ)) (line value : List ℕ) → FirstLength lines None → IsLengthLine line → value ≡ drop 15 line → FirstLength (lines ++ line ∷ []) (Some value)
 FirstLength-found lines line value before here value_is = record { front = lines; line = line; back = []; whole = refl; before = before; here = here; value_is = value_is }
 
--- neither does this one
+-- this line does not give a length either
 pub FirstLength-none : (lines : List (List ℕ)) (line : List ℕ) → FirstLength lines None → ¬ IsLengthLine line → FirstLength (lines ++ line ∷ []) None
 FirstLength-none lines line before here = All-append (λ other. ¬ IsLengthLine other) lines (line ∷ []) before (All-one (λ other. ¬ IsLengthLine other) line here)
 
--- a line gave it
+-- a line before gave a length
 pub FirstLength-kept : (lines : List (List ℕ)) (line value : List ℕ) → FirstLength lines (Some value) → FirstLength (lines ++ line ∷ []) (Some value)
 FirstLength-kept lines line value h = record { front = h.front; line = h.line; back = h.back ++ line ∷ []; whole = ap (λ all. all ++ line ∷ []) h.whole ∙ append_assoc h.front (h.line ∷ h.back) (line ∷ []); before = h.before; here = h.here; value_is = h.value_is }
 
@@ -63,7 +63,7 @@ ended given mid left value room len h read short announced = (
   Consumes-trans given mid left (lines_text h.lines) line_end h.read read,
 )
 
--- the empty line ends it
+-- the empty line ends the header
 pub IsHeader-ended : (given mid left : Option (List ℕ)) (value : Option (List ℕ)) (room len : ℕ) (line : List ℕ) → HeaderSoFar given mid value room → Consumes mid left (line ++ line_end) → length line ≡ 0 → length line + 2 ≤ room → (bytes : List ℕ) × (value ≡ Some bytes) × (number_of bytes ≡ Some len) → (header : List ℕ) × IsHeader header len × Consumes given left header
 IsHeader-ended given mid left value room len line h read empty short announced =
     ended given mid left announced.0 room len

@@ -3,7 +3,7 @@ use Rattle.std.specs.Prelude.{ℕ, ℤ, negsuc, List, codes}
 use Rattle.ti_messages.specs.declared.failures.Failure.{Failure}
 use Rattle.ti_messages.specs.declared.failures.Failure.TheVariants.{NoJson, NoRequest, NoMethod, BadParameters, NotInitialized}
 
--- `negsuc n` is the number -(n + 1)
+-- the number of a refusal; `negsuc n` is -(n + 1)
 abbrev pub code_of : Failure → ℤ
 code_of NoJson = negsuc 32699
 code_of NoRequest = negsuc 32599
@@ -11,7 +11,7 @@ code_of NoMethod = negsuc 32600
 code_of BadParameters = negsuc 32601
 code_of NotInitialized = negsuc 32001
 
--- (own)
+-- the sentence of a refusal (own)
 abbrev pub sentence_of : Failure → List ℕ
 sentence_of NoJson = codes "the body is no JSON or is too long"
 sentence_of NoRequest = codes "no request is expected here"

@@ -77,7 +77,7 @@ number_of (byte ∷ bytes) = if is_blank byte then number_of bytes else digits_n
 
 -- ---- headers and frames
 
--- a header of these bytes announces a body of so many
+-- a header of these bytes announces a body of this length
 pub record IsHeader (bytes : List ℕ) (len : ℕ) : Type 0 where
   pub lines : List (List ℕ)
   pub value : List ℕ
@@ -93,7 +93,7 @@ pub record ReadsFrame (given left : Option (List ℕ)) (body : List ℕ) : Type 
   pub announces : IsHeader header (length body)
   pub read : Consumes given left (header ++ body)
 
--- a frame was read; of one that is too long the body is let go
+-- a frame was read; the body of a frame that is too long is dropped
 abbrev pub Reads : Option (List ℕ) → Option (List ℕ) → Frame → Type 0
 Reads given left (Body body) = ReadsFrame given left body.items × (length body.items ≤ body_bytes_max)
 Reads given left TooLong = (body : List ℕ) × ReadsFrame given left body × (body_bytes_max < length body)

@@ -17,8 +17,9 @@ pub data Asked : Type 0 where
   shutdown : Asked
   unknown : Asked
 
--- a notification: of a document its URI, its version, and its text or the edits; `nothing` are those that ask for
--- nothing: `initialized`, unknown ones, and those with parameters that are not those of the method
+-- a notification: of a document its URI, its version, and its text or the edits; `nothing` are
+-- those that ask for nothing: `initialized`, unknown ones, and those with parameters that are not
+-- those of the method
 pub data Told : Type 0 where
   exited : Told
   opened : List ℕ → ℕ → List ℕ → Told
@@ -129,7 +130,7 @@ told_of method d =
 
 -- ---- messages ("Base Protocol")
 
--- an id is a text or an integer ("Request Message")
+-- an id is a string or an integer ("Request Message")
 abbrev pub is_id : Data → Bool
 is_id null = false
 is_id (boolean b) = false
@@ -144,7 +145,7 @@ id_of d = if is_id d then Some d else None
 abbrev pub id_in : Data → Option Data
 id_in d = option_and_then id_of (get (codes "id") d)
 
--- a request, if its id is one
+-- a request, if its id is an id
 abbrev pub request_of : List ℕ → Option Data → Meaning
 request_of method None = faulty None
 request_of method (Some id) = request id (asked_of method)
@@ -154,7 +155,7 @@ abbrev pub called_of : List ℕ → Data → Meaning
 called_of method d =
     if is_some (get (codes "id") d) then request_of method (id_in d) else notification (told_of method d)
 
--- the method is a text
+-- the method is a string
 abbrev pub method_meaning : Data → Option (List ℕ) → Meaning
 method_meaning d None = faulty (id_in d)
 method_meaning d (Some method) = called_of method d

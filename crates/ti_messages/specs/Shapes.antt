@@ -1,4 +1,5 @@
--- The values that a language server sends (LSP 3.17; the section is named at each). Members are in the order of their keys.
+-- The values that a language server sends (LSP 3.17; the section is named at each). Members are in
+-- the order of their keys.
 use Rattle.std.specs.Prelude.{ℕ, List, codes, true, Option, None, Some, unwrap_or}
 use Rattle.serde_json.specs.Data.{Data, null, boolean, number, negative, unsigned, string, array, object, Items, no_members, member}
 use Rattle.ti_messages.specs.Failures.{code_of, sentence_of}
@@ -66,14 +67,15 @@ failure_data failure =
     object (member (codes "code") (number (negative (code_of failure)))
     (member (codes "message") (string (sentence_of failure)) no_members))
 
--- "Response Message"; what has no id is answered with `null`
+-- "Response Message"; a message without an id is answered with `null`
 abbrev pub refusal_data : Option Data → Failure → Data
 refusal_data id failure =
     object (member (codes "error") (failure_data failure)
     (member (codes "id") (unwrap_or id null)
     (member (codes "jsonrpc") (string (codes "2.0")) no_members)))
 
--- "TextDocumentSyncOptions": documents are opened and closed, and 2 says that changes are parts of the text
+-- "TextDocumentSyncOptions": documents are opened and closed, and 2 says that changes are parts of
+-- the text
 abbrev pub sync_data : Data
 sync_data = object (member (codes "change") (natural 2) (member (codes "openClose") (boolean true) no_members))
 

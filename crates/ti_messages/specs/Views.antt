@@ -1,4 +1,4 @@
--- What a message that borrows its texts means.
+-- What a message that borrows its strings means.
 use Rattle.std.specs.Prelude.{map, option_map}
 use Rattle.serde_json.specs.View.{view}
 use Rattle.ti_messages.specs.Messages as means

@@ -18,7 +18,7 @@ pub enum Failure {
 }
 
 impl Failure {
-    /// Its number.
+    /// The number of the refusal.
     pub fn code(self) -> i32
         ensures { result ≡ code_of self }
     {
@@ -31,7 +31,7 @@ impl Failure {
         }
     }
 
-    /// A sentence that says it.
+    /// A sentence that says the refusal.
     pub fn sentence(self) -> &'static str
         ensures { result.now ≡ sentence_of self }
     {

@@ -11,7 +11,7 @@ use std::io::{Read, Write};
 /// The most bytes of a header, with the empty line.
 pub const HEADER_BYTES_MAX: usize = 4_096;
 
-/// The most bytes of a body that is kept.
+/// The most bytes of a body that is read.
 pub const BODY_BYTES_MAX: u64 = 67_108_864;
 
 // How many bytes of a body are read at a time.
@@ -25,14 +25,14 @@ const LENGTH_NAME: &[u8; 15] = b"content-length:";
 pub enum Frame {
     /// The body.
     Body(Vec<u8>),
-    /// A body of over 67,108,864 bytes. It was read and let go.
+    /// A body of over 67,108,864 bytes. It was read and dropped.
     TooLong,
 }
 
 /// Why no frame was read or written.
 #[derive(Clone, Copy, Debug, PartialEq, Eq)]
 pub enum FrameFault {
-    /// Out of memory.
+    /// Memory ran out.
     Memory,
     /// The input failed, ended or has no frame here, or the output takes no more.
     Broken,
@@ -228,7 +228,7 @@ fn read_piece<R: Read>(
     Ok(())
 }
 
-// Reads a body of so many bytes. Memory grows with what comes.
+// Reads a body of this length. Memory grows with what comes.
 fn read_body<R: Read>(alloc: Global, reader: &mut R, len: usize) -> Result<Vec<u8>, FrameFault>
     ensures read { IfOk result (λ body. Consumes (R.remaining reader.old) (R.remaining reader.new) body.items) }
     ensures len { IfOk result (λ body. length body.items ≡ len) }
@@ -242,7 +242,7 @@ fn read_body<R: Read>(alloc: Global, reader: &mut R, len: usize) -> Result<Vec<u
     Ok(body)
 }
 
-// Reads so many bytes, and lets them go.
+// Reads this number of bytes, and drops them.
 fn skip_body<R: Read>(reader: &mut R, len: u64) -> Result<(), FrameFault>
     ensures { OnOk result ((bytes : List ℕ) × Consumes (R.remaining reader.old) (R.remaining reader.new) bytes
         × (length bytes ≡ len)) }
@@ -257,13 +257,13 @@ fn skip_body<R: Read>(reader: &mut R, len: u64) -> Result<(), FrameFault>
     Ok(())
 }
 
-/// Reads a frame: a header of at most 4,096 bytes and its body. A field's name may be in any case; fields
-/// other than `Content-Length` are skipped, and the first of that name counts. Memory grows with what
-/// comes, not with what is announced. After an error nothing is known of the reader.
+/// Reads a frame: a header of at most 4,096 bytes and its body. A field's name may be in any case;
+/// fields other than `Content-Length` are skipped, and the first of that name counts. Memory grows
+/// with what comes, not with what is announced. After an error nothing is known of the reader.
 ///
 /// # Errors
-/// `Broken` if the reader fails or ends, if a line does not end with CR LF, and if the header is longer or
-/// gives no length; `Memory`.
+/// `Broken` if the reader fails or ends, if a line does not end with CR LF, and if the header is
+/// longer or gives no length; `Memory`.
 pub fn read_frame<R: Read>(alloc: Global, reader: &mut R) -> Result<Frame, FrameFault>
     ensures { IfOk result (λ frame. Reads (R.remaining reader.old) (R.remaining reader.new) frame) }
 {
@@ -278,7 +278,7 @@ pub fn read_frame<R: Read>(alloc: Global, reader: &mut R) -> Result<Frame, Frame
 /// The frame of a body.
 ///
 /// # Errors
-/// Out of memory.
+/// `AllocError` if memory ran out.
 pub fn make_frame(alloc: Global, body: &[u8]) -> Result<Vec<u8>, AllocError>
     ensures { IfOk result (λ bytes. bytes.items ≡ framed body.now) }
 {

@@ -4,7 +4,7 @@
 //! - `failures`: why a request is refused
 //! - `writing`: the values that a server sends
 //! - `messages`: what a client asks for or tells; `reading` reads it from values
-//! - `frames`: a value's text behind a header, read and written
+//! - `frames`: a value's text after a header, read and written
 #![tactic(auto)]
 
 pub mod failures;

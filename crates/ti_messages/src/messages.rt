@@ -1,4 +1,4 @@
-//! What a client asks for or tells. The texts are those of the value that was read.
+//! What a client asks for or tells. The strings are those of the value that was read.
 use crate::places::Range;
 use serde_json::Value;
 
@@ -59,14 +59,14 @@ pub enum Notice<'a> {
 pub enum Message<'a> {
     /// A request.
     Request {
-        /// Its id, a text or an integer.
+        /// The id of the request, a string or an integer.
         id: &'a Value,
-        /// What it asks for.
+        /// What the request asks for.
         call: Call,
     },
     /// A notification.
     Notification(Notice<'a>),
-    /// The answer to a request. The server sends none, so it is of no use.
+    /// The answer to a request. The server sends no request, so it is of no use.
     Response,
     /// No message; its id, if it has one.
     Faulty(Option<&'a Value>),

@@ -3,17 +3,17 @@
 /// A place between two characters of a text.
 #[derive(Clone, Copy, Debug, PartialEq, Eq)]
 pub struct Position {
-    /// The line, from 0.
+    /// The line, counted from 0.
     pub line: usize,
-    /// The column in units of UTF-16, from 0.
+    /// The column in UTF-16 units, counted from 0.
     pub column: usize,
 }
 
 /// A part of a text.
 #[derive(Clone, Copy, Debug, PartialEq, Eq)]
 pub struct Range {
-    /// Where it begins.
+    /// Where the part begins.
     pub start: Position,
-    /// Where it ends. What is there is no more of it.
+    /// Where the part ends. What is there is not of the part.
     pub end: Position,
 }

@@ -12,7 +12,7 @@ use crate::places::{Position, Range};
 use serde_json::Value;
 use std::alloc::{AllocError, Global};
 
-// A member that is a text.
+// A member that is a string.
 fn text_at<'a>(value: &'a Value, key: &str) -> Option<&'a str>
     ensures { option_map (λ text. text.now) result ≡ text_at key.now (view value.now) }
 {
@@ -193,7 +193,7 @@ fn read_call(method: &str) -> Call
     }
 }
 
-// Whether a value may be an id: a text or an integer.
+// Whether a value may be an id: a string or an integer.
 fn is_id(value: &Value) -> bool
     ensures { result ≡ is_id (view value.now) }
 {
@@ -235,10 +235,11 @@ fn read_called<'a>(alloc: Global, method: &str, value: &'a Value) -> Result<Mess
     }
 }
 
-/// What a value is as a message. `jsonrpc`, the language of a document and `rangeLength` are not read.
+/// What a value is as a message. `jsonrpc`, the language of a document and `rangeLength` are not
+/// read.
 ///
 /// # Errors
-/// Out of memory.
+/// `AllocError` if memory ran out.
 pub fn read_message(alloc: Global, value: &Value) -> Result<Message<'_>, AllocError>
     ensures { IfOk result (λ message. message_view message ≡ message_of (view value.now)) }
 {
@@ -254,7 +255,7 @@ pub fn read_message(alloc: Global, value: &Value) -> Result<Message<'_>, AllocEr
 /// The value that a body is. `None` if it is no JSON in UTF-8, or nests deeper than 127.
 ///
 /// # Errors
-/// Out of memory.
+/// `AllocError` if memory ran out.
 pub fn parse(alloc: Global, body: &[u8]) -> Result<Option<Value>, AllocError>
     ensures { IfOk result (λ value. MatchOption value (IsUtf8 body.now → read body.now ≡ None)
         (λ v. IsUtf8 body.now × (read body.now ≡ Some (view v)))) }

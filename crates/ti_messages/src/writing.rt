@@ -1,4 +1,4 @@
-//! The values that a language server sends. Each is one object of the protocol.
+//! The values that a language server sends. Each call writes one object of the protocol.
 ghost use Rattle.std.specs.Prelude.{◌≡◌, IfOk, option_map, unwrap_or};
 ghost use Rattle.serde_json.specs.Data.{null};
 ghost use Rattle.serde_json.specs.View.{items_view, view};
@@ -19,7 +19,7 @@ pub enum Severity {
 }
 
 impl Severity {
-    // Its number in the protocol.
+    // The number of the severity in the protocol.
     fn number(self) -> u32
         ensures { result ≡ severity_number self }
     {
@@ -33,7 +33,7 @@ impl Severity {
 /// A position ("Position").
 ///
 /// # Errors
-/// Out of memory.
+/// `AllocError` if memory ran out.
 pub fn position_value(alloc: Global, place: Position) -> Result<Value, AllocError>
     ensures { IfOk result (λ v. view v ≡ position_data place) }
 {
@@ -43,7 +43,7 @@ pub fn position_value(alloc: Global, place: Position) -> Result<Value, AllocErro
 /// A range ("Range").
 ///
 /// # Errors
-/// Out of memory.
+/// `AllocError` if memory ran out.
 pub fn range_value(alloc: Global, range: Range) -> Result<Value, AllocError>
     ensures { IfOk result (λ v. view v ≡ range_data range) }
 {
@@ -55,7 +55,7 @@ pub fn range_value(alloc: Global, range: Range) -> Result<Value, AllocError>
 /// A diagnostic ("Diagnostic") with its code and message; its source is `ti`.
 ///
 /// # Errors
-/// Out of memory.
+/// `AllocError` if memory ran out.
 pub fn diagnostic_value(
     alloc: Global,
     range: Range,
@@ -95,11 +95,11 @@ fn published_value(
     }
 }
 
-/// The notification of a document's diagnostics ("PublishDiagnostics Notification"), all of them. The
-/// version is that of the text that they are about.
+/// The notification of a document's diagnostics ("PublishDiagnostics Notification"), all of them.
+/// The version is that of the text that they are about.
 ///
 /// # Errors
-/// Out of memory.
+/// `AllocError` if memory ran out.
 pub fn publish_value(
     alloc: Global,
     uri: &str,
@@ -115,7 +115,7 @@ pub fn publish_value(
 /// The answer to a request ("Response Message") with its id.
 ///
 /// # Errors
-/// Out of memory.
+/// `AllocError` if memory ran out.
 pub fn response_value(alloc: Global, id: &Value, answer: Value) -> Result<Value, AllocError>
     ensures { IfOk result (λ v. view v ≡ response_data (view id.now) (view answer)) }
 {
@@ -144,7 +144,7 @@ fn id_or_null(alloc: Global, id: Option<&Value>) -> Result<Value, AllocError>
 /// The refusal of a request ("Response Message"), with its id or, if it has none, with `null`.
 ///
 /// # Errors
-/// Out of memory.
+/// `AllocError` if memory ran out.
 pub fn refusal_value(
     alloc: Global,
     id: Option<&Value>,
@@ -182,7 +182,7 @@ fn server_value(alloc: Global, version: &str) -> Result<Value, AllocError>
 /// The answer to `initialize` ("InitializeResult"), with the version of the server.
 ///
 /// # Errors
-/// Out of memory.
+/// `AllocError` if memory ran out.
 pub fn initialized_value(alloc: Global, version: &str) -> Result<Value, AllocError>
     ensures { IfOk result (λ v. view v ≡ initialized_data version.now) }
 {

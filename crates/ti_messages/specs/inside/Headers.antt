@@ -7,7 +7,7 @@ use Rattle.ti_messages.specs.Frames.{GivesLength, IsHeaderLine, IsLengthLine, he
 abbrev pub FirstLength : List (List ℕ) → Option (List ℕ) → Type 0
 FirstLength lines value = MatchOption value (All (λ line. ¬ IsLengthLine line) lines) (GivesLength lines)
 
--- these lines were read, and there is room for so many bytes more
+-- these lines were read, and there is room for this number of bytes more
 pub record HeaderSoFar (given left : Option (List ℕ)) (value : Option (List ℕ)) (room : ℕ) : Type 0 where
   pub lines : List (List ℕ)
   pub read : Consumes given left (lines_text lines)
