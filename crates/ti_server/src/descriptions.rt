@@ -1,9 +1,9 @@
 //! A short sentence for each capability, in our own words, with the name of its variable in X/Open
 //! Curses and, for a string, the parameters that it takes.
 //!
-//! The rows have the order of the compiled entry, as terminfo(5) gives it: a capability is described
-//! by the row of its kind at its index. Those of the texts are in six parts, since the proof of a
-//! function grows faster than the table that it reads.
+//! The rows have the order of the compiled entry, as terminfo(5) gives it: a capability is
+//! described by the row of its kind at its index. Those of the texts are in six parts, since the
+//! proof of a function grows faster than the table that it reads.
 ghost use Rattle.std.specs.Prelude.{◌<◌};
 ghost use Rattle.ti_caps.specs.Tables.{count_of};
 ghost use Rattle.ti_caps.specs.declared.capability.Kind.TheVariants.{Flag, Number, Text};
@@ -273,7 +273,7 @@ static PART_1: [Description; PART] = descriptions! {
     "key_dc", "The sequence that the delete-character key sends";
     "key_dl", "The sequence that the delete-line key sends";
     "key_down", "The sequence that the down arrow key sends";
-    "key_eic", "The sequence that the key that ends insert mode sends";
+    "key_eic", "The sequence that the exit-insert-mode key sends";
     "key_eol", "The sequence that the clear-to-end-of-line key sends";
     "key_eos", "The sequence that the clear-to-end-of-screen key sends";
     "key_f0", "The sequence that function key F0 sends";
@@ -610,8 +610,8 @@ static PART_6: [Description; PART] = descriptions! {
     "bit_image_newline", "Go down to the next row of a bit image";
     "bit_image_carriage_return", "Go back to the start of the same row of a bit image";
     "color_names", "Give the name of a colour", "colour";
-    "define_bit_image_region", "Begin a rectangle that holds a bit image";
-    "end_bit_image_region", "End a rectangle that holds a bit image";
+    "define_bit_image_region", "Mark out a rectangle for a bit image";
+    "end_bit_image_region", "End the rectangle of a bit image";
     "set_color_band", "Change to a colour of the printer's ribbon", "colour";
     "set_page_length", "Set the length of the page in lines", "lines";
     "display_pc_char", "Show a character of the PC's set", "character";
@@ -623,10 +623,10 @@ static PART_6: [Description; PART] = descriptions! {
     "scancode_escape", "Introduce an escape while scan codes are emulated";
     "alt_scancode_esc", "Introduce an escape while scan codes are emulated, by another way";
     "enter_horizontal_hl_mode", "Turn horizontal highlighting on";
-    "enter_left_hl_mode", "Turn highlighting on the left on";
+    "enter_left_hl_mode", "Turn left highlighting on";
     "enter_low_hl_mode", "Turn low highlighting on";
-    "enter_right_hl_mode", "Turn highlighting on the right on";
-    "enter_top_hl_mode", "Turn highlighting at the top on";
+    "enter_right_hl_mode", "Turn right highlighting on";
+    "enter_top_hl_mode", "Turn top highlighting on";
     "enter_vertical_hl_mode", "Turn vertical highlighting on";
     "set_a_attributes", "Set six kinds of highlighting at once, each on or off",
         "horizontal, left, low, right, top, vertical";
