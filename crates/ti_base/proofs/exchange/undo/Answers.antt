@@ -1,7 +1,7 @@
 use Rattle.ti_base.proofs.exchange.undo.Goals as goal
 
 pub exchange-requires : goal.exchange-requires
-exchange-requires c = rw (c.positions.ensures.out, c.positions.ensures.put) c.requires
+exchange-requires c = rw (c.positions-out.ensures.out, c.positions-out.ensures.put) c.requires
 
 pub returns : goal.returns
-returns c = rw (← c.positions.ensures.out, ← c.positions.ensures.put) (c.exchange.ensures.back.indexed, c.exchange.ensures.slots)
+returns c = rw (← c.positions-out.ensures.out, ← c.positions-out.ensures.put) (c.exchange.ensures.back.indexed, c.exchange.ensures.slots)
