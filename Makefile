@@ -1,6 +1,6 @@
 # ti, the terminfo toolkit
 #
-#   make            builds the program (proving every crate that it stands on)
+#   make            builds the program (proving every crate that it depends on)
 #   make test       the merge gate and the black-box cases: what CI runs
 #   make cli        the black-box cases alone, on the built program
 #   make integration  the program with editors, and with programs in a terminal
@@ -8,7 +8,7 @@
 #   make hostile    malicious inputs of full size, and 20,000 made at random
 #   make wrong-bodies   the further wrong bodies, which the prover must refuse too
 #   make library    builds the C library: libti.a, libti.so.1 and ti.pc
-#   make bench      counts and times the tools beside ncurses's, and edits of long lists
+#   make bench      compares counts and times of the tools with ncurses's, and edits of long lists
 #   make install    puts the program, its pages, completions and examples below
 #                   DESTDIR and PREFIX (which is /usr/local); with TOOLS=1 also
 #                   ti-tic, ti-infocmp and ti-tput; the C library too, if it is made

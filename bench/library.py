@@ -1,5 +1,5 @@
 #!/usr/bin/env python3
-"""Instructions that a call of libti takes, beside ncurses and unibilium, by valgrind's callgrind.
+"""Instructions that a call of libti takes, compared with ncurses and unibilium, by valgrind's callgrind.
 
     bench/library.py
 

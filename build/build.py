@@ -6,6 +6,8 @@ crate of how many is proved.
     build/build.py [PROGRAM]            `ti`, if none is named; of a static library its archive
     build/build.py --built [PROGRAM]    notes that the program that is in its place was built from
                                         what is there now, as the gate has built it
+    build/build.py --proved [PROGRAM]   takes the libraries below it as the gate has just proved
+                                        them from what is there now, and then builds it
 
 If a crate is not proved, what the prover said is shown, and the status is 1. It uses as many
 processors as TI_JOBS says; if that is not set, as many as there are, as far as there are so many
@@ -73,9 +75,26 @@ def digest_of(crates, name, known):
     return known[name]
 
 
+def take_proved(crates, digests, program):
+    """Takes the libraries below a program as the gate has just proved them, so that none is proved again."""
+    os.makedirs(LIBRARIES, exist_ok=True)
+    for name in all_below(crates, program):
+        proved, place = f"{TOP}/crates/{name}/out/rlib/{name}.rlib", f"{LIBRARIES}/{name}.rlib"
+        shutil.rmtree(place, ignore_errors=True)
+        # they are large
+        shutil.copytree(proved, place, copy_function=os.link)
+        mark_proved(digests, name)
+
+
 def mark_of(name):
     """The file that says what a crate was proved from, once it is."""
     return f"{LIBRARIES}/{name}.sum"
+
+
+def mark_proved(digests, name):
+    """Says that a crate was proved from what is there now."""
+    with open(mark_of(name), "w", encoding="utf-8") as file:
+        file.write(digests[name])
 
 
 def is_proved(digests, name):
@@ -118,8 +137,7 @@ def prove_marked(crates, digests, name, make):
     proved, said = make()
     # If a file was edited since the build began, nothing tells which text was proved.
     if proved and digest_of(crates, name, {}) == digests[name]:
-        with open(mark_of(name), "w", encoding="utf-8") as file:
-            file.write(digests[name])
+        mark_proved(digests, name)
     return proved, said
 
 
@@ -191,12 +209,12 @@ def place_of(crate):
 
 
 def built_from(digests, crate):
-    """What the file beside a program says if that program was built from what is there now."""
+    """What the file next to a program says if that program was built from what is there now."""
     return f"{digests[crate.name]} {digest(read(place_of(crate)))}"
 
 
 def mark_built(digests, crate):
-    """Says beside a program that it was built from what is there now."""
+    """Says next to a program that it was built from what is there now."""
     with open(f"{place_of(crate)}.sum", "w", encoding="utf-8") as file:
         file.write(built_from(digests, crate))
 
@@ -286,7 +304,7 @@ def build_if_changed(program):
 
 
 def main():
-    words = [word for word in sys.argv[1:] if word != "--built"]
+    words = [word for word in sys.argv[1:] if word not in ("--built", "--proved")]
     program = words[0] if words else "ti"
     crates = read_crates()
     if program not in crates:
@@ -297,12 +315,14 @@ def main():
             return 0
         tell("cannot be built: the command rt of the Rattle toolchain is not on PATH")
         return 1
-    if "--built" not in sys.argv[1:]:
-        return build_if_changed(program)
     digests = {}
     digest_of(crates, program, digests)
-    mark_built(digests, crates[program])
-    return 0
+    if "--built" in sys.argv[1:]:
+        mark_built(digests, crates[program])
+        return 0
+    if "--proved" in sys.argv[1:]:
+        take_proved(crates, digests, program)
+    return build_if_changed(program)
 
 
 if __name__ == "__main__":

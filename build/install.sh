@@ -20,6 +20,10 @@ install)
         mkdir -p "$target/$(dirname "$link")"
         ln -sf "$(readlink "$link")" "$target/$link"
     done
+    # pkg-config is told where the library now is
+    if [ -f lib/pkgconfig/ti.pc ]; then
+        sed "s|=/usr|=${PREFIX:-/usr/local}|" lib/pkgconfig/ti.pc >"$target/lib/pkgconfig/ti.pc"
+    fi
     ;;
 uninstall)
     find bin include lib share -type f -o -type l 2>/dev/null | while read -r file; do

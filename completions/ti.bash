@@ -169,7 +169,7 @@ _ti() {
         tic | infocmp | tput | session) "_ti_$tool" ;;
         help) ((COMP_CWORD > 2)) || _ti_words tic infocmp tput session ;;
     esac
-    # a name may stand in several places
+    # a name may be in several places
     if ((${#COMPREPLY[@]} > 1)); then
         local -A seen=()
         local word

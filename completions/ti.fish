@@ -56,7 +56,7 @@ function __ti_terminals
     end
 end
 
-# Whether this tool stands in the command line, as `ti TOOL` or `ti-TOOL`.
+# Whether this tool is in the command line, as `ti TOOL` or `ti-TOOL`.
 function __ti_is
     set -l words (commandline -opc)
     test "$words[1]" = ti; and test "$words[2]" = $argv[1]; and return
@@ -94,7 +94,7 @@ function __ti_infocmp_names
     end
 end
 
-# Whether no capability stands in the command line of tput yet, nor -S.
+# Whether the command line of tput has neither a capability nor -S yet.
 function __ti_wants_capability
     __ti_is tput; or return
     set -l words (commandline -opc)
@@ -148,14 +148,14 @@ for command in ti ti-tic ti-infocmp ti-tput
     complete -c $command -n '__ti_is infocmp' -o 1 -d 'Give each item a line of its own'
     complete -c $command -n '__ti_is infocmp' -o w -x -d 'Columns of a line, from 20 to 4096'
     complete -c $command -n '__ti_is infocmp' -o s -x -a 'd i' -d 'Sort by place in the entry (d) or by name (i)'
-    complete -c $command -n '__ti_is infocmp' -o A -x -a '(__fish_complete_directories)' -d 'Look for the first name there alone'
-    complete -c $command -n '__ti_is infocmp' -o B -x -a '(__fish_complete_directories)' -d 'Look for the other names there alone'
+    complete -c $command -n '__ti_is infocmp' -o A -x -a '(__fish_complete_directories)' -d 'Look for the first name only there'
+    complete -c $command -n '__ti_is infocmp' -o B -x -a '(__fish_complete_directories)' -d 'Look for the other names only there'
 
     complete -c $command -n __ti_wants_capability -f -a 'longname init reset (__ti_capabilities)'
     complete -c $command -n '__ti_is tput' -f
     complete -c $command -n '__ti_is tput' -o T -x -a '(__ti_terminals)' -d 'The terminal'
-    complete -c $command -n '__ti_is tput' -l rate -x -d 'Pad for a line of so many bits a second'
-    complete -c $command -n '__ti_is tput' -o S -d 'Read commands from standard input, one a line'
+    complete -c $command -n '__ti_is tput' -l rate -x -d 'Pad for a line of this many bits per second'
+    complete -c $command -n '__ti_is tput' -o S -d 'Read commands from standard input, one per line'
 
     complete -c $command -n '__ti_is session' -f
 end

@@ -3,10 +3,11 @@
 
 Each crate's specs/ has one file a subject. The comment at its head says what it is
 about and where it comes from; the comment above a definition says what it is. This
-lists those that public contracts cite, those that these name, and those that the latter name where the cited one is
-a record of them, by the section of the manual that they come from, each with its file and with the calls that cite it.
-With --check nothing is written, and the status is 1 where the page is out of date, or where the contract of a public
-call names a definition of specs/inside, which are for private contracts and proofs.
+lists those that public contracts cite, those that these name, and those that the latter name if
+the cited one is a record of them, by the section of the manual that they come from, each with its
+file and with the calls that cite it. With --check nothing is written, and the status is 1 if the
+page is out of date, or if the contract of a public call names a definition of specs/inside, which
+are for private contracts and proofs.
 """
 
 import os
@@ -22,11 +23,11 @@ HEAD = """# Definitions
 
 What the contracts of public calls cite, and what is needed to read it, as
 `docs/definitions.py` lists it from `crates/*/specs`: each definition's name, what it
-says, and the calls and laws whose contracts name it (none: a definition beside it
-does). They stand under the section of the manual that they come from, or under "own"
-where this project chose. A definition by cases or by a relation is never the code's
-loop again; where it is a relation, a law shows that it is determined. Definitions
-that only proofs use are not listed.
+says, and the calls and laws whose contracts name it (none: another definition does).
+The definitions are under the section of the manual that they come from, or under "own"
+if this project chose. A definition by cases or by a relation never repeats the code's
+loop; if it is a relation, a law shows that it is determined. Definitions that only
+proofs use are not listed.
 """
 MANUALS = ["X/Open Curses Issue 7", "terminfo(5)", "term(5)", "tic(1)", "infocmp(1)", "tput(1)", "printf(3)"]
 OWN = "Own"
@@ -156,7 +157,7 @@ def contracts(crate):
 
 
 def files_of(crate):
-    """The files of a crate's definitions, by name; those of the folder inside/ come last."""
+    """The files of a crate's definitions, by name; those of the directory inside/ come last."""
     found = []
     for inside in ("", "inside"):
         folder = os.path.join(TOP, "crates", crate, "specs", inside)
@@ -227,7 +228,7 @@ def page():
                 calls = dict.fromkeys(users.get((at, word), []))
                 out.append(f"| `{word}` | {says} | {', '.join(calls)} |")
             out.append("")
-    out.append("## Where each rule stands\n\n| Manual | Rule | File |\n|---|---|---|")
+    out.append("## The file of each rule\n\n| Manual | Rule | File |\n|---|---|---|")
     out += [f"| {section} | {head} | `{path}` |" for section, head, path in rules]
     return "\n".join(out).rstrip() + "\n"
 

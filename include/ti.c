@@ -34,7 +34,7 @@ static uint8_t *path_below(struct ti_text dir, struct ti_text name, uint32_t *re
     return NULL;
 }
 
-/* Reads a file of at most so many bytes into `bytes`. False if that fails. */
+/* Reads at most READ_MAX bytes of a file into `bytes`. False if that fails. */
 static bool read_file(FILE *file, uint8_t *bytes, size_t *size) {
     *size = fread(bytes, 1, READ_MAX, file);
     return !ferror(file);

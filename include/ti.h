@@ -1,7 +1,7 @@
 /*
  * libti: terminfo entries and parameter strings, for programs in C99 and C++17.
  *
- * A program finds and reads the entry of its terminal (ti_open), asks it for flags, numbers and
+ * A program finds and reads the entry of its terminal (ti_open), asks it for booleans, numbers and
  * strings (ti_capability, ti_flag, ti_number, ti_string), expands a string with its parameters
  * (ti_expand) and writes the bytes with their delays (ti_pad, ti_puts). See ti(3).
  *
@@ -11,12 +11,12 @@
  *
  * What nothing checks, and what a caller has to uphold:
  *
- * - A pointer is to a whole value, and is not NULL. Where a size is 0 the pointer beside it is not
+ * - A pointer is to a whole value, and is not NULL. If a size is 0 the pointer next to it is not
  *   NULL either, also in a `struct ti_text`, which begins as TI_NOTHING.
  * - What a call writes overlaps none of its other arguments.
  * - An entry begins as TI_ENTRY_EMPTY. Its fields are not to be changed, and it may be copied.
  * - An entry that ti_entry_read gave lies in the bytes that it was read from, and so do the texts
- *   that it gives: the bytes stay as they are while either is used. Those of ti_entry_new and
+ *   that it gives: the bytes must not change while either is used. Those of ti_entry_new and
  *   ti_open lie in memory of the entry's own, until ti_entry_free.
  * - A `bool` is 0 or 1.
  *
@@ -91,7 +91,7 @@ struct ti_entry {
 
 /*
  * Why bytes are no entry, in the order in which it is looked for. The last three are no refusals
- * of bytes: TI_ENTRY_MEMORY is of ti_entry_new and ti_open, the others of ti_open alone.
+ * of bytes: TI_ENTRY_MEMORY is of ti_entry_new and ti_open, the others only of ti_open.
  */
 enum {
     TI_SHORT = 1,     /* fewer bytes than a header */
@@ -99,7 +99,7 @@ enum {
     TI_COUNTS,        /* a size or a count is negative or too great */
     TI_TRUNCATED,     /* the bytes end before the string table does */
     TI_BAD_NAMES,     /* no names, or their only NUL is not their last byte */
-    TI_BAD_FLAG,      /* a flag is none of 0, 1, 0xFE and 0xFF */
+    TI_BAD_FLAG,      /* a boolean is none of 0, 1, 0xFE and 0xFF */
     TI_BAD_NUMBER,    /* a number is below -2 */
     TI_BAD_OFFSET,    /* an offset is below -2, or no NUL follows it in the string table */
     TI_ENTRY_MEMORY,  /* memory was refused */
@@ -109,8 +109,8 @@ enum {
 
 /*
  * Reads a compiled entry, of the legacy storage format or of the extended number format, where its
- * bytes lie, in one pass and without memory. 0, or the first of the refusals TI_SHORT to
- * TI_BAD_OFFSET that holds, and *entry is then as it was. Bytes behind the string table, as the
+ * bytes are, in one pass and without memory. 0, or the first of the refusals TI_SHORT to
+ * TI_BAD_OFFSET that holds, and *entry is then as it was. Bytes after the string table, as the
  * extended storage format of ncurses has them, are not looked at.
  */
 uint32_t ti_entry_read(const uint8_t *bytes, size_t size, struct ti_entry *entry);
@@ -130,7 +130,7 @@ void ti_first_name(const struct ti_entry *entry, struct ti_text *text);
 /* Gives in *text the description: the names field after its last `|`, or the whole of it. */
 void ti_long_name(const struct ti_entry *entry, struct ti_text *text);
 
-/* Whether a flag is set: 1, or 0 if it is absent or cancelled; -1 if there is no flag of the index. */
+/* Whether a boolean is set: 1, or 0 if it is absent or cancelled; -1 if the index has none. */
 int32_t ti_flag(const struct ti_entry *entry, uint32_t index);
 
 /* A number; -1 if it is absent or cancelled; -2 if there is no number of the index. */
@@ -144,14 +144,17 @@ int32_t ti_string(const struct ti_entry *entry, uint32_t index, struct ti_text *
 
 /* ---- parameters: terminfo(5), "Parameterized Strings" */
 
-/* A parameter: a number if `kind` is 0, else a text. */
+/* A parameter: a number if `kind` is 0, else a string. */
 struct ti_parameter {
     uint32_t kind;
     int32_t number;
     struct ti_text text;
 };
 
-/* The static variables `A` to `Z`, all 0 at first: each expansion finds them as the last one left them. */
+/*
+ * The static variables `A` to `Z`, all 0 at first: each expansion finds them as the last one left
+ * them.
+ */
 struct ti_variables {
     int32_t values[26];
 };
@@ -159,8 +162,8 @@ struct ti_variables {
 /* How a call that writes bytes ended, and what `size` is then. */
 enum {
     TI_OK = 0,      /* how many bytes were written */
-    TI_BAD_FORMAT,  /* the index of the first `%` that begins no code that may stand there */
-    TI_STACK_FULL,  /* the index of the `%` of a code that pushes on 20 values */
+    TI_BAD_FORMAT,  /* the index of the first `%` that begins no code that may come there */
+    TI_STACK_FULL,  /* the index of the `%` of a code that pushes when 20 values are there */
     TI_NO_MEMORY,   /* 0 */
     TI_NO_ROOM,     /* how many bytes are needed */
     TI_TOO_MUCH,    /* 0: more than 65,536 pad bytes */
@@ -186,7 +189,7 @@ struct ti_outcome ti_expand(const uint8_t *format, size_t format_size,
 
 /* The line to the terminal. */
 struct ti_line {
-    uint32_t rate;      /* in bits a second; a byte takes ten bits */
+    uint32_t rate;      /* in bits per second; a byte takes ten bits */
     uint32_t pad_from;  /* the least rate at which padding is written (`pb`) */
     bool xon;           /* the terminal stops the line, so only mandatory padding is written */
     bool has_pad_byte;  /* false: no padding is written (`npc`) */
@@ -194,18 +197,18 @@ struct ti_line {
 };
 #define TI_LINE_EMPTY { 0, 0, false, false, 0 }
 
-/* Gives in *line the line to the terminal of an entry, at a rate in bits a second. */
+/* Gives in *line the line to the terminal of an entry, at a rate in bits per second. */
 void ti_line(const struct ti_entry *entry, uint32_t rate, struct ti_line *line);
 
 /*
  * Writes to `out`, which has room for `room` bytes, a text with each padding `$<..>` as pad bytes,
- * where it takes effect on `lines` lines of the screen. TI_OK, TI_NO_MEMORY, TI_NO_ROOM or
+ * if it takes effect on `lines` lines of the screen. TI_OK, TI_NO_MEMORY, TI_NO_ROOM or
  * TI_TOO_MUCH; after all but TI_OK `out` is as it was.
  */
 struct ti_outcome ti_pad(const uint8_t *text, size_t size, uint32_t lines,
                          const struct ti_line *line, uint8_t *out, size_t room);
 
-/* ---- where entries stand: term(5), "Storage location" */
+/* ---- where entries are: term(5), "Storage location" */
 
 /*
  * Gives in *found the directory at an index of the order in which entries are looked for: what
@@ -218,7 +221,7 @@ bool ti_places(const uint8_t *terminfo, size_t terminfo_size, bool dirs_set, con
 
 /*
  * Writes to `out`, which has room for `room` bytes, the path of a name's entry below a directory,
- * with a NUL behind it, which `size` counts too. TI_OK, TI_NO_MEMORY, TI_NO_ROOM or TI_BAD_NAME (the
+ * with a NUL after it, which `size` counts too. TI_OK, TI_NO_MEMORY, TI_NO_ROOM or TI_BAD_NAME (the
  * name is empty, `.` or `..`, or has a byte that is not printable, a space or one of `,/|`); after
  * all but TI_OK `out` is as it was.
  */
@@ -246,7 +249,7 @@ void ti_entry_free(struct ti_entry *entry);
 struct ti_outcome ti_puts(const uint8_t *text, size_t size, uint32_t lines,
                           const struct ti_line *line, int (*put)(int));
 
-/* ---- the same from strings of C */
+/* ---- calls with strings of C */
 
 /* The bytes of a string of C, without its NUL. */
 static inline struct ti_text ti_text_of(const char *text) {
@@ -260,13 +263,13 @@ static inline struct ti_parameter ti_number_given(int32_t number) {
     return given;
 }
 
-/* A parameter that is a text. */
+/* A parameter that is a string. */
 static inline struct ti_parameter ti_text_given(const uint8_t *bytes, size_t size) {
     struct ti_parameter given = { 1, 0, { bytes, size } };
     return given;
 }
 
-/* The flag of a name, as ti_flag gives it; -1 if no flag has the name. */
+/* The boolean of a name, as ti_flag gives it; -1 if no boolean has the name. */
 static inline int32_t ti_flag_named(const struct ti_entry *entry, const char *name) {
     struct ti_text text = ti_text_of(name);
     struct ti_place place = { 0, 0 };

@@ -1,5 +1,5 @@
 #!/usr/bin/env python3
-"""Runs the commands that documents show, as they stand there, and compares what they print.
+"""Runs the commands that documents show, unchanged, and compares what they print.
 
     transcript.py FILE..      pages in mdoc (FILE.1, FILE.7) or Markdown
 
@@ -7,7 +7,7 @@ In a literal display of a page, or a block of Markdown between lines of three ba
 line that begins with `$ ` is a command of sh. Lines that belong to it follow as they are where it
 has a here-document, which ends with the line END. The lines up to the next command are what it
 prints on standard output and error together. A block that does not begin with `$ ` is not looked
-at. The commands of a document are run one after the other in the current folder by one shell.
+at. The commands of a document are run one after the other in the current directory by one shell.
 Prints what differs, and nothing where all is as shown.
 """
 

@@ -23,7 +23,7 @@ AT_ONCE = 400
 
 
 class Room:
-    """A folder of entries, each under its name, for one case."""
+    """A directory of entries, each under its name, for one case."""
 
     def __enter__(self):
         self.path = tempfile.mkdtemp(prefix="ti-hostile-", dir=ROOM)
@@ -220,7 +220,7 @@ def one_text(take):
 
 
 def reading_time(place, name, runs=60, batches=3):
-    """The least time of the processor that so many runs take which read an entry and print nothing of it."""
+    """The least CPU time of this many runs that read an entry and print nothing of it."""
     used = []
     for _ in range(batches):
         before = resource.getrusage(resource.RUSAGE_CHILDREN)
@@ -243,7 +243,7 @@ def one_text_is_read_once(take):
         room.put("many", of_one_text(b"A" * 32_000, [0] * 414))
         one, many = reading_time(room.path, "one"), reading_time(room.path, "many")
     # one search for each offset would be 13 million steps a run, ten times what a run takes
-    return None if many < 2 * one + 0.05 else f"{many:.3f} s beside {one:.3f} s"
+    return None if many < 2 * one + 0.05 else f"{many:.3f} s compared with {one:.3f} s"
 
 
 @case("65,535 blocks of four names each, written as files", long=True)

@@ -140,12 +140,12 @@ def ring_session(take, count):
         b"ok\n" + numbers(count) + faults + b"ok\n.\n" + entry_of(b"b0") + b"ok\n" + faults)
 
 
-@case("1,000 uses in a session: made circular, mended in the middle, made circular again")
+@case("1,000 uses in a session: made circular, repaired in the middle, made circular again")
 def ring_edited(take):
     return ring_session(take, 1_000)
 
 
-@case("65,535 uses in a session: made circular, mended in the middle, made circular again")
+@case("65,535 uses in a session: made circular, repaired in the middle, made circular again")
 def long_ring_edited(take):
     return ring_session(take, BLOCKS_MAX)
 
@@ -304,7 +304,7 @@ def megabytes(take):
     )
 
 
-@case("a preface of 32 megabytes, and a block too long behind it")
+@case("a preface of 32 megabytes, and a block too long after it")
 def long_preface(take):
     lines = 16_000_000
     return take.tic([b"#\n" * lines, b"x,foo,\n"], b"%d: W1 UnknownCapability foo\n" % (lines + 1)) or take.fault(

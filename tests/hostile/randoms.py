@@ -54,7 +54,7 @@ def checked(script):
 
 
 def fresh_fault(texts, last):
-    """What is wrong with the end of a session's replies, beside those of a fresh session of its list."""
+    """What is wrong with the end of a session's replies, compared with those of a new session of its list."""
     code, got, _ = quick(["session"], fresh(texts))
     wanted = b"ok\n" * len(texts) + last
     return None if (code, got) == (0, wanted) else f"a fresh session differs: {first_difference(got, wanted)}"
@@ -79,7 +79,7 @@ def edits(seed):
 
 
 def closed(lines):
-    """A script with lines behind it that end the text of an edit, where it ends within one."""
+    """A script with lines after it that end the text of an edit, if it ends within one."""
     return lines + b"\n.\n"
 
 
@@ -98,7 +98,7 @@ def script(seed):
         lines = closed(source.damage(lines))
     before, status, texts = replies(lines)
     if status != 0:
-        # a line that is too long ended it, and nothing behind it is read
+        # a line that is too long ended it, and nothing after it is read
         return checked(lines)[2]
     got, texts, fault = checked(lines + shown(texts))
     return fault or fresh_fault(texts, got[len(before) :])
@@ -117,9 +117,9 @@ def source(seed):
         found = {}
         for at, _, names in os.walk(os.fsencode(room)):
             for name in names:
-                # of a name that begins with a full stop this is the folder itself
+                # of a name that begins with a full stop this is the directory itself
                 if at != os.path.normpath(os.path.join(os.fsencode(room), name[:1])):
-                    return f"{name!r} is in the folder {at!r}"
+                    return f"{name!r} is in the directory {at!r}"
                 with open(os.path.join(at, name), "rb") as file:
                     found[name] = file.read()
         if found != files:

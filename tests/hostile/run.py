@@ -1,11 +1,11 @@
 #!/usr/bin/env python3
-"""Hostile use of the built program: malicious inputs, and inputs made at random beside a model.
+"""Hostile use of the built program: malicious inputs, and inputs made at random compared with a model.
 
     run.py [--all] [--seed N] [--only WORD]
 
 Without --all the short part alone: what takes long is run on a smaller scale. Each input is run
 within 2 GB of memory and 120 seconds of the processor; what it took is printed. The inputs made at random are compared
-with a model that is written from the definitions alone (the folder model/); their seed is printed, and
+with a model that is written from the definitions alone (the directory model/); their seed is printed, and
 --seed repeats them. With --only, only the parts and inputs whose name begins with the word are run.
 The last line is `hostile: N passed, M failed`.
 """

@@ -10,7 +10,7 @@ static void clear_out(void) {
     memset(untouched, FILL, sizeof untouched);
 }
 
-/* Whether these bytes were written to the front of `out`, and nothing behind them. */
+/* Whether these bytes were written to the front of `out`, and nothing after them. */
 static bool wrote(const char *bytes, size_t size) {
     return memcmp(out, bytes, size) == 0 && memcmp(out + size, untouched, sizeof out - size) == 0;
 }

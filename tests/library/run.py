@@ -1,5 +1,5 @@
 #!/usr/bin/env python3
-"""Tests the C library: its calls from C, and its answers beside other libraries.
+"""Tests the C library: its calls from C, and its answers compared with those of other libraries.
 
     tests/library/run.py [CASE..]      the cases named, or all of them
 
@@ -12,9 +12,9 @@ memory        each allocation refused in turn (memory.c)
 damaged       damaged entries (damaged.c), under sanitizers
 open          ti_open answers as ti-tput(1) does, with the same refusals
 tput          a program in C and `ti tput` write the same bytes
-ncurses       every entry of the system, beside ncurses (against_ncurses.c)
-tputs         its padding, beside tputs (against_tputs.c)
-unibilium     the same entries, beside unibilium (against_unibilium.c)
+ncurses       every entry of the system, compared with ncurses (against_ncurses.c)
+tputs         its padding, compared with tputs (against_tputs.c)
+unibilium     these entries, compared with unibilium (against_unibilium.c)
 page          the example of ti(3) is compiled, and writes what the page says
 examples      the programs of examples/ in C and Python
 install       `make install-library` puts what a program needs where it says
@@ -309,7 +309,7 @@ def check_tput(room):
 
 
 def check_page(room):
-    """The example of the page stands in it between `.Bd` and `.Ed`, with \\e for each backslash."""
+    """The example of the page is in it between `.Bd` and `.Ed`, with \\e for each backslash."""
     page = text_of("man", "ti.3")
     example = re.search(r"^\.Sh EXAMPLES\n.*?^\.Bd -literal[^\n]*\n(.*?)^\.Ed", page, re.S | re.M)[1]
     source = room.path("page.c")
@@ -372,7 +372,7 @@ def check_install(room):
     faults += [said] if status else room.faults([room.path("installed")], env={**os.environ, "LD_LIBRARY_PATH": f"{target}/opt/ti/lib64"})
     status, said = run([*words, "uninstall-library"])
     left = [name for _, _, names in os.walk(target) for name in names]
-    return faults + ([f"left behind: {left}, {said}"] if status or left else [])
+    return faults + ([f"left over: {left}, {said}"] if status or left else [])
 
 
 CASES = {

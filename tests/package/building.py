@@ -12,7 +12,7 @@ from shared import TOP, need
 from crates import all_below, read_crates  # of build/, which shared has put on the path
 
 
-# What stands for the toolchain where only the order of a build is tried: its prover wants what a crate stands on to be there,
+# What takes the place of the toolchain if only the order of a build is tried: its prover needs what a crate depends on,
 # notes in the file PROVED what it proves, refuses the crate REFUSED and edits `ti_text` while it proves the crate EDITS; its
 # linker makes a program that prints `built`.
 STAND_IN = {
@@ -35,6 +35,7 @@ done
 sleep 0.1
 mkdir -p "${made%/*}"
 echo "$name" >>"$PROVED"
+rm -rf "$made"
 echo "$name" >"$made"
 """,
     "rattle-link": """
@@ -49,7 +50,7 @@ chmod +x "$made"
 
 
 def make_stand_in(folder):
-    """Puts the stand-in for the toolchain into a folder, and gives the folder of its commands."""
+    """Puts the stand-in for the toolchain into a directory, and gives the directory of its commands."""
     kit = os.path.join(folder, "kit")
     os.makedirs(os.path.join(kit, "bin"))
     for library in ("std", "arrayvec", "byteorder", "clap", "indexmap", "itoa", "memchr", "thiserror"):
@@ -72,8 +73,8 @@ class Checkout:
         self.tools = make_stand_in(directory)
         self.log = os.path.join(directory, "proved")
 
-    def build(self, jobs="2", refused="", edits=""):
-        """What ./ti came to: its status, what it printed and said, and which crates were proved, in order.
+    def build(self, jobs="2", refused="", edits="", words=("./ti",)):
+        """What ./ti, or another command, came to: its status, what it printed and said, and which crates were proved, in order.
 
         The crate that is refused is not proved; while the one of `edits` is proved, `ti_text` is edited.
         """
@@ -81,7 +82,7 @@ class Checkout:
             os.remove(self.log)
         path = f"{self.tools}:{os.environ['PATH']}"
         given = {**os.environ, "PATH": path, "PROVED": self.log, "TI_JOBS": jobs, "REFUSED": refused, "EDITS": edits}
-        ran = subprocess.run(["./ti"], cwd=self.made, env=given, capture_output=True, text=True, check=False)
+        ran = subprocess.run(words, cwd=self.made, env=given, capture_output=True, text=True, check=False)
         proved = []
         with contextlib.suppress(FileNotFoundError), open(self.log, encoding="utf-8") as file:
             proved = file.read().split()
@@ -111,6 +112,8 @@ def check_build():
         yield from edit_faults(checkout)
         yield from refusal_faults(checkout)
         yield from jobs_faults(checkout)
+    with tempfile.TemporaryDirectory(prefix="ti-package-") as directory:
+        yield from library_faults(Checkout(directory))
 
 
 def first_build_faults(checkout):
@@ -171,6 +174,23 @@ def jobs_faults(checkout):
     for jobs in ("1", "1000"):
         checkout.edit("ti_text", "src", "lib.rt")
         yield from checkout.built(f"TI_JOBS={jobs}", checkout.reached("ti_text"), jobs=jobs)
+
+
+def library_faults(checkout):
+    """What the gate has proved below the C library is not proved again, but what is edited then is."""
+    for name in all_below(checkout.crates, "ti_c"):
+        place = os.path.join(checkout.made, "crates", name, "out", "rlib", f"{name}.rlib")
+        os.makedirs(place)
+        with open(os.path.join(place, "format"), "w", encoding="utf-8") as file:
+            file.write("proved\n")
+    for words, wanted in ((["--proved"], ["ti_c"]), ([], [])):
+        proved = checkout.build(words=["build/build.py", *words, "ti_c"])[3]
+        if proved != wanted:
+            yield f"build.py {words} ti_c proves {proved}"
+    checkout.edit("ti_tput", "src", "lib.rt")
+    proved = checkout.build(words=["build/build.py", "ti_c"])[3]
+    if proved != ["ti_tput", "ti_c"]:
+        yield f"after an edit of ti_tput, build.py ti_c proves {proved}"
 
 
 # A program above one library of the repository.

@@ -121,7 +121,7 @@ class Zsh:
 
 
 def with_entries(check):
-    """Runs a check in a folder in which the examples lie and are compiled."""
+    """Runs a check in a directory in which the examples are, compiled."""
     with tempfile.TemporaryDirectory(prefix="ti-package-") as folder:
         for name in ("dumb.ti", "lantern.ti"):
             shutil.copy(os.path.join(TOP, "examples", name), folder)

@@ -28,7 +28,7 @@ def check_install():
         env = {"PATH": here("bin") + ":/usr/bin:/bin", "TERMINFO": os.path.join(folder, "out")}
         script = "ti tic dumb.ti && ti-tic -o again dumb.ti && cmp $TERMINFO/d/dumb again/d/dumb &&"
         script += " ti-tput -T dumb cols && ti-infocmp dumb | head -n 1; ti-tput -T dumb bw; echo $?;"
-        # a link of another name in another folder
+        # a link of another name in another directory
         script += " ln -s usr/bin/ti-tput tput && ./tput -T dumb cols"
         shutil.copy(os.path.join(TOP, "examples", "dumb.ti"), folder)
         got = output(["sh", "-c", script], cwd=folder, env=env)
@@ -41,7 +41,7 @@ def check_install():
 
 
 def unpacked(folder):
-    """Makes the tarball and unpacks it; gives the folder that it holds."""
+    """Makes the tarball and unpacks it; gives the directory that it holds."""
     need("git")
     copy = os.path.join(folder, "copy")
     if subprocess.run(["git", "clone", "-q", "--no-hardlinks", TOP, copy], stderr=subprocess.DEVNULL).returncode:

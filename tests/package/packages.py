@@ -15,6 +15,16 @@ SCRIPT = """ti tic -o out dumb.ti && ti-tic -o again dumb.ti && cmp out/d/dumb a
 TERMINFO=out ti infocmp dumb | head -n 1 && TERMINFO=out ti tput -T dumb cols &&
 printf 'i 0\\nx,\\n.\\nf\\n' | ti session"""
 PRINTED = "dumb|80-column dumb tty,\n80\nok\n.\n"
+# a program in C that takes the library
+SOURCE = """#include <stdio.h>
+#include <ti.h>
+int main(void) {
+    struct ti_place place = { 0, 0 };
+    bool found = ti_capability((const uint8_t *)"cup", 3, &place);
+    return printf("%s %d %u\\n", TI_VERSION, found, (unsigned)place.index) < 0;
+}
+"""
+OF_LIBRARY = ("/include/ti.h", "/libti.a", "/pkgconfig/ti.pc", "/man3/ti.3.gz")
 
 
 def version():
@@ -67,6 +77,25 @@ def program_faults(what, directory, path):
         yield f"the program of {what} prints {got!r}"
 
 
+def library_faults(unpacked):
+    """What is wrong with the unpacked package of the C library: its files, and a program that takes them."""
+    names = [f"/{it}" for it in files_below(unpacked)]
+    for wanted in OF_LIBRARY:
+        if not any(it.endswith(wanted) for it in names):
+            yield f"libti-dev has no {wanted}"
+            return
+    need("cc")
+    program, source = os.path.join(unpacked, "program"), os.path.join(unpacked, "program.c")
+    with open(source, "w", encoding="utf-8") as file:
+        file.write(SOURCE)
+    archive = next(it for it in names if it.endswith("/libti.a"))
+    headers = os.path.join(unpacked, "usr", "include")
+    output(["cc", "-std=c99", "-I", headers, source, unpacked + archive, "-o", program])
+    got = output([program])
+    if got != f"{version()} 1 10\n":
+        yield f"a program that takes libti-dev prints {got!r}"
+
+
 def check_deb():
     """Whether the Debian packages are the same each time, run unpacked, and please lintian."""
     need("dpkg-deb")
@@ -90,6 +119,10 @@ def check_deb():
             for line in output(words).split("\n"):
                 if re.match("[EW]: ", line):
                     yield line
+        library = next((it for it in names if it.startswith("libti-dev_")), None)
+        if not library:
+            raise Skipped("the C library is not made: make library")
+        yield from library_faults(os.path.join(room, "libti-dev"))
 
 
 def check_deb_in_chroot():
@@ -148,11 +181,15 @@ def check_release():
         archive = next(it for it in names if it.endswith("-linux.tar.gz"))
         output(["tar", "xf", os.path.join(made, archive)], cwd=room)
         script = os.path.join(room, archive.removesuffix(".tar.gz"), "install.sh")
-        env = {"PATH": "/usr/bin:/bin", "DESTDIR": os.path.join(room, "stage"), "PREFIX": "/usr"}
+        env = {"PATH": "/usr/bin:/bin", "DESTDIR": os.path.join(room, "stage"), "PREFIX": "/opt/ti"}
         said = output([script], env=env)
         if said:
             yield f"install.sh says {said!r}"
-        yield from program_faults(archive, room, os.path.join(room, "stage", "usr", "bin"))
+        installed = os.path.join(room, "stage", "opt", "ti")
+        yield from program_faults(archive, room, os.path.join(installed, "bin"))
+        for path in files_below(installed):
+            if path.endswith(".pc") and "/usr" in text_of(installed, path):
+                yield f"{path} says where the library is not"
         output([script, "uninstall"], env=env)
         if files_below(os.path.join(room, "stage")):
             yield f"install.sh uninstall leaves {files_below(os.path.join(room, 'stage'))[:5]}"

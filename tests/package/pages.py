@@ -71,6 +71,13 @@ def check_markdown():
         yield said.strip()
 
 
+def check_tables():
+    """Whether the tables of capabilities are those that follow from the lists of names."""
+    said = output([sys.executable, os.path.join(TOP, "build", "capability_tables.py"), "--check"])
+    if said:
+        yield said.strip()
+
+
 def check_readme():
     """Whether README's first command, on the built program, writes what is said after it; the second is what CI runs."""
     block = text_of("README.md").split("```sh\n")[1].split("```")[0]

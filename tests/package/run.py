@@ -3,6 +3,7 @@
 
     tests/package/run.py [CHECK..]     the checks named, or all but `tarball-builds`
 
+tables       the tables of ti_caps that follow from its lists of names are as they follow
 options      the options and commands of pages, help and completions are one set, and the
              capabilities that completions know are those of the program
 bash, fish, zsh
@@ -10,7 +11,7 @@ bash, fish, zsh
 pages        the pages are clean under `mandoc -T lint`, and each says what a page is to say
 markdown     the links of pages lead to files, lines keep to the width, and the picture of the
              crates is that of crates.txt
-readme       the first command of README, as it stands there, writes what is said of it, and the
+readme       the first command of README writes what README says of it, and the
              second is what CI runs
 install      what `make install` puts into a directory runs from there, and `make uninstall`
              takes all of it away
@@ -42,6 +43,7 @@ import shared  # noqa: F401, puts the directory of `common` on the path
 from common import PROGRAM, Skipped, Tally, is_missing
 
 CHECKS = {
+    "tables": pages.check_tables,
     "options": completions.check_options,
     "bash": completions.check_bash,
     "fish": completions.check_fish,
@@ -60,7 +62,7 @@ CHECKS = {
     "small-build": building.check_small_build,
 }
 # these look at the repository alone, and not at the built program
-WITHOUT_PROGRAM = {"markdown", "pages", "tarball", "tarball-builds", "build", "small-build"}
+WITHOUT_PROGRAM = {"tables", "markdown", "pages", "tarball", "tarball-builds", "build", "small-build"}
 EXPECTED = (subprocess.SubprocessError, OSError, IndexError, KeyError, TypeError, StopIteration)
 
 

@@ -3,13 +3,13 @@
 
 The program `ti_refusals`, which the gate has proved and built, runs scenarios by name.
 Each prints one line, and says `refused` on standard error where a call of the libraries
-answered want of memory. Here every scenario runs once with all the memory it asks for, and
+answered out of memory. Here every scenario runs once with all the memory it asks for, and
 then once for each growth that it asks for, which is refused, until a run meets no
 refusal. Each of these runs must print the same line and end well; at most one call of it
-may have answered want of memory, and none where nothing was refused.
+may have answered out of memory, and none if nothing was refused.
 
 Growths are refused by `refuse.c`, which is preloaded into the program and counts the
-calls of malloc and of all that stands beside it; it is compiled by the clang of the toolchain, else by
+calls of malloc and of its kin; it is compiled by the clang of the toolchain, else by
 `cc`. (`rt try --fail-alloc N` refuses the same growths, and builds the program anew for
 each N, some twenty seconds each.)
 
@@ -71,7 +71,7 @@ class Runs:
         self.library = library
 
     def run(self, name, number):
-        """What a run printed, how often a call answered want of memory, the growths, and those refused."""
+        """What a run printed, how often a call answered out of memory, the growths, and those refused."""
         done = subprocess.run(
             [PROGRAM, name], stdin=subprocess.DEVNULL, stdout=subprocess.PIPE, stderr=subprocess.PIPE,
             env={"LD_PRELOAD": self.library, "REFUSE": str(number)}, timeout=SECONDS, check=False,
@@ -85,12 +85,12 @@ class Runs:
         return done.stdout, len(lines), int(words[1]), int(words[3])
 
     def check(self, name, number, wanted):
-        """Runs a scenario with one growth refused. The number of calls that answered want of memory, and of refusals."""
+        """Runs a scenario with one growth refused. The number of calls that answered out of memory, and of refusals."""
         stdout, answers, _, refusals = self.run(name, number)
         if stdout != wanted:
             raise ValueError(f"with growth {number} refused: {stdout!r}, wanted {wanted!r}")
         if answers > refusals:
-            raise ValueError(f"with growth {number} refused: want of memory where there was none")
+            raise ValueError(f"with growth {number} refused: out of memory where there was none")
         return answers, refusals
 
 

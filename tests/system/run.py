@@ -1,7 +1,7 @@
 #!/usr/bin/env python3
 """Compares with the ncurses of this system: its entries, and its lists of names.
 
-Every file below the system's terminfo folders is read by `ti_probe`, which prints what
+Every file below the system's terminfo directories is read by `ti_probe`, which prints what
 a view shows; Python's curses module asks ncurses for the same entry, each of the 497
 capabilities by its name. A file of neither format must be refused as `Magic`. ncurses opens no hardcopy terminal (`hc`) and no generic one (`gn`), so it is
 asked for a copy of such an entry without that flag.
@@ -9,7 +9,7 @@ asked for a copy of such an entry without that flag.
 The names of the capabilities are compared with the arrays `boolnames`, `numnames` and
 `strnames` of the ncurses library, all of them and in order.
 
-Where the system has no such folder, no curses module or no such library, that part is
+If the system has no such directory, no curses module or no such library, that part is
 not compared, and that is said. The last line is `system: N passed, M failed`.
 """
 
@@ -87,7 +87,7 @@ def shown(files):
 
 
 def ask(question):
-    """What ncurses says of an entry of a folder, as `ti_probe` prints it; or why it does not."""
+    """What ncurses says of an entry of a directory, as `ti_probe` prints it; or why it does not."""
     import curses
 
     folder, name, (flags, numbers, texts) = question
@@ -104,7 +104,7 @@ def ask(question):
 
 
 def without_refused_flags(path, flags, room):
-    """Copies an entry below a folder without the flags of `REFUSED_FLAGS`; gives those it had."""
+    """Copies an entry below a directory without the booleans of `REFUSED_FLAGS`; gives those it had."""
     with open(path, "rb") as file:
         content = bytearray(file.read())
     names_len = int.from_bytes(content[2:4], "little")
@@ -144,12 +144,12 @@ def fault(name, path, lines, pool, names, room):
         if not any(it.startswith(f"{size}#") for it in got):
             wanted = [it for it in wanted if not it.startswith(f"{size}#")]
     if got != wanted:
-        return f"{sorted(set(got) ^ set(wanted))[:6]} differ, or stand in another order"
+        return f"{sorted(set(got) ^ set(wanted))[:6]} differ, or are in another order"
     return None
 
 
 def entries():
-    """The name and the path of each file below the system's folders."""
+    """The name and the path of each file below the system's directories."""
     found = []
     for folder in FOLDERS:
         for at, _, names in sorted(os.walk(folder)):

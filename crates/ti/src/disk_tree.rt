@@ -2,6 +2,7 @@
 ghost use Rattle.std.specs.Prelude.{◌≡◌, ◌+◌, IfOk, option_map};
 ghost use Rattle.ti_devices.specs.Tree.{HasAtMost, failures_by};
 
+use crate::made_directories::MadeDirectories;
 use crate::new_file::{is_absent, replace_file};
 use crate::whole::read_whole;
 use std::alloc::Global;
@@ -10,27 +11,30 @@ use std::io::{self, ErrorKind};
 use std::rt::{Clock, Files};
 use ti_tools::{Tally, Tree, TreeFault};
 
-/// How many bytes of a file are asked for at a time. Most entries have no more than twice as many, and to make room for
-/// more would take longer than to read them.
+// How many bytes of a file are asked for at a time. Most entries have at most twice as many, and
+// to make room for more would take longer than to read them.
 const PIECE: usize = 2048;
 
-/// The files of the system. What they hold is not known, so a contract sees the failures alone.
+/// The files of the system. What they hold is not known, so a contract sees only the failures.
 ///
 /// Only a regular file is read. A file is replaced whole: its bytes go into a new file in the same
-/// directory, which then takes its name. So what cannot be written leaves the old file, a link at the
-/// path is replaced and not followed, and another name of the old file keeps the old bytes.
+/// directory, which then takes its name. So a failed write leaves the old file, a link at the path
+/// is replaced and not followed, and another name of the old file still has the old bytes.
 #[derive(Drop)]
 pub struct DiskTree<'a, R: Files + Clock + AllocGlobal> {
     rt: &'a R,
     failures: Tally,
+    made: MadeDirectories,
 }
 
 impl<'a, R: Files + Clock + AllocGlobal> DiskTree<'a, R> {
-    /// The files that `rt` reaches. A path that does not begin with `/` starts at the current directory.
+    /// The files that `rt` reaches. A path that does not begin with `/` starts at the current
+    /// directory.
     pub fn new(rt: &'a R) -> DiskTree<'a, R> {
         DiskTree {
             rt,
             failures: Tally::zero(),
+            made: MadeDirectories::new(rt),
         }
     }
 
@@ -62,15 +66,15 @@ impl<'a, R: Files + Clock + AllocGlobal> Tree for DiskTree<'a, R> {
     }
 
     fn write(&mut self, path: &str, bytes: &[u8]) -> Result<(), TreeFault> {
-        match replace_file(self.rt, path, bytes) {
+        match replace_file(self.rt, &mut self.made, path, bytes) {
             Ok(()) => Ok(()),
             Err(error) => Err(self.fault(error)),
         }
     }
 }
 
-// The first `limit + 1` bytes of a file, or all if it has fewer; `None` if it is not there. What is no
-// regular file is an error: to open a FIFO would wait for a writer.
+// The first `limit + 1` bytes of a file, or all if it has fewer; `None` if it is not there. A path
+// that is no regular file is an error: to open a FIFO would wait for a writer.
 fn read_file<R: Files>(
     rt: &R,
     alloc: Global,

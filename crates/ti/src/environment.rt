@@ -1,8 +1,8 @@
-//! What the environment says of the terminal and of the places of entries.
+//! What the environment says of the terminal and of the directories of entries.
 use crate::failure::Failure;
 use std::env::{self, VarError};
 use std::rt::Env;
-use ti_tools::{ToolError, places};
+use ti_tools::{SYSTEM_DIRECTORY, ToolError, places};
 
 // What a variable of the environment is set to.
 fn variable<R: Env + AllocGlobal>(rt: &R, name: &'static str) -> Result<Option<String>, Failure> {
@@ -17,7 +17,7 @@ fn variable<R: Env + AllocGlobal>(rt: &R, name: &'static str) -> Result<Option<S
 /// The name of the terminal that `TERM` names.
 ///
 /// # Errors
-/// `Usage` where it is not set; that it is not text; `Memory`.
+/// `Usage` if it is not set; that it is not text; `Memory`.
 pub fn own_terminal<R: Env + AllocGlobal>(rt: &R) -> Result<String, Failure> {
     match variable(rt, "TERM")? {
         Some(term) => Ok(term),
@@ -25,10 +25,22 @@ pub fn own_terminal<R: Env + AllocGlobal>(rt: &R) -> Result<String, Failure> {
     }
 }
 
-/// The places of entries, by `TERMINFO` and `TERMINFO_DIRS`.
+/// The directory into which entries are written: what `TERMINFO` is set to if it is not empty, else
+/// the system's.
 ///
 /// # Errors
-/// That one of them is not text; `Memory`.
+/// That it is not text; `Memory`.
+pub fn own_directory<R: Env + AllocGlobal>(rt: &R) -> Result<String, Failure> {
+    match variable(rt, "TERMINFO")? {
+        Some(dir) if !dir.is_empty() => Ok(dir),
+        _ => Ok(String::from_str(rt.alloc(), SYSTEM_DIRECTORY)?),
+    }
+}
+
+/// The directories in which entries are looked for, by `TERMINFO` and `TERMINFO_DIRS`.
+///
+/// # Errors
+/// `NotText` if one of them is not UTF-8; `Memory`.
 pub fn entry_places<R: Env + AllocGlobal>(rt: &R) -> Result<Vec<String>, Failure> {
     let terminfo = variable(rt, "TERMINFO")?;
     let dirs = variable(rt, "TERMINFO_DIRS")?;

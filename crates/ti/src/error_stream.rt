@@ -2,7 +2,7 @@
 use std::io::{self, ErrorKind, Write};
 use std::str::from_utf8;
 
-/// Standard error. It takes text alone.
+/// Standard error. It takes only text.
 #[derive(Drop)]
 pub struct ErrorStream<'a, R: Eprint> {
     rt: &'a R,

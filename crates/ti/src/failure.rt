@@ -9,8 +9,8 @@ pub enum Failure {
     /// A tool stops.
     #[error("{0}")]
     Tool(ToolError),
-    /// What the environment hands over is not text, that is UTF-8: the command line, or a variable where
-    /// it is read. It is an error of usage. A variable that nothing asks for may hold any bytes.
+    /// What the environment gives is not UTF-8: the command line, or a variable that is read. It is
+    /// an error of usage. A variable that nothing asks for may hold any bytes.
     #[error("{0} is not text")]
     NotText(&'static str),
 }

@@ -1,4 +1,4 @@
-//! `ti infocmp`: prints entries as source, compares them, or tells one by others.
+//! `ti infocmp`: lists entries as source, or compares them.
 use crate::disk_tree::DiskTree;
 use crate::environment::{entry_places, own_terminal};
 use crate::failure::Failure;
@@ -6,38 +6,27 @@ use crate::job_end::end_job;
 use std::alloc::{AllocError, Global};
 use std::io::{self, Write};
 use std::rt::{Clock, Env, Files};
+use ti_layout::View;
 use ti_tools::{InfocmpMode, InfocmpOptions, Job, ToolError, entry, infocmp, locate};
 
-/// Whose entries `infocmp` reads, and where.
-#[derive(Clone, Copy)]
-pub struct InfocmpNames<'a> {
-    /// The names of the terminals; none where the terminal's own is meant.
-    pub names: &'a [String],
-    /// The only place for the first name.
-    pub first_dir: Option<&'a str>,
-    /// The only place for the other names.
-    pub other_dir: Option<&'a str>,
-}
-
-/// Prints what the options ask for to standard output, and says on standard error why it did not. The entries are read in the
-/// order of their names, and the first that can't be ends the run. The answer is the status of the process.
+/// Prints what the options ask for on standard output, or says on standard error why it did not.
+/// `names` are those of the terminals, or the one that `TERM` names if there is none. `first_dir`
+/// is the only directory for the first of them, and `other_dir` the only one for the others. The
+/// entries are read in the order of their names, and the first that cannot be read ends the run.
+/// Answers the status of the process.
 pub fn run<R: Clock + Env + Files + Print + Eprint + AllocGlobal>(
     rt: &R,
     job: &Job,
-    asked: InfocmpNames<'_>,
+    names: &[String],
+    first_dir: Option<&str>,
+    other_dir: Option<&str>,
     options: &InfocmpOptions,
 ) -> u8 {
-    if !asked.names.is_empty() {
-        return run_names(rt, job, asked, options);
+    if !names.is_empty() {
+        return run_names(rt, job, names, first_dir, other_dir, options);
     }
     match own_names(rt, options.mode) {
-        Ok(names) => {
-            let asked = InfocmpNames {
-                names: names.as_slice(),
-                ..asked
-            };
-            run_names(rt, job, asked, options)
-        }
+        Ok(names) => run_names(rt, job, names.as_slice(), first_dir, other_dir, options),
         Err(failure) => end_job(rt, job, "", failure, false),
     }
 }
@@ -49,7 +38,7 @@ fn own_names<R: Env + AllocGlobal>(rt: &R, mode: InfocmpMode) -> Result<Vec<Stri
     Ok(copies(rt.alloc(), name.as_str(), count)?)
 }
 
-// A text so many times.
+// A number of copies of a string.
 fn copies(alloc: Global, text: &str, count: usize) -> Result<Vec<String>, AllocError> {
     let mut copies = Vec::new(alloc);
     for _ in 0..count {
@@ -58,62 +47,87 @@ fn copies(alloc: Global, text: &str, count: usize) -> Result<Vec<String>, AllocE
     Ok(copies)
 }
 
-// The same for names that are there.
+// Prints what the options ask for of the terminals with these names. There is at least one name.
 fn run_names<R: Clock + Env + Files + Print + Eprint + AllocGlobal>(
     rt: &R,
     job: &Job,
-    asked: InfocmpNames<'_>,
+    names: &[String],
+    first_dir: Option<&str>,
+    other_dir: Option<&str>,
     options: &InfocmpOptions,
 ) -> u8 {
     let mut files = Vec::new(rt.alloc());
-    let mut place = asked.first_dir;
-    for name in asked.names {
-        match entry_file(rt, name.as_str(), place) {
-            Ok(file) => {
-                if files.push(file).is_err() {
-                    return end_job(rt, job, "", Failure::Tool(ToolError::Memory), false);
-                }
-            }
-            Err(failure) => return end_job(rt, job, name.as_str(), failure, false),
+    let read = read_files(rt, names, first_dir, other_dir, &mut files);
+    let mut views = Vec::new(rt.alloc());
+    for (file, name) in files.iter().zip(names) {
+        let viewed = match entry(file.as_slice()) {
+            Ok(view) => views.push(view).map_err(|_| ToolError::Memory),
+            Err(error) => Err(error),
+        };
+        if let Err(error) = viewed {
+            return end_job(rt, job, name.as_str(), Failure::Tool(error), false);
         }
-        place = asked.other_dir;
     }
-    match print(rt, files.as_slice(), options) {
+    if let Err(failure) = read {
+        let name = names.get(files.len()).map_or("", |name| name.as_str());
+        return end_job(rt, job, name, failure, false);
+    }
+    match print(rt, views.as_slice(), options) {
         Ok(()) => 0,
         Err(error) => end_job(rt, job, "", Failure::Tool(error), true),
     }
 }
 
-// The file of a terminal's entry, looked for at one place alone where that is said. Its bytes are an entry.
+// Reads the files of these names, in order, up to the first that cannot be read.
+fn read_files<R: Clock + Env + Files + AllocGlobal>(
+    rt: &R,
+    names: &[String],
+    first_dir: Option<&str>,
+    other_dir: Option<&str>,
+    files: &mut Vec<Vec<u8>>,
+) -> Result<(), Failure> {
+    let mut of_environment = None;
+    let mut only = first_dir;
+    for name in names {
+        let file = entry_file(rt, name.as_str(), only, &mut of_environment)?;
+        if files.push(file).is_err() {
+            return Err(Failure::Tool(ToolError::Memory));
+        }
+        only = other_dir;
+    }
+    Ok(())
+}
+
+// The file of a terminal's entry, in the only directory for it if there is one, else in those of
+// the environment, which are read from it once a run.
 fn entry_file<R: Clock + Env + Files + AllocGlobal>(
     rt: &R,
     name: &str,
-    place: Option<&str>,
+    only: Option<&str>,
+    of_environment: &mut Option<Vec<String>>,
 ) -> Result<Vec<u8>, Failure> {
     let alloc = rt.alloc();
-    let places = match place {
-        Some(place) => copies(alloc, place, 1)?,
+    let mut tree = DiskTree::new(rt);
+    if let Some(dir) = only {
+        let dirs = copies(alloc, dir, 1)?;
+        return Ok(locate(alloc, &mut tree, name, dirs.as_slice())?);
+    }
+    let dirs = match of_environment.take() {
+        Some(dirs) => dirs,
         None => entry_places(rt)?,
     };
-    let mut tree = DiskTree::new(rt);
-    let file = locate(alloc, &mut tree, name, places.as_slice())?;
-    let _ = entry(file.as_slice())?;
-    Ok(file)
+    let file = locate(alloc, &mut tree, name, dirs.as_slice());
+    *of_environment = Some(dirs);
+    Ok(file?)
 }
 
-// Prints what the options ask for of the entries in files.
+// Prints what the options ask for of these entries.
 fn print<R: Print + AllocGlobal>(
     rt: &R,
-    files: &[Vec<u8>],
+    views: &[View<'_>],
     options: &InfocmpOptions,
 ) -> Result<(), ToolError> {
-    let mut views = Vec::new(rt.alloc());
-    for file in files {
-        if views.push(entry(file.as_slice())?).is_err() {
-            return Err(ToolError::Memory);
-        }
-    }
-    let text = infocmp(rt.alloc(), views.as_slice(), options)?;
+    let text = infocmp(rt.alloc(), views, options)?;
     match io::writer(rt).write_all(text.as_slice()) {
         Ok(()) => Ok(()),
         Err(_) => Err(ToolError::WriteFault),

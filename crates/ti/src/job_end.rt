@@ -3,8 +3,8 @@ use crate::error_stream::ErrorStream;
 use crate::failure::Failure;
 use ti_tools::{Counted, Job, ToolError, message, status};
 
-/// Says on standard error why a job stopped; `name` is that of the terminal, and `found` says that its entry was read. The
-/// answer is the status of the process, also where standard error takes nothing.
+/// Says on standard error why a job stopped; `name` is that of the terminal, and `found` says that
+/// its entry was read. Answers the status of the process, even if standard error takes nothing.
 pub fn end_job<R: Eprint>(rt: &R, job: &Job, name: &str, failure: Failure, found: bool) -> u8 {
     match failure {
         Failure::Tool(error) => {
@@ -13,12 +13,7 @@ pub fn end_job<R: Eprint>(rt: &R, job: &Job, name: &str, failure: Failure, found
             status(job, &error, found)
         }
         Failure::NotText(what) => {
-            let tool = match job {
-                Job::Tic { .. } => "tic",
-                Job::Tput { .. } => "tput",
-                Job::Session => "session",
-                Job::Infocmp { .. } => "infocmp",
-            };
+            let tool = job.tool_name();
             let _ = eprintln!(rt; "{tool}: {what} is not text");
             status(job, &ToolError::Usage, found)
         }

@@ -7,6 +7,7 @@ mod error_stream;
 mod failure;
 mod infocmp_tool;
 mod job_end;
+mod made_directories;
 mod new_file;
 mod session_tool;
 mod tic_tool;
@@ -14,9 +15,7 @@ mod tput_tool;
 mod whole;
 
 use crate::failure::Failure;
-use crate::infocmp_tool::InfocmpNames;
 use crate::job_end::end_job;
-use crate::tput_tool::TputWords;
 use std::process::ExitCode;
 use std::rt::{Clock, Env, Files};
 use std::{env, io};
@@ -26,7 +25,7 @@ fn main(rt: HostRuntime) -> ExitCode {
     ExitCode::from(run(&rt))
 }
 
-// Does what the command line asks for. The answer is the status of the process.
+// Does what the command line asks for. Answers the status of the process.
 fn run<R: Clock + Env + Files + Input + Print + Eprint + AllocGlobal>(rt: &R) -> u8 {
     let words = match words(rt) {
         Ok(words) => words,
@@ -38,7 +37,7 @@ fn run<R: Clock + Env + Files + Input + Print + Eprint + AllocGlobal>(rt: &R) ->
     }
 }
 
-// Does a job. The answer is the status of the process.
+// Does a job. Answers the status of the process.
 fn run_job<R: Clock + Env + Files + Input + Print + Eprint + AllocGlobal>(rt: &R, job: &Job) -> u8 {
     match job {
         Job::Tic { check, dir, file } => {
@@ -52,15 +51,7 @@ fn run_job<R: Clock + Env + Files + Input + Print + Eprint + AllocGlobal>(rt: &R
             term,
             rate,
             words,
-        } => {
-            let asked = TputWords {
-                lines: *lines,
-                term: term.as_deref(),
-                rate: *rate,
-                words: words.as_slice(),
-            };
-            tput_tool::run(rt, job, asked)
-        }
+        } => { tput_tool::run(rt, job, *lines, term.as_deref(), *rate, words.as_slice()) }
         Job::Infocmp {
             mode,
             names,
@@ -68,16 +59,18 @@ fn run_job<R: Clock + Env + Files + Input + Print + Eprint + AllocGlobal>(rt: &R
             first_dir,
             other_dir,
         } => {
-            let asked = InfocmpNames {
-                names: names.as_slice(),
-                first_dir: first_dir.as_deref(),
-                other_dir: other_dir.as_deref(),
-            };
             let options = InfocmpOptions {
                 mode: *mode,
                 layout: *layout,
             };
-            infocmp_tool::run(rt, job, asked, &options)
+            infocmp_tool::run(
+                rt,
+                job,
+                names.as_slice(),
+                first_dir.as_deref(),
+                other_dir.as_deref(),
+                &options,
+            )
         }
         Job::Session => match session_tool::run(rt) {
             Ok(()) => 0,
@@ -100,15 +93,15 @@ fn words<R: Env + AllocGlobal>(rt: &R) -> Result<Vec<String>, Failure> {
     }
 }
 
-// Says in one line why a tool stopped. The status stays where standard error takes nothing.
+// Says in one line why a tool stopped. The status is the same if standard error takes nothing.
 fn print_failure<R: Eprint>(rt: &R, tool: &str, failure: Failure) -> u8 {
     let status = failure.status();
     let _ = eprintln!(rt; "{tool}: {failure}");
     status
 }
 
-// Prints the help that the words ask for, or what is wrong with them. An error of usage has status 2, also where
-// standard error takes nothing.
+// Prints the help that the words ask for, or what is wrong with them. An error of usage has status
+// 2, even if standard error takes nothing.
 fn print_refusal<R: Print + Eprint>(rt: &R, refusal: &Refusal) -> u8 {
     match refusal {
         Refusal::Memory => print_failure(rt, "ti", Failure::Tool(ToolError::Memory)),

@@ -1,34 +1,37 @@
 //! Replacing a file whole, by a new file that takes its name.
+use crate::made_directories::MadeDirectories;
 use std::fs::{self, File, OpenFile};
 use std::io::{self, ErrorKind, Write};
 use std::rt::{Clock, Files};
 use std::time::Duration;
 
-/// After how many seconds a new file counts as left over from a run that was killed: a run that still
-/// lives takes far less for the largest entry.
+// After how many seconds a new file counts as left over from a run that was killed: a run that
+// still lives takes far less for the largest entry.
 const LEFT_OVER_AFTER: u64 = 3600;
 
-/// Puts a file of these bytes at the path, in place of what is there, and makes the directories on its
-/// path that are missing. A regular file that is replaced keeps its permissions, if the file system
-/// has any. After a failure nothing new is left.
+/// Puts a file of these bytes at the path, in place of what is there, and makes the directories on
+/// its path that are missing. A regular file that is replaced keeps its permissions, if the file
+/// system has any. After a failure no new file is left.
 ///
 /// # Errors
 /// What the system answers; `OutOfMemory` if a growth of memory was refused.
 pub fn replace_file<R: Files + Clock + AllocGlobal>(
     rt: &R,
+    made: &mut MadeDirectories,
     path: &str,
     bytes: &[u8],
 ) -> io::Result<()> {
     let (new_path, file) = match create_beside(rt, path) {
         // The directory is there for most files, so it is made only if the file can't be.
         Err(error) if is_absent(&error) => {
-            make_directories(rt, path)?;
+            made.make(rt, directory_of(path))?;
             create_beside(rt, path)?
         }
         Err(error) => return Err(error),
         Ok(created) => created,
     };
-    let replaced = match fill(rt, file, path, bytes) {
+    let is_new = made.has(directory_of(path));
+    let replaced = match fill(rt, file, path, is_new, bytes) {
         Ok(()) => fs::rename(rt, new_path.as_str(), path),
         Err(error) => Err(error),
     };
@@ -43,11 +46,12 @@ pub fn is_absent(error: &io::Error) -> bool {
     matches!(error.kind(), ErrorKind::NotFound | ErrorKind::NotADirectory)
 }
 
-// Makes the directories on a path that are missing.
-fn make_directories<R: Files>(rt: &R, path: &str) -> io::Result<()> {
+// The directory of a file.
+fn directory_of(path: &str) -> &str {
     match path.rsplit_once('/') {
-        Some((directory, _)) if !directory.is_empty() => fs::create_dir_all(rt, directory),
-        _ => Ok(()),
+        Some(("", _)) => "/",
+        Some((directory, _)) => directory,
+        None => ".",
     }
 }
 
@@ -66,7 +70,7 @@ fn create_beside<R: Files + Clock + AllocGlobal>(
     Err(io::Error::from(ErrorKind::AlreadyExists))
 }
 
-// A new file of this name; `None` if another run has one. One that was left over gives way.
+// A new file of this name; `None` if another run has one. One that was left over is removed.
 fn create<R: Files + Clock>(rt: &R, path: &str) -> io::Result<Option<R::File>> {
     match create_new(rt, path)? {
         Some(file) => Ok(Some(file)),
@@ -98,9 +102,18 @@ fn age<R: Files + Clock>(rt: &R, path: &str) -> io::Result<Duration> {
 }
 
 // Writes all of these bytes into a new file, gives it the permissions of the regular file that it is
-// to replace, and closes it.
-fn fill<R: Files>(rt: &R, mut file: R::File, path: &str, bytes: &[u8]) -> io::Result<()> {
+// to replace, if there may be one, and closes it.
+fn fill<R: Files>(
+    rt: &R,
+    mut file: R::File,
+    path: &str,
+    is_new: bool,
+    bytes: &[u8],
+) -> io::Result<()> {
     file.write_all(bytes)?;
+    if is_new {
+        return Ok(());
+    }
     match fs::symlink_metadata(rt, path) {
         // a file system without permissions refuses them
         Ok(old) if old.is_file() => drop(file.set_permissions(old.permissions())),

@@ -5,7 +5,7 @@ use ti_tools::{Counted, ToolError, session};
 /// Answers the script on standard input, on standard output.
 ///
 /// # Errors
-/// Why it stopped. The replies before stand.
+/// Why it stopped. The replies before have been written.
 pub fn run<R: Input + Print + AllocGlobal>(rt: &R) -> Result<(), ToolError> {
     let mut reader = Counted::new(rt.reader());
     let mut writer = Counted::new(io::writer(rt));

@@ -1,20 +1,17 @@
 //! `ti tic`: compiles a source into files.
 use crate::disk_tree::DiskTree;
+use crate::environment::own_directory;
 use crate::failure::Failure;
 use crate::whole::read_source;
-use std::env::{self, VarError};
 use std::rt::{Clock, Env, Files};
 use std::str;
 use ti_tools::{TicOptions, ToolError, TreeFault, place, tic};
 
-/// Where entries stand unless something else is said.
-const SYSTEM_FOLDER: &str = "/usr/share/terminfo";
-
 /// Compiles the source in `file`, or on standard input, and writes the files below `dir`. Nothing
-/// is written before the whole source is compiled. The answer is the status of the process.
+/// is written before the whole source is compiled. Answers the status of the process.
 ///
 /// # Errors
-/// Why it stopped. Where a file could not be written, the report and earlier files stand.
+/// Why it stopped. If a file could not be written, the report and earlier files stay.
 pub fn run<R: Clock + Env + Files + Input + Eprint + AllocGlobal>(
     rt: &R,
     check: bool,
@@ -22,7 +19,7 @@ pub fn run<R: Clock + Env + Files + Input + Eprint + AllocGlobal>(
     file: Option<&str>,
 ) -> Result<u8, Failure> {
     let alloc = rt.alloc();
-    let dir = folder(rt, check, dir)?;
+    let dir = directory(rt, check, dir)?;
     let source = read_source(rt, alloc, file)?;
     let outcome = tic(alloc, source.as_slice(), &TicOptions { check, dir })?;
     print_report(rt, outcome.report.as_slice())?;
@@ -34,21 +31,20 @@ pub fn run<R: Clock + Env + Files + Input + Eprint + AllocGlobal>(
     }
 }
 
-// The folder of `-o`, else that of `TERMINFO` where it is set and not empty, else the system's. Nothing is
-// written for `-c`, so `TERMINFO` is not read then.
-fn folder<R: Env + AllocGlobal>(rt: &R, check: bool, dir: Option<&str>) -> Result<String, Failure> {
+// The directory of `-o`, else the one that the environment names. Nothing is written for `-c`, so
+// the environment is not read then.
+fn directory<R: Env + AllocGlobal>(
+    rt: &R,
+    check: bool,
+    dir: Option<&str>,
+) -> Result<String, Failure> {
     if let Some(dir) = dir {
         return Ok(String::from_str(rt.alloc(), dir)?);
     }
     if check {
         return Ok(String::new(rt.alloc()));
     }
-    match env::var(rt, "TERMINFO") {
-        Ok(dir) if !dir.is_empty() => Ok(dir),
-        Ok(_) | Err(VarError::NotPresent) => Ok(String::from_str(rt.alloc(), SYSTEM_FOLDER)?),
-        Err(VarError::NotUnicode) => Err(Failure::NotText("TERMINFO")),
-        Err(VarError::OutOfMemory) => Err(Failure::Tool(ToolError::Memory)),
-    }
+    own_directory(rt)
 }
 
 // Writes the report to standard error.

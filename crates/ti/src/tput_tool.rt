@@ -9,27 +9,19 @@ use std::rt::{Clock, Env, Files};
 use ti_layout::View;
 use ti_tools::{Counted, Job, ToolError, entry, locate, message, tput, tput_lines};
 
-/// What `tput` is to do.
-#[derive(Clone, Copy)]
-pub struct TputWords<'a> {
-    /// Commands are read from standard input.
-    pub lines: bool,
-    /// The terminal of `-T`.
-    pub term: Option<&'a str>,
-    /// The speed of the line.
-    pub rate: u32,
-    /// The capability and its parameters.
-    pub words: &'a [String],
-}
-
-/// Writes what the words ask of a terminal to standard output, and says on standard error why it did not. The answer is the
-/// status of the process.
+/// Writes to standard output what the words ask of a terminal, or what each line of standard input
+/// asks if `lines` is set, or says on standard error why it did not. The terminal is `term`, else
+/// that of `TERM`; `rate` is the speed of its line in bits per second. Answers the status of the
+/// process.
 pub fn run<R: Clock + Env + Files + Input + Print + Eprint + AllocGlobal>(
     rt: &R,
     job: &Job,
-    asked: TputWords<'_>,
+    lines: bool,
+    term: Option<&str>,
+    rate: u32,
+    words: &[String],
 ) -> u8 {
-    let name = match terminal_name(rt, asked.term) {
+    let name = match terminal_name(rt, term) {
         Ok(name) => name,
         Err(failure) => return end_job(rt, job, "", failure, false),
     };
@@ -41,10 +33,10 @@ pub fn run<R: Clock + Env + Files + Input + Print + Eprint + AllocGlobal>(
         Ok(view) => view,
         Err(error) => return end_job(rt, job, name.as_str(), Failure::Tool(error), false),
     };
-    let written = if asked.lines {
-        write_lines(rt, &view, asked.rate)
+    let written = if lines {
+        write_lines(rt, &view, rate)
     } else {
-        write_command(rt, job, &view, asked)
+        write_command(rt, job, &view, rate, words)
     };
     match written {
         Ok(status) => status,
@@ -86,20 +78,21 @@ fn write_command<R: Print + Eprint + AllocGlobal>(
     rt: &R,
     job: &Job,
     view: &View<'_>,
-    asked: TputWords<'_>,
+    rate: u32,
+    words: &[String],
 ) -> Result<u8, ToolError> {
-    let mut words = Vec::new(rt.alloc());
-    for word in asked.words {
-        if words.push(word.as_bytes()).is_err() {
+    let mut texts = Vec::new(rt.alloc());
+    for word in words {
+        if texts.push(word.as_bytes()).is_err() {
             return Err(ToolError::Memory);
         }
     }
-    let outcome = tput(rt.alloc(), view, words.as_slice(), asked.rate)?;
+    let outcome = tput(rt.alloc(), view, texts.as_slice(), rate)?;
     if io::writer(rt).write_all(outcome.bytes.as_slice()).is_err() {
         return Err(ToolError::WriteFault);
     }
     if outcome.status == 4 {
-        if let Some(name) = asked.words.first() {
+        if let Some(name) = words.first() {
             let mut stream = Counted::new(ErrorStream::new(rt));
             let _ = message(job, name.as_str(), None, &mut stream);
         }

@@ -1,21 +1,21 @@
-//! Reading files and standard input whole.
+//! Reads files and standard input whole.
 ghost use Rattle.std.specs.Prelude.{◌≤◌, ◌+◌, IfOk, length};
 
 use std::alloc::Global;
 use std::fs;
 use std::io::{self, ErrorKind, Read};
 use std::rt::Files;
-use ti_devices::line_reader::READS_MAX;
+use ti_devices::READS_MAX;
 use ti_tools::ToolError;
 
-/// How many bytes of a source are asked for at a time.
+// How many bytes of a source are asked for at a time.
 const PIECE: usize = 16_384;
 
-/// All bytes that a reader has, or the first `limit + 1` where it has more. They come through `piece`, which
-/// has room for some. A read that was interrupted is made again.
+/// All bytes that a reader has, or the first `limit + 1` if it has more. They come through `piece`,
+/// which has room for some. A read that was interrupted is made again.
 ///
 /// # Errors
-/// What the reader answers; `Other` where 4,294,967,296 reads came to no end; `OutOfMemory` where a
+/// What the reader answers; `Other` if 4,294,967,296 reads came to no end; `OutOfMemory` if a
 /// growth of memory was refused.
 pub fn read_whole(
     alloc: Global,
@@ -42,10 +42,10 @@ pub fn read_whole(
     Err(io::Error::from(ErrorKind::Other))
 }
 
-/// The source of `tic`: all bytes of the file at `path`, or of standard input where there is none.
+/// The source of `tic`: all bytes of the file at `path`, or of standard input if there is none.
 ///
 /// # Errors
-/// `ReadFault` where the file can't be opened or read to its end; then `Memory`.
+/// `ReadFault` if the file can't be opened or read to its end; then `Memory`.
 pub fn read_source<R: Files + Input>(
     rt: &R,
     alloc: Global,

@@ -22,7 +22,7 @@ use Rattle.ti_plan.specs.declared.plans.Plan.{Plan}
 use Rattle.ti_plan.specs.Plans.{IsReady, IsPlan, IsPlanOfAll}
 use Rattle.ti_base.specs.inside.Texts.{IsBlockText}
 use Rattle.ti_base.specs.inside.Database.{AreKept, AreRead, SlotsAreSettled, SlotsAreSound, slots_of, reading_seen, text_seen, with_settled, settled_at, settled_all}
-use Rattle.ti_index.proofs.Lists.{item_at}
+use Rattle.ti_text.proofs.Lists.{item_at}
 use Rattle.ti_plan.proofs.ItemLists.{drop_item}
 use Rattle.ti_base.proofs.SlotLists.{blocks_seen, length_slots, slot_there, id_there, are_filled}
 use Rattle.ti_base.proofs.Untouched.{settled_in}

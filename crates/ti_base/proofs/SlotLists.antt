@@ -8,7 +8,7 @@ use Rattle.ti_meaning.specs.Owner.{readings}
 use Rattle.ti_meaning.specs.Exchange.{with_block, HasPlace, shifted_position}
 use Rattle.ti_meaning.proofs.EditedLists.{map-insert}
 use Rattle.ti_meaning.proofs.Placing.{get-insert}
-use Rattle.ti_index.proofs.Lists.{item_at}
+use Rattle.ti_text.proofs.Lists.{item_at}
 use Rattle.ti_slots.specs.declared.slots.Slot.{Slot}
 use Rattle.ti_slots.specs.declared.slots.Slots.{Slots}
 use Rattle.ti_slots.specs.Slots.{IsIndexed, StandsAt, slot_at, reading_at, text_at, blocks_of, slot_texts}

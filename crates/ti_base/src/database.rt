@@ -1,4 +1,4 @@
-// The edited source: its blocks under stable ids, with what was found out about each.
+//! The edited source: its blocks under stable ids, with what was found out about each.
 ghost use Rattle.std.specs.Prelude.{◌≡◌, ◌<◌, ◌≤◌, [], length, map, slice_get, Some, option_map, vec_capacity, IfOk};
 ghost use Rattle.std.specs.Rc.{rc_slice_items};
 ghost use Rattle.ti_meaning.specs.Edits.{EditRun, change_of};
@@ -16,8 +16,8 @@ use ti_meaning::{Edit, EditError, Edited, Fault, Outcome};
 use ti_slots::{Slots, State};
 
 /// A source of terminal descriptions as a list of blocks, which edits change one by one. It knows
-/// the compiled entry of each block and all faults, which are those of the whole current source
-/// taken afresh. An edit makes anew what it touches and leaves the rest.
+/// the compiled entry of each block and all faults, which are those of the whole current source. An
+/// edit makes anew what it touches and leaves the rest.
 #[derive(Drop)]
 pub struct Database {
     alloc: Global,
@@ -70,8 +70,8 @@ impl Database {
         &slot_of(&self.slots, at).text
     }
 
-    /// The compiled entry of a block, as term(5) lays it out; `None` where the block does not
-    /// resolve or its entry is over the limit.
+    /// The compiled entry of a block, as term(5) lays it out; `None` if the block does not resolve
+    /// or its entry is over the limit.
     pub fn compiled(&self, at: usize) -> Option<&[u8]>
         requires { at < length self.now }
         ensures { option_map (λ bytes. bytes.now) result ≡ compiled self.now at }
@@ -82,7 +82,7 @@ impl Database {
         }
     }
 
-    /// The lookup names of a block, in their order. A name may stand there twice.
+    /// The lookup names of a block, in order. A name may be there twice.
     pub fn names(&self, at: usize) -> &[RcSlice<u8>]
         requires { at < length self.now }
         ensures { option_map (λ block. block.names) (slice_get (readings self.now) at) ≡ Some (map rc_slice_items result.now) }
@@ -98,11 +98,11 @@ impl Database {
     }
 
     /// All faults, in the order of the blocks: for each block those of its header, one for each
-    /// lookup name that an earlier block owns, those of its items in their order, and one where its
+    /// lookup name that an earlier block owns, those of its items in their order, and one if its
     /// entry is over the limit.
     ///
     /// # Errors
-    /// Want of memory.
+    /// `AllocError` if memory ran out.
     pub fn faults(&self) -> Result<Vec<Fault>, AllocError>
         ensures { IfOk result (λ all. map fault_seen all.items ≡ faults (readings self.now)) }
     {
@@ -110,11 +110,11 @@ impl Database {
         Ok(faults)
     }
 
-    /// The report of all faults: a line for each, with the line of the whole source that it stands
-    /// on, where the first line of the source has the number `first_line`.
+    /// The report of all faults: a line for each, with the line of the whole source that it is on,
+    /// if the first line of the source has the number `first_line`.
     ///
     /// # Errors
-    /// Want of memory.
+    /// `AllocError` if memory ran out.
     pub fn report(&self, first_line: u64) -> Result<Vec<u8>, AllocError>
         requires { first_line ≤ 9223372036854775808 }
         ensures { IfOk result (λ text. text.items ≡ report self.now first_line) }
@@ -124,10 +124,11 @@ impl Database {
         Ok(report)
     }
 
-    /// The report, as `report` gives it, for who has the faults that `faults` gave of this source.
+    /// The report, as `report` gives it, for a caller who has the faults that `faults` gave of this
+    /// source.
     ///
     /// # Errors
-    /// Want of memory.
+    /// `AllocError` if memory ran out.
     pub fn report_of(&self, found: &[Fault], first_line: u64) -> Result<Vec<u8>, AllocError>
         requires all { map fault_seen found.now ≡ faults (readings self.now) }
         requires first { first_line ≤ 9223372036854775808 }
@@ -147,9 +148,9 @@ impl Database {
         self.apply(&Edit::Insert { at, text })
     }
 
-    /// Exchanges the block at `at`. The refusals, the first that holds: `Position` where there is
-    /// no such block, `TooLong`, `NotOneBlock`, and `Memory` where a growth was refused. After a
-    /// refusal all is as before.
+    /// Replaces the block at `at`. The refusals, the first that holds: `Position` if there is no
+    /// such block, `TooLong`, `NotOneBlock`, and `Memory` if a growth was refused. After a refusal
+    /// all is as before.
     pub fn replace(&mut self, at: usize, text: &[u8]) -> Result<Edited, EditError>
         ensures step { EditStep self.old (replacement at text.now) (outcome_of result) self.new }
         ensures rebuilds { IfOk result (λ edited. Rebuilds self.old (replacement at text.now) edited.rebuilt.items edited.work) }
@@ -157,8 +158,8 @@ impl Database {
         self.apply(&Edit::Replace { at, text })
     }
 
-    /// Takes the block at `at` out. The refusals: `Position` where there is no such block, and
-    /// `Memory` where a growth was refused. After a refusal all is as before.
+    /// Takes the block at `at` out. The refusals: `Position` if there is no such block, and
+    /// `Memory` if a growth was refused. After a refusal all is as before.
     pub fn remove(&mut self, at: usize) -> Result<Edited, EditError>
         ensures step { EditStep self.old (removal at) (outcome_of result) self.new }
         ensures rebuilds { IfOk result (λ edited. Rebuilds self.old (removal at) edited.rebuilt.items edited.work) }
@@ -166,9 +167,9 @@ impl Database {
         self.apply(&Edit::Remove { at })
     }
 
-    /// Moves the block at `from`, so that it then stands at `to`. The refusals: `Position` where no
-    /// block stands at `from` or none at `to`, and `Memory` where a growth was refused. After a
-    /// refusal all is as before.
+    /// Moves the block at `from`, so that it is then at `to`. The refusals: `Position` if no block
+    /// is at `from` or none at `to`, and `Memory` if a growth was refused. After a refusal all is
+    /// as before.
     pub fn relocate(&mut self, from: usize, to: usize) -> Result<Edited, EditError>
         ensures step { EditStep self.old (relocation from to) (outcome_of result) self.new }
         ensures rebuilds { IfOk result (λ edited. Rebuilds self.old (relocation from to) edited.rebuilt.items edited.work) }
@@ -187,8 +188,8 @@ impl Database {
     }
 }
 
-/// The database that the edits make of no blocks, each made by `apply`, so that what one rebuilds takes
-/// no more memory than it needs.
+// The database that the edits make of no blocks, each made by `apply`, so that what one rebuilds
+// takes no more memory than it needs.
 fn run_one_by_one(alloc: Global, edits: &[Edit<'_>], outcomes: &mut Vec<Outcome>) -> Database
     requires empty { outcomes.old.items ≡ [] }
     requires room { length edits.now ≤ vec_capacity outcomes.old }
@@ -201,11 +202,11 @@ fn run_one_by_one(alloc: Global, edits: &[Edit<'_>], outcomes: &mut Vec<Outcome>
     database
 }
 
-/// Makes the edits in order, beginning with no blocks, and says what came of each: a refused edit
-/// leaves the list, and the next one follows. Memory may be wanting for the outcomes, before the
-/// first edit. What there is to find out about the blocks is found once, after the last edit, in a
-/// time that is linear, up to a logarithm, in what the edits say and in the values of the last list;
-/// only where memory was refused for that is each edit made by itself, as `apply` makes it.
+/// Makes the edits in order, beginning with no blocks, and says what came of each. A refused edit
+/// leaves the list, and the next one follows. Memory may run out for the outcomes, before the first
+/// edit. What there is to find out about the blocks is found once, after the last edit, in a time
+/// that is linear, up to a logarithm, in what the edits say and in the values of the last list.
+/// Only if memory was refused for that is each edit made by itself, as `apply` makes it.
 pub fn run(alloc: Global, edits: &[Edit<'_>]) -> Result<(Database, Vec<Outcome>), AllocError>
     ensures { IfOk result (λ r. EditRun [] (map change_of edits.now) r.1.items r.0) }
 {

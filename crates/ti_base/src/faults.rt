@@ -15,7 +15,7 @@ use ti_meaning::Fault;
 use ti_slots::{KeptFault, Slots, copy_detail};
 use ti_source::{Code, Local};
 
-/// How many of the faults that reading gave are of the header.
+// How many of the faults that reading gave are of the header.
 fn count_of_header(locals: &[Local]) -> usize
     ensures { result ≡ length (filter (is_kept true) (map fault_of locals.now)) }
 {
@@ -28,7 +28,7 @@ fn count_of_header(locals: &[Local]) -> usize
     count
 }
 
-/// Adds faults that are kept with the block at a position.
+// Adds faults that are kept with the block at a position.
 fn add_kept(at: usize, kept: &[KeptFault], faults: &mut Vec<Fault>) -> Result<(), AllocError>
     ensures { OnOk result (map fault_seen faults.new.items ≡ map fault_seen faults.old.items ++ map (fault_at at) kept.now) }
 {
@@ -66,7 +66,7 @@ fn add_name_fault(
     Ok(())
 }
 
-/// Adds a fault for each lookup name of a block that an earlier block owns.
+// Adds a fault for each lookup name of a block that an earlier block owns.
 fn add_name_faults(
     alloc: Global,
     slots: &Slots,
@@ -85,7 +85,7 @@ fn add_name_faults(
     Ok(())
 }
 
-/// Adds the faults of the block at a position.
+// Adds the faults of the block at a position.
 fn add_block_faults(
     alloc: Global,
     slots: &Slots,

@@ -13,7 +13,7 @@ use ti_meaning::{Edit, EditError, Outcome};
 use ti_slots::Slots;
 use ti_source::SharedTexts;
 
-/// Changes the list as an edit says that nothing is wrong with. At an error it is as before.
+// Changes the list as an edit says that nothing is wrong with. At an error it is as before.
 fn change_sound(
     alloc: Global,
     slots: &mut Slots,
@@ -32,7 +32,7 @@ fn change_sound(
     Ok(())
 }
 
-/// Changes the list as an edit says, or refuses the edit; then the list is as before.
+// Changes the list as an edit says, or refuses the edit; then the list is as before.
 fn change(alloc: Global, slots: &mut Slots, shared: &mut SharedTexts, edit: &Edit<'_>) -> Outcome
     requires { AreRead slots.old }
     ensures read { AreRead slots.new }
@@ -47,7 +47,8 @@ fn change(alloc: Global, slots: &mut Slots, shared: &mut SharedTexts, edit: &Edi
     }
 }
 
-/// Makes all edits in order, with nothing found out in between. An error says that no edit was made.
+// Makes all edits in order, with nothing found out in between. An error says that no edit was
+// made.
 fn change_all(
     alloc: Global,
     slots: &mut Slots,
@@ -69,8 +70,8 @@ fn change_all(
     Ok(())
 }
 
-/// The slots that the edits make of no blocks, settled once after the last of them. An edit that memory
-/// was refused for is refused so; an error says that memory was refused for the whole.
+/// The slots that the edits make of no blocks, settled once after the last of them. An edit that
+/// memory was refused for is refused so; an error says that memory was refused for the whole.
 pub(crate) fn run_at_once(
     alloc: Global,
     edits: &[Edit<'_>],

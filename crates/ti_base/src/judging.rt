@@ -1,4 +1,4 @@
-// Whether an edit is refused, and why.
+//! Whether an edit is refused, and why.
 ghost use Rattle.std.specs.Prelude.{IfErr, OnOk};
 ghost use Rattle.ti_slots.specs.Slots.{slot_texts};
 ghost use Rattle.ti_meaning.specs.Edits.{change_of, IsRefusal, IsSoundEdit};
@@ -8,8 +8,8 @@ use ti_meaning::{Edit, EditError};
 use ti_slots::Slots;
 use ti_text::limits::BLOCKS_MAX;
 
-/// Whether nothing is wrong with an edit of the list; if something is, the first cause that holds. It
-/// takes no memory.
+/// Whether nothing is wrong with an edit of the list; if something is, the first cause that holds.
+/// It takes no memory.
 pub(crate) fn judge(slots: &Slots, edit: &Edit<'_>) -> Result<(), EditError>
     ensures ok { OnOk result (IsSoundEdit (slot_texts slots.now) (change_of edit.now)) }
     ensures err { IfErr result (IsRefusal (slot_texts slots.now) (change_of edit.now)) }

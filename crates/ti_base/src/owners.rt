@@ -1,4 +1,4 @@
-// The slots by position, and whose a name is.
+//! The slots by position, and whose a name is.
 ghost use Rattle.std.specs.Prelude.{◌≡◌, ◌<◌, Some, length, slice_get};
 ghost use Rattle.ti_meaning.specs.Owner.{owner};
 ghost use Rattle.ti_meaning.specs.Faults.{is_owned_before};

@@ -16,7 +16,7 @@ use ti_meaning::Edited;
 use ti_plan::{Plan, plan, plan_all};
 use ti_slots::{Settled, Slot, Slots};
 
-/// Exchanges what was found out about a block.
+// Exchanges what was found out about a block.
 fn settle(slots: &mut Vec<Option<Slot>>, id: u32, settled: &mut Settled)
     requires { IsSome (slot_at slots.old.items id) }
     ensures { slots.new.items ≡ settled_at slots.old.items id settled.old }
@@ -26,7 +26,7 @@ fn settle(slots: &mut Vec<Option<Slot>>, id: u32, settled: &mut Settled)
     }
 }
 
-/// Puts what a plan found out into the slots. It takes no memory.
+// Puts what a plan found out into the slots. It takes no memory.
 fn install(slots: &mut Slots, mut plan: Plan) -> Edited
     requires as_many { length plan.settled.items ≡ length plan.ids.items }
     requires stand { All (λ id. IsSome (slot_at slots.old.slots.items id)) plan.ids.items }
@@ -67,8 +67,8 @@ pub(crate) fn rebuild(
     Ok(install(slots, plan))
 }
 
-/// Finds out what there is to find out about each block of a list that is made in one go. At an error
-/// all is as before.
+/// Finds out what there is to find out about each block of a list that is made in one go. At an
+/// error all is as before.
 pub(crate) fn rebuild_all(alloc: Global, slots: &mut Slots) -> Result<(), AllocError>
     requires { AreRead slots.old }
     ensures kept { OnOk result (AreKept slots.new) }

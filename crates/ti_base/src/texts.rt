@@ -1,4 +1,4 @@
-// Texts of blocks: which of them are refused, and a text read into a slot.
+//! Texts of blocks: which of them are refused, and a text read into a slot.
 ghost use Rattle.std.specs.Prelude.{◌≡◌, IfOk, IfErr, OnOk};
 ghost use Rattle.ti_source.specs.Reading.{reading_of};
 ghost use Rattle.ti_source.specs.Sound.{IsWellRead};

@@ -1,12 +1,13 @@
-//! Databases of many blocks: a list of small ones, a chain of uses and circular ones, and edits of them.
+//! Databases of many blocks: a list of small ones, a chain of uses and circular ones, and edits of
+//! them.
 use std::alloc::{AllocError, Global};
 use ti_base::{Database, EditError};
 
-/// Room for the text of one of the blocks: `b4294967295,cols#4294967295,` and a newline, or with a
-/// use in place of the number.
+// Room for the text of one of the blocks: `b4294967295,cols#4294967295,` and a newline, or with a
+// use in place of the number.
 const TEXT_MAX: usize = 32;
 
-/// A number in decimal digits, behind what was written.
+// A number in decimal digits, after what was written.
 fn push_number(text: &mut Vec<u8>, alloc: Global, number: u32) -> Result<(), AllocError> {
     text.extend_from_slice(number.to_string(alloc)?.as_bytes())
 }
@@ -23,7 +24,7 @@ pub fn block(alloc: Global, number: u32, what: &str, value: u32) -> Result<Vec<u
     Ok(text)
 }
 
-/// Puts so many blocks in at the end, which use nothing.
+/// Puts this many blocks in at the end, which use nothing.
 pub fn fill(alloc: Global, database: &mut Database, count: u32) -> Result<(), EditError> {
     for number in 0..count {
         let text = block(alloc, number, "cols#", 1)?;
@@ -32,7 +33,8 @@ pub fn fill(alloc: Global, database: &mut Database, count: u32) -> Result<(), Ed
     Ok(())
 }
 
-/// Puts so many blocks in at the end, each of which uses the one before it; the first has a number.
+/// Puts this many blocks in at the end, each of which uses the one before it; the first has a
+/// number.
 pub fn fill_chain(alloc: Global, database: &mut Database, count: u32) -> Result<(), EditError> {
     database.insert(database.len(), b"b0,cols#1,\n")?;
     for number in 1..count {
@@ -42,7 +44,7 @@ pub fn fill_chain(alloc: Global, database: &mut Database, count: u32) -> Result<
     Ok(())
 }
 
-/// Exchanges so many blocks, spread over the list, for blocks of the same names.
+/// Replaces this many blocks, spread over the list, by blocks of the same names.
 pub fn replace_many(
     alloc: Global,
     database: &mut Database,
@@ -57,7 +59,7 @@ pub fn replace_many(
     Ok(())
 }
 
-/// Takes the block in the middle out and puts it in again, so many times.
+/// Takes the block in the middle out and puts it in again, this many times.
 pub fn move_middle(
     alloc: Global,
     database: &mut Database,
@@ -79,14 +81,14 @@ pub fn replace_root(database: &mut Database) -> Result<(), EditError> {
     Ok(())
 }
 
-/// Makes a chain of so many blocks circular: its first then uses its last.
+/// Makes a chain of this many blocks circular: its first then uses its last.
 pub fn close_chain(alloc: Global, database: &mut Database, count: u32) -> Result<(), EditError> {
     let text = block(alloc, 0, "use=b", count.saturating_sub(1))?;
     database.replace(0, &text)?;
     Ok(())
 }
 
-/// A block of the list, another at each turn.
+// A block of the list, another at each turn.
 fn spread(turn: u32, count: u32) -> u32 {
     turn.wrapping_mul(2_654_435_761) % count.max(1)
 }

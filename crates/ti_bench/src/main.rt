@@ -1,11 +1,12 @@
 //! Times `ti_param::expand` on setaf's usual 256-colour format, and `ti_layout::write` on a small
-//! and on a full entry. With a number N as its word it expands N times, writes N entries of each kind,
-//! and prints the nanoseconds of one; with a second word, `expand`, `small` or `full`, that alone.
-//! With the second word `edits`, `chain` or `circular` it edits a database of N blocks instead: small
-//! ones that use nothing; each with a use of the one before it; these, and the first with a use of
-//! the last. With `runs` it makes lists of edits in one call: N insertions in a chain whose owners all
-//! come last, N users and then their N owners, and N edits made at random, these also one by one.
-//! Without a word it only shows the bytes for the colours 3, 12 and 200, in hexadecimal.
+//! and on a full entry. With a number N as its word it expands N times, writes N entries of each
+//! kind, and prints the nanoseconds of one; with a second word, `expand`, `small` or `full`, it
+//! does only that. With the second word `edits`, `chain` or `circular` it edits a database of N
+//! blocks instead: small ones that use nothing; each with a use of the one before it; a chain as
+//! before, and the first with a use of the last. With `runs` it makes lists of edits in one call: N
+//! insertions in a chain whose owners all come last, N users and then their N owners, and N edits
+//! made at random, these also one by one. Without a word it only shows the bytes for the colours 3,
+//! 12 and 200, in hexadecimal.
 #![tactic(auto)]
 
 mod edits;
@@ -58,7 +59,7 @@ fn show<R: Print + AllocGlobal>(rt: &R) -> io::Result<()> {
     Ok(())
 }
 
-/// How many bytes the expansions gave, so that none can be left out.
+// How many bytes the expansions gave, so that none can be left out.
 fn expand_all<R: AllocGlobal>(rt: &R, count: u32) -> u64 {
     let mut statics = Statics::new();
     let mut total = 0u64;
@@ -100,10 +101,10 @@ fn time_writing<R: Clock + Print + AllocGlobal>(
     print_time(rt, what, start, count, total)
 }
 
-/// How many edits of one kind are timed on a list.
+// How many edits of one kind are timed on a list.
 const TURNS: u32 = 1000;
 
-/// Prints how long an edit took, of so many, or why one was refused.
+// Prints how long each of this many edits took, or why one was refused.
 fn print_edits<R: Clock + Print + AllocGlobal>(
     rt: &R,
     what: &str,
@@ -158,7 +159,7 @@ fn time_circular<R: Clock + Print + AllocGlobal>(rt: &R, count: u32) -> io::Resu
     }
 }
 
-/// Prints how long a run of these edits took, and how many were accepted.
+// Prints how long a run of these edits took, and how many were accepted.
 fn time_run<R: Clock + Print + AllocGlobal>(
     rt: &R,
     what: &str,

@@ -1,10 +1,10 @@
-//! Lists of edits that are made in one call: insertions whose owners all come last, and edits made at
-//! random.
+//! Lists of edits that are made in one call: insertions whose owners all come last, and edits made
+//! at random.
 use crate::edits::block;
 use std::alloc::{AllocError, Global};
 use ti_base::{Database, Edit};
 
-/// The texts of a chain in which each block uses the next one: every owner comes behind its user.
+/// The texts of a chain in which each block uses the next one: every owner comes after its user.
 pub fn chain_owners_last(alloc: Global, count: u32) -> Result<Vec<Vec<u8>>, AllocError> {
     let mut texts = Vec::with_capacity(alloc, count as usize)?;
     for number in 1..count {
@@ -14,7 +14,7 @@ pub fn chain_owners_last(alloc: Global, count: u32) -> Result<Vec<Vec<u8>>, Allo
     Ok(texts)
 }
 
-/// The texts of so many users, and behind them of as many owners, one for each.
+/// The texts of this many users, and after them of as many owners, one for each.
 pub fn users_before_owners(alloc: Global, count: u32) -> Result<Vec<Vec<u8>>, AllocError> {
     let mut texts = Vec::with_capacity(alloc, count as usize)?;
     for number in 0..count {
@@ -26,7 +26,7 @@ pub fn users_before_owners(alloc: Global, count: u32) -> Result<Vec<Vec<u8>>, Al
     Ok(texts)
 }
 
-/// So many texts of few names, of which a quarter use another of these.
+/// This many texts of few names, of which a quarter use another of these.
 pub fn texts_at_random(alloc: Global, count: u32) -> Result<Vec<Vec<u8>>, AllocError> {
     let names = (count / 2).max(1);
     let mut draws = Draws { state: 20_261_126 };
@@ -43,7 +43,7 @@ pub fn texts_at_random(alloc: Global, count: u32) -> Result<Vec<Vec<u8>>, AllocE
     Ok(texts)
 }
 
-/// The insertions of these texts, each behind those before it.
+/// The insertions of these texts, each after those before it.
 pub fn insertions<'a>(alloc: Global, texts: &'a [Vec<u8>]) -> Result<Vec<Edit<'a>>, AllocError> {
     let mut edits = Vec::with_capacity(alloc, texts.len())?;
     for text in texts {
@@ -55,14 +55,14 @@ pub fn insertions<'a>(alloc: Global, texts: &'a [Vec<u8>]) -> Result<Vec<Edit<'a
     Ok(edits)
 }
 
-/// Numbers drawn from a linear congruential generator.
+// Numbers drawn from a linear congruential generator.
 #[derive(Drop)]
 struct Draws {
     state: u64,
 }
 
 impl Draws {
-    /// A number below the count, and 0 where that is 0.
+    // A number below the count, and 0 if the count is 0.
     fn below(&mut self, count: u32) -> u32 {
         self.state = self
             .state
@@ -101,7 +101,7 @@ pub fn edits_at_random<'a>(
     Ok(edits)
 }
 
-/// The database that the edits make one by one. An edit that is refused leaves it.
+/// The database that the edits make one by one. An edit that is refused leaves it as it was.
 pub fn apply_each(alloc: Global, edits: &[Edit<'_>]) -> Database {
     let mut database = Database::new(alloc);
     for edit in edits {

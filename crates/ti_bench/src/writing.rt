@@ -1,4 +1,4 @@
-//! Entries to be written: small ones, as of a plain terminal, and full ones of 400 texts.
+//! Entries to be written: small ones, as of a plain terminal, and full ones of 400 strings.
 ghost use Rattle.std.specs.Prelude.{◌↔◌, ◌≤◌, IsTrue};
 ghost use Rattle.ti_layout.specs.Values.{HasNoNul};
 
@@ -42,7 +42,7 @@ fn set_text(table: &mut Table, alloc: Global, index: usize, text: &[u8]) -> Resu
     }
 }
 
-/// A flag, two numbers, and texts at places as far apart as those of a plain terminal.
+/// A boolean, two numbers, and strings at places as far apart as those of a plain terminal.
 pub fn small_table(alloc: Global) -> Result<Table, AllocError> {
     let mut table = Table::new(alloc);
     set_flag(&mut table, 1)?;
@@ -54,7 +54,7 @@ pub fn small_table(alloc: Global) -> Result<Table, AllocError> {
     Ok(table)
 }
 
-/// 20 flags, 10 numbers, and 400 texts.
+/// 20 booleans, 10 numbers, and 400 strings.
 pub fn full_table(alloc: Global) -> Result<Table, AllocError> {
     let mut table = Table::new(alloc);
     for index in 0..20 {
@@ -69,8 +69,8 @@ pub fn full_table(alloc: Global) -> Result<Table, AllocError> {
     Ok(table)
 }
 
-/// How many bytes the entries of the table take that are written so often, so that none can be left
-/// out.
+/// How many bytes the entries of the table take that are written that many times, so that none can
+/// be left out.
 pub fn write_all(alloc: Global, table: &Table, count: u32) -> u64 {
     let mut total = 0u64;
     if NAMES.is_empty() || !has_no_nul(NAMES) {

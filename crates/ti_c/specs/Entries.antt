@@ -20,7 +20,7 @@ format_of false = Legacy
 abbrev pub entry_names : Entry → List ℕ
 entry_names e = e.names.now
 
--- what it holds of each capability
+-- what the entry holds of each capability
 unfoldable pub entry_contents : Entry → Contents
 entry_contents e =
     contents_of (format_of e.wide) e.flags.now (numbers_in (format_of e.wide) e.numbers.now) (numbers_in Legacy e.offsets.now) e.strings.now
@@ -31,7 +31,8 @@ entry_of e = record { names = entry_names e; contents = entry_contents e }
 
 -- ---- reading
 
--- 0: the bytes are this entry. Else they are refused by the first refusal that holds, whose number it is, and the entry is as before.
+-- 0: the bytes are this entry. Else they are refused by the first refusal that holds; the answer is
+-- its number, and the entry is as before.
 abbrev pub ReadAnswer : List ℕ → Entry → Entry → ℕ → Type 0
 ReadAnswer bytes before after answer =
     ((answer ≡ 0) × Reads bytes (entry_names after) (entry_contents after))
@@ -52,22 +53,22 @@ CopyAnswer bytes answer =
 
 -- ---- values
 
--- 1 or 0, as the flag of a place is set or not; -1 where there is no such flag
+-- 1 or 0, if the boolean of a place is set or not; -1 if there is no such boolean
 abbrev pub flag_answer : Contents → ℕ → ℤ
 flag_answer contents index =
     if nat_lt index (count_of Flag) then (if shown_flag (contents (capability Flag index)) then pos 1 else pos 0) else negsuc 0
 
--- a number; -1 where it is absent
+-- a number; -1 if it is absent
 abbrev pub number_or_absent : Option ℕ → ℤ
 number_or_absent (Some n) = pos n
 number_or_absent None = negsuc 0
 
--- the number of a place; -1 where it is absent, -2 where there is no such number
+-- the number of a place; -1 if it is absent, -2 if there is no such number
 abbrev pub number_answer : Contents → ℕ → ℤ
 number_answer contents index =
     if nat_lt index (count_of Number) then number_or_absent (shown_number (contents (capability Number index))) else negsuc 1
 
--- the string of a place, where there is one
+-- the string of a place, if there is one
 abbrev pub string_at : Contents → ℕ → Option (List ℕ)
 string_at contents index = if nat_lt index (count_of Text) then shown_text (contents (capability Text index)) else None
 
@@ -76,6 +77,6 @@ abbrev pub presence : Option (List ℕ) → ℤ
 presence (Some text) = pos 1
 presence None = pos 0
 
--- 1 where the string of a place is present, 0 where it is absent; -1 where there is no such string
+-- 1 if the string of a place is present, 0 if it is absent; -1 if there is no such string
 abbrev pub string_answer : Contents → ℕ → ℤ
 string_answer contents index = if nat_lt index (count_of Text) then presence (shown_text (contents (capability Text index))) else negsuc 0

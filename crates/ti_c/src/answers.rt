@@ -3,9 +3,9 @@ ghost use Rattle.std.specs.Prelude.{◌≡◌, ◌++◌, drop, length, nat_le, M
 
 /// The bytes were written.
 pub(crate) const OK: u32 = 0;
-/// A `%` begins no code that may stand there.
+/// A `%` begins no code that may come there.
 pub(crate) const BAD_FORMAT: u32 = 1;
-/// A code pushes on 20 values.
+/// A code pushes when 20 values are on the stack.
 pub(crate) const STACK_FULL: u32 = 2;
 /// Memory was refused.
 pub(crate) const NO_MEMORY: u32 = 3;
@@ -32,7 +32,7 @@ pub struct Outcome {
     pub size: usize,
 }
 
-/// Writes the bytes to the front of the room, where they fit.
+/// Writes the bytes to the front of the room, if they fit.
 pub(crate) fn write_to(bytes: &[u8], out: &mut [u8]) -> bool
     ensures fits { result ≡ nat_le (length bytes.now) (length out.old) }
     ensures written { MatchBool result (out.new ≡ bytes.now ++ drop (length bytes.now) out.old) (out.new ≡ out.old) }

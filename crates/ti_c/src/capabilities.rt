@@ -7,7 +7,8 @@ ghost use Rattle.ti_c.specs.Capabilities as spec;
 use crate::answers::Text;
 use ti_caps::{Cap, Kind, find, name};
 
-/// A capability: its kind, which is 0 of a flag, 1 of a number and 2 of a string, and its place among those of the kind.
+/// A capability: its kind, which is 0 of a boolean, 1 of a number and 2 of a string, and its place
+/// among those of the kind.
 #[repr(C)]
 #[derive(Clone, Copy)]
 pub struct Place {
@@ -38,7 +39,8 @@ fn kind_numbered(number: u32) -> Option<Kind>
     }
 }
 
-/// The capability of a name, byte for byte. False where no capability has it, and `found` is then as it was.
+/// The capability of a name, byte for byte. False if no capability has it, and `found` is then as
+/// it was.
 #[unsafe(no_mangle)]
 pub extern "C" fn ti_capability(name: &[u8], found: &mut Place) -> bool
     ensures is { result ≡ is_some (capability_named name.now) }
@@ -56,7 +58,8 @@ pub extern "C" fn ti_capability(name: &[u8], found: &mut Place) -> bool
     }
 }
 
-/// The name of a capability. False where there is none of the kind at the place, and `text` is then as it was.
+/// The name of a capability. False if there is none of the kind at the place, and `text` is then as
+/// it was.
 #[unsafe(no_mangle)]
 pub extern "C" fn ti_name(kind: u32, index: u32, text: &mut Text<'static>) -> bool
     ensures is { result ≡ is_some (name_at kind index) }

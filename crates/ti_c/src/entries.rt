@@ -16,7 +16,7 @@ use std::alloc::{AllocError, Global};
 use ti_caps::{Cap, Kind};
 use ti_layout::{Format, ReadError, View, ViewParts};
 
-/// The answer of a call that was refused memory for an entry.
+// The answer of a call that was refused memory for an entry.
 const NO_MEMORY: u32 = 9;
 
 // The format of an entry.
@@ -40,7 +40,7 @@ fn is_wide(format: Format) -> bool
     }
 }
 
-// The entry that C holds, as a view.
+/// The entry that C holds, as a view.
 #[tactic(auto, unfolding(crate::specs::Entries::entry_contents))]
 pub(crate) fn view_of<'a>(entry: &Entry<'a>) -> View<'a>
     ensures names { names_of result ≡ entry_names entry.now }
@@ -101,8 +101,8 @@ fn read(bytes: &[u8]) -> Result<Entry<'_>, ReadError>
     }
 }
 
-/// Reads an entry where its bytes lie. The answer is 0, or the number of the first refusal that holds, and the entry is
-/// then as it was.
+/// Reads an entry where its bytes are. The answer is 0, or the number of the first refusal that
+/// holds, and the entry is then as it was.
 #[unsafe(no_mangle)]
 pub extern "C" fn ti_entry_read<'a>(bytes: &'a [u8], entry: &mut Entry<'a>) -> u32
     ensures { ReadAnswer bytes.now entry.old entry.new result }
@@ -161,8 +161,9 @@ fn copied(alloc: Global, bytes: &[u8]) -> Result<Box<Entry<'static>>, u32>
     }
 }
 
-/// Reads an entry of a copy of the bytes, which C gives back with `ti_entry_free`. The answer is 0, the number of the first
-/// refusal that holds, or 9 where memory was refused; where it is not 0, `entry` is as it was.
+/// Reads an entry of a copy of the bytes, which C gives back with `ti_entry_free`. The answer is 0,
+/// the number of the first refusal that holds, or 9 if memory was refused; if it is not 0, `entry`
+/// is as it was.
 #[unsafe(no_mangle)]
 pub extern "C" fn ti_entry_new(alloc: Global, bytes: &[u8], entry: &mut *mut Entry<'static>) -> u32
     ensures { CopyAnswer bytes.now result }
@@ -184,7 +185,7 @@ pub extern "C" fn ti_names<'a>(entry: &Entry<'a>, text: &mut Text<'a>)
     text.bytes = entry.names;
 }
 
-/// The first name: the names field up to its first `|`, or the whole of it.
+/// The first name: the names field up to its first `|`, or the whole field if it has none.
 #[unsafe(no_mangle)]
 pub extern "C" fn ti_first_name<'a>(entry: &Entry<'a>, text: &mut Text<'a>)
     ensures { text.new.bytes.now ≡ before_first (λ b. b == ascii.bar) (entry_names entry.now) }
@@ -202,7 +203,8 @@ fn long_name(names: &[u8]) -> &[u8]
     }
 }
 
-/// The description of the terminal: the names field after its last `|`, or the whole of it.
+/// The description of the terminal: the names field after its last `|`, or the whole field if it
+/// has none.
 #[unsafe(no_mangle)]
 pub extern "C" fn ti_long_name<'a>(entry: &Entry<'a>, text: &mut Text<'a>)
     ensures { text.new.bytes.now ≡ long_name (entry_names entry.now) }
@@ -210,7 +212,7 @@ pub extern "C" fn ti_long_name<'a>(entry: &Entry<'a>, text: &mut Text<'a>)
     text.bytes = long_name(entry.names);
 }
 
-/// Whether a flag is set: 1, or 0 where it is absent or cancelled; -1 where there is no such flag.
+/// Whether a boolean is set: 1, or 0 if it is absent or cancelled; -1 if there is no such boolean.
 #[unsafe(no_mangle)]
 pub extern "C" fn ti_flag(entry: &Entry<'_>, index: u32) -> i32
     ensures { result ≡ flag_answer (entry_contents entry.now) index }
@@ -222,7 +224,7 @@ pub extern "C" fn ti_flag(entry: &Entry<'_>, index: u32) -> i32
     }
 }
 
-/// The value of a number: -1 where it is absent or cancelled, -2 where there is no such number.
+/// The value of a number: -1 if it is absent or cancelled, -2 if there is no such number.
 #[unsafe(no_mangle)]
 pub extern "C" fn ti_number(entry: &Entry<'_>, index: u32) -> i64
     ensures { result ≡ number_answer (entry_contents entry.now) index }
@@ -236,8 +238,8 @@ pub extern "C" fn ti_number(entry: &Entry<'_>, index: u32) -> i64
     }
 }
 
-/// A string, without its NUL: 1 where it is present; 0 where it is absent or cancelled, and -1 where there is no such
-/// string, and `text` is then as it was.
+/// A string, without its NUL: 1 if it is present; 0 if it is absent or cancelled, and -1 if there
+/// is no such string, and `text` is then as it was.
 #[unsafe(no_mangle)]
 pub extern "C" fn ti_string<'a>(entry: &Entry<'a>, index: u32, text: &mut Text<'a>) -> i32
     ensures is { result ≡ string_answer (entry_contents entry.now) index }

@@ -17,8 +17,8 @@ pub struct Entry<'a> {
     pub strings: &'a [u8],
     /// The bytes that it was read from.
     pub bytes: &'a [u8],
-    // each plain offset leads into the string table
+    /// each plain offset leads into the string table
     pub ghost ends: { OffsetsEnd offsets.now strings.now },
-    // which is no longer than a header can say
+    /// which is no longer than a header can say
     pub ghost short: { length strings.now < first_negative Legacy },
 }

@@ -10,7 +10,7 @@ use std::alloc::Global;
 use ti_param::{LETTERS, ParamError, Statics, Value, expand};
 use ti_text::limits::PARAMETERS_MAX;
 
-/// A parameter: a number where `kind` is 0, else a text.
+/// A parameter: a number if `kind` is 0, else a string.
 #[repr(C)]
 #[derive(Clone, Copy)]
 pub struct Parameter<'a> {
@@ -55,9 +55,10 @@ fn arguments<'a>(params: &[Parameter<'a>]) -> [Value<'a>; PARAMETERS_MAX]
     ]
 }
 
-/// Expands a string with its parameters, of which those after the ninth are not looked at, and writes the bytes to the
-/// front of `out`. The answer is `OK` with how many they are; `BAD_FORMAT` and `STACK_FULL` with the place of the `%`;
-/// `NO_ROOM` with how many bytes are needed; `NO_MEMORY`. After all but `OK`, `variables` and `out` are as they were.
+/// Expands a string with its parameters, of which those after the ninth are not looked at, and
+/// writes the bytes to the front of `out`. The answer is `OK` with how many they are; `BAD_FORMAT`
+/// and `STACK_FULL` with the place of the `%`; `NO_ROOM` with how many bytes are needed;
+/// `NO_MEMORY`. After all but `OK`, `variables` and `out` are as they were.
 #[unsafe(no_mangle)]
 pub extern "C" fn ti_expand(
     alloc: Global,

@@ -1,14 +1,16 @@
-//! The toolkit for programs in C: what `include/ti.h` declares. Each export calls the library's own function and states
-//! its contract again, in terms of what C hands over and sees.
+//! The toolkit for programs in C: what `include/ti.h` declares. Each export calls the library's own
+//! function and states its contract again, in terms of what C gives and sees.
 //!
 //! - `capabilities`: a capability by its name, and its name
-//! - `entry`: a compiled entry as C holds it; `entries`: reading one where its bytes lie or as a copy, and its values
+//! - `entry`: a compiled entry as C holds it; `entries`: reads one where its bytes are or as a
+//!   copy, and its values
 //! - `expanding`: a string with parameters as the bytes for the terminal
 //! - `padding`: such bytes with their delays as pad bytes, and the line to the terminal of an entry
-//! - `places`: the directories in which entries stand, and the file of one
+//! - `places`: the directories in which entries are, and the file of one
 //! - `answers`: what a call says of the bytes that it wrote
 //!
-//! Nothing checks that a caller in C upholds what a type or a `requires` states: `include/ti.h` says it at each call.
+//! Nothing checks that a caller in C upholds what a type or a `requires` states: `include/ti.h`
+//! says it at each call.
 #![tactic(auto)]
 
 mod answers;

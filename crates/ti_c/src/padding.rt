@@ -16,11 +16,11 @@ use ti_tput::terminal_line;
 #[repr(C)]
 #[derive(Clone, Copy)]
 pub struct TerminalLine {
-    /// The speed in bits a second.
+    /// The speed in bits per second.
     pub rate: u32,
     /// The least rate at which padding is written.
     pub pad_from: u32,
-    /// The terminal stops the line by itself.
+    /// The terminal stops the line itself.
     pub xon: bool,
     pub has_pad_byte: bool,
     pub pad_byte: u8,
@@ -42,9 +42,10 @@ fn line_of(line: &TerminalLine) -> Line
     }
 }
 
-/// Writes a text to the front of `out`, with each padding `$<..>` as pad bytes, where it takes effect on `lines` lines. The
-/// answer is `OK` with how many bytes they are; `NO_ROOM` with how many are needed; `TOO_MUCH` where the text asks for over
-/// 65,536 pad bytes; `NO_MEMORY`. After all but `OK`, `out` is as it was.
+/// Writes a string to the front of `out`, with each padding `$<..>` as pad bytes, if it takes
+/// effect on `lines` lines. The answer is `OK` with how many bytes they are; `NO_ROOM` with how
+/// many are needed; `TOO_MUCH` if the string asks for over 65,536 pad bytes; `NO_MEMORY`. After all
+/// but `OK`, `out` is as it was.
 #[unsafe(no_mangle)]
 pub extern "C" fn ti_pad(
     alloc: Global,
@@ -80,7 +81,8 @@ pub extern "C" fn ti_pad(
     }
 }
 
-/// The line to the terminal of an entry, at a rate in bits a second: by `xon`, `pb`, `npc` and `pad`.
+/// The line to the terminal of an entry, at a rate in bits per second: by `xon`, `pb`, `npc` and
+/// `pad`.
 #[unsafe(no_mangle)]
 pub extern "C" fn ti_line(entry: &Entry<'_>, rate: u32, line: &mut TerminalLine)
     ensures { line_of line.new ≡ line_at_rate (entry_of entry.now) rate }

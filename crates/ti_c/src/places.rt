@@ -4,7 +4,7 @@ ghost use Rattle.std.specs.List.{slice_split};
 ghost use Rattle.std.specs.Option.{option_copied};
 ghost use Rattle.ti_text.specs.Ascii as ascii;
 ghost use Rattle.ti_source.specs.Header.{IsLookupName};
-ghost use Rattle.ti_tput.specs.Searching.{listed_places, places_of, system_place};
+ghost use Rattle.ti_devices.specs.Searching.{directories_of, listed_directories, system_directory};
 ghost use Rattle.ti_c.specs.Places.{set_to, directory_at, path_bytes, IsPathWritten, IsTooLong};
 
 use crate::answers::{BAD_NAME, NO_MEMORY, NO_ROOM, OK, Outcome, Text, write_to};
@@ -12,8 +12,8 @@ use std::alloc::{AllocError, Global};
 use ti_source::is_lookup_name;
 
 // The directory of the system's entries.
-fn system_place() -> &'static [u8]
-    ensures { result.now ≡ system_place }
+fn system_directory() -> &'static [u8]
+    ensures { result.now ≡ system_directory }
 {
     b"/usr/share/terminfo"
 }
@@ -36,11 +36,11 @@ fn colon_count(dirs: &[u8]) -> usize
 // The directory that the part at a place of TERMINFO_DIRS names.
 #[tactic(auto, using(crate::proofs::Directories::listed_at_index))]
 fn listed_at(dirs: &[u8], index: usize) -> Option<&[u8]>
-    ensures { option_copied result ≡ slice_get (listed_places (Some dirs.now)) index }
+    ensures { option_copied result ≡ slice_get (listed_directories (Some dirs.now)) index }
 {
     let part = part_at(dirs, index)?;
     if part.is_empty() {
-        return Some(system_place());
+        return Some(system_directory());
     }
     Some(part)
 }
@@ -48,27 +48,27 @@ fn listed_at(dirs: &[u8], index: usize) -> Option<&[u8]>
 // How many directories TERMINFO_DIRS names.
 #[tactic(auto, using(crate::proofs::Directories::listed_length))]
 fn listed_count(dirs: &[u8]) -> usize
-    ensures { result ≡ length (listed_places (Some dirs.now)) }
+    ensures { result ≡ length (listed_directories (Some dirs.now)) }
 {
     colon_count(dirs) + 1
 }
 
 // The directory at a place behind that of TERMINFO.
 fn place_behind(is_set: bool, dirs: &[u8], index: usize) -> Option<&[u8]>
-    ensures { option_copied result ≡ slice_get (listed_places (set_to is_set dirs.now) ++ system_place ∷ []) index }
+    ensures { option_copied result ≡ slice_get (listed_directories (set_to is_set dirs.now) ++ system_directory ∷ []) index }
 {
     let listed = if is_set { listed_count(dirs) } else { 0 };
     if index < listed {
         return listed_at(dirs, index);
     }
     if index == listed {
-        return Some(system_place());
+        return Some(system_directory());
     }
     None
 }
 
 // The directory at a place of their order.
-#[tactic(auto, unfolding(ti_tput::specs::Searching::places_of))]
+#[tactic(auto, unfolding(ti_devices::specs::Searching::directories_of))]
 fn place<'a>(terminfo: &'a [u8], is_set: bool, dirs: &'a [u8], index: usize) -> Option<&'a [u8]>
     ensures { option_copied result ≡ directory_at terminfo.now is_set dirs.now index }
 {
@@ -81,9 +81,10 @@ fn place<'a>(terminfo: &'a [u8], is_set: bool, dirs: &'a [u8], index: usize) -> 
     place_behind(is_set, dirs, index - 1)
 }
 
-/// The directory at a place of the order in which entries are looked for: what TERMINFO is set to, where it is not empty; the
-/// parts of TERMINFO_DIRS between colons, where it is set, an empty part being `/usr/share/terminfo`; and
-/// `/usr/share/terminfo`. False where they are not that many, and `found` is then as it was.
+/// The directory at a place of the order in which entries are looked for: the value of TERMINFO, if
+/// it is not empty; the parts of TERMINFO_DIRS between colons, if it is set, with
+/// `/usr/share/terminfo` for an empty part; and `/usr/share/terminfo`. False if there are not that
+/// many, and `found` is then as it was.
 #[unsafe(no_mangle)]
 pub extern "C" fn ti_places<'a>(
     terminfo: &'a [u8],
@@ -119,9 +120,9 @@ fn path(alloc: Global, dir: &[u8], name: &[u8]) -> Result<Vec<u8>, AllocError>
     Ok(path)
 }
 
-/// Writes to the front of `out` where the entry of a name stands below a directory, with a NUL behind it. The answer is `OK`
-/// with how many bytes that are; `NO_ROOM` with how many are needed; `BAD_NAME` where no terminal can have the name;
-/// `NO_MEMORY`. After all but `OK`, `out` is as it was.
+/// Writes to the front of `out` the path of a name's entry below a directory, with a NUL after it.
+/// The answer is `OK` with how many bytes that are; `NO_ROOM` with how many are needed; `BAD_NAME`
+/// if no terminal can have the name; `NO_MEMORY`. After all but `OK`, `out` is as it was.
 #[unsafe(no_mangle)]
 pub extern "C" fn ti_path(alloc: Global, dir: &[u8], name: &[u8], out: &mut [u8]) -> Outcome
     ensures known { (result.status ≡ OK) ⊎ (result.status ≡ NO_MEMORY) ⊎ (result.status ≡ NO_ROOM) ⊎ (result.status ≡ BAD_NAME) }

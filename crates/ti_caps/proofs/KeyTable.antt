@@ -65,7 +65,7 @@ as_long = refl
 key_at : (x : List ℕ) (k : ℕ) (d : NameRow) → k < length by_name → (get_or by_name k d).0 ≡ x → get_or KEYS k 0 ≡ key_of x
 key_at x k d within same = ap (λ ks. get_or ks k 0) keys_are ∙ get_or-map (λ (r : NameRow). key_of r.0) by_name k d 0 within ∙ ap key_of same
 
--- where the one row of that key has another name, no row has the name
+-- if the one row of a key has another name, no row has the name
 pub only_place : (x : List ℕ) (i : ℕ) → i < length KEYS → get_or KEYS i 0 ≡ key_of x → ((d : NameRow) → (get_or by_name i d).0 ≢ x) → HasNoRow by_name x
 only_place x i there here other = λ k d within same.
     let at : get_or KEYS k 0 ≡ key_of x = key_at x k d within same in
@@ -78,7 +78,7 @@ only_place x i there here other = λ k d within same.
       ]
     ]
 
--- where no row has that key, no row has the name
+-- if no row has that key, no row has the name
 pub no_place : (x : List ℕ) (i : ℕ) → ((k : ℕ) → k < i → get_or KEYS k 0 < key_of x) → ((k : ℕ) → i ≤ k → k < length KEYS → key_of x < get_or KEYS k 0) → HasNoRow by_name x
 no_place x i low high = λ k d within same.
     let at : get_or KEYS k 0 ≡ key_of x = key_at x k d within same in
@@ -88,30 +88,30 @@ no_place x i low high = λ k d within same.
       | inr above ↦ let more = high k above inside in absurd (omega (arith, more, at))
     ]
 
--- the numbers in the order by name are as many
+-- there are as many numbers in the order by name as rows
 pub numbers_as_long : length BY_NAME ≡ length by_name
 unfolding by_name
 numbers_as_long = sym (length-map BY_NAME (λ n. row_of (capability_numbered n)))
 
--- the row at a place is that of the capability whose number stands there
+-- the row at a place is that of the capability whose number is there
 row_at_place : (i n : ℕ) (d : NameRow) → i < length by_name → n ≡ get_or BY_NAME i 0 → get_or by_name i d ≡ row_of (capability_numbered n)
 unfolding by_name
 row_at_place i n d within at = get_or-map (λ m. row_of (capability_numbered m)) BY_NAME i 0 d (rw numbers_as_long within) ∙ ap (λ m. row_of (capability_numbered m)) (sym at)
 
 module _ (i n : ℕ) (c : Capability) (within : i < length by_name) (at : n ≡ get_or BY_NAME i 0) (is : c ≡ capability_numbered n) where
-  -- that is a capability
+  -- the number is that of a capability
   pub is_there : IsCapability c
   is_there = rw is (row_names (row_of (capability_numbered n)) (i, within, row_at_place i n (row_of (capability_numbered n)) within at)).0
 
-  -- a row whose name is that one is a row of the name
+  -- a row with that name is a row of the name
   pub row_here : (x : List ℕ) → name_of c ≡ x → IsTableRow by_name x c.kind c.index
   row_here x same = (i, within, row_at_place i n (x, c.kind, c.index) within at ∙ ap row_of (sym is) ∙ ap (λ (m : List ℕ). (m, c.kind, c.index)) same)
 
-  -- and one whose name isn't is of another
+  -- a row with another name is a row of another name
   pub other_here : (x : List ℕ) → name_of c ≢ x → IsOfAnother by_name i x
   other_here x other = λ d same. other (ap name_of is ∙ sym (ap (λ (r : NameRow). r.0) (row_at_place i n d within at)) ∙ same)
 
--- what follows where there is none
+-- what follows if there is no row
 pub none_then : {X P Q : Type 0} → (o : Option X) → (P → Q) → IfNone o P → IfNone o Q
 none_then None so h = so h
 none_then (Some x) so h = tt

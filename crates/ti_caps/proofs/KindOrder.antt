@@ -51,7 +51,7 @@ names_rise Flag = refl
 names_rise Number = refl
 names_rise Text = refl
 
--- each is a capability of the kind
+-- each item is a capability of the kind
 abbrev is_of : Kind → Capability → Bool
 is_of k c = same_kind c.kind k && nat_lt c.index (count_of c.kind)
 
@@ -64,7 +64,7 @@ all_of Text = refl
 is_of-true : (k : Kind) (c : Capability) → is_of k c ≡ true → (c.kind ≡ k) × IsCapability c
 is_of-true k c h = let parts = and_parts _ _ h in (same_kind-true c.kind k parts.0, ltb-true _ _ parts.1)
 
--- each capability of the kind stands in it
+-- each capability of the kind is in the table
 kept_by : (k : Kind) (q : NameRow) (rest : List NameRow) (r : NameRow) (b : Bool) → same_kind q.1 k ≡ b → same_kind r.1 k ≡ true → Contains (q ∷ rest) r → (Contains rest r → Contains (rows_of_kind k rest) (capability r.1 r.2)) → Contains (rows_of_kind k (q ∷ rest)) (capability r.1 r.2)
 kept_by k q rest r true e same (zero, l, at) later = let cap : NameRow → Capability = λ (x : NameRow). capability x.1 x.2 in rw e (0, omega arith, ap cap at)
 kept_by k q rest r true e same (suc i, l, at) later = rw e (Contains-cons _ _ _ (later (i, omega arith, at)))
@@ -82,7 +82,7 @@ rows_are_in_order k = record {
   all = λ i l. contains_kept k by_name (name_of (capability k i), k, i) (same_kind-itself k) (row_of_capability (capability k i) l);
 }
 
--- so it is the order by name
+-- the table is the order by name
 rows_are_the_order : (k : Kind) → rows_in_order k ≡ in_name_order k
 rows_are_the_order k = orders_are_one k (rows_in_order k) (in_name_order k) (rows_are_in_order k) (in_order k)
 
@@ -95,7 +95,7 @@ numbers_by_name = number_rows ∙ rows_are_the_order Number
 pub texts_by_name : map (capability Text) TEXTS_BY_NAME ≡ in_name_order Text
 texts_by_name = text_rows ∙ rows_are_the_order Text
 
--- what stands at a place of the code's table stands at that place of the order
+-- the capability at a place of the code's table is at that place of the order
 at_place : (k : Kind) (xs : List ℕ) (place index : ℕ) → map (capability k) xs ≡ in_name_order k → slice_get xs place ≡ Some index → slice_get (in_name_order k) place ≡ Some (capability k index)
 at_place k xs place index same at = rw (← same, slice_get-map, at)
 

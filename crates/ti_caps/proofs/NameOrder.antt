@@ -1,4 +1,5 @@
--- The capabilities of a kind have one order by name: lists that are such an order are equal, and the sorted list is one.
+-- The capabilities of a kind have one order by name: lists that are such an order are equal, and
+-- the sorted list is one.
 use Rattle.std.proofs.Common.{◌≡◌, ◌≢◌, ℕ, zero, suc, ◌+◌, ◌<◌, Bool, true, false, cond, List, [], ◌∷◌, map, length, get_or, refl, sym, ap, ◌∙◌, subst, arith, inl, inr, All}
 use Rattle.std.specs.Prelude.{◌⊎◌}
 use Rattle.std.specs.Ordering.{nat_cmp, is_lt}
@@ -20,7 +21,7 @@ use Rattle.ti_caps.proofs.Table.{distinct_names}
 
 -- ---- the order of names
 
--- the one name comes before the other
+-- the first name comes before the second
 abbrev Before : Capability → Capability → Type 0
 Before c d = slice_cmp nat_cmp (name_of c) (name_of d) ≡ Less
 
@@ -33,7 +34,7 @@ before-trans b c d h k = nat_list_cmp_total.trans (name_of b) (name_of c) (name_
 not_both : (c d : Capability) → Before c d → Before d c → ⊥
 not_both c d h k = never c (before-trans c d c h k)
 
--- of two names that differ the one comes before the other
+-- of two names that differ, one comes before the other
 other_way : (c d : Capability) → name_of c ≢ name_of d → is_lt (slice_cmp nat_cmp (name_of c) (name_of d)) ≡ false → Before d c
 other_way c d apart above =
     elim (slice_cmp nat_cmp (name_of c) (name_of d)) as (λ o. slice_cmp nat_cmp (name_of c) (name_of d) ≡ o → is_lt o ≡ false → Before d c) [
@@ -69,7 +70,7 @@ module _ (x : Capability) (xs : List Capability) (y : Capability) (ys : List Cap
     | inr low ↦ elim (first_or_later x xs y s (g y (0, omega arith, refl))) [ inl e ↦ e | inr high ↦ absurd (not_both x y high low) ]
   ]
 
-  -- what is behind the first of the one is behind the first of the other
+  -- what is after the first item of one list is after the first item of the other
   behind : x ≡ y → (c : Capability) → Before x c → Contains (y ∷ ys) c → Contains ys c
   behind e c h (zero, l, at) = absurd (never c (subst (λ (d : Capability). Before d c) (e ∙ at) h))
   behind e c h (suc j, l, at) = (j, omega arith, at)
@@ -98,7 +99,7 @@ orders_are_one kind xs ys h k = equal xs ys h.rises k.rises (within_order kind x
 
 -- ---- the sorted list is an order by name
 
--- what holds of a capability and of those of a list holds of them put together
+-- what holds of a capability and of those of a list holds of all of them together
 put-all : (P : Capability → Type 0) (c : Capability) (xs : List Capability) → P c → AllByRecursion P xs → AllByRecursion P (put_by_name c xs)
 put-all P c [] p all = (p, tt)
 put-all P c (d ∷ ds) p all = elim (is_lt (slice_cmp nat_cmp (name_of c) (name_of d))) as (λ b. AllByRecursion P (cond b (c ∷ d ∷ ds) (d ∷ put_by_name c ds))) [
@@ -182,7 +183,7 @@ module _ (kind : Kind) where
       put-all (IsBelow kind (suc n)) (capability kind n) (sorted_by_name kind n) (refl, omega arith)
       (all-weaker (IsBelow kind n) (IsBelow kind (suc n)) (sorted_by_name kind n) (λ d h. (h.0, (let l = h.1 in omega arith))) (sorted-below n))
 
-  -- the name of the next is none of theirs
+  -- the name of the next capability is none of theirs
   next_apart : (n : ℕ) → n < count_of kind → (d : Capability) → IsBelow kind n d → name_of (capability kind n) ≢ name_of d
   next_apart n within d h same =
       let valid : IsCapability d = subst (λ q. d.index < count_of q) (sym h.0) (let l = h.1 in omega arith) in
@@ -216,6 +217,6 @@ in_order kind = record {
   all = λ i l. contains_from_has (in_name_order kind) (capability kind i) (sorted-has kind (count_of kind) i l);
 }
 
--- it has as many capabilities as the kind
+-- the sorted list has as many capabilities as the kind
 pub length-in_name_order : (kind : Kind) → length (in_name_order kind) ≡ count_of kind
 length-in_name_order kind = sorted-length kind (count_of kind)

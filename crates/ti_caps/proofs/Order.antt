@@ -38,7 +38,7 @@ adjacent_from_rising x (y ∷ ys) h (suc k) l = simp unary_clauses (simp unary_c
 pub order_from_rising : (r : NameRow) (rs : List NameRow) → rising_from r.0 (map (λ q. q.0) rs) ≡ true → IsInNameOrder (r ∷ rs)
 order_from_rising r rs h = record { sorted = sorted_from_all_adjacent nat_list_cmp_total (map (λ q. q.0) (r ∷ rs)) [] (adjacent_from_rising r.0 (map (λ q. q.0) rs) h) }
 
--- in rows that are in order, a name stands in one place
+-- in rows that are in order, a name is in one place
 pub names_apart : (rows : List NameRow) → IsInNameOrder rows → (i j : ℕ) (d : NameRow) → i < j → j < length rows → (get_or rows i d).0 ≢ (get_or rows j d).0
 names_apart rows order i j d l within =
     let name = λ (r : NameRow). r.0 in

@@ -1,4 +1,4 @@
--- When two kinds, and when two capabilities, are one.
+-- When two kinds, and two capabilities, are equal.
 use Rattle.std.proofs.Common.{◌≡◌, true, nat_eq, refl, ◌∙◌, ap, eqb-true}
 use Rattle.std.proofs.lemmas.Bool.{and_parts, and_from, eq-eqb}
 use Rattle.ti_caps.specs.Tables.{Capability, capability, same_kind, same_capability}

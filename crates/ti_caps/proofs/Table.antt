@@ -49,8 +49,7 @@ all_covered Flag = refl
 all_covered Number = refl
 all_covered Text = refl
 
--- the row of a capability, where the table holds one
--- what each row says
+-- the row of a capability, if the table holds one; and what each row says
 pub row_names : (r : NameRow) → Contains by_name r → (r.2 < count_of r.1) × (name_of (capability r.1 r.2) ≡ r.0)
 row_names r among =
     let parts = and_parts _ _ (All-contains (λ q. row_is_right q ≡ true) by_name r (AllPass-from_list_all row_is_right by_name rows_are_right) among) in
@@ -89,7 +88,7 @@ row_of_capability c within =
 pub no_name_from_no_row : (x : List ℕ) → HasNoRow by_name x → (c : Capability) → IsCapability c → name_of c ≢ x
 no_name_from_no_row x none c within = All-contains (λ r. r.0 ≢ x) by_name (name_of c, c.kind, c.index) none (row_of_capability c within)
 
--- no two capabilities have one name
+-- no two capabilities have the same name
 pub distinct_names : CapabilityNamesAreDistinct
 distinct_names c d here there same =
     let (p, low, at_p) = at_from_Contains by_name _ (row_of_capability c here) in

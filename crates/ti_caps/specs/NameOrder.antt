@@ -17,7 +17,8 @@ abbrev pub put_by_name : Capability → List Capability → List Capability
 put_by_name c [] = c ∷ []
 put_by_name c (d ∷ ds) = if is_lt (slice_cmp nat_cmp (name_of c) (name_of d)) then c ∷ d ∷ ds else d ∷ put_by_name c ds
 
--- own: the first capabilities of a kind, so many of them, put one by one where their names belong
+-- own: the first capabilities of a kind, as many as the number says, put one by one where their
+-- names belong
 unfoldable pub sorted_by_name : Kind → ℕ → List Capability
 sorted_by_name kind zero = []
 sorted_by_name kind (suc n) = put_by_name (capability kind n) (sorted_by_name kind n)
@@ -26,10 +27,10 @@ sorted_by_name kind (suc n) = put_by_name (capability kind n) (sorted_by_name ki
 abbrev pub in_name_order : Kind → List Capability
 in_name_order kind = sorted_by_name kind (count_of kind)
 
--- that is an order by name of each kind
+-- the sorted list of each kind is an order by name
 abbrev pub EachKindIsInOrder : Type 0
 EachKindIsInOrder = (kind : Kind) → IsNameOrder kind (in_name_order kind)
 
--- and a kind has no other
+-- a kind has only one order by name
 abbrev pub OrdersByNameAreOne : Type 0
 OrdersByNameAreOne = (kind : Kind) (xs ys : List Capability) → IsNameOrder kind xs → IsNameOrder kind ys → xs ≡ ys

@@ -1,4 +1,5 @@
--- The names of the capabilities: terminfo(5), "Predefined Capabilities", in the order of the compiled entry.
+-- The names of the capabilities: terminfo(5), "Predefined Capabilities", in the order of the
+-- compiled entry.
 use Prim.Native.String.{String}
 use Rattle.std.specs.Prelude.{List, [], ◌∷◌}
 

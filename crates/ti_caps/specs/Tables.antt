@@ -1,4 +1,5 @@
--- The capabilities and their names, and the capability of a name (own, over the lists of the names).
+-- The capabilities and their names, and the capability of a name (own, over the lists of the
+-- names).
 use Rattle.std.specs.Option.{option_or}
 use Rattle.std.specs.Prelude.{◌≡◌, ℕ, ◌<◌, Bool, true, false, ◌&&◌, nat_eq, List, [], ◌∷◌, map, slice_index_or, Option, Some, None, option_map, if◌then◌else◌}
 use Rattle.std.specs.Prelude.{bytes_eq, suc, codes, ◌+◌}
@@ -15,14 +16,14 @@ pub record Capability : Type 0 where
 abbrev pub capability : Kind → ℕ → Capability
 capability k i = record { kind = k; index = i }
 
--- whether two kinds are one
+-- whether two kinds are equal
 abbrev pub same_kind : Kind → Kind → Bool
 same_kind Flag Flag = true
 same_kind Number Number = true
 same_kind Text Text = true
 same_kind _ _ = false
 
--- whether two capabilities are one: of one kind, and at one place in its list
+-- whether two capabilities are equal: of the same kind, and at the same place in its list
 abbrev pub same_capability : Capability → Capability → Bool
 same_capability c d = same_kind c.kind d.kind && nat_eq c.index d.index
 
@@ -69,7 +70,7 @@ named_in x k = option_map (capability k) (place_of x (names k))
 unfoldable pub capability_named : List ℕ → Option Capability
 capability_named x = option_or (named_in x Flag) (option_or (named_in x Number) (named_in x Text))
 
--- no two capabilities have one name, over all three lists
+-- no two capabilities have the same name, over all three lists
 abbrev pub CapabilityNamesAreDistinct : Type 0
 CapabilityNamesAreDistinct = (c d : Capability) → IsCapability c → IsCapability d → name_of c ≡ name_of d → c ≡ d
 

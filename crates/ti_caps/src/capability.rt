@@ -1,4 +1,4 @@
-// What a capability is: a kind, and a place in the list of the names of that kind.
+//! What a capability is: a kind, and a place in the list of the names of that kind.
 ghost use Rattle.std.specs.Prelude.{◌≡◌, ◌<◌, ◌↔◌, IsSome, IfSome};
 ghost use Rattle.ti_caps.specs.Tables.{IsCapability, count_of, capability};
 
@@ -8,11 +8,11 @@ use std::marker::Model;
 /// The three kinds of capability, in the order of the compiled entry.
 #[derive(Clone, Copy, PartialEq, Eq, Debug)]
 pub enum Kind {
-    /// A capability that is there or not, such as `am`.
+    /// A boolean capability, which is there or not, such as `am`.
     Flag,
-    /// A capability with a number, such as `cols`.
+    /// A numeric capability, such as `cols`.
     Number,
-    /// A capability with a text, such as `bel`.
+    /// A string capability, such as `bel`.
     Text,
 }
 
@@ -36,7 +36,7 @@ impl Model for Cap {
 }
 
 impl Cap {
-    /// The capability at a place of the list of its kind, counted from 0; `None` exactly where the
+    /// The capability at a place of the list of its kind, counted from 0; `None` exactly if the
     /// list is not that long.
     pub fn at(kind: Kind, index: usize) -> Option<Cap>
         ensures within { IsSome result ↔ (index < count_of kind) }

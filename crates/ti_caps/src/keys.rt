@@ -1,12 +1,14 @@
-// The keys of the names, by which a look-up searches.
+//! The keys of the names, by which a look-up searches.
 ghost use Rattle.std.specs.Prelude.{◌≡◌};
 ghost use Rattle.ti_caps.specs.inside.Keys.{key_of};
 
-/// How many bytes of a name its key has.
+use crate::tables::CAPABILITY_COUNT;
+
+// How many bytes of a name its key has.
 const KEY_BYTES: usize = 8;
 
-/// The key of a name: its first eight bytes as one number, with zeros behind a shorter name. Names in the
-/// order of their bytes have their keys in order.
+/// The key of a name: its first eight bytes as one number, with zeros after a shorter name. Names
+/// in the order of their bytes have their keys in order.
 pub fn key_of(name: &[u8]) -> u64
     ensures { result ≡ key_of name.now }
 {
@@ -22,7 +24,7 @@ pub fn key_of(name: &[u8]) -> u64
 }
 
 /// The keys of all names, in the order of the table of names.
-pub static KEYS: [u64; 497] = [
+pub static KEYS: [u64; CAPABILITY_COUNT] = [
     0x4f54473100000000,
     0x4f54473200000000,
     0x4f54473300000000,

@@ -1,4 +1,4 @@
-// From the name of a capability to the capability, and back.
+//! From the name of a capability to the capability, and back.
 ghost use Rattle.std.specs.Prelude.{◌≡◌, ◌≢◌, ◌<◌, length, [], IfSome, IfNone};
 ghost use Rattle.std.specs.List.{slice_index_or};
 ghost use Rattle.ti_caps.specs.Tables.{Capability, IsCapability, capability, capability_named, count_of, name_of, names, EveryNameIsFound, CapabilityNamesAreDistinct};
@@ -9,7 +9,7 @@ use crate::capability::{Cap, Kind};
 use crate::keys::{KEYS, key_of};
 use crate::tables::{BY_NAME, FLAG_COUNT, FLAGS, NUMBER_COUNT, NUMBERS, TEXT_COUNT, TEXTS};
 
-/// How many capabilities of a kind there are: 44 flags, 39 numbers, 414 texts.
+/// How many capabilities of a kind there are: 44 booleans, 39 numbers, 414 strings.
 pub fn count(kind: Kind) -> usize
     ensures value { result ≡ count_of kind }
     ensures names { result ≡ length (names kind) }
@@ -28,7 +28,7 @@ pub fn name(cap: Cap) -> &'static str
     text_of(cap.kind(), cap.index())
 }
 
-/// The capability of a name, byte for byte; `None` where no capability has it.
+/// The capability of a name, byte for byte; `None` if no capability has it.
 pub fn find(name: &[u8]) -> Option<Cap>
     ensures found { IfSome result (λ c. IsCapability c × (name_of c ≡ name.now)) }
     ensures none { IfNone result ((c : Capability) → IsCapability c → name_of c ≢ name.now) }
@@ -48,16 +48,6 @@ fn kind_and_index(name: &[u8]) -> Option<(Kind, usize)>
         Err(_) => None,
     }
 }
-
-/// No two capabilities have one name.
-pub fn names_are_distinct()
-    ensures { CapabilityNamesAreDistinct }
-{}
-
-/// The name of each capability leads back to it.
-pub fn every_name_is_found()
-    ensures { EveryNameIsFound }
-{}
 
 // The name of the capability of a kind at a place of its list.
 fn text_of(kind: Kind, index: usize) -> &'static str
@@ -79,7 +69,7 @@ fn text_at(names: &'static [&'static str], index: usize) -> &'static str
     names[index]
 }
 
-// The kind and the index of the capability at a place of the order by names, where it has that name.
+// The kind and the index of the capability at a place of the order by name, if it has that name.
 fn row_at(place: usize, name: &[u8]) -> Option<(Kind, usize)>
     requires { place < length by_name }
     ensures found { IfSome result (λ r. IsTableRow by_name name.now r.0 r.1) }

@@ -1,4 +1,4 @@
-// The capabilities of each kind in the order of the bytes of their names.
+//! The capabilities of each kind in the order of the bytes of their names.
 ghost use Rattle.std.specs.Prelude.{◌≡◌, map, slice_get};
 ghost use Rattle.ti_caps.specs.Tables.{capability};
 ghost use Rattle.ti_caps.specs.NameOrder.{EachKindIsInOrder, OrdersByNameAreOne, in_name_order};
@@ -6,7 +6,7 @@ ghost use Rattle.ti_caps.specs.NameOrder.{EachKindIsInOrder, OrdersByNameAreOne,
 use crate::capability::{Cap, Kind};
 use crate::tables::{FLAG_COUNT, NUMBER_COUNT, TEXT_COUNT};
 
-// The indexes of the flags, by name.
+// The indexes of the booleans, by name.
 static FLAGS_BY_NAME: [u16; FLAG_COUNT] = [
     40, 41, 37, 39, 38, 42, 43, 1, 28, 0, 27, 23, 35, 31, 11, 32, 12, 5, 16, 6, 7, 29, 9, 18, 10,
     8, 36, 22, 13, 14, 26, 25, 24, 21, 15, 34, 19, 4, 3, 30, 20, 2, 17, 33,
@@ -18,7 +18,7 @@ static NUMBERS_BY_NAME: [u16; NUMBER_COUNT] = [
     23, 24, 26, 25, 27, 14, 5, 18, 17, 6, 29, 12, 7, 4,
 ];
 
-// The indexes of the texts, by name.
+// The indexes of the strings, by name.
 static TEXTS_BY_NAME: [u16; TEXT_COUNT] = [
     402, 400, 401, 403, 410, 407, 408, 405, 404, 406, 409, 397, 394, 398, 399, 396, 395, 146, 1,
     372, 371, 370, 26, 27, 413, 0, 306, 13, 5, 9, 16, 373, 304, 2, 363, 354, 3, 111, 14, 107, 11,
@@ -55,8 +55,8 @@ fn indexes_by_name(kind: Kind) -> &'static [u16]
     }
 }
 
-/// The capability that stands at a place, counted from 0, where those of a kind stand by the bytes of
-/// their names; `None` exactly where the kind does not have that many.
+/// The capability at a place, counted from 0, in the order of the bytes of the names of a kind;
+/// `None` exactly if the kind does not have that many.
 #[inline]
 pub fn by_name(kind: Kind, place: usize) -> Option<Cap>
     ensures { result ≡ slice_get (in_name_order kind) place }
@@ -64,13 +64,3 @@ pub fn by_name(kind: Kind, place: usize) -> Option<Cap>
     let index = *indexes_by_name(kind).get(place)?;
     Cap::at(kind, index as usize)
 }
-
-/// The order by name has each capability of a kind, and their names rise in it, byte by byte.
-pub fn each_kind_is_in_order()
-    ensures { EachKindIsInOrder }
-{}
-
-/// The capabilities of a kind have one order by name.
-pub fn orders_by_name_are_one()
-    ensures { OrdersByNameAreOne }
-{}

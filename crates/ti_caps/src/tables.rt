@@ -1,14 +1,18 @@
-// The names of the capabilities, in the order of the compiled entry, and the capabilities in the order of their names.
-/// How many flags there are.
+//! The names of the capabilities: in the order of the compiled entry, and by name.
+
+/// How many booleans there are.
 pub const FLAG_COUNT: usize = 44;
 
 /// How many numbers there are.
 pub const NUMBER_COUNT: usize = 39;
 
-/// How many texts there are.
+/// How many strings there are.
 pub const TEXT_COUNT: usize = 414;
 
-/// The names of the flags, by index.
+/// How many capabilities there are of all kinds.
+pub const CAPABILITY_COUNT: usize = FLAG_COUNT + NUMBER_COUNT + TEXT_COUNT;
+
+/// The names of the booleans, by index.
 pub static FLAGS: [&str; FLAG_COUNT] = [
     "bw", "am", "xsb", "xhp", "xenl", "eo", "gn", "hc", "km", "hs", "in", "da", "db", "mir",
     "msgr", "os", "eslok", "xt", "hz", "ul", "xon", "nxon", "mc5i", "chts", "nrrmc", "npc",
@@ -24,7 +28,7 @@ pub static NUMBERS: [&str; NUMBER_COUNT] = [
     "OTdN", "OTdB", "OTdT", "OTkn",
 ];
 
-/// The names of the texts, by index.
+/// The names of the strings, by index.
 pub static TEXTS: [&str; TEXT_COUNT] = [
     "cbt", "bel", "cr", "csr", "tbc", "clear", "el", "ed", "hpa", "cmdch", "cup", "cud1", "home",
     "civis", "cub1", "mrcup", "cnorm", "cuf1", "ll", "cuu1", "cvvis", "dch1", "dl1", "dsl", "hd",
@@ -63,9 +67,10 @@ pub static TEXTS: [&str; TEXT_COUNT] = [
     "OTG4", "OTGR", "OTGL", "OTGU", "OTGD", "OTGH", "OTGV", "OTGC", "meml", "memu", "box1",
 ];
 
-/// Every capability, in the order of the bytes of the names, by its number: all of them are counted from 0, the
-/// flags first, then the numbers, then the texts, each in the order of its list.
-pub static BY_NAME: [u16; 497] = [
+/// Every capability, in the order of the bytes of the names, by its number: all of them are counted
+/// from 0, the booleans first, then the numbers, then the strings, each kind in the order of its
+/// list.
+pub static BY_NAME: [u16; CAPABILITY_COUNT] = [
     485, 483, 484, 486, 493, 490, 491, 488, 487, 489, 492, 40, 41, 480, 37, 80, 78, 79, 81, 477,
     82, 481, 482, 39, 479, 38, 42, 478, 77, 43, 229, 1, 28, 84, 455, 454, 453, 75, 76, 109, 110,
     496, 74, 60, 0, 83, 27, 389, 23, 96, 88, 92, 99, 456, 57, 44, 387, 35, 72, 85, 31, 446, 437,

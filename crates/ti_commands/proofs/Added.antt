@@ -1,4 +1,5 @@
--- What clap reads of a command with one more argument that is not global, or of a program with one more tool.
+-- What clap reads of a command with one more argument that is not global, or of a program with one
+-- more tool.
 use Rattle.std.proofs.Common.{◌≡◌, ◌∙◌, ◌||◌, Bool, ap, ap₂, false}
 use Rattle.clap.specs.Simple.{App, Shape, with_rule, with_subcommand}
 use Rattle.clap.specs.Walk.{Rule}

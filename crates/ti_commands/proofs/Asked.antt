@@ -38,7 +38,7 @@ pub no_faults : (app : App) (words : List Text) (matches : ArgMatches) (orders :
 no_faults app words matches orders same fails =
     ap (λ (a : App). fault_of a words) (sym same) ∙ fails (ap is_simple_and_free same ∙ is_program_free orders)
 
--- what has the cause of want of memory is that
+-- an answer that has the cause of out of memory is that answer
 pub memory_alone : (e : Refusal) → cause_of e ≡ usage.Memory → e ≡ refusal.Memory
 memory_alone refusal.Memory is = refl
 memory_alone (refusal.Help said) is = absurd cc
@@ -84,7 +84,7 @@ module _ (words : List Text) (orders : Choices) (are : IsOrders orders) (asked :
         ),
       )
 
--- a refusal without what is said
+-- a refusal without its message
 pub cause-refusal : (words : List Text) (refused : Refusal) → IsRefusalOf words refused → IsUsageRefusal words (cause_of refused)
 cause-refusal words refused (inl memory) = inl (ap cause_of memory)
 cause-refusal words refused (inr is) = inr (is.0, is.1, is.2.0)

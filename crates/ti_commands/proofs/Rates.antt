@@ -12,7 +12,7 @@ use Rattle.ti_commands.specs.Arguments.{spelled_rate}
 own : IsNumeralModel (λ ds. all_ascii_digits ds ≡ true) (digits_value 10)
 own = numerals_by_value _ tells_all_ascii_digits
 
--- an answer that is there just where a test passes
+-- an answer that is there exactly if a test passes
 ok_when : {E : Type 0} (r : Result ℕ E) (b : Bool) (Q : Type 0) (x : ℕ) → Decides b Q → OkIff r Q x → result_ok r ≡ cond b (Some x) None
 ok_when (Ok y) true Q x d h = ap Some h.1
 ok_when (Ok y) false Q x d h = absurd (true≢false (sym (d.1 h.0)))

@@ -1,4 +1,4 @@
--- The command of one tool alone reads the words behind its name as the command of the program does.
+-- The command of one tool alone reads the words after its name as the command of the program does.
 use Rattle.std.proofs.Common.{◌≡◌, ◌∙◌, Bool, Result, Ok, Err, IfSome, true, false, codes, refl, sym, ap, ap₂, subst, List, [], ◌∷◌, length, map, get_or, nat_lt, Option, Some, None, fold, find, drop, take, ◌-◌, arith, is_some, if◌then◌else◌}
 use Rattle.std.specs.Prelude.{slice_get, option_map, unwrap_or}
 use Rattle.std.specs.Option.{option_map_or}
@@ -25,29 +25,30 @@ use Rattle.ti_commands.specs.Commands.{session_app, ti_app, tic_app, tput_app}
 use Rattle.ti_commands.specs.InfocmpWords.{infocmp_app}
 use Rattle.ti_commands.specs.Rules.{Choices}
 
--- the walk that met a name as its first word, with the words behind it
+-- the walk that met a name as its first word, with the words after it
 abbrev at_name : Text → List Text → Walk
 at_name name rest = record (walk_from nothing_held) { stopped = Some (name, rest) }
 
--- the faults of a built command whose walk ended so, where these came before
+-- the faults of a built command whose walk ended so, when these came before
 abbrev faults_at : App → Walk → Kinds → Kinds
 faults_at b w before =
     or_else before (or_else (entered_fault b w.stopped)
     (or_else (settle_fault b.top.rules b.top.args_override_self w.held)
     (or_else (defaults_fault (settled b.top.rules w.held).rows b.top.rules) (check_fault b.top (finished b.top.rules w.held) (is_some (entered b w.stopped))))))
 
--- those of a built command of which only a subcommand was used
+-- the faults of a built command of which only a subcommand was used
 abbrev own_faults : App → Bool → Kinds
 own_faults b entered_one =
     or_else (settle_fault b.top.rules b.top.args_override_self nothing_held)
     (or_else (defaults_fault (settled b.top.rules nothing_held).rows b.top.rules) (check_fault b.top (finished b.top.rules nothing_held) entered_one))
 
--- those of a built command that found this subcommand
+-- the faults of a built command that found this subcommand
 abbrev faults_found : App → List Text → Option Shape → Kinds
 faults_found b rest found =
     or_else (option_map_or (λ (s : Shape). level_fault s [] nothing_held rest false []) found []) (own_faults b (is_some (option_map (λ (s : Shape). rows_at s rest) found)))
 
--- the tool is what the program enters at this name, and nothing else of the program has a fault there
+-- the tool is what the program enters at this name, and nothing else of the program has a fault
+-- there
 record IsTool (program : App) (name : Text) (tool : App) : Type 0 where
   pub simple : is_simple tool ≡ true
   pub free : is_simple_and_free tool ≡ true
@@ -172,7 +173,7 @@ no_fault program name tool first rest is none =
     ∙ ap (faults_found b rest) is.finds
     ∙ ap₂ or_else below is.no_own_fault
 
--- what the words ask for is what the matches of their tool's command do
+-- what the words ask for is what the matches of their tool's command ask for
 pub asked-tool : (orders : Choices) (words : List Text) (name : Text) (app : App) (matches : ArgMatches) → Some name ≡ slice_get words 1
     → Some app ≡ tool_app orders name → HasMatchesOf app (drop 1 words) matches → task_at name (rows_of (found_of matches)) ≡ asked_of (ti_app orders) words
 asked-tool orders [] name app matches at is has = absurd (cc)
@@ -185,7 +186,7 @@ asked-tool orders (first ∷ second ∷ rest) name app matches at is has =
     ∙ ap task_in (sym (subcommand_is (ti_app orders) name app first rest tool))
     ∙ ap (λ (n : Text). asked_of (ti_app orders) (first ∷ n ∷ rest)) same
 
--- and clap finds no fault in words in which it finds none by that command
+-- clap finds no fault in words in which it finds none by the tool's command
 pub no_faults-tool : (orders : Choices) (words : List Text) (name : Text) (app : App) (matches : ArgMatches) → Some name ≡ slice_get words 1
     → Some app ≡ tool_app orders name
     → (is_simple_and_free app ≡ true → FailsBy {T = ArgMatches} (fault_of app (drop 1 words)) (Ok matches)) → fault_of (ti_app orders) words ≡ []
@@ -203,13 +204,13 @@ second_of f [] x within is = absurd (true≢false within)
 second_of f (first ∷ []) x within is = absurd (true≢false within)
 second_of f (first ∷ second ∷ rest) x within is = ap (λ y. Some (f y)) is
 
--- the answer that is there, of one that is right
+-- an answer that is there, of one that is right
 pub some_of_answer : (r : Result Job NoJob) (o : Option Job) (asked : Asked) (Q : Job → Type 0) → o ≡ result_ok r → Answers asked r
     → ((job : Job) → asked ≡ Ok (task_of job) → Q job) → IfSome o Q
 some_of_answer (Ok x) o asked Q is has gives = subst (λ (some : Option Job). IfSome some Q) (sym is) (gives x has)
 some_of_answer (Err e) o asked Q is has gives = subst (λ (some : Option Job). IfSome some Q) (sym is) tt
 
--- what a function gives of all behind the first
+-- what a function gives of all after the first
 pub others_of : {X : Type 0} (f : X → Text) (xs : List X) → map f (take (length xs - 1) (drop 1 xs)) ≡ drop 1 (map f xs)
 others_of f [] = refl
 others_of f (first ∷ rest) =

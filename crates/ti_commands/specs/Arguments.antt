@@ -1,5 +1,5 @@
--- What the words of a command line ask for: the job that stands for the matches that clap defines
--- for the words, or what is wrong with them. (tic(1), tput(1), infocmp(1); the session is own)
+-- What the words of a command line ask for: the job that the matches of clap for the words mean, or
+-- what is wrong with them. (tic(1), infocmp(1), tput(1); the session is own)
 use Rattle.std.specs.Prelude.{ℕ, ◌+◌, ◌^◌, ◌&&◌, ◌==◌, nat_lt, Bool, true, false, if◌then◌else◌, List, [], length, map, codes, String}
 use Rattle.std.specs.Prelude.{Option, Some, None, Result, Ok, Err, unwrap_or}
 use Rattle.std.specs.Option.{option_map_or}
@@ -25,19 +25,20 @@ word_texts words = map string_bytes words
 abbrev pub Asked : Type 0
 Asked = Result Task Mistake
 
--- the job of `tic` with these matches: whether `-c` is there, the value of `-o` and the file, if they are
+-- the job of `tic` with these matches: whether `-c` is there, and the value of `-o` and the file,
+-- if they are there
 abbrev pub tic_task : List Row → Task
 tic_task rows =
     task_tic (is_on (codes "check") rows) (first_of (codes "dir") rows) (first_of (codes "file") rows)
 
--- the number of 32 bits that decimal digits spell; a plus may stand before them
+-- the number of 32 bits that decimal digits spell; a plus may be before them
 unfoldable pub spelled_rate : Text → Option ℕ
 spelled_rate text =
     let digits = without_leading_plus text in
     if nat_lt 0 (length digits) && all_ascii_digits digits && nat_lt (digits_value 10 digits) (2 ^ 32) then Some (digits_value 10 digits)
     else None
 
--- the rate of `--rate`, 0 where it is not there
+-- the rate of `--rate`, 0 if it is not there
 abbrev pub rate_in : Option Text → Option ℕ
 rate_in None = Some 0
 rate_in (Some text) = spelled_rate text
@@ -46,7 +47,8 @@ rate_in (Some text) = spelled_rate text
 abbrev pub words_in : List Row → List Text
 words_in rows = unwrap_or (all_of (codes "words") rows) []
 
--- what is wrong with so many words: none may stand there with `-S`, else a name, and `parameters_max` parameters at most
+-- what is wrong with this number of words: with `-S` there may be none, else there is a name, and
+-- at most `parameters_max` parameters
 abbrev pub words_mistake : Bool → ℕ → Option Mistake
 words_mistake true count = if count == 0 then None else Some mistake.CapabilityBesideLines
 words_mistake false count =
@@ -54,12 +56,12 @@ words_mistake false count =
     else if nat_lt (parameters_max + 1) count then Some mistake.TooManyParameters
     else None
 
--- a job, where nothing is wrong
+-- a job, if nothing is wrong
 abbrev pub unless : Option Mistake → Task → Asked
 unless None task = Ok task
 unless (Some wrong) task = Err wrong
 
--- the job of `tput` with such a rate and such words, if they may be
+-- the job of `tput` with such a rate and such words, if the words may be there
 abbrev pub tput_at : Bool → Option Text → Option ℕ → List Text → Asked
 tput_at lines term None words = Err mistake.NoCommandLine
 tput_at lines term (Some rate) words = unless (words_mistake lines (length words)) (task_tput lines term rate words)
@@ -89,6 +91,6 @@ task_in used = option_map_or (λ p. task_at p.0 p.1) used (Err mistake.NoCommand
 abbrev pub asked_of : App → List Text → Asked
 asked_of app words = task_in (subcommand_of app words)
 
--- the job that they ask for, or none
+-- the job that the words ask for, or none
 abbrev pub job_of : App → List Text → Option Task
 job_of app words = result_ok (asked_of app words)

@@ -1,4 +1,5 @@
--- The command lines that the program takes, as what clap reads of them (tic(1), tput(1), infocmp(1)).
+-- The command lines that the program takes, as what clap reads of them (tic(1), infocmp(1),
+-- tput(1)).
 use Rattle.std.specs.Prelude.{ℕ, codes, true}
 use Rattle.ti_text.specs.Ascii.{byte_of}
 use Rattle.clap.specs.Simple.{App, new_app, on_top, with_rule, with_subcommand}
@@ -32,20 +33,21 @@ tput_app = with_rule (with_rule tput_options_app
     (flag_rule (codes "lines") (byte_of "S")))
     (operands_rule (codes "words"))
 
--- the program: one of its subcommands has to be there
-abbrev pub first_tools_app : App
-first_tools_app = with_subcommand
+-- the program with its first tools: one of its subcommands has to be there
+abbrev pub first_tools_app : Choices → App
+first_tools_app orders = with_subcommand
     (with_subcommand
     (on_top (λ top. record top { subcommand_required = true }) (new_app (codes "ti")))
     tic_app.top)
-    tput_app.top
+    (infocmp_app orders).top
 
--- the program with all of them, given where the names of the orders of `infocmp` stand in memory
+-- the program with all tools, given where the names of the orders of `infocmp` are in memory
 unfoldable pub ti_app : Choices → App
-ti_app orders = with_subcommand (with_subcommand first_tools_app session_app.top) (infocmp_app orders).top
+ti_app orders = with_subcommand (with_subcommand (first_tools_app orders) tput_app.top) session_app.top
 
--- what holds of the program's command line. clap's command refers to the names of the orders where they stand in memory,
--- on which nothing depends that clap reads: so this is said of one such place, or of each.
+-- what holds of the program's command line. clap's command refers to the names of the orders where
+-- they are in memory. Nothing that clap reads depends on the place, so this is said of one such
+-- place, or of each.
 abbrev pub OfProgram : (App → Type 0) → Type 0
 OfProgram P = (orders : Choices) × IsOrders orders × P (ti_app orders)
 

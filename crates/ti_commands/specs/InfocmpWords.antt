@@ -1,4 +1,4 @@
--- What the words behind `infocmp` ask for (infocmp(1)).
+-- What the words after `infocmp` ask for (infocmp(1)).
 use Rattle.std.specs.Prelude.{◌≡◌, ℕ, Bool, true, false, not, ◌==◌, nat_le, nat_lt, if◌then◌else◌, List, [], ◌∷◌, filter, length, map, codes}
 use Rattle.std.specs.Prelude.{Option, Some, None, Result, Ok, Err, unwrap_or}
 use Rattle.std.specs.Str.{bytes_eq}
@@ -19,15 +19,15 @@ use Rattle.ti_commands.specs.declared.mistakes.Mistake.TheVariants as mistake
 
 -- ---- the width of a listing's lines
 
--- the least that may be asked for
+-- the least width that may be asked for
 abbrev pub width_min : ℕ
 width_min = 20
 
--- the greatest
+-- the greatest width that may be asked for
 abbrev pub width_max : ℕ
 width_max = 4096
 
--- the one that is taken where none is said
+-- the width that is taken if none is given
 abbrev pub width_default : ℕ
 width_default = 60
 
@@ -39,27 +39,27 @@ IsOrders orders = map (λ name. name.now) orders.now ≡ codes "d" ∷ codes "i"
 
 -- ---- the command line
 
--- the options that name a mode
+-- the first options that name a mode
 abbrev pub first_mode_rules : App → App
 first_mode_rules app = with_rule (with_rule (with_rule app
     (flag_rule (codes "list") (byte_of "I")))
     (flag_rule (codes "differ") (byte_of "d")))
     (flag_rule (codes "common") (byte_of "c"))
 
--- and further ones
+-- the other options that name a mode
 abbrev pub other_mode_rules : App → App
 other_mode_rules app = with_rule (with_rule app
     (flag_rule (codes "neither") (byte_of "n")))
     (flag_rule (codes "relative") (byte_of "u"))
 
--- those that lay a listing out
+-- the options for the layout of a listing
 abbrev pub layout_rules : Choices → App → App
 layout_rules orders app = with_rule (with_rule (with_rule app
     (flag_rule (codes "one") (byte_of "1")))
     (number_rule (codes "width") (byte_of "w") width_min width_max))
     (choice_rule (codes "sort") (byte_of "s") orders)
 
--- those that say where entries stand, and the names
+-- the options that say where entries are, and the names
 abbrev pub name_rules : App → App
 name_rules app = with_rule (with_rule (with_rule app
     (option_rule (codes "first") (byte_of "A")))
@@ -82,25 +82,26 @@ mode_options =
 abbrev pub modes_named : List Row → List InfocmpMode
 modes_named rows = map (λ o. o.1) (filter (λ o. is_on o.0 rows) mode_options)
 
--- whether a mode can have so many names: without names the terminal's own is taken, by `-n` for both
+-- whether a mode can have this number of names: without names the terminal's own is taken, by `-n`
+-- for both
 abbrev pub suits : InfocmpMode → ℕ → Bool
 suits mode.List count = true
 suits mode.Neither count = not (count == 1)
 suits _ count = nat_le 2 count
 
--- the mode of so many names: where exactly one is named that one, if they suit it; where none is, listing for one name and
--- differences for more
+-- the mode for this number of names: if exactly one mode is named, that one, if it can have the
+-- names; if none is named, listing for one name and differences for more
 abbrev pub mode_for : List InfocmpMode → ℕ → Result InfocmpMode Mistake
 mode_for [] count = Ok (if nat_lt 1 count then mode.Differ else mode.List)
 mode_for (named ∷ []) count = if suits named count then Ok named else Err (mistake.TooFewNames named)
 mode_for (first ∷ second ∷ others) count = Err (mistake.TwoModes first second)
 
--- the width that a text says, where it is one that may be asked for
+-- the width that a text says, if it is one that may be asked for
 abbrev pub width_for : Option Text → Option ℕ
 width_for None = Some width_default
 width_for (Some text) = if is_unsigned_in width_min width_max text then Some (digits_value 10 (without_leading_plus text)) else None
 
--- the order that a text says; by name where none is said
+-- the order that a text says; by name if none is given
 abbrev pub order_for : Option Text → Option Order
 order_for None = Some order.Name
 order_for (Some text) =
@@ -108,11 +109,11 @@ order_for (Some text) =
     else if bytes_eq text (codes "i") then Some order.Name
     else None
 
--- the names
+-- the names of the terminals
 abbrev pub name_words : List Row → List Text
 name_words rows = unwrap_or (all_of (codes "name") rows) []
 
--- the job, where a mode, a width and an order are there
+-- the job, if a mode, a width and an order are there
 abbrev pub task_with : Result InfocmpMode Mistake → Option ℕ → Option Order → List Row → List Text → Result Task Mistake
 task_with (Err wrong) width by rows names = Err wrong
 task_with (Ok named) None by rows names = Err mistake.NoCommandLine

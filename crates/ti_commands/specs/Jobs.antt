@@ -1,5 +1,5 @@
 -- The jobs of the program, and why words ask for none (own).
-use Rattle.std.specs.Prelude.{◌≡◌, ◌⊎◌, ⊤, List, [], Some, None, Option, Ok, Err, true, map, option_map}
+use Rattle.std.specs.Prelude.{◌≡◌, ◌⊎◌, ⊤, ℕ, List, [], codes, Some, None, Option, Ok, Err, true, map, option_map}
 use Rattle.std.specs.String.{string_bytes}
 use Rattle.clap.specs.Kinds.{IsAmong, Kinds}
 use Rattle.clap.specs.declared.error.kind.ErrorKind.{ErrorKind}
@@ -33,6 +33,13 @@ task_of (Infocmp mode names layout first_dir other_dir) = task_infocmp (record {
   other_dir = option_map string_bytes other_dir;
 })
 
+-- the name of the tool that does the job
+abbrev pub tool_name : Job → List ℕ
+tool_name (Tic check dir file) = codes "tic"
+tool_name (Infocmp mode names layout first_dir other_dir) = codes "infocmp"
+tool_name (Tput lines term rate words) = codes "tput"
+tool_name Session = codes "session"
+
 -- a refusal, without what is said
 abbrev pub cause_of : Refusal → UsageError
 cause_of (refusal.Usage said) = usage.Usage
@@ -45,8 +52,8 @@ refusal_of kind.DisplayHelp = usage.Help
 refusal_of kind.OutOfMemory = usage.Memory
 refusal_of _ = usage.Usage
 
--- why words are refused in which clap's definition finds these faults, and which ask for this job:
--- by one of the faults, or as no job
+-- why words are refused, given the faults that clap's definition finds in them and the job that
+-- they ask for: by one of the faults, or as no job
 abbrev pub IsUsageFault : Kinds → Option Task → UsageError → Type 0
 IsUsageFault faults job e =
     ((k : ErrorKind) × IsAmong k faults × (e ≡ refusal_of k)) ⊎ ((faults ≡ []) × (job ≡ None) × (e ≡ usage.Usage))
@@ -69,7 +76,8 @@ abbrev pub SaysWrong : Asked → Refusal → Type 0
 SaysWrong (Err wrong) (refusal.Usage said) = string_bytes said ≡ usage_line wrong
 SaysWrong _ _ = ⊤
 
--- the same with what is said: where clap's definition finds no fault that is the line of the mistake
+-- a refusal of usage says what is wrong: if clap's definition finds no fault, its message is the
+-- line of the mistake
 abbrev pub IsRefusalOf : List Text → Refusal → Type 0
 IsRefusalOf words refused =
     (refused ≡ refusal.Memory) ⊎ OfProgram (λ app. IsUsageFault (fault_of app words) (job_of app words) (cause_of refused)

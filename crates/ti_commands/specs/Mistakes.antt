@@ -1,4 +1,5 @@
--- What is said of words that clap takes, and that ask for no job (tput(1), infocmp(1); the sentences are own).
+-- The message for words that clap takes, and that ask for no job (infocmp(1), tput(1); the
+-- sentences are own).
 use Rattle.std.specs.Prelude.{◌++◌, codes}
 use Rattle.clap.specs.Walk.{Text}
 use Rattle.ti_commands.specs.declared.jobs.InfocmpMode.{InfocmpMode}

@@ -4,7 +4,8 @@ use Rattle.clap.specs.Walk.{Text}
 use Rattle.ti_list.specs.declared.layout.Layout.{Layout}
 use Rattle.ti_commands.specs.declared.jobs.InfocmpMode.{InfocmpMode}
 
--- a job of infocmp: the mode, the names, the layout, the only place for the first name, and that for the others
+-- a job of infocmp: the mode, the names, the layout, the only place for the first name, and that
+-- for the others
 pub record InfocmpTask : Type 0 where
   pub mode : InfocmpMode
   pub names : List Text

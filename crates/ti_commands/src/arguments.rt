@@ -34,11 +34,11 @@ pub enum UsageError {
     Memory,
 }
 
-/// Why words ask for no job, with the text that is said of them, which ends with a newline.
+/// Why words ask for no job, with the message for them, which ends with a newline.
 #[derive(Debug, Drop)]
 pub enum Refusal {
-    /// The words are no command line of the program: what clap says of them, or where clap takes them the line of
-    /// the mistake, as `ti: bad usage: no capability is named`.
+    /// The words are no command line of the program: what clap says of them, or, if clap takes
+    /// them, the line of the mistake, such as `ti: bad usage: no capability is named`.
     Usage(String),
     /// The words ask for help: its text.
     Help(String),
@@ -55,7 +55,7 @@ impl From<AllocError> for Refusal {
 }
 
 impl Refusal {
-    /// The cause, without what is said.
+    /// The cause, without the message.
     pub fn cause(&self) -> UsageError
         ensures { result ≡ cause_of self.now }
     {
@@ -87,7 +87,7 @@ fn tic_job(alloc: Global, matches: &ArgMatches<'_>) -> Result<Job, AllocError>
     Ok(Job::Tic { check, dir, file })
 }
 
-// The rate of `--rate`, 0 where it is not there.
+// The rate of `--rate`, 0 if it is not there.
 fn rate(matches: &ArgMatches<'_>) -> Option<u32>
     ensures { result ≡ rate_in (first_of (codes "rate") (matched_rows matches.now)) }
 {
@@ -97,7 +97,8 @@ fn rate(matches: &ArgMatches<'_>) -> Option<u32>
     }
 }
 
-// What is wrong with so many words: none may stand there with `-S`, else a name and at most nine parameters.
+// What is wrong with this number of words: with `-S` there may be none, else there is a name and at
+// most nine parameters.
 fn words_mistake(lines: bool, count: usize) -> Option<Mistake>
     ensures { result ≡ words_mistake lines count }
 {
@@ -163,7 +164,7 @@ fn used_job(alloc: Global, matches: &ArgMatches<'_>) -> Result<Job, NoJob>
     }
 }
 
-// The job of words that clap takes, or what is said of them.
+// The job of words that clap takes, or the message for them.
 fn taken_job(alloc: Global, matches: &ArgMatches<'_>) -> Result<Job, Refusal>
     ensures { AnswersTaken (task_in (subcommand_rows_of matches.now)) result }
 {
@@ -177,8 +178,8 @@ fn taken_job(alloc: Global, matches: &ArgMatches<'_>) -> Result<Job, Refusal>
     }
 }
 
-// The job that the words ask for, read by the command of their tool alone, which takes about half as long as by all. `None`
-// where that finds no job: only the whole command says why.
+// The job that the words ask for, read by the command of their tool alone, which takes about half
+// as long as by the command of all. `None` if that finds no job: only the whole command says why.
 fn job_of_tool(alloc: Global, words: &[String]) -> Result<Option<Job>, AllocError>
     ensures { IfOk result (λ found. IfSome found (λ job. OfProgram (IsJobOf (word_texts words.now) job))) }
 {
@@ -210,12 +211,13 @@ fn job_of_program(alloc: Global, words: &[String]) -> Result<Job, Refusal>
     }
 }
 
-/// What the words of a command line ask for, or why they ask for nothing, with what is said of them. The first word is the
-/// program's name.
+/// What the words of a command line ask for, or why they ask for nothing, with the message. The
+/// first word is the program's name.
 ///
 /// # Errors
-/// `Usage` where the words are no command line of the program, and `Help` where they ask for help;
-/// then `Memory`. `Usage` has the text of clap where clap finds a fault in the words, and else the line of the mistake.
+/// `Usage` if the words are no command line of the program, and `Help` if they ask for help; then
+/// `Memory`. `Usage` has the text of clap if clap finds a fault in the words, else the line of the
+/// mistake.
 pub fn job_or_refusal(alloc: Global, words: &[String]) -> Result<Job, Refusal>
     ensures right { IfOk result (λ job. OfProgram (IsJobOf (word_texts words.now) job)) }
     ensures answered { (task : Task) → OfEachProgram (TakesAs (word_texts words.now) task)
@@ -231,8 +233,8 @@ pub fn job_or_refusal(alloc: Global, words: &[String]) -> Result<Job, Refusal>
 /// What the words of a command line ask for. The first word is the program's name.
 ///
 /// # Errors
-/// `Usage` where the words are no command line of the program, and `Help` where they ask for help;
-/// then `Memory`.
+/// `Usage` if the words are no command line of the program, and `Help` if they ask for help; then
+/// `Memory`.
 pub fn job(alloc: Global, words: &[String]) -> Result<Job, UsageError>
     ensures right { IfOk result (λ job. OfProgram (IsJobOf (word_texts words.now) job)) }
     ensures answered { (task : Task) → OfEachProgram (TakesAs (word_texts words.now) task)

@@ -1,11 +1,10 @@
-//! The command lines of the program, for clap: each tool with its options, their help and one
-//! example.
+//! The command lines of the program, for clap: each tool with its options, their help and examples.
 ghost use Rattle.std.specs.Prelude.{◌≡◌, IfOk, false, option_map};
 ghost use Rattle.std.specs.List.{fold};
 ghost use Rattle.clap.specs.Simple.{new_app};
 ghost use Rattle.clap.specs.Words.{app_of};
 ghost use Rattle.clap.specs.declared.builder.Command.TheViews.{out-Command as fields_of};
-ghost use Rattle.ti_commands.specs.inside.Commands.{app_for, choices_of, choices_of_last, program_app, tool_app, with_argument, with_tool};
+ghost use Rattle.ti_commands.specs.inside.Commands.{app_for, choices_in, choices_of, program_app, tool_app, with_argument, with_tool};
 ghost use Rattle.ti_commands.specs.Commands.{OfProgram, ti_app};
 ghost use Rattle.ti_commands.specs.InfocmpWords.{IsOrders};
 
@@ -23,10 +22,10 @@ pub(crate) struct Tool<'a> {
     pub(crate) notes: &'a str,
 }
 
-/// What the program is, in its help.
+// What the program is, in its help.
 const TI_ABOUT: &str = "ti 1.0.0: tools for terminfo, the database of terminals.";
 
-/// What follows the options in the help of the program.
+// What follows the options in the help of the program.
 const TI_NOTES: &str = "\
 Exit status:
   0  all went well
@@ -40,10 +39,10 @@ Examples:
   ti tic -o ~/.terminfo dumb.ti
   TERMINFO=~/.terminfo ti infocmp dumb";
 
-/// The tools, in the order in which help shows them.
-static TOOLS: [Tool<'static>; 4] = [TIC, TPUT, SESSION, INFOCMP];
+// The tools, in the order in which help shows them.
+static TOOLS: [Tool<'static>; 4] = [TIC, INFOCMP, TPUT, SESSION];
 
-/// `tic [-c] [-o DIR] [FILE]`.
+// `tic [-c] [-o DIR] [FILE]`.
 const TIC: Tool<'static> = Tool {
     name: "tic",
     about: "Compile terminfo source into entries, one file for each name.",
@@ -66,8 +65,8 @@ const TIC: Tool<'static> = Tool {
     ],
     notes: "\
 The report of the faults in the source goes to standard error. A block without
-error gets its files also if another block has one. The tools look for an
-entry in $TERMINFO, $TERMINFO_DIRS and /usr/share/terminfo alone.
+an error gets its files, even if another block has an error. The tools look for
+an entry only in $TERMINFO, $TERMINFO_DIRS and /usr/share/terminfo.
 
 Exit status:
   0  the source has no error, but perhaps warnings
@@ -78,10 +77,10 @@ Example:
   ti tic -o ~/.terminfo dumb.ti",
 };
 
-/// The greatest rate of a line that may be asked for, in bits a second.
+// The greatest rate of a line that may be asked for, in bits per second.
 const RATE_MAX: u64 = u32::MAX as u64;
 
-/// `tput [-T TYPE] [--rate N] [-S] [CAP] [WORD..]`.
+// `tput [-T TYPE] [--rate N] [-S] [WORD..]`.
 const TPUT: Tool<'static> = Tool {
     name: "tput",
     about: "Write what drives a terminal: a capability of its entry.",
@@ -94,12 +93,12 @@ const TPUT: Tool<'static> = Tool {
         Argument {
             id: "rate",
             form: Form::LongNumber("N", 0, RATE_MAX),
-            help: "Pad for a line of N bits a second [default: 0, no padding]",
+            help: "Pad for a line of N bits per second [default: 0, no padding]",
         },
         Argument {
             id: "lines",
             form: Form::Flag('S'),
-            help: "Read commands from standard input, one a line",
+            help: "Read commands from standard input, one per line",
         },
         Argument {
             id: "words",
@@ -117,15 +116,16 @@ Exit status:
   3    the terminal is unknown, or its entry is bad or cannot be read
   4    the capability is unknown, or its string is bad
   255  something failed after the entry was read
-With -S: 0, or 4 and the number of bad lines, 255 at most.
+With -S: 0, or 4 and the number of bad lines, at most 255.
 
 Examples:
+  export TERMINFO_DIRS=/lib/terminfo:    # on Debian
   ti tput setaf 1
   ti tput cup 0 0
   printf 'bold\\nsetaf 2\\n' | ti tput -S",
 };
 
-/// `session`.
+// `session`.
 const SESSION: Tool<'static> = Tool {
     name: "session",
     about: "Edit a source by a script on standard input, and answer each line.",
@@ -133,7 +133,7 @@ const SESSION: Tool<'static> = Tool {
     notes: "\
 Each line of the script is a request; N is the position of a block, from 0:
   i N    put in, before block N, the block that follows up to a line '.'
-  r N    put the block that follows up to a line '.' in the place of block N
+  r N    replace block N by the block that follows up to a line '.'
   d N    take block N out
   m N M  move block N, so that it is then at M
   p N    print the entry of block N in hexadecimal, or 'none'
@@ -158,7 +158,7 @@ fn described<'a>(alloc: Global, name: &'a str, about: &'a str, notes: &'a str) -
     Command::new(alloc, name).about(about).after_help(notes)
 }
 
-// The command with these arguments behind those that it has.
+// The command with these arguments after those that it has.
 fn with_arguments<'a>(
     alloc: Global,
     mut command: Command<'a>,
@@ -175,10 +175,10 @@ fn with_arguments<'a>(
 }
 
 impl<'a> Tool<'a> {
-    /// Its command line.
+    /// The command line of the tool.
     ///
     /// # Errors
-    /// Want of memory.
+    /// `AllocError` if memory ran out.
     pub(crate) fn command(&self, alloc: Global) -> Result<Command<'a>, AllocError>
         ensures app { IfOk result (λ command. app_of command ≡ app_for self.now) }
         ensures local { IfOk result (λ command. (fields_of command).has_globals ≡ false) }
@@ -204,8 +204,8 @@ fn add_tool<'a>(
 
 // The program's command line, with a subcommand for each of its tools.
 fn program_of<'a>(alloc: Global, tools: &[Tool<'a>]) -> Result<Command<'a>, AllocError>
-    requires app { fold with_tool program_app tools.now ≡ ti_app (choices_of_last tools.now) }
-    requires orders { IsOrders (choices_of_last tools.now) }
+    requires app { fold with_tool program_app tools.now ≡ ti_app (choices_in tools.now) }
+    requires orders { IsOrders (choices_in tools.now) }
     ensures app { IfOk result (λ command. OfProgram (λ app. app_of command ≡ app)) }
     ensures local { IfOk result (λ command. (fields_of command).has_globals ≡ false) }
 {
@@ -219,7 +219,7 @@ fn program_of<'a>(alloc: Global, tools: &[Tool<'a>]) -> Result<Command<'a>, Allo
 /// The program's command line, with a subcommand for each tool.
 ///
 /// # Errors
-/// Want of memory.
+/// `AllocError` if memory ran out.
 #[tactic(auto, unfolding(crate::specs::Commands::ti_app))]
 pub fn command<'a>(alloc: Global) -> Result<Command<'a>, AllocError>
     ensures app { IfOk result (λ command. OfProgram (λ app. app_of command ≡ app)) }
@@ -235,9 +235,9 @@ pub(crate) fn tool_named(name: &str) -> Option<Tool<'static>>
 {
     match name {
         "tic" => Some(TIC),
+        "infocmp" => Some(INFOCMP),
         "tput" => Some(TPUT),
         "session" => Some(SESSION),
-        "infocmp" => Some(INFOCMP),
         _ => None,
     }
 }

@@ -1,4 +1,4 @@
-//! What the words behind `infocmp` are, for clap, and what they ask for.
+//! What the words after `infocmp` are, for clap, and what they ask for.
 ghost use Rattle.std.specs.Prelude.{◌≡◌, codes, map};
 ghost use Rattle.clap.specs.Words.{first_of};
 ghost use Rattle.ti_commands.specs.InfocmpWords.{infocmp_task, infocmp_with, mode_for, modes_named, order_for, suits, width_for};
@@ -15,13 +15,13 @@ use clap::ArgMatches;
 use std::alloc::{AllocError, Global};
 use ti_list::{Layout, Order};
 
-/// The width of a listing's lines where none is said.
+// The width of a listing's lines if none is given.
 const WIDTH: usize = 60;
 
-/// The least width that may be asked for.
+// The least width that may be asked for.
 const WIDTH_MIN: usize = 20;
 
-/// The greatest.
+// The greatest width that may be asked for.
 const WIDTH_MAX: usize = 4096;
 
 /// `infocmp [-I|-d|-c|-n|-u] [-1] [-w N] [-s d|i] [-A DIR] [-B DIR] [NAME..]`.
@@ -72,12 +72,12 @@ pub(crate) const INFOCMP: Tool<'static> = Tool {
         Argument {
             id: "first",
             form: Form::Value('A', "DIR"),
-            help: "Look for the first name in DIR alone",
+            help: "Look for the first name only in DIR",
         },
         Argument {
             id: "other",
             form: Form::Value('B', "DIR"),
-            help: "Look for the other names in DIR alone",
+            help: "Look for the other names only in DIR",
         },
         Argument {
             id: "name",
@@ -87,10 +87,10 @@ pub(crate) const INFOCMP: Tool<'static> = Tool {
     ],
     notes: "\
 Without a mode, -d is taken if there are two names or more.
-A listing of an entry that 'ti tic' wrote is source that it compiles back to the
-same entry; so is that of '-u', together with the entries that it uses. Entries
-are looked for in $TERMINFO, $TERMINFO_DIRS and /usr/share/terminfo, unless -A
-or -B names a directory.
+'ti tic' compiles the listing of an entry that it wrote back to the same entry.
+It also compiles what '-u' prints, together with the entries that this uses.
+Entries are looked for in $TERMINFO, $TERMINFO_DIRS and /usr/share/terminfo,
+unless -A or -B names a directory.
 
 Exit status:
   0  all entries were read, and the text was written
@@ -98,8 +98,9 @@ Exit status:
   2  bad usage
 
 Examples:
-  ti infocmp -1 -A /lib/terminfo xterm
-  TERMINFO_DIRS=/lib/terminfo: ti infocmp -d xterm vt100
+  export TERMINFO_DIRS=/lib/terminfo:    # on Debian
+  ti infocmp -1 xterm
+  ti infocmp -d xterm vt100
   ti infocmp -u xterm-256color xterm",
 };
 
@@ -108,7 +109,7 @@ Examples:
 pub(crate) enum Choice {
     Nothing,
     One(InfocmpMode),
-    /// Two or more, of which these are the first.
+    /// Two or more modes, of which these are the first.
     Two(InfocmpMode, InfocmpMode),
 }
 
@@ -140,7 +141,7 @@ fn choice_of(matches: &ArgMatches<'_>) -> Choice
         .choose_if(is_on(matches, "relative"), InfocmpMode::Relative)
 }
 
-// Whether a mode can have so many names.
+// Whether a mode can have this number of names.
 fn suits(mode: InfocmpMode, names: usize) -> bool
     ensures { result ≡ suits mode names }
 {
@@ -151,7 +152,7 @@ fn suits(mode: InfocmpMode, names: usize) -> bool
     }
 }
 
-// The mode of so many names.
+// The mode for this number of names.
 fn mode_for(choice: Choice, names: usize) -> Result<InfocmpMode, Mistake>
     ensures { (named : _) → choice ≡ choice_from named → result ≡ mode_for named names }
 {
@@ -174,7 +175,7 @@ fn width_in(text: &str) -> Option<usize>
     }
 }
 
-// The width that is said.
+// The width that is given, or the default.
 fn width_of(matches: &ArgMatches<'_>) -> Option<usize>
     ensures { result ≡ width_for (first_of (codes "width") (matched_rows matches.now)) }
 {
@@ -184,7 +185,7 @@ fn width_of(matches: &ArgMatches<'_>) -> Option<usize>
     }
 }
 
-// The order that is said.
+// The order that is given, or the default.
 fn order_of(matches: &ArgMatches<'_>) -> Option<Order>
     ensures { result ≡ order_for (first_of (codes "sort") (matched_rows matches.now)) }
 {
@@ -227,7 +228,7 @@ fn infocmp_of(alloc: Global, matches: &ArgMatches<'_>, names: &[&str]) -> Result
 /// The job of `infocmp` with these matches.
 ///
 /// # Errors
-/// What is wrong with them; then `Memory`.
+/// What is wrong with the words; then `Memory`.
 #[tactic(auto, unfolding(crate::specs::InfocmpWords::infocmp_task))]
 pub(crate) fn infocmp_job(alloc: Global, matches: &ArgMatches<'_>) -> Result<Job, NoJob>
     ensures { Answers (infocmp_task (matched_rows matches.now)) result }

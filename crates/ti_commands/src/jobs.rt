@@ -1,4 +1,6 @@
 //! The jobs of the program.
+ghost use Rattle.std.specs.Prelude.{◌≡◌};
+
 use ti_list::Layout;
 
 /// What `infocmp` prints of its entries.
@@ -6,9 +8,9 @@ use ti_list::Layout;
 pub enum InfocmpMode {
     /// Each entry in turn as source text.
     List,
-    /// Where the first differs from each of the others.
+    /// What differs between the first and each of the others.
     Differ,
-    /// What the first has in common with each of the others.
+    /// What the first and each of the others have in common.
     Common,
     /// What neither the first nor the other has, for each of the others.
     Neither,
@@ -23,18 +25,18 @@ pub enum Job {
     Tic {
         /// Only report, and write no file.
         check: bool,
-        /// Where the files are to stand, where it was said.
+        /// The directory for the files, if it was given.
         dir: Option<String>,
         /// The file of the source, or `None` for standard input.
         file: Option<String>,
     },
     /// Write what drives a terminal.
     Tput {
-        /// Read commands from standard input, one a line.
+        /// Read commands from standard input, one per line.
         lines: bool,
-        /// The terminal, where it was said.
+        /// The terminal, if it was given.
         term: Option<String>,
-        /// The speed of the line to it in bits a second; at 0 nothing is padded.
+        /// The speed of the line to it in bits per second; at 0 nothing is padded.
         rate: u32,
         /// A capability's name and its parameters; none with `lines`.
         words: Vec<String>,
@@ -45,13 +47,29 @@ pub enum Job {
     Infocmp {
         /// What is printed.
         mode: InfocmpMode,
-        /// The names of the terminals; none where the terminal's own is meant.
+        /// The names of the terminals; none if the terminal's own is meant.
         names: Vec<String>,
         /// How source text is laid out.
         layout: Layout,
-        /// The only place for the entry of the first name, where it was said.
+        /// The only place for the entry of the first name, if it was given.
         first_dir: Option<String>,
-        /// The only place for those of the other names, where it was said.
+        /// The only place for those of the other names, if it was given.
         other_dir: Option<String>,
     },
+}
+
+impl Job {
+    ghost use Rattle.ti_commands.specs.Jobs.{tool_name};
+
+    /// The name of the tool that does the job.
+    pub fn tool_name(&self) -> &'static str
+        ensures { result.now ≡ tool_name self.now }
+    {
+        match self {
+            Job::Tic { .. } => "tic",
+            Job::Infocmp { .. } => "infocmp",
+            Job::Tput { .. } => "tput",
+            Job::Session => "session",
+        }
+    }
 }

@@ -1,18 +1,18 @@
 //! The command lines of the tools: what the words of a command line ask for.
 //!
-//! - `arguments`: the job that the words ask for, or why they ask for none and what is said of them
-//! - `jobs`: the jobs of the program; `mistakes` what is wrong with words that ask for none
-//! - `commands`: each tool's options, their help and an example, for clap; `rules` has the kinds of options,
-//!   and `infocmp_words` what stands behind `infocmp`
+//! - `arguments`: the job that the words ask for, or why they ask for none, and the message
+//! - `jobs`: the jobs of the program; `mistakes`: what is wrong with words that ask for none
+//! - `commands`: each tool's options, their help and examples, for clap; `rules` has the kinds of
+//!   options, and `infocmp_words` what follows `infocmp`
 //! - `matches`: what clap's matches say of an argument
 #![tactic(auto)]
 
-pub mod arguments;
-pub mod commands;
+mod arguments;
+mod commands;
 mod infocmp_words;
-pub mod jobs;
+mod jobs;
 mod matches;
-pub mod mistakes;
+mod mistakes;
 mod rules;
 
 pub use arguments::{Refusal, UsageError, job, job_or_refusal};

@@ -8,17 +8,17 @@ ghost use Rattle.ti_commands.specs.Matches.{is_on, matched_rows};
 use clap::ArgMatches;
 use std::alloc::{AllocError, Global};
 
-/// The value of an argument, where it has one.
+/// The value of an argument, if it has one.
 pub fn value<'a>(matches: &ArgMatches<'a>, id: &str) -> Option<&'a str>
     ensures { option_map (λ value. value.now) result ≡ first_of id.now (matched_rows matches.now) }
 {
     matches.get_str(id)
 }
 
-/// The same as a text of its own.
+/// The value of an argument as a string of its own, if it has one.
 ///
 /// # Errors
-/// Want of memory.
+/// `AllocError` if memory ran out.
 pub fn text(alloc: Global, matches: &ArgMatches<'_>, id: &str) -> Result<Option<String>, AllocError>
     ensures { IfOk result (λ text. option_map string_bytes text
         ≡ first_of id.now (matched_rows matches.now)) }
@@ -46,10 +46,10 @@ pub fn values<'m, 'a>(matches: &'m ArgMatches<'a>, id: &str) -> Option<&'m [&'a 
     matches.get_strs(id)
 }
 
-/// Texts of their own.
+/// Copies of these strings.
 ///
 /// # Errors
-/// Want of memory.
+/// `AllocError` if memory ran out.
 pub fn texts(alloc: Global, words: &[&str]) -> Result<Vec<String>, AllocError>
     ensures { IfOk result (λ texts. map string_bytes texts.items ≡ map (λ word. word.now) words.now) }
 {

@@ -10,8 +10,8 @@ use std::fmt;
 /// What is wrong with words that clap takes, and that ask for no job. It is shown as a sentence.
 #[derive(Clone, Copy, Debug, PartialEq, Eq)]
 pub enum Mistake {
-    /// The words name no tool, or give an option a value that it does not take. clap refuses such words
-    /// itself, so this is never shown.
+    /// The words name no tool, or give an option a value that it does not take. clap refuses such
+    /// words itself, so this is never shown.
     NoCommandLine,
     /// `tput` without a capability and without `-S`.
     NoCapability,
@@ -19,8 +19,8 @@ pub enum Mistake {
     CapabilityBesideLines,
     /// More parameters of `tput` than a string of terminfo(5) can have.
     TooManyParameters,
-    /// Two options of `infocmp` that each name a mode: the first two of those that stand there, in the
-    /// order of help.
+    /// Two options of `infocmp` that each name a mode: the first two of those that are there, in
+    /// the order of help.
     TwoModes(InfocmpMode, InfocmpMode),
     /// Fewer names than the mode of `infocmp` compares.
     TooFewNames(InfocmpMode),

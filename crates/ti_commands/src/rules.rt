@@ -9,7 +9,7 @@ use clap::builder::ValueParser;
 use clap::{Arg, ArgAction};
 use std::alloc::Global;
 
-/// How an argument is given. A text is the name of the value in help.
+/// How an argument is given. The string is the name of the value in help.
 #[derive(Clone, Copy)]
 pub enum Form<'a> {
     /// An option that is on or off, by its letter.
@@ -18,13 +18,13 @@ pub enum Form<'a> {
     Value(char, &'a str),
     /// An option with a number from a least to a greatest.
     Number(char, &'a str, u64, u64),
-    /// An option with a number from a least to a greatest that has a long name alone.
+    /// An option with a number from a least to a greatest that has only a long name.
     LongNumber(&'a str, u64, u64),
     /// An option whose value is one of some names.
     Choice(char, &'a str, &'a [&'a str]),
-    /// A word of its own.
+    /// An operand.
     Operand(&'a str),
-    /// Words of their own, as many as there are.
+    /// Any number of operands.
     Operands(&'a str),
 }
 
@@ -78,7 +78,7 @@ fn flag<'a>(alloc: Global, id: &'a str, short: char, help: &'a str) -> Arg<'a>
         .help(help)
 }
 
-// A word of its own.
+// An operand.
 fn operand<'a>(alloc: Global, id: &'a str, value: &'a str, help: &'a str) -> Arg<'a>
     ensures rule { rule_of result ≡ operand_rule id.entry.now }
     ensures local { result.global ≡ false }
@@ -101,7 +101,7 @@ fn option<'a>(alloc: Global, id: &'a str, short: char, value: &'a str, help: &'a
     operand(alloc, id, value, help).short(short)
 }
 
-// An option with one value that has a long name alone.
+// An option with one value that has only a long name.
 fn long_option<'a>(alloc: Global, id: &'a str, value: &'a str, help: &'a str) -> Arg<'a>
     ensures rule { rule_of result ≡ long_option_rule id.entry.now }
     ensures local { result.global ≡ false }
@@ -111,7 +111,7 @@ fn long_option<'a>(alloc: Global, id: &'a str, value: &'a str, help: &'a str) ->
     operand(alloc, id, value, help).long(id)
 }
 
-// Words of their own, as many as there are.
+// Any number of operands.
 fn operands<'a>(alloc: Global, id: &'a str, value: &'a str, help: &'a str) -> Arg<'a>
     ensures rule { rule_of result ≡ operands_rule id.entry.now }
     ensures local { result.global ≡ false }

@@ -1,4 +1,4 @@
--- An image in which a flag changes, byte for byte.
+-- An image in which a boolean changes, byte for byte.
 use Rattle.std.proofs.Common.{◌≡◌, ◌≢◌, ℕ, suc, ◌+◌, ◌-◌, ◌*◌, ◌%◌, ◌<◌, ◌≤◌, Bool, List, [], ◌∷◌, ◌++◌, length, set, Option, Some, None, refl, sym, ap, ◌∙◌, append_assoc, arith}
 use Rattle.std.proofs.lemmas.List.{length-append, set-append_left, set-append_right}
 use Rattle.ti_caps.specs.Tables.{capability}
@@ -43,11 +43,11 @@ added n f f' x t s l m a b = omega arith
 abbrev bytes_of : Contents → ℕ → ℕ
 bytes_of c j = flag_value (of_kind c Flag j)
 
--- the flags with the zero byte
+-- the booleans with the zero byte
 abbrev size : List ℕ → Contents → ℕ
 size names c = written_count c Flag + (suc (length names) + written_count c Flag) % 2
 
--- what comes behind them
+-- what comes after the booleans
 abbrev behind : Contents → List ℕ
 behind c = number_section (format_of c) (numbers_below (format_of c) c (written_count c Number)) ++ number_section Legacy (offsets_below c (written_count c Text)) ++ texts_below c (written_count c Text) ++ []
 
@@ -71,7 +71,7 @@ module _ (names : List ℕ) (c : Contents) (past : HoldsNoOther c) (index : ℕ)
   abbrev g : Contents
   g = with_content c (capability Flag index) (flag_content on)
 
-  -- the two images differ by what the flags with the zero byte take
+  -- the two images differ in the bytes of the booleans and the zero byte
   pub flag_lengths : (h k : Header) → HasSizes names c h → HasSizes names g k
       → length (image names g) + (h.flags + (h.names + h.flags) % 2) ≡ length (image names c) + (k.flags + (k.names + k.flags) % 2)
   flag_lengths h k has has_g =
@@ -100,7 +100,7 @@ module _ (names : List ℕ) (c : Contents) (past : HoldsNoOther c) (index : ℕ)
       let h = length-header (format_of c) (suc (length names)) (length (flags_below c (written_count c Flag))) (length (numbers_below (format_of c) c (written_count c Number))) (length (offsets_below c (written_count c Text))) (length (texts_below c (written_count c Text))) in
       omega arith
 
-  -- cut or filled up
+  -- cut, or filled up
   module _ (b b1 : List ℕ) (n : ℕ) (whole : b ≡ image names c) (resizes : Replaces b b1 (12 + suc (length names)) (size names c) (λ m. with_length m n 0)) where
     pub flags_resized : b1 ≡ (head names c ++ (names ++ 0 ∷ [])) ++ (below (bytes_of c) n ++ behind c)
     flags_resized =

@@ -1,4 +1,4 @@
--- The flags of an image: their bytes, and how many are written when one changes.
+-- The booleans of an image: their bytes, and how many are written when one changes.
 use Rattle.std.proofs.Common.{◌≡◌, ◌≢◌, ℕ, suc, ◌+◌, ◌-◌, ◌%◌, ◌<◌, ◌≤◌, max, Bool, true, false, List, length, drop, get_or, slice_range, Option, Some, None, refl, sym, ap, ◌∙◌, arith}
 use Rattle.std.proofs.lemmas.List.{get_or-take, get_or-drop}
 use Rattle.ti_caps.specs.Tables.{capability}
@@ -25,7 +25,7 @@ pub length_sized : (names : List ℕ) (c : Contents) (h : Header) → HasSizes n
     → length (image names c) ≡ entry_size h.format h.names h.flags h.numbers h.texts (length (texts_below c (written_count c Text)))
 length_sized names c h has = rw (has.format, has.names, has.flags, has.numbers, has.texts) (length-image names c)
 
--- a flag's byte says whether it is there
+-- the byte of a boolean says whether it is there
 pub flag_absent : (i : ℕ) (o : Option Content) → AgreesIfSome (capability Flag i) o → flag_value o ≡ 0 → is_there o ≡ false
 flag_absent i None a e = refl
 flag_absent i (Some content_true) a e = absurd (omega arith)
@@ -47,7 +47,7 @@ module _ (b : List ℕ) (is : IsImage b) (h : Header) (has : HasSizes (names_in 
   pub flags_within : 12 + h.names + h.flags + (h.names + h.flags) % 2 ≤ length b
   flags_within = let l = ap (λ (x : List ℕ). length x) is.whole ∙ length_sized (names_in b) c h has in omega arith
 
-  -- the byte of a flag
+  -- the byte of a boolean
   pub flag_byte : (j : ℕ) → j < h.flags → get_or b (12 + h.names + j) 0 ≡ flag_value (of_kind c Flag j)
   flag_byte j lt =
       let f = found_in b is in
@@ -77,7 +77,7 @@ module _ (b : List ℕ) (is : IsImage b) (h : Header) (has : HasSizes (names_in 
     here : (on : Bool) → g on (capability Flag index) ≡ flag_content on
     here on = given_here c (capability Flag index) (flag_content on)
 
-    -- the other sizes stay
+    -- the other sizes do not change
     with_flags : (on : Bool) (m : ℕ) (k : Header) → written_count (g on) Flag ≡ m → m ≤ 44 → k ≡ record { format = h.format; names = h.names; flags = m; numbers = h.numbers; texts = h.texts; strings = h.strings } → HasSizes (names_in b) (g on) k
     with_flags on m k e le same = rw same (record {
       format = has.format;

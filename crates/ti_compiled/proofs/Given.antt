@@ -10,7 +10,7 @@ use Rattle.ti_layout.proofs.KeptEntries.{same_from_one, test_from_other}
 use Rattle.ti_layout.proofs.ImageReading.{past-written}
 use Rattle.ti_compiled.specs.Image.{with_content}
 
--- nothing is held but of the 497 capabilities
+-- something is held only of the 497 capabilities
 abbrev pub HoldsNoOther : Contents → Type 0
 HoldsNoOther c = (kind : Kind) (index : ℕ) → count_of kind ≤ index → c (capability kind index) ≡ None
 

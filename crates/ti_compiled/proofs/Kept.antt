@@ -1,4 +1,5 @@
--- An image of names and contents is read as them, so bytes that are such an image keep what is so of every image.
+-- An image of names and contents is read as them, so bytes that are such an image have what every
+-- image has.
 use Rattle.std.proofs.Common.{◌≡◌, ◌≢◌, ℕ, ◌<◌, ◌≤◌, [], ◌∷◌, true, false, cond, List, length, Option, Some, None, refl, sym, ap, ◌∙◌, subst, arith}
 use Rattle.std.specs.Prelude.{◌↔◌, option_and_then, IsErrOf, OnOk, OnErr}
 use Rattle.std.proofs.Common.{Result, Ok, Err}
@@ -129,7 +130,7 @@ seen_left : (r : Result (Unit {0}) WriteError) (b new : List ℕ) → OnErr r (n
 seen_left (Ok x) b new left = tt
 seen_left (Err x) b new left = ap seen left
 
--- what is so where a value was given by its kind and place, or was refused
+-- what holds if a value was given by its kind and place, or was refused
 pub record AfterGiving (r : Result (Unit {0}) WriteError) (old : NamedTable) (new : List ℕ) (k : Capability) (v : Option Content) : Type 0 where
   pub kept : IsImage new
   pub sets : SetsContent old (seen new) k v r

@@ -9,7 +9,7 @@ use Rattle.ti_layout.proofs.Below.{below-same}
 use Rattle.ti_compiled.specs.inside.Bytes.{Replaces, offset_after, moved_later}
 use Rattle.ti_compiled.proofs.Numbering.{place-set, place-get}
 
--- those before an index are moved, and those from it on are as they were
+-- offsets before an index are moved, and those from it on are as they were
 abbrev pub mixed : (ℕ → ℕ) → (ℕ → ℕ) → ℕ → ℕ → ℕ
 mixed f g at j = if nat_lt j at then g j else f j
 
@@ -19,7 +19,7 @@ mixed_low f g at j lt = ap (λ b. cond b (g j) (f j)) (lt-ltb j at lt)
 pub mixed_high : (f g : ℕ → ℕ) (at j : ℕ) → at ≤ j → mixed f g at j ≡ f j
 mixed_high f g at j le = ap (λ b. cond b (g j) (f j)) (le-ltb j at le)
 
--- one more
+-- one more offset
 pub mixed_more : (f g : ℕ → ℕ) (at j : ℕ) → j ≢ at → mixed f g (at + 1) j ≡ mixed f g at j
 mixed_more f g at j other = elim (cases_lt j at) [
   | inl low ↦ mixed_low f g (at + 1) j (omega arith) ∙ sym (mixed_low f g at j low)

@@ -103,7 +103,7 @@ module _ (b : List ℕ) (is : IsImage b) (h : Header) (has : HasSizes (names_in 
         }
 
   module _ (k : Header) (has_g : HasSizes (names_in b) (with_number b index n) k) where
-    -- the two images differ by what the numbers take
+    -- the two images differ in the bytes of the numbers
     pub number_room : (len room : ℕ) → len ≡ length b → length (image (names_in b) (with_number b index n)) ≤ room → len + width k.format * k.numbers ≤ room + width h.format * h.numbers
     number_room len room el le =
         let texts : k.texts ≡ h.texts = has_g.texts ∙ sym has.texts in

@@ -1,4 +1,4 @@
--- The format that the numbers of an image want, found by their wide values.
+-- The format that the numbers of an image need, found by their wide values.
 use Rattle.std.proofs.Common.{◌≡◌, ◌≢◌, ℕ, ◌<◌, ◌≤◌, ◌⊎◌, true, false, cond, List, length, get_or, Option, Some, None, refl, sym, ap, ◌∙◌, subst, arith, inl, inr}
 use Rattle.std.proofs.lemmas.Bool.{lt-ltb, le-ltb}
 use Rattle.ti_caps.specs.Tables.{capability}

@@ -1,4 +1,5 @@
--- Numbers spelled one after the other within other bytes: one read, one written over, some cut off or filled up.
+-- Numbers spelled one after the other within other bytes: one read, one written over, some cut off
+-- or filled up.
 use Rattle.std.proofs.Common.{◌≡◌, ◌≢◌, ℕ, suc, ◌+◌, ◌-◌, ◌*◌, ◌<◌, ◌≤◌, drop-cons, List, [], ◌∷◌, ◌++◌, length, take, drop, set, get_or, replicate, refl, sym, ap, ◌∙◌, append_assoc, append-nil, arith, inl, inr}
 use Rattle.std.proofs.lemmas.Bool.{cases_lt}
 use Rattle.std.proofs.lemmas.List.{length-append, length-take, drop_at, set_split, take-append-drop, take_at, take_all}
@@ -31,7 +32,7 @@ module _ (w : Format) (p r : List ℕ) (place : ℕ) (long : length p ≡ place)
       let d = number_section w (drop (suc j) xs) in
       ap (λ t. p ++ (t ++ r)) (split_at xs j x) ∙ ap (λ t. p ++ t) (append_assoc a (m ++ d) r ∙ ap (λ t. a ++ t) (append_assoc m d r)) ∙ sym (append_assoc p a (m ++ (d ++ r)))
 
-  -- a number of the list, as the others stand about it
+  -- a number of the list, with the others around it
   around : (b xs : List ℕ) (j : ℕ) → j < length xs → b ≡ p ++ (number_section w xs ++ r) → b ≡ (p ++ number_section w (take j xs)) ++ (number_bytes w (get_or xs j 0) ++ (number_section w (drop (suc j) xs) ++ r))
   around b xs j lt whole =
       let cut : xs ≡ take j xs ++ get_or xs j 0 ∷ drop (suc j) xs = sym (take-append-drop j xs) ∙ ap (λ t. take j xs ++ t) (drop-cons xs j 0 lt) in
@@ -57,7 +58,7 @@ module _ (w : Format) (p r : List ℕ) (place : ℕ) (long : length p ≡ place)
       replaces (p ++ number_section w (take j xs)) (number_bytes w (get_or xs j 0)) (number_section w (drop (suc j) xs) ++ r) (around b xs j lt whole) (before xs j lt) (length-number_bytes w (get_or xs j 0))
       ∙ sym (within xs j n) ∙ ap (λ t. p ++ (number_section w t ++ r)) (sym (set_split xs j n lt))
 
-  -- the same of values that are given place by place
+  -- numbers spelled one after the other that are given place by place
   pub place-set : (b b' : List ℕ) (f g : ℕ → ℕ) (to j n : ℕ) → j < to → g j ≡ n → ((i : ℕ) → i ≢ j → g i ≡ f i) → b ≡ p ++ (number_section w (below f to) ++ r)
       → Replaces b b' (place + width w * j) (width w) (λ _. number_bytes w n) → b' ≡ p ++ (number_section w (below g to) ++ r)
   place-set b b' f g to j n lt here others whole replaces =
@@ -77,7 +78,7 @@ distance : (w : Format) (m n : ℕ) → m ≤ n → width w * n - width w * m �
 distance Legacy m n le = omega arith
 distance Extended m n le = omega arith
 
--- numbers cut off, or filled up with the one that is absent
+-- numbers cut off, or filled up with the number that means absent
 pub resized-spelled : (w : Format) (f : ℕ → ℕ) (m n : ℕ) → ((j : ℕ) → m ≤ j → f j ≡ absent_mark w) → with_length (number_section w (below f m)) (width w * n) 255 ≡ number_section w (below f n)
 resized-spelled w f m n past =
     let l = length-spelled w (below f m) in

@@ -8,7 +8,7 @@ use Rattle.ti_layout.proofs.Spelled.{length-spelled, place_none, spelled-none, s
 use Rattle.ti_compiled.specs.inside.Bytes.{Replaces}
 use Rattle.ti_compiled.proofs.Numbering.{place_under}
 
--- those before an index are written over the front of a part
+-- numbers before an index are written over the front of a part
 abbrev pub PutUpTo : List ℕ → List ℕ → ℕ → Format → List ℕ → ℕ → ℕ → Type 0
 PutUpTo old new place w values count at =
     (p m r : List ℕ) → old ≡ p ++ (m ++ r) → length p ≡ place → length m ≡ width w * count → new ≡ p ++ (number_section w (take at values) ++ (drop (width w * at) m ++ r))

@@ -37,7 +37,7 @@ module _ (p m r : List ℕ) (b : List ℕ) (whole : b ≡ p ++ (m ++ r)) where
 pub length-resized : (m : List ℕ) (n x : ℕ) → length (with_length m n x) ≡ n
 length-resized m n x = omega (arith, length-append (take n m) (replicate (n - length m) x), length-take n m, length-replicate (n - length m) x)
 
--- a text and its NUL written over a part that has their size
+-- a text and its NUL, written over a part of the same size
 pub text_put : (b b1 b2 b3 text : List ℕ) (at size : ℕ) → Replaces b b1 at size (λ m. with_length m (length text + 1) 0) → Replaces b1 b2 at (length text) (λ _. text)
     → Replaces b2 b3 (at + length text) 1 (λ _. 0 ∷ []) → Replaces b b3 at size (λ _. text ++ 0 ∷ [])
 text_put b b1 b2 b3 text at size sized put ended = λ p m r whole a s.

@@ -1,4 +1,4 @@
--- Lists that are made place by place, cut, filled up, and changed in one place.
+-- Lists that are made place by place: cut, filled up, and changed in one place.
 use Rattle.std.proofs.Common.{◌≡◌, ◌≢◌, ℕ, ◌+◌, ◌-◌, ◌<◌, ◌≤◌, [], ◌++◌, length, take, set, get_or, replicate, sym, ap, ◌∙◌, append-nil, arith, inl, inr}
 use Rattle.std.proofs.lemmas.Bool.{cases_lt, cases_eq}
 use Rattle.std.proofs.lemmas.List.{take_all, same_lists, length-take, get_or-take, length-set, get_or-set_same, get_or-set_other}

@@ -1,4 +1,4 @@
--- What is known where room was made.
+-- What is known if room was made.
 use Rattle.std.proofs.Common.{◌≡◌, ◌<◌, ◌≤◌, ℕ, suc, List, length, true, false, Result, Ok, Err, sym, subst, arith}
 use Rattle.std.specs.Prelude.{IfSome, OnOk, OnErr, IsErrOf, is_ok}
 use Rattle.std.specs.Result.{result_ok}

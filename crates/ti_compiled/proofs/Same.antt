@@ -1,4 +1,4 @@
--- Contents that have the same texts have the same string table and offsets.
+-- Contents that have the same strings have the same string table and offsets.
 use Rattle.std.proofs.Common.{◌≡◌, ℕ, length, ap, ◌∙◌}
 use Rattle.ti_caps.specs.Tables.{capability}
 use Rattle.ti_caps.specs.declared.capability.Kind.TheVariants.{Text}

@@ -18,7 +18,7 @@ or_none : (a : Option Content) → option_or a None ≡ a
 or_none None = refl
 or_none (Some x) = refl
 
--- the entry of a capability says what that has, and of no other capability anything
+-- the entry of a capability says what the capability has, and nothing of any other capability
 entry_here : (c : Capability) (o : Option Content) → contents (entry_if c o) c ≡ o
 entry_here c None = contents-none c
 entry_here c (Some v) = contents-one (c, v) c ∙ ap (λ b. cond b (Some v) None) (same_capability-itself c)
@@ -71,7 +71,8 @@ module _ (f : Contents) where
             ∙ subst (λ m. contents (entry_if (capability kind n) (f (capability kind n))) (capability kind m) ≡ f (capability kind m)) same (entry_here (capability kind n) (f (capability kind n)))
       ]
 
-  -- the entries of a kind say what the capabilities of the kind have, where no other place has anything
+  -- the entries of a kind say what the capabilities of the kind have, if no other place has
+  -- anything
   kind_says : HoldsNoOther f → (kind : Kind) (i : ℕ) → contents (entries_below f kind (count_of kind)) (capability kind i) ≡ f (capability kind i)
   kind_says past kind i = elim (cases_lt i (count_of kind)) [
     | inl under ↦ below_says kind (count_of kind) i under
@@ -95,6 +96,6 @@ module _ (f : Contents) where
 pub seen_says : (bytes : List ℕ) → IsImage bytes → held_by (seen bytes) ≡ contents_in bytes
 seen_says bytes is = λ i c. all_say (contents_in bytes) is.imaged.past c.kind c.index i
 
--- and the layout of the names and the map is the bytes
+-- the layout of the names and the map is the bytes
 pub seen_bytes : (bytes : List ℕ) → IsImage bytes → bytes_of (seen bytes) ≡ bytes
 seen_bytes bytes is = ap (image (names_in bytes)) (seen_says bytes is) ∙ sym is.whole

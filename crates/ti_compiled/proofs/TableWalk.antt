@@ -1,4 +1,5 @@
--- A walk over the entries of a table, by which what is held of each capability comes to be as it is wanted.
+-- A walk over the entries of a table, by which what is held of each capability becomes what is
+-- wanted.
 use Rattle.std.proofs.Common.{◌≡◌, ◌≢◌, ℕ, ◌+◌, ◌<◌, ◌≤◌, true, false, List, length, get_or, Option, Some, None, refl, sym, ap, ◌∙◌, subst, arith, inl, inr}
 use Rattle.std.proofs.lemmas.Bool.{cases_lt}
 use Rattle.std.proofs.lemmas.List.{get_or_default, length-map}
@@ -15,11 +16,11 @@ use Rattle.ti_compiled.specs.inside.Changes.{IsLeft, IsSameBut}
 use Rattle.ti_compiled.specs.Image.{NamedTable, held_by}
 use Rattle.ti_compiled.proofs.Given.{given_here, given_other}
 
--- what is held of a capability is as it is wanted
+-- what is held of a capability is what is wanted
 abbrev pub Wanted : Type 1
 Wanted = Capability → Option Content → Type 0
 
--- which places of the entries a walk has still to come to
+-- the places of the entries that a walk has still to come to
 abbrev pub Places : Type 1
 Places = ℕ → Type 0
 
@@ -33,7 +34,8 @@ below k m = m < k
 abbrev pub IsAtNone : List TableEntry → Places → Capability → Type 0
 IsAtNone es left c = (m : ℕ) (e : TableEntry) → left m → m < length es → (get_or es m e).0 ≢ c
 
--- of the entries that are left, what is held is as it was at first, and of every other capability as it is at last
+-- of the entries that are left, what is held is as it was at first, and of every other capability
+-- as it is at last
 pub record Walks (es : List TableEntry) (first last : Wanted) (held : Contents) (left : Places) : Type 0 where
   pub ahead : (m : ℕ) (e : TableEntry) → left m → m < length es → first (get_or es m e).0 (held (get_or es m e).0)
   pub behind : (c : Capability) → IsCapability c → IsAtNone es left c → last c (held c)
@@ -108,7 +110,7 @@ module _ (old new : NamedTable) (cap : Capability) (content : Option Content) (g
 abbrev pub says : Contents → Wanted
 says contents c held = held ≡ without_cancel (contents c)
 
--- what is held is what is left where all that changes is gone
+-- what is held is what is left after all that changes is taken away
 abbrev pub leaves : Contents → Contents → Wanted
 leaves old new c held = IsLeft (old c) (new c) held
 

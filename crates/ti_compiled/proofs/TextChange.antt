@@ -1,4 +1,4 @@
--- An image in which a text changes, byte for byte.
+-- An image in which a string changes, byte for byte.
 use Rattle.std.proofs.Common.{◌≡◌, ◌≢◌, ℕ, zero, suc, ◌+◌, ◌-◌, ◌<◌, ◌≤◌, List, [], ◌++◌, length, Option, Some, None, refl, sym, ap, ◌∙◌, append_assoc, append-nil, arith}
 use Rattle.std.proofs.lemmas.List.{length-append}
 use Rattle.ti_caps.specs.Tables.{capability}
@@ -13,7 +13,7 @@ pub piece_of : (t : Option (List ℕ)) → text_piece (text_content t) ≡ ended
 piece_of None = refl
 piece_of (Some t) = refl
 
--- the string tables of contents that differ in one text: the same before it and behind it
+-- the string tables of contents that differ in one string are equal before it and after it
 module _ (c g : Contents) (index : ℕ) (others : (j : ℕ) → j ≢ index → g (capability Text j) ≡ c (capability Text j)) where
   pub texts_before : (n : ℕ) → n ≤ index → texts_below g n ≡ texts_below c n
   texts_before n le = texts-same g c n (λ i lt. ap text_piece (others i (λ same. omega arith)))
@@ -41,7 +41,7 @@ module _ (c g : Contents) (index : ℕ) (others : (j : ℕ) → j ≢ index → 
             ∙ ap (λ t. texts_below c index ++ t) (append_assoc (text_piece (of_kind g Text index)) a.0 last),
       )
 
-  -- what the tables take beyond the text
+  -- what the tables have besides the string
   pub lengths_about : (n : ℕ) → index < n → length (texts_below g n) + length (text_piece (of_kind c Text index)) ≡ length (texts_below c n) + length (text_piece (of_kind g Text index))
   lengths_about n lt =
       let e : index + 1 + (n - (index + 1)) ≡ n = omega arith in

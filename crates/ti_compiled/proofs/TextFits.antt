@@ -1,4 +1,4 @@
--- How long an image is in which a text changes, and where its parts end.
+-- How long an image is in which a string changes, and where its parts end.
 use Rattle.std.proofs.Common.{◌≡◌, ℕ, suc, ◌+◌, ◌-◌, ◌*◌, ◌%◌, ◌<◌, ◌≤◌, ◌⊎◌, max, true, List, length, Option, Some, None, refl, sym, ap, ◌∙◌, arith, inl, inr}
 use Rattle.ti_caps.specs.Tables.{capability}
 use Rattle.ti_caps.specs.declared.capability.Kind.TheVariants.{Text}
@@ -73,7 +73,7 @@ module _ (b : List ℕ) (is : IsImage b) (h : Header) (has : HasSizes (names_in 
       (length (text_piece (of_kind c Text index))) (length (image (names_in b) g))
       (omega arith) er (omega arith) (omega arith) ep (omega arith) total (omega arith) le (omega arith) (omega arith) tf kf (omega arith)
 
-  -- the same of what calls that are given the bytes answer
+  -- how long the image is, by what calls answer that are given the bytes
   pub lengths_of : (x y : List ℕ) (start end place room added : ℕ) → x ≡ b → y ≡ b → start ≡ length (texts_below (contents_in x) index) → end ≡ length (texts_below (contents_in y) (index + 1)) → place ≡ offsets_from h
       → added ≡ length (ended_text t) → length (image (names_in b) (with_content (contents_in b) (capability Text index) (text_content t))) ≤ room → Lengths (length b) start end place (end - start) added h.texts k.texts room
   lengths_of x y start end place room added ex ey es ee ep ea le =

@@ -1,4 +1,4 @@
--- The texts of an image: their offsets, and where they lie.
+-- The strings of an image: their offsets, and where they are.
 use Rattle.std.proofs.Common.{◌≡◌, ◌≢◌, ℕ, suc, ◌+◌, ◌-◌, ◌*◌, ◌%◌, ◌<◌, ◌≤◌, true, false, List, [], ◌∷◌, ◌++◌, length, Option, Some, None, refl, sym, ap, ◌∙◌, subst, append_assoc, arith, inl, inr}
 use Rattle.std.proofs.lemmas.Bool.{cases_lt}
 use Rattle.std.proofs.lemmas.List.{length-append, length-replicate}
@@ -59,7 +59,7 @@ nine h n z f g m o s r = simp append_assoc
 length-five : (n z f g m : List ℕ) → length (n ++ z ++ f ++ g ++ m) ≡ length n + length z + length f + length g + length m
 length-five n z f g m = simp length-append
 
--- all texts are written
+-- all strings are written
 pub texts_end : (c : Contents) → HoldsNoOther c → (n : ℕ) → written_count c Text ≤ n → texts_below c n ≡ texts_below c (written_count c Text)
 texts_end c past n le =
     let T = written_count c Text in
@@ -93,7 +93,7 @@ module _ (names : List ℕ) (c : Contents) (is : IsImaged names c) where
   pub offset_past : (j : ℕ) → written_count c Text ≤ j → offset_of c j ≡ 65535
   offset_past j le = void_offset (length (texts_below c j)) (c (capability Text j)) (nothing_past c is.past Text j le)
 
--- what stands before the offsets, behind the header
+-- what is before the offsets, after the header
 abbrev pub middle : List ℕ → Contents → List ℕ
 middle names c =
     names ++ 0 ∷ [] ++ flags_below c (written_count c Flag) ++ even_gap names (written_count c Flag) ++ number_section (format_of c) (numbers_below (format_of c) c (written_count c Number))
@@ -136,7 +136,7 @@ pub text_parts : (b names : List ℕ) (c : Contents) → b ≡ image names c
     → b ≡ (head_of names c ++ middle names c) ++ (number_section Legacy (below (offset_of c) (written_count c Text)) ++ (texts_below c (written_count c Text) ++ []))
 text_parts b names c whole = whole ∙ text_frame names c ∙ sym (append_assoc (head_of names c) (middle names c) (number_section Legacy (offsets_below c (written_count c Text)) ++ (texts_below c (written_count c Text) ++ [])))
 
--- the offset that stands in the bytes
+-- the offset in the bytes
 pub offset_read : (b : List ℕ) (is : IsImage b) (h : Header) → HasSizes (names_in b) (contents_in b) h → (j : ℕ) → j < h.texts → word_at (offsets_from h + 2 * j) b ≡ offset_of (contents_in b) j
 offset_read b is h has j lt =
     let c = contents_in b in

@@ -1,4 +1,4 @@
--- The sizes of an image in which a text changes.
+-- The sizes of an image in which a string changes.
 use Rattle.std.proofs.Common.{◌≡◌, ◌≢◌, ℕ, suc, ◌+◌, ◌-◌, ◌*◌, ◌^◌, ◌<◌, ◌≤◌, min, max, true, false, List, length, Option, None, refl, sym, ap, ◌∙◌, arith}
 use Rattle.std.proofs.lemmas.List.{length-append}
 use Rattle.ti_caps.specs.Tables.{capability}
@@ -38,7 +38,7 @@ module _ (b : List ℕ) (is : IsImage b) (h : Header) (has : HasSizes (names_in 
   pub count_le : (d : Contents) → written_count d Text ≤ 414
   count_le d = last_passing-le (λ j. is_there (of_kind d Text j)) 414
 
-  -- what the text takes, and all of them
+  -- the size of the string, and of all strings
   pub text_ends : length (texts_below (contents_in b) (index + 1)) ≡ length (texts_below (contents_in b) index) + length (text_piece (of_kind (contents_in b) Text index))
   text_ends = ap (λ (x : List ℕ). length x) (texts-more c index) ∙ length-append (texts_below c index) (text_piece (of_kind c Text index))
 
@@ -78,7 +78,7 @@ module _ (b : List ℕ) (is : IsImage b) (h : Header) (has : HasSizes (names_in 
     pub removed_le : end - start ≤ h.strings
     removed_le = let l = text_within in let x = strings_exact b is h has in omega arith
 
-    -- the table with the others alone
+    -- the table with only the other strings
     pub others_sum : length (texts_below (with_content (contents_in b) (capability Text index) (text_content t)) (written_count (with_content (contents_in b) (capability Text index) (text_content t)) Text)) ≡ h.strings - (end - start) + length (ended_text t)
     others_sum =
         let l = text_ends in

@@ -1,4 +1,4 @@
--- An image in which a text changes comes to be step by step.
+-- An image in which a string changes is made step by step.
 use Rattle.std.proofs.Common.{◌≡◌, ◌≢◌, ℕ, ◌+◌, ◌-◌, ◌*◌, ◌<◌, ◌≤◌, ◌==◌, if◌then◌else◌, cond, List, [], ◌++◌, length, Option, Some, None, refl, sym, ap, ◌∙◌, append_assoc, append-nil, eq-eqb, arith, inl, inr}
 use Rattle.std.proofs.lemmas.Bool.{cases_lt, cases_eq, ne_eqb}
 use Rattle.std.proofs.lemmas.List.{length-append}
@@ -24,7 +24,7 @@ use Rattle.ti_compiled.proofs.TextChange.{piece_of, lengths_about, texts_about, 
 use Rattle.ti_compiled.proofs.TextPlaces.{offset_of, offset_tells, offset_past, offsets_from, head_of, middle, text_frame, text_parts, length_front, length_head, texts_end, texts_past, texts_small, agrees_text}
 use Rattle.ti_compiled.proofs.TextSizes.{others, here, past_g, count_le}
 
--- the offset of a text behind the one that changes
+-- the offset of a string after the one that changes
 moved_one : (j n m removed added : ℕ) (o : Option Content) → AgreesIfSome (capability Text j) o → n < 65535 → m + removed ≡ n + added → offset_after removed added (offset_value n o) ≡ offset_value m o
 moved_one j n m removed added None a lt e = moved_absent removed added 65535 refl
 moved_one j n m removed added (Some content_true) a lt e = absurd cc
@@ -65,7 +65,7 @@ module _ (b : List ℕ) (is : IsImage b) (h : Header) (has : HasSizes (names_in 
   regroup : (p o a x r : List ℕ) → p ++ (o ++ ((a ++ (x ++ r)) ++ [])) ≡ (p ++ (o ++ a)) ++ (x ++ r)
   regroup p o a x r = simp (append_assoc, append-nil)
 
-  -- the text replaced in the table
+  -- the string is replaced in the table
   pub table_changed : (b1 : List ℕ) (place at start removed : ℕ) → place ≡ offsets_from h → at ≡ place + 2 * h.texts + start → start ≡ length (texts_below (contents_in b) index) → removed ≡ length (text_piece (of_kind (contents_in b) Text index))
       → Replaces b b1 at removed (λ _. ended_text t)
       → b1 ≡ (head_of (names_in b) (contents_in b) ++ middle (names_in b) (contents_in b)) ++ (number_section Legacy (below (offset_of (contents_in b)) (written_count (contents_in b) Text)) ++ (texts_below (with_content (contents_in b) (capability Text index) (text_content t)) (written_count (with_content (contents_in b) (capability Text index) (text_content t)) Text) ++ []))
@@ -81,7 +81,7 @@ module _ (b : List ℕ) (is : IsImage b) (h : Header) (has : HasSizes (names_in 
       let first : b ≡ (front ++ (o ++ a)) ++ (x ++ tail) = text_parts b names c is.whole ∙ ap (λ s. front ++ (o ++ (s ++ []))) old_table ∙ regroup front o a x tail in
       replaces (front ++ (o ++ a)) x tail first (omega arith) (sym er) ∙ sym (regroup front o a (ended_text t) tail) ∙ ap (λ s. front ++ (o ++ (s ++ []))) (sym new_table)
 
-  -- the offsets cut or filled up
+  -- the offsets are cut or filled up
   pub offsets_resized : (b1 b2 rest : List ℕ) (place n : ℕ) → place ≡ offsets_from h → b1 ≡ (head_of (names_in b) (contents_in b) ++ middle (names_in b) (contents_in b)) ++ (number_section Legacy (below (offset_of (contents_in b)) (written_count (contents_in b) Text)) ++ rest)
       → Replaces b1 b2 place (2 * h.texts) (λ m. with_length m (2 * n) 255) → b2 ≡ (head_of (names_in b) (contents_in b) ++ middle (names_in b) (contents_in b)) ++ (number_section Legacy (below (offset_of (contents_in b)) n) ++ rest)
   offsets_resized b1 b2 rest place n ep whole replaces =
@@ -91,7 +91,7 @@ module _ (b : List ℕ) (is : IsImage b) (h : Header) (has : HasSizes (names_in 
       replaces front o rest whole (length_front names c h has ∙ sym ep) (omega arith)
       ∙ ap (λ x. front ++ (x ++ rest)) (resized-spelled Legacy (offset_of c) T n (λ j le. offset_past names c is.imaged j le))
 
-  -- with the offset of the text itself
+  -- the offset of the string itself is set
   abbrev pub put : ℕ → ℕ
   put j = if j == index then offset_of (with_content (contents_in b) (capability Text index) (text_content t)) index else offset_of (contents_in b) j
 
@@ -122,7 +122,7 @@ module _ (b : List ℕ) (is : IsImage b) (h : Header) (has : HasSizes (names_in 
     | inr other ↦ let e = put_other j other in let f = (offset_tells names c is.imaged j).fits in omega arith
   ]
 
-  -- with all of them moved
+  -- the later offsets are moved
   each : (removed added : ℕ) → removed ≡ length (text_piece (of_kind c Text index)) → added ≡ length (ended_text t) → (j : ℕ) → moved_later put (index + 1) removed added j ≡ offset_of g j
   each removed added er ea j = elim (cases_lt j (index + 1)) [
     | inl low ↦ later_before put (index + 1) removed added j low ∙ elim (cases_eq j index) [

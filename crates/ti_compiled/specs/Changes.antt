@@ -15,12 +15,13 @@ pub record HoldsGiven (old new : NamedTable) (cap : Capability) (content : Optio
 abbrev pub FitsWith : NamedTable → Capability → Option Content → Type 0
 FitsWith i cap content = ImageFits i.names (with_content (held_by i) cap content)
 
--- that layout is over its limit
+-- the layout of what is then held is over its limit
 abbrev pub IsOverWith : NamedTable → Capability → Option Content → Type 0
 IsOverWith i cap content = ImageIsTooLarge i.names (with_content (held_by i) cap content)
 
--- A capability of an image is given a content, or what it has is taken away: the names and what every other capability has stay, or
--- the change is refused, exactly where the new image would be too large or for want of memory, and nothing changes.
+-- A capability of an image is given a content, or what it has is taken away, and the names and what
+-- every other capability has remain. Or the change is refused, exactly if the new image would be
+-- too large or there is no memory, and nothing changes.
 pub record SetsContent (old new : NamedTable) (cap : Capability) (content : Option Content) (result : Result (Unit {0}) WriteError) : Type 0 where
   pub names : OnOk result (new.names ≡ old.names)
   pub contents : OnOk result (HoldsGiven old new cap content)

@@ -1,5 +1,5 @@
--- An image as contracts see it (own): a names field, and a finite map of what the entry has of each capability; its bytes are their
--- layout (term(5)).
+-- An image as contracts see it (own): a names field, and a finite map of what the entry has of each
+-- capability; its bytes are their layout (term(5)).
 use Rattle.std.specs.Prelude.{ℕ, List, Option, if◌then◌else◌}
 use Rattle.ti_caps.specs.Tables.{Capability, same_capability}
 use Rattle.ti_layout.specs.Image.{image}

@@ -1,9 +1,10 @@
-// Parts of an entry's bytes that grow, shrink or are written over where they lie. The room for
-// them is there, so none of these takes memory.
+//! Parts of an entry's bytes that grow, shrink or are written over where they are.
+//!
+//! The room for them is there, so no call of this module takes memory.
 ghost use Rattle.std.specs.Prelude.{◌≡◌, ◌+◌, ◌≤◌, length, vec_len, vec_capacity};
 ghost use Rattle.ti_compiled.specs.inside.Bytes.{with_bytes_in, with_bytes_out, with_length, Replaces};
 
-// Puts as many bytes in at a place.
+// Puts a number of bytes in at a place.
 fn open(bytes: &mut Vec<u8>, at: usize, count: usize, fill: u8)
     requires within { at ≤ vec_len bytes.old }
     requires room { vec_len bytes.old + count ≤ vec_capacity bytes.old }
@@ -15,7 +16,7 @@ fn open(bytes: &mut Vec<u8>, at: usize, count: usize, fill: u8)
     bytes[at..].rotate_right(count);
 }
 
-// Takes as many bytes out at a place.
+// Takes a number of bytes out at a place.
 fn close(bytes: &mut Vec<u8>, at: usize, count: usize)
     requires within { at + count ≤ vec_len bytes.old }
     ensures items { bytes.new.items ≡ with_bytes_out bytes.old.items at count }
@@ -26,7 +27,7 @@ fn close(bytes: &mut Vec<u8>, at: usize, count: usize)
     bytes.truncate(bytes.len() - count);
 }
 
-/// Cuts the part of a size that lies at a place to another size, or fills it up to that.
+/// Cuts the part of a size at a place to another size, or fills it up to that size.
 pub fn resize_part(bytes: &mut Vec<u8>, at: usize, size: usize, wanted: usize, fill: u8)
     requires within { at + size ≤ vec_len bytes.old }
     requires room { vec_len bytes.old + wanted ≤ vec_capacity bytes.old + size }

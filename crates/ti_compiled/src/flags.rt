@@ -1,5 +1,7 @@
-// A flag of an image set or taken away: a byte for each flag up to the last that is set, and then
-// the zero byte where the names and the flags are an odd number of bytes.
+//! A boolean of an image is set or taken away.
+//!
+//! The section has a byte for each boolean up to the last that is set, and then the zero byte if
+//! the names and the booleans are an odd number of bytes.
 ghost use Rattle.std.specs.Prelude.{◌≡◌, ◌≢◌, ℕ, suc, ◌<◌, ◌≤◌, ◌↔◌, length, slice_index, vec_capacity, IsErrOf, OnOk, OnErr};
 ghost use Rattle.ti_caps.specs.Tables.{capability, count_of};
 ghost use Rattle.ti_caps.specs.declared.capability.Kind.TheVariants.{Flag};
@@ -13,7 +15,7 @@ use crate::bytes::resize_part;
 use crate::header::{header_of, make_room, write_header};
 use ti_layout::{HEADER_SIZE, Header, WriteError};
 
-// One more than the last flag that is set, and 0 where none is.
+// One more than the last boolean that is set, 0 if none is.
 fn last_set(flags: &[u8]) -> usize
     ensures within { result ≤ length flags.now }
     ensures last { (j : ℕ) → suc j ≡ result → slice_index flags.now j ≢ 0 }
@@ -26,7 +28,7 @@ fn last_set(flags: &[u8]) -> usize
     end
 }
 
-// The sizes of the image when the flag is set or taken away.
+// The sizes of the image when the boolean is set or taken away.
 fn sizes_with_flag(bytes: &[u8], old: &Header, index: usize, on: bool) -> Header
     requires image { IsImage bytes.now }
     requires old { HasSizes (names_in bytes.now) (contents_in bytes.now) old.now }
@@ -50,7 +52,7 @@ fn flag_byte(on: bool) -> u8
     u8::from(on)
 }
 
-// Sets the flag or takes it away, where the sizes are known and there is room.
+// Sets the boolean or takes it away. The sizes are known and there is room.
 fn change_flag(bytes: &mut Vec<u8>, old: &Header, new: &Header, index: usize, on: bool)
     requires image { IsImage bytes.old.items }
     requires index { index < count_of Flag }
@@ -70,7 +72,7 @@ fn change_flag(bytes: &mut Vec<u8>, old: &Header, new: &Header, index: usize, on
     write_header(bytes, new);
 }
 
-/// Sets a flag or takes it away. A refused change leaves the image.
+/// Sets a boolean or takes it away. A refused change leaves the image as it was.
 ///
 /// # Errors
 /// `TooLarge` for an image over its limit, then `Memory`.

@@ -1,4 +1,4 @@
-// The header of an image: the sizes of its sections.
+//! The header of an image: the sizes of its sections.
 ghost use Rattle.std.specs.Prelude.{◌≡◌, ◌≢◌, ℕ, suc, ◌+◌, ◌≤◌, ◌<◌, ◌↔◌, List, [], length, vec_len, vec_capacity, IsErrOf, OnOk};
 ghost use Rattle.ti_text.specs.Limits.{names_max};
 ghost use Rattle.ti_caps.specs.declared.capability.Kind.TheVariants.{Text};
@@ -15,7 +15,7 @@ use crate::bytes::overwrite;
 use byteorder::{ByteOrder, LittleEndian};
 use ti_layout::{Format, HEADER_SIZE, Header, WriteError, word};
 
-/// The numbers that a header spells.
+// The numbers that a header spells.
 fn read_header(bytes: &[u8]) -> Header
     requires { layout.header_size ≤ length bytes.now }
     ensures { IsHeaderAt bytes.now result }
@@ -57,7 +57,7 @@ pub fn names_of(bytes: &[u8]) -> &[u8]
     &bytes[HEADER_SIZE..HEADER_SIZE + word(bytes, 2) - 1]
 }
 
-/// Makes room for an image of these sizes, where it is within its limit.
+/// Makes room for an image of these sizes, if it is within its limit.
 ///
 /// # Errors
 /// `TooLarge` for an image over its limit, then `Memory`.
@@ -108,7 +108,7 @@ fn header_bytes(header: &Header) -> [u8; HEADER_SIZE]
     ]
 }
 
-/// Writes a header over the one that the bytes begin with.
+/// Writes a header over the one with which the bytes begin.
 pub fn write_header(bytes: &mut Vec<u8>, header: &Header)
     requires { layout.header_size ≤ vec_len bytes.old }
     ensures header { Replaces bytes.old.items bytes.new.items 0 layout.header_size

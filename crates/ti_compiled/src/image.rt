@@ -1,4 +1,4 @@
-// A compiled entry, and one capability of it changed where it lies.
+//! A compiled entry, of which one capability is changed where it is.
 ghost use Rattle.std.specs.Prelude.{None, Some, ◌≡◌, ◌≢◌, ◌<◌, ◌≤◌, ◌↔◌, [], List, length, option_map, IfOk, IfSome, IsErrOf};
 ghost use Rattle.ti_text.specs.Limits.{names_max, number_max};
 ghost use Rattle.ti_caps.specs.Tables.{Capability, IsCapability};
@@ -21,7 +21,7 @@ use ti_caps::{Cap, Kind};
 use ti_layout::{Table, Value, WriteError, write};
 
 /// A compiled entry of term(5), within its limit. Contracts see its names and a finite map of what
-/// each capability has, a cancelled one being absent; the bytes are the layout of these.
+/// each capability has, a cancelled one being absent. The bytes are the layout of these.
 #[derive(Drop)]
 pub struct Image {
     bytes: Vec<u8>,
@@ -42,7 +42,7 @@ impl Image {
     /// The image of a names field and a table.
     ///
     /// # Errors
-    /// Those of [`write`], each exactly where `write` answers it.
+    /// Those of [`write`], each exactly if `write` answers it.
     pub fn new(alloc: Global, names: &[u8], table: &Table) -> Result<Image, WriteError>
         requires present { names.now ≢ [] }
         requires no_nul { HasNoNul names.now }
@@ -75,12 +75,12 @@ impl Image {
         names_of(&self.bytes)
     }
 
-    /// The same entry with the values of another table: a copy in which first each value that changes
-    /// is taken away and then the new ones are given. Where a number of either table is over 32,767, the
+    /// The entry with the values of another table: a copy in which first each value that changes is
+    /// taken away and then the new ones are given. If a number of either table is over 32,767, the
     /// new entry is over the limit, or the copy gets no memory, the entry is written anew.
     ///
     /// # Errors
-    /// [`WriteError::TooLarge`] exactly where [`write`] answers it, and [`WriteError::Memory`].
+    /// [`WriteError::TooLarge`] exactly if [`write`] answers it, and [`WriteError::Memory`].
     pub fn patch(&self, old: &Table, new: &Table) -> Result<Image, WriteError>
         requires held { (c : Capability) → IsCapability c → held_by self.now c ≡ without_cancel (contents old.now c) }
         ensures image { IfOk result (λ i. bytes_of i ≡ image self.now.names (contents new.now)) }
@@ -99,17 +99,17 @@ impl Image {
         }
     }
 
-    // What is so of every image. It computes nothing.
+    // What holds of every image. The law computes nothing.
     fn is_within_limit(&self)
         ensures { ImageFits self.now.names (held_by self.now) }
     {
         let _ = &self.bytes;
     }
 
-    /// The same entry once more.
+    /// A copy of the entry.
     ///
     /// # Errors
-    /// Want of memory.
+    /// `AllocError` if memory ran out.
     pub fn copy(&self) -> Result<Image, AllocError>
         ensures { IfOk result (λ i. i ≡ self.now) }
     {
@@ -117,7 +117,7 @@ impl Image {
         Ok(Image { bytes })
     }
 
-    // Sets a flag or takes it away. A refused change leaves the image.
+    // Sets a boolean or takes it away. A refused change leaves the image as it was.
     fn set_flag(&mut self, cap: Cap, on: bool) -> Result<(), WriteError>
         requires kind { cap.kind ≡ Flag }
         ensures { SetsContent self.old self.new cap (flag_content on) result }
@@ -125,7 +125,7 @@ impl Image {
         set_flag(&mut self.bytes, cap.index(), on)
     }
 
-    // Gives a number or takes it away. A refused change leaves the image.
+    // Gives a number or takes it away. A refused change leaves the image as it was.
     fn set_number(&mut self, cap: Cap, number: Option<u32>) -> Result<(), WriteError>
         requires kind { cap.kind ≡ Number }
         requires fits { IfSome number (λ n. n ≤ number_max) }
@@ -134,7 +134,7 @@ impl Image {
         set_number(&mut self.bytes, cap.index(), number)
     }
 
-    // Gives a text or takes it away. A refused change leaves the image.
+    // Gives a string or takes it away. A refused change leaves the image as it was.
     fn set_text(&mut self, cap: Cap, text: Option<&[u8]>) -> Result<(), WriteError>
         requires kind { cap.kind ≡ Text }
         requires no_nul { IfSome text (λ t. HasNoNul t.now) }
@@ -143,7 +143,7 @@ impl Image {
         set_text(&mut self.bytes, cap.index(), text)
     }
 
-    // Takes away what a capability has. A refused change leaves the image.
+    // Takes away what a capability has. A refused change leaves the image as it was.
     fn take_away(&mut self, cap: Cap) -> Result<(), WriteError>
         ensures { SetsContent self.old self.new cap None result }
     {
@@ -154,7 +154,8 @@ impl Image {
         }
     }
 
-    // Gives a capability a value; a cancelled one takes away what it has. A refused change leaves the image.
+    // Gives a capability a value; a cancelled value takes away what it has. A refused change leaves
+    // the image as it was.
     fn give(&mut self, cap: Cap, value: &Value) -> Result<(), WriteError>
         requires agrees { Agrees cap (content_of value.now) }
         ensures { SetsContent self.old self.new cap (without_cancel (Some (content_of value.now))) result }
@@ -167,8 +168,8 @@ impl Image {
         }
     }
 
-    /// Gives a capability a value, or takes away what it has; a cancelled value is absent. A refused
-    /// change leaves the image.
+    /// Gives a capability a value, or takes away what it has; a cancelled value is absent. A
+    /// refused change leaves the image as it was.
     pub(crate) fn set_value(&mut self, cap: Cap, value: Option<&Value>) -> Result<(), WriteError>
         requires agrees { AgreesIfSome cap (option_map (λ v. content_of v.now) value) }
         ensures { SetsContent self.old self.new cap (without_cancel (content_lent value.entry)) result }
@@ -180,10 +181,11 @@ impl Image {
     }
 
     /// Gives a capability a value, or takes away what it has; a cancelled value is absent. The part
-    /// behind the place is moved, and the rest stays as it was. A refused change leaves the image.
+    /// after the place is moved, and the rest is not touched. A refused change leaves the image as
+    /// it was.
     ///
     /// # Errors
-    /// [`WriteError::TooLarge`] exactly where [`write`] of the names and the new values answers it,
+    /// [`WriteError::TooLarge`] exactly if [`write`] of the names and the new values answers it,
     /// and [`WriteError::Memory`]; never [`WriteError::NamesTooLong`].
     pub fn set(&mut self, cap: Cap, value: Option<Value>) -> Result<(), WriteError>
         requires agrees { AgreesIfSome cap (option_map content_of value) }

@@ -1,11 +1,13 @@
 //! Compiled terminfo entries that are changed in place.
 //!
-//! - `image`: an entry's bytes, one capability of which is given another value without writing the rest anew; `flags`,
-//!   `numbers` and `texts` change one of a kind, and `patching` all that changes
+//! - `image`: an entry's bytes, of which one capability is given another value without writing the
+//!   rest anew; `flags`, `numbers` and `texts` change one of a kind, and `patching` all that
+//!   changes
 //! - `header`: the header's six numbers in the bytes
 //! - `bytes`: a part of bytes overwritten, made longer or shorter
 //!
-//! The crate `ti_layout` below it has values, the layout, the writer and the reader, whose calls are public here too.
+//! The crate `ti_layout` has values, the layout, the writer and the reader. Their calls are public
+//! here too.
 #![tactic(auto)]
 
 mod bytes;
@@ -18,6 +20,6 @@ mod texts;
 
 pub use image::Image;
 pub use ti_layout::{
-    Format, HEADER_SIZE, Header, Mentions, ReadError, Table, Value, View, WriteError,
-    format_wanted, images_are_of_values, images_are_read, number, one_reading, word, write,
+    Mentions, ReadError, Table, Value, View, WriteError, images_are_of_values, images_are_read,
+    one_reading, write,
 };

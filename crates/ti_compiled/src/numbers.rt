@@ -1,5 +1,7 @@
-// A number of an image given, replaced or taken away. The section's numbers, 39 at most, are
-// read and spelled again, wider or narrower where the format changes.
+//! A number of an image is given, replaced or taken away.
+//!
+//! The section's numbers, 39 at most, are read and spelled again, wider or narrower if the format
+//! changes.
 ghost use Rattle.std.specs.Prelude.{◌≡◌, ◌≢◌, ℕ, suc, ◌+◌, ◌*◌, ◌%◌, ◌<◌, ◌≤◌, List, length, take, slice_index, vec_len, vec_capacity, Option, IfSome, ◌↔◌, IsErrOf, OnOk, OnErr};
 ghost use Rattle.ti_text.specs.Limits.{number_max};
 ghost use Rattle.ti_caps.specs.Tables.{capability, count_of};
@@ -16,13 +18,11 @@ ghost use Rattle.ti_compiled.specs.inside.Bytes.{Replaces};
 use crate::bytes::{overwrite, resize_part};
 use crate::header::{header_of, make_room, write_header};
 use byteorder::{ByteOrder, LittleEndian};
+use ti_caps::NUMBER_COUNT;
 use ti_layout::{Format, HEADER_SIZE, Header, WriteError, number};
 use ti_text::limits::LEGACY_NUMBER_MAX;
 
-// How many numbers there are.
-const NUMBERS: usize = 39;
-
-// What stands for a number that is absent, of either format.
+// The number that means absent, in either format.
 const ABSENT: u32 = u32::MAX;
 
 // Where the numbers begin.
@@ -34,13 +34,13 @@ fn numbers_place(header: &Header) -> usize
     HEADER_SIZE + header.names + header.flags + (header.names + header.flags) % 2
 }
 
-// The numbers of an image, each with what stands for it.
-fn read_numbers(bytes: &[u8], header: &Header) -> [u32; NUMBERS]
+// The numbers of an image, each as it is written.
+fn read_numbers(bytes: &[u8], header: &Header) -> [u32; NUMBER_COUNT]
     requires image { IsImage bytes.now }
     requires sizes { HasSizes (names_in bytes.now) (contents_in bytes.now) header.now }
     ensures { result ≡ below (wide_value (contents_in bytes.now)) (count_of Number) }
 {
-    let mut values = [ABSENT; NUMBERS];
+    let mut values = [ABSENT; NUMBER_COUNT];
     let place = numbers_place(header);
     let width = header.format.width();
     for at in 0..header.numbers {
@@ -52,7 +52,7 @@ fn read_numbers(bytes: &[u8], header: &Header) -> [u32; NUMBERS]
     values
 }
 
-// The format that numbers want.
+// The format that the numbers need.
 fn format_for(values: &[u32]) -> Format
     ensures { (c : Contents) → values.now ≡ below (wide_value c) (count_of Number) → HasNumbers c → result ≡ format_of c }
 {
@@ -64,7 +64,7 @@ fn format_for(values: &[u32]) -> Format
     Format::Legacy
 }
 
-// One more than the last number that is there, and 0 where none is.
+// One more than the last number that is there, 0 if none is.
 fn last_number(values: &[u32]) -> usize
     ensures within { result ≤ length values.now }
     ensures last { (j : ℕ) → suc j ≡ result → slice_index values.now j ≢ layout.absent_mark Format.Extended }
@@ -77,7 +77,7 @@ fn last_number(values: &[u32]) -> usize
     end
 }
 
-// Writes a number, of which what does not fit is dropped.
+// Writes a number; what does not fit is dropped.
 fn put_number(bytes: &mut Vec<u8>, at: usize, format: Format, number: u32)
     requires within { at + layout.width format ≤ vec_len bytes.old }
     ensures part { Replaces bytes.old.items bytes.new.items at (layout.width format) (λ _. number_bytes format number) }
@@ -88,7 +88,7 @@ fn put_number(bytes: &mut Vec<u8>, at: usize, format: Format, number: u32)
     overwrite(bytes, at, &spelled[..format.width()]);
 }
 
-// Writes as many of the numbers one after the other.
+// Writes a number of numbers one after the other.
 fn put_numbers(bytes: &mut Vec<u8>, place: usize, format: Format, values: &[u32], count: usize)
     requires count { count ≤ length values.now }
     requires few { count ≤ count_of Number }
@@ -103,7 +103,12 @@ fn put_numbers(bytes: &mut Vec<u8>, place: usize, format: Format, values: &[u32]
 }
 
 // The numbers of the image when one is given or taken away.
-fn numbers_with(bytes: &[u8], old: &Header, index: usize, number: Option<u32>) -> [u32; NUMBERS]
+fn numbers_with(
+    bytes: &[u8],
+    old: &Header,
+    index: usize,
+    number: Option<u32>,
+) -> [u32; NUMBER_COUNT]
     requires image { IsImage bytes.now }
     requires old { HasSizes (names_in bytes.now) (contents_in bytes.now) old.now }
     requires index { index < count_of Number }
@@ -131,7 +136,7 @@ fn sizes_with_numbers(old: &Header, values: &[u32]) -> Header
     }
 }
 
-// Gives the image these numbers, where the sizes are known and there is room.
+// Gives the image these numbers. The sizes are known and there is room.
 fn change_numbers(bytes: &mut Vec<u8>, old: &Header, new: &Header, values: &[u32])
     requires image { IsImage bytes.old.items }
     requires old { HasSizes (names_in bytes.old.items) (contents_in bytes.old.items) old.now }
@@ -152,7 +157,7 @@ fn change_numbers(bytes: &mut Vec<u8>, old: &Header, new: &Header, values: &[u32
     write_header(bytes, new);
 }
 
-/// Gives a number or takes it away. A refused change leaves the image.
+/// Gives a number or takes it away. A refused change leaves the image as it was.
 ///
 /// # Errors
 /// `TooLarge` for an image over its limit, then `Memory`.

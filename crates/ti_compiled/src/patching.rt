@@ -1,6 +1,8 @@
-// An image given the values of another table: first each value that changes is taken away, then each
-// new one is given. So each image on the way holds some of the old values, or some of the new ones, and
-// none is over the limit, where that is the same for all of them.
+//! An image is given the values of another table.
+//!
+//! First each value that changes is taken away, then each new one is given. So each image on the way
+//! holds some of the old values, or some of the new ones, and none is over the limit, if that is the
+//! same for all of them.
 ghost use Rattle.std.specs.Prelude.{◌≡◌, ◌≢◌, ◌↔◌, Some, option_map, IfSome, IsTrue};
 ghost use Rattle.ti_caps.specs.Tables.{Capability, IsCapability};
 ghost use Rattle.ti_layout.specs.declared.layout.Format.TheVariants.{Extended};
@@ -61,8 +63,8 @@ fn take_away_changed(image: &mut Image, entry: &(Cap, Value), new: &Table) -> Op
     Some(())
 }
 
-// Takes the old values away that the new table does not give: the last one first, so that what each
-// moves, which is what stands behind it, is only what stays.
+// Takes away the old values that the new table does not give. The last one goes first, so that each
+// removal moves only what remains.
 fn take_all_changed_away(image: &mut Image, old: &[(Cap, Value)], new: &Table) -> Option<()>
     requires kept { IsKept (entries_of old.now) }
     requires held { (c : Capability) → IsCapability c → held_by image.old c ≡ without_cancel (contents (entries_of old.now) c) }
@@ -114,16 +116,16 @@ fn has_wide_number(table: &Table) -> bool
     matches!(format_wanted(table.entries()), Format::Extended)
 }
 
-// A copy of an image, where there is memory for it.
+// A copy of an image, if there is memory for it.
 fn copy_of(image: &Image) -> Option<Image>
     ensures { IfSome result (λ i. i ≡ image.now) }
 {
     image.copy().ok()
 }
 
-/// A copy of an image that holds the values of one table, which holds those of another. `None` where
-/// a number of the old or of the new values is over 32,767, since the limit is another there, where
-/// the new entry would be over the limit, and where there is no memory.
+/// A copy of an image that holds the values of one table; the copy holds those of another. `None`
+/// if a number of the old or of the new values is over 32,767, since there the limit is another, if
+/// the new entry would be over the limit, and if there is no memory.
 pub fn changed_copy(image: &Image, old: &Table, new: &Table) -> Option<Image>
     requires held { (c : Capability) → IsCapability c → held_by image.now c ≡ without_cancel (contents old.now c) }
     ensures narrow { IfSome result (λ _. (format_of (contents old.now) ≢ Extended) × (format_of (contents new.now) ≢ Extended)) }

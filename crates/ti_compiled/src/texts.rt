@@ -1,5 +1,7 @@
-// A text of an image given, replaced or taken away: the string table holds the texts one after the
-// other, and an offset for each text up to the last that is there leads into it.
+//! A string of an image is given, replaced or taken away.
+//!
+//! The string table holds the strings one after the other, and an offset for each string up to the
+//! last that is there leads into it.
 ghost use Rattle.std.specs.Prelude.{◌≡◌, ◌≢◌, ℕ, suc, ◌+◌, ◌-◌, ◌*◌, ◌%◌, ◌<◌, ◌≤◌, List, ◌++◌, length, vec_len, vec_capacity, Option, option_map, ◌↔◌, IsErrOf, OnOk, OnErr};
 ghost use Rattle.ti_text.specs.Limits.{two_byte_count};
 ghost use Rattle.ti_caps.specs.Tables.{capability, count_of};
@@ -18,7 +20,7 @@ use crate::bytes::{overwrite, resize_part};
 use crate::header::{header_of, make_room, word_bytes, write_header};
 use ti_layout::{Format, HEADER_SIZE, Header, WriteError, word};
 
-// The offset that an absent text has.
+// The offset that an absent string has.
 const ABSENT: usize = 0xffff;
 
 // Where the offsets begin.
@@ -33,8 +35,8 @@ fn offsets_place(header: &Header) -> usize
     HEADER_SIZE + header.names + header.flags + gap + header.format.width() * header.numbers
 }
 
-// Where the text of an index begins in the string table, or would begin: the first offset from it
-// on that is there, and else the end of the table.
+// Where the string of an index begins in the string table, or would begin: the first offset from it
+// on that is there, else the end of the table.
 fn start_of(bytes: &[u8], header: &Header, index: usize) -> usize
     requires image { IsImage bytes.now }
     requires sizes { HasSizes (names_in bytes.now) (contents_in bytes.now) header.now }
@@ -51,7 +53,7 @@ fn start_of(bytes: &[u8], header: &Header, index: usize) -> usize
     header.strings
 }
 
-// One more than the last offset of a text that is there among the first ones, and 0 where none is.
+// One more than the last of the first offsets whose string is there, 0 if none is.
 fn last_there(bytes: &[u8], place: usize, count: usize) -> usize
     requires { place + 2 * count ≤ length bytes.now }
     ensures within { result ≤ count }
@@ -65,7 +67,7 @@ fn last_there(bytes: &[u8], place: usize, count: usize) -> usize
     end
 }
 
-// Puts a text with its NUL, or nothing, in the place of another.
+// Puts a string with its NUL, or nothing, in the place of another.
 fn replace_text(bytes: &mut Vec<u8>, at: usize, size: usize, text: Option<&[u8]>)
     requires within { at + size ≤ vec_len bytes.old }
     requires room { vec_len bytes.old + length (ended_text (option_map (λ t. t.now) text)) ≤ vec_capacity bytes.old + size }
@@ -83,7 +85,7 @@ fn replace_text(bytes: &mut Vec<u8>, at: usize, size: usize, text: Option<&[u8]>
     }
 }
 
-// Moves the offsets from an index on, where a text before them takes other bytes.
+// Moves the offsets from an index on, if a string before them takes other bytes.
 fn move_later(
     bytes: &mut Vec<u8>,
     place: usize,
@@ -108,7 +110,7 @@ fn move_later(
     }
 }
 
-// How many bytes a text takes in the table.
+// How many bytes a string takes in the table.
 fn piece_len(text: Option<&[u8]>) -> usize
     requires { length (ended_text (option_map (λ t. t.now) text)) ≤ two_byte_count }
     ensures { result ≡ length (ended_text (option_map (λ t. t.now) text.entry)) }
@@ -119,7 +121,7 @@ fn piece_len(text: Option<&[u8]>) -> usize
     }
 }
 
-// The sizes of the image when the text is given or taken away.
+// The sizes of the image when the string is given or taken away.
 fn sizes_with_text(bytes: &[u8], old: &Header, index: usize, text: Option<&[u8]>) -> Header
     requires image { IsImage bytes.now }
     requires old { HasSizes (names_in bytes.now) (contents_in bytes.now) old.now }
@@ -147,7 +149,7 @@ fn sizes_with_text(bytes: &[u8], old: &Header, index: usize, text: Option<&[u8]>
     }
 }
 
-// Gives the text an offset, where it is among those that are written.
+// Gives the string an offset, if it is among those that are written.
 fn put_offset(bytes: &mut Vec<u8>, place: usize, count: usize, index: usize, offset: usize)
     requires within { place + 2 * count ≤ vec_len bytes.old }
     ensures put { (p r : List ℕ) (f g : ℕ → ℕ) → bytes.old.items ≡ p ++ (number_section Format.Legacy (below f count) ++ r)
@@ -160,7 +162,7 @@ fn put_offset(bytes: &mut Vec<u8>, place: usize, count: usize, index: usize, off
     }
 }
 
-// Gives the text or takes it away, where the sizes are known and there is room.
+// Gives the string or takes it away. The sizes are known and there is room.
 fn change_text(bytes: &mut Vec<u8>, old: &Header, new: &Header, index: usize, text: Option<&[u8]>)
     requires image { IsImage bytes.old.items }
     requires index { index < count_of Text }
@@ -185,7 +187,7 @@ fn change_text(bytes: &mut Vec<u8>, old: &Header, new: &Header, index: usize, te
     write_header(bytes, new);
 }
 
-/// Gives a text or takes it away. A refused change leaves the image.
+/// Gives a string or takes it away. A refused change leaves the image as it was.
 ///
 /// # Errors
 /// `TooLarge` for an image over its limit, then `Memory`.

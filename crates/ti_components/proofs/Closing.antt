@@ -7,7 +7,8 @@ use Rattle.ti_text.specs.Lists.{Has}
 use Rattle.ti_components.specs.inside.Search.{IsPath, AreGroups, IsOrderSoFar, IsWalk, IsMarked}
 use Rattle.ti_components.specs.declared.search.Progress.{Progress}
 use Rattle.ti_components.specs.declared.search.Progress.TheVariants.{Unseen, OnPath, Closed}
-use Rattle.ti_components.proofs.Lists.{get_front, get_back, get_cases, get-take, take_get, get-drop, drop_get, Rises_take, rising_last, but_last, take_last_lacks, item_at}
+use Rattle.ti_text.proofs.Lists.{get_front, get_back, get_cases, get-take, take_get, get-drop, drop_get, item_at}
+use Rattle.ti_components.proofs.Rising.{Rises_take, rising_last, but_last, take_last_lacks}
 use Rattle.ti_components.proofs.Leading.{leads_on}
 use Rattle.ti_components.proofs.Walking.{unseen_on_path, unseen_closed, on_path_closed, same_place, same_number}
 

@@ -10,7 +10,7 @@ use Rattle.ti_components.specs.inside.Search.{AreGroups, AreClosedNumbers, IsSea
 use Rattle.ti_components.specs.declared.search.Progress.{Progress}
 use Rattle.ti_components.specs.declared.search.Progress.TheVariants.{Unseen, OnPath, Closed}
 use Rattle.ti_components.specs.declared.search.Search.{Search}
-use Rattle.ti_components.proofs.Lists.{get_front, get_last, push_cases, item_at}
+use Rattle.ti_text.proofs.Lists.{get_front, get_last, push_cases, item_at}
 use Rattle.ti_components.proofs.Walking.{same_number}
 use Rattle.ti_components.proofs.Searching.{no_path}
 

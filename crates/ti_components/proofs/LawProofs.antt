@@ -5,7 +5,7 @@ use Rattle.ti_components.specs.Graph.{Rows, IsGraph}
 use Rattle.ti_components.specs.Leading.{IsWay}
 use Rattle.ti_components.specs.Components.{AreComponents}
 use Rattle.ti_components.specs.Laws.{CyclesShareANumber, NumbersFall, ComponentsAreDetermined, WalksJoin}
-use Rattle.ti_components.proofs.Lists.{item_at}
+use Rattle.ti_text.proofs.Lists.{item_at}
 use Rattle.ti_components.proofs.Leading.{leads_edge, leads_on}
 
 pub shared_numbers : CyclesShareANumber

@@ -1,5 +1,5 @@
 pub mod Rows
-pub mod Lists
+pub mod Rising
 pub mod Leading
 pub mod Walking
 pub mod Closing

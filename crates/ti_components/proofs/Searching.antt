@@ -5,12 +5,13 @@ use Rattle.std.proofs.lemmas.List.{take_more}
 use Rattle.std.proofs.lemmas.Option.{same_Some, none-some, slice_get_within, slice_get-get_or, slice_get_read}
 use Rattle.ti_components.specs.Graph.{Rows}
 use Rattle.ti_components.specs.Leading.{Leads}
-use Rattle.ti_text.specs.Lists.{Has}
-use Rattle.ti_components.specs.inside.Search.{AreNodes, ClosesPath, Enters, Follows, IsCutOffAt, IsFresh, IsIdle, IsMarked, IsSearched, IsTop, IsWalkOf, KeepsMet, Leaves, Rises, Steps, WalksFrom, edges_left}
+use Rattle.ti_text.specs.Lists.{Has, AreBelow}
+use Rattle.ti_components.specs.inside.Search.{ClosesPath, Enters, Follows, IsCutOffAt, IsFresh, IsIdle, IsMarked, IsSearched, IsTop, IsWalkOf, KeepsMet, Leaves, Rises, Steps, WalksFrom, edges_left}
 use Rattle.ti_components.specs.declared.search.Progress.{Progress}
 use Rattle.ti_components.specs.declared.search.Progress.TheVariants.{Unseen, OnPath, Closed}
 use Rattle.ti_components.specs.declared.search.Search.{Search}
-use Rattle.ti_components.proofs.Lists.{get_front, get_last, get-take, take_get, get-set_same, get-set_other, Has_push, Has_front, Has_last, Rises_take, rising_last, item_at}
+use Rattle.ti_text.proofs.Lists.{get_front, get_last, get-take, take_get, get-set_same, get-set_other, Has_push, Has_front, Has_last, item_at}
+use Rattle.ti_components.proofs.Rising.{Rises_take, rising_last}
 use Rattle.ti_components.proofs.Leading.{leads_on, leads_edge}
 use Rattle.ti_components.proofs.Walking.{unseen_on_path, unseen_closed, walk_pushed, path_cut, path_advanced, path_left, no_start}
 use Rattle.ti_components.proofs.Closing.{IsDone, walk_closed}
@@ -64,7 +65,7 @@ marks_none p number = record {
   kept = λ v none. refl;
 }
 
-pub marks_more : (old p : List Progress) (nodes : List ℕ) (i number : ℕ) → IsMarked old p (take i nodes) number → i < length nodes → AreNodes nodes (length old) → IsMarked old (set p (get_or nodes i 0) (Closed number)) (take (i + 1) nodes) number
+pub marks_more : (old p : List Progress) (nodes : List ℕ) (i number : ℕ) → IsMarked old p (take i nodes) number → i < length nodes → AreBelow nodes (length old) → IsMarked old (set p (get_or nodes i 0) (Closed number)) (take (i + 1) nodes) number
 marks_more old p nodes i number h l known =
     let node = get_or nodes i 0 in
     let within : node < length p = (let k = known i node (slice_get-get_or nodes i 0 l) in omega (arith, h.as_many)) in

@@ -8,7 +8,8 @@ use Rattle.ti_text.specs.Lists.{Has}
 use Rattle.ti_components.specs.inside.Search.{Rises, IsExplored, IsPath, AreGroups, IsOrderSoFar, IsWalk, IsCutOffAt}
 use Rattle.ti_components.specs.declared.search.Progress.{Progress}
 use Rattle.ti_components.specs.declared.search.Progress.TheVariants.{Unseen, OnPath, Closed}
-use Rattle.ti_components.proofs.Lists.{get_front, get_last, push_cases, get-set_same, get-set_other, Has_front, Has_last, Has_push, Rises_push, Rises_take, rising_last, but_last, take_last_lacks}
+use Rattle.ti_text.proofs.Lists.{get_front, get_last, push_cases, get-set_same, get-set_other, Has_front, Has_last, Has_push}
+use Rattle.ti_components.proofs.Rising.{Rises_push, Rises_take, rising_last, but_last, take_last_lacks}
 use Rattle.ti_components.proofs.Leading.{leads_here, leads_edge, leads_on}
 
 -- ---- how far the search has come with a node is one thing

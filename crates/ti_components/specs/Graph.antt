@@ -1,5 +1,5 @@
--- Directed graphs: a row for each node, with the number of the node that each of its edges leads to, or nothing where an
--- edge leads nowhere.
+-- Directed graphs: a row for each node, with the number of the node that each of its edges leads to,
+-- or nothing if an edge leads nowhere.
 use Rattle.std.specs.Prelude.{ℕ, ◌≡◌, ◌<◌, ◌≤◌, ◌-◌, ◌++◌, List, [], ◌∷◌, length, take, drop, Option, Some, slice_get}
 
 -- a graph, by its rows
@@ -17,7 +17,7 @@ pub record HasEdge (graph : Rows) (from to : ℕ) : Type 0 where
 abbrev pub IsGraph : Rows → Type 0
 IsGraph graph = (from to : ℕ) → HasEdge graph from to → to < length graph
 
--- one more edge stands in the last row
+-- one more edge is in the last row
 abbrev pub AddsEdge : Rows → Rows → Option ℕ → Type 0
 AddsEdge old new target = (before : Rows) (row : List (Option ℕ)) → old ≡ before ++ row ∷ [] → new ≡ before ++ (row ++ target ∷ []) ∷ []
 

@@ -4,7 +4,7 @@ use Rattle.ti_components.specs.Graph.{Rows, HasEdge, IsGraph}
 use Rattle.ti_components.specs.Leading.{Leads}
 use Rattle.ti_components.specs.Components.{AreComponents}
 
--- the ends of an edge have one number exactly where it lies on a cycle: where its end leads back
+-- the ends of an edge have one number exactly if it is on a cycle: its end leads back
 abbrev pub CyclesShareANumber : Type 0
 CyclesShareANumber =
     (graph : Rows) (component_of : List ℕ) (u w c d : ℕ) → AreComponents graph component_of

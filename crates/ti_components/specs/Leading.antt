@@ -1,4 +1,5 @@
--- Reachability in a directed graph: a node leads to each node at the end of a walk along edges, so to itself too.
+-- Reachability in a directed graph: a node leads to each node at the end of a walk along edges, so
+-- to itself too.
 use Rattle.std.specs.Prelude.{ℕ, ◌≡◌, List, [], ◌∷◌}
 use Rattle.ti_components.specs.Graph.{Rows, HasEdge}
 

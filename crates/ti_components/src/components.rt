@@ -1,4 +1,4 @@
-// The strongly connected components of a graph.
+//! The strongly connected components of a graph.
 ghost use Rattle.std.specs.Prelude.{ℕ, ◌<◌, length, IfOk};
 ghost use Rattle.ti_components.specs.Graph.{IsGraph};
 ghost use Rattle.ti_components.specs.Components.{AreComponents, IsClosingOrder};
@@ -9,22 +9,22 @@ use crate::search::{Progress, Search, search_graph};
 use std::alloc::{AllocError, Global};
 
 /// The strongly connected components of a directed graph: two nodes are in one component exactly
-/// where each leads to the other.
+/// if each leads to the other.
 #[derive(Drop)]
 pub struct Components {
     /// The number of each node's component. Along an edge no number rises.
     pub component_of: Vec<usize>,
-    /// All nodes, each behind those that its edges lead to, but for nodes of its own component. A
-    /// component's nodes stand together, and its number is the place of the first.
+    /// All nodes, each after those that its edges lead to, but for nodes of its own component. A
+    /// component's nodes are next to each other, and its number is the place of the first.
     pub order: Vec<usize>,
 }
 
 impl Components {
-    /// The components of a graph, by the path search of Purdom and Munro (1970) and Gabow (2000), in
-    /// time linear in its nodes and edges. Each edge leads to a node or nowhere.
+    /// The components of a graph, by the path search of Purdom and Munro (1970) and Gabow (2000),
+    /// in time linear in its nodes and edges. Each edge leads to a node or nowhere.
     ///
     /// # Errors
-    /// Want of memory.
+    /// Out of memory.
     pub fn find(alloc: Global, graph: &Graph) -> Result<Components, AllocError>
         requires { IsGraph graph.now }
         ensures components { IfOk result (λ c. AreComponents graph.now c.component_of.items) }
@@ -46,7 +46,7 @@ impl Components {
     }
 }
 
-/// The numbers of closed components.
+// The numbers of closed components.
 fn numbers(alloc: Global, progress: &[Progress]) -> Result<Vec<usize>, AllocError>
     requires { (v : ℕ) → v < length progress.now → IsClosed progress.now v }
     ensures { IfOk result (λ numbers. AreClosedNumbers progress.now numbers.items) }

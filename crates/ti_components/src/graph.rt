@@ -1,4 +1,4 @@
-// A directed graph in two lists: the ends of all edges, and where the edges of each node begin.
+//! A directed graph in two lists: the ends of all edges, and where the edges of each node begin.
 ghost use Rattle.std.specs.Prelude.{◌≡◌, ◌<◌, ◌↔◌, ◌++◌, ◌∷◌, [], ℕ, Some, slice_get, sum_by, length, IsTrue, OnOk, OnErr, IfOk};
 ghost use Rattle.ti_components.specs.inside.Graph.{IsRow};
 ghost use Rattle.ti_components.specs.Graph.{AddsEdge, AreStarts, IsGraph};
@@ -26,10 +26,10 @@ impl Model for Graph {
 }
 
 impl Graph {
-    /// A graph without nodes, with room for so many nodes and edges in all.
+    /// A graph without nodes, with room for these numbers of nodes and edges.
     ///
     /// # Errors
-    /// Want of memory.
+    /// Out of memory.
     pub fn with_capacity(alloc: Global, nodes: usize, edges: usize) -> Result<Graph, AllocError>
         ensures { IfOk result (λ graph. graph ≡ []) }
     {
@@ -55,7 +55,10 @@ impl Graph {
         self.targets.len() - self.starts[0]
     }
 
-    /// Adds a node without edges, the last of all. Where memory is short the graph stays.
+    /// Adds a node without edges, the last of all.
+    ///
+    /// # Errors
+    /// Out of memory; then the graph stays.
     pub fn add_node(&mut self) -> Result<(), AllocError>
         ensures ok { OnOk result (self.new ≡ self.old ++ [] ∷ []) }
         ensures err { OnErr result (self.new ≡ self.old) }
@@ -64,7 +67,10 @@ impl Graph {
         Ok(())
     }
 
-    /// Adds an edge to the last node's row, behind the others. Where memory is short the graph stays.
+    /// Adds an edge to the last node's row, after the others.
+    ///
+    /// # Errors
+    /// Out of memory; then the graph stays.
     pub fn add_edge(&mut self, target: Option<usize>) -> Result<(), AllocError>
         requires { 0 < length self.old }
         ensures ok { OnOk result (AddsEdge self.old self.new target) }
@@ -97,7 +103,7 @@ impl Graph {
     }
 }
 
-/// Whether the edges of a row lead to nodes below a number, or nowhere.
+// Whether the edges of a row lead to nodes below a number, or nowhere.
 fn is_row_below(row: &[Option<usize>], nodes: usize) -> bool
     ensures { IsTrue result ↔ ((k : ℕ) (to : ℕ) → slice_get row.now k ≡ Some (Some to) → to < nodes) }
 {
@@ -111,7 +117,7 @@ fn is_row_below(row: &[Option<usize>], nodes: usize) -> bool
     true
 }
 
-/// Where the row of a node starts and ends among all edges.
+// Where the row of a node starts and ends among all edges.
 fn row_bounds(targets: &[Option<usize>], starts: &[usize], node: usize) -> (usize, usize)
     requires starts { AreStarts targets.now starts.now }
     requires within { node < length starts.now }

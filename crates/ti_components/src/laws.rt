@@ -1,7 +1,7 @@
-// Laws of components, for what stands on their numbers. They compute nothing.
+// Laws of components, for the crates above. They compute nothing.
 ghost use Rattle.ti_components.specs.Laws.{ComponentsAreDetermined, NumbersFall, CyclesShareANumber, WalksJoin};
 
-/// The ends of an edge are in one component exactly where the edge lies on a cycle.
+/// The ends of an edge are in one component exactly if the edge is on a cycle.
 pub fn cycles_share_a_number()
     ensures { CyclesShareANumber }
 {}

@@ -1,8 +1,9 @@
-// The path search of Purdom and Munro, as Gabow simplified it: depth first, with a cursor for each
-// node, and with the nodes of open components on one path.
+//! The path search of Purdom and Munro, as Gabow simplified it: depth first, with a cursor for each
+//! node, and with the nodes of open components on one path.
 ghost use Rattle.std.specs.Prelude.{◌≡◌, ◌<◌, ◌≤◌, ℕ, Some, slice_get, vec_len, OnOk, IfOk};
 ghost use Rattle.ti_components.specs.Graph.{IsGraph};
-ghost use Rattle.ti_components.specs.inside.Search.{AreNodes, ClosesPath, Enters, Follows, IsCutOffAt, IsFresh, IsIdle, IsMarked, IsSearched, IsWalkOf, Leaves, Rises, Steps, WalksFrom};
+ghost use Rattle.ti_components.specs.inside.Search.{ClosesPath, Enters, Follows, IsCutOffAt, IsFresh, IsIdle, IsMarked, IsSearched, IsWalkOf, Leaves, Rises, Steps, WalksFrom};
+ghost use Rattle.ti_text.specs.Lists.{AreBelow};
 ghost use Rattle.ti_components.specs.declared.search.Progress.TheVariants.{Unseen};
 
 use crate::graph::Graph;
@@ -13,7 +14,7 @@ use std::alloc::{AllocError, Global};
 pub(crate) enum Progress {
     /// It was not met.
     Unseen,
-    /// It stands at this place of the path, in a component that is still open.
+    /// It is at this place of the path, in a component that is still open.
     OnPath(usize),
     /// Its component was closed and has this number.
     Closed(usize),
@@ -37,7 +38,7 @@ pub(crate) struct Search {
 }
 
 impl Search {
-    /// A search that has met no node.
+    // A search that has met no node.
     fn new(alloc: Global, nodes: usize) -> Result<Search, AllocError>
         ensures { IfOk result (λ search. IsFresh search nodes) }
     {
@@ -57,7 +58,7 @@ impl Search {
         })
     }
 
-    /// Puts a node at the end of the path, as the start of a component of its own.
+    // Puts a node at the end of the path, as the start of a component of its own.
     fn enter(&mut self, node: usize) -> Result<(), AllocError>
         requires { node < vec_len self.old.progress }
         ensures { OnOk result (Enters self.old self.new node) }
@@ -70,8 +71,8 @@ impl Search {
         Ok(())
     }
 
-    /// Follows an edge: a node that was not met is put on the path, and where the edge leads back on
-    /// the path no component starts behind that node.
+    /// Follows an edge: a node that was not met is put on the path, and if the edge leads back on the
+    /// path no component starts after that node.
     fn follow(&mut self, edge: Option<usize>) -> Result<(), AllocError>
         requires within { (target : ℕ) → edge ≡ Some target → target < vec_len self.old.progress }
         requires rises { Rises self.old.starts.items }
@@ -88,10 +89,10 @@ impl Search {
         Ok(())
     }
 
-    /// Closes the component of the nodes that stand on the path from a place on.
+    /// Closes the component of the nodes that are on the path from a place on.
     fn close(&mut self, start: usize) -> Result<(), AllocError>
         requires within { start ≤ vec_len self.old.path }
-        requires nodes { AreNodes self.old.path.items (vec_len self.old.progress) }
+        requires nodes { AreBelow self.old.path.items (vec_len self.old.progress) }
         ensures { OnOk result (ClosesPath self.old self.new start) }
     {
         let number = self.order.len();
@@ -102,13 +103,13 @@ impl Search {
         Ok(())
     }
 
-    /// Leaves the last active place, of which no edge is left, and closes the component that starts
-    /// there, if one does.
+    // Leaves the last active place, of which no edge is left, and closes the component that starts
+    // there, if one does.
     fn leave(&mut self) -> Result<(), AllocError>
         requires active { 0 < vec_len self.old.active }
         requires starts { 0 < vec_len self.old.starts }
         requires within { (k : ℕ) (place : ℕ) → slice_get self.old.active.items k ≡ Some place → place < vec_len self.old.path }
-        requires nodes { AreNodes self.old.path.items (vec_len self.old.progress) }
+        requires nodes { AreBelow self.old.path.items (vec_len self.old.progress) }
         ensures { OnOk result (Leaves self.old self.new) }
     {
         let top = self.active.len() - 1;
@@ -122,7 +123,7 @@ impl Search {
         Ok(())
     }
 
-    /// Follows one more edge of the node at the last active place, or leaves that place.
+    // Follows one more edge of the node at the last active place, or leaves that place.
     fn step(&mut self, graph: &Graph) -> Result<(), AllocError>
         requires graph { IsGraph graph.now }
         requires walk { IsWalkOf graph.now self.old }
@@ -142,7 +143,7 @@ impl Search {
         Ok(())
     }
 
-    /// Closes the component of a node that was not met, and before it those that it leads to.
+    // Closes the component of a node that was not met, and before it those that it leads to.
     fn walk(&mut self, graph: &Graph, root: usize) -> Result<(), AllocError>
         requires graph { IsGraph graph.now }
         requires idle { IsIdle graph.now self.old }
@@ -157,7 +158,7 @@ impl Search {
     }
 }
 
-/// Takes the starts above a place off.
+// Takes the starts above a place off.
 fn cut_above(starts: &mut Vec<usize>, place: usize)
     requires { Rises starts.old.items }
     ensures { IsCutOffAt starts.old.items starts.new.items place }
@@ -169,9 +170,9 @@ fn cut_above(starts: &mut Vec<usize>, place: usize)
     starts.truncate(count);
 }
 
-/// Closes nodes under a number.
+// Closes nodes under a number.
 fn mark_closed(progress: &mut Vec<Progress>, nodes: &[usize], number: usize)
-    requires { AreNodes nodes.now (vec_len progress.old) }
+    requires { AreBelow nodes.now (vec_len progress.old) }
     ensures { IsMarked progress.old.items progress.new.items nodes.now number }
 {
     for node in nodes {

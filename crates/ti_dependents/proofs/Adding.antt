@@ -1,15 +1,14 @@
--- Ids that a search adds behind others.
+-- Ids that a search adds after others.
 use Rattle.std.proofs.Common.{◌≡◌, ℕ, ◌⊎◌, inl, inr, ◌≤◌, cond, List, [], ◌∷◌, ◌++◌, length, take, nat_eq, refl, sym, ◌∙◌, ap, subst, append_assoc, append-nil}
 use Rattle.std.specs.List.{list_any}
 use Rattle.std.proofs.lemmas.Bool.{cases_Bool}
 use Rattle.std.proofs.lemmas.List.{take_all}
 use Rattle.ti_text.specs.Lists.{Has}
 use Rattle.ti_index.specs.Names.{users_at}
-use Rattle.ti_index.proofs.Lists.{get_front, push_cases, get_last}
+use Rattle.ti_text.proofs.Lists.{get_front, push_cases, get_last, Has_front, Has_last, Has_split, Has_one, Has_none, Has_from_any}
 use Rattle.ti_slots.specs.declared.slots.Slots.{Slots}
 use Rattle.ti_slots.specs.Slots.{reading_at, IsOwnerId}
 use Rattle.ti_dependents.specs.inside.Search.{AddsPassing, IsUserOf, IsUserOfOne, IsUserOfOwned, IsPutOrUser}
-use Rattle.ti_dependents.proofs.Lists.{Has_front, Has_last, Has_split, Has_one, Has_none, Has_from_any}
 
 pub adds_none : (A : ℕ → Type 0) (xs : List ℕ) → ((id : ℕ) → A id → ⊥) → AddsPassing A xs xs
 adds_none A xs none = record {

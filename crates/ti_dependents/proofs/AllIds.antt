@@ -1,14 +1,13 @@
--- All ids of a list, none of which stands twice.
+-- All ids of a list, none of which is there twice.
 use Rattle.std.proofs.Common.{◌≡◌, ℕ, ◌+◌, ◌<◌, inl, inr, false, cond, List, [], ◌∷◌, ◌++◌, length, take, get_or, nat_eq, Some, slice_get, sym, ◌∙◌, ap, arith}
 use Rattle.std.specs.List.{list_any}
 use Rattle.std.proofs.lemmas.Bool.{cases_Bool}
 use Rattle.std.proofs.lemmas.List.{take_more}
 use Rattle.std.proofs.lemmas.Option.{slice_get-get_or}
-use Rattle.ti_index.specs.Labels.{AreDistinct}
-use Rattle.ti_index.proofs.Lists.{take_get}
-use Rattle.ti_dependents.proofs.Lists.{Has_from_any}
+use Rattle.ti_text.specs.Lists.{AreDistinct}
+use Rattle.ti_text.proofs.Lists.{take_get, Has_from_any}
 
--- an id does not stand before its place
+-- an id is not before its place
 not_before : (ids : List ℕ) (at id : ℕ) → AreDistinct ids → slice_get ids at ≡ Some id → list_any (nat_eq id) (take at ids) ≡ false
 not_before ids at id once e =
     elim (cases_Bool (list_any (nat_eq id) (take at ids))) [
@@ -20,7 +19,7 @@ not_before ids at id once e =
       | inr none ↦ none
     ]
 
--- one more id is put behind the others
+-- one more id is put after the others
 pub listed_more : (ids old new : List ℕ) (at : ℕ) → AreDistinct ids → at < length ids → old ≡ take at ids
     → new ≡ cond (list_any (nat_eq (get_or ids at 0)) old) old (old ++ get_or ids at 0 ∷ []) → new ≡ take (at + 1) ids
 listed_more ids old new at once l e grown =

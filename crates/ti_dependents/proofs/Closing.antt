@@ -15,9 +15,8 @@ use Rattle.ti_meaning.proofs.Exchanging.{list_any-append}
 use Rattle.ti_meaning.proofs.ExchangeLaws.{found_dependents}
 use Rattle.ti_meaning.proofs.LawProofs.{first_owners}
 use Rattle.ti_meaning.proofs.Placing.{get-with_put}
-use Rattle.ti_text.specs.Lists.{Has}
-use Rattle.ti_index.specs.Labels.{AreDistinct}
-use Rattle.ti_index.proofs.Lists.{item_at}
+use Rattle.ti_text.specs.Lists.{Has, AreDistinct}
+use Rattle.ti_text.proofs.Lists.{item_at}
 use Rattle.ti_slots.specs.declared.slots.Slots.{Slots}
 use Rattle.ti_slots.specs.Slots.{blocks_of, reading_at, StandsAt, IsIndexed}
 use Rattle.ti_slots.proofs.Owners.{uses_user}
@@ -47,7 +46,7 @@ put_somewhere : (o : Option PlacedBlock) (name : List ℕ) → is_among name (lo
 put_somewhere None name e = absurd (false≢true e)
 put_somewhere (Some placed) name e = (placed.at, refl)
 
--- ---- elements and their places
+-- ---- elements and their positions
 
 contains_at : (xs : List ℕ) (i x : ℕ) → slice_get xs i ≡ Some x → Contains xs x
 contains_at xs i x e = (i, slice_get_within xs i x e, get_or_from_slice_get xs i x x e)
@@ -57,34 +56,34 @@ at_contained xs x c = (c.0, slice_get-get_or xs c.0 x c.1 ∙ ap (λ y. Some y) 
 
 -- ---- the end of a search
 
--- what was found at the end, with the places of the blocks
-pub record IsEnded (s : Slots) (put : Option ℕ) (out : List (List ℕ)) (ids places : List ℕ) : Type 0 where
+-- what was found at the end, with the positions of the blocks
+pub record IsEnded (s : Slots) (put : Option ℕ) (out : List (List ℕ)) (ids positions : List ℕ) : Type 0 where
   pub indexed : IsIndexed s
   pub distinct : AreDistinct s.order.listed
   pub unique : IsDistinct nat_eq ids
   pub ended : IsSearch s put out ids (length ids)
-  pub places_are : ArePositions s.order.listed ids places
+  pub positions_are : ArePositions s.order.listed ids positions
 
-module _ (s : Slots) (put : Option ℕ) (out : List (List ℕ)) (ids places : List ℕ) (h : IsEnded s put out ids places) where
+module _ (s : Slots) (put : Option ℕ) (out : List (List ℕ)) (ids positions : List ℕ) (h : IsEnded s put out ids positions) where
   -- a block that was found has its place
-  place_of : (at id : ℕ) → StandsAt s at id → Has ids id → Has places at
+  place_of : (at id : ℕ) → StandsAt s at id → Has ids id → Has positions at
   place_of at id st f =
-      let n = h.places_are.as_many in
+      let n = h.positions_are.as_many in
       let l = slice_get_within ids f.0 id f.1 in
-      let there = item_at places f.0 (omega arith) in
-      let same : there.0 ≡ at = h.distinct there.0 at id (h.places_are.stands f.0 id there.0 f.1 there.1) st in
+      let there = item_at positions f.0 (omega arith) in
+      let same : there.0 ≡ at = h.distinct there.0 at id (h.positions_are.stands f.0 id there.0 f.1 there.1) st in
       (f.0, there.1 ∙ ap (λ p. Some p) same)
 
   -- at a place stands a block that was found
-  found_at : (i at : ℕ) → slice_get places i ≡ Some at → (id : ℕ) × (slice_get ids i ≡ Some id) × StandsAt s at id
+  found_at : (i at : ℕ) → slice_get positions i ≡ Some at → (id : ℕ) × (slice_get ids i ≡ Some id) × StandsAt s at id
   found_at i at e =
-      let n = h.places_are.as_many in
-      let l = slice_get_within places i at e in
+      let n = h.positions_are.as_many in
+      let l = slice_get_within positions i at e in
       let there = item_at ids i (omega arith) in
-      (there.0, there.1, h.places_are.stands i there.0 at there.1 e)
+      (there.0, there.1, h.positions_are.stands i there.0 at there.1 e)
 
   -- with each block its users were found
-  pub users_found : AreFound (blocks_of s) places
+  pub users_found : AreFound (blocks_of s) positions
   users_found i at user e u =
       let f = found_at i at e in
       let own = first_owners.some (blocks_of s) u.2.0 at u.2.2 in
@@ -112,7 +111,7 @@ module _ (s : Slots) (put : Option ℕ) (out : List (List ℕ)) (ids places : Li
     has_put : (p id : ℕ) → put ≡ Some p → IsPutOrUser s p id → Has ids id
     has_put p id is a = h.ended.has_put id (let P : Option ℕ → Type 0 = λ o. IsPutOrUserIn s o id in subst P (sym is) a)
 
-    user_found : (user : ℕ) (block : Reading) (name : List ℕ) → slice_get (new_list e) user ≡ Some block → Uses block.items name → is_among name (touched_names e) ≡ true → Has places user
+    user_found : (user : ℕ) (block : Reading) (name : List ℕ) → slice_get (new_list e) user ≡ Some block → Uses block.items name → is_among name (touched_names e) ≡ true → Has positions user
     user_found user block name f u t =
         let me = new_id user block f in
         let uses = uses_user s name user me.id h.indexed me.stands (subst (λ (b : Reading). Uses b.items name) (sym me.is) u) in
@@ -126,33 +125,33 @@ module _ (s : Slots) (put : Option ℕ) (out : List (List ℕ)) (ids places : Li
               has_put p.0 me.id p.2 (inr (w.0, name, w.1, uses))
         ])
 
-    contained : (at : ℕ) → Has places at → Contains places at
-    contained at f = contains_at places f.0 at f.1
+    contained : (at : ℕ) → Has positions at → Contains positions at
+    contained at f = contains_at positions f.0 at f.1
 
-    pub all_closed : AreClosed e places
+    pub all_closed : AreClosed e positions
     all_closed = record {
       put = λ at p. let w = put_found at p in contained at (place_of at w.0 w.1 (has_put w.0 w.0 w.2 (inl refl)));
       touching = λ user block name f u t. contained user (user_found user block name f u t);
       using = λ user at u c.
-          let w = at_contained places at c in
+          let w = at_contained positions at c in
           contained user (users_found w.0 at user w.1 (subst (λ (bs : List Reading). UsesBlock bs user at) x.new u));
     }
 
-  pub dependent_ids : AreDependentIds s put out ids places
+  pub dependent_ids : AreDependentIds s put out ids positions
   dependent_ids = record {
-    as_many = h.places_are.as_many;
-    stands = h.places_are.stands;
+    as_many = h.positions_are.as_many;
+    stands = h.positions_are.stands;
     once = λ i j id e f. once ids i j id h.unique e f;
     dependents = λ e x at. (
-      (λ c. let w = at_contained places at c in let f = found_at w.0 at w.1 in h.ended.sound f.0 (w.0, f.1) e x at f.2),
-      λ d. found_dependents e places (all_closed e x) at d,
+      (λ c. let w = at_contained positions at c in let f = found_at w.0 at w.1 in h.ended.sound f.0 (w.0, f.1) e x at f.2),
+      λ d. found_dependents e positions (all_closed e x) at d,
     );
     closed = users_found;
   }
 
 -- ---- the answer, in lists that were copied
 
-pub copied_ids : (s : Slots) (put : Option ℕ) (out : List (List ℕ)) (found ids places : List ℕ) → IsIndexed s → IsSearch s put out found (length found) → ArePlaced s.order.listed found ids places → AreDependentIds s put out ids places
-copied_ids s put out found ids places x ended h =
-    let P : List ℕ → Type 0 = λ xs. AreDependentIds s put out xs places in
-    subst P (sym h.ids_found) (dependent_ids s put out found places (record { indexed = x; distinct = h.listed_once; unique = h.found_once; ended = ended; places_are = h.positions }))
+pub copied_ids : (s : Slots) (put : Option ℕ) (out : List (List ℕ)) (found ids positions : List ℕ) → IsIndexed s → IsSearch s put out found (length found) → ArePlaced s.order.listed found ids positions → AreDependentIds s put out ids positions
+copied_ids s put out found ids positions x ended h =
+    let P : List ℕ → Type 0 = λ xs. AreDependentIds s put out xs positions in
+    subst P (sym h.ids_found) (dependent_ids s put out found positions (record { indexed = x; distinct = h.listed_once; unique = h.found_once; ended = ended; positions_are = h.are_positions }))

@@ -30,7 +30,7 @@ among_front name xs ys t = list_any-append name xs ys ∙ or_left (is_among name
 among_behind : (name : List ℕ) (xs ys : List (List ℕ)) → is_among name ys ≡ true → is_among name (xs ++ ys) ≡ true
 among_behind name xs ys t = list_any-append name xs ys ∙ or_right (is_among name xs) (is_among name ys) t
 
--- the names of the block put in are those of the block that stands there
+-- the names of the block put in are those of the block that is there
 pub names_put : (rest : List Reading) (o : Option PlacedBlock) (at : ℕ) (block : Reading) → HasPlace rest o → IsPutAt o at → slice_get (with_block rest o) at ≡ Some block → lookup_names_of o ≡ block.names
 names_put rest None at block l put e = absurd put
 names_put rest (Some placed) at block l put e =

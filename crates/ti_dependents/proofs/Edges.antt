@@ -6,7 +6,7 @@ use Rattle.std.proofs.lemmas.Option.{same_Some, none-some, slice_get_within}
 use Rattle.ti_source.specs.Reading.{ReadItem}
 use Rattle.ti_meaning.specs.Reaching.{used_name}
 use Rattle.ti_components.specs.Graph.{Rows, AddsEdge, IsGraph}
-use Rattle.ti_index.proofs.Lists.{push_cases, item_at}
+use Rattle.ti_text.proofs.Lists.{push_cases, item_at}
 use Rattle.ti_slots.specs.declared.slots.Slots.{Slots}
 use Rattle.ti_slots.specs.Slots.{reading_at, IsOwnerId}
 use Rattle.ti_dependents.specs.Dependents.{IsEdgeOf, IsEdgeRowOf, IsGraphOfUses}

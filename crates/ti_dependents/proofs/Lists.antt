@@ -1,46 +1,10 @@
--- Elements of lists, and lists mapped as far as a place.
-use Rattle.std.proofs.Common.{◌≡◌, ℕ, zero, suc, ◌+◌, ◌<◌, ◌⊎◌, inl, inr, true, false, List, [], ◌∷◌, ◌++◌, length, get_or, take, map, nat_eq, position, Option, Some, None, is_some, slice_get, refl, sym, ◌∙◌, ap, arith}
+-- Places in a list that has no number twice.
+use Rattle.std.proofs.Common.{◌≡◌, ℕ, ◌<◌, inl, inr, true, false, List, get_or, nat_eq, position, Option, Some, None, is_some, slice_get, refl, sym, ◌∙◌, ap, arith}
 use Rattle.std.specs.List.{list_any, IsDistinct}
-use Rattle.std.proofs.lemmas.Bool.{false≢true, or_cases, cases_lt, eqb-true, eq-eqb}
-use Rattle.std.proofs.lemmas.List.{map-append, take_more}
-use Rattle.std.proofs.lemmas.Option.{none-some, same_Some, slice_get_within, slice_get-get_or, get_or_from_slice_get}
+use Rattle.std.proofs.lemmas.Bool.{false≢true, cases_lt, eqb-true, eq-eqb}
+use Rattle.std.proofs.lemmas.Option.{slice_get_within, slice_get-get_or, get_or_from_slice_get}
 use Rattle.std.proofs.lemmas.List.Quantifiers.{position-Some}
 use Rattle.std.proofs.lemmas.Map.Keys.{apart_from_distinct, any_passes_from_place}
-use Rattle.ti_text.specs.Lists.{Has}
-use Rattle.ti_index.proofs.Lists.{get_front, get_cases, get_last}
-
-pub Has_front : (xs ys : List ℕ) (x : ℕ) → Has xs x → Has (xs ++ ys) x
-Has_front xs ys x h = (h.0, get_front xs ys h.0 x h.1)
-
-pub Has_last : (xs : List ℕ) (x : ℕ) → Has (xs ++ x ∷ []) x
-Has_last xs x = (length xs, get_last xs x)
-
-pub Has_split : (xs ys : List ℕ) (x : ℕ) → Has (xs ++ ys) x → Has xs x ⊎ Has ys x
-Has_split xs ys x h =
-    elim (get_cases xs ys h.0 x h.1) [ inl here ↦ inl (h.0, here) | inr there ↦ inr (there.0, there.2) ]
-
-pub Has_one : (y x : ℕ) → Has (y ∷ []) x → x ≡ y
-Has_one y x (zero, e) = sym (same_Some y x e)
-Has_one y x (suc i, e) = absurd (none-some x e)
-
-pub Has_none : (x : ℕ) → Has [] x → ⊥
-Has_none x h = none-some x h.1
-
-pub Has_from_any : (xs : List ℕ) (x : ℕ) → list_any (nat_eq x) xs ≡ true → Has xs x
-Has_from_any [] x e = absurd (false≢true e)
-Has_from_any (y ∷ ys) x e =
-    elim (or_cases (nat_eq x y) (list_any (nat_eq x) ys) e) [
-      | inl here ↦ (0, ap (λ z. Some z) (sym (eqb-true x y here)))
-      | inr later ↦ let w = Has_from_any ys x later in (suc w.0, w.1)
-    ]
-
-pub take_item : {X : Type 0} (xs : List X) (i : ℕ) (x : X) → i < length xs → x ≡ get_or xs i x → take (i + 1) xs ≡ take i xs ++ x ∷ []
-take_item xs i x l e = rw (take_more xs i x l, ← e) refl
-
-pub map-take_item : {X Y : Type 0} (f : X → Y) (xs : List X) (i : ℕ) (x : X) → i < length xs → x ≡ get_or xs i x → map f (take (i + 1) xs) ≡ map f (take i xs) ++ f x ∷ []
-map-take_item f xs i x l e = rw (take_more xs i x l, map-append f (take i xs) (get_or xs i x ∷ []), ← e) refl
-
--- ---- places in a list that has no number twice
 
 pub once : (xs : List ℕ) (i j x : ℕ) → IsDistinct nat_eq xs → slice_get xs i ≡ Some x → slice_get xs j ≡ Some x → i ≡ j
 once xs i j x d e f =

@@ -11,7 +11,7 @@ owner_one slots name one other a b =
     let same : b.0 ≡ a.0 = same_Some b.0 a.0 (sym b.1 ∙ a.1) in
     same_Some one other (sym a.2 ∙ (rw same at b.2))
 
--- the block with the id that stands at a position
+-- the block with the id that is at a position
 pub block_at : (slots : Slots) (at id : ℕ) → StandsAt slots at id → slice_get (blocks_of slots) at ≡ Some (reading_at slots.slots.items id)
 block_at slots at id e = slice_get-map (reading_at slots.slots.items) slots.order.listed at ∙ ap (option_map (reading_at slots.slots.items)) e
 

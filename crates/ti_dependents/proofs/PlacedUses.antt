@@ -1,4 +1,5 @@
--- What the graph of the uses among dependents says of the blocks at their positions, for what settles them.
+-- What the graph of the uses among dependents says of the blocks at their positions, for what
+-- settles them.
 use Rattle.std.proofs.Common.{◌≡◌, ℕ, zero, suc, ◌<◌, inl, inr, List, [], ◌∷◌, length, Option, Some, slice_get, refl, sym, ◌∙◌, ap, subst, arith}
 use Rattle.std.proofs.lemmas.Option.{same_Some, none-some, slice_get_within}
 use Rattle.ti_source.specs.Reading.{Reading, ReadItem}
@@ -6,8 +7,8 @@ use Rattle.ti_meaning.specs.Owner.{owner}
 use Rattle.ti_meaning.specs.Reaching.{used_name, Uses}
 use Rattle.ti_meaning.specs.UseLaws.{UsesBlock, IsGraphOf, HasOptionalEdge}
 use Rattle.ti_components.specs.Graph.{Rows, HasEdge as LeadsTo}
-use Rattle.ti_index.specs.Labels.{AreDistinct}
-use Rattle.ti_index.proofs.Lists.{item_at}
+use Rattle.ti_text.specs.Lists.{AreDistinct}
+use Rattle.ti_text.proofs.Lists.{item_at}
 use Rattle.ti_slots.specs.declared.slots.Slots.{Slots}
 use Rattle.ti_slots.specs.Slots.{blocks_of, reading_at, StandsAt, IsOwnerId}
 use Rattle.ti_dependents.specs.Dependents.{AreDependentIds, IsGraphOfUses, IsEdgeRowOf}
@@ -21,7 +22,7 @@ edge_to graph i j (row, stands, (place, leads)) = record { row = row; place = pl
 pub edge_from : (graph : Rows) (i j : ℕ) → LeadsTo graph i j → HasOptionalEdge graph i j
 edge_from graph i j h = (h.row, h.stands, (h.place, h.leads))
 
--- ---- used names by the places of their items
+-- ---- used names by the positions of their items
 
 pub use_place : (items : List ReadItem) (name : List ℕ) → Uses items name → (k : ℕ) × (item : ReadItem) × (slice_get items k ≡ Some item) × (used_name item.said ≡ Some name)
 use_place [] name u = absurd u
@@ -33,24 +34,24 @@ place_uses [] k item name e u = absurd (none-some item e)
 place_uses (x ∷ items) zero item name e u = inl (ap (λ y. used_name y.said) (same_Some x item e) ∙ u)
 place_uses (x ∷ items) (suc k) item name e u = inr (place_uses items k item name e u)
 
--- a name belongs to the block at the one place where its owner stands
+-- a name belongs to the block at the one place where its owner is
 pub owner_place : (s : Slots) (name : List ℕ) (id at : ℕ) → AreDistinct s.order.listed → IsOwnerId s name id → StandsAt s at id → owner (blocks_of s) name ≡ Some at
 owner_place s name id at once (place, owns, stands) here = owns ∙ ap (λ p. Some p) (once place at id stands here)
 
 -- ---- an edge for each use of a dependent by another
 
-module _ (s : Slots) (ids places : List ℕ) (graph : Rows) (many : length places ≡ length ids) (stands : (i id at : ℕ) → slice_get ids i ≡ Some id → slice_get places i ≡ Some at → StandsAt s at id) (once : AreDistinct s.order.listed) (h : IsGraphOfUses s ids graph) where
+module _ (s : Slots) (ids positions : List ℕ) (graph : Rows) (many : length positions ≡ length ids) (stands : (i id at : ℕ) → slice_get ids i ≡ Some id → slice_get positions i ≡ Some at → StandsAt s at id) (once : AreDistinct s.order.listed) (h : IsGraphOfUses s ids graph) where
   -- the block of a place among the ids
-  id_of : (i at : ℕ) → slice_get places i ≡ Some at → (id : ℕ) × (slice_get ids i ≡ Some id) × StandsAt s at id
+  id_of : (i at : ℕ) → slice_get positions i ≡ Some at → (id : ℕ) × (slice_get ids i ≡ Some id) × StandsAt s at id
   id_of i at e =
-      let l = slice_get_within places i at e in
+      let l = slice_get_within positions i at e in
       let there = item_at ids i (let m : i < length ids = omega arith in m) in
       (there.0, there.1, stands i there.0 at there.1 e)
 
-  place_of : (i id : ℕ) → slice_get ids i ≡ Some id → (at : ℕ) × (slice_get places i ≡ Some at) × StandsAt s at id
+  place_of : (i id : ℕ) → slice_get ids i ≡ Some id → (at : ℕ) × (slice_get positions i ≡ Some at) × StandsAt s at id
   place_of i id e =
       let l = slice_get_within ids i id e in
-      let there = item_at places i (let m : i < length places = omega arith in m) in
+      let there = item_at positions i (let m : i < length positions = omega arith in m) in
       (there.0, there.1, stands i id there.0 e there.1)
 
   row_of : (i id : ℕ) → slice_get ids i ≡ Some id → (row : List (Option ℕ)) × (slice_get graph i ≡ Some row) × IsEdgeRowOf s ids (reading_at s.slots.items id).items row
@@ -60,7 +61,7 @@ module _ (s : Slots) (ids places : List ℕ) (graph : Rows) (many : length place
       let there = item_at graph i (omega arith) in
       (there.0, there.1, h.rows i id there.0 e there.1)
 
-  edge_uses : (i j : ℕ) → HasOptionalEdge graph i j → (at used : ℕ) × (slice_get places i ≡ Some at) × (slice_get places j ≡ Some used) × UsesBlock (blocks_of s) at used
+  edge_uses : (i j : ℕ) → HasOptionalEdge graph i j → (at used : ℕ) × (slice_get positions i ≡ Some at) × (slice_get positions j ≡ Some used) × UsesBlock (blocks_of s) at used
   edge_uses i j (row, stands_row, (place, leads)) =
       let n = h.as_many in
       let l = slice_get_within graph i row stands_row in
@@ -75,7 +76,7 @@ module _ (s : Slots) (ids places : List ℕ) (graph : Rows) (many : length place
       let own = owner_place s w.0 w.1 you.0 once w.3 you.2 in
       (me.0, you.0, me.1, you.1, (reading_at s.slots.items id.0, block_at s me.0 id.0 me.2, (w.0, place_uses (reading_at s.slots.items id.0).items place item.0 w.0 item.1 w.2, own)))
 
-  uses_edge : (i j at used : ℕ) → slice_get places i ≡ Some at → slice_get places j ≡ Some used → UsesBlock (blocks_of s) at used → HasOptionalEdge graph i j
+  uses_edge : (i j at used : ℕ) → slice_get positions i ≡ Some at → slice_get positions j ≡ Some used → UsesBlock (blocks_of s) at used → HasOptionalEdge graph i j
   uses_edge i j at used e f u =
       let me = id_of i at e in
       let you = id_of j used f in
@@ -88,9 +89,9 @@ module _ (s : Slots) (ids places : List ℕ) (graph : Rows) (many : length place
       let leads = (row.2.edges k.0 k.1 edge.0 k.2 edge.1 j).1 (u.2.0, you.0, k.3, (used, u.2.2, you.2), you.1) in
       (row.0, row.1, (k.0, edge.1 ∙ ap (λ o. Some o) leads))
 
-  pub graph_of_places : IsGraphOf (blocks_of s) places (HasOptionalEdge graph)
-  graph_of_places i j = ((λ e. edge_uses i j e), λ w. uses_edge i j w.0 w.1 w.2 w.3 w.4)
+  pub graph_of_positions : IsGraphOf (blocks_of s) positions (HasOptionalEdge graph)
+  graph_of_positions i j = ((λ e. edge_uses i j e), λ w. uses_edge i j w.0 w.1 w.2 w.3 w.4)
 
 -- no id stands twice in an order (`Order::ids`)
-pub placed_uses : (s : Slots) (put : Option ℕ) (out : List (List ℕ)) (ids places : List ℕ) (graph : Rows) → AreDependentIds s put out ids places → AreDistinct s.order.listed → IsGraphOfUses s ids graph → IsGraphOf (blocks_of s) places (HasOptionalEdge graph)
-placed_uses s put out ids places graph d once h = graph_of_places s ids places graph d.as_many d.stands once h
+pub placed_uses : (s : Slots) (put : Option ℕ) (out : List (List ℕ)) (ids positions : List ℕ) (graph : Rows) → AreDependentIds s put out ids positions → AreDistinct s.order.listed → IsGraphOfUses s ids graph → IsGraphOf (blocks_of s) positions (HasOptionalEdge graph)
+placed_uses s put out ids positions graph d once h = graph_of_positions s ids positions graph d.as_many d.stands once h

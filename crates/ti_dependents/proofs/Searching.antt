@@ -1,4 +1,4 @@
--- What a search keeps from its beginning on, and what it has found at its end.
+-- What holds of a search from its beginning on, and what it has found at its end.
 use Rattle.std.proofs.Common.{◌≡◌, ℕ, zero, suc, ◌+◌, ◌<◌, ◌≤◌, ◌⊎◌, inl, inr, List, [], ◌∷◌, ◌++◌, length, nat_eq, Option, Some, None, IsSome, is_some, option_and_then, slice_get, refl, sym, ◌∙◌, ap, subst, arith}
 use Rattle.std.specs.List.{IsDistinct}
 use Rattle.std.proofs.lemmas.Bool.{cases_lt, false≢true}
@@ -11,13 +11,13 @@ use Rattle.ti_slots.specs.Slots.{slot_at, reading_at, StandsAt, IsIndexed}
 use Rattle.ti_slots.proofs.Owners.{user_uses}
 use Rattle.ti_dependents.specs.inside.Search.{AddsPassing, IsUserOf, IsUserOfOne, IsUserOfOwned, IsPutOrUser, IsPutOrUserIn, Depends, IsSearch}
 use Rattle.ti_dependents.proofs.Adding.{adds_none}
-use Rattle.ti_dependents.proofs.Lists.{Has_front, Has_split, Has_none, Has_from_any}
+use Rattle.ti_text.proofs.Lists.{Has_front, Has_split, Has_none, Has_from_any}
 use Rattle.ti_dependents.proofs.Dependence.{put_depends, out_depends, names_depend, owned_depends}
 
 user_stands : (s : Slots) (name : List ℕ) (id : ℕ) → IsIndexed s → IsUserOf s name id → Has s.order.listed id
 user_stands s name id x u = let w = user_uses s name u.0 id x u.1 in (w.0, w.1)
 
--- the block put in stands in the list, if there is one
+-- the block put in is in the list, if there is one
 abbrev pub StandsPut : Slots → Option ℕ → Type 0
 StandsPut s put = (id : ℕ) → put ≡ Some id → (at : ℕ) × StandsAt s at id
 

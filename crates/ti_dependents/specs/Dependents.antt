@@ -1,5 +1,6 @@
 -- What a search finds of the blocks that depend on an edit (own).
 use Rattle.std.specs.Prelude.{ℕ, ◌≡◌, ◌<◌, ◌↔◌, List, length, Option, Some, slice_get, Contains}
+use Rattle.ti_text.specs.Lists.{AreDistinct}
 use Rattle.ti_source.specs.Reading.{ReadItem}
 use Rattle.ti_meaning.specs.Reaching.{used_name}
 use Rattle.ti_meaning.specs.Exchange.{Exchange, IsExchange, new_list}
@@ -10,28 +11,31 @@ use Rattle.ti_slots.specs.declared.slots.Slots.{Slots}
 use Rattle.ti_slots.specs.Slots.{blocks_of, reading_at, StandsAt}
 pub use Rattle.ti_slots.specs.Slots.{IsOwnerId}
 
--- the exchange by which the list came about: the block put in has the id `put`, the block taken out the names `out`
+-- the exchange by which the list came about: the block put in has the id `put`, the block taken out
+-- the names `out`
 pub record IsExchangeOf (slots : Slots) (put : Option ℕ) (out : List (List ℕ)) (exchange : Exchange) : Type 0 where
   pub fits : IsExchange exchange
   pub new : new_list exchange ≡ blocks_of slots
   pub out_names : lookup_names_of exchange.out ≡ out
   pub put_id : (at id : ℕ) → StandsAt slots at id → IsPutAt exchange.put at ↔ (put ≡ Some id)
 
--- these are the blocks that depend on it, each once, by their ids and their positions; with each block they have its users
-pub record AreDependentIds (slots : Slots) (put : Option ℕ) (out : List (List ℕ)) (ids places : List ℕ) : Type 0 where
-  pub as_many : length places ≡ length ids
-  pub stands : (i id at : ℕ) → slice_get ids i ≡ Some id → slice_get places i ≡ Some at → StandsAt slots at id
-  pub once : (i j id : ℕ) → slice_get ids i ≡ Some id → slice_get ids j ≡ Some id → i ≡ j
-  pub dependents : (exchange : Exchange) → IsExchangeOf slots put out exchange → (at : ℕ) → Contains places at ↔ IsDependent exchange at
-  pub closed : AreFound (blocks_of slots) places
+-- these are the blocks that depend on it, each once, by their ids and their positions; with each
+-- block they have its users
+pub record AreDependentIds (slots : Slots) (put : Option ℕ) (out : List (List ℕ)) (ids positions : List ℕ) : Type 0 where
+  pub as_many : length positions ≡ length ids
+  pub stands : (i id at : ℕ) → slice_get ids i ≡ Some id → slice_get positions i ≡ Some at → StandsAt slots at id
+  pub once : AreDistinct ids
+  pub dependents : (exchange : Exchange) → IsExchangeOf slots put out exchange → (at : ℕ) → Contains positions at ↔ IsDependent exchange at
+  pub closed : AreFound (blocks_of slots) positions
 
 -- these are all blocks of the list, by their ids and their positions, in its order
-pub record AreAllIds (slots : Slots) (ids places : List ℕ) : Type 0 where
+pub record AreAllIds (slots : Slots) (ids positions : List ℕ) : Type 0 where
   pub listed : ids ≡ slots.order.listed
-  pub as_many : length places ≡ length ids
-  pub placed : (i : ℕ) → i < length ids → slice_get places i ≡ Some i
+  pub as_many : length positions ≡ length ids
+  pub placed : (i : ℕ) → i < length ids → slice_get positions i ≡ Some i
 
--- the edge of an item leads to the place among the ids of the owner of the name that it uses, and nowhere if there is none
+-- the edge of an item leads to the place among the ids of the owner of the name that it uses, and
+-- nowhere if there is none
 abbrev pub IsEdgeOf : Slots → List ℕ → ReadItem → Option ℕ → Type 0
 IsEdgeOf slots ids item edge =
     (place : ℕ) → (edge ≡ Some place)

@@ -1,7 +1,7 @@
-// The blocks that depend on an edit.
+//! The blocks that depend on an edit.
 ghost use Rattle.std.specs.Prelude.{◌≡◌, ℕ, Some, map, slice_get, IfOk};
 ghost use Rattle.std.specs.Rc.{rc_slice_items};
-ghost use Rattle.ti_text.specs.Lists.{Has};
+ghost use Rattle.ti_text.specs.Lists.{Has, AreDistinct};
 ghost use Rattle.ti_components.specs.Graph.{IsGraph};
 ghost use Rattle.ti_slots.specs.Slots.{IsIndexed, StandsAt};
 ghost use Rattle.ti_dependents.specs.Dependents.{AreAllIds, AreDependentIds, IsGraphOfUses};
@@ -9,7 +9,7 @@ ghost use Rattle.ti_dependents.specs.inside.Uses.{ArePlaced};
 
 use crate::listing::{listed_ids, positions};
 use crate::search::search;
-use crate::uses::{graph_of_uses, places_of};
+use crate::uses::{graph_of_uses, positions_of};
 use indexmap::IndexSet;
 use std::alloc::{AllocError, Global};
 use std::rc::RcSlice;
@@ -21,17 +21,20 @@ use ti_slots::Slots;
 pub struct Dependents {
     /// The ids of the blocks.
     pub ids: Vec<u32>,
-    /// Where each of them stands in the list.
-    pub places: Vec<usize>,
+    /// The position of each of them in the list.
+    pub positions: Vec<usize>,
     /// A node for each of them, by its place in `ids`. Its row has an edge for each item: to the
-    /// node of the owner of the name that the item uses, where that is one of them, else nowhere.
+    /// node of the owner of the name that the item uses, if that is one of them, else nowhere.
     pub uses: Graph,
 }
 
 /// The blocks that depend on an edit of a list: the block put in, which has the id `put`, and each
 /// that reaches a name of it or one of the names `out` of the block taken out. The list is the new
 /// one. The time is linear, up to a logarithm, in what the blocks found say and in how many use
-/// their names. It fails where memory is short, and changes nothing.
+/// their names.
+///
+/// # Errors
+/// Out of memory.
 pub fn find_dependents(
     alloc: Global,
     slots: &Slots,
@@ -40,7 +43,8 @@ pub fn find_dependents(
 ) -> Result<Dependents, AllocError>
     requires indexed { IsIndexed slots.now }
     requires put { (id : ℕ) → put ≡ Some id → (at : ℕ) × StandsAt slots.now at id }
-    ensures found { IfOk result (λ d. AreDependentIds slots.now put (map rc_slice_items out.now) d.ids.items d.places.items) }
+    ensures distinct { IfOk result (λ d. AreDistinct slots.now.order.listed) }
+    ensures found { IfOk result (λ d. AreDependentIds slots.now put (map rc_slice_items out.now) d.ids.items d.positions.items) }
     ensures uses { IfOk result (λ d. IsGraphOfUses slots.now d.ids.items d.uses) }
     ensures graph { IfOk result (λ d. IsGraph d.uses) }
 {
@@ -49,7 +53,7 @@ pub fn find_dependents(
     blocks_found(alloc, slots, &found)
 }
 
-/// Blocks that a search found, where each of them stands, and which of them use each other.
+// Blocks that a search found, their positions, and which of them use each other.
 fn blocks_found(
     alloc: Global,
     slots: &Slots,
@@ -57,22 +61,29 @@ fn blocks_found(
 ) -> Result<Dependents, AllocError>
     requires indexed { IsIndexed slots.now }
     requires listed { (i id : ℕ) → slice_get found.now.keys i ≡ Some id → Has slots.now.order.listed id }
-    ensures placed { IfOk result (λ d. ArePlaced slots.now.order.listed found.now.keys d.ids.items d.places.items) }
+    ensures placed { IfOk result (λ d. ArePlaced slots.now.order.listed found.now.keys d.ids.items d.positions.items) }
     ensures uses { IfOk result (λ d. IsGraphOfUses slots.now d.ids.items d.uses) }
     ensures graph { IfOk result (λ d. IsGraph d.uses) }
 {
     let ids = Vec::from_slice(alloc, found.as_slice())?;
-    let places = places_of(alloc, &slots.order, &ids)?;
+    let positions = positions_of(alloc, &slots.order, &ids)?;
     let uses = graph_of_uses(alloc, slots, found)?;
-    Ok(Dependents { ids, places, uses })
+    Ok(Dependents {
+        ids,
+        positions,
+        uses,
+    })
 }
 
-/// All blocks of a list, in its order, and which of them use each other: what depends on a list that
-/// is made in one go. The time is linear, up to a logarithm, in what the blocks say. It fails where
-/// memory is short, and changes nothing.
+/// All blocks of a list, in its order, and which of them use each other: what depends on a list
+/// that is made in one go. The time is linear, up to a logarithm, in what the blocks say.
+///
+/// # Errors
+/// Out of memory.
 pub fn find_all(alloc: Global, slots: &Slots) -> Result<Dependents, AllocError>
     requires indexed { IsIndexed slots.now }
-    ensures all { IfOk result (λ d. AreAllIds slots.now d.ids.items d.places.items) }
+    ensures distinct { IfOk result (λ d. AreDistinct slots.now.order.listed) }
+    ensures all { IfOk result (λ d. AreAllIds slots.now d.ids.items d.positions.items) }
     ensures uses { IfOk result (λ d. IsGraphOfUses slots.now d.ids.items d.uses) }
     ensures graph { IfOk result (λ d. IsGraph d.uses) }
 {
@@ -80,7 +91,7 @@ pub fn find_all(alloc: Global, slots: &Slots) -> Result<Dependents, AllocError>
     blocks_listed(alloc, slots, &listed)
 }
 
-/// All blocks of a list, in its order, where each of them stands, and which of them use each other.
+// All blocks of a list, in its order, their positions, and which of them use each other.
 fn blocks_listed(
     alloc: Global,
     slots: &Slots,
@@ -88,12 +99,16 @@ fn blocks_listed(
 ) -> Result<Dependents, AllocError>
     requires indexed { IsIndexed slots.now }
     requires listed { listed.now.keys ≡ slots.now.order.listed }
-    ensures all { IfOk result (λ d. AreAllIds slots.now d.ids.items d.places.items) }
+    ensures all { IfOk result (λ d. AreAllIds slots.now d.ids.items d.positions.items) }
     ensures uses { IfOk result (λ d. IsGraphOfUses slots.now d.ids.items d.uses) }
     ensures graph { IfOk result (λ d. IsGraph d.uses) }
 {
     let ids = Vec::from_slice(alloc, listed.as_slice())?;
-    let places = positions(alloc, ids.len())?;
+    let positions = positions(alloc, ids.len())?;
     let uses = graph_of_uses(alloc, slots, listed)?;
-    Ok(Dependents { ids, places, uses })
+    Ok(Dependents {
+        ids,
+        positions,
+        uses,
+    })
 }

@@ -1,12 +1,12 @@
-// All blocks of a list, in its order.
+//! All blocks of a list, in its order.
 ghost use Rattle.std.specs.Prelude.{◌≡◌, ◌<◌, ℕ, Some, length, slice_get, IfOk};
-ghost use Rattle.ti_index.specs.Labels.{AreDistinct};
+ghost use Rattle.ti_text.specs.Lists.{AreDistinct};
 
 use indexmap::IndexSet;
 use std::alloc::{AllocError, Global};
 use ti_index::Order;
 
-/// The ids of a list, in its order. None stands twice.
+/// The ids of a list, in its order. None is there twice.
 pub(crate) fn listed_ids(alloc: Global, order: &Order) -> Result<IndexSet<u32>, AllocError>
     ensures ids { IfOk result (λ found. found.keys ≡ order.now.listed) }
     ensures distinct { AreDistinct order.now.listed }
@@ -21,12 +21,12 @@ pub(crate) fn listed_ids(alloc: Global, order: &Order) -> Result<IndexSet<u32>, 
 
 /// The positions of a list that is so long, in ascending order.
 pub(crate) fn positions(alloc: Global, count: usize) -> Result<Vec<usize>, AllocError>
-    ensures len { IfOk result (λ places. length places.items ≡ count) }
-    ensures each { IfOk result (λ places. (i : ℕ) → i < count → slice_get places.items i ≡ Some i) }
+    ensures len { IfOk result (λ positions. length positions.items ≡ count) }
+    ensures each { IfOk result (λ positions. (i : ℕ) → i < count → slice_get positions.items i ≡ Some i) }
 {
-    let mut places = Vec::with_capacity(alloc, count)?;
+    let mut positions = Vec::with_capacity(alloc, count)?;
     for place in 0..count {
-        places.push(place)?;
+        positions.push(place)?;
     }
-    Ok(places)
+    Ok(positions)
 }

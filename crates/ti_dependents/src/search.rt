@@ -1,4 +1,4 @@
-// The search: the block put in and the users of touched names, then the users of each block found.
+//! The search: the block put in and the users of touched names, then the users of each block found.
 ghost use Rattle.std.specs.Prelude.{◌≡◌, ◌↔◌, ℕ, Some, IsSome, IsTrue, [], length, map, OnOk};
 ghost use Rattle.std.specs.Rc.{rc_slice_items};
 ghost use Rattle.ti_slots.specs.Slots.{slot_at, IsIndexed, IsOwnerId, StandsAt};
@@ -10,7 +10,7 @@ use std::alloc::AllocError;
 use std::rc::RcSlice;
 use ti_slots::Slots;
 
-/// Adds the users of a name.
+// Adds the users of a name.
 fn add_users(slots: &Slots, name: &[u8], found: &mut IndexSet<u32>) -> Result<(), AllocError>
     ensures { OnOk result (AddsPassing (IsUserOf slots.now name.now) found.old.keys found.new.keys) }
 {
@@ -20,7 +20,7 @@ fn add_users(slots: &Slots, name: &[u8], found: &mut IndexSet<u32>) -> Result<()
     Ok(())
 }
 
-/// Adds the users of each name.
+// Adds the users of each name.
 fn add_users_of_names(
     slots: &Slots,
     names: &[RcSlice<u8>],
@@ -34,7 +34,7 @@ fn add_users_of_names(
     Ok(())
 }
 
-/// Whether a name belongs to the block with an id.
+// Whether a name belongs to the block with an id.
 fn owns(slots: &Slots, name: &[u8], id: u32) -> bool
     requires { IsIndexed slots.now }
     ensures { IsTrue result ↔ IsOwnerId slots.now name.now id }
@@ -42,7 +42,7 @@ fn owns(slots: &Slots, name: &[u8], id: u32) -> bool
     slots.owner(name) == Some(id)
 }
 
-/// Adds the users of those of the names that belong to the block with an id.
+// Adds the users of those of the names that belong to the block with an id.
 fn add_users_of_owned(
     slots: &Slots,
     id: u32,
@@ -60,7 +60,7 @@ fn add_users_of_owned(
     Ok(())
 }
 
-/// Adds a block and the users of its names.
+// Adds a block and the users of its names.
 fn add_with_users(slots: &Slots, id: u32, found: &mut IndexSet<u32>) -> Result<(), AllocError>
     requires { IsSome (slot_at slots.now.slots.items id) }
     ensures { OnOk result (AddsPassing (IsPutOrUser slots.now id) found.old.keys found.new.keys) }
@@ -70,7 +70,7 @@ fn add_with_users(slots: &Slots, id: u32, found: &mut IndexSet<u32>) -> Result<(
     Ok(())
 }
 
-/// Adds the block put in, if there is one, and the users of touched names.
+// Adds the block put in, if there is one, and the users of touched names.
 fn add_first(
     slots: &Slots,
     put: Option<u32>,
@@ -88,7 +88,7 @@ fn add_first(
     add_users_of_names(slots, out, found)
 }
 
-/// Adds all blocks that depend on the edit, by their ids, where none was found before.
+/// Adds all blocks that depend on the edit, by their ids. None was found before.
 pub(crate) fn search(
     slots: &Slots,
     put: Option<u32>,

@@ -1,9 +1,8 @@
-// Where the blocks found stand, and which of them use each other.
+// The positions of the blocks found, and which of them use each other.
 ghost use Rattle.std.specs.Prelude.{◌≡◌, ◌<◌, ℕ, Some, IsSome, map, nat_eq, slice_get, OnOk, IfOk};
 ghost use Rattle.ti_source.specs.Reading.{item_of};
 ghost use Rattle.std.specs.List.{IsDistinct};
-ghost use Rattle.ti_text.specs.Lists.{Has};
-ghost use Rattle.ti_index.specs.Labels.{AreDistinct};
+ghost use Rattle.ti_text.specs.Lists.{Has, AreDistinct};
 ghost use Rattle.ti_slots.specs.Slots.{slot_at, IsIndexed};
 ghost use Rattle.ti_components.specs.Graph.{IsGraph};
 ghost use Rattle.ti_dependents.specs.Dependents.{IsEdgeOf, IsGraphOfUses};
@@ -17,22 +16,26 @@ use ti_index::Order;
 use ti_slots::Slots;
 use ti_source::{Item, What};
 
-/// Where each of the ids stands in the list, in which no id stands twice.
-pub(crate) fn places_of(alloc: Global, order: &Order, ids: &[u32]) -> Result<Vec<usize>, AllocError>
+/// The position of each of the ids in the list, in which no id is twice.
+pub(crate) fn positions_of(
+    alloc: Global,
+    order: &Order,
+    ids: &[u32],
+) -> Result<Vec<usize>, AllocError>
     requires { (i id : ℕ) → slice_get ids.now i ≡ Some id → Has order.now.listed id }
-    ensures places { IfOk result (λ places. ArePositions order.now.listed ids.now places.items) }
+    ensures positions { IfOk result (λ positions. ArePositions order.now.listed ids.now positions.items) }
     ensures distinct { AreDistinct order.now.listed }
 {
-    // What the call says of the list is all that is wanted of it.
+    // The call is made for its clause `distinct` alone.
     let _listed = order.ids();
-    let mut places = Vec::with_capacity(alloc, ids.len())?;
+    let mut positions = Vec::with_capacity(alloc, ids.len())?;
     for id in ids {
-        places.push(order.position(*id))?;
+        positions.push(order.position(*id))?;
     }
-    Ok(places)
+    Ok(positions)
 }
 
-/// The place among the blocks found of the owner of the name that an item uses.
+// The place among the blocks found of the owner of the name that an item uses.
 fn edge_of(slots: &Slots, item: &Item, found: &IndexSet<u32>) -> Option<usize>
     requires indexed { IsIndexed slots.now }
     requires unique { IsDistinct nat_eq found.now.keys }
@@ -45,7 +48,7 @@ fn edge_of(slots: &Slots, item: &Item, found: &IndexSet<u32>) -> Option<usize>
     found.get_index_of(&owner)
 }
 
-/// Adds a node with an edge for each item.
+// Adds a node with an edge for each item.
 fn add_row(
     slots: &Slots,
     items: &[Item],

@@ -1,9 +1,9 @@
--- Bytes are cut into lines in one way alone.
+-- Bytes are cut into lines in only one way.
 use Rattle.std.proofs.Common.{◌≡◌, ℕ, List, [], ◌∷◌, ◌++◌, refl, sym, ◌∙◌, append_assoc}
 use Rattle.std.specs.List.{flat_map, AllByRecursion}
 use Rattle.ti_devices.specs.Lines.{IsOneLine, OneSplit, with_newline}
 
--- two lines that begin the same bytes are one
+-- two lines that begin the same bytes are equal
 ended-same : (line other : List ℕ) (rest later : List ℕ) → IsOneLine line → IsOneLine other → with_newline line ++ rest ≡ with_newline other ++ later
     → (line ≡ other) × (rest ≡ later)
 ended-same [] [] rest later a b is = (refl, cc)

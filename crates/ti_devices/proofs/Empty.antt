@@ -1,4 +1,4 @@
--- The value of a struct without fields, and that it may be made of nothing. Assumes `Logic`.
+-- The value of a struct without fields, which may be made of nothing. Assumes `Logic`.
 use Rattle.std.proofs.Common.{List, [], ◌∷◌, refl}
 use seplogic.Ra.Ura.{Ura}
 use mir.Val.{Val, vstruct, vnil}

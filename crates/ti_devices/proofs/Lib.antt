@@ -2,4 +2,5 @@ pub mod CutLines
 pub mod Empty
 pub mod LineSteps
 pub mod Placed
+pub mod Searches
 pub mod Written

@@ -1,4 +1,4 @@
--- Bytes without a newline, and lines cut from the bytes that are ahead.
+-- Bytes without a newline, and lines cut from the bytes ahead.
 use Rattle.std.proofs.Common.{◌≡◌, ◌≢◌, ℕ, zero, suc, ◌+◌, ◌-◌, ◌<◌, ◌≤◌, ◌⊎◌, Option, Some, None, Ok, Err, true, false, List, [], ◌∷◌, ◌++◌, length, get_or, take, drop, refl, sym, ap, ◌∙◌, append_assoc, append-nil, subst, arith, add-one, length-append}
 use Rattle.std.proofs.Math.Seq.{drop-cons}
 use Rattle.std.proofs.lemmas.Bool.{eq-eqb, eqb-true}
@@ -45,7 +45,7 @@ pub AllByRecursion-push : (P : List ℕ → Type 0) (lines : List (List ℕ)) (l
 AllByRecursion-push P [] line all one = (one, tt)
 AllByRecursion-push P (first ∷ lines) line all one = (all.0, AllByRecursion-push P lines line all.1 one)
 
--- where the first newline stands, the bytes are a line with it and what follows
+-- if the first newline is there, the bytes are a line with it and what follows
 pub newline_found : (bytes : List ℕ) (found : Option ℕ) → IsFirstByte (is_byte 10) bytes found
     → MatchOption found (IsOneLine bytes) (λ end. (end < length bytes)
     × (bytes ≡ with_newline (take end bytes) ++ drop (end + 1) bytes) × IsOneLine (take end bytes))
@@ -56,7 +56,7 @@ newline_found bytes (Some end) first = (
   IsOneLine-take end bytes (λ k low is. first.0.before k (omega arith) low (eq-eqb _ _ is)),
 )
 
--- the front of the bytes that are ahead is skipped
+-- the front of the bytes ahead is skipped
 pub skip_front : (piece : List ℕ) (from to count : ℕ) → from ≤ to → count ≤ length (take (to - from) (drop from piece))
     → take (to - (from + count)) (drop (from + count) piece) ≡ drop count (take (to - from) (drop from piece))
 skip_front piece from to count low within =
@@ -75,7 +75,8 @@ pub record Filled (before now : LineReader) (given left : Observed) : Type 0 whe
   pub spends : SpendsReads before now given left
   pub fewer : length (last_line_of now) + bytes_left now ≤ bytes_left before
 
--- the same with another line before
+-- with another line before: what was ahead and what was taken since is its front and what is ahead
+-- now
 pub Filled-same : (before cleared mid : LineReader) (given left : Observed) → ahead_of cleared ≡ ahead_of before
     → reads_left_of cleared ≡ reads_left_of before → line_limit_of cleared ≡ line_limit_of before → Filled cleared mid given left
     → Filled before mid given left
@@ -112,7 +113,7 @@ module _ (before mid : LineReader) (given left : Observed) (f : Filled before mi
       ∙ ap (λ (r : List ℕ). r ++ ahead_of now) (sym (append_assoc (last_line_of mid) t.0 (10 ∷ []))) in
       (f.taken, f.gives, rw t.3 whole, rw t.3 (IsOneLine-append _ _ f.one t.2), subst (λ (n : ℕ). length (last_line_of now) ≤ n) same t.4)
 
-  -- all that was ahead is behind the line's front
+  -- all that was ahead is after the line's front
   module _ (next : LineReader) (t : TakesLine mid next (Ok false)) (same_limit : line_limit_of next ≡ line_limit_of mid)
       (same_reads : reads_left_of next ≡ reads_left_of mid) where
     line_whole : ahead_of before ++ f.taken ≡ last_line_of next

@@ -1,4 +1,4 @@
--- Texts that are written one after another, and bytes that are read so.
+-- Bytes that are written one after another, and bytes that are read so.
 use Rattle.std.proofs.Common.{◌≡◌, ◌≢◌, ℕ, zero, suc, ◌+◌, ◌-◌, List, [], ◌∷◌, ◌++◌, length, take, drop, Option, Some, None, Result, Ok, Err, refl, sym, ap, ◌∙◌, append_assoc, append-nil, subst, arith}
 use Rattle.std.specs.Io.KnownBytes.{Appends, Consumes}
 use Rattle.std.proofs.lemmas.List.{take_all, take-append-drop, length-drop}
@@ -90,7 +90,7 @@ takes_some u v w bytes front rest count whole written appends counted some =
       TakesAll-then u v w front (take count rest) written (record { bytes = appends; failures = same }),
     )
 
--- and one that takes nothing, or fails
+-- a write that takes nothing, or fails
 pub takes_none : (u v w : Observed) (bytes front rest : List ℕ) → bytes ≡ front ++ rest → TakesAll u v front
     → Appends v.bytes w.bytes [] → w.failures ≡ v.failures + 1 → TakesFront u w bytes
 takes_none u v w bytes front rest whole written appends failed =
@@ -102,13 +102,13 @@ takes_none u v w bytes front rest whole written appends failed =
       failures = failed ∙ ap (λ (n : ℕ). n + 1) written.failures;
     }
 
--- a text after one that was written was written in part, and so were both with whatever more
+-- if a text after one that was written was written in part, both were, whatever else follows
 pub Wrote-over : (u v w : Observed) (a b later whole : List ℕ) (e : ToolError) → TakesAll u v a → Wrote v w b (Err e)
     → whole ≡ (a ++ b) ++ later → Wrote u w whole (Err e)
 Wrote-over u v w a b later whole e first second is =
     (second.0, subst (λ (t : List ℕ). TakesFront u w t) (sym is) (TakesFront-more u w (a ++ b) later (TakesFront-then u v w a b first second.1)))
 
--- a text was written in part, and so was it with whatever more
+-- if a text was written in part, it was written in part whatever else follows
 pub Wrote-short : (u v : Observed) (a later whole : List ℕ) (e : ToolError) → Wrote u v a (Err e) → whole ≡ a ++ later → Wrote u v whole (Err e)
 Wrote-short u v a later whole e first is =
     (first.0, subst (λ (t : List ℕ). TakesFront u v t) (sym is) (TakesFront-more u v a later first.1))

@@ -8,5 +8,6 @@ pub mod MemoryTree
 pub mod Paths
 pub mod Placing
 pub mod Reading
+pub mod Searching
 pub mod Tree
 pub mod Writing

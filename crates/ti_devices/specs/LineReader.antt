@@ -26,7 +26,7 @@ ahead_of lines = lines.ahead
 abbrev pub reads_left_of : LineReader → ℕ
 reads_left_of lines = lines.reads_left
 
--- at most so many bytes are still to be used: those ahead, and `read_bytes_max` a read
+-- at most this number of bytes is still to be used: those ahead, and `read_bytes_max` a read
 abbrev pub bytes_left : LineReader → ℕ
 bytes_left lines = reads_left_of lines * read_bytes_max + length (ahead_of lines)
 
@@ -39,13 +39,13 @@ abbrev pub CannotRead : LineReader → Observed → Observed → Type 0
 CannotRead now given left =
     (left.failures ≡ given.failures + 1) ⊎ ((left.failures ≡ given.failures) × (reads_left_of now ≡ 0))
 
--- the reader failed, once, or it did not and has been read from as often as it may be
+-- the reader failed once, or it did not and has been read from as often as it may be
 abbrev pub CannotReadOn : Observed → Observed → Type 0
 CannotReadOn given left =
     (left.failures ≡ given.failures + 1) ⊎ ((left.failures ≡ given.failures) × (left.reads ≡ given.reads + reads_max))
 
--- What came next, of the bytes that were ahead and those that the reader gave: a line with its newline; at the end of the
--- input a last line without one, or none; or a fault, behind the front of a line.
+-- What came next, of the bytes ahead and those that the reader gave: a line with its newline; at
+-- the end of the input a last line without one, or none; or a fault, after the front of a line.
 abbrev pub ReadsLine : LineReader → LineReader → Observed → Observed → Result Next ToolError → Type 0
 ReadsLine before now given left (Ok Line) =
     (taken : List ℕ) × Gives given left taken × (ahead_of before ++ taken ≡ with_newline (last_line_of now) ++ ahead_of now)
@@ -62,7 +62,7 @@ ReadsLine before now given left (Err LineTooLong) =
     × IsOneLine line × (line_limit_of before < length line)
 ReadsLine before now given left (Err _) = ⊥
 
--- the limit stays, and each read takes one of those that are left
+-- the limit does not change, and each read takes one of those that are left
 pub record SpendsReads (before now : LineReader) (given left : Observed) : Type 0 where
   pub limit : line_limit_of now ≡ line_limit_of before
   pub reads : reads_left_of now + left.reads ≡ reads_left_of before + given.reads

@@ -27,7 +27,7 @@ abbrev pub with_last : List (List ℕ) → List ℕ → List (List ℕ)
 with_last lines [] = lines
 with_last lines (byte ∷ rest) = lines ++ (byte ∷ rest) ∷ []
 
--- bytes are cut into lines in one way alone
+-- bytes are cut into lines in only one way
 abbrev pub OneSplit : Type 0
 OneSplit = (bytes : List ℕ) (lines others : List (List ℕ)) (rest other : List ℕ) → Splits bytes lines rest → Splits bytes others other
     → (lines ≡ others) × (rest ≡ other)

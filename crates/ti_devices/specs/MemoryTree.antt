@@ -10,15 +10,15 @@ use Rattle.ti_devices.specs.declared.tree.TreeFault.TheVariants.{Failed, Memory}
 abbrev pub files_of : MemTree → Files
 files_of tree path = option_map (λ bytes. bytes.items) (get_by_text tree.held path)
 
--- each path holds what it held
+-- each path holds what it held before
 abbrev pub SameFiles : MemTree → MemTree → Type 0
 SameFiles before now = (path : List ℕ) → files_of now path ≡ files_of before path
 
--- how often it has failed
+-- how often the tree has failed
 abbrev pub tree_failures_of : MemTree → ℕ
 tree_failures_of tree = tree.failures.count
 
--- which call from now is to fail, counted from 1; 0 where none is
+-- which call from now is to fail, counted from 1; 0 if none is
 abbrev pub due_of : MemTree → ℕ
 due_of tree = tree.due
 
@@ -35,7 +35,7 @@ pub record ComesNearer (before now : MemTree) : Type 0 where
   pub nearer : due_of now ≡ due_of before - 1
   pub failures : tree_failures_of now ≡ tree_failures_of before
 
--- the call that is to fail answers Failed, and no other call does
+-- the call that is to fail answers `Failed`, and no other call does
 abbrev pub FailsWhereSet : {X : Type 0} → MemTree → MemTree → Result X TreeFault → Type 0
 FailsWhereSet before now (Ok _) = ComesNearer before now
 FailsWhereSet before now (Err Failed) = FailsAsSet before now

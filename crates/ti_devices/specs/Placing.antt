@@ -8,6 +8,6 @@ use Rattle.ti_devices.specs.declared.placing.File.{File}
 abbrev pub placed_entry : File → FileAt
 placed_entry file = (string_bytes file.path, file.bytes.items)
 
--- the files in their order, as plain data
+-- the files in order, as plain data
 abbrev pub entries : List File → List FileAt
 entries files = map placed_entry files

@@ -18,7 +18,7 @@ pub record TakesFront (before now : Observed) (output : List ℕ) : Type 0 where
   pub bytes : Appends before.bytes now.bytes front
   pub failures : now.failures ≡ before.failures + 1
 
--- an output was written, or up to some byte, where a write failed
+-- an output was written, or, if a write failed, up to some byte
 abbrev pub Wrote : Observed → Observed → List ℕ → Result Unit ToolError → Type 0
 Wrote before now output (Ok _) = TakesAll before now output
 Wrote before now output (Err error) = (error ≡ WriteFault) × TakesFront before now output

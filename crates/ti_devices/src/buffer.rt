@@ -5,7 +5,7 @@ ghost use Rattle.ti_devices.specs.Buffer.{Bounded};
 use std::alloc::{AllocError, Global};
 use std::marker::Model;
 
-/// Bytes with a limit. Room for so many was made at the start, so they grow without memory.
+/// Bytes with a limit. Room for all of them was made at the start, so they grow without memory.
 #[derive(Drop)]
 pub struct Buffer {
     bytes: Vec<u8>,
@@ -24,7 +24,7 @@ impl Buffer {
     /// No bytes yet, with room for `limit`.
     ///
     /// # Errors
-    /// Want of memory.
+    /// `AllocError` if memory ran out.
     pub fn new(alloc: Global, limit: usize) -> Result<Buffer, AllocError>
         ensures limit { IfOk result (λ buffer. buffer.limit ≡ limit) }
         ensures empty { IfOk result (λ buffer. buffer.bytes ≡ []) }
@@ -57,7 +57,7 @@ impl Buffer {
         self.bytes.extend_from_slice(&more[..count]).unwrap();
     }
 
-    /// Drops the bytes, and keeps the room.
+    /// Drops the bytes. The room remains.
     pub fn clear(&mut self)
         ensures bytes { self.new.bytes ≡ [] }
         ensures limit { self.new.limit ≡ self.old.limit }

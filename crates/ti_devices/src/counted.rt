@@ -1,5 +1,6 @@
-//! Devices whose failures and reads are counted, so that contracts can tell a fault that the device
-//! gave from one that was made up.
+//! Devices whose failures and reads are counted.
+//!
+//! So contracts can tell a fault that the device gave from one that was made up.
 ghost use Rattle.std.specs.Prelude.{◌≡◌, ◌+◌};
 ghost use Rattle.std.specs.Io.{ReadsAtMost, WritesAtMost};
 ghost use Rattle.std.specs.Io.KnownBytes.{Keeps, ReadConsumes, WriteAppends};
@@ -7,11 +8,11 @@ ghost use Rattle.std.specs.Io.KnownBytes.{Keeps, ReadConsumes, WriteAppends};
 use crate::tally::Tally;
 use std::io::{Read, Result, Write};
 
-/// A reader or a writer, how often it has failed, and how often it was read from. The counts are seen
-/// by contracts alone, take no memory and have no greatest value.
+/// A reader or a writer, how often it has failed, and how often it was read from. Only contracts
+/// see the counts. They take no memory and have no greatest value.
 ///
-/// A call through it raises the count of failures by one exactly where the device answers a fault, or
-/// takes no byte of a piece that has some; each read raises the count of reads by one.
+/// A call through it raises the count of failures by one exactly if the device answers a fault, or
+/// takes no byte of a piece that has some. Each read raises the count of reads by one.
 #[derive(Drop)]
 pub struct Counted<D> {
     device: D,
@@ -35,7 +36,7 @@ impl<D> Counted<D> {
         }
     }
 
-    /// The device, as it is.
+    /// The device, unchanged.
     pub fn into_inner(self) -> D
         ensures { result ≡ device_of self }
     {

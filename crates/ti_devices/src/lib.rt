@@ -1,39 +1,44 @@
-//! What the tools read from and write to: readers and writers whose failures are counted, trees of files,
-//! and the faults that stop a tool.
+//! What the tools read from and write to: readers and writers whose failures are counted, trees of
+//! files, and the faults that stop a tool.
 //!
 //! - `tool_error`: why a tool stops
-//! - `counted`: readers and writers with a count of their failures and of their reads; `tally` is such a
-//!   count, which contracts alone see
+//! - `counted`: readers and writers with a count of their failures and of their reads; `tally` is
+//!   such a count, which only contracts see
 //! - `reading` and `writing`: bytes read as they come, and bytes written to their end
 //! - `buffer`: bytes with a limit, for which the room was made at the start
-//! - `line_reader`: lines read one at a time, with a limit on their length and on the reads; `read_ahead`
-//!   holds what was read and not used yet. `lines`: bytes are cut into lines in one way alone
-//! - `paths`: where the entries of terminals stand below a folder
-//! - `tree`: what a tree of files is; `memory_tree` is one in memory, and `placing` writes files into a tree
+//! - `line_reader`: lines read one at a time, with a limit on their length and on the reads;
+//!   `read_ahead` holds what was read and not used yet. `laws`: bytes are cut into lines in only
+//!   one way
+//! - `paths`: the paths of entries below a directory; `searching`: the directories in which an entry
+//!   is looked for, its file, and the entry in it
+//! - `tree`: what a tree of files is; `memory_tree` is one in memory, and `placing` writes files
+//!   into a tree
 #![tactic(auto)]
 
-pub mod buffer;
-pub mod counted;
-pub mod line_reader;
-pub mod lines;
-pub mod memory_tree;
-pub mod paths;
-pub mod placing;
+mod buffer;
+mod counted;
+mod laws;
+mod line_reader;
+mod memory_tree;
+mod paths;
+mod placing;
 mod read_ahead;
-pub mod reading;
-pub mod tally;
-pub mod tool_error;
-pub mod tree;
-pub mod writing;
+mod reading;
+mod searching;
+mod tally;
+mod tool_error;
+mod tree;
+mod writing;
 
 pub use buffer::Buffer;
 pub use counted::Counted;
-pub use line_reader::{LineReader, Next};
-pub use lines::one_split;
+pub use laws::one_split;
+pub use line_reader::{LineReader, Next, READS_MAX};
 pub use memory_tree::MemTree;
 pub use paths::entry_path;
 pub use placing::{File, place};
 pub use reading::read_piece;
+pub use searching::{SYSTEM_DIRECTORY, entry, locate, places};
 pub use tally::Tally;
 pub use tool_error::ToolError;
 pub use tree::{Tree, TreeFault};

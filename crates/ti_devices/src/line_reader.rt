@@ -12,7 +12,7 @@ use memchr::memchr;
 use std::alloc::{AllocError, Global};
 use std::io::Read;
 
-/// After so many reads a reader of lines stops.
+/// After this number of reads a reader of lines stops.
 pub const READS_MAX: u64 = 4_294_967_296;
 
 /// What came next of an input.
@@ -26,8 +26,8 @@ pub enum Next {
     End,
 }
 
-/// A reader of lines. It holds one line and what was read of the next ones, with room for both made at
-/// the start.
+/// A reader of lines. It holds one line and what was read of the next ones, with room for both made
+/// at the start.
 #[derive(Drop)]
 pub struct LineReader {
     line: Buffer,
@@ -35,7 +35,7 @@ pub struct LineReader {
     reads_left: u64,
 }
 
-// Where the first newline stands.
+// The place of the first newline.
 fn find_newline(bytes: &[u8]) -> Option<usize>
     ensures { MatchOption result (IsOneLine bytes.now) (λ end. (end < length bytes.now)
         × (bytes.now ≡ with_newline (take end bytes.now) ++ drop (end + 1) bytes.now)
@@ -63,10 +63,11 @@ impl LineReader {
     ghost use Rattle.ti_devices.specs.inside.LineReader.{Refills, TakesLine};
     ghost use Rattle.ti_devices.specs.LineReader.{Advances, ReadsLine, SpendsReads, ahead_of, line_limit_of, last_line_of, reads_left_of, reads_max};
 
-    /// A reader of lines of at most `limit` bytes, counted without their newline. Nothing is read yet.
+    /// A reader of lines of at most `limit` bytes, counted without their newline. Nothing is read
+    /// yet.
     ///
     /// # Errors
-    /// Want of memory.
+    /// `AllocError` if memory ran out.
     pub fn new(alloc: Global, limit: usize) -> Result<LineReader, AllocError>
         ensures limit { IfOk result (λ lines. line_limit_of lines ≡ limit) }
         ensures ahead { IfOk result (λ lines. ahead_of lines ≡ []) }
@@ -87,8 +88,8 @@ impl LineReader {
         self.line.as_slice()
     }
 
-    // Puts what stands before the first newline ahead behind the line; all that is ahead, where there is
-    // no newline. The answer is whether there is one.
+    // Puts what is before the first newline ahead after the line; all that is ahead, if there is no
+    // newline. Answers whether there is one.
     fn take_line(&mut self) -> Result<bool, ToolError>
         ensures taken { TakesLine self.old self.new result }
         ensures limit { line_limit_of self.new ≡ line_limit_of self.old }
@@ -110,7 +111,7 @@ impl LineReader {
         }
     }
 
-    // Reads once more, where nothing is ahead. The answer is whether a byte came.
+    // Reads once more, if nothing is ahead. Answers whether a byte came.
     fn refill<R: Read>(&mut self, reader: &mut Counted<R>) -> Result<bool, ToolError>
         requires { ahead_of self.old ≡ [] }
         ensures came { Refills self.old self.new (observation R.remaining reader.old)
@@ -130,8 +131,8 @@ impl LineReader {
     /// Reads the next line.
     ///
     /// # Errors
-    /// `ReadFault` where the reader fails, and where 4,294,967,296 reads were made; `LineTooLong` at a
-    /// line over the limit.
+    /// `ReadFault` if the reader fails, or after 4,294,967,296 reads; `LineTooLong` at a line over
+    /// the limit.
     pub fn read_line<R: Read>(&mut self, reader: &mut Counted<R>) -> Result<Next, ToolError>
         ensures next { ReadsLine self.old self.new (observation R.remaining reader.old)
             (observation R.remaining reader.new) result }

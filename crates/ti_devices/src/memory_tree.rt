@@ -8,8 +8,8 @@ use crate::tree::{Tree, TreeFault};
 use std::alloc::{AllocError, Global};
 use std::collections::BTreeMap;
 
-/// A tree of files in memory. A contract sees its map from paths to bytes, how often it has failed, and
-/// which call it is to fail.
+/// A tree of files in memory. A contract sees its map from paths to bytes, how often it has failed,
+/// and which call it is to fail.
 #[derive(Drop)]
 pub struct MemTree {
     alloc: Global,
@@ -36,7 +36,7 @@ impl MemTree {
         }
     }
 
-    /// The bytes of the file at `path`, or `None` where there is no such file. Takes no memory, and is
+    /// The bytes of the file at `path`, or `None` if there is no such file. Takes no memory, and is
     /// no call that may fail.
     pub fn file(&self, path: &str) -> Option<&[u8]>
         ensures { option_map (λ bytes. bytes.now) result ≡ files_of self.now path.now }
@@ -44,8 +44,9 @@ impl MemTree {
         self.held.get(path).map(|bytes| bytes.as_slice())
     }
 
-    /// Has the `n`th call of `read` and `write` from now, counted from 1, answer `Failed` once. It
-    /// changes no file. What was said before of a call that is still to come no longer holds.
+    /// Has the `n`th call of `read` and `write` from now, counted from 1, answer `Failed` once.
+    /// That call changes no file. An earlier setting for a call that is still to come no longer
+    /// holds.
     pub fn fail_at(&mut self, n: u64)
         requires { 0 < n }
         ensures due { due_of self.new ≡ n }
@@ -55,7 +56,7 @@ impl MemTree {
         self.due = n;
     }
 
-    // Counts one call, which fails where it was to.
+    // Counts one call, which fails if it was to.
     fn count_call(&mut self) -> Result<(), TreeFault>
         ensures failing { FailsWhereSet self.old self.new result }
         ensures failed { IfErr result (λ fault. fault ≡ Failed) }

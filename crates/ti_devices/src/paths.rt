@@ -1,4 +1,4 @@
-//! Where the entries of terminals stand below a folder.
+//! Where the entries of terminals are below a directory.
 ghost use Rattle.std.specs.Prelude.{◌≡◌, ◌<◌, ◌++◌, All, IfOk, OnOk, length};
 ghost use Rattle.std.specs.String.{string_bytes};
 ghost use Rattle.ti_text.specs.Ascii as ascii;
@@ -17,10 +17,10 @@ fn push_name(path: &mut String, name: &[u8]) -> Result<(), AllocError>
     Ok(())
 }
 
-/// Where the entry of a name stands below a folder: in a folder of the name's first byte.
+/// Where the entry of a name is below a directory: in a directory named by the name's first byte.
 ///
 /// # Errors
-/// Want of memory.
+/// `AllocError` if memory ran out.
 pub fn entry_path(alloc: Global, dir: &str, name: &[u8]) -> Result<String, AllocError>
     requires some { 0 < length name.now }
     requires ascii { All (λ byte. byte < ascii.size) name.now }

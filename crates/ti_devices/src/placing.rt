@@ -1,4 +1,4 @@
-//! Writing the files that a tool made.
+//! Writes the files that a tool made.
 ghost use Rattle.std.specs.Prelude.{◌≡◌, ◌+◌, IfErr, OnErr, OnOk};
 ghost use Rattle.ti_devices.specs.Placing.{entries, placed_entry};
 ghost use Rattle.ti_devices.specs.Tree.{ChangesOnly, Sets, Writes, WritesUpTo, failures_by};
@@ -8,9 +8,9 @@ use crate::tree::{Tree, TreeFault};
 /// A file to be written.
 #[derive(Debug, PartialEq, Eq, Drop)]
 pub struct File {
-    /// Where it is to stand: a path with `/` between its parts.
+    /// Where the file is to be: a path with `/` between its parts.
     pub path: String,
-    /// What it is to hold.
+    /// What the file is to hold.
     pub bytes: Vec<u8>,
 }
 
@@ -28,8 +28,8 @@ fn place_one<T: Tree>(tree: &mut T, file: &File) -> Result<(), TreeFault>
 /// Writes the files in order, and stops at the first that is not written.
 ///
 /// # Errors
-/// How many files were written before the fault, and the fault. The file at the path of the next
-/// one may have changed, and no other.
+/// How many files were written before the fault, and the fault. Of the other paths, only that of
+/// the next file may have changed.
 pub fn place<T: Tree>(tree: &mut T, files: &[File]) -> Result<(), (usize, TreeFault)>
     ensures all { OnOk result (Writes (entries files.now) (T.files tree.old) (T.files tree.new)) }
     ensures some { IfErr result (λ stop. WritesUpTo stop.0 (entries files.now) (T.files tree.old)

@@ -10,7 +10,7 @@ use crate::tool_error::ToolError;
 use std::io::Read;
 use std::marker::Model;
 
-/// How many bytes are asked for at a time.
+// How many bytes are asked for at a time.
 const PIECE: usize = 4096;
 
 /// The bytes that were read and not used yet.
@@ -52,7 +52,7 @@ impl ReadAhead {
         &self.piece[self.from..self.to]
     }
 
-    /// Drops so many bytes at the front.
+    /// Drops the given number of bytes at the front.
     pub fn skip(&mut self, count: usize)
         requires { count ≤ length self.old }
         ensures { self.new ≡ drop count self.old }
@@ -63,7 +63,7 @@ impl ReadAhead {
     /// Drops the bytes that are there, and reads once.
     ///
     /// # Errors
-    /// `ReadFault` where the device fails.
+    /// `ReadFault` if the device fails.
     pub fn fill<R: Read>(&mut self, reader: &mut Counted<R>) -> Result<(), ToolError>
         ensures bytes { Refill (observation R.remaining reader.old) (observation R.remaining reader.new)
             self.new result }

@@ -7,11 +7,11 @@ use crate::counted::Counted;
 use crate::tool_error::ToolError;
 use std::io::Read;
 
-/// Reads once, into the front of a piece that has room. The answer is how many bytes came, and 0 at the
-/// end alone.
+/// Reads once, into the front of a piece that has room. Answers how many bytes came: 0 only at the
+/// end.
 ///
 /// # Errors
-/// `ReadFault` where the device fails; it then gave no byte.
+/// `ReadFault` if the device fails; it then gave no byte.
 pub fn read_piece<R: Read>(reader: &mut Counted<R>, piece: &mut [u8]) -> Result<usize, ToolError>
     requires { 0 < length piece.old }
     ensures bytes { ReadsOnce (observation R.remaining reader.old) (observation R.remaining reader.new)

@@ -16,7 +16,7 @@ impl Model for Tally {
 }
 
 impl Tally {
-    /// Not yet.
+    /// Zero times.
     pub fn zero() -> Tally
         ensures { result.count ≡ 0 }
     {

@@ -15,7 +15,7 @@ pub enum ToolError {
     /// There is no such terminal.
     #[error("unknown terminal")]
     NoTerminal,
-    /// The file of a terminal is no compiled entry, and why.
+    /// The file of a terminal is no compiled entry, and the reason.
     #[error("bad entry ({0})")]
     BadEntry(ReadError),
     /// A file or an input could not be read.

@@ -16,20 +16,20 @@ pub enum TreeFault {
     Memory,
 }
 
-/// A tree of files. A contract sees the files that it holds, where that is known, and how often
-/// what holds them has failed.
+/// A tree of files. A contract sees the files that it holds, if that is known, and how often what
+/// holds them has failed.
 pub trait Tree {
-    // the files that the tree holds, where that is known
+    // the files that the tree holds, if that is known
     ghost files: { Self → Option Files } = { λ _. None };
 
     // how often what holds the files has failed
     ghost failures: { Self → ℕ };
 
-    /// The bytes of the file at `path`, of a file longer than `limit` bytes its first `limit + 1`.
-    /// `None`: no such file.
+    /// The bytes of the file at `path`; of a file longer than `limit` bytes, its first `limit + 1`.
+    /// `None`: there is no such file.
     ///
     /// # Errors
-    /// `Failed` where the file is there and could not be read, then `Memory`.
+    /// `Failed` if the file is there and could not be read, then `Memory`.
     fn read(
         &mut self,
         alloc: Global,
@@ -42,10 +42,10 @@ pub trait Tree {
         ensures kept { files self.new ≡ files self.old }
         ensures counted { failures self.new ≡ failures self.old + failures_in result };
 
-    /// Writes a file of these bytes, in place of the one at `path` where there is one.
+    /// Writes a file of these bytes, in place of the one at `path` if there is one.
     ///
     /// # Errors
-    /// `Failed` where the file could not be written, then `Memory`. The file at `path` may have
+    /// `Failed` if the file could not be written, then `Memory`. The file at `path` may have
     /// changed, and no other.
     fn write(&mut self, path: &str, bytes: &[u8]) -> Result<(), TreeFault>
         ensures written { OnOk result (Sets (path.now, bytes.now) (files self.old) (files self.new)) }

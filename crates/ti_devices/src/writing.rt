@@ -9,7 +9,7 @@ use std::io::Write;
 /// Writes bytes to the end.
 ///
 /// # Errors
-/// `WriteFault` where the device fails; it then took the bytes up to some place.
+/// `WriteFault` if the device fails; it then took the bytes up to some place.
 pub fn write_out<W: Write>(writer: &mut Counted<W>, bytes: &[u8]) -> Result<(), ToolError>
     ensures { Wrote (observation W.contents writer.old) (observation W.contents writer.new) bytes.now result }
 {

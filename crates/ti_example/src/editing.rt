@@ -1,4 +1,4 @@
-//! Editing a source: its blocks in a database, and the files of its entries written where they changed.
+//! Edits a source: its blocks in a database, and the files of its entries written if they changed.
 ghost use Rattle.std.specs.Prelude.{◌<◌, length};
 
 use std::alloc::{AllocError, Global};
@@ -21,7 +21,7 @@ pub fn source_database(alloc: Global, source: &[u8]) -> Result<Database, EditErr
     Ok(database)
 }
 
-/// Where the entry of a name stands: in a folder of the name's first character.
+// Where the entry of a name is: in a directory of the name's first character.
 fn path_of(alloc: Global, place: &str, name: &str) -> Result<Option<String>, AllocError> {
     match name.chars().next() {
         Some(first) => Ok(Some(format!(in alloc; "{place}/{first}/{name}")?)),
@@ -29,7 +29,7 @@ fn path_of(alloc: Global, place: &str, name: &str) -> Result<Option<String>, All
     }
 }
 
-/// Adds a file for each name that the block at `at` owns, where it has an entry.
+// Adds a file for each name that the block at `at` owns, if it has an entry.
 fn add_files(
     alloc: Global,
     database: &Database,
@@ -63,7 +63,7 @@ fn add_files(
     Ok(())
 }
 
-/// The files of all entries.
+// The files of all entries.
 fn files_of(alloc: Global, database: &Database, place: &str) -> Result<Vec<File>, AllocError> {
     let mut files = Vec::new(alloc);
     for at in 0..database.len() {
@@ -72,8 +72,8 @@ fn files_of(alloc: Global, database: &Database, place: &str) -> Result<Vec<File>
     Ok(files)
 }
 
-/// Writes the files of the entries that are not in the tree yet, or other there, and says how many
-/// these were.
+/// Writes the files of the entries that are not in the tree yet, or differ there, and answers how
+/// many these were.
 ///
 /// # Errors
 /// What the tree answers.

@@ -1,6 +1,7 @@
-//! An example of the crates as a library. Its word names a file with a source. The source is put into a
-//! database, its entries are written into a tree of files, the strings of one are expanded and padded, the
-//! source is edited, and what the edit changed is written again. `docs/LIBRARY.md` walks through it.
+//! An example of the crates as a library. Its word names a file with a source. The source is put
+//! into a database, its entries are written into a tree of files, the strings of one are expanded
+//! and padded, the source is edited, and what the edit changed is written again. `docs/LIBRARY.md`
+//! walks through it.
 #![tactic(auto)]
 
 mod editing;
@@ -12,18 +13,17 @@ use std::rt::{Env, Files};
 use std::{env, fs, io};
 use terminal::{find_entry, string_for};
 use ti_base::Database;
-use ti_devices::{MemTree, ToolError};
+use ti_devices::{MemTree, ToolError, entry};
 use ti_param::Value;
-use ti_tput::entry;
 
-/// Where the entries stand in the tree.
+// Where the entries are in the tree.
 const PLACE: &str = "entries";
 
-/// The block that the edit puts in the place of the first.
+// The block that the edit puts in the place of the first.
 const EDITED: &[u8] =
     b"lamp-base|what all lamps have in common,\n\tcols#132, cup=\\E[%i%p1%d;%p2%df,\n";
 
-/// The source in the file that the first word names.
+// The source in the file that the first word names.
 fn read_source<R: Env + Files + AllocGlobal>(rt: &R) -> io::Result<Vec<u8>> {
     let words: Vec<String> = env::args(rt)?.collect(rt.alloc())?;
     match words.get(1) {
@@ -32,7 +32,7 @@ fn read_source<R: Env + Files + AllocGlobal>(rt: &R) -> io::Result<Vec<u8>> {
     }
 }
 
-/// What moves the cursor of a terminal to row 4 and column 9, at 9,600 bits a second.
+// What moves the cursor of a terminal to row 4 and column 9, at 9,600 bits per second.
 fn cursor_move(alloc: Global, tree: &mut MemTree, name: &str) -> Result<Vec<u8>, ToolError> {
     let file = find_entry(alloc, tree, PLACE, name)?;
     let view = entry(file.as_slice())?;
@@ -45,7 +45,7 @@ fn cursor_move(alloc: Global, tree: &mut MemTree, name: &str) -> Result<Vec<u8>,
     )
 }
 
-/// Prints the bytes that move the cursor, in hexadecimal.
+// Prints the bytes that move the cursor, in hexadecimal.
 fn print_move<R: Print + AllocGlobal>(rt: &R, tree: &mut MemTree) -> io::Result<()> {
     match cursor_move(rt.alloc(), tree, "lamp") {
         Ok(bytes) => {
@@ -58,7 +58,7 @@ fn print_move<R: Print + AllocGlobal>(rt: &R, tree: &mut MemTree) -> io::Result<
     }
 }
 
-/// Writes what is new of the entries into the tree, and prints how many files that were.
+// Writes what is new of the entries into the tree, and prints how many files that were.
 fn print_changes<R: Print + AllocGlobal>(
     rt: &R,
     database: &Database,

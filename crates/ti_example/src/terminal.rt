@@ -1,10 +1,9 @@
-//! Driving a terminal: its entry found, a string of it expanded and padded.
+//! Drives a terminal: its entry is found, and a string of it expanded and padded.
 use std::alloc::Global;
 use ti_caps::{Kind, find};
-use ti_devices::{ToolError, Tree};
+use ti_devices::{ToolError, Tree, locate};
 use ti_layout::View;
 use ti_param::{Line, ParamError, Statics, Value, expand, pad};
-use ti_tput::locate;
 
 /// The file of a terminal's entry in one place of a tree.
 ///
@@ -23,7 +22,7 @@ pub fn find_entry<T: Tree>(
     locate(alloc, tree, name, places.as_slice())
 }
 
-/// The text of a capability, as it stands in the entry.
+// The string of a capability, as it is in the entry.
 fn text<'a>(view: &View<'a>, name: &[u8]) -> Option<&'a [u8]> {
     match find(name) {
         Some(cap) if cap.kind() == Kind::Text => view.text(cap),
@@ -31,7 +30,7 @@ fn text<'a>(view: &View<'a>, name: &[u8]) -> Option<&'a [u8]> {
     }
 }
 
-/// Whether the entry has a flag.
+// Whether the entry has a boolean.
 fn flag(view: &View<'_>, name: &[u8]) -> bool {
     match find(name) {
         Some(cap) if cap.kind() == Kind::Flag => view.flag(cap),
@@ -39,7 +38,7 @@ fn flag(view: &View<'_>, name: &[u8]) -> bool {
     }
 }
 
-/// The number of a capability, where the entry has one.
+// The number of a capability, if the entry has one.
 fn number(view: &View<'_>, name: &[u8]) -> Option<u32> {
     match find(name) {
         Some(cap) if cap.kind() == Kind::Number => view.number(cap),
@@ -47,7 +46,7 @@ fn number(view: &View<'_>, name: &[u8]) -> Option<u32> {
     }
 }
 
-/// The line to the terminal at so many bits a second.
+// The line to the terminal at this many bits per second.
 fn line(view: &View<'_>, rate: u32) -> Line {
     let pad_byte = match text(view, b"pad") {
         Some([first, ..]) => *first,
@@ -65,7 +64,7 @@ fn line(view: &View<'_>, rate: u32) -> Line {
     }
 }
 
-/// A parameter, or the number 0 where it is not given.
+// A parameter, or the number 0 if it is not given.
 fn parameter<'a>(words: &[Value<'a>], place: usize) -> Value<'a> {
     match words.get(place) {
         Some(word) => *word,
@@ -73,7 +72,7 @@ fn parameter<'a>(words: &[Value<'a>], place: usize) -> Value<'a> {
     }
 }
 
-/// The nine parameters that a string is expanded with.
+// The nine parameters that a string is expanded with.
 fn parameters<'a>(words: &[Value<'a>]) -> [Value<'a>; 9] {
     [
         parameter(words, 0),
@@ -88,8 +87,9 @@ fn parameters<'a>(words: &[Value<'a>]) -> [Value<'a>; 9] {
     ]
 }
 
-/// What a string of the entry sends to the terminal: expanded with up to nine parameters, and padded for a
-/// line of `rate` bits a second. It is empty where the entry has no such string, or the string is none.
+/// What a string of the entry sends to the terminal: expanded with up to nine parameters, and
+/// padded for a line of `rate` bits per second. It is empty if the entry has no such string, or the
+/// string is bad.
 ///
 /// # Errors
 /// `Memory`.

@@ -1,14 +1,15 @@
 -- Lists of the ids that pass a test, in the order of all.
-use Rattle.std.proofs.Common.{◌≡◌, ℕ, zero, suc, ◌+◌, ◌<◌, ◌≤◌, inl, inr, Bool, true, false, cond, ◌&&◌, ◌||◌, not, List, [], ◌∷◌, ◌++◌, length, filter, insert, remove, take, drop, get_or, nat_eq, Some, slice_get, refl, sym, ◌∙◌, ap, arith}
-use Rattle.std.proofs.lemmas.Bool.{cases_lt, cases_eq, cases_Bool, false≢true, eqb-true, eq-eqb}
+use Rattle.std.proofs.Common.{◌≡◌, ℕ, zero, suc, ◌+◌, ◌<◌, ◌≤◌, inl, inr, Bool, true, false, cond, ◌&&◌, ◌||◌, not, List, [], ◌∷◌, ◌++◌, length, filter, insert, remove, take, drop, get_or, nat_eq, ltb, Some, slice_get, refl, sym, ◌∙◌, ap, arith}
+use Rattle.std.specs.List.Sorted.{IsPartitionedBy, IsPartitionPoint}
+use Rattle.std.proofs.lemmas.Bool.{cases_lt, cases_eq, cases_Bool, false≢true, eqb-true, eq-eqb, ltb-true, lt-ltb}
+use Rattle.std.proofs.lemmas.List.{length-take-le}
 use Rattle.std.proofs.lemmas.List.Elements.{filter-append}
-use Rattle.std.proofs.lemmas.Option.{same_Some, none-some}
+use Rattle.std.proofs.lemmas.Option.{same_Some, none-some, slice_get_within, slice_get-get_or}
 use Rattle.ti_index.specs.inside.Labels.{AreLabelled}
-use Rattle.ti_text.specs.Lists.{Has}
-use Rattle.ti_index.specs.Labels.{AreKnown, AreDistinct}
+use Rattle.ti_text.specs.Lists.{Has, AreBelow, AreDistinct}
 use Rattle.ti_index.specs.Listing.{Lists, ListsBefore, ListsToo, ListsNoMore}
 use Rattle.ti_index.proofs.Placing.{labels_decide_before}
-use Rattle.ti_index.proofs.Lists.{get_back, take_get, drop_get}
+use Rattle.ti_text.proofs.Lists.{get_back, take_get, drop_get}
 
 -- ---- the place of an element that passes
 
@@ -51,11 +52,23 @@ filter_place test (y ∷ xs) k x e =
 
 -- ---- the binary search
 
--- the number before the id lies between the bounds
-pub record IsCounted (listed list : List ℕ) (id low high : ℕ) : Type 0 where
-  pub order : low ≤ high
-  pub within : high ≤ length list
-  pub between : (test : ℕ → Bool) (place : ℕ) → list ≡ filter test listed → slice_get listed place ≡ Some id → (low ≤ length (filter test (take place listed))) × (length (filter test (take place listed)) ≤ high)
+-- exactly the first elements, so many, pass
+abbrev pub PassesBelow : {X : Type 0} → (X → Bool) → List X → ℕ → Type 0
+PassesBelow {X} p xs n = (k : ℕ) (d : X) → k < length xs → (p (get_or xs k d) ≡ true → k < n) × (k < n → p (get_or xs k d) ≡ true)
+
+pub passing_first : {X : Type 0} (p : X → Bool) (xs : List X) (n : ℕ) → PassesBelow p xs n → IsPartitionedBy p xs
+passing_first p xs n h i j d l m t = let f = (h j d m).0 t in (h i d (omega arith)).1 (omega arith)
+
+-- a search for the first that fails finds it
+pub point_is : {X : Type 0} (p : X → Bool) (xs : List X) (n i : ℕ) (d : X) → n ≤ length xs → i ≤ length xs → PassesBelow p xs n → IsPartitionPoint (λ y. p y ≡ true) (λ y. p y ≡ false) xs i → i ≡ n
+point_is p xs n i d a b h w =
+    elim (cases_lt i n) [
+      | inl less ↦ absurd (false≢true (sym (w.1 i d (omega arith) (omega arith)) ∙ (h i d (omega arith)).1 less))
+      | inr more ↦ elim (cases_lt n i) [
+        | inl less ↦ (let t = (h n d (omega arith)).0 (w.0 n d (omega arith) less) in absurd (omega arith))
+        | inr same ↦ omega arith
+      ]
+    ]
 
 filter-take_le : (test : ℕ → Bool) (n : ℕ) (xs : List ℕ) → length (filter test (take n xs)) ≤ length (filter test xs)
 filter-take_le test zero xs = omega arith
@@ -66,46 +79,39 @@ filter-take_le test (suc n) (x ∷ xs) =
       | inr t ↦ omega (arith, count_cons test x (take n xs) false t, count_cons test x xs false t, filter-take_le test n xs)
     ]
 
-pub counted_begun : (listed list : List ℕ) (id : ℕ) → IsCounted listed list id 0 (length list)
-counted_begun listed list id = record {
-  order = omega arith;
-  within = omega arith;
-  between = λ test place e f. (omega arith, omega (arith, filter-take_le test place listed, ap length e));
-}
+-- whether the label of an id is below a number
+abbrev pub is_below : List ℕ → ℕ → ℕ → Bool
+is_below labels label x = ltb (get_or labels x 0) label
 
--- what a comparison with the id says of an element's place
-abbrev pub IsDecidedBefore : List ℕ → ℕ → ℕ → Bool → Type 0
-IsDecidedBefore listed x id decided = (i j : ℕ) → slice_get listed i ≡ Some x → slice_get listed j ≡ Some id → (decided ≡ true → i < j) × (i < j → decided ≡ true)
+-- of a list in the order of all, those whose labels are below that of an id stand before it
+labels_pass : (ids labels list : List ℕ) (id : ℕ) (test : ℕ → Bool) (place : ℕ) → AreLabelled ids labels → AreBelow ids (length labels) → list ≡ filter test ids → slice_get ids place ≡ Some id → PassesBelow (is_below labels (get_or labels id 0)) list (length (filter test (take place ids)))
+labels_pass ids labels list id test place labelled known e f k d l =
+    let x = get_or list k d in
+    let p = filter_place test ids k x (ap (λ xs. slice_get xs k) (sym e) ∙ slice_get-get_or list k d l) in
+    let decided = labels_decide_before ids labels p.0 place x id labelled known p.1 f in (
+      (λ t. (p.2 place).0 (decided.0 (ltb-true (get_or labels x 0) (get_or labels id 0) t))),
+      λ m. lt-ltb (get_or labels x 0) (get_or labels id 0) (decided.1 ((p.2 place).1 m)),
+    )
 
-pub counted_above : (listed list : List ℕ) (id low high middle x : ℕ) → IsCounted listed list id low high → low ≤ middle → middle < high → slice_get list middle ≡ Some x → IsDecidedBefore listed x id true → IsCounted listed list id (middle + 1) high
-counted_above listed list id low high middle x h l m e decided = record {
-  order = omega arith;
-  within = h.within;
-  between = λ test place f g.
-      let p = filter_place test listed middle x (ap (λ xs. slice_get xs middle) (sym f) ∙ e) in
-      let first = (decided p.0 place p.1 g).0 refl in
-      let less = (p.2 place).0 first in
-      (omega arith, (h.between test place f g).1);
-}
+-- the place that a search by labels gives counts those before the id
+pub counted : (ids labels list : List ℕ) (id i : ℕ) → AreLabelled ids labels → AreBelow ids (length labels) → i ≤ length list → (IsPartitionedBy (is_below labels (get_or labels id 0)) list → IsPartitionPoint (λ x. is_below labels (get_or labels id 0) x ≡ true) (λ x. is_below labels (get_or labels id 0) x ≡ false) list i) → ListsBefore ids list id i
+counted ids labels list id i labelled known within point test place e f =
+    let p = is_below labels (get_or labels id 0) in
+    let n = length (filter test (take place ids)) in
+    let passes = labels_pass ids labels list id test place labelled known e f in
+    point_is p list n i 0 (omega (arith, filter-take_le test place ids, ap length e)) within passes (point (passing_first p list n passes))
 
-pub counted_below : (listed list : List ℕ) (id low high middle x : ℕ) → IsCounted listed list id low high → low ≤ middle → middle < high → slice_get list middle ≡ Some x → IsDecidedBefore listed x id false → IsCounted listed list id low middle
-counted_below listed list id low high middle x h l m e decided = record {
-  order = l;
-  within = (let w = h.within in omega arith);
-  between = λ test place f g.
-      let p = filter_place test listed middle x (ap (λ xs. slice_get xs middle) (sym f) ∙ e) in (
-        (h.between test place f g).0,
-        elim (cases_lt middle (length (filter test (take place listed)))) [
-          | inl less ↦ absurd (false≢true ((decided p.0 place p.1 g).1 ((p.2 place).1 less)))
-          | inr more ↦ more
-        ],
-      );
-}
-
-pub counted_found : (listed list : List ℕ) (id low high : ℕ) → IsCounted listed list id low high → high ≤ low → ListsBefore listed list id low
-counted_found listed list id low high h l test place e f =
-    let b = h.between test place e f in
-    let o = h.order in omega (arith, b.0, b.1)
+-- the position of an id, as the number of all that stand before it
+pub position_is : (listed : List ℕ) (id i : ℕ) → Has listed id → ListsBefore listed listed id i → slice_get listed i ≡ Some id
+position_is listed id i h before =
+    let all : (xs : List ℕ) → xs ≡ filter (λ x. true) xs = all_pass in
+    let l = slice_get_within listed h.0 id h.1 in
+    let is : h.0 ≡ i = sym (before (λ x. true) h.0 (all listed) h.1 ∙ (ap length (sym (all (take h.0 listed))) ∙ length-take-le h.0 listed (omega arith))) in
+    rw is at h.1
+  where
+    all_pass : (xs : List ℕ) → xs ≡ filter (λ x. true) xs
+    all_pass [] = refl
+    all_pass (x ∷ xs) = ap (λ ys. x ∷ ys) (all_pass xs)
 
 -- ---- an id is put into a list, or taken out of it
 
@@ -225,15 +231,3 @@ take_there listed list id count place d f before h t e =
     let new : filter u listed ≡ front ++ back = filter_split u listed place id f ∙ (rw (fails, same_front, same_back) refl) in
     let b = before t place e f in
     rw (old, b) (remove_at front back id) ∙ sym new
-
--- ---- a comparison by labels
-
-pub decided_true : (ids labels : List ℕ) (x id : ℕ) → AreLabelled ids labels → AreKnown ids (length labels) → get_or labels x 0 < get_or labels id 0 → IsDecidedBefore ids x id true
-decided_true ids labels x id labelled known less i j e f =
-    let decided = labels_decide_before ids labels i j x id labelled known e f in
-    ((λ t. decided.0 less), λ l. refl)
-
-pub decided_false : (ids labels : List ℕ) (x id : ℕ) → AreLabelled ids labels → AreKnown ids (length labels) → get_or labels id 0 ≤ get_or labels x 0 → IsDecidedBefore ids x id false
-decided_false ids labels x id labelled known more i j e f =
-    let decided = labels_decide_before ids labels i j x id labelled known e f in
-    ((λ t. absurd (false≢true t)), λ l. (let less = decided.1 l in absurd (omega arith)))

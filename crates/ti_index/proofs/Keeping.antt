@@ -5,7 +5,7 @@ use Rattle.std.proofs.lemmas.Option.{same_Some, none-some, slice_get_within}
 use Rattle.ti_index.specs.inside.Labels.{HasLabel, AreLabelled, FitsAt}
 use Rattle.ti_text.specs.Lists.{Has}
 use Rattle.ti_index.specs.inside.Order.{IsOrder}
-use Rattle.ti_index.proofs.Lists.{get_front, get_last, push_cases, get-set_same, get-set_other, item_at}
+use Rattle.ti_text.proofs.Lists.{get_front, get_last, push_cases, get-set_same, get-set_other, item_at}
 
 -- ---- elements of a list that one was put into, or taken out of
 

@@ -3,8 +3,8 @@ use Rattle.std.proofs.Common.{◌≡◌, ℕ, ◌+◌, ◌*◌, ◌^◌, ◌<◌
 use Rattle.std.proofs.lemmas.Bool.{cases_lt, cases_eq}
 use Rattle.std.proofs.lemmas.Option.{same_Some, slice_get_within}
 use Rattle.ti_index.specs.inside.Labels.{HasLabel, AreLabelled, IsGap, FitsAt}
-use Rattle.ti_index.specs.Labels.{AreDistinct}
-use Rattle.ti_index.proofs.Lists.{get-set_same, get-set_other, item_at}
+use Rattle.ti_text.specs.Lists.{AreDistinct}
+use Rattle.ti_text.proofs.Lists.{get-set_same, get-set_other, item_at}
 
 -- the first ids have labels that are multiples of the step
 pub record AreSpaced (ids labels : List ℕ) (step count : ℕ) : Type 0 where

@@ -1,4 +1,3 @@
-pub mod Lists
 pub mod Labelling
 pub mod Placing
 pub mod Keeping

@@ -4,7 +4,7 @@ use Rattle.ti_index.specs.Listing.{AreAmong}
 use Rattle.ti_index.specs.Names.{holders_at, users_at, holder_capacity, user_capacity}
 use Rattle.ti_index.specs.declared.names.NameIndex.{NameIndex}
 
--- each stands among all
+-- each is among all
 abbrev pub ListsAreAmong : Type 0
 ListsAreAmong = (listed : List ℕ) (test : ℕ → Bool) → AreAmong (filter test listed) listed
 
@@ -19,13 +19,13 @@ abbrev pub ListsAgree : Type 0
 ListsAgree = (listed : List ℕ) (test other : ℕ → Bool) → ((i id : ℕ) → slice_get listed i ≡ Some id → test id ≡ other id)
     → filter test listed ≡ filter other listed
 
--- the id stands at that position and passes, and none before it does
+-- the id is at that position and passes, and none before it does
 pub record IsFirstPassing (listed : List ℕ) (test : ℕ → Bool) (position id : ℕ) : Type 0 where
   pub stands : slice_get listed position ≡ Some id
   pub passes : test id ≡ true
   pub first : (before other : ℕ) → before < position → slice_get listed before ≡ Some other → test other ≡ false
 
--- the first of the list is the first of all that passes, and where it is empty none does
+-- the first of the list is the first of all that passes, and if it is empty none does
 pub record FirstsAreFirst : Type 0 where
   pub some : (listed : List ℕ) (test : ℕ → Bool) (id : ℕ) → slice_get (filter test listed) 0 ≡ Some id → (position : ℕ) × IsFirstPassing listed test position id
   pub none : (listed : List ℕ) (test : ℕ → Bool) → filter test listed ≡ [] → (position id : ℕ) → slice_get listed position ≡ Some id → test id ≡ false

@@ -1,4 +1,3 @@
-pub mod Labels
 pub mod inside
 pub mod Listing
 pub mod Names

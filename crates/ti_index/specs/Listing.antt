@@ -1,12 +1,13 @@
--- Lists of some ids of an ordered list, in its order: each is the ordered list without the ids that fail a test.
+-- Lists of some ids of an ordered list, in its order: each is the ordered list without the ids
+-- that fail a test.
 use Rattle.std.specs.Prelude.{ℕ, ◌≡◌, List, Bool, true, Some, slice_get, length, filter, take, nat_eq, not, ◌&&◌, ◌||◌}
 use Rattle.ti_text.specs.Lists.{Has}
 
--- each stands in the ordered list
+-- each is in the ordered list
 abbrev pub AreAmong : List ℕ → List ℕ → Type 0
 AreAmong list listed = (i id : ℕ) → slice_get list i ≡ Some id → Has listed id
 
--- so many of the list stand before the id
+-- so many of the list come before the id
 abbrev pub ListsBefore : List ℕ → List ℕ → ℕ → ℕ → Type 0
 ListsBefore listed list id count = (test : ℕ → Bool) (place : ℕ) → list ≡ filter test listed → slice_get listed place ≡ Some id
     → count ≡ length (filter test (take place listed))

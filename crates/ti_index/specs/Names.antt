@@ -42,7 +42,7 @@ HasHolderRoom index name = length (holders_at index name) < holder_capacity inde
 abbrev pub HasUserRoom : NameIndex → List ℕ → Type 0
 HasUserRoom index name = length (users_at index name) < user_capacity index name
 
--- both show the same blocks of a name
+-- both indexes show the same blocks of a name
 pub record IsSeenSame (old new : NameIndex) (name : List ℕ) : Type 0 where
   pub holders : holders_at new name ≡ holders_at old name
   pub users : users_at new name ≡ users_at old name
@@ -56,6 +56,6 @@ pub record KeepsCapacity (old new : NameIndex) (name : List ℕ) : Type 0 where
 abbrev pub KeepsOthers : NameIndex → NameIndex → List ℕ → Type 0
 KeepsOthers old new name = (other : List ℕ) → other ≢ name → mentions_at new other ≡ mentions_at old other
 
--- nothing is kept of a name that no block has or uses
+-- nothing is stored for a name that no block has or uses
 abbrev pub IsForgotten : NameIndex → List ℕ → Type 0
 IsForgotten index name = holders_at index name ≡ [] → users_at index name ≡ [] → mentions_at index name ≡ None

@@ -1,19 +1,18 @@
 // Labels that rise along a list of ids, with room between for labels of ids that are put in.
-ghost use Rattle.std.specs.Prelude.{◌≡◌, ◌<◌, ◌≤◌, ◌*◌, ◌+◌, ◌^◌, ℕ, Some, slice_get, length, vec_len};
+ghost use Rattle.std.specs.Prelude.{◌≡◌, ◌<◌, ◌≤◌, ◌*◌, ◌+◌, ◌^◌, ℕ, Some, slice_get, slice_index_or, length, vec_len};
 ghost use Rattle.ti_index.specs.inside.Labels.{AreLabelled, FitsAt, IsGap};
-ghost use Rattle.ti_text.specs.Lists.{Has};
-ghost use Rattle.ti_index.specs.Labels.{AreKnown, AreDistinct};
+ghost use Rattle.ti_text.specs.Lists.{AreBelow, AreDistinct};
 
-/// Labels stay below this.
+// Labels stay below this.
 const LABEL_END: u64 = 1 << 63;
 
-/// The step between labels that are given anew, and the greatest between a new label and the one
-/// before it.
+// The step between labels that are given anew, and the greatest between a new label and the one
+// before it.
 const LABEL_STEP: u64 = 1 << 32;
 
-/// Gives the ids labels anew, far apart.
+// Gives the ids labels anew, far apart.
 fn relabel(ids: &[u32], labels: &mut Vec<u64>)
-    requires known { AreKnown ids.now (vec_len labels.old) }
+    requires known { AreBelow ids.now (vec_len labels.old) }
     requires distinct { AreDistinct ids.now }
     requires few { length ids.now < 2 ^ 31 }
     ensures len { vec_len labels.new ≡ vec_len labels.old }
@@ -24,9 +23,9 @@ fn relabel(ids: &[u32], labels: &mut Vec<u64>)
     }
 }
 
-/// The labels of the ids before and behind a place between ids, or the ends.
+/// The labels of the ids before and after a position between ids, or the ends.
 fn gap_at(ids: &[u32], labels: &[u64], position: usize) -> (u64, u64)
-    requires known { AreKnown ids.now (length labels.now) }
+    requires known { AreBelow ids.now (length labels.now) }
     requires labelled { AreLabelled ids.now labels.now }
     requires within { position ≤ length ids.now }
     ensures { IsGap ids.now labels.now position result.0 result.1 }
@@ -44,10 +43,10 @@ fn gap_at(ids: &[u32], labels: &[u64], position: usize) -> (u64, u64)
     (low, high)
 }
 
-/// A label for an id to be put in at a position. Where there is no room between its neighbours, all
+/// A label for an id to be put in at a position. If there is no room between its neighbours, all
 /// ids get labels anew.
 pub(crate) fn make_label(ids: &[u32], labels: &mut Vec<u64>, position: usize) -> u64
-    requires known { AreKnown ids.now (vec_len labels.old) }
+    requires known { AreBelow ids.now (vec_len labels.old) }
     requires distinct { AreDistinct ids.now }
     requires labelled { AreLabelled ids.now labels.old.items }
     requires few { length ids.now < 2 ^ 31 }
@@ -65,7 +64,7 @@ pub(crate) fn make_label(ids: &[u32], labels: &mut Vec<u64>, position: usize) ->
     label_within(low, high)
 }
 
-/// A label between two, not far above the lower.
+// A label between two, not far above the lower.
 fn label_within(low: u64, high: u64) -> u64
     requires { low + 1 < high }
     ensures above { low < result }
@@ -74,23 +73,9 @@ fn label_within(low: u64, high: u64) -> u64
     low + ((high - low) / 2).min(LABEL_STEP)
 }
 
-/// The place of an id that stands in the list, by a binary search for its label.
-pub(crate) fn find_place(ids: &[u32], labels: &[u64], id: u32) -> usize
-    requires known { AreKnown ids.now (length labels.now) }
-    requires labelled { AreLabelled ids.now labels.now }
-    requires stands { Has ids.now id }
-    ensures { slice_get ids.now result ≡ Some id }
+/// The label of an id, 0 if it has none.
+pub(crate) fn label_of(labels: &[u64], id: u32) -> u64
+    ensures { result ≡ slice_index_or labels.now id 0 }
 {
-    let label = labels[id as usize];
-    let mut low = 0;
-    let mut high = ids.len();
-    while low < high {
-        let middle = low + (high - low) / 2;
-        if labels[ids[middle] as usize] < label {
-            low = middle + 1;
-        } else {
-            high = middle;
-        }
-    }
-    low
+    labels.get(id as usize).copied().unwrap_or(0)
 }

@@ -1,12 +1,12 @@
-// Laws of the lists that an index keeps, for what stands on them. They compute nothing.
+// Laws of the lists that an index keeps, for the crates above. They compute nothing.
 ghost use Rattle.ti_index.specs.Laws.{FirstsAreFirst, ListsAgree, ListsAreAmong, ListsFit, ListsStay};
 
-/// Each id of a list stands in the order of all.
+/// Each id of a list is in the order of all.
 pub fn lists_are_among()
     ensures { ListsAreAmong }
 {}
 
-/// A list stays as it is when an id that is not of it comes or goes.
+/// A list does not change when an id that is not of it comes or goes.
 pub fn lists_stay()
     ensures { ListsStay }
 {}

@@ -1,11 +1,11 @@
-// Lists of ids in the order of all, changed id by id.
+//! Lists of ids in the order of all, changed id by id.
 ghost use Rattle.std.specs.Prelude.{◌<◌, ◌≤◌, ◌+◌, ◌⊎◌, vec_len, vec_capacity};
 ghost use Rattle.ti_text.specs.Lists.{Has};
 ghost use Rattle.ti_index.specs.Listing.{AreAmong, Lists, ListsNoMore, ListsToo};
 
 use crate::order::Order;
 
-/// Puts an id into a list, unless it is there. Where it is not, the list has room for it.
+/// Puts an id into a list, unless it is there. If it is not, the list has room for it.
 pub(crate) fn put_in(order: &Order, list: &mut Vec<u32>, id: u32)
     requires stands { Has order.now.listed id }
     requires among { AreAmong list.old.items order.now.listed }

@@ -1,4 +1,4 @@
-// Names, each with the blocks that have it and those that use it.
+//! Names, each with the blocks that have it and those that use it.
 ghost use Rattle.std.specs.Prelude.{◌≡◌, ◌⊎◌, ℕ, List, [], IsSome, OnOk};
 ghost use Rattle.ti_text.specs.Lists.{Has};
 ghost use Rattle.ti_index.specs.Listing.{AreAmong, Lists, ListsNoMore, ListsToo};
@@ -9,7 +9,7 @@ use crate::order::Order;
 use std::alloc::{AllocError, Global};
 use std::collections::BTreeMap;
 
-/// The ids of the blocks that have a name, and of those that use it.
+// The ids of the blocks that have a name, and of those that use it.
 #[derive(Drop)]
 struct Mentions {
     holders: Vec<u32>,
@@ -57,7 +57,7 @@ impl NameIndex {
         }
     }
 
-    /// Puts a block among those that have a name. Room is needed where it is not one of them yet.
+    /// Puts a block among those that have a name. Room is needed if it is not one of them yet.
     pub fn add_holder(&mut self, order: &Order, name: &[u8], id: u32)
         requires stands { Has order.now.listed id }
         requires among { AreAmong (holders_at self.old name.now) order.now.listed }
@@ -72,7 +72,7 @@ impl NameIndex {
         }
     }
 
-    /// Puts a block among those that use a name. Room is needed where it is not one of them yet.
+    /// Puts a block among those that use a name. Room is needed if it is not one of them yet.
     pub fn add_user(&mut self, order: &Order, name: &[u8], id: u32)
         requires stands { Has order.now.listed id }
         requires among { AreAmong (users_at self.old name.now) order.now.listed }
@@ -116,7 +116,10 @@ impl NameIndex {
     }
 
     /// Makes room for one more block that has a name, and for one more that uses it. No look-up shows
-    /// a difference, also where memory is short.
+    /// a difference, also if it fails.
+    ///
+    /// # Errors
+    /// Out of memory.
     pub fn reserve(&mut self, name: &[u8]) -> Result<(), AllocError>
         ensures seen { (other : List ℕ) → IsSeenSame self.old self.new other }
         ensures capacity { (other : List ℕ) → KeepsCapacity self.old self.new other }
@@ -127,7 +130,7 @@ impl NameIndex {
         self.grow(name)
     }
 
-    /// Sees to an entry for a name.
+    /// Makes an entry for a name that has none.
     fn bring(&mut self, name: &[u8]) -> Result<(), AllocError>
         ensures seen { (other : List ℕ) → IsSeenSame self.old self.new other }
         ensures capacity { (other : List ℕ) → KeepsCapacity self.old self.new other }
@@ -145,7 +148,7 @@ impl NameIndex {
         Ok(())
     }
 
-    /// Makes room in the entry of a name.
+    // Makes room in the entry of a name.
     fn grow(&mut self, name: &[u8]) -> Result<(), AllocError>
         requires { IsSome (mentions_at self.old name.now) }
         ensures seen { (other : List ℕ) → IsSeenSame self.old self.new other }
@@ -160,7 +163,7 @@ impl NameIndex {
         Ok(())
     }
 
-    /// Lets go of the entry of a name that no block has or uses. No look-up shows a difference.
+    /// Drops the entry of a name that no block has or uses. No look-up shows a difference.
     pub fn forget_unused(&mut self, name: &[u8])
         ensures gone { IsForgotten self.new name.now }
         ensures seen { (other : List ℕ) → IsSeenSame self.old self.new other }

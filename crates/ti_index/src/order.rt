@@ -1,23 +1,22 @@
-// The ids of blocks in the order of their list.
+//! The ids of blocks in the order of their list.
 ghost use Rattle.std.specs.Prelude.{◌≡◌, ◌<◌, ◌≤◌, ◌+◌, ◌^◌, ◌++◌, ◌∷◌, ◌↔◌, [], ℕ, Some, slice_get, length, insert, remove, vec_capacity, IsTrue, OnOk, OnErr};
-ghost use Rattle.ti_text.specs.Lists.{Has};
-ghost use Rattle.ti_index.specs.Labels.{AreKnown, AreDistinct};
+ghost use Rattle.ti_text.specs.Lists.{Has, AreBelow, AreDistinct};
 ghost use Rattle.ti_index.specs.Listing.{AreAmong, ListsBefore};
 
-use crate::labels::{find_place, make_label};
+use crate::labels::{label_of, make_label};
 use std::alloc::{AllocError, Global};
 use std::marker::Model;
 
 /// Ids in the order of a list. An id stays with its block while others come and go, and is used
-/// again once its block has gone. Its place in the list is found by a label that rises along the
-/// list, as is which of two ids stands first.
+/// again after its block has gone. Its position in the list is found by a label that rises along the
+/// list, as is which of two ids comes first.
 #[derive(Drop)]
 pub struct Order {
-    /// The ids that stand in the list, in its order.
+    /// The ids in the order of the list.
     ids: Vec<u32>,
-    /// The label of each id.
+    // The label of each id.
     labels: Vec<u64>,
-    /// The ids that stand nowhere.
+    /// The ids that are not in the list.
     free: Vec<u32>,
 }
 
@@ -53,25 +52,24 @@ impl Order {
         &self.ids
     }
 
-    /// How many ids there are, those that stand in the list and those that are free. Each is below
-    /// that number.
+    /// How many ids there are, those in the list and those that are free. Each is below that number.
     pub fn count(&self) -> usize
         ensures count { result ≡ length self.now.listed + length self.now.free }
-        ensures listed { AreKnown self.now.listed result }
-        ensures free { AreKnown self.now.free result }
+        ensures listed { AreBelow self.now.listed result }
+        ensures free { AreBelow self.now.free result }
     {
         self.labels.len()
     }
 
-    /// The position of an id that stands in the list, in time logarithmic in the list's length.
+    /// The position of an id of the list, in time logarithmic in the list's length.
     pub fn position(&self, id: u32) -> usize
         requires { Has self.now.listed id }
         ensures { slice_get self.now.listed result ≡ Some id }
     {
-        find_place(&self.ids, &self.labels, id)
+        self.count_before(&self.ids, id)
     }
 
-    /// Whether one id stands before another in the list.
+    /// Whether one id is before another in the list.
     pub fn is_before(&self, one: u32, other: u32) -> bool
         requires one { Has self.now.listed one }
         requires other { Has self.now.listed other }
@@ -81,7 +79,7 @@ impl Order {
         self.labels[one as usize] < self.labels[other as usize]
     }
 
-    /// How many ids of a list, which are in the order of all, stand before an id.
+    /// How many ids of a list, which are in the order of all, come before an id, by a binary search.
     pub(crate) fn count_before(&self, list: &[u32], id: u32) -> usize
         requires stands { Has self.now.listed id }
         requires among { AreAmong list.now self.now.listed }
@@ -89,22 +87,15 @@ impl Order {
         ensures count { ListsBefore self.now.listed list.now id result }
         ensures distinct { AreDistinct self.now.listed }
     {
-        let label = self.labels[id as usize];
-        let mut low = 0;
-        let mut high = list.len();
-        while low < high {
-            let middle = low + (high - low) / 2;
-            if self.labels[list[middle] as usize] < label {
-                low = middle + 1;
-            } else {
-                high = middle;
-            }
-        }
-        low
+        let labels = &self.labels;
+        let label = label_of(labels, id);
+        list.partition_point(|other| label_of(labels, *other) < label)
     }
 
-    /// Sees to a free id, so that one can be put in. Nothing else changes; where memory is short
-    /// nothing does.
+    /// Makes sure that an id is free, so that one can be put in. Nothing else changes.
+    ///
+    /// # Errors
+    /// Out of memory; then nothing changes.
     pub fn reserve(&mut self) -> Result<(), AllocError>
         requires { length self.old.listed < 2 ^ 31 }
         ensures listed { self.new.listed ≡ self.old.listed }

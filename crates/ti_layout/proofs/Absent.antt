@@ -22,7 +22,7 @@ added_in_gap old new c x none sets d = by_test (same_capability c d) refl
         (sets.this_one ∙ sym (ap (λ (o : Option Content). option_or o (Some x)) none))
     by_test false e = sets.others d (λ same. other_from_test c d e (sym same)) ∙ or_nothing (contents old d)
 
--- the capability had one, which stays
+-- the capability had a value, which remains
 pub added_behind : (es : List TableEntry) (c : Capability) (there x : Content) → Some there ≡ contents es c
     → (d : Capability) → contents es d ≡ option_or (contents es d) (if same_capability c d then Some x else None)
 added_behind es c there x has d = by_test (same_capability c d) refl

@@ -36,14 +36,14 @@ slice_get-below f n i lt = slice_get-get_or (below f n) i 0 (omega (arith, lengt
 pub slice_get-past_below : (f : ℕ → ℕ) (n i : ℕ) → n ≤ i → slice_get (below f n) i ≡ None
 slice_get-past_below f n i le = slice_get_past (below f n) i (omega (arith, length-below f n))
 
--- the values of the places alone count
+-- only the values of the places count
 pub below-same : (f g : ℕ → ℕ) (n : ℕ) → ((i : ℕ) → i < n → f i ≡ g i) → below f n ≡ below g n
 unfolding below
 below-same f g zero each = refl
 below-same f g (suc n) each =
     ap (λ xs. xs ++ f n ∷ []) (below-same f g n (λ i lt. each i (omega arith))) ∙ ap (λ x. below g n ++ x ∷ []) (each n (omega arith))
 
--- places that have one value are filled up with it
+-- places that have the same value are filled with it
 pub below-filled : (f : ℕ → ℕ) (void i k : ℕ) → ((j : ℕ) → i ≤ j → j < i + k → f j ≡ void) → below f (i + k) ≡ below f i ++ replicate k void
 below-filled f void i zero each = let e : i + 0 ≡ i = omega arith in ap (below f) e ∙ sym (append-nil (below f i))
 below-filled f void i (suc k) each =
@@ -85,7 +85,7 @@ last_passing-same f g zero each = refl
 last_passing-same f g (suc n) each =
     ap (λ b. cond b (suc n) (last_passing f n)) (each n (omega arith)) ∙ ap (cond (g n) (suc n)) (last_passing-same f g n (λ i lt. each i (omega arith)))
 
--- the last place that passes: nothing from there on does, and it is no more than all
+-- the last place that passes: no later place does, and it is no more than all
 pub last_passing-le : (test : ℕ → Bool) (n : ℕ) → last_passing test n ≤ n
 unfolding last_passing
 last_passing-le test zero = omega arith
@@ -103,14 +103,14 @@ last_passing-past test (suc n) i past lt =
       ]
     ] refl past
 
--- a place that passes is before it
+-- a place that passes is before the end
 pub last_passing-over : (test : ℕ → Bool) (n i : ℕ) → i < n → test i ≡ true → i < last_passing test n
 last_passing-over test n i lt passes = elim (cases_lt i (last_passing test n)) [
   | inl under ↦ under
   | inr past ↦ let fails = last_passing-past test n i (omega arith) lt in let e = passes in absurd cc
 ]
 
--- what it is: the place before it passes, and none from it on
+-- what the end is: the place before it passes, and none from it on
 pub last_passing-is : (test : ℕ → Bool) (n p : ℕ) → p ≤ n → ((i : ℕ) → suc i ≡ p → test i ≡ true) → ((i : ℕ) → p ≤ i → i < n → test i ≡ false) → last_passing test n ≡ p
 unfolding last_passing
 last_passing-is test zero p le here past = omega arith

@@ -1,4 +1,5 @@
--- Mentions of capabilities one after another: where the first of each stands, and the entries of the first ones.
+-- Mentions of capabilities one after another: where the first of each is, and the entries of the
+-- first ones.
 use Rattle.std.proofs.Common.{◌≡◌, ◌≢◌, ℕ, suc, ◌+◌, ◌<◌, ◌≤◌, cond, List, [], ◌∷◌, ◌++◌, length, get_or, set, replicate, Option, Some, None, refl, sym, ap, ◌∙◌, subst, arith, inl, inr, length-set, take, All}
 use Rattle.std.specs.Option.{option_or}
 use Rattle.std.proofs.lemmas.Bool.{cases_eq, cases_lt}
@@ -15,7 +16,7 @@ use Rattle.ti_layout.proofs.Fronts.{AllBefore, absent_behind, contents-append, c
 
 -- ---- one more mention
 
--- it says nothing of another capability
+-- a mention says nothing of another capability
 says_nothing : (x : TableEntry) (c : Capability) → x.0 ≢ c → contents (x ∷ []) c ≡ None
 says_nothing x c other = contents-one x c ∙ ap (λ b. cond b (Some x.1) None) (test_from_other x.0 c other)
 
@@ -31,7 +32,7 @@ some_more es x c v some = contents-append es (x ∷ []) c ∙ ap (λ o. option_o
 first_more : (es : List TableEntry) (x : TableEntry) → contents es x.0 ≡ None → contents (es ++ x ∷ []) x.0 ≡ Some x.1
 first_more es x none = contents-append es (x ∷ []) x.0 ∙ ap (λ o. option_or o (contents (x ∷ []) x.0)) none ∙ says_own x
 
--- ---- mentions behind a table
+-- ---- mentions after a table
 
 pub or_nothing : (o : Option Content) → option_or o None ≡ o
 or_nothing None = refl
@@ -41,11 +42,11 @@ pub no_items : {X : Type 0} (xs : List X) → length xs ≡ 0 → xs ≡ []
 no_items [] e = refl
 no_items (x ∷ xs) e = absurd (omega arith)
 
--- none of them
+-- no mention
 pub nothing_behind : (table : List TableEntry) (xs : List (Capability × Value)) (c : Capability) → xs ≡ [] → contents table c ≡ option_or (contents table c) (contents (entries_of xs) c)
 nothing_behind table xs c none = sym (ap (λ o. option_or (contents table c) o) (ap (λ ys. contents (entries_of ys) c) none ∙ contents-none c) ∙ or_nothing (contents table c))
 
--- them behind an empty table
+-- mentions after an empty table
 pub behind_nothing : (table : List TableEntry) (xs : List (Capability × Value)) (c : Capability) (said : Option Content) → xs ≡ [] → entries_of xs ≡ table → said ≡ option_or (contents table c) said
 behind_nothing table xs c said none is = sym (ap (λ o. option_or o said) (ap (λ es. contents es c) (sym is ∙ ap entries_of none) ∙ contents-none c))
 
@@ -90,7 +91,7 @@ within_kind Text i low = omega arith
 pub rank_within : (c : Capability) → IsCapability c → rank_of c < 497
 rank_within c valid = within_kind c.kind c.index valid
 
--- the entries of one more
+-- the entries of one more mention
 pub entries_front : (xs : List (Capability × Value)) (i : ℕ) (x : Capability × Value) → i < length xs → get_or xs i x ≡ x → entries_of (take (i + 1) xs) ≡ entries_of (take i xs) ++ (x.0, content_of x.1) ∷ []
 entries_front xs i x within here = ap entries_of (take_more xs i x within ∙ ap (λ y. take i xs ++ y ∷ []) here) ∙ map-append (λ (e : Capability × Value). (e.0, content_of e.1)) (take i xs) (x ∷ [])
 
@@ -107,7 +108,7 @@ module _ (es : List TableEntry) (x : TableEntry) (places : List ℕ) (known : Ar
   longer : length (es ++ x ∷ []) ≡ length es + 1
   longer = length-append es (x ∷ [])
 
-  -- what was first stays first
+  -- a first mention remains the first
   stays : (rank p : ℕ) → get_or places rank 0 ≡ suc p
       → (p < length (es ++ x ∷ [])) × ((e : TableEntry) → Decides (es ++ x ∷ []) rank (get_or (es ++ x ∷ []) p e))
   stays rank p at =
@@ -120,7 +121,7 @@ module _ (es : List TableEntry) (x : TableEntry) (places : List ℕ) (known : Ar
             subst (Decides (es ++ x ∷ []) rank) (sym read) (here.0, here.1, some_more es x (get_or es p e).0 (get_or es p e).1 here.2),
       )
 
-  -- a capability of which there was a mention has its first one still
+  -- a capability that was mentioned still has its first mention
   pub places_kept : get_or places (rank_of x.0) 0 ≢ 0 → AreMentionPlaces (es ++ x ∷ []) places
   places_kept there = record {
     all = known.all;
@@ -188,7 +189,7 @@ module _ (es out : List TableEntry) (rank : ℕ) (so_far : Gathers es out rank) 
     ];
   }
 
-  -- the first mention that has it
+  -- the first mention with the rank
   pub gathers_more : (x : TableEntry) → Agrees x.0 x.1 → Decides es rank x → Gathers es (out ++ x ∷ []) (rank + 1)
   gathers_more x agrees decides =
       let valid = decides.0 in
@@ -208,7 +209,7 @@ module _ (es out : List TableEntry) (rank : ℕ) (so_far : Gathers es out rank) 
         ];
       }
 
--- ---- one more mention behind those that are kept
+-- ---- one more mention after those before
 
 pub agree_more : (xs : List (Capability × Value)) (x : Capability × Value) → All (λ (e : TableEntry). Agrees e.0 e.1) (entries_of xs) → Agrees x.0 (content_of x.1)
     → All (λ (e : TableEntry). Agrees e.0 e.1) (entries_of (xs ++ x ∷ []))

@@ -46,7 +46,7 @@ contents-front : (xs : List TableEntry) (i : ℕ) (x : TableEntry) (c : Capabili
 contents-front xs i x c within here =
     ap (λ t. contents t c) (take_more xs i x within ∙ ap (λ y. take i xs ++ y ∷ []) here) ∙ contents-append (take i xs) (x ∷ []) c
 
--- one entry says something of its own capability alone
+-- an entry says something only of its own capability
 one-said : (x : TableEntry) (c : Capability) (v : Content) → contents (x ∷ []) c ≡ Some v → x.0 ≡ c
 one-said x c v e = elim (cases_Bool (same_capability x.0 c)) [
   | inl same ↦ same_capability-true x.0 c same
@@ -60,7 +60,7 @@ both-none x y c same none = elim (cases_Bool (same_capability x.0 c)) [
   | inr f ↦ contents-one y c ∙ ap (λ b. cond b (Some y.1) None) (ap (λ d. same_capability d c) (sym same) ∙ f)
 ]
 
--- ---- one more entry behind the others
+-- ---- one more entry after the others
 
 insert-end : (xs : List TableEntry) (x : TableEntry) → insert xs (length xs) x ≡ xs ++ x ∷ []
 insert-end xs x = ap (λ t. t ++ x ∷ drop (length xs) xs) (take_all (length xs) xs (omega arith)) ∙ ap (λ t. xs ++ x ∷ t) (drop_all (length xs) xs (omega arith))

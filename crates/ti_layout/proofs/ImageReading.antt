@@ -1,4 +1,4 @@
--- What is written is read again.
+-- What is written is read as what was written.
 use Rattle.std.proofs.Common.{◌≡◌, ℕ, suc, ◌+◌, ◌-◌, ◌%◌, ◌<◌, ◌≤◌, Bool, true, false, cond, ltb, eqb, List, [], ◌∷◌, ◌++◌, length, take, drop, get_or, Option, Some, None, refl, sym, ap, ◌∙◌, subst, arith, inl, inr}
 use Rattle.std.specs.List.{before_first, position_or_len}
 use Rattle.std.specs.Option.{option_and_then}
@@ -126,7 +126,7 @@ counts c = record {
   texts = last_passing-le (λ i. is_there (of_kind c Text i)) 414;
 }
 
--- what is so of the value of each place
+-- what holds of the value of each place
 all_below : (f : ℕ → ℕ) (n : ℕ) (P : ℕ → Type 0) → ((i : ℕ) → i < n → P (f i)) → (k d : ℕ) → k < length (below f n) → P (get_or (below f n) k d)
 all_below f n P each k d lt =
     let within : k < n = omega (arith, length-below f n) in

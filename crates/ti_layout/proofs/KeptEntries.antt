@@ -8,7 +8,7 @@ use Rattle.ti_caps.specs.declared.capability.Kind.{Kind}
 use Rattle.ti_caps.specs.declared.capability.Kind.TheVariants.{Flag, Number, Text}
 use Rattle.ti_layout.specs.Values.{Content, TableEntry, Agrees, AgreesIfSome, contents, rank_of}
 
--- ---- whether two capabilities are one
+-- ---- whether two capabilities are equal
 
 pub same_from_one : (c d : Capability) → c ≡ d → same_capability c d ≡ true
 same_from_one c d e = ap (same_capability c) (sym e) ∙ same_capability-itself c
@@ -19,7 +19,7 @@ other_from_test c d e same = let t = same_from_one c d same in cc
 pub test_from_other : (c d : Capability) → c ≢ d → same_capability c d ≡ false
 test_from_other c d other = elim (same_capability c d) as (λ b. same_capability c d ≡ b → b ≡ false) [ true ↦ λ e. absurd (other (same_capability-true c d e)) | false ↦ λ e. refl ] refl
 
--- capabilities of one place among all are one
+-- capabilities with the same place among all are equal
 one_in_rank : (k l : Kind) (i j : ℕ) → i < count_of k → j < count_of l → rank_in k + i ≡ rank_in l + j → capability k i ≡ capability l j
 one_in_rank Flag Flag i j m n e = ap (capability Flag) (omega arith)
 one_in_rank Number Number i j m n e = ap (capability Number) (omega arith)
@@ -36,7 +36,7 @@ one_from_rank c d m n e = one_in_rank c.kind d.kind c.index d.index m n e
 
 -- ---- what the entries say
 
--- the capability stands nowhere but at place i
+-- the capability is only at place i
 abbrev pub Elsewhere : List TableEntry → Capability → ℕ → Type 0
 Elsewhere es c i = (j : ℕ) (e : TableEntry) → j ≢ i → j < length es → (get_or es j e).0 ≢ c
 
@@ -64,7 +64,7 @@ contents_here [] c i d within here other = absurd (omega arith)
 contents_here (x ∷ es) c zero d within here other = rw (same_from_one x.0 c here)
 contents_here (x ∷ es) c (suc i) d within here other = rw (test_from_other x.0 c (other 0 x (λ s. omega arith) (omega arith))) (contents_here es c i d (omega arith) here (later x es c i other))
 
--- the new entries say this of the capability, and of every other what the old ones say
+-- the new entries say this of the capability, and of every other one what the old ones say
 abbrev pub Says : List TableEntry → List TableEntry → Capability → Option Content → Type 0
 Says old new c o = (d : Capability) → contents new d ≡ (if same_capability c d then o else contents old d)
 
@@ -126,7 +126,7 @@ module _ (c : Capability) where
   agree_all [] all = tt
   agree_all (x ∷ es) all = agree_one x (contents es c) (all 0 x (omega arith)).1 (agree_all es (λ i d lt. all (suc i) d (omega arith)))
 
--- ---- a want of memory that is passed on
+-- ---- out of memory is passed on
 
 pub err_is : {T E : Type 0} (r : Result T E) → IsErr r → (e : E) × (r ≡ Err e)
 err_is (Ok x) is = absurd cc

@@ -1,4 +1,4 @@
--- An image goes by what is there of the 497 capabilities.
+-- An image depends on the values of the 497 capabilities.
 use Rattle.std.proofs.Common.{◌≡◌, ℕ, ◌≤◌, cond, List, [], length, Option, Some, None, refl, sym, ap, ◌∙◌, arith}
 use Rattle.ti_caps.specs.Tables.{capability, count_of}
 use Rattle.ti_caps.specs.declared.capability.Kind.{Kind}
@@ -12,7 +12,7 @@ use Rattle.ti_layout.specs.Laws.{without_cancel, ShowSame, ImagesAreOfValues, Li
 use Rattle.ti_layout.proofs.Below.{below-same, last_passing-le, last_passing-same, some_below-same}
 use Rattle.ti_layout.proofs.Texts.{texts-same}
 
--- what goes by a content goes by it with a cancel as absent
+-- what depends on a content depends on it with a cancel as absent
 abbrev GoesByPresence : {X : Type 0} → (Option Content → X) → Type 0
 GoesByPresence f = (o : Option Content) → f (without_cancel o) ≡ f o
 

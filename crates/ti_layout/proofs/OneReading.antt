@@ -1,4 +1,4 @@
--- Bytes are an entry in one way at most, are refused in one way at most, and never both.
+-- Bytes are an entry in at most one way, are refused in at most one way, and never both.
 use Rattle.std.proofs.Common.{◌≡◌, ℕ, ◌+◌, ◌-◌, ◌*◌, ◌/◌, ◌<◌, ◌≤◌, All, List, [], ◌∷◌, ◌++◌, length, take, get_or, cond, eqb, refl, sym, ap, ◌∙◌, subst, arith, inl, inr}
 use Rattle.std.proofs.lemmas.List.{take_at, length-append, get_or_append_left}
 use Rattle.std.proofs.lemmas.Bool.{cases_lt}
@@ -28,7 +28,7 @@ plain_fits : (w : Format) (n : ℕ) → n < first_negative w → n ≤ absent_ma
 plain_fits Legacy n lt = omega arith
 plain_fits Extended n lt = omega arith
 
--- what may stand in a section fits its bytes
+-- what may be in a section fits its bytes
 number_fits : (w : Format) (n : ℕ) → IsStoredNumber w n → n ≤ absent_mark w
 number_fits w n (inl plain) = plain_fits w n plain
 number_fits w n (inr void) = void.1
@@ -56,7 +56,7 @@ read_contents b m c r =
 pub one_entry : (b m n : List ℕ) (c d : Contents) → Reads b m c → Reads b n d → (m ≡ n) × (c ≡ d)
 one_entry b m n c d r s = (read_names b m c r ∙ sym (read_names b n d s), read_contents b m c r ∙ sym (read_contents b n d s))
 
--- the refusal of a place in the order
+-- the refusal at a place in the order
 unrank : ℕ → ReadError
 unrank n =
     cond (eqb n 1) Short (cond (eqb n 2) Magic (cond (eqb n 3) Counts (cond (eqb n 4) Truncated (cond (eqb n 5) BadNames (cond (eqb n 6) BadFlag (cond (eqb n 7) BadNumber BadOffset))))))
@@ -72,7 +72,7 @@ unrank-rank BadFlag = refl
 unrank-rank BadNumber = refl
 unrank-rank BadOffset = refl
 
--- two refusals of one place in the order are one
+-- two refusals at the same place in the order are equal
 same_rank : (e f : ReadError) → rank e ≡ rank f → e ≡ f
 same_rank e f h = sym (unrank-rank e) ∙ ap unrank h ∙ unrank-rank f
 
@@ -122,7 +122,7 @@ good_names names some no_nul h =
       ]
     ]
 
--- a number of a section is none that may not stand there
+-- a number of a section is one that may be there
 good_number : (w : Format) (n : ℕ) → IsStoredNumber w n → first_negative w ≤ n → n < cancelled_mark w → ⊥
 good_number w n (inl plain) low high = omega arith
 good_number w n (inr void) low high = omega (arith, void.0)

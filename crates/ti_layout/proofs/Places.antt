@@ -1,4 +1,5 @@
--- Where a binary search ends among entries that are in order, and what an edit there keeps.
+-- Where a binary search ends among entries that are in order, and what an edit there leaves as it
+-- was.
 use Rattle.std.proofs.Common.{◌≡◌, ℕ, zero, suc, ◌+◌, ◌-◌, ◌<◌, ◌≤◌, List, [], ◌∷◌, map, length, get_or, take, drop, set, Option, Some, None, Result, Ok, Err, IfOk, IfErr, refl, sym, ◌∙◌, ap, subst, inl, inr, arith, if◌then◌else◌, Less, Equal, Greater, length-set}
 use Rattle.std.specs.List.{insert, remove}
 use Rattle.std.specs.List.Sorted.{IsSearchInRange, IsBinarySearchResult, IsNonDecreasingBy}
@@ -71,7 +72,7 @@ module _ (xs : List (Capability × Value)) (kept : IsKept (entries_of xs)) (c : 
   searched (Ok i) wanted is within equal = record { found = found_place i within (λ d. subst (λ n. nat_cmp (rank_of (get_or xs i d).0) n ≡ Equal) is (equal d)); absent = tt }
   searched (Err i) wanted is within parted = record { found = tt; absent = gap_place i within (subst (λ n. IsBinarySearchResult (λ e. nat_cmp (rank_of e.0) n) xs (Err i)) is parted) }
 
--- ---- what stands there
+-- ---- what is at the place
 
 module _ (es : List TableEntry) (kept : IsKept es) (c : Capability) where
   rank_here : (i : ℕ) → IsAt es c i → rank_at es i ≡ rank_of c
@@ -114,7 +115,7 @@ map-remove f [] (suc i) = refl
 map-remove f (y ∷ ys) zero = refl
 map-remove f (y ∷ ys) (suc i) = ap (λ t. f y ∷ t) (map-remove f ys i)
 
--- numbers that rise still do after an edit in its place
+-- numbers that rise still rise after an edit in its place
 abbrev Rise : List ℕ → Type 0
 Rise l = (i j : ℕ) → i < j → j < length l → get_or l i 0 < get_or l j 0
 
@@ -171,7 +172,7 @@ kept-remove es i kept within =
       agree = All-append IsGood (take i es) (drop (suc i) es) (All-take IsGood i es kept.agree) (All-drop IsGood (suc i) es kept.agree);
     }
 
--- ---- the same of what the entries were made of
+-- ---- where a search ends, of what the entries were made of
 
 abbrev entry_of : Capability × Value → TableEntry
 entry_of e = (e.0, content_of e.1)
@@ -226,6 +227,6 @@ module _ (xs : List (Capability × Value)) (kept : IsKept (entries_of xs)) (c : 
         subst (λ es. SetsOnly (entries_of xs) es c None) (sym taken)
         (sets_only _ _ c _ (says-remove (entries_of xs) c i e at.in_range (at.is_here e) (elsewhere (entries_of xs) kept c i at)))
 
-  -- a capability that stands nowhere has nothing, so it is taken away already
+  -- a capability that is nowhere has nothing to take away
   pub sets-nothing : (i : ℕ) → IsGapFor (entries_of xs) c i → SetsOnly (entries_of xs) (entries_of xs) c None
   sets-nothing i gap = record { this_one = contents_nowhere (entries_of xs) c (nowhere (entries_of xs) kept c i gap); others = λ d other. refl }

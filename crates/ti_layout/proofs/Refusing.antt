@@ -1,4 +1,4 @@
--- Bytes that are refused for their last section alone.
+-- Bytes that are refused only for their last section.
 use Rattle.std.proofs.Common.{◌≡◌, ◌≢◌, ℕ, ◌-◌, ◌<◌, ◌≤◌, List, length, subst, arith, inl, inr}
 use Rattle.ti_layout.specs.declared.layout.Format.{Format}
 use Rattle.ti_layout.specs.declared.layout.Format.TheVariants.{Legacy, Extended}
@@ -43,7 +43,8 @@ good_number : (w : Format) (n : ℕ) → IsStoredNumber w n → first_negative w
 good_number w n (inl plain) low high = omega arith
 good_number w n (inr void) low high = omega (arith, void.0)
 
--- nothing is wrong before the refusal of a rank, where each section that is looked through before it is good
+-- nothing is wrong before the refusal of a rank, if each section that is looked through before it
+-- is good
 none_before : (b : List ℕ) (s : Sections) → IsCutIntoSections b s → (n : ℕ) → n ≤ 8 → (5 < n → AreNames (names_section b)) → (6 < n → AreFlags (flags_section b))
     → (7 < n → AreStoredNumbers (format_in b) (numbers_section b)) → (e : ReadError) → rank e < n → ¬ HasReadFault b e
 none_before b s cut n most names flags numbers Short lt h = omega (arith, h, cut.header.long)

@@ -1,4 +1,4 @@
--- Numbers as bytes, and read again.
+-- Numbers as bytes, and read back.
 use Rattle.std.proofs.Common.{◌≡◌, ℕ, zero, suc, ◌+◌, ◌*◌, ◌/◌, ◌%◌, ◌<◌, ◌≤◌, List, [], ◌∷◌, ◌++◌, length, get_or, take, drop, replicate, refl, sym, ap, ◌∙◌, append_assoc, arith, All}
 use Rattle.std.proofs.lemmas.List.{length-append, length-drop, get_or-drop, take_all, same_lists, get_or_default}
 use Rattle.ti_layout.specs.declared.layout.Format.{Format}
@@ -15,7 +15,7 @@ pub length-number_bytes : (w : Format) (n : ℕ) → length (number_bytes w n) �
 length-number_bytes Legacy n = refl
 length-number_bytes Extended n = refl
 
--- the place of a number behind k others
+-- the place of a number after k others
 pub place_more : (w : Format) (k : ℕ) → width w * suc k ≡ width w * k + width w
 place_more Legacy k = omega arith
 place_more Extended k = omega arith
@@ -24,7 +24,7 @@ pub place_none : (w : Format) → width w * 0 ≡ 0
 place_none Legacy = refl
 place_none Extended = refl
 
--- a number that is counted lies within
+-- a number that is counted is within the limit
 pub place_within : (w : Format) (k n : ℕ) → k < n / width w → width w * k + width w ≤ n
 place_within Legacy k n lt = omega arith
 place_within Extended k n lt = omega arith
@@ -57,7 +57,7 @@ length-spelled w (n ∷ ns) =
     let c = place_more w (length ns) in
     omega arith
 
--- an absent number is spelled by the byte 255 alone
+-- an absent number is spelled only by bytes 255
 pub spelled-absent : (w : Format) (k : ℕ) → number_section w (replicate k (absent_mark w)) ≡ replicate (width w * k) 255
 unfolding number_section
 spelled-absent w zero = ap (λ n. replicate {A = ℕ} n 255) (sym (place_none w))
@@ -91,7 +91,7 @@ front_again Extended (x ∷ y ∷ z ∷ u ∷ xs) long fits =
     let n3 : (x + 256 * (y + 256 * (z + 256 * u))) / 16777216 % 256 ≡ u = omega arith in
     rw (n0, n1, n2, n3) refl
 
--- a number that stands behind a front
+-- a number that is after a front
 pub number_at-drop : (w : Format) (at i : ℕ) (b : List ℕ) → number_at w i (drop at b) ≡ number_at w (at + i) b
 number_at-drop Legacy at i b =
     let e : at + (i + 1) ≡ (at + i) + 1 = omega arith in
@@ -136,7 +136,7 @@ spelled-again w b n fits long =
 pub length-numbers_in : (w : Format) (b : List ℕ) (n : ℕ) → length b ≡ width w * n → length (numbers_in w b) ≡ n
 length-numbers_in w b n long = length-below _ (count_in w b) ∙ ap (λ k. k / width w) long ∙ counted w n
 
--- ---- spelled, and read again
+-- ---- spelled, and read back
 
 pub number_at-here : (w : Format) (n : ℕ) (r : List ℕ) → n ≤ absent_mark w → number_at w 0 (number_bytes w n ++ r) ≡ n
 number_at-here Legacy n r fits = omega arith

@@ -24,7 +24,7 @@ module _ (c : Contents) where
       ∙ ap (λ t. t ++ text_piece (of_kind c Text (i + k))) (texts-skipped i k (λ j low high. each j low (omega arith)))
       ∙ ap (λ t. texts_below c i ++ t) (each (i + k) (omega arith) (omega arith)) ∙ append-nil (texts_below c i)
 
-  -- fewer texts are no longer
+  -- fewer texts are not longer
   pub length-texts-le : (n i : ℕ) → i ≤ n → length (texts_below c i) ≤ length (texts_below c n)
   unfolding texts_below
   length-texts-le zero i le = let e : i ≡ 0 = omega arith in rw e (omega arith)
@@ -34,7 +34,7 @@ module _ (c : Contents) where
         | inr high ↦ let e : i ≡ suc n = omega arith in rw e (omega arith)
       ]
 
-  -- what stands from the i-th text on begins with it
+  -- what is from the i-th text on begins with it
   drop-texts : (n i : ℕ) → i < n → (rest : List ℕ) × (drop (length (texts_below c i)) (texts_below c n) ≡ text_piece (of_kind c Text i) ++ rest)
   unfolding texts_below
   drop-texts zero i lt = absurd (omega (arith, lt))
@@ -55,14 +55,14 @@ module _ (c : Contents) where
             )
       ]
 
-  -- a text stands in the table from its offset on, and its NUL behind it
+  -- a text is in the table from its offset on, and its NUL after it
   pub text_there : (n i : ℕ) (t : List ℕ) → i < n → c (capability Text i) ≡ Some (content_text t)
       → (rest : List ℕ) × (drop (length (texts_below c i)) (texts_below c n) ≡ t ++ 0 ∷ rest)
   text_there n i t lt e =
       let d = drop-texts n i lt in
       (d.0, d.1 ∙ ap (λ (o : Option Content). text_piece o ++ d.0) e ∙ append_assoc t (0 ∷ []) d.0)
 
--- the texts of the places alone count
+-- only the texts of the places count
 pub texts-same : (c d : Contents) (n : ℕ) → ((i : ℕ) → i < n → text_piece (of_kind c Text i) ≡ text_piece (of_kind d Text i)) → texts_below c n ≡ texts_below d n
 unfolding texts_below
 texts-same c d zero each = refl

@@ -1,4 +1,5 @@
--- A walk over the entries of a table, which stand in the order of the compiled entry: how many places of a kind it has come past.
+-- A walk over the entries of a table, which are in the order of the compiled entry: how many places
+-- of a kind it has passed.
 use Rattle.std.proofs.Common.{◌≡◌, ℕ, zero, suc, ◌+◌, ◌-◌, ◌*◌, ◌<◌, ◌≤◌, Bool, true, false, cond, List, [], ◌∷◌, ◌++◌, length, get_or, replicate, Option, Some, None, refl, sym, ap, ◌∙◌, subst, append_assoc, arith, inl, inr}
 use Rattle.std.proofs.lemmas.Bool.{cases_lt, cases_Bool}
 use Rattle.std.proofs.lemmas.List.{get_or_default, get_or-map, length-append}
@@ -70,7 +71,7 @@ there_of content_cancelled Flag e = absurd cc
 there_of content_cancelled Number e = absurd cc
 there_of content_cancelled Text e = absurd cc
 
--- what the entries say of a capability stands in one of them
+-- what the entries say of a capability is in one of them
 pub record Stands (es : List TableEntry) (c : Capability) (v : Content) : Type 0 where
   pub at : ℕ
   pub within : at < length es
@@ -88,7 +89,7 @@ stands (x ∷ es) c v e =
           record { at = suc s.at; within = omega (arith, s.within); is_cap = s.is_cap; is_content = s.is_content }
     ] refl e
 
--- the walk has come past k entries, and past as many places of a kind as its last value there asks for
+-- the walk has passed k entries, and as many places of a kind as its last value there asks for
 pub record Walked (es : List TableEntry) (kind : Kind) (k places : ℕ) : Type 0 where
   pub covered : (j : ℕ) (e : TableEntry) → j < k → j < length es → is_of kind (get_or es j e).1 ≡ true → (get_or es j e).0.index < places
   pub ahead : (j : ℕ) (e : TableEntry) → k ≤ j → j < length es → is_of kind (get_or es j e).1 ≡ true → places ≤ (get_or es j e).0.index
@@ -112,7 +113,7 @@ module _ (es : List TableEntry) (kept : IsKept es) where
   pub kind_at : (j : ℕ) (e : TableEntry) (kind : Kind) → j < length es → is_of kind (get_or es j e).1 ≡ true → (get_or es j e).0.kind ≡ kind
   kind_at j e kind lt is = kind_told (get_or es j e).0 (get_or es j e).1 kind (kept.agree j e lt).1 is
 
-  -- of two values of a kind the later has the greater index
+  -- of two values of a kind, the later has the greater index
   index_rises : (i j : ℕ) (d e : TableEntry) (kind : Kind) → i < j → j < length es → is_of kind (get_or es i d).1 ≡ true → is_of kind (get_or es j e).1 ≡ true
       → (get_or es i d).0.index < (get_or es j e).0.index
   index_rises i j d e kind lt in_range a b =
@@ -123,7 +124,7 @@ module _ (es : List TableEntry) (kept : IsKept es) where
       let k_j : rank_in (get_or es j e).0.kind ≡ rank_in kind = ap rank_in (kind_at j e kind in_range b) in
       omega arith
 
-  -- a place that the walk has come past without a value, or that lies before the values ahead of it
+  -- a place that the walk has passed without a value, or that is before the values to come
   module _ (kind : Kind) (k places i : ℕ) (walked : Walked es kind k places) (low : places ≤ i) (before : (j : ℕ) (e : TableEntry) → k ≤ j → j < length es → is_of kind (get_or es j e).1 ≡ true → i < (get_or es j e).0.index) where
     never_there : (o : Option Content) → contents es (capability kind i) ≡ o → is_there o ≡ true → ⊥
     never_there None said there = cc
@@ -231,7 +232,7 @@ module _ (es : List TableEntry) (kept : IsKept es) where
                 omega arith
           ])
 
--- ---- what is not there, as it is written
+-- ---- what is absent, as it is written
 
 void_flag : (o : Option Content) → is_there o ≡ false → flag_value o ≡ 0
 void_flag None e = refl
@@ -263,7 +264,7 @@ void_text (Some content_cancelled) e = refl
 
 -- ---- the sections, one value further
 
--- values place by place: those between are void
+-- values place by place: those between are absent
 next_value : (f : ℕ → ℕ) (void places index n : ℕ) → places ≤ index → ((i : ℕ) → places ≤ i → i < index → f i ≡ void) → f index ≡ n
     → below f (index + 1) ≡ (below f places ++ replicate (index - places) void) ++ n ∷ []
 next_value f void places index n le between here =
@@ -271,7 +272,7 @@ next_value f void places index n le between here =
     below-more f index ∙ ap (λ x. below f index ++ x ∷ []) here
     ∙ ap (λ xs. xs ++ n ∷ []) (ap (below f) (sym sum) ∙ below-filled f void places (index - places) (λ j low high. between j low (omega arith)))
 
--- the same of numbers as they are spelled
+-- numbers as they are spelled, place by place: those between are absent
 next_spelled : (w : Format) (f : ℕ → ℕ) (places index n : ℕ) → below f (index + 1) ≡ (below f places ++ replicate (index - places) (absent_mark w)) ++ n ∷ []
     → number_section w (below f (index + 1)) ≡ (number_section w (below f places) ++ replicate (width w * (index - places)) 255) ++ number_bytes w n
 next_spelled w f places index n e =
@@ -304,7 +305,7 @@ module _ (es : List TableEntry) (kept : IsKept es) (k places : ℕ) (in_range : 
     said_text : of_kind (contents es) Text e.0.index ≡ Some (content_text t)
     said_text = said_here es kept Text k places walked in_range e here is_text ∙ ap (λ x. Some x) v
 
-    -- the texts before this one are those that the walk has come past
+    -- the texts before this one are those that the walk has passed
     texts_before : texts_below (contents es) e.0.index ≡ texts_below (contents es) places
     texts_before =
         let behind = places_behind es kept Text k places walked in_range e here is_text in
@@ -324,7 +325,7 @@ module _ (es : List TableEntry) (kept : IsKept es) (k places : ℕ) (in_range : 
         (λ i low high. void_offset _ _ (void_between es kept Text k places walked in_range e here is_text i low high))
         (ap (offset_value (length (texts_below (contents es) e.0.index))) said_text ∙ ap (λ (x : List ℕ). length x) texts_before))
 
-    -- the string table holds what the walk has come past, and this text
+    -- the string table holds what the walk has passed, and this text
     pub text_fits : length (texts_below (contents es) places) + (length t + 1) ≤ length (texts_below (contents es) (written_count (contents es) Text))
     text_fits =
         let more : length (texts_below (contents es) (e.0.index + 1)) ≡ length (texts_below (contents es) places) + length (t ++ 0 ∷ []) = ap length next_text ∙ length-append (texts_below (contents es) places) (t ++ 0 ∷ []) in
@@ -340,7 +341,7 @@ item_read xs k x lt e =
     let f : Capability × Value → TableEntry = λ y. (y.0, content_of y.1) in
     get_or-map f xs k x (f x) lt ∙ ap f (sym e)
 
--- two more parts behind what was there
+-- two more parts after what was there
 pub grown : (start done v0 v1 v2 fill piece next : List ℕ) → v0 ≡ start ++ done → v1 ≡ v0 ++ fill → v2 ≡ v1 ++ piece → next ≡ (done ++ fill) ++ piece → v2 ≡ start ++ next
 grown start done v0 v1 v2 fill piece next a b c e =
     c ∙ ap (λ x. x ++ piece) (b ∙ ap (λ x. x ++ fill) a ∙ append_assoc start done fill) ∙ append_assoc start (done ++ fill) piece ∙ ap (λ x. start ++ x) (sym e)

@@ -151,7 +151,7 @@ pub record IsRead (b : List ℕ) : Type 0 where
   pub numbers : AreStoredNumbers (format_in b) (numbers_section b)
   pub offsets : AreOffsets (offsets_section b) (strings_section b)
 
--- what is so of each number of a section
+-- what holds of each number of a section
 each_number : (w : Format) (section : List ℕ) (P : ℕ → Type 0) → EachNumber w section P → All P (numbers_in w section)
 each_number w section P each k d lt =
     let f : ℕ → ℕ = λ i. number_at w (width w * i) section in

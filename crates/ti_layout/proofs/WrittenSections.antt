@@ -1,4 +1,5 @@
--- What the writer has written of a section when its walk has come past some of the entries, and what one more entry adds.
+-- What the writer has written of a section when its walk has passed some of the entries, and what
+-- one more entry adds.
 use Rattle.std.proofs.Common.{◌≡◌, ℕ, ◌+◌, ◌-◌, ◌*◌, ◌<◌, ◌≤◌, true, false, List, [], ◌∷◌, ◌++◌, length, get_or, replicate, refl, sym, ap, ◌∙◌, subst, arith, append-nil, append_assoc, length-append}
 use Rattle.std.proofs.lemmas.List.{length-map}
 use Rattle.ti_caps.specs.Tables.{Capability}
@@ -75,7 +76,7 @@ module _ (es : List TableEntry) (kept : IsKept es) (start image : List ℕ) (k :
   pub texts_done : HasTexts es start image k → image ≡ start ++ texts_below (contents es) (written_count (contents es) Text)
   texts_done has = has.so_far ∙ ap (λ n. start ++ texts_below (contents es) n) (sym (walked-end es kept Text k has.places all has.walked))
 
--- a walk past all that it was made of
+-- a walk past everything that it was made of
 pub all_past : (xs : List (Capability × Value)) (k : ℕ) → length xs ≤ k → length (entries_of xs) ≤ k
 all_past xs k le = rw length-map le
 

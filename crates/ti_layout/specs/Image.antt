@@ -1,4 +1,5 @@
--- The bytes of a compiled entry as they are written (term(5)): the layout of a names field and of what the capabilities have.
+-- The bytes of a compiled entry as they are written (term(5)): the layout of a names field and of
+-- what the capabilities have.
 use Rattle.ti_text.specs.Ascii as ascii
 use Rattle.ti_text.specs.Limits.{legacy_number_max}
 use Rattle.std.specs.Prelude.{ℕ, zero, suc, ◌+◌, ◌<◌, ◌≤◌, ◌%◌, Bool, true, false, nat_lt, if◌then◌else◌, List, [], ◌∷◌, ◌++◌, length, replicate, Option, Some}
@@ -14,7 +15,7 @@ pub use Rattle.ti_layout.specs.Values.{HasNoNul}
 
 -- ---- words for lists that are made place by place
 
--- one more than the last place below n that passes, and 0 where none does
+-- one more than the last place below n that passes, 0 if none does
 unfoldable pub last_passing : (ℕ → Bool) → ℕ → ℕ
 last_passing test zero = 0
 last_passing test (suc n) = if test n then suc n else last_passing test n
@@ -39,7 +40,7 @@ of_kind contents kind index = contents (capability kind index)
 
 -- ---- what is there, and how it is written
 
--- absent and cancelled are not there
+-- an absent or cancelled capability is not there
 abbrev pub is_there : Option Content → Bool
 is_there None = false
 is_there (Some content_true) = true
@@ -47,7 +48,7 @@ is_there (Some (content_number n)) = true
 is_there (Some (content_text t)) = true
 is_there (Some content_cancelled) = false
 
--- the byte of a flag: 1 where it is there, else 0
+-- the byte of a boolean: 1 if it is there, else 0
 abbrev pub flag_value : Option Content → ℕ
 flag_value None = 0
 flag_value (Some content_true) = 1
@@ -55,7 +56,7 @@ flag_value (Some (content_number n)) = 0
 flag_value (Some (content_text t)) = 0
 flag_value (Some content_cancelled) = 0
 
--- a number that is there, else what stands for one that is absent
+-- a number that is there, else the number that means absent
 abbrev pub number_value : ℕ → Option Content → ℕ
 number_value void None = void
 number_value void (Some content_true) = void
@@ -63,7 +64,7 @@ number_value void (Some (content_number n)) = n
 number_value void (Some (content_text t)) = void
 number_value void (Some content_cancelled) = void
 
--- a text with the NUL that ends it
+-- a string with the NUL that ends it
 abbrev pub text_piece : Option Content → List ℕ
 text_piece None = []
 text_piece (Some content_true) = []
@@ -71,7 +72,7 @@ text_piece (Some (content_number n)) = []
 text_piece (Some (content_text t)) = t ++ ascii.nul ∷ []
 text_piece (Some content_cancelled) = []
 
--- the offset of a text that is there, else what stands for one that is absent
+-- the offset of a string that is there, else the offset that means absent
 abbrev pub offset_value : ℕ → Option Content → ℕ
 offset_value offset None = absent_mark Legacy
 offset_value offset (Some content_true) = absent_mark Legacy
@@ -89,7 +90,7 @@ is_wide (Some (content_number n)) = nat_lt legacy_number_max n
 is_wide (Some (content_text t)) = false
 is_wide (Some content_cancelled) = false
 
--- numbers of 32 bits are written only where there is such a number
+-- numbers of 32 bits are written only if there is such a number
 abbrev pub format_of : Contents → Format
 format_of contents = if some_below (λ i. is_wide (of_kind contents Number i)) (count_of Number) then Extended else Legacy
 
@@ -103,7 +104,7 @@ image_limit contents = limit (format_of contents)
 abbrev pub written_count : Contents → Kind → ℕ
 written_count contents kind = last_passing (λ i. is_there (of_kind contents kind i)) (count_of kind)
 
--- a byte for each flag below n
+-- a byte for each boolean below n
 abbrev pub flags_below : Contents → ℕ → List ℕ
 flags_below contents n = below (λ i. flag_value (of_kind contents Flag i)) n
 
@@ -111,20 +112,21 @@ flags_below contents n = below (λ i. flag_value (of_kind contents Flag i)) n
 abbrev pub numbers_below : Format → Contents → ℕ → List ℕ
 numbers_below format contents n = below (λ i. number_value (absent_mark format) (of_kind contents Number i)) n
 
--- the texts below n, one after the other, each with its NUL
+-- the strings below n, one after the other, each with its NUL
 unfoldable pub texts_below : Contents → ℕ → List ℕ
 texts_below contents zero = []
 texts_below contents (suc n) = texts_below contents n ++ text_piece (of_kind contents Text n)
 
--- the offset of each text below n: the length of the texts before it
+-- the offset of each string below n: the length of the strings before it
 abbrev pub offsets_below : Contents → ℕ → List ℕ
 offsets_below contents n = below (λ i. offset_value (length (texts_below contents i)) (of_kind contents Text i)) n
 
--- the zero byte where the names with their NUL and the flags are an odd number of bytes
+-- the zero byte, if the names with their NUL and the booleans are an odd number of bytes
 abbrev pub even_gap : List ℕ → ℕ → List ℕ
 even_gap names flags = replicate ((suc (length names) + flags) % 2) ascii.nul
 
--- each count stops at the last that is there; the texts lie in table order, without sharing
+-- each count ends with the last capability that is there; the strings are in table order, none
+-- shared
 abbrev pub sections_of : Format → List ℕ → Contents → Sections
 sections_of format names contents = record {
   names = names;

@@ -12,8 +12,8 @@ without_cancel None = None
 without_cancel (Some content_cancelled) = None
 without_cancel (Some content) = Some content
 
--- An image within the limit, of names of 1 to 127 bytes without NUL and of contents that agree with their capabilities,
--- is read as those names and those contents, with cancelled as absent.
+-- An image within the limit, of names of 1 to 127 bytes without NUL and of contents that agree with
+-- their capabilities, is read as those names and those contents, with cancelled as absent.
 abbrev pub ImagesAreRead : Type 0
 ImagesAreRead =
     (names : List ℕ) (contents : Contents) → 0 < length names → length names ≤ names_max → HasNoNul names
@@ -24,10 +24,10 @@ ImagesAreRead =
 abbrev pub ShowSame : Contents → Contents → Type 0
 ShowSame t u = (c : Capability) → IsCapability c → without_cancel (t c) ≡ without_cancel (u c)
 
--- An image depends on the values of the capabilities alone, with cancelled as absent.
+-- An image depends only on the values of the capabilities, with cancelled as absent.
 abbrev pub ImagesAreOfValues : Type 0
 ImagesAreOfValues = (names : List ℕ) (t u : Contents) → ShowSame t u → image names t ≡ image names u
 
--- So does its limit.
+-- The limit of an image depends only on the values of the capabilities.
 abbrev pub LimitsAreOfValues : Type 0
 LimitsAreOfValues = (t u : Contents) → ShowSame t u → image_limit t ≡ image_limit u

@@ -1,12 +1,13 @@
--- The layout of a compiled entry (term(5), "Legacy storage format" and "Extended number format"): six numbers, and then the
--- sections that they size. The two formats differ in the first number and in the bytes that the number of a capability takes.
+-- The layout of a compiled entry (term(5), "Legacy storage format" and "Extended number format"):
+-- six numbers, and then the sections whose sizes they give. The two formats differ in the first
+-- number and in the bytes that the number of a capability takes.
 use Rattle.ti_text.specs.Ascii as ascii
 use Rattle.ti_text.specs.Limits.{entry_max, extended_entry_max, legacy_number_max, number_max, two_byte_count}
 use Rattle.std.specs.Prelude.{ℕ, suc, ◌<◌, ◌+◌, ◌*◌, ◌/◌, ◌%◌, List, [], ◌∷◌, ◌++◌, length}
 use Rattle.ti_layout.specs.declared.layout.Format.{Format}
 use Rattle.ti_layout.specs.declared.layout.Format.TheVariants.{Legacy, Extended}
 
--- two bytes can hold the number, as each of the header's
+-- two bytes can hold the number, as each number of the header
 abbrev pub FitsTwoBytes : ℕ → Type 0
 FitsTwoBytes number = number < two_byte_count
 
@@ -27,12 +28,12 @@ abbrev pub first_negative : Format → ℕ
 first_negative Legacy = legacy_number_max + 1
 first_negative Extended = number_max + 1
 
--- -2, which stands for cancelled
+-- -2, which means cancelled
 abbrev pub cancelled_mark : Format → ℕ
 cancelled_mark Legacy = 65534
 cancelled_mark Extended = 4294967294
 
--- -1, which stands for absent
+-- -1, which means absent
 abbrev pub absent_mark : Format → ℕ
 absent_mark Legacy = 65535
 absent_mark Extended = 4294967295
@@ -56,8 +57,8 @@ number_section format (n ∷ ns) = number_bytes format n ++ number_section forma
 
 -- ---- an entry in its sections
 
--- The names without their NUL; a byte a flag; the zero byte, or nothing; the numbers; the offsets into the string table; that
--- table; what follows, which is not looked at.
+-- The names without their NUL; a byte for each boolean; the zero byte, or nothing; the numbers; the
+-- offsets into the string table; the string table; what follows, which is not looked at.
 pub record Sections : Type 0 where
   pub names : List ℕ
   pub flags : List ℕ
@@ -67,8 +68,8 @@ pub record Sections : Type 0 where
   pub strings : List ℕ
   pub rest : List ℕ
 
--- The magic number, the size of the names with their NUL, how many flags, numbers and offsets there are, and the size of the
--- string table: two bytes each, in either format.
+-- The magic number, the size of the names with their NUL, how many booleans, numbers and offsets
+-- there are, and the size of the string table: two bytes each, in either format.
 abbrev pub header : Format → ℕ → ℕ → ℕ → ℕ → ℕ → List ℕ
 header format names flags numbers offsets strings = number_section Legacy (magic format ∷ names ∷ flags ∷ numbers ∷ offsets ∷ strings ∷ [])
 
@@ -76,13 +77,15 @@ header format names flags numbers offsets strings = number_section Legacy (magic
 abbrev pub header_size : ℕ
 header_size = 12
 
--- the bytes of an entry with these sections: the header with their sizes, and then they in this order
+-- the bytes of an entry with these sections: the header with their sizes, and then the sections in
+-- this order
 abbrev pub entry_bytes : Format → Sections → List ℕ
 entry_bytes format s =
     header format (suc (length s.names)) (length s.flags) (length s.numbers) (length s.offsets) (length s.strings)
     ++ s.names ++ ascii.nul ∷ [] ++ s.flags ++ s.gap ++ number_section format s.numbers ++ number_section Legacy s.offsets ++ s.strings ++ s.rest
 
--- how many bytes that is, without what follows: the names have this size with their NUL, and the numbers begin at an even place
+-- how many bytes the entry has, without what follows: the names have this size with their NUL, and
+-- the numbers begin at an even place
 abbrev pub entry_size : Format → ℕ → ℕ → ℕ → ℕ → ℕ → ℕ
 entry_size format names flags numbers offsets strings =
     header_size + names + flags + (names + flags) % 2 + width format * numbers + 2 * offsets + strings

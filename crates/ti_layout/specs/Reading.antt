@@ -1,4 +1,5 @@
--- What the bytes of a compiled entry say (term(5), "Legacy storage format" and "Extended number format"), and why bytes are refused.
+-- What the bytes of a compiled entry say (term(5), "Legacy storage format" and "Extended number
+-- format"), and why bytes are refused.
 use Rattle.ti_text.specs.Ascii as ascii
 use Rattle.std.specs.Prelude.{◌≡◌, ◌≢◌, ℕ, suc, ◌+◌, ◌*◌, ◌-◌, ◌/◌, ◌%◌, ◌<◌, ◌≤◌, ◌==◌, nat_lt, if◌then◌else◌, List, length, drop, slice_index, slice_range}
 use Rattle.std.specs.Prelude.{slice_get, All, Option, Some, None, option_and_then, ◌⊎◌}
@@ -16,11 +17,11 @@ use Rattle.ti_layout.specs.Values.{Content, content_true, content_number, conten
 
 -- ---- the numbers that bytes spell
 
--- the 16-bit number, its low byte first, that stands at a place
+-- the 16-bit number at a place, its low byte first
 abbrev pub word_at : ℕ → List ℕ → ℕ
 word_at at bytes = slice_index bytes at + 256 * slice_index bytes (at + 1)
 
--- the number of a format, its low byte first, that stands at a place
+-- the number of a format at a place, its low byte first
 abbrev pub number_at : Format → ℕ → List ℕ → ℕ
 number_at Legacy at bytes = word_at at bytes
 number_at Extended at bytes =
@@ -30,13 +31,14 @@ number_at Extended at bytes =
 abbrev pub count_in : Format → List ℕ → ℕ
 count_in format section = length section / width format
 
--- those numbers
+-- the numbers of a format in a section
 abbrev pub numbers_in : Format → List ℕ → List ℕ
 numbers_in format section = below (λ i. number_at format (width format * i) section) (count_in format section)
 
--- ---- what may stand in a section
+-- ---- what may be in a section
 
--- the byte of -2, which stands for a cancelled flag of old writers; that of -1, the greatest byte, stands for an absent one
+-- the byte of -2, which means a cancelled boolean of old writers; that of -1, the greatest byte,
+-- means an absent one
 abbrev pub cancelled_flag : ℕ
 cancelled_flag = 254
 
@@ -48,23 +50,23 @@ IsFlagByte b = (b < 2) ⊎ (cancelled_flag ≤ b)
 abbrev pub IsPlain : Format → ℕ → Type 0
 IsPlain format n = n < first_negative format
 
--- -1 and -2: absent, cancelled
+-- -1 and -2: absent and cancelled
 abbrev pub IsVoid : Format → ℕ → Type 0
 IsVoid format n = (cancelled_mark format ≤ n) × (n ≤ absent_mark format)
 
--- a NUL stands at the offset or after it, within the table
+-- a NUL is at the offset or after it, within the table
 abbrev pub HasEnd : List ℕ → ℕ → Type 0
 HasEnd strings offset = (i : ℕ) × (offset ≤ i) × (i < length strings) × (slice_index strings i ≡ ascii.nul)
 
--- a number that is not negative, or stands for absent or cancelled
+-- a number that is not negative, or means absent or cancelled
 abbrev pub IsStoredNumber : Format → ℕ → Type 0
 IsStoredNumber format n = IsPlain format n ⊎ IsVoid format n
 
--- an offset that leads to a text with its NUL, or stands for absent or cancelled
+-- an offset that leads to a string with its NUL, or means absent or cancelled
 abbrev pub IsOffset : List ℕ → ℕ → Type 0
 IsOffset strings n = (IsPlain Legacy n × HasEnd strings n) ⊎ IsVoid Legacy n
 
--- the sizes of the sections are within the limits, and each flag, number and offset may stand there
+-- the sizes of the sections are within the limits, and each boolean, number and offset may be there
 pub record AreSound (format : Format) (s : Sections) : Type 0 where
   pub some_names : 0 < length s.names
   pub names_size : suc (length s.names) < first_negative Legacy
@@ -80,11 +82,11 @@ pub record AreSound (format : Format) (s : Sections) : Type 0 where
 
 -- ---- what the sections say
 
--- what a flag's byte says: 1 is true, and any other absent
+-- what a boolean's byte says: 1 is true, and any other is absent
 abbrev pub stored_flag : ℕ → Option Content
 stored_flag b = if b == 1 then Some content_true else None
 
--- what the number of a place says: itself, or absent where it is negative
+-- what the number at a place says: itself, or absent if it is negative
 abbrev pub stored_number : Format → ℕ → Option Content
 stored_number format n = if nat_lt n (first_negative format) then Some (content_number n) else None
 
@@ -92,7 +94,7 @@ stored_number format n = if nat_lt n (first_negative format) then Some (content_
 abbrev pub text_from : List ℕ → ℕ → List ℕ
 text_from strings offset = before_first (λ b. b == ascii.nul) (drop offset strings)
 
--- what an offset says: the text that begins there, or absent where it is negative
+-- what an offset says: the string that begins there, or absent if it is negative
 abbrev pub stored_text : List ℕ → ℕ → Option Content
 stored_text strings n = if nat_lt n (first_negative Legacy) then Some (content_text (text_from strings n)) else None
 
@@ -117,15 +119,16 @@ pub record Reads (bytes names : List ℕ) (contents : Contents) : Type 0 where
 
 -- ---- why bytes are refused (own order)
 
--- the format that the first number says, where it is one of the two
+-- the format that the first number says, if it is one of the two
 abbrev pub format_in : List ℕ → Format
 format_in bytes = if word_at 0 bytes == magic Extended then Extended else Legacy
 
--- where the sections begin and end by the numbers of the header: the size of the names with their NUL
+-- where the sections begin and end by the numbers of the header: the size of the names with their
+-- NUL
 abbrev pub names_size : List ℕ → ℕ
 names_size bytes = word_at 2 bytes
 
--- how many flags there are, by the header
+-- how many booleans there are, by the header
 abbrev pub flag_count : List ℕ → ℕ
 flag_count bytes = word_at 4 bytes
 
@@ -133,7 +136,7 @@ flag_count bytes = word_at 4 bytes
 abbrev pub number_count : List ℕ → ℕ
 number_count bytes = word_at 6 bytes
 
--- how many offsets of texts there are, by the header
+-- how many offsets of strings there are, by the header
 abbrev pub text_count : List ℕ → ℕ
 text_count bytes = word_at 8 bytes
 
@@ -141,19 +144,19 @@ text_count bytes = word_at 8 bytes
 abbrev pub strings_size : List ℕ → ℕ
 strings_size bytes = word_at 10 bytes
 
--- where the flags begin: behind the header and the names
+-- where the booleans begin: after the header and the names
 abbrev pub flags_place : List ℕ → ℕ
 flags_place bytes = header_size + names_size bytes
 
--- where the numbers begin: behind the flags, at an even place
+-- where the numbers begin: after the booleans, at an even place
 abbrev pub numbers_place : List ℕ → ℕ
 numbers_place bytes = flags_place bytes + flag_count bytes + (names_size bytes + flag_count bytes) % 2
 
--- where the offsets begin: behind the numbers
+-- where the offsets begin: after the numbers
 abbrev pub offsets_place : List ℕ → ℕ
 offsets_place bytes = numbers_place bytes + width (format_in bytes) * number_count bytes
 
--- where the string table begins: behind the offsets
+-- where the string table begins: after the offsets
 abbrev pub strings_place : List ℕ → ℕ
 strings_place bytes = offsets_place bytes + 2 * text_count bytes
 
@@ -161,11 +164,11 @@ strings_place bytes = offsets_place bytes + 2 * text_count bytes
 abbrev pub end_place : List ℕ → ℕ
 end_place bytes = strings_place bytes + strings_size bytes
 
--- the sections, where the bytes are that long: the names with their NUL
+-- the sections, if the bytes are that long: the names with their NUL
 abbrev pub names_section : List ℕ → List ℕ
 names_section bytes = slice_range bytes header_size (flags_place bytes)
 
--- the flags, a byte each
+-- the booleans, a byte each
 abbrev pub flags_section : List ℕ → List ℕ
 flags_section bytes = slice_range bytes (flags_place bytes) (flags_place bytes + flag_count bytes)
 
@@ -187,7 +190,7 @@ HasBadCount bytes =
     (first_negative Legacy ≤ names_size bytes) ⊎ (count_of Flag < flag_count bytes) ⊎ (count_of Number < number_count bytes)
     ⊎ (count_of Text < text_count bytes) ⊎ (first_negative Legacy ≤ strings_size bytes)
 
--- below two bytes, a NUL before the last byte, or none there
+-- below two bytes, a NUL before the last byte, or no NUL as the last byte
 abbrev pub HasBadNames : List ℕ → Type 0
 HasBadNames names =
     (length names < 2) ⊎ ((k : ℕ) × (suc k < length names) × (slice_index names k ≡ ascii.nul))
@@ -205,8 +208,8 @@ SomeNumber format section P = (k : ℕ) × (k < count_in format section) × P (n
 abbrev pub HasBadNumber : Format → List ℕ → Type 0
 HasBadNumber format numbers = SomeNumber format numbers (λ n. (first_negative format ≤ n) × (n < cancelled_mark format))
 
--- Below -2, at or past the table's size, or with no NUL behind it in the table: in each case no NUL
--- stands at it or after it in the table, whose size is below 32,768.
+-- Below -2, at or past the table's size, or with no NUL after it in the table. In each case no NUL
+-- is at it or after it in the table, whose size is below 32,768.
 abbrev pub HasBadOffset : List ℕ → List ℕ → Type 0
 HasBadOffset offsets strings = SomeNumber Legacy offsets (λ n. (n < cancelled_mark Legacy) × ¬ HasEnd strings n)
 
@@ -221,7 +224,7 @@ HasReadFault bytes BadFlag = HasBadFlag (flags_section bytes)
 HasReadFault bytes BadNumber = HasBadNumber (format_in bytes) (numbers_section bytes)
 HasReadFault bytes BadOffset = HasBadOffset (offsets_section bytes) (strings_section bytes)
 
--- the order in which they are looked for
+-- the order in which the refusals are looked for
 abbrev pub rank : ReadError → ℕ
 rank Short = 1
 rank Magic = 2
@@ -237,7 +240,7 @@ pub record FailsToRead (bytes : List ℕ) (error : ReadError) : Type 0 where
   pub holds : HasReadFault bytes error
   pub first : (earlier : ReadError) → rank earlier < rank error → ¬ HasReadFault bytes earlier
 
--- Bytes are an entry in one way at most, are refused in one way at most, and never both.
+-- Bytes are an entry in at most one way, are refused in at most one way, and never both.
 abbrev pub EntriesHaveOneReading : Type 0
 EntriesHaveOneReading =
     ((bytes m n : List ℕ) (c d : Contents) → Reads bytes m c → Reads bytes n d → (m ≡ n) × (c ≡ d))

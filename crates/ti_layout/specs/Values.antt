@@ -1,4 +1,4 @@
--- What an entry has of a capability (term(5)), apart from where it lies in memory.
+-- What an entry has of a capability (term(5)), wherever it is in memory.
 use Rattle.ti_text.specs.Limits.{number_max}
 use Rattle.std.specs.Prelude.{◌≡◌, ℕ, ◌+◌, ◌<◌, ◌≤◌, if◌then◌else◌, List, [], ◌∷◌, map, length, slice_index, All, Option, Some, None}
 use Rattle.std.specs.Rc.{rc_slice_items}
@@ -9,7 +9,7 @@ use Rattle.ti_layout.specs.declared.values.Value.{Value}
 use Rattle.ti_layout.specs.declared.values.Value.TheVariants.{True, Cancelled}
 use Rattle.ti_layout.specs.declared.values.Value.TheVariants as v
 
--- a flag, a number, a text, or a value that is cancelled
+-- a boolean, a number, a string, or a value that is cancelled
 pub data Content : Type 0 where
   content_true : Content
   content_number : ℕ → Content
@@ -27,7 +27,8 @@ content_of (v.Number n) = content_number n
 content_of (v.Text t) = content_text (rc_slice_items t)
 content_of Cancelled = content_cancelled
 
--- the capability may have the content: the kinds agree, a number is no greater than one may be, a text has no NUL
+-- the capability may have the content: the kinds agree, a number is no greater than one may be, a
+-- string has no NUL
 abbrev pub Agrees : Capability → Content → Type 0
 Agrees c content_true = c.kind ≡ Flag
 Agrees c (content_number n) = (c.kind ≡ Number) × (n ≤ number_max)

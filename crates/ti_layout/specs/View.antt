@@ -9,7 +9,7 @@ use Rattle.ti_layout.specs.Values.{Content, content_true, content_number, conten
 abbrev pub names_of : View → List ℕ
 names_of v = v.names.now
 
--- what it holds
+-- what it holds of each capability
 abbrev pub view_contents : View → Contents
 view_contents v = contents_of v.format v.flags.now (numbers_in v.format v.numbers.now) (numbers_in Legacy v.offsets.now) v.strings.now
 
@@ -22,7 +22,7 @@ pub record Entry : Type 0 where
 abbrev pub shown_entry : View → Entry
 shown_entry view = record { names = names_of view; contents = view_contents view }
 
--- whether a flag is set
+-- whether a boolean is set
 abbrev pub shown_flag : Option Content → Bool
 shown_flag (Some content_true) = true
 shown_flag _ = false
@@ -32,7 +32,7 @@ abbrev pub shown_number : Option Content → Option ℕ
 shown_number (Some (content_number n)) = Some n
 shown_number _ = None
 
--- the value of a text
+-- the value of a string
 abbrev pub shown_text : Option Content → Option (List ℕ)
 shown_text (Some (content_text bytes)) = Some bytes
 shown_text _ = None

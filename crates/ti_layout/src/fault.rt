@@ -1,3 +1,5 @@
+//! Why bytes are no compiled entry.
+
 use thiserror::Error;
 
 /// Why bytes are no compiled entry: the first of these that holds, in this order.
@@ -18,7 +20,7 @@ pub enum ReadError {
     /// The names take fewer than two bytes, or their only NUL is not their last byte.
     #[error("BadNames")]
     BadNames,
-    /// The byte of a flag is none of 0, 1, 0xFE and 0xFF.
+    /// The byte of a boolean is none of 0, 1, 0xFE and 0xFF.
     #[error("BadFlag")]
     BadFlag,
     /// A number is below -2.

@@ -1,9 +1,9 @@
-// Laws of the definitions that the calls of this crate stand on. They compute nothing.
+//! Laws of the definitions on which the contracts of this crate depend. They compute nothing.
 ghost use Rattle.ti_layout.specs.Laws.{ImagesAreOfValues, ImagesAreRead, LimitsAreOfValues};
 ghost use Rattle.ti_layout.specs.Reading.{EntriesHaveOneReading};
 
-/// Bytes are an entry in one way at most, are refused in one way at most, and never both; so what
-/// [`View::read`](crate::View::read) answers is settled by the bytes.
+/// Bytes are an entry in at most one way, are refused in at most one way, and never both; so the
+/// bytes determine what [`View::read`](crate::View::read) answers.
 pub fn one_reading()
     ensures { EntriesHaveOneReading }
 {}
@@ -14,7 +14,7 @@ pub fn images_are_read()
     ensures { ImagesAreRead }
 {}
 
-/// An image and its limit depend on the values of the capabilities alone: an absent value and a
+/// An image and its limit depend only on the values of the capabilities: an absent value and a
 /// cancelled one are written alike.
 pub fn images_are_of_values()
     ensures images { ImagesAreOfValues }

@@ -1,4 +1,4 @@
-// The two formats of a compiled entry, and the numbers of its header.
+//! The two formats of a compiled entry, and the numbers of its header.
 ghost use Rattle.std.specs.Prelude.{◌≡◌, ◌≤◌, ◌^◌, ◌-◌, min};
 ghost use Rattle.ti_layout.specs.Layout as layout;
 
@@ -50,7 +50,7 @@ impl Format {
         }
     }
 
-    /// -2, which stands for a cancelled number; -1 stands for an absent one.
+    /// -2, which means a cancelled number; -1 means an absent one.
     pub fn cancelled_mark(self) -> u32
         ensures { result ≡ layout.cancelled_mark self }
     {
@@ -85,7 +85,7 @@ pub struct Header {
 }
 
 impl Header {
-    /// The bytes of an entry with this header; the greatest number where they are more.
+    /// The bytes of an entry with this header; the greatest number if they are more.
     pub fn size(&self) -> usize
         requires names { layout.FitsTwoBytes self.now.names }
         requires flags { layout.FitsTwoBytes self.now.flags }

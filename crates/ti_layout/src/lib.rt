@@ -1,15 +1,15 @@
 //! Compiled terminfo entries, as term(5) lays them out.
 //!
 //! - `values`: the values of an entry, a finite map from capabilities
-//! - `merging`: two such maps made one, where the first decides
+//! - `merging`: two such maps made one; the first decides
 //! - `mentions`: such a map made of mentions of capabilities, of which the first of each decides
 //! - `layout`: the two formats, and the numbers of a header
 //! - `writing`: an entry written from its names and values
-//! - `view`: an entry read where it lies, each name and value a slice of the caller's bytes
-//! - `view_parts`: such an entry as its sections, for one who keeps it in another struct
+//! - `view`: an entry read where it is; each name and value is a slice of the caller's bytes
+//! - `view_parts`: such an entry as its sections, for a caller that holds it in another struct
 //! - `sections`: the sections of an entry, cut by its header and each looked through once
 //! - `fault`: why bytes are no entry
-//! - `laws`: what the definitions of reading settle, and that what is written is read again
+//! - `laws`: the definitions of reading determine one answer, and what is written is read again
 #![tactic(auto)]
 
 mod fault;

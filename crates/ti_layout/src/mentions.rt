@@ -1,4 +1,4 @@
-// A table made of mentions of capabilities, of which the first of each decides.
+//! A table made of mentions of capabilities, of which the first of each decides.
 ghost use Rattle.std.specs.Prelude.{◌≡◌, ◌<◌, ◌≤◌, [], length, All, Some, None, IfOk, OnOk, if◌then◌else◌};
 ghost use Rattle.std.specs.Option.{option_or};
 ghost use Rattle.ti_caps.specs.Tables.{Capability, IsCapability, same_capability};
@@ -10,21 +10,19 @@ use crate::merging::{copy_of, push_copy};
 use crate::values::{Table, Value, rank};
 use std::alloc::{AllocError, Global};
 use std::marker::Model;
-use ti_caps::Cap;
+use ti_caps::{CAPABILITY_COUNT, Cap};
 
-/// How many capabilities there are.
-const CAPABILITIES: usize = 497;
-
-/// So many mentions are brought into order by a walk over the places of all capabilities; fewer are inserted one by one.
+// This number of mentions, or more, is brought into order by a walk over the places of all
+// capabilities; fewer are inserted one by one.
 const MANY: usize = 24;
 
-// For each capability, by its place in the order of the entry, one more than the place of its first mention; 0 where there
-// is none.
-fn first_places(mentions: &[(Cap, Value)]) -> [u16; CAPABILITIES]
+// For each capability, by its place in the order of the entry, one more than the place of its first
+// mention; 0 if there is none.
+fn first_places(mentions: &[(Cap, Value)]) -> [u16; CAPABILITY_COUNT]
     requires few { FitsTwoBytes (length mentions.now) }
     ensures { AreMentionPlaces (entries_of mentions.now) result }
 {
-    let mut places = [0; CAPABILITIES];
+    let mut places = [0; CAPABILITY_COUNT];
     for (index, mention) in mentions.iter().enumerate() {
         let rank = rank(mention.0);
         if places[rank] == 0 {
@@ -34,7 +32,7 @@ fn first_places(mentions: &[(Cap, Value)]) -> [u16; CAPABILITIES]
     places
 }
 
-/// The first mention of each capability, in the order of the entry, its text shared.
+// The first mention of each capability, in the order of the entry. Strings are shared.
 fn first_mentions(alloc: Global, mentions: &[(Cap, Value)]) -> Result<Vec<(Cap, Value)>, AllocError>
     requires few { FitsTwoBytes (length mentions.now) }
     requires agree { All (λ e. Agrees e.0 e.1) (entries_of mentions.now) }
@@ -42,7 +40,7 @@ fn first_mentions(alloc: Global, mentions: &[(Cap, Value)]) -> Result<Vec<(Cap, 
     ensures said { IfOk result (λ v. (c : Capability) → IsCapability c → contents (entries_of v.items) c ≡ contents (entries_of mentions.now) c) }
 {
     let places = first_places(mentions);
-    let mut entries = Vec::with_capacity(alloc, mentions.len().min(CAPABILITIES))?;
+    let mut entries = Vec::with_capacity(alloc, mentions.len().min(CAPABILITY_COUNT))?;
     for place in &places {
         if *place > 0 {
             push_copy(&mut entries, &mentions[*place as usize - 1])?;
@@ -51,7 +49,8 @@ fn first_mentions(alloc: Global, mentions: &[(Cap, Value)]) -> Result<Vec<(Cap, 
     Ok(entries)
 }
 
-/// After how many mentions a table is made of them, so that those of a long block take no more memory than those of a short one.
+// How many mentions there are when a table is made of them, so that those of a long block take no
+// more memory than those of a short one.
 const RECENT_MAX: usize = 1000;
 
 // Adds what a table does not have yet, mention by mention.
@@ -81,7 +80,7 @@ fn merge_all(alloc: Global, table: &mut Table, mentions: &[(Cap, Value)]) -> Res
     table.merge(&added)
 }
 
-// Adds what a table does not have yet, whichever way is shorter, and leaves no mention.
+// Adds what a table does not have yet, by the shorter way, and leaves no mention.
 fn settle(table: &mut Table, recent: &mut Vec<(Cap, Value)>) -> Result<(), AllocError>
     requires few { length recent.old.items ≤ recent_max }
     requires agree { All (λ e. Agrees e.0 e.1) (entries_of recent.old.items) }
@@ -100,12 +99,13 @@ fn settle(table: &mut Table, recent: &mut Vec<(Cap, Value)>) -> Result<(), Alloc
     Ok(())
 }
 
-/// Mentions of capabilities one behind another, of which the first of each decides; a table is made of them at the end.
+/// Mentions of capabilities one after another, of which the first of each decides. A table is made
+/// of them at the end.
 #[derive(Drop)]
 pub struct Mentions {
-    // what the mentions before the recent ones come to
+    // the table of the mentions before the recent ones
     table: Table,
-    // the later mentions, in their order
+    // the later mentions, in order
     recent: Vec<(Cap, Value)>,
 }
 
@@ -122,10 +122,10 @@ impl Model for Mentions {
 }
 
 impl Mentions {
-    /// None yet, with room for so many.
+    /// None yet, with room for the given number.
     ///
     /// # Errors
-    /// Want of memory.
+    /// `AllocError` if memory ran out.
     #[tactic(auto, unfolding(crate::specs::Values::contents))]
     pub fn new(alloc: Global, room: usize) -> Result<Mentions, AllocError>
         ensures { IfOk result (λ m. (c : Capability) → contents m c ≡ None) }
@@ -136,11 +136,11 @@ impl Mentions {
         })
     }
 
-    /// One more mention, behind the others: it decides where none of them is of the same capability. The kinds
-    /// agree, a number is at most 2,147,483,647 and a text holds no NUL.
+    /// One more mention, after the others: it decides if no mention before it is of the same
+    /// capability. The kinds agree, a number is at most 2,147,483,647 and a string holds no NUL.
     ///
     /// # Errors
-    /// Want of memory.
+    /// `AllocError` if memory ran out.
     pub fn push(&mut self, cap: Cap, value: Value) -> Result<(), AllocError>
         requires { Agrees cap (content_of value) }
         ensures { OnOk result ((c : Capability) → IsCapability c → contents self.new c
@@ -153,10 +153,10 @@ impl Mentions {
         Ok(())
     }
 
-    /// A mention of each value of a table, behind the others.
+    /// Adds a mention of each value of a table, after the others.
     ///
     /// # Errors
-    /// Want of memory.
+    /// `AllocError` if memory ran out.
     pub fn merge(&mut self, used: &Table) -> Result<(), AllocError>
         ensures { OnOk result ((c : Capability) → IsCapability c → contents self.new c ≡ option_or (contents self.old c) (contents used.now c)) }
     {
@@ -167,7 +167,7 @@ impl Mentions {
     /// The table of the first mentions.
     ///
     /// # Errors
-    /// Want of memory.
+    /// `AllocError` if memory ran out.
     pub fn into_table(mut self) -> Result<Table, AllocError>
         ensures { IfOk result (λ t. (c : Capability) → IsCapability c → contents t c ≡ contents self c) }
     {

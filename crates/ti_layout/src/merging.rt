@@ -1,5 +1,4 @@
-// A walk over two tables, the values of each of which stand in the order of the entry, and two tables
-// made one by it.
+//! A walk over two tables, each in the order of the entry, and two tables made one by it.
 ghost use Rattle.std.specs.Prelude.{◌≡◌, ◌++◌, ◌∷◌, [], IfOk, OnOk, MatchOption};
 ghost use Rattle.std.specs.Option.{option_or};
 ghost use Rattle.ti_caps.specs.Tables.{Capability};
@@ -13,16 +12,16 @@ use ti_caps::Cap;
 
 // Whose value comes next in a walk over two tables.
 enum Turn {
-    // That of the first.
+    // The value of the first table.
     First,
-    // That of the second.
+    // The value of the second table.
     Second,
-    // Those of both, which have the same capability.
+    // Both values, which have the same capability.
     Both,
 }
 
-// Whose value comes next, where so many of the first and of the second are passed; `None` where
-// nothing is left of either.
+// Whose value comes next when these numbers of values of the first and of the second are passed;
+// `None` if nothing is left of either.
 fn whose_turn(
     first: &[(Cap, Value)],
     at_first: usize,
@@ -47,7 +46,7 @@ fn whose_turn(
     }
 }
 
-/// A value once more, its text shared.
+/// A value once more. Its string is shared.
 pub(crate) fn copy_of(value: &Value) -> Result<Value, AllocError>
     ensures { IfOk result (λ copy. content_of copy ≡ content_of value.now) }
 {
@@ -70,10 +69,11 @@ pub(crate) fn push_copy(
     Ok(())
 }
 
-/// What the first has, and of what it has nothing of, what the second has.
+/// A table with the values of the first, and those of the second for the capabilities of which the
+/// first has nothing.
 ///
 /// # Errors
-/// Want of memory.
+/// `AllocError` if memory ran out.
 pub fn merge(
     alloc: Global,
     first: &[(Cap, Value)],

@@ -1,4 +1,4 @@
-// The sections of a compiled entry: cut by the header's numbers, and each looked through once.
+//! The sections of a compiled entry: cut by the header's numbers, and each looked through once.
 ghost use Rattle.std.specs.Prelude.{◌≡◌, ◌+◌, ◌*◌, ◌<◌, ◌≤◌, length, MatchBool, IfOk, IfErr};
 ghost use Rattle.ti_layout.specs.Layout as layout;
 ghost use Rattle.ti_layout.specs.Reading.{word_at, number_at, FailsToRead, HasBadNames, HasBadFlag, HasBadNumber, HasBadOffset};
@@ -8,19 +8,14 @@ use crate::fault::ReadError;
 use crate::layout::{Format, HEADER_SIZE, Header};
 use byteorder::{ByteOrder, LittleEndian};
 use memchr::{memchr, memrchr};
+use ti_caps::{FLAG_COUNT, NUMBER_COUNT, TEXT_COUNT};
 
-/// The first size or offset that is negative as a signed number of 16 bits.
+// The first size or offset that is negative as a signed number of 16 bits.
 const NEGATIVE: usize = 0x8000;
-/// -2, a cancelled offset; -1 is an absent one.
+// -2, a cancelled offset; -1 is an absent one.
 const CANCELLED: usize = 0xfffe;
 
-const FLAGS_MAX: usize = 44;
-
-const NUMBERS_MAX: usize = 39;
-
-const TEXTS_MAX: usize = 414;
-
-/// The sections of an entry, as they lie in its bytes; the names with their NUL.
+/// The sections of an entry, as they are in its bytes; the names with their NUL.
 #[derive(Clone, Copy)]
 pub struct Sections<'a> {
     pub format: Format,
@@ -31,7 +26,7 @@ pub struct Sections<'a> {
     pub strings: &'a [u8],
 }
 
-/// The 16-bit number that stands at a place, its low byte first.
+/// The 16-bit number at a place, its low byte first.
 pub fn word(bytes: &[u8], at: usize) -> usize
     requires { at + 2 ≤ length bytes.now }
     ensures value { result ≡ word_at at bytes.now }
@@ -40,7 +35,7 @@ pub fn word(bytes: &[u8], at: usize) -> usize
     LittleEndian::read_u16(&bytes[at..]) as usize
 }
 
-/// The number of a format that stands at a place, its low byte first.
+/// The number of a format at a place, its low byte first.
 pub fn number(bytes: &[u8], at: usize, format: Format) -> u32
     requires { at + layout.width format ≤ length bytes.now }
     ensures value { result ≡ number_at format at bytes.now }
@@ -53,7 +48,7 @@ pub fn number(bytes: &[u8], at: usize, format: Format) -> u32
     }
 }
 
-/// The header's numbers, or the first of Short, Magic and Counts that holds.
+// The header's numbers, or the first of Short, Magic and Counts that holds.
 fn read_header(bytes: &[u8]) -> Result<Header, ReadError>
     ensures found { IfOk result (λ h. HasHeader bytes.now h) }
     ensures refused { IfErr result (λ e. FailsToRead bytes.now e) }
@@ -75,9 +70,9 @@ fn read_header(bytes: &[u8]) -> Result<Header, ReadError>
         strings: word(bytes, 10),
     };
     if header.names >= NEGATIVE
-        || header.flags > FLAGS_MAX
-        || header.numbers > NUMBERS_MAX
-        || header.texts > TEXTS_MAX
+        || header.flags > FLAG_COUNT
+        || header.numbers > NUMBER_COUNT
+        || header.texts > TEXT_COUNT
         || header.strings >= NEGATIVE
     {
         return Err(ReadError::Counts);
@@ -110,14 +105,14 @@ pub fn cut(bytes: &[u8]) -> Result<Sections<'_>, ReadError>
     })
 }
 
-/// Whether a section is names of a byte at least, and then its only NUL.
+/// Whether a section is names: at least a byte, and then its only NUL.
 pub fn are_names(names: &[u8]) -> bool
     ensures { MatchBool result (AreNames names.now) (HasBadNames names.now) }
 {
     names.len() >= 2 && memchr(0, names) == Some(names.len() - 1)
 }
 
-/// Whether each byte of a section is a flag: 0 or 1, or that of a cancelled or absent one.
+/// Whether each byte of a section is a boolean: 0 or 1, or the byte of a cancelled or absent one.
 pub fn are_flags(flags: &[u8]) -> bool
     ensures { MatchBool result (AreFlags flags.now) (HasBadFlag flags.now) }
 {
@@ -143,8 +138,8 @@ pub fn are_numbers(numbers: &[u8], format: Format) -> bool
     true
 }
 
-/// Whether each offset is void or leads to a text with its NUL. One search serves them all: an
-/// offset does so exactly where it is not past the table's last NUL.
+/// Whether each offset is void or leads to a string with its NUL. One search serves them all: an
+/// offset does so exactly if it is not past the table's last NUL.
 pub fn are_offsets(offsets: &[u8], strings: &[u8]) -> bool
     requires { length strings.now < layout.first_negative Format.Legacy }
     ensures { MatchBool result (AreOffsets offsets.now strings.now) (HasBadOffset offsets.now strings.now) }

@@ -1,4 +1,4 @@
-// The values of an entry, and the table that holds them by capability.
+//! The values of an entry, and the table that holds them by capability.
 ghost use Rattle.std.specs.Prelude.{◌≡◌, ◌≢◌, Option, Some, None, option_map, OnOk, OnErr, IfOk, IfErr, IfSome, IsNone, IsOk, IsSome, if◌then◌else◌};
 ghost use Rattle.std.specs.Option.{option_or};
 ghost use Rattle.ti_caps.specs.Tables.{Capability, IsCapability, same_capability};
@@ -14,11 +14,11 @@ use ti_caps::{Cap, Kind, count};
 /// What an entry has of a capability.
 #[derive(Debug, Drop)]
 pub enum Value {
-    /// A flag that is there.
+    /// A boolean that is there.
     True,
     /// A number, at most 2,147,483,647.
     Number(u32),
-    /// A text without NUL.
+    /// A string without NUL.
     Text(RcSlice<u8>),
     /// Cancelled, as by `name@`, and so not there.
     Cancelled,
@@ -52,7 +52,7 @@ impl Table {
         }
     }
 
-    /// A table of these values, which stand in the order of the entry.
+    /// A table of these values, which are in the order of the entry.
     pub(crate) fn of_entries(entries: Vec<(Cap, Value)>) -> Table
         requires { IsKept (entries_of entries.items) }
         ensures { result ≡ entries_of entries.items }
@@ -60,7 +60,7 @@ impl Table {
         Table { entries }
     }
 
-    /// The value of a capability, or `None` where it has none.
+    /// The value of a capability, or `None` if it has none.
     pub fn get(&self, cap: Cap) -> Option<&Value>
         ensures found { option_map (λ v. content_of v.now) result ≡ contents self.now cap }
         ensures agrees { IfSome result (λ v. Agrees cap (content_of v.now)) }
@@ -69,8 +69,8 @@ impl Table {
     }
 
     /// Gives a capability a value, or with `None` takes its value away, and leaves every other one.
-    /// The kinds agree, a number is at most 2,147,483,647 and a text holds no NUL. Where memory is short the
-    /// table stays as it was and the value is dropped.
+    /// The kinds agree, a number is at most 2,147,483,647 and a string holds no NUL. If memory is
+    /// short the table remains as it was and the value is dropped.
     pub fn set(&mut self, cap: Cap, value: Option<Value>) -> Result<(), AllocError>
         requires { AgreesIfSome cap (option_map content_of value) }
         ensures set { OnOk result (contents self.new cap ≡ option_map content_of value) }
@@ -90,9 +90,10 @@ impl Table {
         }
     }
 
-    /// Gives a capability a value, unless it has one: a value or a cancel that is there stays, and the new value is dropped.
-    /// The kinds agree, a number is at most 2,147,483,647 and a text holds no NUL. Where memory is short the table stays as
-    /// it was, and only a capability that has no value needs memory.
+    /// Gives a capability a value, unless it has one: a value or a cancel that is there remains,
+    /// and the new value is dropped. The kinds agree, a number is at most 2,147,483,647 and a
+    /// string holds no NUL. If memory is short the table remains as it was. Only a capability that
+    /// has no value needs memory.
     pub fn set_if_absent(&mut self, cap: Cap, value: Value) -> Result<(), AllocError>
         requires { Agrees cap (content_of value) }
         ensures given { OnOk result ((c : Capability) → contents self.new c
@@ -105,9 +106,9 @@ impl Table {
 }
 
 impl Table {
-    /// Gives each capability that has no value the value that it has in the other table, its text
-    /// shared: what the table has decides, a cancelled value too. One walk over both. Where memory is
-    /// short the table stays as it was.
+    /// Gives each capability that has no value the value that it has in the other table, with its
+    /// string shared. What the table has decides, a cancelled value too. One walk goes over both.
+    /// If memory is short the table remains as it was.
     pub fn merge(&mut self, other: &Table) -> Result<(), AllocError>
         ensures merged { OnOk result ((c : Capability) → contents self.new c ≡ option_or (contents self.old c) (contents other.now c)) }
         ensures err { OnErr result (self.new ≡ self.old) }
@@ -117,7 +118,8 @@ impl Table {
         Ok(())
     }
 
-    /// What is so of every table: each value is one that its capability may have. It computes nothing.
+    /// What holds of every table: each value is one that its capability may have. The law computes
+    /// nothing.
     pub fn values_agree(&self)
         ensures { (c : Capability) → AgreesIfSome c (contents self.now c) }
     {
@@ -133,7 +135,7 @@ impl Table {
     }
 }
 
-// The place of a capability among all, in the order of the compiled entry.
+/// The place of a capability among all, in the order of the compiled entry.
 pub(crate) fn rank(cap: Cap) -> usize
     ensures value { result ≡ rank_of cap }
     ensures valid { IsCapability cap }
@@ -145,7 +147,7 @@ pub(crate) fn rank(cap: Cap) -> usize
     }
 }
 
-// Where a capability stands, or where it would stand.
+// Where a capability is, or where it would be.
 fn place(entries: &[(Cap, Value)], cap: Cap) -> Result<usize, usize>
     requires { IsKept (entries_of entries.now) }
     ensures valid { IsCapability cap }

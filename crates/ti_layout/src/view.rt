@@ -1,4 +1,4 @@
-// A compiled entry read where it lies: each name and value is a slice of the caller's bytes.
+//! A compiled entry read where it is: each name and value is a slice of the caller's bytes.
 ghost use Rattle.std.specs.Prelude.{◌≡◌, ◌==◌, ◌<◌, length, IfOk, IfErr};
 ghost use Rattle.std.specs.List.{before_first};
 ghost use Rattle.std.specs.Option.{option_copied};
@@ -15,12 +15,12 @@ use crate::view_parts::ViewParts;
 use memchr::memchr;
 use ti_caps::Cap;
 
-/// The first offset that is negative as a signed number of 16 bits.
+// The first offset that is negative as a signed number of 16 bits.
 const NEGATIVE: usize = 0x8000;
 
 /// A compiled entry of term(5), in the legacy storage format or the extended number format, read
-/// where it lies. It holds slices of the bytes that it was read from, so it takes no memory;
-/// contracts see its names and what each capability has.
+/// where it is. It holds slices of the bytes that it was read from, so it takes no memory.
+/// Contracts see its names and what each capability has.
 #[derive(Clone, Copy)]
 pub struct View<'a> {
     format: Format,
@@ -31,7 +31,7 @@ pub struct View<'a> {
     strings: &'a [u8],
     // each plain offset leads into the string table
     ghost ends: { OffsetsEnd offsets.now strings.now },
-    // which is no longer than a header can say
+    /// the string table is no longer than a header can say
     pub ghost short: { length strings.now < first_negative Legacy },
 }
 
@@ -40,8 +40,8 @@ impl<'a> View<'a> {
     ghost use Rattle.ti_layout.specs.ViewParts.{parts_contents};
     ghost use Rattle.ti_layout.specs.View.{names_of, view_contents, shown_flag, shown_number, shown_text};
 
-    /// Reads an entry. One pass over the sections and one search of the string table: the time is
-    /// linear in the bytes, however many offsets lead into one text.
+    /// Reads an entry. One pass goes over the sections and one search over the string table: the
+    /// time is linear in the bytes, however many offsets lead to the same string.
     ///
     /// # Errors
     /// The first of the refusals of [`ReadError`], in its order, that holds of the bytes.
@@ -79,7 +79,7 @@ impl<'a> View<'a> {
         self.names
     }
 
-    /// The first name: the names field up to its first `|`, or the whole of it.
+    /// The first name: the names field up to its first `|`, or the whole field if it has none.
     pub fn first_name(&self) -> &'a [u8]
         ensures { result.now ≡ before_first (λ b. b == ascii.bar) (names_of self.now) }
     {
@@ -89,7 +89,7 @@ impl<'a> View<'a> {
         }
     }
 
-    /// Whether a flag is set. One that is absent or cancelled is not.
+    /// Whether a boolean is set. An absent or cancelled boolean is not.
     pub fn flag(&self, cap: Cap) -> bool
         requires { cap.kind ≡ Flag }
         ensures { result ≡ shown_flag (view_contents self.now cap) }
@@ -97,7 +97,7 @@ impl<'a> View<'a> {
         self.flags.get(cap.index()) == Some(&1)
     }
 
-    /// The value of a number; `None` where it is absent or cancelled.
+    /// The value of a number; `None` if it is absent or cancelled.
     pub fn number(&self, cap: Cap) -> Option<u32>
         requires { cap.kind ≡ Number }
         ensures { result ≡ shown_number (view_contents self.now cap) }
@@ -114,7 +114,7 @@ impl<'a> View<'a> {
         }
     }
 
-    /// The value of a text, without its NUL; `None` where it is absent or cancelled.
+    /// The value of a string, without its NUL; `None` if it is absent or cancelled.
     pub fn text(&self, cap: Cap) -> Option<&'a [u8]>
         requires { cap.kind ≡ Text }
         ensures { option_copied result ≡ shown_text (view_contents self.now cap) }
@@ -147,7 +147,7 @@ impl<'a> View<'a> {
         }
     }
 
-    /// The entry of such sections.
+    /// The entry with such sections.
     pub fn of_parts(parts: ViewParts<'a>) -> View<'a>
         ensures names { names_of result ≡ parts.entry.names.now }
         ensures contents { view_contents result ≡ parts_contents parts.entry }

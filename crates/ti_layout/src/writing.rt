@@ -1,6 +1,8 @@
-// An entry written as term(5) lays it out. The entries of a table stand in the order of the entry,
-// so each section is written in one walk over them: what is absent before a value is filled up in one
-// step, and what is absent behind the last value is not written.
+//! An entry written as term(5) lays it out.
+//!
+//! The entries of a table are in the order of the entry, so each section is written in one walk over
+//! them: what is absent before a value is filled up in one step, and what is absent after the last
+//! value is not written.
 ghost use Rattle.std.specs.Prelude.{◌≡◌, ◌≢◌, ◌<◌, ◌≤◌, ◌↔◌, ◌+◌, ◌*◌, ◌++◌, [], length, replicate, Some, IfOk, IsErrOf, OnOk};
 ghost use Rattle.ti_text.specs.Limits.{names_max};
 ghost use Rattle.ti_caps.specs.declared.capability.Kind.TheVariants.{Flag, Number, Text};
@@ -20,7 +22,7 @@ use thiserror::Error;
 use ti_caps::Cap;
 use ti_text::limits::{LEGACY_NUMBER_MAX, NAMES_MAX};
 
-// A number or an offset that is absent has this in each of its bytes.
+// Each byte of a number or an offset that is absent.
 const ABSENT: u8 = 0xFF;
 
 /// Why an entry is not written: the first of these that holds, in this order.
@@ -29,7 +31,8 @@ pub enum WriteError {
     /// The names take more than 127 bytes.
     #[error("NamesTooLong")]
     NamesTooLong,
-    /// The entry would take more bytes than its limit: 32,768 where a number is over 32,767, else 4,096.
+    /// The entry would take more bytes than its limit: 32,768 if a number is over 32,767, else
+    /// 4,096.
     #[error("TooLarge")]
     TooLarge,
     /// There is no memory for the entry.
@@ -47,20 +50,21 @@ impl From<AllocError> for WriteError {
 
 /// The compiled entry of a names field and a table.
 ///
-/// Where a number is over 32,767 the numbers take 32 bits, else 16. Each count stops at the last
-/// capability that is there. A flag is 1 or 0; a number or an offset is -1 where the capability is
-/// absent or cancelled. The texts lie in table order without sharing, the first at offset 0. All
+/// If a number is over 32,767, the numbers take 32 bits, else 16. Each count ends with the last
+/// capability that is there. A boolean is 1 or 0; a number or an offset is -1 if the capability is
+/// absent or cancelled. The strings are in table order, none shared, the first at offset 0. All
 /// sizes are known before memory is asked for.
 ///
 /// # Errors
-/// `NamesTooLong` for names over 127 bytes, then `TooLarge` for an entry over its limit, then `Memory`.
+/// `NamesTooLong` for names over 127 bytes, then `TooLarge` for an entry over its limit, then
+/// `Memory`.
 pub fn write(alloc: Global, names: &[u8], table: &Table) -> Result<Vec<u8>, WriteError>
     requires present { names.now ≢ [] }
     requires no_nul { HasNoNul names.now }
     ensures ok { IfOk result (λ v. (v.items ≡ image names.now (contents table.now))
         × (length names.now ≤ names_max) × (length v.items ≤ image_limit (contents table.now))) }
 
-    // The first that holds, and want of memory only where neither does.
+    // The first refusal that holds; `Memory` only if no other does.
     ensures names_too_long { IsErrOf result WriteError.NamesTooLong ↔ (names_max < length names.now) }
     ensures too_large { IsErrOf result WriteError.TooLarge
         ↔ ((length names.now ≤ names_max) × (image_limit (contents table.now) < length (image names.now (contents table.now)))) }
@@ -85,8 +89,8 @@ fn is_wide(value: &Value) -> bool
     matches!(value, Value::Number(number) if *number > LEGACY_NUMBER_MAX)
 }
 
-/// The format of the entry with these values, which stand in the order of the entry: the extended one
-/// where a number is over 32,767.
+/// The format of the entry with these values, which are in the order of the entry: the extended one
+/// if a number is over 32,767.
 pub fn format_wanted(entries: &[(Cap, Value)]) -> Format
     requires { IsKept (entries_of entries.now) }
     ensures { result ≡ format_of (contents (entries_of entries.now)) }
@@ -99,7 +103,8 @@ pub fn format_wanted(entries: &[(Cap, Value)]) -> Format
     Format::Legacy
 }
 
-// The numbers of the header. A size of the string table that no number holds is the greatest number.
+// The numbers of the header. A size of the string table that no number holds is the greatest
+// number.
 fn header_of(names: &[u8], entries: &[(Cap, Value)]) -> Header
     requires names { length names.now ≤ names_max }
     requires kept { IsKept (entries_of entries.now) }
@@ -153,7 +158,7 @@ fn entry_bytes(
     Ok(image)
 }
 
-// Adds a byte as often as that.
+// Adds a byte the given number of times.
 fn push_fill(image: &mut Vec<u8>, count: usize, byte: u8) -> Result<(), AllocError>
     ensures { OnOk result (image.new.items ≡ image.old.items ++ replicate count byte) }
 {
@@ -190,7 +195,7 @@ fn push_header(image: &mut Vec<u8>, header: &Header) -> Result<(), AllocError>
     Ok(())
 }
 
-// Adds a byte for each flag up to the last that is there.
+// Adds a byte for each boolean up to the last that is there.
 fn push_flags(image: &mut Vec<u8>, entries: &[(Cap, Value)]) -> Result<(), AllocError>
     requires { IsKept (entries_of entries.now) }
     ensures { OnOk result (image.new.items
@@ -229,7 +234,7 @@ fn push_numbers(
     Ok(())
 }
 
-// Adds where each text begins in the string table, up to the last that is there.
+// Adds where each string begins in the string table, up to the last that is there.
 fn push_offsets(image: &mut Vec<u8>, entries: &[(Cap, Value)]) -> Result<(), AllocError>
     requires kept { IsKept (entries_of entries.now) }
     requires fits { FitsTwoBytes (length (texts_below (contents (entries_of entries.now)) (written_count (contents (entries_of entries.now)) Text))) }

@@ -1,4 +1,4 @@
--- What stands at a place of an order.
+-- what is at a place of an order
 use Rattle.std.proofs.Common.{◌≡◌, ℕ, ◌<◌, length, get_or, slice_get, Option, Some, IsSome, option_map, refl, ◌∙◌, ap, zero-add}
 use Rattle.std.specs.List.{range_with_len}
 use Rattle.std.proofs.lemmas.List.FromFn.{length-range_with_len, get_or-range_with_len}
@@ -20,7 +20,7 @@ length-in_order order.Table Number = refl
 length-in_order order.Table Text = refl
 length-in_order order.Name k = length-in_name_order k
 
--- by index each stands at its index
+-- in the order by index each capability is at its index
 pub index_at : (k : Kind) (place : ℕ) → place < count_of k → slice_get (by_index k) place ≡ Some (capability k place)
 index_at k place within =
     let n : ℕ = count_of k in
@@ -28,7 +28,7 @@ index_at k place within =
     let is : get_or (range_with_len 0 n) place 0 ≡ place = get_or-range_with_len 0 n place 0 within ∙ zero-add place in
     slice_get-map (capability k) (range_with_len 0 n) place ∙ ap (λ o. option_map (capability k) o) (slice_get-get_or (range_with_len 0 n) place 0 there) ∙ ap (λ i. Some (capability k i)) is
 
--- by name something stands at each place
+-- in the order by name there is something at each place
 pub some_at : (k : Kind) (place : ℕ) (o : Option Capability) → o ≡ slice_get (in_name_order k) place → place < count_of k → IsSome o
 unfolding in_order
 some_at k place o is within =

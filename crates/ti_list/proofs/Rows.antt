@@ -7,7 +7,7 @@ use Rattle.ti_list.specs.declared.layout.Mode.{Mode}
 use Rattle.ti_list.specs.Comparison.{row, rows}
 use Rattle.ti_list.proofs.Steps.{drop_at}
 
--- the row of a capability, and then the rows behind it
+-- the row of a capability, and then the rows after it
 rows-at : (mode : Mode) (one other : Contents) (caps : List Capability) (place : ℕ) (c : Capability) → slice_get caps place ≡ Some c
     → rows mode one other (drop place caps) ≡ row mode c (one c) (other c) ++ rows mode one other (drop (place + 1) caps)
 rows-at mode one other caps place c at = rw (drop_at caps place c at) refl
@@ -19,7 +19,7 @@ pub rows-step : (mode : Mode) (one other : Contents) (caps : List Capability) (p
 rows-step mode one other caps place c x y before after all at of_one of_other writes invariant =
     rw (writes, append_assoc, of_one, of_other) (ap (λ (end : List ℕ). before ++ end) (sym (rows-at mode one other caps place c at)) ∙ invariant)
 
--- behind the last capability there are no rows
+-- after the last capability there are no rows
 pub rows-end : (mode : Mode) (one other : Contents) (caps : List Capability) (place : ℕ) (before heading all : List ℕ) → length caps ≤ place
     → before ++ rows mode one other (drop place caps) ≡ (all ++ heading) ++ rows mode one other caps → before ≡ all ++ (heading ++ rows mode one other caps)
 rows-end mode one other caps place before heading all past invariant =

@@ -1,4 +1,4 @@
--- What stands before an item on its line.
+-- What is before an item on its line.
 use Rattle.std.proofs.Common.{◌≡◌, ℕ, List, [], ◌∷◌, ◌++◌, length, slice_set, sym, ◌∙◌, append_assoc}
 use Rattle.std.proofs.Math.Seq.{set-append_seam}
 

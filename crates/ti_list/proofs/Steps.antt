@@ -10,7 +10,7 @@ use Rattle.ti_list.specs.declared.layout.Layout.{Layout}
 use Rattle.ti_list.specs.inside.Listing.{flow, further_before}
 use Rattle.ti_list.specs.Listing.{item_for, items_for}
 
--- what stands at a place, and then what stands behind it
+-- what is at a place, and then what follows it
 pub drop_at : {X : Type 0} → (xs : List X) (place : ℕ) (x : X) → slice_get xs place ≡ Some x → drop place xs ≡ x ∷ drop (place + 1) xs
 drop_at xs place x at =
     let within : place < length xs = slice_get_within xs place x at in
@@ -40,7 +40,7 @@ pub flow-some : (layout : Layout) (line : Option ℕ) (column : ℕ) (before aft
 flow-some layout line column before after all table caps place c x rest at some writes invariant =
     writes (items_for table (drop (place + 1) caps)) rest ∙ ap (λ (items : List Said). before ++ flow layout line items rest) (sym (items-some table caps place c x at some)) ∙ invariant
 
--- and where a capability has no item
+-- if a capability has no item, what is still to come is as it was
 pub flow-none : (layout : Layout) (line : Option ℕ) (before all : List ℕ) (table : Contents) (caps : List Capability) (place : ℕ) (c : Capability) (rest : List ℕ)
     → slice_get caps place ≡ Some c → table c ≡ None
     → before ++ flow layout line (items_for table (drop place caps)) rest ≡ all
@@ -48,7 +48,7 @@ pub flow-none : (layout : Layout) (line : Option ℕ) (before all : List ℕ) (t
 flow-none layout line before all table caps place c rest at none invariant =
     ap (λ (items : List Said). before ++ flow layout line items rest) (sym (items-none table caps place c at none)) ∙ invariant
 
--- behind the last capability nothing is still to come
+-- after the last capability nothing is still to come
 pub flow-end : (layout : Layout) (line : Option ℕ) (rest : List ℕ) → flow layout line [] rest ≡ rest
 flow-end layout None rest = refl
 flow-end layout (Some column) rest = refl

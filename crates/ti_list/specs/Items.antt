@@ -1,5 +1,6 @@
--- An entry as source text, whatever its layout: the names field, a comma, and then the items, each with its comma, on the line or on a new one
--- (X/Open Curses Issue 7, "Terminfo Source Format"; infocmp(1)).
+-- An entry as source text, whatever its layout: the names field, a comma, and then the items, each
+-- with its comma, on the line or on a new one (X/Open Curses Issue 7, "Terminfo Source Format";
+-- infocmp(1)).
 use Rattle.std.specs.Prelude.{◌≡◌, ◌≢◌, ℕ, ◌≤◌, true, false, not, ◌==◌, List, [], ◌∷◌, ◌++◌, length, map, All, codes}
 use Rattle.std.specs.List.{list_all}
 use Rattle.std.specs.Fmt.{decimal}
@@ -11,7 +12,8 @@ use Rattle.ti_source.specs.Header.{HeaderNames, IsLookupName}
 use Rattle.ti_text.specs.Limits.{number_max, names_max}
 use Rattle.ti_source.specs.Reading.{Said, said_flag, said_number, said_text, said_cancel, said_import, ReadItem, Reading}
 
--- an item as it is written, without the comma that ends it: `am`, `cols#80`, `bel=^G`, `cr@`, `use=dumb`
+-- an item as it is written, without the comma that ends it: `am`, `cols#80`, `bel=^G`, `cr@`,
+-- `use=dumb`
 abbrev pub item_text : Said → List ℕ
 item_text (said_flag c) = name_of c
 item_text (said_number c n) = name_of c ++ ascii.number_sign ∷ decimal n
@@ -19,9 +21,10 @@ item_text (said_text c t) = name_of c ++ ascii.equals ∷ spelling_of t
 item_text (said_cancel c) = name_of c ++ ascii.at_sign ∷ []
 item_text (said_import name) = codes "use=" ++ name
 
--- ---- any layout at all
+-- ---- any layout
 
--- what stands behind the comma of the names field: the items in their order, each behind a space or on a new line that a tab begins; then a newline
+-- what follows the comma of the names field: the items in order, each after a space or on a new
+-- line that a tab begins; then a newline
 pub data IsTail : (items : List Said) (tail : List ℕ) → Type 0 where
   no_more : IsTail [] (ascii.newline ∷ [])
   same_line : (item : Said) (items : List Said) (tail : List ℕ) → IsTail items tail → IsTail (item ∷ items) (ascii.space ∷ item_text item ++ ascii.comma ∷ tail)
@@ -44,8 +47,8 @@ CanBeListed (said_text c t) = IsCapability c × (c.kind ≡ Text) × AreBytes t 
 CanBeListed (said_cancel c) = IsCapability c
 CanBeListed (said_import name) = IsLookupName name × All (λ byte. byte ≢ ascii.backslash) name
 
--- The names field has a text that is read as that field: it has lookup names and is within the limit, no comma ends it, it is one line, and it is no
--- comment.
+-- The names field has a text that is read as that field: it has lookup names and is within the
+-- limit, no comma ends it, it is one line, and it is not a comment.
 pub record IsListable (field : List ℕ) (names : List (List ℕ)) : Type 0 where
   pub header : HeaderNames field names
   pub short : length field ≤ names_max

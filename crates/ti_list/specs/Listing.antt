@@ -1,4 +1,5 @@
--- An entry as infocmp(1) lists it: its items by kind, in an order and a layout that the caller chooses (own).
+-- An entry as infocmp(1) lists it: its items by kind, in an order and a layout that the caller
+-- chooses (own).
 use Rattle.std.specs.Prelude.{ℕ, ◌+◌, ◌||◌, nat_lt, if◌then◌else◌, List, [], ◌∷◌, ◌++◌, length, map, Option, Some, None}
 use Rattle.std.specs.List.{range_with_len}
 use Rattle.ti_text.specs.Ascii as ascii
@@ -26,7 +27,7 @@ in_order order.Name kind = in_name_order kind
 
 -- ---- the items of an entry
 
--- the item that says what a capability has; none where it has nothing
+-- the item that says what a capability has; none if it has nothing
 abbrev pub item_for : Capability → Option Content → List Said
 item_for c None = []
 item_for c (Some content_true) = said_flag c ∷ []
@@ -34,12 +35,12 @@ item_for c (Some (content_number n)) = said_number c n ∷ []
 item_for c (Some (content_text t)) = said_text c t ∷ []
 item_for c (Some content_cancelled) = said_cancel c ∷ []
 
--- those of some capabilities, in their order
+-- the items of some capabilities, in order
 abbrev pub items_for : Contents → List Capability → List Said
 items_for table [] = []
 items_for table (c ∷ cs) = item_for c (table c) ++ items_for table cs
 
--- those of a kind, in the order that the layout asks for
+-- the items of a kind, in the order that the layout asks for
 abbrev pub kind_items : Layout → Contents → Kind → List Said
 kind_items layout table kind = items_for table (in_order layout.order kind)
 
@@ -49,8 +50,9 @@ kind_items layout table kind = items_for table (in_order layout.order kind)
 abbrev pub size_of : Said → ℕ
 size_of item = length (item_text item) + 1
 
--- further items of a kind where so many columns of the line are taken: an item stands on the line, behind a space, unless it would bring the line
--- past the width or each item is to stand on its own line
+-- further items of a kind when this number of columns of the line is taken: an item is on the line,
+-- after a space, unless it would bring the line past the width or each item is to be on its own
+-- line
 abbrev pub further_items : Layout → ℕ → List Said → List ℕ
 further_items layout column [] = []
 further_items layout column (item ∷ items) =
@@ -58,7 +60,7 @@ further_items layout column (item ∷ items) =
     then ascii.newline ∷ ascii.tab ∷ item_text item ++ ascii.comma ∷ further_items layout (8 + size_of item) items
     else ascii.space ∷ item_text item ++ ascii.comma ∷ further_items layout (column + 1 + size_of item) items
 
--- the items of a kind, of which the first begins a line, where a tab takes 8 columns
+-- the items of a kind, of which the first begins a line; a tab takes 8 columns
 abbrev pub lines_of : Layout → List Said → List ℕ
 lines_of layout [] = []
 lines_of layout (item ∷ items) = ascii.newline ∷ ascii.tab ∷ item_text item ++ ascii.comma ∷ further_items layout (8 + size_of item) items

@@ -1,5 +1,5 @@
--- An entry as it differs from others (infocmp(1), `-u`): source text that says what the others do not, cancels what only they have, and then uses
--- them in turn.
+-- An entry as it differs from others (infocmp(1), `-u`): source text that says what the others do
+-- not, cancels what only they have, and then uses them in turn.
 use Rattle.std.specs.Prelude.{ℕ, Bool, true, false, ◌==◌, if◌then◌else◌, List, [], ◌∷◌, ◌++◌, map, Option, Some, None}
 use Rattle.std.specs.List.{before_first}
 use Rattle.std.specs.Option.{option_or}
@@ -21,7 +21,7 @@ entries_shown views = map (λ view. shown_entry view) views
 abbrev pub first_name : List ℕ → List ℕ
 first_name field = before_first (λ byte. byte == ascii.bar) field
 
--- whether two contents are one
+-- whether two contents are equal
 abbrev pub same_content : Content → Content → Bool
 same_content content_true content_true = true
 same_content (content_number m) (content_number n) = m == n
@@ -34,15 +34,16 @@ abbrev pub first_of : List Entry → Contents
 first_of [] c = None
 first_of (other ∷ others) c = option_or (other.contents c) (first_of others c)
 
--- what a relative source says of a capability, given what the entry has and what the others give it: nothing where these are one, what the entry has
--- where they are not, and a cancel where only the others have it
+-- what a relative source says of a capability, given what the entry has and what the others give
+-- it: nothing if these are equal, what the entry has if they differ, and a cancel if only the
+-- others have it
 abbrev pub difference : Option Content → Option Content → Option Content
 difference None None = None
 difference None (Some theirs) = Some content_cancelled
 difference (Some own) None = Some own
 difference (Some own) (Some theirs) = if same_content own theirs then None else Some own
 
--- the same of each capability
+-- what a relative source says of each capability
 abbrev pub differing_contents : Contents → List Entry → Contents
 differing_contents table others c = difference (table c) (first_of others c)
 
@@ -60,10 +61,11 @@ relative entry others layout =
 abbrev pub Listed : Type 0
 Listed = Entry × Layout
 
--- without their layouts
+-- the entries without their layouts
 abbrev pub entries_of : List Listed → List Entry
 entries_of listed = map (λ (one : Listed). one.0) listed
 
--- the relative source of an entry and the listings of the others, each in a layout of its own and the text of a block
+-- the relative source of an entry and the listings of the others, each in a layout of its own and
+-- the text of a block
 abbrev pub with_others : Entry → Layout → List Listed → List (List ℕ)
 with_others entry layout listed = relative entry (entries_of listed) layout ∷ map (λ (one : Listed). listing one.0.names one.0.contents one.1) listed

@@ -1,4 +1,4 @@
-// Two entries compared capability by capability.
+//! Compares two entries capability by capability.
 ghost use Rattle.std.specs.Prelude.{◌≡◌, ◌++◌, option_map, IfOk, OnOk};
 ghost use Rattle.ti_list.specs.Comparison.{value_separator, common_row, compared_kind, comparison, differing_row};
 ghost use Rattle.ti_list.specs.Comparison.{kind_heading, neither_row, row, have_same, value_text};
@@ -14,7 +14,8 @@ use ti_caps::{Cap, Kind, count, name};
 use ti_layout::View;
 use ti_spelling::push_escaped;
 
-// Appends what an entry has of a capability of the kind: `T` or `F`, a number, a text in quotes, `NULL` where it has none.
+// Appends what an entry has of a capability of the kind: `T` or `F`, a number, a string in quotes,
+// or `NULL` if it has none.
 fn push_value(out: &mut Vec<u8>, kind: Kind, content: Option<Content<'_>>) -> Result<(), AllocError>
     ensures { OnOk result (out.new.items ≡ out.old.items ++ value_text kind (option_map plain_content content.entry)) }
 {
@@ -35,7 +36,7 @@ fn push_value(out: &mut Vec<u8>, kind: Kind, content: Option<Content<'_>>) -> Re
     }
 }
 
-// Whether two entries have the same of a capability, or neither has it.
+// Whether two entries have the same value of a capability, or neither has one.
 fn have_same(one: Option<Content<'_>>, other: Option<Content<'_>>) -> bool
     ensures { result ≡ have_same (option_map plain_content one.entry) (option_map plain_content other.entry) }
 {
@@ -46,7 +47,7 @@ fn have_same(one: Option<Content<'_>>, other: Option<Content<'_>>) -> bool
     }
 }
 
-// What parts two values of a kind.
+// What separates two values of a kind.
 fn value_separator(kind: Kind) -> &'static [u8]
     ensures { result.now ≡ value_separator kind }
 {
@@ -56,7 +57,7 @@ fn value_separator(kind: Kind) -> &'static [u8]
     }
 }
 
-// Appends the row of a capability that two entries do not have alike.
+// Appends the row of a capability whose values differ.
 fn push_differing(
     out: &mut Vec<u8>,
     cap: Cap,
@@ -74,7 +75,7 @@ fn push_differing(
     out.extend_from_slice(b".\n")
 }
 
-// Appends the row of a capability that two entries have alike.
+// Appends the row of a capability whose values are equal.
 fn push_common(out: &mut Vec<u8>, cap: Cap, content: Option<Content<'_>>) -> Result<(), AllocError>
     ensures { OnOk result (out.new.items ≡ out.old.items ++ common_row cap (option_map plain_content content.entry)) }
 {
@@ -94,7 +95,7 @@ fn push_neither(out: &mut Vec<u8>, cap: Cap) -> Result<(), AllocError>
     out.extend_from_slice(b".\n")
 }
 
-// Appends the row of a capability, where the mode asks for it.
+// Appends the row of a capability, if the mode asks for it.
 fn push_row(
     out: &mut Vec<u8>,
     mode: Mode,
@@ -148,11 +149,12 @@ fn push_kind(
     Ok(())
 }
 
-/// The comparison of two entries, as infocmp(1)'s `-d`, `-c` and `-n` print it: a heading with their first names, and under
-/// a heading for each kind the rows of its capabilities that the mode asks for, in the order that is asked for.
+/// The comparison of two entries, as infocmp(1)'s `-d`, `-c` and `-n` print it: a heading with
+/// their first names, and under a heading for each kind the rows of its capabilities that the mode
+/// asks for, in the order that is asked for.
 ///
 /// # Errors
-/// `AllocError` where there is no room for it.
+/// `AllocError` if there is no room for it.
 pub fn compare(
     alloc: Global,
     one: &View<'_>,

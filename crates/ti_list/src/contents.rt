@@ -1,4 +1,4 @@
-// What an entry has of a capability, and how it differs from what others have.
+//! What an entry has of a capability, and how it differs from what others have.
 ghost use Rattle.std.specs.Prelude.{◌≡◌, option_map, IfSome};
 ghost use Rattle.ti_layout.specs.View.{view_contents};
 ghost use Rattle.ti_list.specs.inside.Contents.{plain_content, FitsStringTable};
@@ -10,11 +10,11 @@ use ti_layout::View;
 /// What an item says of its capability.
 #[derive(Clone, Copy)]
 pub enum Content<'a> {
-    /// The flag is there.
+    /// The boolean is there.
     True,
     /// The number.
     Number(u32),
-    /// The text, which lies in the entry.
+    /// The string, which is in the entry.
     Text(&'a [u8]),
     /// The capability is cancelled.
     Cancelled,
@@ -58,7 +58,7 @@ pub fn first_of<'a>(others: &[View<'a>], cap: Cap) -> Option<Content<'a>>
     None
 }
 
-/// Whether two contents are one.
+/// Whether two contents are equal.
 pub fn same_content(one: Content<'_>, other: Content<'_>) -> bool
     ensures { result ≡ same_content (plain_content one.entry) (plain_content other.entry) }
 {
@@ -70,7 +70,7 @@ pub fn same_content(one: Content<'_>, other: Content<'_>) -> bool
     }
 }
 
-/// What a relative source says of a capability, where the entry has this of it and the others that.
+/// What a relative source says of a capability, given what the entry and the others have of it.
 #[inline(always)]
 pub fn difference<'a>(own: Option<Content<'a>>, theirs: Option<Content<'_>>) -> Option<Content<'a>>
     ensures { option_map plain_content result ≡ difference (option_map plain_content own.entry) (option_map plain_content theirs.entry) }

@@ -1,4 +1,4 @@
-// An item as it is written in terminfo source, without the comma that ends it.
+//! An item as it is written in terminfo source, without the comma that ends it.
 ghost use Rattle.std.specs.Prelude.{◌≡◌, ◌+◌, ◌<◌, ◌≤◌, ◌++◌, ◌∷◌, vec_len, vec_capacity};
 ghost use Rattle.std.specs.Fmt.{decimal};
 ghost use Rattle.ti_text.specs.Ascii as ascii;
@@ -12,7 +12,7 @@ use ti_caps::{Cap, name};
 use ti_spelling::{MOST_ESCAPED, write_escaped};
 use ti_text::room::append_reserved;
 
-/// Enough room for the item, with its comma and what stands before it.
+/// Enough room for the item, with its comma and what is before it.
 pub fn item_room(cap: Cap, content: Content<'_>) -> usize
     requires { FitsStringTable (plain_content content) }
     ensures { result ≡ item_room (said_for cap (plain_content content.entry)) }
@@ -26,7 +26,7 @@ pub fn item_room(cap: Cap, content: Content<'_>) -> usize
     }
 }
 
-/// Appends the item, into such room.
+/// Appends the item. There is such room.
 pub fn write_item(out: &mut Vec<u8>, cap: Cap, content: Content<'_>)
     requires { vec_len out.old + item_room (said_for cap (plain_content content)) ≤ vec_capacity out.old + 3 }
     ensures items { out.new.items ≡ out.old.items ++ item_text (said_for cap (plain_content content.entry)) }
@@ -45,7 +45,7 @@ pub fn write_item(out: &mut Vec<u8>, cap: Cap, content: Content<'_>)
     }
 }
 
-// Appends a number, behind its sign.
+// Appends a number, after its sign.
 fn write_number(out: &mut Vec<u8>, number: u32)
     requires { vec_len out.old + 11 ≤ vec_capacity out.old }
     ensures items { out.new.items ≡ out.old.items ++ ascii.number_sign ∷ decimal number }

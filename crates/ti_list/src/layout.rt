@@ -1,4 +1,4 @@
-// What a caller chooses of a listing or a comparison.
+//! What a caller chooses of a listing or a comparison.
 
 /// The order of the capabilities of one kind.
 #[derive(Clone, Copy, PartialEq, Eq, Debug)]
@@ -14,19 +14,19 @@ pub enum Order {
 pub struct Layout {
     /// The most columns of a line that holds more than one item; the tab at its front counts as 8.
     pub width: usize,
-    /// Whether each item stands on a line of its own.
+    /// Whether each item is on a line of its own.
     pub one_per_line: bool,
     /// The order of the items of one kind.
     pub order: Order,
 }
 
-/// Which capabilities a comparison of two entries speaks of, as infocmp(1)'s `-d`, `-c` and `-n`.
+/// Which capabilities a comparison of two entries shows, as infocmp(1)'s `-d`, `-c` and `-n`.
 #[derive(Clone, Copy, PartialEq, Eq, Debug)]
 pub enum Mode {
-    /// Those whose values are not equal.
+    /// The capabilities whose values differ.
     Differ,
-    /// Those that both entries have, with equal values.
+    /// The capabilities that both entries have, with equal values.
     Common,
-    /// Those that neither entry has.
+    /// The capabilities that neither entry has.
     Neither,
 }

@@ -1,7 +1,7 @@
-//! Listings of compiled entries, as infocmp(1) prints them: an entry as source text, two entries compared capability by
-//! capability, and an entry as it differs from others.
+//! Listings of compiled entries, as infocmp(1) prints them: an entry as source text, two entries
+//! compared capability by capability, and an entry as it differs from others.
 //!
-//! - `layout`: how wide the lines of a listing are, and in which order its items stand
+//! - `layout`: how wide the lines of a listing are, and the order of its items
 //! - `order`: the capabilities of a kind in that order
 //! - `contents`: what an entry has of a capability, and how it differs from what others have
 //! - `items`: an item as it is written

@@ -1,4 +1,4 @@
-// An entry as source text.
+//! Writes an entry as source text.
 ghost use Rattle.std.specs.Prelude.{◌≡◌, ℕ, ◌+◌, ◌≤◌, ◌++◌, ◌∷◌, [], List, option_map, IfOk, IfSome, ◌<◌, vec_len, vec_capacity};
 ghost use Rattle.ti_text.specs.Ascii as ascii;
 ghost use Rattle.ti_layout.specs.View.{view_contents, names_of, shown_entry};
@@ -19,10 +19,10 @@ use ti_caps::{Cap, Kind, count};
 use ti_layout::View;
 use ti_text::room::append_reserved;
 
-/// The columns that a tab at the front of a line takes.
+// The columns that a tab at the front of a line takes.
 const TAB: usize = 8;
 
-// What an entry's source says of a capability where it uses the others.
+// What an entry's source says of a capability if it uses the others.
 #[inline(always)]
 fn said_of<'a>(view: &View<'a>, others: &[View<'a>], cap: Cap) -> Option<Content<'a>>
     ensures is { option_map plain_content result ≡ differing_contents (view_contents view.now) (entries_shown others.now) cap }
@@ -31,7 +31,7 @@ fn said_of<'a>(view: &View<'a>, others: &[View<'a>], cap: Cap) -> Option<Content
     difference(view_content(view, cap), first_of(others, cap))
 }
 
-// Appends an item with its comma on a new line, behind a tab. Gives the columns that are then taken.
+// Appends an item with its comma on a new line, after a tab. Gives the columns that are then taken.
 fn write_below(out: &mut Vec<u8>, cap: Cap, content: Content<'_>) -> usize
     requires short { FitsStringTable (plain_content content) }
     requires room { vec_len out.old + item_room (said_for cap (plain_content content)) ≤ vec_capacity out.old }
@@ -49,9 +49,10 @@ fn write_below(out: &mut Vec<u8>, cap: Cap, content: Content<'_>) -> usize
     TAB + (out.len() - start - 2)
 }
 
-// Appends an item with its comma where so many columns of the line are taken: behind a space where that brings the line no
-// further than the width, else on a new line. Gives the columns that are then taken. An item is as long as its text shows, so it
-// is written before its place is known: behind a tab, which a space replaces or a break precedes.
+// Appends an item with its comma when `taken` columns of the line are taken: after a space if that
+// brings the line no further than the width, else on a new line. Gives the columns that are then
+// taken. An item is as long as its text shows, so it is written before its place is known: after a
+// tab, which a space replaces or a break precedes.
 fn write_further(
     out: &mut Vec<u8>,
     width: usize,
@@ -83,8 +84,9 @@ fn write_further(
     TAB + size
 }
 
-// Appends an item with its comma: behind a space where so many columns of the line are taken and it has room, else on
-// a new line. Gives the columns that are then taken.
+// Appends an item with its comma: after a space if it has room on the line, else on a new line.
+// `line` has the columns that are taken, if a line has begun. Gives the columns that are then
+// taken.
 fn write_placed(
     out: &mut Vec<u8>,
     layout: &Layout,
@@ -148,7 +150,7 @@ fn write_uses(out: &mut Vec<u8>, others: &[View<'_>])
     }
 }
 
-// Enough room for the items of a kind; `None` where no number is so great.
+// Enough room for the items of a kind; `None` if no number is so great.
 #[inline(always)]
 fn kind_room<'a>(view: &View<'a>, others: &[View<'a>], order: Order, kind: Kind) -> Option<usize>
     ensures { IfSome result (λ room. room
@@ -193,7 +195,7 @@ fn source_room<'a>(view: &View<'a>, others: &[View<'a>], order: Order) -> Option
         .checked_add(uses)
 }
 
-// Appends the source of an entry that uses the others, into such room. It takes no memory.
+// Appends the source of an entry that uses the others. There is such room. It takes no memory.
 #[inline(always)]
 fn write_source<'a>(out: &mut Vec<u8>, view: &View<'a>, others: &[View<'a>], layout: &Layout)
     requires { vec_len out.old + source_room (shown_entry view.now) (entries_shown others.now) layout.now.order ≤ vec_capacity out.old }
@@ -208,7 +210,7 @@ fn write_source<'a>(out: &mut Vec<u8>, view: &View<'a>, others: &[View<'a>], lay
     out.push_reserved(b'\n');
 }
 
-// The source of an entry that uses the others, in one allocation: nothing that follows it can fail.
+/// The source of an entry that uses the others, in one allocation: nothing after it can fail.
 #[inline(always)]
 pub(crate) fn source_of<'a>(
     alloc: Global,
@@ -218,18 +220,19 @@ pub(crate) fn source_of<'a>(
 ) -> Result<Vec<u8>, AllocError>
     ensures { IfOk result (λ text. text.items ≡ relative (shown_entry view.now) (entries_shown others.now) layout.now) }
 {
-    // where no number is so great, no memory is either, and the growth is refused
+    // if no number is so great, no memory is either, and the growth is refused
     let room = source_room(view, others, layout.order).unwrap_or(usize::MAX);
     let mut out = Vec::with_capacity(alloc, room)?;
     write_source(&mut out, view, others, layout);
     Ok(out)
 }
 
-/// The listing of an entry: its names field, and then its items, those of each kind from a new line on, in the order and the
-/// layout that are asked for. It ends with a newline. What it lists, a compiler reads again as the same items.
+/// The listing of an entry: its names field, and then its items, those of each kind from a new line
+/// on, in the order and the layout that are asked for. It ends with a newline. A compiler reads
+/// what it lists as the same items.
 ///
 /// # Errors
-/// `AllocError` where there is no room for the listing.
+/// `AllocError` if there is no room for the listing.
 pub fn list(alloc: Global, view: &View<'_>, layout: &Layout) -> Result<Vec<u8>, AllocError>
     ensures { IfOk result (λ text. text.items ≡ listing (names_of view.now) (view_contents view.now) layout.now) }
 {

@@ -1,4 +1,4 @@
-// The capabilities of a kind in the order that is asked for.
+//! The capabilities of a kind in the order that is asked for.
 ghost use Rattle.std.specs.Prelude.{◌≡◌, ◌<◌, Some, slice_get};
 ghost use Rattle.ti_caps.specs.Tables.{count_of};
 ghost use Rattle.ti_list.specs.Listing.{in_order};
@@ -6,7 +6,7 @@ ghost use Rattle.ti_list.specs.Listing.{in_order};
 use crate::layout::Order;
 use ti_caps::{Cap, Kind, by_name};
 
-/// The capability at a place of the order, from 0.
+/// The capability at a place of the order, counted from 0.
 #[inline(always)]
 pub fn cap_at(order: Order, kind: Kind, place: usize) -> Cap
     requires { place < count_of kind }

@@ -1,4 +1,4 @@
-// An entry as it differs from others, as source text.
+//! Writes an entry as source text, as it differs from others.
 ghost use Rattle.std.specs.Prelude.{◌≡◌, ◌↔◌, [], IfOk, IsErrOf};
 ghost use Rattle.ti_layout.specs.View.{shown_entry};
 ghost use Rattle.ti_list.specs.RelativeSource.{relative, entries_shown};
@@ -29,12 +29,13 @@ impl From<AllocError> for ListError {
     }
 }
 
-/// The source of an entry that uses others, by their first names, as infocmp(1)'s `-u` prints it: laid out as a listing, with
-/// the items whose values are not those of the first of the others that has the capability, and cancels of what only others
-/// have. Then a line `use=` for each of the others, in their order.
+/// The source of an entry that uses others, by their first names, as infocmp(1)'s `-u` prints it:
+/// laid out as a listing, with the items whose values are not those of the first of the others that
+/// has the capability, and cancels of what only others have. Then comes a line `use=` for each of
+/// the others, in order.
 ///
 /// # Errors
-/// `NoOthers` where there are none; then `Memory`.
+/// `NoOthers` if there are none; then `Memory`.
 pub fn relative(
     alloc: Global,
     view: &View<'_>,

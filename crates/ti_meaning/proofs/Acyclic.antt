@@ -29,7 +29,7 @@ pub if_there : (broken : Bool) (o : Option (List Mention)) (ms : List Mention) �
 if_there true o ms e = absurd (none-some ms e)
 if_there false o ms e = e
 
--- what a deep name's owner uses is one less deep
+-- what the owner of a deep name uses is one less deep
 step_down : (env : List ℕ → Option Reading) (k : ℕ) (name next : List ℕ) (b : Reading) → IsDeep env (suc k) name → env name ≡ Some b → Uses b.items next → IsDeep env k next
 step_down env k name next b d e u =
     let whole : expand env (suc k) b ≡ Some d.0 = rw e at d.1 in
@@ -41,7 +41,7 @@ along env (x ∷ way) k name to d w =
     let z : suc (length way) + k ≡ suc (length way + k) = omega arith in
     along env way k x to (step_down env (length way + k) name x w.0.0 (rw z at d) w.0.1 w.0.2) w.1
 
--- so many times the length of a way that leads back
+-- a number of times the length of a way that leads back
 times : ℕ → ℕ → ℕ
 times zero l = 0
 times (suc j) l = l + times j l

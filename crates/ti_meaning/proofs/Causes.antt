@@ -1,10 +1,10 @@
--- An edit that is refused is refused for one cause alone.
+-- An edit is refused for only one cause.
 use Rattle.std.proofs.Common.{◌≡◌, ℕ, List, refl}
 use Rattle.ti_meaning.specs.declared.edits.EditError.{EditError}
 use Rattle.ti_meaning.specs.declared.edits.EditError.TheVariants.{Position, TooLong, NotOneBlock, TooMany, Memory}
 use Rattle.ti_meaning.specs.Edits.{Change, EditsHaveOneCause, IsRefusal, IsSoundEdit}
 
--- what is refused for another cause than want of memory is not sound
+-- what is refused for another cause than out of memory is not sound
 pub refused_unsound : (texts : List (List ℕ)) (change : Change) (cause : EditError) → (cause ≡ Memory → ⊥) → IsRefusal texts change cause → IsSoundEdit texts change → ⊥
 refused_unsound texts change Position apart r sound = r sound.in_place
 refused_unsound texts change TooLong apart r sound = r.1 sound.short

@@ -1,5 +1,5 @@
--- How deep a block has to be expanded: a deeper expansion is the same once there is one, and one for each block of the
--- list suffices.
+-- How deep a block has to be expanded: once there is an expansion, a deeper one is equal, and one
+-- level for each block of the list suffices.
 use Rattle.std.proofs.Common.{◌≡◌, ℕ, zero, suc, ◌+◌, ◌-◌, ◌<◌, ◌≤◌, ◌⊎◌, inl, inr, Bool, true, false, cond, List, [], ◌∷◌, ◌++◌, length, Option, Some, None, is_some, option_and_then, slice_get, refl, sym, ◌∙◌, arith}
 use Rattle.std.specs.Option.{option_map_or}
 use Rattle.std.proofs.lemmas.Bool.{false≢true}
@@ -29,7 +29,7 @@ joined_parts (Some xs) None ms e = absurd (none-some ms e)
 joined_parts (Some xs) (Some ys) ms e =
     record { front = xs; back = ys; front_is = refl; back_is = refl; whole = same_Some (xs ++ ys) ms e }
 
--- ---- what is there stays where names give more
+-- ---- what is there remains if names give more
 
 abbrev pub Names : Type 0
 Names = List ℕ → Mentions
@@ -86,7 +86,7 @@ expand_same env j k b ms ns e f =
     let other = expand-le env k (k + j) b ns (omega arith) f in
     same_Some ms ns (sym deep ∙ other)
 
--- ---- whether a block resolves at a depth goes by what its names do
+-- ---- whether a block resolves at a depth depends on what its names do
 
 joined-some : (a b c d : Mentions) → is_some a ≡ is_some c → is_some b ≡ is_some d → is_some (both_lists a b) ≡ is_some (both_lists c d)
 joined-some None b None d e f = refl
@@ -177,6 +177,6 @@ bounded bs k p b ms s e =
     let same = expand_same (owner_block bs) (length bs) k b w.0 ms w.1 e in
     expand-suc (owner_block bs) (length bs) b ms (rw (← same) w.1)
 
--- one that no depth expands has none
+-- a block that no depth expands has no expansion
 pub unbounded : (bs : List Reading) (b : Reading) → ((k : ℕ) → expand (owner_block bs) k b ≡ None) → expansion bs b ≡ None
 unbounded bs b h = h (suc (length bs))

@@ -1,4 +1,5 @@
--- The names that stand not among those before them are each of the names once, in the order of their first places.
+-- The names that are not among those before them are each of the names once, in the order of their
+-- first places.
 use Rattle.std.proofs.Common.{◌≡◌, ℕ, zero, suc, ◌<◌, inl, inr, Bool, true, false, not, ◌&&◌, ◌||◌, cond, List, [], ◌∷◌, ◌++◌, Some, slice_get, refl, sym, ◌∙◌, ap, subst, arith}
 use Rattle.std.specs.Str.{bytes_eq}
 use Rattle.std.proofs.lemmas.Bool.{cases_Bool, false≢true, or_parts, and_parts}
@@ -9,12 +10,13 @@ use Rattle.ti_meaning.specs.Faults.{distinct_after}
 use Rattle.ti_meaning.specs.ItemLaws.{IsFirstPlace, DistinctHasEachOnce}
 use Rattle.ti_meaning.proofs.Exchanging.{list_any-append}
 
--- ---- which names stand there
+-- ---- which names are there
 
 same_among : (n m : List ℕ) (names : List (List ℕ)) → bytes_eq n m ≡ true → is_among n names ≡ is_among m names
 same_among n m names e = ap (λ x. is_among x names) ((bytes_eq-Decides n m).0 e)
 
--- by whether the name is the first, whether that stood before, whether the name did, and whether it stands later
+-- by whether the name is the first, whether that one was there before, whether the name was, and
+-- whether it comes later
 step_same : (b c a : Bool) (one : Bool) → one ≡ cond c false true → b ≡ c → (one || (a && not (b || true))) ≡ ((true || a) && not b)
 step_same true true true one e f = rw e refl
 step_same true true false one e f = rw e refl
@@ -41,7 +43,7 @@ or_false : (a : Bool) → (a || false) ≡ a
 or_false true = refl
 or_false false = refl
 
--- what stands there stands among the names and not before them
+-- what is there is among the names and not before them
 among-distinct_after : (n : List ℕ) (before names : List (List ℕ)) → is_among n (distinct_after before names) ≡ (is_among n names && not (is_among n before))
 among-distinct_after n before [] = refl
 among-distinct_after n before (name ∷ names) =
@@ -68,7 +70,7 @@ not_true : (b : Bool) → not b ≡ true → b ≡ false
 not_true true e = absurd (false≢true e)
 not_true false e = refl
 
--- what stands there is none of the names before
+-- what is there is none of the names before
 not_before : (before names : List (List ℕ)) (i : ℕ) (n : List ℕ) → slice_get (distinct_after before names) i ≡ Some n → is_among n before ≡ false
 not_before before names i n e =
     let there : (is_among n names && not (is_among n before)) ≡ true = sym (among-distinct_after n before names) ∙ get_among (distinct_after before names) i n e in

@@ -99,7 +99,7 @@ contains_head n ns = (0, omega arith, refl)
 contains_tail : (n : ℕ) (ns : List ℕ) (m : ℕ) → Contains ns m → Contains (n ∷ ns) m
 contains_tail n ns m c = (suc c.0, (let l : c.0 < length ns = c.1 in omega arith), c.2)
 
--- what the tail of the one has stands in the tail of the other
+-- what the tail of one list has is in the tail of the other
 tail_in : (n m : ℕ) (ns ms : List ℕ) → n ≡ m → AllByRecursion (λ k. n < k) ns → ((k : ℕ) → Contains (n ∷ ns) k → Contains (m ∷ ms) k) → (k : ℕ) → Contains ns k → Contains ms k
 tail_in n m ns ms same above h k c =
     elim (contains_cons m ms k (h k (contains_tail n ns k c))) [
@@ -107,7 +107,7 @@ tail_in n m ns ms same above h k c =
       | inr there ↦ there
     ]
 
--- two rising lists with the same members are one
+-- two rising lists with the same members are equal
 pub rising_one : (ns ms : List ℕ) → IsRising ns → IsRising ms → ((k : ℕ) → Contains ns k → Contains ms k) → ((k : ℕ) → Contains ms k → Contains ns k) → ns ≡ ms
 rising_one [] [] r s f g = refl
 rising_one [] (m ∷ ms) r s f g = let c = g m (contains_head m ms) in let l : c.0 < 0 = c.1 in absurd (omega arith)
@@ -129,7 +129,7 @@ rising_one (n ∷ ns) (m ∷ ms) r s f g =
 pub one_answer : DependentsAreDetermined
 one_answer = λ e ps qs h k. rising_one ps qs h.rising k.rising (λ at c. (k.dependents at).1 ((h.dependents at).0 c)) (λ at c. (h.dependents at).1 ((k.dependents at).0 c))
 
--- ---- who uses a dependent is one
+-- ---- a block that uses a dependent is a dependent
 
 owned_by : (bs : List Reading) (name : List ℕ) (at : ℕ) (b : Reading) → owner bs name ≡ Some at → slice_get bs at ≡ Some b → is_among name b.names ≡ true
 owned_by bs name at b o s =
@@ -163,7 +163,8 @@ users_depend = λ e at user b name h d own s u.
 
 -- ---- all dependents are found
 
--- what holds of the block put in, of the users of touched names and with each block of its users holds of all dependents
+-- what holds of the block put in, of the users of touched names and with each block of its users
+-- holds of all dependents
 pub dependent_holds : (e : Exchange) (P : ℕ → Type 0) → ((at : ℕ) → IsPutAt e.put at → P at) → ((user : ℕ) (b : Reading) (name : List ℕ) → slice_get (new_list e) user ≡ Some b → Uses b.items name → is_among name (touched_names e) ≡ true → P user) → ((user at : ℕ) → UsesBlock (new_list e) user at → P at → P user) → (at : ℕ) → IsDependent e at → P at
 dependent_holds e P put touching using at d =
     elim d.2 [

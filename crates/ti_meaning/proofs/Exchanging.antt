@@ -1,5 +1,5 @@
--- What an edit leaves of a block that reaches no touched name: its expansion, the owners of what it uses and which of its
--- uses are circular.
+-- What an edit leaves of a block that reaches no touched name: its expansion, the owners of what it
+-- uses, and which of its uses are circular.
 use Rattle.std.proofs.Common.{◌≡◌, ℕ, suc, ◌⊎◌, inl, inr, Bool, true, false, ◌||◌, List, [], ◌∷◌, ◌++◌, length, Option, Some, None, option_map, slice_get, refl, sym, ◌∙◌, ap}
 use Rattle.std.specs.Str.{bytes_eq}
 use Rattle.std.proofs.lemmas.Bool.{or_parts}
@@ -74,7 +74,7 @@ module _ (test : List ℕ → Bool) (rest : List Reading) (o p : Option PlacedBl
       let v = way-both test (owner_block (with_block rest o)) (owner_block (with_block rest p)) agree way n to w t in
       (v.1, v.3, (n, v.0, u, v.2))
 
-  -- a free name leads to the block at a position in the one list where it does in the other
+  -- a free name leads to the block at a position in one list if it does in the other
   pub circular_in_both : (n : List ℕ) (at : ℕ) → IsFree (owner_block (with_block rest o)) test n → LeadsTo (with_block rest o) n (shifted_position o at) → LeadsTo (with_block rest p) n (shifted_position p at)
   circular_in_both n at free l =
       let off : test l.1 ≡ false = free l.0 l.1 l.2 in
@@ -90,7 +90,7 @@ module _ (test : List ℕ → Bool) (rest : List Reading) (o p : Option PlacedBl
       unshifted o None at e = absurd (none-some (shifted_position o at) e)
       unshifted o (Some k) at e = ap (λ j. Some j) (shifted-same o k at (same_Some (shifted_position o k) (shifted_position o at) e))
 
-  -- the block that a free name belongs to says the same in both lists
+  -- the block that owns a free name says the same in both lists
   pub owner_says_same : (n : List ℕ) (b : Reading) → IsFree (owner_block (with_block rest o)) test n → owner_block (with_block rest o) n ≡ Some b → expansion (with_block rest p) b ≡ expansion (with_block rest o) b
   owner_says_same n b free e =
       let f : owner_block (with_block rest p) n ≡ Some b = owned_in_both n free ∙ e in

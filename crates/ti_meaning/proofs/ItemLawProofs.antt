@@ -45,7 +45,7 @@ pick-uses : (o k : ℕ) (us : List SourceFault) → with_ordinal o (map (λ f. (
 pick-uses o k [] = nothing_of (nat_eq k o)
 pick-uses o k (f ∷ us) = pick_use (nat_eq k o) k f (filter (λ (g : ℕ × SourceFault). nat_eq g.0 o) (map (λ g. (k, g)) us)) us (pick-uses o k us)
 
--- ---- faults before an item and from it on
+-- ---- faults before an item, and from it on
 
 split_at : (k : ℕ) (fs : List ReadFault) → faults_before k fs ++ faults_from k fs ≡ fs
 split_at k [] = refl

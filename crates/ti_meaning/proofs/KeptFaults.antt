@@ -1,4 +1,5 @@
--- The faults of a block that reaches no touched name stay but for the duplicate names; and the laws on what an edit leaves.
+-- The faults of a block that reaches no touched name remain, except for duplicate names; and the
+-- laws on what an edit leaves.
 use Rattle.std.proofs.Common.{◌≡◌, ℕ, inl, inr, Bool, true, false, cond, List, [], ◌∷◌, ◌++◌, filter, map, Option, Some, None, is_some, option_and_then, refl, sym, ◌∙◌, ap}
 use Rattle.std.proofs.lemmas.Bool.{false_from_ne_true}
 use Rattle.std.proofs.lemmas.List.{map-append}

@@ -1,4 +1,5 @@
--- Two assignments of names to blocks that agree but at some names: what does not reach those is the same in both.
+-- Two assignments of names to blocks that agree except at some names: what does not reach those is
+-- equal in both.
 use Rattle.std.proofs.Common.{◌≡◌, ℕ, zero, suc, inl, inr, Bool, true, false, cond, List, [], ◌∷◌, Option, Some, None, option_and_then, refl, sym, ◌∙◌, ap}
 use Rattle.std.proofs.lemmas.Bool.{cases_Bool}
 use Rattle.ti_source.specs.Reading.{Reading, ReadItem, Said, said_flag, said_number, said_text, said_cancel, said_import}
@@ -9,7 +10,7 @@ use Rattle.ti_meaning.specs.ValueTables.{names_at}
 abbrev pub Env : Type 0
 Env = List ℕ → Option Reading
 
--- they agree where the test fails
+-- the assignments agree if the test fails
 abbrev pub AgreeOff : (List ℕ → Bool) → Env → Env → Type 0
 AgreeOff test e f = (name : List ℕ) → test name ≡ false → e name ≡ f name
 
@@ -37,7 +38,7 @@ and_then-agree : (o : Option Reading) (f g : Reading → Option (List Mention)) 
 and_then-agree None f g h = refl
 and_then-agree (Some b) f g h = h b refl
 
--- where a block's uses are free its expansion is the same
+-- if a block's uses are free, its expansion is equal in both
 pub expand-kept : (test : List ℕ → Bool) (e f : Env) → AgreeOff test e f → (depth : ℕ) (b : Reading) → ((n : List ℕ) → Uses b.items n → IsFree e test n) → expand f depth b ≡ expand e depth b
 expand-kept test e f agree zero b free = refl
 expand-kept test e f agree (suc k) b free =
@@ -47,14 +48,14 @@ expand-kept test e f agree (suc k) b free =
 
 -- ---- ways
 
--- a way from a free name is one of the other too
+-- a way from a free name in one assignment is a way in the other too
 pub way-kept : (test : List ℕ → Bool) (e f : Env) → AgreeOff test e f → (way : List (List ℕ)) (from to : List ℕ) → IsFree e test from → IsUseWay e from way to → IsUseWay f from way to
 way-kept test e f agree [] from to free w = w
 way-kept test e f agree (x ∷ way) from to free w =
     let same : e from ≡ f from = agree from (free [] from refl) in
     ((w.0.0, sym same ∙ w.0.1, w.0.2), way-kept test e f agree way x to (λ rest last v. free (x ∷ rest) last (w.0, v)) w.1)
 
--- and each way of the other from it is one of the first
+-- each way from it in the other assignment is a way in the first
 pub way-back : (test : List ℕ → Bool) (e f : Env) → AgreeOff test e f → (way : List (List ℕ)) (from to : List ℕ) → IsFree e test from → IsUseWay f from way to → IsUseWay e from way to
 way-back test e f agree [] from to free w = w
 way-back test e f agree (x ∷ way) from to free w =
@@ -62,7 +63,7 @@ way-back test e f agree (x ∷ way) from to free w =
     let step : (b : Reading) × (e from ≡ Some b) × Uses b.items x = (w.0.0, same ∙ w.0.1, w.0.2) in
     (step, way-back test e f agree way x to (λ rest last v. free (x ∷ rest) last (step, v)) w.1)
 
--- what is free in the one is free in the other
+-- what is free in one assignment is free in the other
 pub way-free : (test : List ℕ → Bool) (e f : Env) → AgreeOff test e f → (from : List ℕ) → IsFree e test from → IsFree f test from
 way-free test e f agree from free = λ way to w. free way to (way-back test e f agree way from to free w)
 
@@ -70,7 +71,7 @@ way-free test e f agree from free = λ way to w. free way to (way-back test e f 
 abbrev pub LeadsIn : Env → (List ℕ → Bool) → List ℕ → Type 0
 LeadsIn env test from = (way : List (List ℕ)) × (to : List ℕ) × IsUseWay env from way to × (test to ≡ true)
 
--- where such a way is in the one, there is one in the other
+-- if there is such a way in one assignment, there is one in the other
 pub way-both : (test : List ℕ → Bool) (e f : Env) → AgreeOff test e f → (way : List (List ℕ)) (from to : List ℕ) → IsUseWay e from way to → test to ≡ true → LeadsIn f test from
 way-both test e f agree [] from to w t = ([], to, w, t)
 way-both test e f agree (x ∷ way) from to w t =

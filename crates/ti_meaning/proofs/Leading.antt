@@ -1,4 +1,5 @@
--- Whether a way leads from a name to a name of a block: a search one block deep for each of the list finds every way.
+-- Whether a way leads from a name to a name of a block: a search with a depth of one for each block
+-- of the list finds every way.
 use Rattle.std.proofs.Common.{◌≡◌, ℕ, zero, suc, ◌<◌, ◌⊎◌, inl, inr, Bool, true, false, ◌||◌, List, [], ◌∷◌, length, Option, Some, None, slice_get, nat_eq, refl, sym, ◌∙◌, ap, subst}
 use Rattle.std.specs.Option.{option_map_or}
 use Rattle.std.specs.Str.{bytes_eq}
@@ -46,7 +47,7 @@ any_use-same : (f g : List ℕ → Bool) → ((n : List ℕ) → f n ≡ g n) �
 any_use-same f g h [] = refl
 any_use-same f g h (i ∷ is) = rw (use_passes-same f g h (used_name i.said), any_use-same f g h is) refl
 
--- a name is found exactly where an item uses it
+-- a name is found exactly if an item uses it
 pub any_use-used : (name : List ℕ) (is : List ReadItem) → any_use (bytes_eq name) is ≡ true → Uses is name
 any_use-used name is e = let w = any_use-uses (bytes_eq name) is e in subst (Uses is) (sym ((bytes_decides name w.0).0 w.2)) w.1
 
@@ -75,7 +76,7 @@ leads-suc bs at (suc k) n e =
           (λ b. any_use-grows (λ m. leads bs k m at) (λ m. leads bs (suc k) m at) (leads-suc bs at k) b.items) (owner_block bs n) later)
     ]
 
--- whether the block at a place leads on within so many steps
+-- whether the block at a place leads on within the given number of steps
 steps_at : List Reading → ℕ → ℕ → ℕ → Bool
 steps_at bs at k p = option_map_or (after_step bs at k) (slice_get bs p) false
 
@@ -123,7 +124,7 @@ steps_at-stays bs at k h p l =
 growing : (bs : List Reading) (at : ℕ) → IsGrowing (steps_at bs at) (length bs)
 growing bs at = record { grows = steps_at-grows bs at; stays = steps_at-stays bs at }
 
--- so many steps as there are blocks suffice
+-- as many steps as there are blocks suffice
 leads-settles : (bs : List Reading) (at k : ℕ) (n : List ℕ) → leads bs (suc k) n at ≡ true → leads_to bs n at ≡ true
 leads-settles bs at k n e =
     elim (or_cases (is_owner bs n at) (block_passes (after_step bs at k) (owner_block bs n)) e) [

@@ -1,10 +1,11 @@
--- What adding mentions to a table makes of it, item by item; and where a block has no expansion at a depth.
+-- What adding mentions to a table makes of it, item by item; and when a block has no expansion at a
+-- depth.
 use Rattle.std.proofs.Common.{◌≡◌, ℕ, zero, suc, append_assoc, ◌+◌, inl, inr, Bool, true, false, cond, List, [], ◌∷◌, ◌++◌, Option, Some, None, slice_get, refl, sym, ◌∙◌, ap, arith}
 use Rattle.std.specs.Option.{option_or}
 use Rattle.std.proofs.lemmas.Option.{same_Some, none-some}
 use Rattle.ti_caps.specs.Tables.{Capability, IsCapability, same_capability}
 use Rattle.ti_source.specs.Reading.{Reading, ReadItem, Said, said_flag, said_number, said_text, said_cancel, said_import}
-use Rattle.ti_layout.specs.Values.{Contents, Content}
+use Rattle.ti_layout.specs.Values.{Contents, Content, contents}
 use Rattle.ti_meaning.specs.Owner.{owner_block}
 use Rattle.ti_text.specs.Lists.{both_lists}
 use Rattle.ti_meaning.specs.Expansion.{Mention, leftmost_content, is_broken, mentions_of, expand_items}
@@ -26,14 +27,16 @@ if_or : (b : Bool) (x : Option Content) (o p : Option Content) (v : Content) →
 if_or true x o p v = refl
 if_or false x o p v = refl
 
--- mentions after one another say what the first say, and else what the others say
+-- mentions one after another say what the first say, and else what the others say
 pub said-append : (ms ns : List Mention) (c : Capability) → leftmost_content (ms ++ ns) c ≡ option_or (leftmost_content ms c) (leftmost_content ns c)
+unfolding contents
 said-append [] ns c = refl
 said-append (m ∷ ms) ns c =
     rw (said-append ms ns c) (sym (if_or (same_capability m.capability c) None (leftmost_content ms c) (leftmost_content ns c) m.says))
 
 -- one mention was added
 pub added_one : (bs : List Reading) (item : Said) (m : Mention) (old new : Contents) → mentions_of (names_at (owner_block bs) 0) item ≡ Some (m ∷ []) → ((c : Capability) → IsCapability c → new c ≡ option_or (old c) (cond (same_capability m.capability c) (Some m.says) None)) → AddsSaid bs item old new
+unfolding contents
 added_one bs item m old new e added = record { depth = 0; mentions = m ∷ []; expands = e; adds = added }
 
 -- ---- the items of a block, one after another
@@ -54,10 +57,12 @@ expand_items-append f (i ∷ is) js = rw (expand_items-append f is js) (joined-a
 
 -- a table that mentions nothing is that of no items
 pub table_of_nothing : (bs : List Reading) (f : Contents) → ((c : Capability) → f c ≡ None) → IsTableOfItems bs [] f
+unfolding contents
 table_of_nothing bs f none = record { depth = 0; mentions = []; expands = refl; is_table = λ c _. none c }
 
 -- one more item was added
 pub table_of_one_more : (bs : List Reading) (is : List ReadItem) (i : ReadItem) (f g : Contents) → IsTableOfItems bs is f → AddsSaid bs i.said f g → IsTableOfItems bs (is ++ i ∷ []) g
+unfolding contents
 table_of_one_more bs is i f g t h =
     let deep = t.depth + h.depth in
     let env = owner_block bs in
@@ -78,7 +83,7 @@ table_of_one_more bs is i f g t h =
 pub table_of_block : (bs : List Reading) (b : Reading) (f : Contents) → is_broken b ≡ false → IsTableOfItems bs b.items f → IsTableOf bs b f
 table_of_block bs b f sound t = record { depth = suc t.depth; mentions = t.mentions; expands = rw (sound, t.expands) refl; is_table = t.is_table }
 
--- ---- no depth expands what stays open
+-- ---- no depth expands what remains open
 
 pub uses_at : (items : List ReadItem) (i : ℕ) (item : ReadItem) (name : List ℕ) → slice_get items i ≡ Some item → used_name item.said ≡ Some name → Uses items name
 uses_at [] i item name s u = absurd (none-some item s)

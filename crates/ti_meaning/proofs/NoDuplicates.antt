@@ -1,4 +1,4 @@
--- Reading a block gives no fault of a name that an earlier block owns.
+-- Reading a block gives no fault about a name that an earlier block owns.
 use Rattle.std.proofs.Common.{◌≡◌, ℕ, ◌+◌, nat_lt, Bool, true, false, cond, List, [], ◌∷◌, ◌++◌, length, map, Option, Some, None, Ok, Err, Result, refl}
 use Rattle.std.specs.Option.{option_to_list}
 use Rattle.ti_caps.specs.Tables.{Capability, capability_named}
@@ -21,7 +21,7 @@ use Rattle.ti_source.specs.Judging.{faults_at, faults_from, header_faults}
 use Rattle.ti_source.specs.inside.Parsing.{judged_as, judged_of, block_field, block_items}
 use Rattle.ti_meaning.specs.KeptBlocks.{is_duplicate}
 
--- none of the faults is of such a name
+-- none of the faults is about such a name
 abbrev pub AreOthers : List ReadFault → Type 0
 AreOthers [] = Unit {0}
 AreOthers (fault ∷ faults) = (is_duplicate fault.code ≡ false) × AreOthers faults

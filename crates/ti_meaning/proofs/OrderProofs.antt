@@ -1,4 +1,4 @@
--- The faults of items stand in the order of their items.
+-- The faults of items are in the order of their items.
 use Rattle.std.proofs.Common.{◌≡◌, ℕ, ◌≤◌, true, false, cond, nat_lt, List, [], ◌∷◌, ◌++◌, map, refl, ◌∙◌, ap, arith}
 use Rattle.std.proofs.lemmas.Bool.{ltb-true, ltb-false}
 use Rattle.std.proofs.lemmas.List.{map-append}
@@ -16,7 +16,7 @@ numbers fs = map (λ (f : ℕ × SourceFault). f.0) fs
 abbrev plain : List (ℕ × SourceFault) → List SourceFault
 plain fs = map (λ (f : ℕ × SourceFault). f.1) fs
 
--- ---- without their numbers they are the faults
+-- ---- without their ordinals they are the faults
 
 plain-numbered : (at : ℕ) (fs : List ReadFault) → plain (map (fault_with_ordinal at) fs) ≡ map (local_fault at) fs
 plain-numbered at [] = refl
@@ -37,7 +37,7 @@ same_faults bs at fs (i ∷ is) =
     (map-append (λ (f : ℕ × SourceFault). f.1) (map (λ f. (i.ordinal, f)) uses) rest
     ∙ (ap (λ xs. xs ++ plain rest) (plain-paired i.ordinal uses) ∙ ap (λ xs. uses ++ xs) (same_faults bs at (faults_from i.ordinal fs) is))))
 
--- ---- their numbers climb
+-- ---- their ordinals rise
 
 abbrev AtMost : ℕ → List ℕ → Type 0
 AtMost m [] = Unit {0}

@@ -1,10 +1,10 @@
--- The block that owns a name is the one at the name's owner.
+-- The block that owns a name is the one at the position of the name's owner.
 use Rattle.std.proofs.Common.{◌≡◌, ℕ, suc, true, false, List, [], ◌∷◌, Some, None, slice_get, refl, sym, ◌∙◌}
 use Rattle.std.proofs.lemmas.Option.{same_Some, none-some}
 use Rattle.ti_source.specs.Reading.{Reading}
 use Rattle.ti_meaning.specs.Owner.{is_among, owner, owner_block}
 
--- the name belongs to this block, which stands there
+-- the name belongs to this block, which is there
 pub record IsOwnedAt (blocks : List Reading) (name : List ℕ) (at : ℕ) (block : Reading) : Type 0 where
   pub owns : owner blocks name ≡ Some at
   pub is : owner_block blocks name ≡ Some block

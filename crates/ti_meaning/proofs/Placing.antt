@@ -1,4 +1,5 @@
--- What a block that is put into a list leaves of the others: where they stand, and whose each name is.
+-- What a block that is put into a list leaves of the others: where they are, and which name belongs
+-- to which.
 use Rattle.std.proofs.Common.{◌≡◌, ℕ, zero, suc, min, ◌<◌, ◌≤◌, ◌⊎◌, inl, inr, Bool, true, false, cond, List, [], ◌∷◌, length, Option, Some, None, option_map, slice_get, refl, sym, ◌∙◌, ap, arith}
 use Rattle.std.specs.List.{insert}
 use Rattle.ti_source.specs.Reading.{Reading}
@@ -19,7 +20,7 @@ get-insert_at xs zero x l = refl
 get-insert_at [] (suc at) x l = absurd (omega arith)
 get-insert_at (y ∷ ys) (suc at) x l = get-insert_at ys at x (omega arith)
 
--- a position is that of the item put in or one behind which an item stood
+-- a position is that of the item put in, or one to which an item moved
 pub split-insert : (at p : ℕ) → (at ≡ p) ⊎ ((k : ℕ) × (position_behind at k ≡ p))
 split-insert zero zero = inl refl
 split-insert zero (suc p) = inr (p, refl)
@@ -30,13 +31,13 @@ split-insert (suc at) (suc p) =
       | inr behind ↦ inr (suc behind.0, ap (λ n. suc n) behind.1)
     ]
 
--- no item stands behind the position of the item put in
+-- no item moves to the position of the item put in
 pub position_behind-other : (at k : ℕ) → position_behind at k ≡ at → ⊥
 position_behind-other zero k e = omega arith
 position_behind-other (suc at) zero e = omega arith
 position_behind-other (suc at) (suc k) e = position_behind-other at k (omega arith)
 
--- two items behind which one position stands are one
+-- two items that move to the same position are equal
 pub position_behind-same : (at j k : ℕ) → position_behind at j ≡ position_behind at k → j ≡ k
 position_behind-same zero j k e = omega arith
 position_behind-same (suc at) zero zero e = refl
@@ -44,7 +45,7 @@ position_behind-same (suc at) zero (suc k) e = absurd (omega arith)
 position_behind-same (suc at) (suc j) zero e = absurd (omega arith)
 position_behind-same (suc at) (suc j) (suc k) e = let h = position_behind-same at j k (omega arith) in omega arith
 
--- the order of positions stays
+-- the order of positions remains
 pub position_behind-less : (at j k : ℕ) → j < k → position_behind at j < position_behind at k
 position_behind-less zero j k l = omega arith
 position_behind-less (suc at) j zero l = absurd (omega arith)
@@ -76,7 +77,7 @@ pub shifted-less : (o : Option PlacedBlock) (j k : ℕ) → j < k → shifted_po
 shifted-less None j k l = l
 shifted-less (Some one) j k l = position_behind-less one.at j k l
 
--- ---- whose a name is
+-- ---- the block that owns a name
 
 owned-insert : (bs : List Reading) (at : ℕ) (b : Reading) (n : List ℕ) → at ≤ length bs → is_among n b.names ≡ false → owner_block (insert bs at b) n ≡ owner_block bs n
 owned-insert bs zero b n l e = rw e refl
@@ -109,7 +110,7 @@ pub owner-with : (rest : List Reading) (o : Option PlacedBlock) (n : List ℕ) �
 owner-with rest None n l e = option_map-same (owner rest n)
 owner-with rest (Some p) n l e = owner-insert rest p.at p.block n l e
 
--- the first of a position and the owner's, if there is one
+-- the first of a position and the owner's position, if there is one
 abbrev pub first_of : ℕ → Option ℕ → ℕ
 first_of at None = at
 first_of at (Some other) = min at other
@@ -119,7 +120,7 @@ first_step true at o p e = let m : 0 ≡ min (suc at) 0 = omega arith in ap (λ 
 first_step false at o None e = rw e refl
 first_step false at o (Some k) e = rw e (let m : suc (min at k) ≡ min (suc at) (suc k) = omega arith in ap (λ x. Some x) m)
 
--- a name that it has belongs to the first of it and of the owner that the name had
+-- a name that the new block has belongs to the first of it and of the owner that the name had
 pub owner-put : (bs : List Reading) (at : ℕ) (b : Reading) (n : List ℕ) → at ≤ length bs → is_among n b.names ≡ true → owner (insert bs at b) n ≡ Some (first_of at (owner bs n))
 owner-put bs zero b n l e = rw e (first_zero (owner bs n)) where
   first_zero : (o : Option ℕ) → Some 0 ≡ Some (first_of 0 o)

@@ -1,5 +1,5 @@
--- The items and the faults that reading gives stand in the order of the items, and an item with a fault by itself uses no
--- name.
+-- The items and the faults that reading gives are in the order of the items, and an item with a
+-- fault by itself uses no name.
 use Rattle.std.proofs.Common.{◌≡◌, ℕ, ◌+◌, ◌<◌, ◌≤◌, ◌⊎◌, inl, inr, Bool, true, false, ◌&&◌, ◌||◌, nat_eq, nat_lt, cond, List, [], ◌∷◌, ◌++◌, length, map, filter, Option, Some, None, Ok, Err, Result, is_some, refl, sym, ◌∙◌, ap, arith}
 use Rattle.std.specs.Option.{option_to_list}
 use Rattle.std.proofs.lemmas.Bool.{false≢true, and_right, and_left, or_from, cases_eq, ne_eqb, or_cases}
@@ -140,7 +140,7 @@ apart_from o k (i ∷ is) t =
           (later_items o (k + 1) js (omega arith))
     ]
 
--- ---- ordinals climb
+-- ---- ordinals rise
 
 climbs-lower : (l m : ℕ) (ns : List ℕ) → l ≤ m → Climbs m ns → Climbs l ns
 climbs-lower l m [] h c = tt

@@ -1,5 +1,5 @@
--- A test of the places below n that only grows from one depth to the next, and stays once it has stayed, is settled at
--- depth n: at each depth before, one more place passes.
+-- A test of the places below n that only grows from one depth to the next, and no longer changes
+-- once it did not change, is settled at depth n: at each depth before, one more place passes.
 use Rattle.std.proofs.Common.{◌≡◌, ℕ, zero, suc, ◌+◌, ◌-◌, ◌<◌, ◌≤◌, ◌⊎◌, inl, inr, Bool, true, false, cond, refl, sym, ◌∙◌, arith}
 use Rattle.std.proofs.lemmas.Bool.{cases_lt, false≢true}
 
@@ -62,7 +62,7 @@ count_below-all f (suc n) l p q =
       | false ↦ λ e m. absurd (omega (arith, count_below-le f n))
     ] refl l
 
--- from one depth to the next no place is lost, and where no place is won none is won later
+-- from one depth to the next no place is lost, and if no place is won none is won later
 pub record IsGrowing (r : ℕ → ℕ → Bool) (n : ℕ) : Type 0 where
   pub grows : (k p : ℕ) → p < n → r k p ≡ true → r (suc k) p ≡ true
   pub stays : (k : ℕ) → ((p : ℕ) → p < n → r (suc k) p ≡ r k p) → (p : ℕ) → p < n → r (suc (suc k)) p ≡ r (suc k) p

@@ -1,5 +1,5 @@
--- What is wrong with a use, found from whether its owner is there, leads back and resolves; and what a state says of an
--- expansion.
+-- What is wrong with a use, found from whether its owner is there, leads back and resolves; and
+-- what a state says of an expansion.
 use Rattle.std.proofs.Common.{◌≡◌, ℕ, Bool, true, false, cond, List, Option, Some, None, is_some, slice_get, refl, sym, ◌∙◌, ap}
 use Rattle.std.proofs.lemmas.Option.{same_Some, none-some}
 use Rattle.ti_source.specs.declared.code.Code.{Code}

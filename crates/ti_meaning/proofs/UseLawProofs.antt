@@ -76,7 +76,7 @@ block_walk bs found Edge g (k ∷ way) j i from at s t w =
     let uses : UsesBlock bs from edge.1 = (edge.4.0, ap (slice_get bs) (sym same) ∙ edge.4.1, edge.4.2) in
     (edge.1 ∷ rest.0, (uses, rest.1))
 
--- over any edges and any relation of being of one component
+-- a walk, over any edges and any relation that says which places share a component
 pub circular_component : (bs : List Reading) (found : List ℕ) (Edge Same : ℕ → ℕ → Type 0) → AreFound bs found → IsGraphOf bs found Edge → MarksComponents (length found) Edge Same → (i at : ℕ) (b : Reading) (name : List ℕ) → slice_get found i ≡ Some at → slice_get bs at ≡ Some b → Uses b.items name → LeadsTo bs name at → (j : ℕ) × (used : ℕ) × (owner bs name ≡ Some used) × (slice_get found j ≡ Some used) × Same i j
 circular_component bs found Edge Same f g c i at b name s t u l =
     let w = walk_of bs at l.0 name l.1 l.2 l.3 in

@@ -1,5 +1,6 @@
--- The compiled entry of a block of a source (term(5)): the image of its names field and of the values that its expansion
--- gives, for a block that resolves and whose image is within its limit: 32,768 bytes where a number is over 32,767, else 4,096.
+-- The compiled entry of a block of a source (term(5)): the image of its names field and of the
+-- values that its expansion gives, for a block that resolves and whose image is within its limit:
+-- 32,768 bytes if a number is over 32,767, else 4,096.
 use Rattle.std.specs.Prelude.{ℕ, List, length, Option, Some, None, option_and_then, slice_get, Bool, nat_lt, if◌then◌else◌}
 use Rattle.ti_source.specs.Reading.{Reading}
 use Rattle.ti_layout.specs.Image.{image, image_limit}
@@ -10,11 +11,11 @@ use Rattle.ti_meaning.specs.Expansion.{Mention, values, expansion}
 abbrev pub image_of : Reading → List Mention → List ℕ
 image_of block mentions = image block.field (values mentions)
 
--- whether that is over the limit
+-- whether the image of a block that says this is over the limit
 abbrev pub is_too_large : Reading → List Mention → Bool
 is_too_large block mentions = nat_lt (image_limit (values mentions)) (length (image_of block mentions))
 
--- the entry of a block that says this, unless it is over the limit
+-- the entry of a block that says this, unless the entry is over the limit
 abbrev pub entry_of : Reading → List Mention → Option (List ℕ)
 entry_of block mentions = if is_too_large block mentions then None else Some (image_of block mentions)
 

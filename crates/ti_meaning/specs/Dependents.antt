@@ -1,5 +1,5 @@
--- What an edit touches (own): the names of the blocks taken out and put in, the blocks that depend on them, which are
--- rebuilt, and the work of that.
+-- What an edit touches (own): the names of the blocks taken out and put in, the blocks that depend
+-- on them, which are rebuilt, and the work of that.
 use Rattle.std.specs.Prelude.{ℕ, ◌≡◌, ◌⊎◌, ◌↔◌, List, [], ◌++◌, length, Option, Some, None, IsTrue, slice_get, Contains, sum_by, if◌then◌else◌}
 use Rattle.ti_source.specs.Reading.{Reading}
 use Rattle.ti_source.specs.Sound.{IsRising}
@@ -28,7 +28,8 @@ abbrev pub IsPutAt : Option PlacedBlock → ℕ → Type 0
 IsPutAt None at = ⊥
 IsPutAt (Some placed) at = placed.at ≡ at
 
--- the block at that position of the new list depends on the edit: it was put in, or reaches a touched name
+-- the block at that position of the new list depends on the edit: it was put in, or reaches a
+-- touched name
 abbrev pub IsDependent : Exchange → ℕ → Type 0
 IsDependent exchange at =
     (block : Reading) × (slice_get (new_list exchange) at ≡ Some block)
@@ -39,7 +40,7 @@ pub record AreDependents (exchange : Exchange) (places : List ℕ) : Type 0 wher
   pub rising : IsRising places
   pub dependents : (at : ℕ) → Contains places at ↔ IsDependent exchange at
 
--- the work of a block, if there is one: a step for each of its accepted items where it resolves
+-- the work of a block, if there is one: a step for each of its accepted items if it resolves
 abbrev pub work_of : List Reading → Option Reading → ℕ
 work_of blocks None = 0
 work_of blocks (Some block) = if resolves blocks block then length block.items else 0
@@ -52,7 +53,7 @@ work blocks places = sum_by (λ at. work_of blocks (slice_get blocks at)) places
 abbrev pub DependentsAreDetermined : Type 0
 DependentsAreDetermined = (exchange : Exchange) (one other : List ℕ) → AreDependents exchange one → AreDependents exchange other → one ≡ other
 
--- who uses a name that a dependent owns is a dependent
+-- a block that uses a name which a dependent owns is a dependent
 abbrev pub UsersOfDependentsDepend : Type 0
 UsersOfDependentsDepend =
     (exchange : Exchange) (at user : ℕ) (block : Reading) (name : List ℕ) → IsExchange exchange
@@ -61,21 +62,22 @@ UsersOfDependentsDepend =
 
 -- ---- how dependents are found
 
--- among these positions are that of the block put in, those of the users of touched names, and with each block its users
+-- among these positions are that of the block put in, those of the users of touched names, and with
+-- each block those of its users
 pub record AreClosed (exchange : Exchange) (found : List ℕ) : Type 0 where
   pub put : (at : ℕ) → IsPutAt exchange.put at → Contains found at
   pub touching : (user : ℕ) (block : Reading) (name : List ℕ) → slice_get (new_list exchange) user ≡ Some block → Uses block.items name
       → IsTrue (is_among name (touched_names exchange)) → Contains found user
   pub using : (user at : ℕ) → UsesBlock (new_list exchange) user at → Contains found at → Contains found user
 
--- where they are, all dependents are among them
+-- if these are among the positions, all dependents are
 abbrev pub DependentsAreFound : Type 0
 DependentsAreFound = (exchange : Exchange) (found : List ℕ) → AreClosed exchange found → (at : ℕ) → IsDependent exchange at → Contains found at
 
 -- ---- what an accepted edit rebuilds
 
--- an edit of a source, given by the texts of its blocks, rebuilds the blocks at these positions of the new list, and that
--- is its work
+-- an edit of a source, given by the texts of its blocks, rebuilds the blocks at these positions of
+-- the new list, and this is its work
 pub record Rebuilds (texts : List (List ℕ)) (change : Change) (places : List ℕ) (steps : ℕ) : Type 0 where
   pub dependents : AreDependents (exchange_of texts change) places
   pub work : steps ≡ work (readings (list_after texts change)) places

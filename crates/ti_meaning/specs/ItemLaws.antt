@@ -35,7 +35,7 @@ abbrev pub use_faults : List Reading → ℕ → ℕ → List ReadItem → List 
 use_faults blocks at ordinal items =
     flat_map (λ (item : ReadItem). fault_of_item blocks at item.line (used_name item.said)) (filter (λ (item : ReadItem). nat_eq item.ordinal ordinal) items)
 
--- the faults of an ordinal are the ones that reading gave, then that of the use, and no others
+-- the faults of an ordinal are those that reading gave, then that of the use, and no others
 abbrev pub ItemFaultsGoByOrdinal : Type 0
 ItemFaultsGoByOrdinal =
     (blocks : List Reading) (at : ℕ) (faults : List ReadFault) (items : List ReadItem) → AreApart faults items
@@ -47,13 +47,13 @@ pub record AreOrdered (faults : List ReadFault) (items : List ReadItem) : Type 0
   pub items_climb : Climbs 0 (map (λ (i : ReadItem). i.ordinal) items)
   pub apart : AreApart faults items
 
--- it holds of the items of each block and of the faults that reading gave for them
+-- the items of each block, and the faults that reading gave for them, meet what these laws ask
 abbrev pub ReadItemsAreOrdered : Type 0
 ReadItemsAreOrdered = (text : List ℕ) → AreOrdered (filter (is_kept false) (reading_of_text text).faults) (reading_of_text text).items
 
 -- ---- each name once
 
--- the name stands at that position, and not before
+-- the name is at that position, and not before
 pub record IsFirstPlace (names : List (List ℕ)) (name : List ℕ) (at : ℕ) : Type 0 where
   pub stands : slice_get names at ≡ Some name
   pub first : (before : ℕ) → before < at → slice_get names before ≡ Some name → ⊥
@@ -65,6 +65,6 @@ pub record IsDistinctOf (names each : List (List ℕ)) : Type 0 where
   pub order : (i j : ℕ) (name other : List ℕ) (at behind : ℕ) → i < j → slice_get each i ≡ Some name → slice_get each j ≡ Some other
       → IsFirstPlace names name at → IsFirstPlace names other behind → at < behind
 
--- the names that duplicates are sought for are so: each once, in the order of their first places
+-- the names that duplicates are looked up for are each once, in the order of their first places
 abbrev pub DistinctHasEachOnce : Type 0
 DistinctHasEachOnce = (names : List (List ℕ)) → IsDistinctOf names (distinct names)

@@ -20,16 +20,17 @@ is_duplicate _ = false
 abbrev pub is_no_duplicate : SourceFault → Bool
 is_no_duplicate fault = not (is_duplicate fault.code)
 
--- the same fault of the block at another position
+-- the fault of the block when it is at another position
 abbrev pub moved_to : ℕ → SourceFault → SourceFault
 moved_to at fault = record { block = at; line = fault.line; code = fault.code; detail = fault.detail }
 
--- the faults of a block at a position but those of names that earlier blocks own
+-- the faults of a block at a position, except those about names that earlier blocks own
 abbrev pub lasting_faults : List Reading → ℕ → Reading → List SourceFault
 lasting_faults blocks at block = filter is_no_duplicate (block_faults blocks at block)
 
--- what stays of a block that stays, at this position of the list without the blocks taken out and put in: its expansion at
--- every depth, its entry, its faults but the duplicate names, and the owner of each name that it uses, at its new position
+-- what remains of a block, at this position of the list without the blocks taken out and put in:
+-- its expansion at every depth, its entry, its faults except for duplicate names, and the owner of
+-- each name that it uses, at its new position
 pub record IsKeptBlock (exchange : Exchange) (at : ℕ) (block : Reading) : Type 0 where
   pub at_depth : (depth : ℕ) → expand (owner_block (new_list exchange)) depth block ≡ expand (owner_block (old_list exchange)) depth block
   pub mentions : expansion (new_list exchange) block ≡ expansion (old_list exchange) block
@@ -42,14 +43,15 @@ pub record IsKeptBlock (exchange : Exchange) (at : ℕ) (block : Reading) : Type
   pub new_owners : (name : List ℕ) → Uses block.items name
       → owner (new_list exchange) name ≡ option_map (shifted_position exchange.put) (owner exchange.rest name)
 
--- a block other than the one taken out or put in that reaches no touched name keeps all that
+-- a block other than the one taken out or put in that reaches no touched name keeps what this file
+-- lists
 abbrev pub UntouchedBlocksAreKept : Type 0
 UntouchedBlocksAreKept =
     (exchange : Exchange) (at : ℕ) (block : Reading) → IsExchange exchange
     → slice_get exchange.rest at ≡ Some block → ¬ (ReachesOne (old_list exchange) (touched_names exchange) block)
     → IsKeptBlock exchange at block
 
--- it reaches a touched name in the old list exactly where it does in the new one
+-- a block reaches a touched name in the old list exactly if it does in the new one
 abbrev pub TouchedInBothLists : Type 0
 TouchedInBothLists =
     (exchange : Exchange) (block : Reading) → IsExchange exchange

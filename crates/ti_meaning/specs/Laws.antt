@@ -16,13 +16,13 @@ pub record IsFirstWith (blocks : List Reading) (name : List ℕ) (at : ℕ) : Ty
   pub has : IsTrue (is_among name block.names)
   pub first : (before : ℕ) (other : Reading) → before < at → slice_get blocks before ≡ Some other → ¬ (IsTrue (is_among name other.names))
 
--- a name belongs to the first block that has it, and to none where none has it
+-- a name belongs to the first block that has it, and to none if none has it
 pub record OwnersAreFirst : Type 0 where
   pub some : (blocks : List Reading) (name : List ℕ) (at : ℕ) → owner blocks name ≡ Some at → IsFirstWith blocks name at
   pub none : (blocks : List Reading) (name : List ℕ) → owner blocks name ≡ None → (at : ℕ) (block : Reading) → slice_get blocks at ≡ Some block
       → ¬ (IsTrue (is_among name block.names))
 
--- a block resolves where some depth suffices for its expansion; `env` gives the block that a name belongs to
+-- a block resolves if some depth suffices for its expansion; `env` gives the block that owns a name
 abbrev pub Resolves : (List ℕ → Option Reading) → Reading → Type 0
 Resolves env block = (depth : ℕ) × IsSome (expand env depth block)
 
@@ -32,27 +32,29 @@ ExpansionsStay =
     (env : List ℕ → Option Reading) (depth deeper : ℕ) (block : Reading) (mentions : List Mention)
     → depth ≤ deeper → expand env depth block ≡ Some mentions → expand env deeper block ≡ Some mentions
 
--- a block of the list has the expansion that some depth gives it, and resolves exactly where some depth gives it one
+-- a block of the list has the expansion that some depth gives it, and resolves exactly if some
+-- depth gives it one
 pub record ExpansionsAreFound : Type 0 where
   pub found : (blocks : List Reading) (at depth : ℕ) (block : Reading) (mentions : List Mention) → slice_get blocks at ≡ Some block
       → expand (owner_block blocks) depth block ≡ Some mentions → expansion blocks block ≡ Some mentions
   pub resolves : (blocks : List Reading) (at : ℕ) (block : Reading) → slice_get blocks at ≡ Some block
       → IsTrue (resolves blocks block) ↔ Resolves (owner_block blocks) block
 
--- the test of what items use finds a name exactly where one of them uses it
+-- the test of what items use finds a name exactly if one of them uses it
 abbrev pub UsesAreFound : Type 0
 UsesAreFound = (name : List ℕ) (items : List ReadItem) → IsTrue (any_use (bytes_eq name) items) ↔ Uses items name
 
--- the test of whose a name is finds the position of its owner, and no other
+-- the test for a name's owner finds the position of its owner, and no other
 abbrev pub OwnersAreTold : Type 0
 OwnersAreTold = (blocks : List Reading) (name : List ℕ) (at : ℕ) → IsTrue (is_owner blocks name at) ↔ (owner blocks name ≡ Some at)
 
--- the search for a way finds one exactly where there is one
+-- the search for a way finds one exactly if there is one
 abbrev pub WaysAreFound : Type 0
 WaysAreFound = (blocks : List Reading) (from : List ℕ) (at : ℕ) → IsTrue (leads_to blocks from at) ↔ LeadsTo blocks from at
 
--- what is wrong with the use of a name by the block at a position, the first that holds: nobody owns the name; the owner
--- is that block or reaches a name that it owns; the owner does not resolve; nothing
+-- what is wrong with the use of a name by the block at a position, the first that holds: nobody
+-- owns the name; the owner is that block or reaches a name that it owns; the owner does not
+-- resolve; nothing
 pub data IsUseFault (blocks : List Reading) (at : ℕ) (name : List ℕ) : Option Code → Type 0 where
   nobody_owns : owner blocks name ≡ None → IsUseFault blocks at name (Some MissingUse)
   leads_back : LeadsTo blocks name at → IsUseFault blocks at name (Some Circular)
@@ -82,7 +84,8 @@ abbrev pub Climbs : ℕ → List ℕ → Type 0
 Climbs least [] = Unit {0}
 Climbs least (n ∷ ns) = (least ≤ n) × Climbs n ns
 
--- the faults of the items stand in the order of their items, where reading gives items and faults in their order
+-- the faults of the items are in the order of their items, if reading gives items and faults in
+-- order
 pub record ItemFaultsAreInOrder : Type 0 where
   pub same : (blocks : List Reading) (at : ℕ) (faults : List ReadFault) (items : List ReadItem)
       → map (λ (f : ℕ × SourceFault). f.1) (numbered_faults blocks at faults items) ≡ item_faults blocks at faults items

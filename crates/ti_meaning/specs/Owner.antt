@@ -1,5 +1,6 @@
--- Whose a name is (own): a name belongs to the first block of the source that has it among its lookup names, whether
--- that block is sound or broken. A block whose header is bad has no lookup names, and so owns none.
+-- Which block owns a name (own): a name belongs to the first block of the source that has it among
+-- its lookup names, whether that block is sound or broken. A block whose header is bad has no
+-- lookup names, and so owns none.
 use Rattle.std.specs.Prelude.{ℕ, suc, List, [], ◌∷◌, map, Option, Some, None, option_map, Bool, false, nat_eq, if◌then◌else◌}
 use Rattle.std.specs.List.{list_any}
 use Rattle.std.specs.Option.{option_map_or}

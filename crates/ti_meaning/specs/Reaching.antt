@@ -1,5 +1,5 @@
--- Which names a block reaches (own): those that it uses, and those that the owner of a reached name uses, through broken
--- blocks too.
+-- Which names a block reaches (own): those that it uses, and those that the owner of a reached name
+-- uses, through broken blocks too.
 use Rattle.std.specs.Prelude.{ℕ, zero, suc, ◌≡◌, ◌⊎◌, List, [], ◌∷◌, length, Option, Some, None, Bool, false, ◌||◌}
 use Rattle.ti_source.specs.Reading.{Reading, ReadItem, Said, said_import}
 use Rattle.ti_meaning.specs.Owner.{owner, owner_block, is_owner}
@@ -14,7 +14,8 @@ abbrev pub Uses : List ReadItem → List ℕ → Type 0
 Uses [] name = ⊥
 Uses (item ∷ items) name = (used_name item.said ≡ Some name) ⊎ Uses items name
 
--- from the name `from` the names `way` lead to the name `to`: each is used by the owner of the one before it
+-- from the name `from` the names `way` lead to the name `to`: each is used by the owner of the one
+-- before it
 abbrev pub IsUseWay : (List ℕ → Option Reading) → List ℕ → List (List ℕ) → List ℕ → Type 0
 IsUseWay env from [] to = from ≡ to
 IsUseWay env from (next ∷ way) to = ((block : Reading) × (env from ≡ Some block) × Uses block.items next) × IsUseWay env next way to
@@ -27,7 +28,7 @@ Reaches env items to = (from : List ℕ) × (way : List (List ℕ)) × Uses item
 abbrev pub LeadsTo : List Reading → List ℕ → ℕ → Type 0
 LeadsTo blocks from at = (way : List (List ℕ)) × (to : List ℕ) × IsUseWay (owner_block blocks) from way to × (owner blocks to ≡ Some at)
 
--- ---- whether it does so, computed
+-- ---- whether a block reaches a name, computed
 
 -- whether the name that an item uses, if it uses one, passes the test
 abbrev pub use_passes : (List ℕ → Bool) → Option (List ℕ) → Bool
@@ -44,7 +45,8 @@ abbrev pub block_passes : (Reading → Bool) → Option Reading → Bool
 block_passes test None = false
 block_passes test (Some block) = test block
 
--- whether a way of fewer names than `steps` leads from the name to one that belongs to the block at `at`
+-- whether a way of fewer names than `steps` leads from the name to one that belongs to the block at
+-- `at`
 abbrev pub leads : List Reading → ℕ → List ℕ → ℕ → Bool
 leads blocks zero from at = false
 leads blocks (suc steps) from at =

@@ -1,4 +1,4 @@
--- What compiling and reporting want of a block as it is read, and of the faults of a source (own).
+-- What compiling and reporting need of a block as it is read, and of the faults of a source (own).
 use Rattle.ti_text.specs.Limits.{block_bytes_max, names_max}
 use Rattle.std.specs.Prelude.{ℕ, ◌+◌, ◌≡◌, ◌≢◌, ◌<◌, ◌≤◌, false, [], length, All}
 use Rattle.ti_source.specs.Reading.{Reading, ReadItem, ReadFault, Said, said_flag, said_number, said_text, said_cancel, said_import}
@@ -18,14 +18,14 @@ SetsWell (said_import name) = Unit {0}
 abbrev pub IsLine : ℕ → Type 0
 IsLine line = (1 ≤ line) × (line ≤ block_bytes_max + 1)
 
--- a names field that can be written, unless the block is broken; items that fit their capabilities; lines
--- of its text
+-- a names field that can be written, unless the block is broken; items that fit their capabilities;
+-- lines of its text
 pub record IsUsable (block : Reading) : Type 0 where
   pub named : is_broken block ≡ false → (block.field ≢ []) × HasNoNul block.field × (length block.field ≤ names_max)
   pub sets : All (λ (item : ReadItem). SetsWell item.said) block.items
   pub item_lines : All (λ (item : ReadItem). IsLine item.line) block.items
   pub fault_lines : All (λ (fault : ReadFault). IsLine fault.line) block.faults
 
--- a fault stands in one of so many blocks, on a line that a text can have
+-- a fault is in one of the given number of blocks, on a line that a text can have
 abbrev pub IsPlaced : ℕ → SourceFault → Type 0
 IsPlaced blocks fault = (fault.block < blocks) × IsLine fault.line

@@ -14,7 +14,7 @@ OwnerReaches blocks name at =
     (block : Reading) × (owner_block blocks name ≡ Some block)
     × ((to : List ℕ) × Reaches (owner_block blocks) block.items to × (owner blocks to ≡ Some at))
 
--- a name leads to a block exactly where its owner is that block, or reaches a name that it owns
+-- a name leads to a block exactly if its owner is that block, or reaches a name that it owns
 abbrev pub LeadingIsReaching : Type 0
 LeadingIsReaching = (blocks : List Reading) (name : List ℕ) (at : ℕ) → LeadsTo blocks name at ↔ ((owner blocks name ≡ Some at) ⊎ OwnerReaches blocks name at)
 
@@ -29,41 +29,44 @@ abbrev pub IsEdgeWalk : (ℕ → ℕ → Type 0) → ℕ → List ℕ → ℕ �
 IsEdgeWalk Edge from [] to = from ≡ to
 IsEdgeWalk Edge from (next ∷ way) to = Edge from next × IsEdgeWalk Edge next way to
 
--- some walk goes from the one to the other
+-- some walk goes from one number to the other
 abbrev pub EdgesLead : (ℕ → ℕ → Type 0) → ℕ → ℕ → Type 0
 EdgesLead Edge from to = (way : List ℕ) × IsEdgeWalk Edge from way to
 
--- a name leads to a block exactly where from its owner the uses of blocks do
+-- a name leads to a block exactly if the uses of blocks lead to it from the name's owner
 abbrev pub LeadingIsWalking : Type 0
 LeadingIsWalking = (blocks : List Reading) (name : List ℕ) (at : ℕ)
     → LeadsTo blocks name at ↔ ((from : ℕ) × (owner blocks name ≡ Some from) × EdgesLead (UsesBlock blocks) from at)
 
 -- ---- circular uses among blocks that were found
 
--- with each block that was found, by its position, those that use it were found
+-- with each block that was found, by its position, the blocks that use it were found
 abbrev pub AreFound : List Reading → List ℕ → Type 0
 AreFound blocks found = (i at user : ℕ) → slice_get found i ≡ Some at → UsesBlock blocks user at → (j : ℕ) × (slice_get found j ≡ Some user)
 
--- an edge leads from the place of a block among those found to that of each block found that it uses, and no other
+-- an edge leads from the place of a block among those found to that of each block found that it
+-- uses, and to no other
 abbrev pub IsGraphOf : List Reading → List ℕ → (ℕ → ℕ → Type 0) → Type 0
 IsGraphOf blocks found Edge =
     (i j : ℕ) → Edge i j ↔ ((at : ℕ) × (used : ℕ) × (slice_get found i ≡ Some at) × (slice_get found j ≡ Some used) × UsesBlock blocks at used)
 
--- places below `count` are of one component exactly where each leads to the other
+-- places below `count` are in the same component exactly if each leads to the other
 abbrev pub MarksComponents : ℕ → (ℕ → ℕ → Type 0) → (ℕ → ℕ → Type 0) → Type 0
 MarksComponents count Edge Same = (i j : ℕ) → i < count → j < count → Same i j ↔ (EdgesLead Edge i j × EdgesLead Edge j i)
 
--- an edge of a graph that has a row for each node, with the node that each of its edges leads to, if it leads to one
+-- an edge of a graph that has a row for each node, with the node that each of its edges leads to,
+-- if it leads to one
 abbrev pub HasOptionalEdge : List (List (Option ℕ)) → ℕ → ℕ → Type 0
 HasOptionalEdge graph from to =
     (row : List (Option ℕ)) × (slice_get graph from ≡ Some row)
     × ((place : ℕ) × (slice_get row place ≡ Some (Some to)))
 
--- two places that have one number
+-- two places that have the same number
 abbrev pub HaveOneNumber : List ℕ → ℕ → ℕ → Type 0
 HaveOneNumber numbers i j = (number : ℕ) × (slice_get numbers i ≡ Some number) × (slice_get numbers j ≡ Some number)
 
--- a use by a block that was found leads back to it exactly where the owner was found and both are of one component
+-- a use by a block that was found leads back to it exactly if the owner was found and both are in
+-- the same component
 abbrev pub CircularUsesShareAComponent : Type 0
 CircularUsesShareAComponent =
     (blocks : List Reading) (found : List ℕ) (graph : List (List (Option ℕ))) (components : List ℕ)
@@ -78,7 +81,7 @@ CircularUsesShareAComponent =
 abbrev pub HasUseAtFault : List Reading → ℕ → Reading → Type 0
 HasUseAtFault blocks at block = (name : List ℕ) × Uses block.items name × IsSome (use_fault blocks at name)
 
--- a block does not resolve exactly where it is broken or one of its uses has a fault
+-- a block does not resolve exactly if it is broken or one of its uses has a fault
 abbrev pub UnresolvedBlocksHaveACause : Type 0
 UnresolvedBlocksHaveACause =
     (blocks : List Reading) (at : ℕ) (block : Reading) → slice_get blocks at ≡ Some block

@@ -1,5 +1,5 @@
--- When a table of values is that of a block (own): it has what the block's mentions say, at some depth of expansion; and how
--- it comes to be, item by item.
+-- When a table of values is that of a block (own): it has what the block's mentions say, at some
+-- depth of expansion; and how it is made, item by item.
 use Rattle.std.specs.Prelude.{ℕ, ◌≡◌, List, Option, Some, None, option_and_then}
 use Rattle.std.specs.Option.{option_or}
 use Rattle.ti_caps.specs.Tables.{Capability, IsCapability}
@@ -12,14 +12,14 @@ use Rattle.ti_meaning.specs.Expansion.{Mention, leftmost_content, mentions_of, e
 abbrev pub IsTableOfMentions : Contents → List Mention → Type 0
 IsTableOfMentions table mentions = (c : Capability) → IsCapability c → table c ≡ leftmost_content mentions c
 
--- a block has a table exactly where it resolves
+-- a block has a table exactly if it resolves
 abbrev pub HasTable : {T : Type 0} → (T → Contents) → List Reading → Reading → Option T → Type 0
 HasTable contents blocks block None = expansion blocks block ≡ None
 HasTable contents blocks block (Some table) = (mentions : List Mention) × (expansion blocks block ≡ Some mentions) × IsTableOfMentions (contents table) mentions
 
 -- ---- item by item
 
--- the mentions of the block that a name belongs to, expanded so deep
+-- the mentions of the block that owns a name, expanded to this depth
 abbrev pub names_at : (List ℕ → Option Reading) → ℕ → List ℕ → Option (List Mention)
 names_at env depth name = option_and_then (expand env depth) (env name)
 
@@ -27,7 +27,8 @@ names_at env depth name = option_and_then (expand env depth) (env name)
 abbrev pub AddsBehind : Contents → List Mention → Contents → Type 0
 AddsBehind old mentions new = (c : Capability) → IsCapability c → new c ≡ option_or (old c) (leftmost_content mentions c)
 
--- the table of a block of the list: some depth expands the block, and the table says what the mentions say
+-- the table of a block of the list: some depth expands the block, and the table says what the
+-- mentions say
 pub record IsTableOf (blocks : List Reading) (block : Reading) (table : Contents) : Type 0 where
   pub depth : ℕ
   pub mentions : List Mention

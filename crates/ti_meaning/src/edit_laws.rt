@@ -1,4 +1,4 @@
-// Laws on edits, and on what they leave. They compute nothing.
+//! Laws on edits, and on what they leave. They compute nothing.
 ghost use Rattle.ti_meaning.specs.Exchange.{EditsAreExchanges};
 ghost use Rattle.ti_meaning.specs.Dependents.{DependentsAreDetermined, DependentsAreFound, RebuildsAreDetermined, UsersOfDependentsDepend};
 ghost use Rattle.ti_meaning.specs.Edits.{EditsHaveOneCause};
@@ -10,26 +10,26 @@ pub fn edits_are_exchanges()
     ensures { EditsAreExchanges }
 {}
 
-/// An edit that is refused is refused for one cause alone, the first that holds; want of memory is one
-/// only where there is no other.
+/// An edit that is refused is refused for only one cause, the first that holds; `Memory` is one
+/// only if there is no other.
 pub fn edits_have_one_cause()
     ensures { EditsHaveOneCause }
 {}
 
-/// A block that stays and reaches no name of the blocks taken out and put in keeps its expansion at
-/// every depth, its entry, its faults but those of duplicate names, and the owner of each name that
-/// it uses, up to the shift of positions.
+/// A block that remains and reaches no name of the blocks taken out and put in keeps its expansion
+/// at every depth, its entry, its faults except for duplicate names, and the owner of each name
+/// that it uses, up to the shift of positions.
 pub fn untouched_blocks_are_kept()
     ensures { UntouchedBlocksAreKept }
 {}
 
-/// A block reaches a name of the blocks taken out and put in in the old list exactly where it does
-/// in the new one.
+/// A block reaches a name of the blocks taken out and put in in the old list exactly if it does in
+/// the new one.
 pub fn touched_names_are_reached_in_both_lists()
     ensures { TouchedInBothLists }
 {}
 
-/// An edit has one list of dependents.
+/// An edit has only one list of dependents.
 pub fn dependents_are_determined()
     ensures { DependentsAreDetermined }
 {}
@@ -39,13 +39,13 @@ pub fn users_of_dependents_depend()
     ensures { UsersOfDependentsDepend }
 {}
 
-/// Whatever has the block put in, the users of touched names and with each block its users has all
+/// A list with the block put in, the users of touched names and with each block its users has all
 /// dependents.
 pub fn dependents_are_found()
     ensures { DependentsAreFound }
 {}
 
-/// An edit rebuilds one list of blocks, with one count of work.
+/// An edit rebuilds only one list of blocks, with one count of work.
 pub fn rebuilds_are_determined()
     ensures { RebuildsAreDetermined }
 {}

@@ -1,4 +1,4 @@
-// What an edit of a source is, and what comes of it.
+//! What an edit of a source is, and what comes of it.
 ghost use Rattle.std.specs.Prelude.{◌≡◌};
 ghost use Rattle.ti_meaning.specs.declared.edits.EditError.TheVariants.{Memory};
 
@@ -8,14 +8,14 @@ use thiserror::Error;
 /// An edit of the list of blocks. Positions count from 0.
 #[derive(Clone, Copy)]
 pub enum Edit<'a> {
-    /// Puts a block in, so that it then stands at `at`.
+    /// Puts a block in, so that it is then at `at`.
     Insert {
         /// A position, or the length of the list.
         at: usize,
         /// The text of one block.
         text: &'a [u8],
     },
-    /// Exchanges the block at `at`.
+    /// Replaces the block at `at`.
     Replace {
         /// A position.
         at: usize,
@@ -27,7 +27,7 @@ pub enum Edit<'a> {
         /// A position.
         at: usize,
     },
-    /// Moves the block at `from`, so that it then stands at `to`.
+    /// Moves the block at `from`, so that it is then at `to`.
     Relocate {
         /// A position.
         from: usize,
@@ -39,7 +39,7 @@ pub enum Edit<'a> {
 /// Why an edit is refused: the first of these that holds.
 #[derive(Clone, Copy, PartialEq, Eq, Debug, Error)]
 pub enum EditError {
-    /// A position is not one of the list, nor for an insertion its end.
+    /// A position is not one of the list, nor, for an insertion, its end.
     #[error("no such position")]
     Position,
     /// The text has more than 1,048,576 bytes.
@@ -69,7 +69,7 @@ impl From<AllocError> for EditError {
 pub struct Edited {
     /// The positions of the blocks that depend on the edit, in the new list, in ascending order.
     pub rebuilt: Vec<usize>,
-    /// A step for each capability item that was added to a table and for each table of a used name
+    /// A step for each capability item that was added to a table, and for each table of a used name
     /// that was merged.
     pub work: u64,
 }
@@ -79,7 +79,7 @@ pub struct Edited {
 pub enum Outcome {
     /// The edit was made.
     Accepted,
-    /// It was not, and the list is as before.
+    /// The edit was not made, and the list is as before.
     Refused(EditError),
 }
 

@@ -1,4 +1,4 @@
-// What is wrong with a source.
+//! What is wrong with a source.
 use std::rc::RcSlice;
 use ti_source::Code;
 
@@ -11,6 +11,6 @@ pub struct Fault {
     pub line: usize,
     /// What is wrong.
     pub code: Code,
-    /// The name that it is about, where it is about one.
+    /// The name that the fault is about, if it is about one.
     pub detail: Option<RcSlice<u8>>,
 }

@@ -1,4 +1,4 @@
-// Laws on the faults of a block's items, and on the names that a block has. They compute nothing.
+//! Laws on the faults of a block's items, and on the names that a block has. They compute nothing.
 ghost use Rattle.ti_meaning.specs.ItemLaws.{ItemFaultsGoByOrdinal, DistinctHasEachOnce, ReadItemsAreOrdered};
 
 /// The faults of the item with an ordinal are those that reading gave for it, then that of its use,
@@ -13,7 +13,7 @@ pub fn read_items_are_ordered()
     ensures { ReadItemsAreOrdered }
 {}
 
-/// Duplicates are sought for each name of a block once, in the order of their first places.
+/// Duplicates are looked up for each name of a block once, in the order of their first places.
 pub fn names_are_distinct()
     ensures { DistinctHasEachOnce }
 {}

@@ -1,4 +1,4 @@
-// Laws of the definitions that the calls of this crate stand on. They compute nothing.
+//! Laws of the definitions on which the contracts of this crate depend. They compute nothing.
 ghost use Rattle.ti_meaning.specs.Laws.{ItemFaultsAreInOrder, ExpansionsAreFound, ExpansionsStay, OwnersAreFirst, OwnersAreTold, UseFaultsAreFound, UsesAreFound, WaysAreFound};
 
 /// A name belongs to the first block that has it.
@@ -6,13 +6,13 @@ pub fn owners_are_first()
     ensures { OwnersAreFirst }
 {}
 
-/// An expansion is the same at each greater depth; so a block says one thing at most.
+/// An expansion is the same at each greater depth; so a block says at most one thing.
 pub fn expansions_stay()
     ensures { ExpansionsStay }
 {}
 
-/// A block resolves exactly where some depth of expansion suffices, and then one depth for each
-/// block of the source does.
+/// A block resolves exactly if some depth of expansion suffices, and then one depth for each block
+/// of the source does.
 pub fn expansions_are_found()
     ensures { ExpansionsAreFound }
 {}
@@ -24,7 +24,7 @@ pub fn uses_and_owners_are_told()
     ensures owners { OwnersAreTold }
 {}
 
-/// A way of used names leads from a name to a block exactly where one does that comes to no block
+/// A way of used names leads from a name to a block exactly if one does that comes to no block
 /// twice.
 pub fn ways_are_found()
     ensures { WaysAreFound }
@@ -36,8 +36,8 @@ pub fn use_faults_are_found()
     ensures { UseFaultsAreFound }
 {}
 
-/// The faults of a block's items stand in the order of their items, those that reading gave and
-/// those of uses.
+/// The faults of a block's items are in the order of their items, those that reading gave and those
+/// of uses.
 pub fn item_faults_are_in_order()
     ensures { ItemFaultsAreInOrder }
 {}

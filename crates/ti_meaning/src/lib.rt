@@ -1,7 +1,7 @@
 //! What a list of blocks of terminal descriptions means, apart from any data structure that holds
-//! it: whose each name is, what a block says once its uses are expanded, its compiled entry, what is
-//! wrong with the source, and what an edit makes of the list. The definitions stand in `specs`; the
-//! crates above state their contracts in them.
+//! it: which block owns each name, what a block says once its uses are expanded, its compiled
+//! entry, what is wrong with the source, and what an edit makes of the list. The definitions are in
+//! `specs`; the crates above state their contracts in them.
 //!
 //! - `edits`: what an edit is, and why one is refused
 //! - `edit_laws`: laws on edits, and on what they leave

@@ -1,4 +1,4 @@
--- Lists of tokens that the acceptor goes through, and those that have a tree, are the same.
+-- The lists of tokens that the acceptor goes through are those that have a tree.
 use Rattle.std.proofs.Common.{◌≡◌, ℕ, suc, ◌<◌, true, ◌⊎◌, inl, inr, List, [], ◌∷◌, ◌++◌, length, refl, ap, sym, ◌∙◌, subst, arith}
 use Rattle.std.specs.Prelude.{Option, Some, None, nat_lt, if◌then◌else◌}
 use Rattle.std.proofs.lemmas.Bool.Decides.{nat_tests}
@@ -29,7 +29,7 @@ gone_on : (o : Option (List Phase)) (f : List Phase → Option (List Phase)) (r 
 gone_on None f r h = absurd (cc)
 gone_on (Some phases) f r h = (phases, refl, h)
 
--- the front of what is accepted is
+-- the front of what is accepted is accepted
 pub accepts_front : (xs ys : List Placed) (phases : List Phase) → Accepts phases (xs ++ ys) →
     (opened : List Phase) × (advanced_all phases xs ≡ Some opened) × Accepts opened ys
 unfolding advanced_all
@@ -99,7 +99,7 @@ parses_accepted tokens t parses = sequence_accepted parses [] refl ([], refl)
 
 -- ---- what is accepted has a tree
 
--- what is left of a part taken: S, or S `%e` and again what stands in a conditional
+-- what is left of a part taken: S, or S `%e` and again what is in a conditional
 abbrev IsTaken : ℕ → List Placed → List Placed → Type 0
 IsTaken depth tokens left = ((taken : FormatTree) × IsSequence depth tokens left taken)
     ⊎ ((taken rest : FormatTree) × (at : ℕ) × (others : List Placed) × IsSequence depth tokens (placed_token at Else ∷ others) taken × IsConditional depth others left rest)

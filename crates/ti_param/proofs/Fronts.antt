@@ -11,7 +11,7 @@ pub chosen : {A : Type 0} (b : Bool) (x y z : A) → cond b x y ≡ z → ((b �
 chosen true x y z h = inl (refl, h)
 chosen false x y z h = inr (refl, h)
 
--- what a mapped option was
+-- what a mapped option was before
 pub mapped : {A B : Type 0} (f : A → B) (o : Option A) (y : B) → option_map f o ≡ Some y → (x : A) × (o ≡ Some x) × (f x ≡ y)
 mapped f None y h = absurd (cc)
 mapped f (Some x) y h = (x, refl, cc)

@@ -1,4 +1,5 @@
--- Each format has exactly one tree or exactly one place where it is stuck, and the computing reader gives it.
+-- Each format has exactly one tree, or exactly one place where it is stuck, and the computing
+-- reader gives it.
 use Rattle.std.proofs.Common.{◌≡◌, ℕ, zero, suc, ◌+◌, ◌≤◌, true, false, ◌⊎◌, inl, inr, List, [], ◌∷◌, ◌++◌, length, length-append, append_assoc, refl, ap, sym, ◌∙◌, subst, arith, add-zero}
 use Rattle.std.specs.Prelude.{Option, Some, None, ◌==◌, Ok, Err}
 use Rattle.std.proofs.lemmas.List.{append-nil}
@@ -46,7 +47,7 @@ cut_whole {place} {text} {tokens} cut =
 
 -- ---- how far a format is read
 
--- a place where a text, that begins inside these open conditionals, is stuck
+-- a place where a text that begins inside these open conditionals is stuck
 record IsStuckFrom (place : ℕ) (text : List ℕ) (phases : List Phase) (i : ℕ) : Type 0 where
   pub before : List ℕ
   pub after : List ℕ
@@ -98,7 +99,7 @@ read_code place front rest token phases opened (Some i) is_code step stuck = rec
 abbrev refused_by : List Phase → Scan → Option ℕ
 refused_by phases s = refusal phases s.tokens s.stop
 
--- two codes at the front of a text are one
+-- two codes at the front of a text are the same code
 same_code : (text front rest f r : List ℕ) (token t : Token) → token_after text ≡ Some (token, rest) → text ≡ f ++ r → IsCode f t → token ≡ t
 same_code text front rest f r token t read whole is_code =
     let e : Some (token, rest) ≡ Some (t, r) = sym read ∙ ap token_after whole ∙ code_read f r t is_code in
@@ -264,7 +265,7 @@ tokens_run tokens t parses s = sequence_runs parses s ∙ ended (meaning t s)
     ended (Ok final) = refl
     ended (Err place) = refl
 
--- the tokens of a format that is not stuck may all stand, and have its tree
+-- the tokens of a format that is not stuck may all come, and have its tree
 pub tokens_parse : (format : List ℕ) (t : FormatTree) → IsTree format t → AreTokensOf (accepted_of [] (scan_of format)).tokens t
 unfolding stuck_place
 tokens_parse format t tree =
@@ -272,7 +273,7 @@ tokens_parse format t tree =
     subst (λ ts. AreTokensOf ts t)
     (sym (accepted-whole [] (scan_of format).tokens (scan_of format).stop none ∙ ap (λ s. s.tokens) (cut_whole tree.cut))) tree.parses
 
--- where the tokens that may stand end
+-- the end of the tokens that may come
 pub tokens_stop : (format : List ℕ) → (accepted_of [] (scan_of format)).stop ≡ stuck_place format
 unfolding stuck_place
 tokens_stop format = accepted-stop [] (scan_of format).tokens (scan_of format).stop

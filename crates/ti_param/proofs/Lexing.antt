@@ -65,7 +65,7 @@ pub front-mark : (text after rest : List ℕ) (b x y : ℕ) (token : Token) → 
 front-mark text after rest b x y token begins at goes_on letter read =
     front-percent text after b begins at ∙ ap token_after (goes_on ∙ ap (λ z. z ∷ rest) letter) ∙ read
 
--- a code is a mark or stands by itself
+-- a code is a mark or is by itself
 mark_or_code : (text : List ℕ) (token : Token) → IsCode text token → BeginsMarked text ⊎ ((c : Code) × (token ≡ Operation c))
 mark_or_code text token (simple_code x row) =
     found-row (λ r. IsMarked r.0 ⊎ ((c : Code) × (r.1 ≡ Operation c))) x simple_tokens token (
@@ -130,7 +130,7 @@ mark_or_code text token (byte_code x) = inr (_, refl)
 mark_or_code text token (number_code ds digits some small) = inr (_, refl)
 mark_or_code text token (print_code _ is_directive) = inr (_, refl)
 
--- where no code that stands by itself is read after a letter that is no mark's, nothing is
+-- if no code by itself is read after a letter that begins no mark, none is read
 pub code-none : (text : List ℕ) (x : ℕ) (rest : List ℕ) → text ≡ x ∷ rest → None ≡ code_of (token_after text) → (IsMarked x → ⊥) → token_after text ≡ None
 code-none text x rest begins none other = by_found (token_after text) refl
   where
@@ -149,7 +149,7 @@ code-none text x rest begins none other = by_found (token_after text) refl
               absurd (cc clash)
         ]
 
--- ---- the tokens that may stand
+-- ---- the tokens that may come
 
 accepted-go : (place : ℕ) (token : Token) (phases opened : List Phase) (tokens : List Placed) (stop : Option ℕ) → phases_after phases token ≡ Some opened →
     accepted phases (placed_token place token ∷ tokens) stop ≡ with_token place token (accepted opened tokens stop)
@@ -183,7 +183,7 @@ accepted-few phases (p ∷ tokens) stop =
 pub accepted-tokens-few : (phases : List Phase) (s : Scan) → length (accepted_of phases s).tokens ≤ length s.tokens
 accepted-tokens-few phases s = accepted-few phases s.tokens s.stop
 
--- where the acceptor stops
+-- the place where the acceptor stops
 pub accepted-stop : (phases : List Phase) (tokens : List Placed) (stop : Option ℕ) → (accepted phases tokens stop).stop ≡ refusal phases tokens stop
 unfolding accepted refusal
 accepted-stop phases [] stop = refl
@@ -196,7 +196,7 @@ accepted-stop phases (p ∷ tokens) stop =
       | Some opened ↦ accepted-stop opened tokens stop
     ]
 
--- where it refuses none, all tokens may stand
+-- if the acceptor refuses no token, all tokens may come
 pub accepted-whole : (phases : List Phase) (tokens : List Placed) (stop : Option ℕ) → refusal phases tokens stop ≡ None → (accepted phases tokens stop).tokens ≡ tokens
 unfolding accepted refusal
 accepted-whole phases [] stop h = refl
@@ -256,7 +256,7 @@ left-before-end u h none = by_front (front_of u.text) refl
 pub left-few : (u : Unread) → length (left_of u).tokens ≤ length u.text
 left-few u = omega (arith, accepted-tokens-few u.phases (scan 0 u.place u.text), tokens-few 0 u.place u.text)
 
--- a token that was taken is one less
+-- after a token was taken, one less is left
 pub one-less : (o : Option Placed) (before after : List Placed) → MatchOption o (before ≡ []) (λ found. before ≡ found ∷ after) → true ≡ is_some o →
     length after < length before
 one-less None before after h some = absurd (cc some)

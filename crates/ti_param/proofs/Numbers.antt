@@ -12,14 +12,14 @@ use Rattle.ti_text.specs.Digits.{is_decimal_digit, decimal_value, decimal_from}
 use Rattle.ti_param.specs.inside.Codes.{number_after, constant_before, flags_after, precision_after, directive_after, directive_with}
 use Rattle.ti_param.proofs.Fronts.{span-whole, fails, braced}
 
--- the front goes on where the byte passes, and ends where it does not
+-- the front goes on if the byte passes, and ends if it does not
 pub span-go : (p : ℕ → Bool) (x : ℕ) (xs : List ℕ) → p x ≡ true → span p (x ∷ xs) ≡ (x ∷ (span p xs).0, (span p xs).1)
 span-go p x xs h = rw h refl
 
 pub span-end : (p : ℕ → Bool) (x : ℕ) (xs : List ℕ) → p x ≡ false → span p (x ∷ xs) ≡ ([], x ∷ xs)
 span-end p x xs h = rw h refl
 
--- a number that is too large stays so
+-- a number that is too large does not become smaller
 pub decimal_from-capped : (n : ℕ) (ds : List ℕ) → min (decimal_from (min n 4294967295) ds) 4294967295 ≡ min (decimal_from n ds) 4294967295
 decimal_from-capped n [] = omega arith
 decimal_from-capped n (d ∷ ds) =
@@ -28,14 +28,14 @@ decimal_from-capped n (d ∷ ds) =
     ∙ ap (λ k. min (decimal_from k ds) 4294967295) capped
     ∙ decimal_from-capped (10 * n + (d - 48)) ds
 
--- one digit more, by sums and products that stop at the greatest number
+-- one more digit, by sums and products that stop at the greatest number
 pub number-step : (v n d goal : ℕ) (ds : List ℕ) → n ≡ min (min (v * 10) 4294967295 + (d - 48)) 4294967295 →
     min (decimal_from v (d ∷ ds)) 4294967295 ≡ goal → min (decimal_from n ds) 4294967295 ≡ goal
 number-step v n d goal ds is h =
     let capped : n ≡ min (10 * v + (d - 48)) 4294967295 = omega (arith, is) in
     ap (λ k. min (decimal_from k ds) 4294967295) capped ∙ decimal_from-capped (10 * v + (d - 48)) ds ∙ h
 
--- no digit more: the number that was read fits
+-- no more digits: the number that was read fits
 pub number-ends : (v goal : ℕ) (ds : List ℕ) → v < 4294967296 → ds ≡ [] → min (decimal_from v ds) 4294967295 ≡ goal → v ≡ goal
 number-ends v goal ds fits none h =
     let h' : min v 4294967295 ≡ goal = ap (λ k. min (decimal_from v k) 4294967295) (sym none) ∙ h in omega arith

@@ -14,9 +14,9 @@ use Rattle.ti_text.specs.Digits.{is_decimal_digit, decimal_value}
 use Rattle.ti_param.specs.inside.Codes.{Front, parameter_after, store_after, fetch_after, byte_after, constant_before, number_after, flags_of, flags_after, precision_of, precision_after, directive_with, directive_after, begins_directive, letter_after, token_after}
 use Rattle.ti_param.proofs.Fronts.{chosen, mapped, found-row, span-whole, span-all, span-append, braced}
 
--- ---- what may stand after flags, digits and a precision
+-- ---- what may come after flags, digits and a precision
 
--- a byte that is no flag, no `:`, and begins a printf form
+-- a byte that is no flag and not `:`, and begins a printf form
 record Past (y : ℕ) : Type 0 where
   pub not_signed : is_flag true y ≡ false
   pub not_plain : is_flag false y ≡ false
@@ -54,7 +54,7 @@ past_conversion x c h =
       ),
     ) h
 
--- a conversion's letter is no digit and no `.`
+-- a conversion's letter is no digit and not `.`
 abbrev Ends : ℕ → Type 0
 Ends x = (is_decimal_digit x ≡ false) × ((x == 46) ≡ false)
 
@@ -91,7 +91,7 @@ abbrev Begun : List ℕ → Type 0
 Begun [] = ⊥
 Begun (y ∷ ys) = begins_directive y ≡ true
 
--- digits may stand before what is past the flags
+-- digits may come before what follows the flags
 width_head : (P : List ℕ → Type 0) (ds : List ℕ) (y : ℕ) (ys : List ℕ) → AllAre is_decimal_digit ds → Past y →
     ((z : ℕ) (zs : List ℕ) → Past z → ds ++ (y ∷ ys) ≡ z ∷ zs → P (z ∷ zs)) → P (ds ++ (y ∷ ys))
 width_head P [] y ys each past then = then y ys past refl
@@ -111,7 +111,7 @@ flags_head fs flags y ys (plain_flags (x ∷ xs) each) past = flag_begins x each
     flag_begins : (x : ℕ) → is_flag false x ≡ true → begins_directive x ≡ true
     flag_begins x h = grind (arith, nat_tests)
 
--- the form that a text begins with is read, and it begins as forms do
+-- the form that a text begins with is read, and the text begins as forms do
 directive_read : (fs ds ps : List ℕ) (x : ℕ) (rest : List ℕ) (flags : Flags) (precision : Option ℕ) (conversion : Conversion) →
     IsFlags fs flags → AllAre is_decimal_digit ds → decimal_value ds ≤ 999 → IsPrecision ps precision → row_for x conversions ≡ Some conversion →
     (directive_after (fs ++ (ds ++ (ps ++ (x ∷ rest)))) ≡
@@ -245,7 +245,7 @@ letter_so x xs found h =
     back : (y : ℕ) → (x == y) ≡ true → Found y xs found → Found x xs found
     back y at is = subst (λ z. Found z xs found) (sym ((Decides-eqb x y).0 at)) is
 
--- the flags of a text that begins with a `:`, or not
+-- the flags of a text that begins with a `:`, and of one that does not
 abbrev flags_if : Bool → ℕ → List ℕ → Flags × List ℕ
 flags_if b x xs = cond b (flags_of (span (is_flag true) xs)) (flags_of (span (is_flag false) (x ∷ xs)))
 
@@ -266,7 +266,7 @@ flags_so (x ∷ xs) =
       )
     ] refl
 
--- at most, from the test
+-- at most 999, from the test
 at_most : (n m : ℕ) → nat_le n m ≡ true → n ≤ m
 at_most n m h = grind (arith, nat_tests)
 

@@ -71,7 +71,7 @@ mutual
   conditional_skipped (test_then_else place at test taken rest) level to_else =
       sequence_skipped test (suc level) to_else ∙ sequence_skipped taken (suc level) to_else ∙ conditional_skipped rest level to_else
 
--- what stands after an `%e` is passed over whole where no other `%e` may end it
+-- what is after an `%e` is passed over whole if no other `%e` may end it
 pub rest_skipped : {depth : ℕ} {tokens left : List Placed} {t : FormatTree} → IsConditional depth tokens left t → after_part 0 false tokens ≡ after_part 0 false left
 unfolding after_part
 rest_skipped (test_alone test) = sequence_skipped test 0 false
@@ -93,7 +93,7 @@ unfolding executed
 executed_closed inner after (by_mark place) s = refl
 executed_closed inner after by_end s = refl
 
--- after a `%t`: the part taken, or what is left where it is skipped
+-- after a `%t`: the part taken, or what is left if it is skipped
 chosen_part : (b : Bool) (more : List Placed) (taken rest : FormatTree) (s : MachineState) (left : List Placed) →
     (executed None more s ≡ and_then (meaning taken s) (executed None left)) →
     (executed (Some (0, true)) more s ≡ and_then (meaning rest s) (executed None left)) →
@@ -199,7 +199,7 @@ pub run-end : (tokens : List Placed) (s : MachineState) → tokens ≡ [] → ex
 unfolding executed
 run-end tokens s none = rw none refl
 
--- an error of a step is the error of the whole, where the step's full stack is the whole's
+-- an error of a step is the error of the whole run, if the step's full stack is the run's
 pub error-kept : (e : ParamError) (a b : MachineState) (o whole : MachineOutcome) → ((place : ℕ) → o ≡ Err place → whole ≡ Err place) → HasOutcome (Err e) a o → HasOutcome (Err e) b whole
 error-kept (BadFormat place) a b o whole full ran = ran
 error-kept (StackFull place) a b o whole full ran = full place ran

@@ -32,7 +32,7 @@ scan-code place front rest token h =
     let count : length (front ++ rest) - length rest ≡ length front = omega (arith, length-append front rest) in
     rw (h, scan) (ap (with_token place token) (ap (λ k. scan k (suc place) (front ++ rest)) count ∙ scan-skip front rest (suc place)))
 
--- a byte that stands for itself, or a code
+-- a byte by itself, or a code
 abbrev pub IsPiece : ℕ → List ℕ → Token → List ℕ → Type 0
 IsPiece b after token rest = ((b ≡ 37) × (token_after after ≡ Some (token, rest))) ⊎ ((b ≢ 37) × (token ≡ Literal b) × (rest ≡ after))
 
@@ -47,7 +47,7 @@ piece_by b after token rest false e h =
 pub piece_of : (b : ℕ) (after : List ℕ) (token : Token) (rest : List ℕ) → Some (token, rest) ≡ first_token b after → IsPiece b after token rest
 piece_of b after token rest h = piece_by b after token rest (b == 37) refl (sym h)
 
--- where nothing is read, no token is left
+-- if nothing is read, no token is left
 nothing_by : (place b : ℕ) (text after : List ℕ) (t : Bool) → (b == 37) ≡ t → text ≡ b ∷ after →
     (if t then token_after after else Some (Literal b, after)) ≡ None → (scan 0 place text).tokens ≡ []
 nothing_by place b text after true e begins h =
@@ -94,7 +94,7 @@ tokens-few zero place (b ∷ text) =
       | false ↦ omega (arith, tokens-few zero (suc place) text)
     ]
 
--- where no token is left, the text is at its end or at a `%` that begins no code
+-- if no token is left, the text is at its end or at a `%` that begins no code
 pub stop-at-end : (place : ℕ) (text : List ℕ) → true ≡ (length text == 0) → None ≡ (scan 0 place text).stop
 unfolding scan
 stop-at-end place [] h = refl

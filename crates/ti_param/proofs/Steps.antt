@@ -20,7 +20,7 @@ pub after_part-end : (level : ℕ) (to_else : Bool) (tokens : List Placed) → t
 unfolding after_part
 after_part-end level to_else tokens is = rw is refl
 
--- a token opens one conditional more at most
+-- a token opens at most one more conditional
 pub level_after-le : (level next : ℕ) (to_else : Bool) (token : Token) → level_after level to_else token ≡ Some next → next ≤ level + 1
 level_after-le level next to_else (Literal b) h = let e : level ≡ next = cc h in omega arith
 level_after-le level next to_else (Operation c) h = let e : level ≡ next = cc h in omega arith

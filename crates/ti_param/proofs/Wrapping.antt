@@ -47,7 +47,7 @@ pub not-zero : (n : ℤ) → (cast_unsigned w32 n ≡ 0 → ⊥) → (unsigned_a
 not-zero (pos n) h = grind (arith, nat_tests)
 not-zero (negsuc n) h = grind (arith, nat_tests)
 
--- and one that fits, whose bits are 0, is
+-- a number that fits and whose bits are 0 is 0
 pub is-zero : (n : ℤ) → FitsSigned w32 n → cast_unsigned w32 n ≡ 0 → (unsigned_abs n == 0) ≡ true
 is-zero (pos n) fits h = grind (arith, nat_tests)
 is-zero (negsuc n) fits h = let f = fits.sfits in absurd (omega arith)

@@ -1,5 +1,5 @@
--- The codes of a parameter string: the table under "Parameterized Strings" of terminfo(5), after the `%`. A text has
--- at most one of them at its front, and `IsCode` says which.
+-- The codes of a parameter string: the table under "Parameterized Strings" of terminfo(5), after
+-- the `%`. A text has at most one of them at its front, and `IsCode` says which.
 use Rattle.std.specs.Prelude.{◌≡◌, ℕ, ◌-◌, ◌<◌, ◌≤◌, Bool, true, false, ◌&&◌, ◌||◌, List, [], ◌∷◌, ◌++◌, length, map, pos, if◌then◌else◌, ◌==◌, nat_le, Option}
 use Rattle.std.specs.Prelude.{Some, None}
 use Rattle.ti_text.specs.Ascii.{byte_of}
@@ -41,7 +41,7 @@ operators =
     (ascii.ampersand, BitAnd) ∷ ((ascii.bar, BitOr) ∷ ((ascii.caret, BitXor) ∷ (
     (ascii.equals, Equal) ∷ ((ascii.greater_than, Greater) ∷ ((ascii.less_than, Less) ∷ ((byte_of "A", And) ∷ ((byte_of "O", Or) ∷ []))))))))))))
 
--- the codes of one byte: these and those of the operators
+-- the codes of one byte, those of the operators among them
 abbrev pub simple_tokens : List (ℕ × Token)
 simple_tokens =
     (ascii.percent, Operation Percent) ∷ ((byte_of "c", Operation Character) ∷ ((byte_of "l", Operation Length) ∷ (
@@ -68,7 +68,7 @@ abbrev pub conversions : List (ℕ × Conversion)
 conversions =
     (byte_of "d", Decimal) ∷ ((byte_of "o", Octal) ∷ ((byte_of "x", LowerHex) ∷ ((byte_of "X", UpperHex) ∷ ((byte_of "s", Text) ∷ []))))
 
--- the flags; `-` and `+` are such only after a `:`, since `%-` and `%+` are operators
+-- the flags; `-` and `+` are flags only after a `:`, since `%-` and `%+` are operators
 abbrev pub is_flag : Bool → ℕ → Bool
 is_flag signed x = (x == ascii.number_sign || x == ascii.space) || (signed && (x == ascii.minus || x == ascii.plus))
 

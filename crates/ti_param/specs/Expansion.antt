@@ -1,4 +1,5 @@
--- What an expansion gives, by the tree of its format and the tree's meaning: terminfo(5), "Parameterized Strings".
+-- What an expansion gives, by the tree of its format and the tree's meaning: terminfo(5),
+-- "Parameterized Strings".
 use Rattle.std.specs.Prelude.{◌≡◌, ℕ, List, ℤ, Ok, Err}
 use Rattle.ti_param.specs.Formats.{FormatTree, IsTree}
 use Rattle.ti_param.specs.Meaning.{FormatArgument, MachineState, start, meaning}

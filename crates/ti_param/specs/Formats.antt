@@ -1,6 +1,6 @@
 -- Formats, as terminfo(5) has them under "Parameterized Strings": bytes and codes, and conditionals
--- `%? test %t taken %e rest %;` of which at most 64 are open at once (the bound is this project's own). A format has a tree
--- or a place where it is stuck.
+-- `%? test %t taken %e rest %;`, of which at most 64 are open at once (own). A format has a tree or
+-- a place where it is stuck.
 use Rattle.std.specs.Prelude.{◌≡◌, ℕ, suc, ◌+◌, ◌<◌, false, ◌⊎◌, List, [], ◌∷◌, ◌++◌, length, ◌==◌}
 use Rattle.ti_param.specs.declared.codes.Code.{Code}
 use Rattle.ti_param.specs.declared.codes.Token.{Token}
@@ -15,7 +15,8 @@ use Rattle.ti_param.specs.Codes.{IsCode}
 abbrev pub placed_token : ℕ → Token → Placed
 placed_token place token = record { place = place; token = token }
 
--- the text, which begins at the place, is these tokens: a byte other than `%` stands for itself, a `%` begins a code
+-- the text, which begins at the place, is these tokens: a byte other than `%` is a token, and a `%`
+-- begins a code
 pub data IsCutIntoTokens : ℕ → List ℕ → List Placed → Type 0 where
   no_tokens : {place : ℕ} → IsCutIntoTokens place [] []
   then_byte : {place : ℕ} (b : ℕ) {text : List ℕ} {tokens : List Placed} → (b == ascii.percent) ≡ false →
@@ -29,8 +30,9 @@ pub data IsCutIntoTokens : ℕ → List ℕ → List Placed → Type 0 where
 abbrev pub most_open : ℕ
 most_open = 64
 
--- What a format is made of. A conditional with a `%t` is a choice in a group: its test, the part taken, and the rest that
--- is run where the test is 0, which is a choice again where it has a `%t` of its own.
+-- What a format is made of. A conditional with a `%t` is a choice in a group: its test, the part
+-- taken, and the rest that is run if the test is 0, which is a choice again if it has a `%t` of its
+-- own.
 pub data FormatTree : Type 0 where
   nothing : FormatTree
   byte : ℕ → FormatTree → FormatTree
@@ -44,7 +46,8 @@ pub data Closes : List Placed → List Placed → Type 0 where
   by_end : Closes [] []
 
 mutual
-  -- IsSequence depth tokens left t: the tokens begin with a sequence of bytes, codes and conditionals inside so many open ones
+  -- IsSequence depth tokens left t: the tokens begin with a sequence of bytes, codes and
+  -- conditionals, inside `depth` open ones
   pub data IsSequence : ℕ → List Placed → List Placed → FormatTree → Type 0 where
     no_piece : {depth : ℕ} {left : List Placed} → IsSequence depth left left nothing
     byte_piece : {depth : ℕ} (place b : ℕ) {tokens left : List Placed} {next : FormatTree} →
@@ -55,7 +58,7 @@ mutual
         IsConditional (suc depth) tokens inner conditional → Closes inner after → IsSequence depth after left next →
         IsSequence depth (placed_token place If ∷ tokens) left (group conditional next)
 
-  -- what stands in a conditional: S, or S `%t` S, or S `%t` S `%e` and again what stands in a conditional
+  -- what is in a conditional: S, or S `%t` S, or S `%t` S `%e` and again what is in a conditional
   pub data IsConditional : ℕ → List Placed → List Placed → FormatTree → Type 0 where
     test_alone : {depth : ℕ} {tokens left : List Placed} {test : FormatTree} → IsSequence depth tokens left test → IsConditional depth tokens left test
     test_then : {depth : ℕ} (place : ℕ) {tokens more left : List Placed} {test taken : FormatTree} →
@@ -79,8 +82,8 @@ pub record IsTree (format : List ℕ) (t : FormatTree) : Type 0 where
 abbrev pub BeginsFormat : List Placed → Type 0
 BeginsFormat tokens = (more : List Placed) × (t : FormatTree) × AreTokensOf (tokens ++ more) t
 
--- Own, since the manual says nothing of bad formats: the text before the place is whole tokens that begin some format, a `%`
--- stands there, and no code that may stand there begins there.
+-- Own, since the manual says nothing of bad formats: the text before the place is whole tokens that
+-- begin some format, a `%` is there, and no code that may come there begins there.
 pub record IsStuck (format : List ℕ) (place : ℕ) : Type 0 where
   pub before : List ℕ
   pub after : List ℕ

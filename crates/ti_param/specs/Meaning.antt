@@ -1,5 +1,6 @@
--- What a format does, as terminfo(5) has it under "Parameterized Strings": by recursion on its tree, over a state of
--- output, stack, parameters and variables. Numbers are signed, of 32 bits, and wrap.
+-- What a format does, as terminfo(5) has it under "Parameterized Strings": by recursion on its
+-- tree, over a state of output, stack, parameters and variables. Numbers are signed, of 32 bits,
+-- and wrap.
 use Rattle.std.specs.Prelude.{ℕ, Bool, true, false, ◌&&◌, ◌||◌, not, List, [], ◌∷◌, ◌++◌, length, replicate, slice_set, slice_index_or, if◌then◌else◌, ◌==◌}
 use Rattle.std.specs.Prelude.{nat_lt, bit_and, bit_or, bit_xor, ℤ, pos, ◌+ℤ◌, ◌-ℤ◌, ◌*ℤ◌, unsigned_abs, int_lt, Result, Ok, Err}
 use Rattle.std.specs.Ordering.{int_eq}
@@ -22,22 +23,22 @@ use Rattle.ti_text.specs.Ascii as ascii
 
 -- ---- values
 
--- a value, apart from where it lies in memory
+-- a value, wherever it is in memory
 pub data FormatArgument : Type 0 where
   number : ℤ → FormatArgument
   text : List ℕ → FormatArgument
 
--- a value that holds its text in memory, as plain data
+-- a value that holds its string in memory, as plain data
 abbrev pub argument_of : Value → FormatArgument
 argument_of (Number n) = number n
 argument_of (Text t) = text t.now
 
--- a text as a number is 0
+-- a string as a number is 0
 abbrev pub number_of : FormatArgument → ℤ
 number_of (number n) = n
 number_of (text t) = pos 0
 
--- a number as a text is empty
+-- a number as a string is empty
 abbrev pub text_of : FormatArgument → List ℕ
 text_of (number n) = []
 text_of (text t) = t
@@ -56,11 +57,11 @@ is_zero n = unsigned_abs n == 0
 abbrev pub truth : Bool → ℤ
 truth b = if b then pos 1 else pos 0
 
--- an operation on the numbers' 32 bits
+-- an operation on the 32 bits of each number
 abbrev pub on_bits : (ℕ → ℕ → ℕ) → ℤ → ℤ → ℤ
 on_bits f x y = cast_signed w32 (f (cast_unsigned w32 x) (cast_unsigned w32 y))
 
--- x op y; a quotient is cut towards 0, a remainder has the sign of x, and both are 0 where y is
+-- x op y; a quotient is cut towards 0, a remainder has the sign of x, and both are 0 if y is 0
 abbrev pub operation : Operator → ℤ → ℤ → ℤ
 operation Add x y = in_32_bits (x +ℤ y)
 operation Subtract x y = in_32_bits (x -ℤ y)
@@ -76,7 +77,7 @@ operation Less x y = truth (int_lt x y)
 operation And x y = truth (not (is_zero x) && not (is_zero y))
 operation Or x y = truth (not (is_zero x) || not (is_zero y))
 
--- each of the 32 bits is the other one
+-- each of the 32 bits is inverted
 abbrev pub complement : ℤ → ℤ
 complement n = pos 0 -ℤ n -ℤ pos 1
 
@@ -89,13 +90,13 @@ low_byte n = let b = unsigned_abs (int_rem_euclid n (pos 256)) in if b == ascii.
 -- what the codes work on: output, stack, parameters, dynamic and static variables
 pub record MachineState : Type 0 where
   pub output : List ℕ
-  -- the top first
+  -- The stack has its top first.
   pub stack : List FormatArgument
   pub parameters : List FormatArgument
   pub dynamics : List ℤ
   pub statics : List ℤ
 
--- variables that nothing was stored in: each is 0
+-- variables in which nothing was stored: each is 0
 abbrev pub no_variables : List ℤ
 no_variables = replicate letter_count (pos 0)
 
@@ -116,7 +117,7 @@ and_then (Err place) f = Err place
 abbrev pub with_output : List ℕ → MachineState → MachineState
 with_output bytes s = record s { output = s.output ++ bytes }
 
--- the top of the stack, the number 0 where it is empty
+-- the top of the stack, the number 0 if it is empty
 abbrev pub top : MachineState → FormatArgument
 top s = slice_index_or s.stack 0 (number (pos 0))
 
@@ -124,7 +125,7 @@ top s = slice_index_or s.stack 0 (number (pos 0))
 abbrev pub top_number : MachineState → ℤ
 top_number s = number_of (top s)
 
--- a stack without its top, empty where it was empty
+-- a stack without its top, empty if it was empty
 abbrev pub tail_of : List FormatArgument → List FormatArgument
 tail_of [] = []
 tail_of (x ∷ xs) = xs
@@ -137,11 +138,11 @@ without_top s = record s { stack = tail_of s.stack }
 abbrev pub with_top : FormatArgument → MachineState → MachineState
 with_top x s = record s { stack = x ∷ s.stack }
 
--- how many values the stack holds (own)
+-- how many values the stack can hold (own)
 abbrev pub stack_size : ℕ
 stack_size = 20
 
--- the state with a value put on the stack, unless that is full
+-- the state with a value put on the stack, unless the stack is full
 abbrev pub push_outcome : ℕ → FormatArgument → MachineState → MachineOutcome
 push_outcome place x s = if nat_lt (length s.stack) stack_size then Ok (with_top x s) else Err place
 
@@ -155,7 +156,7 @@ abbrev pub with_variable : Variable → ℤ → MachineState → MachineState
 with_variable (Dynamic i) n s = record s { dynamics = slice_set s.dynamics i n }
 with_variable (Static i) n s = record s { statics = slice_set s.statics i n }
 
--- one more, where it is a number
+-- the value plus 1, if it is a number
 abbrev pub plus_one : FormatArgument → FormatArgument
 plus_one (number n) = number (in_32_bits (n +ℤ pos 1))
 plus_one (text t) = text t
@@ -192,7 +193,7 @@ code_outcome place Not s = push_outcome place (number (truth (is_zero (top_numbe
 code_outcome place Complement s = push_outcome place (number (complement (top_number s))) (without_top s)
 code_outcome place Increment s = Ok (with_increment s)
 
--- what a tree does: `%t` pops, and a number other than 0 takes the part after it
+-- what a tree does: `%t` pops a number, and if it is not 0 the part after `%t` is run
 unfoldable pub meaning : FormatTree → MachineState → MachineOutcome
 meaning nothing s = Ok s
 meaning (byte b next) s = meaning next (with_output (b ∷ []) s)

@@ -1,4 +1,4 @@
-//! Whether a token may stand where it does: conditionals in order, and not too many open at once.
+//! Whether a token may come where it is: conditionals in order, and not too many open at once.
 ghost use Rattle.std.specs.Prelude.{◌≡◌, ℕ, ◌≤◌, List, MatchBool, reverse};
 ghost use Rattle.arrayvec.specs.ArrayVec.{array_vec_len};
 ghost use Rattle.ti_param.specs.Formats.{HasOneTree, most_open};
@@ -20,7 +20,8 @@ pub(crate) enum Phase {
     Taken,
 }
 
-/// Whether the token may stand in the open conditionals, which are then those after it, else as they were.
+/// Whether the token may come in the open conditionals. If so, these are then those after it, else
+/// as they were.
 #[inline(always)]
 pub(crate) fn advance(phases: &mut ArrayVec<Phase, MOST>, token: &Token) -> bool
     requires { array_vec_len phases.old ≤ most_open }

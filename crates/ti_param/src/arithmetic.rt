@@ -4,7 +4,7 @@ ghost use Rattle.ti_param.specs.Meaning.{operation, complement, low_byte, truth,
 
 use crate::codes::Operator;
 
-/// `x` and `y` under an operator. What is divided by 0 gives 0.
+/// `x` and `y` under an operator. A division by 0 gives 0.
 pub(crate) fn operate(operator: Operator, x: i32, y: i32) -> i32
     ensures { result ≡ operation operator x y }
 {
@@ -25,14 +25,14 @@ pub(crate) fn operate(operator: Operator, x: i32, y: i32) -> i32
     }
 }
 
-/// The quotient, cut towards 0; 0 where `y` is 0.
+// The quotient, cut towards 0; 0 if `y` is 0.
 fn divide(x: i32, y: i32) -> i32
     ensures { result ≡ operation Operator.Divide x y }
 {
     if y == 0 { 0 } else { x.wrapping_div(y) }
 }
 
-/// The remainder, with the sign of `x`; 0 where `y` is 0.
+// The remainder, with the sign of `x`; 0 if `y` is 0.
 fn remainder(x: i32, y: i32) -> i32
     ensures { result ≡ operation Operator.Remainder x y }
 {

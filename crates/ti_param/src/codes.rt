@@ -26,7 +26,7 @@ impl Model for Letter {
     ghost inverse = { λ index. record { index = index } };
 }
 
-/// Which of the nine parameters, from 0.
+/// Which of the nine parameters, counted from 0.
 #[derive(Clone, Copy)]
 pub(crate) struct Ordinal {
     index: u8,
@@ -50,7 +50,7 @@ impl Model for Ordinal {
 pub(crate) enum Variable {
     /// `a` to `z`: 0 at the start of each expansion.
     Dynamic(Letter),
-    /// `A` to `Z`: kept from one expansion to the next.
+    /// `A` to `Z`: remains from one expansion to the next.
     Static(Letter),
 }
 
@@ -72,7 +72,7 @@ pub(crate) enum Operator {
     Or,
 }
 
-/// A code that stands by itself.
+/// A code by itself.
 #[derive(Clone, Copy)]
 pub(crate) enum Code {
     /// `%%` writes a `%`.
@@ -89,9 +89,9 @@ pub(crate) enum Code {
     Fetch(Variable),
     /// `%'c'` and `%{n}` push a number.
     Constant(i32),
-    /// `%l` replaces a text by its length.
+    /// `%l` replaces a string by its length.
     Length,
-    /// `%+`, `%=`, `%A` and their like.
+    /// `%+`, `%=`, `%A` and the like.
     Binary(Operator),
     /// `%!`: 1 for 0, 0 for any other number.
     Not,
@@ -104,9 +104,9 @@ pub(crate) enum Code {
 /// A piece of a format.
 #[derive(Clone, Copy)]
 pub(crate) enum Token {
-    /// A byte that stands for itself.
+    /// A byte that is written as it is.
     Literal(u8),
-    /// A code that stands by itself.
+    /// A code by itself.
     Operation(Code),
     /// `%?`
     If,
@@ -119,7 +119,7 @@ pub(crate) enum Token {
 }
 
 impl Letter {
-    /// The place in the alphabet.
+    /// The place in the alphabet, counted from 0.
     pub(crate) fn index(self) -> usize
         ensures value { result ≡ self }
         ensures bound { result < letter_count }
@@ -129,7 +129,7 @@ impl Letter {
 }
 
 impl Ordinal {
-    /// The parameter's place.
+    /// The parameter's place, counted from 0.
     pub(crate) fn index(self) -> usize
         ensures value { result ≡ self }
         ensures bound { result < parameters_max }

@@ -1,9 +1,10 @@
-//! Reading the decimal digits of a format.
+//! Reads the decimal digits of a format.
 ghost use Rattle.std.specs.Prelude.{◌≡◌, ◌-◌, ◌^◌, min};
 ghost use Rattle.ti_param.specs.Codes.{span};
 ghost use Rattle.ti_text.specs.Digits.{is_decimal_digit, decimal_value};
 
-/// The number that the digits at the front spell, 0 where there are none; `u32::MAX` stands for any greater one.
+/// The number that the digits at the front spell, 0 if there are none; `u32::MAX` for any greater
+/// one.
 #[inline(always)]
 pub(crate) fn number(text: &[u8]) -> (u32, &[u8])
     ensures value { result.0 ≡ min (decimal_value (span is_decimal_digit text.now).0) (2 ^ 32 - 1) }

@@ -1,4 +1,4 @@
-//! Reading a printf form of a format: flags, width, precision and conversion.
+//! Reads a printf form of a format: flags, width, precision and conversion.
 ghost use Rattle.std.specs.Prelude.{◌≡◌, if◌then◌else◌};
 ghost use Rattle.ti_param.specs.Codes.{with_flag, span, row_for, conversions, begins_zero, is_flag};
 ghost use Rattle.ti_param.specs.inside.Codes.{directive_after, precision_after, flags_after, flags_of};
@@ -33,7 +33,7 @@ pub(crate) fn directive(text: &[u8]) -> Option<(Directive, &[u8])>
     Some((form, rest))
 }
 
-/// Whether a width begins with a 0.
+// Whether a width begins with a 0.
 #[inline(always)]
 fn begins_with_zero(text: &[u8]) -> bool
     ensures { result ≡ begins_zero (span is_decimal_digit text.now).0 }
@@ -44,10 +44,11 @@ fn begins_with_zero(text: &[u8]) -> bool
     }
 }
 
-/// The greatest width and precision.
+// The greatest width and precision.
 const MOST: u32 = 999;
 
-/// The flags of a printf form; `-` and `+` are flags only after a `:`, since they are operators too.
+// The flags of a printf form; `-` and `+` are flags only after a `:`, since they are operators
+// too.
 #[inline(always)]
 #[tactic(auto, unfolding(crate::specs::inside::Codes::flags_after))]
 fn flags(text: &[u8]) -> (Flags, &[u8])
@@ -59,7 +60,7 @@ fn flags(text: &[u8]) -> (Flags, &[u8])
     }
 }
 
-/// The flags at the front, with `-` and `+` among them where `signed` is set.
+// The flags at the front, with `-` and `+` among them if `signed` is set.
 #[inline(always)]
 fn flags_at(text: &[u8], signed: bool) -> (Flags, &[u8])
     ensures { (result.0, result.1.now) ≡ flags_of (span (is_flag signed) text.now) }
@@ -76,7 +77,7 @@ fn flags_at(text: &[u8], signed: bool) -> (Flags, &[u8])
     (flags, rest)
 }
 
-/// The flags with that of a byte, which is one.
+// The flags with that of a byte, which is one.
 #[inline(always)]
 fn flag(flags: Flags, byte: u8, signed: bool) -> Option<Flags>
     ensures { result ≡ (if is_flag signed byte then Some (with_flag flags byte) else None) }
@@ -102,7 +103,7 @@ fn flag(flags: Flags, byte: u8, signed: bool) -> Option<Flags>
     }
 }
 
-/// The precision of a printf form, where it has one; `.` without digits is 0.
+// The precision of a printf form, if it has one; `.` without digits is 0.
 #[inline(always)]
 #[tactic(auto, unfolding(crate::specs::inside::Codes::precision_after))]
 fn precision(text: &[u8]) -> Option<(Option<u16>, &[u8])>
@@ -120,7 +121,7 @@ fn precision(text: &[u8]) -> Option<(Option<u16>, &[u8])>
     }
 }
 
-/// What a printf form's last letter asks for.
+// What a printf form's last letter asks for.
 #[inline(always)]
 fn conversion(letter: u8) -> Option<Conversion>
     ensures { result ≡ row_for letter conversions }

@@ -5,10 +5,10 @@ use thiserror::Error;
 /// Why `expand` gives no bytes. A place is the index of a `%` in the format.
 #[derive(Clone, Copy, Debug, PartialEq, Eq, Error)]
 pub enum ParamError {
-    /// The first `%` that begins no code which may stand there.
+    /// The first `%` that begins no code which may come there.
     #[error("no code may stand at byte {0} of the format")]
     BadFormat(usize),
-    /// The code that pushed a value where 20 were on the stack.
+    /// The code that pushed a value when 20 were on the stack.
     #[error("the stack is full at byte {0} of the format")]
     StackFull(usize),
     /// Memory ran out.

@@ -16,17 +16,20 @@ use ti_text::limits::PARAMETERS_MAX;
 
 /// The bytes of a format for its parameters: what the format's tree means.
 ///
-/// The codes and the conditional `%?` test `%t` part taken `%e` rest `%;` are those of terminfo(5), "Parameterized
-/// Strings"; `IsTree` of `specs/Formats.antt` is their grammar, `meaning` of `specs/Meaning.antt` what they do. A
-/// parameter that is not given is the number 0. At most 20 values are on the stack and 64 conditionals open at once.
+/// The codes and the conditional `%?` test `%t` part taken `%e` rest `%;` are those of terminfo(5),
+/// "Parameterized Strings". `IsTree` of `specs/Formats.antt` is their grammar, and `meaning` of
+/// `specs/Meaning.antt` what they do. A parameter that is not given is the number 0. At most 20
+/// values are on the stack and 64 conditionals open at once.
 ///
-/// The static variables are left as the format sets them, and after an error as they were. The work is in proportion to
-/// the format, the parameters and the bytes, and only the bytes take memory.
+/// The static variables are left as the format sets them; after an error they are as they were. The
+/// work is in proportion to the format, the parameters and the bytes, and only the bytes take
+/// memory.
 ///
 /// # Errors
 ///
-/// The first of these: `BadFormat` where a `%` begins no code that may stand there, in parts that are run or not;
-/// `StackFull` where a code pushes on 20 values; `Memory` where room for the bytes was refused.
+/// The first of these: `BadFormat` if a `%` begins no code that may come there, in parts that are
+/// run or not; `StackFull` if a code pushes when 20 values are on the stack; `Memory` if room for
+/// the bytes was refused.
 pub fn expand(
     alloc: Global,
     format: &[u8],
@@ -49,10 +52,10 @@ pub fn expand(
     Ok(machine.finish(statics))
 }
 
-/// The most bytes for which room is made at once at the start: most strings of an entry give fewer.
+// The most bytes for which room is made at once at the start: most strings of an entry give fewer.
 const FIRST_ROOM: usize = 64;
 
-/// Runs the tokens that are left, once it has made room for so many bytes.
+// Runs the tokens that are left, after it made room for the given number of bytes.
 #[inline(always)]
 fn run(lexer: &mut Lexer<'_>, machine: &mut Machine<'_>, room: usize) -> Result<(), ParamError>
     requires { length (left_of lexer.old).tokens < 2 ^ 64 }
@@ -77,8 +80,9 @@ fn run(lexer: &mut Lexer<'_>, machine: &mut Machine<'_>, room: usize) -> Result<
     Ok(())
 }
 
-/// Skips the part of a conditional that is not taken, by a count of the conditionals in it: to after the `%;` that ends
-/// it, or where `to_else` is set to after its `%e`, whichever comes first, or to the end of the tokens.
+// Skips the part of a conditional that is not taken, by a count of the conditionals in it: to
+// after the `%;` that ends it, or to after its `%e` if `to_else` is set and that comes first, or
+// to the end of the tokens.
 #[inline(always)]
 fn skip(lexer: &mut Lexer<'_>, to_else: bool)
     requires { length (left_of lexer.old).tokens < 2 ^ 64 }
@@ -95,7 +99,8 @@ fn skip(lexer: &mut Lexer<'_>, to_else: bool)
     }
 }
 
-/// How many conditionals are open in the skipped part after one more token; None where the token ends the part.
+// How many conditionals are open in the skipped part after one more token; `None` if the token
+// ends the part.
 #[inline(always)]
 fn level_after(level: usize, to_else: bool, token: Token) -> Option<usize>
     requires { level + 1 < 2 ^ 64 }

@@ -1,4 +1,4 @@
-//! A format as its tokens, as far as they may stand where they do.
+//! A format as its tokens, up to the first that may not come where it is.
 ghost use Rattle.std.specs.Prelude.{◌≡◌, ◌^◌, ◌<◌, [], ◌∷◌, Some, MatchOption, IfNone, length};
 ghost use Rattle.ti_param.specs.inside.Formats.{accepted_of, front_of, left_of, scan_of};
 
@@ -15,13 +15,14 @@ pub(crate) struct Placed {
     pub(crate) token: Token,
 }
 
-/// The tokens of a format that are left, up to the first `%` that begins no code which may stand there.
+/// The tokens of a format that are left, up to the first `%` that begins no code which may come
+/// there.
 #[derive(Drop)]
 pub(crate) struct Lexer<'a> {
-    /// The length of the whole format.
+    // The length of the whole format.
     total: usize,
     rest: &'a [u8],
-    /// The open conditionals, the innermost last.
+    // The open conditionals, the innermost last.
     phases: ArrayVec<Phase, MOST>,
 }
 
@@ -55,7 +56,8 @@ impl<'a> Lexer<'a> {
         }
     }
 
-    /// Takes the next token; None at the end, and at a `%` that begins no code which may stand there.
+    /// Takes the next token; `None` at the end, and at a `%` that begins no code which may come
+    /// there.
     #[inline(always)]
     pub(crate) fn next_token(&mut self) -> Option<Placed>
         ensures token { MatchOption result ((left_of self.old).tokens ≡ [])
@@ -80,7 +82,7 @@ impl<'a> Lexer<'a> {
         }
     }
 
-    /// Takes the token that stands at the front, before this rest; None where it may not stand there.
+    // Takes the token at the front, before this rest; `None` if it may not come there.
     #[inline(always)]
     fn take(&mut self, token: Token, rest: &'a [u8]) -> Option<Placed>
         requires { front_of self.old.text ≡ Some (token, rest.now) }
@@ -105,7 +107,8 @@ impl<'a> Lexer<'a> {
         self.stop()
     }
 
-    /// Where no token is left, the place of the `%` that begins no code which may stand there, or None at the format's end.
+    // If no token is left, the place of the `%` that begins no code which may come there, or
+    // `None` at the format's end.
     fn stop(&self) -> Option<usize>
         requires { (left_of self.now).tokens ≡ [] }
         ensures { result ≡ (left_of self.now).stop }

@@ -1,17 +1,20 @@
 //! Parameter strings and padding of a terminal's capabilities, as terminfo(5) has them under
 //! "Parameterized Strings" and "Delays and Padding".
 //!
-//! - `values`: what is handed to a parameter string, and the static variables; `specs/Limits.antt` says how many.
-//! - `expansion`: the bytes that a parameter string sends to the terminal; `errors`: why there are none.
-//! - `codes`: the codes of a format; `reader`, `directives` and `decimals`: reading one; `lexer`: a format as its tokens, as far
-//!   as they may stand where they do.
-//! - `acceptor`: whether a token may stand in the conditionals that are open.
+//! - `values`: what is given to a parameter string, and the static variables; `specs/Limits.antt`
+//!   says how many.
+//! - `expansion`: the bytes that a parameter string sends to the terminal; `errors`: why there are
+//!   none.
+//! - `codes`: the codes of a format; `reader`, `directives` and `decimals`: they read one; `lexer`:
+//!   a format as its tokens, up to the first that may not come where it is.
+//! - `acceptor`: whether a token may come in the conditionals that are open.
 //! - `machine`, `arithmetic`: the stack, the variables, and what each code does to them.
 //!
-//! The crate `ti_printing` below it has what a printf form prints, and padding, whose call is public here too.
+//! The crate `ti_printing` has what a printf form prints, and padding. Its call for padding is
+//! public here too.
 //!
-//! A format is a tree: `specs/Formats.antt` has the grammar, `specs/Codes.antt` the table of codes and
-//! `specs/Meaning.antt` what a tree does. `one_code` and `one_reading` are laws of these.
+//! A format is a tree: `specs/Formats.antt` has the grammar, `specs/Codes.antt` the table of codes
+//! and `specs/Meaning.antt` what a tree does. `one_code` and `one_reading` are laws of these.
 #![tactic(auto)]
 
 mod acceptor;

@@ -1,4 +1,4 @@
-//! The machine that runs a format: its stack, its parameters and variables, and what each code does to them.
+//! The machine that runs a format: its stack, parameters and variables, and what each code does.
 ghost use Rattle.std.specs.Prelude.{◌≡◌, ◌∷◌, [], map};
 ghost use Rattle.ti_param.specs.Meaning.{MachineState, argument_of, start, with_print, with_output, push_outcome, without_top, top, top_number, with_variable, code_outcome, variable_value, with_increment};
 ghost use Rattle.ti_param.specs.inside.Expansion.{HasOutcome};
@@ -13,7 +13,7 @@ use std::marker::Model;
 use ti_printing::printf::{self, Directive};
 use ti_text::limits::PARAMETERS_MAX;
 
-/// How many values the stack holds.
+// How many values the stack holds.
 const DEPTH: usize = 20;
 
 /// The state of an expansion.
@@ -68,7 +68,7 @@ impl<'a> Machine<'a> {
         self.output
     }
 
-    /// Makes room for so many bytes more.
+    /// Makes room for the given number of bytes more.
     pub(crate) fn make_room(&mut self, count: usize) -> Result<(), ParamError>
         ensures { HasOutcome result self.new (Ok self.old) }
     {
@@ -84,7 +84,7 @@ impl<'a> Machine<'a> {
         Ok(())
     }
 
-    /// Takes the number at the top of the stack; a text is 0, and so is nothing.
+    /// Takes the number at the top of the stack. A string is 0, and so is an empty stack.
     pub(crate) fn pop_number(&mut self) -> i32
         ensures value { result ≡ top_number self.old }
         ensures rest { self.new ≡ without_top self.old }
@@ -92,7 +92,7 @@ impl<'a> Machine<'a> {
         self.pop().number()
     }
 
-    /// Takes the value at the top of the stack, the number 0 where there is none.
+    // Takes the value at the top of the stack, the number 0 if there is none.
     fn pop(&mut self) -> Value<'a>
         ensures value { argument_of result ≡ top self.old }
         ensures rest { self.new ≡ without_top self.old }
@@ -100,7 +100,7 @@ impl<'a> Machine<'a> {
         self.stack.pop().unwrap_or(Value::Number(0))
     }
 
-    /// Pushes a value for the code at the place.
+    // Pushes a value for the code at the place.
     fn push(&mut self, place: usize, value: Value<'a>) -> Result<(), ParamError>
         ensures { HasOutcome result self.new (push_outcome place (argument_of value.entry) self.old) }
     {
@@ -109,7 +109,7 @@ impl<'a> Machine<'a> {
             .map_err(|_| ParamError::StackFull(place))
     }
 
-    /// Sets a variable.
+    // Sets a variable.
     fn store(&mut self, variable: Variable, number: i32)
         ensures { self.new ≡ with_variable variable number self.old }
     {
@@ -119,7 +119,7 @@ impl<'a> Machine<'a> {
         }
     }
 
-    /// The value of a variable.
+    // The value of a variable.
     fn fetch(&self, variable: Variable) -> i32
         ensures { result ≡ variable_value variable self.now }
     {
@@ -129,7 +129,7 @@ impl<'a> Machine<'a> {
         }
     }
 
-    /// Adds one to the first two parameters where they are numbers.
+    // Adds one to the first two parameters if they are numbers.
     fn increment(&mut self)
         ensures { self.new ≡ with_increment self.old }
     {
@@ -137,7 +137,7 @@ impl<'a> Machine<'a> {
         self.parameters[1] = self.parameters[1].increment();
     }
 
-    /// Prints a value.
+    // Prints a value.
     fn print(&mut self, form: Directive) -> Result<(), ParamError>
         ensures { HasOutcome result self.new (Ok (with_print form self.old)) }
     {

@@ -1,4 +1,4 @@
-//! Reading one code of a format.
+//! Reads one code of a format.
 //!
 //! Each reader takes the text at which it begins, and gives what it read and the text after it.
 ghost use Rattle.std.specs.Prelude.{◌≡◌, Some, None};
@@ -13,7 +13,7 @@ use crate::directives::directive;
 use ti_printing::printf::{Conversion, Directive, Flags};
 use ti_text::limits::NUMBER_MAX;
 
-/// The code that stands by itself at the front of the text after a `%`.
+/// The code by itself at the front of the text after a `%`.
 #[tactic(auto, unfolding(crate::specs::inside::Codes::token_after, crate::specs::inside::Codes::letter_after))]
 #[inline(always)]
 pub(crate) fn read_code(text: &[u8]) -> Option<(Code, &[u8])>
@@ -58,7 +58,7 @@ pub(crate) fn read_code(text: &[u8]) -> Option<(Code, &[u8])>
     }
 }
 
-/// A printf form of a conversion alone.
+// A printf form of a conversion alone.
 #[inline(always)]
 fn plain_form(conversion: Conversion) -> Code
     ensures { result ≡ Print (plain_form conversion) }
@@ -71,7 +71,7 @@ fn plain_form(conversion: Conversion) -> Code
     })
 }
 
-/// `%p1` to `%p9`, after the `p`.
+// `%p1` to `%p9`, after the `p`.
 #[inline(always)]
 #[tactic(auto, unfolding(crate::specs::inside::Codes::parameter_after))]
 fn parameter(text: &[u8]) -> Option<(Code, &[u8])>
@@ -82,7 +82,7 @@ fn parameter(text: &[u8]) -> Option<(Code, &[u8])>
     Some((Code::Parameter(ordinal), rest))
 }
 
-/// `%P` and a letter, after the `P`.
+// `%P` and a letter, after the `P`.
 #[inline(always)]
 #[tactic(auto, unfolding(crate::specs::inside::Codes::store_after))]
 fn store(text: &[u8]) -> Option<(Code, &[u8])>
@@ -93,7 +93,7 @@ fn store(text: &[u8]) -> Option<(Code, &[u8])>
     Some((Code::Store(variable), rest))
 }
 
-/// `%g` and a letter, after the `g`.
+// `%g` and a letter, after the `g`.
 #[inline(always)]
 #[tactic(auto, unfolding(crate::specs::inside::Codes::fetch_after))]
 fn fetch(text: &[u8]) -> Option<(Code, &[u8])>
@@ -104,7 +104,7 @@ fn fetch(text: &[u8]) -> Option<(Code, &[u8])>
     Some((Code::Fetch(variable), rest))
 }
 
-/// `%'c'`, after the first quote: the value of the byte, whatever it is.
+// `%'c'`, after the first quote: the value of the byte, whatever it is.
 #[inline(always)]
 #[tactic(auto, unfolding(crate::specs::inside::Codes::byte_after))]
 fn byte(text: &[u8]) -> Option<(Code, &[u8])>
@@ -118,7 +118,7 @@ fn byte(text: &[u8]) -> Option<(Code, &[u8])>
     Some((Code::Constant(i32::from(byte)), rest))
 }
 
-/// `%{n}`, after the brace: one or more digits, at most `LARGEST`.
+// `%{n}`, after the brace: one or more digits, at most `LARGEST`.
 #[inline(always)]
 #[tactic(auto, unfolding(crate::specs::inside::Codes::number_after))]
 fn number_constant(text: &[u8]) -> Option<(Code, &[u8])>
@@ -132,7 +132,7 @@ fn number_constant(text: &[u8]) -> Option<(Code, &[u8])>
     Some((Code::Constant(value as i32), rest))
 }
 
-/// The largest number that a `%{n}` may push.
+// The largest number that a `%{n}` may push.
 const LARGEST: u32 = NUMBER_MAX;
 
 /// The law of codes: no code's text begins another's, so a text has at most one code at its front.

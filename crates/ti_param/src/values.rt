@@ -1,4 +1,4 @@
-//! What is handed to a parameter string, and the variables that outlive it.
+//! What is given to a parameter string, and the variables that outlive it.
 ghost use Rattle.std.specs.Prelude.{◌≡◌};
 ghost use Rattle.ti_param.specs.Meaning.{no_variables};
 
@@ -12,7 +12,7 @@ pub const LETTERS: usize = 26;
 pub enum Value<'a> {
     /// A number; arithmetic on numbers wraps.
     Number(i32),
-    /// A text; as a number it is 0.
+    /// A string; as a number it is 0.
     Text(&'a [u8]),
 }
 
@@ -22,7 +22,7 @@ impl Default for Value<'_> {
 
     ghost is_default = { λ value. value ≡ Number (pos 0) };
 
-    /// The number 0, which stands for a value that is not there.
+    /// The number 0, the value of a parameter that is not given.
     fn default() -> Self {
         Value::Number(0)
     }
@@ -32,7 +32,7 @@ impl<'a> Value<'a> {
     ghost use Rattle.std.specs.Prelude.{◌≡◌};
     ghost use Rattle.ti_param.specs.Meaning.{argument_of, number_of, text_of, plus_one};
 
-    /// As a number: a text is 0.
+    /// As a number: a string is 0.
     pub(crate) fn number(self) -> i32
         ensures { result ≡ number_of (argument_of self.entry) }
     {
@@ -42,7 +42,7 @@ impl<'a> Value<'a> {
         }
     }
 
-    /// As a text: a number is empty.
+    /// As a string: a number is empty.
     pub(crate) fn text(self) -> &'a [u8]
         ensures { result.now ≡ text_of (argument_of self.entry) }
     {
@@ -52,7 +52,7 @@ impl<'a> Value<'a> {
         }
     }
 
-    /// One more, where it is a number.
+    /// The value plus 1, if it is a number.
     pub(crate) fn increment(self) -> Self
         ensures { argument_of result ≡ plus_one (argument_of self.entry) }
     {
@@ -63,7 +63,7 @@ impl<'a> Value<'a> {
     }
 }
 
-/// The 26 static variables `A` to `Z`: each expansion finds them as the last one left them.
+/// The 26 static variables `A` to `Z`. Each expansion finds them as the last one left them.
 #[derive(Clone, Copy, Debug, PartialEq, Eq)]
 pub struct Statics {
     pub(crate) values: [i32; LETTERS],
@@ -80,7 +80,7 @@ impl Model for Statics {
 }
 
 impl Statics {
-    /// All of them 0.
+    /// All 26 are 0.
     pub fn new() -> Self
         ensures { result ≡ no_variables }
     {

@@ -4,7 +4,7 @@ use Rattle.std.proofs.lemmas.List.{length-map}
 use Rattle.std.proofs.lemmas.Option.{same_Some, slice_get_within}
 use Rattle.ti_meaning.specs.Usable.{IsUsable}
 use Rattle.ti_components.specs.Graph.{IsGraph}
-use Rattle.ti_index.specs.Labels.{AreDistinct}
+use Rattle.ti_text.specs.Lists.{AreDistinct}
 use Rattle.ti_slots.specs.declared.slots.Slots.{Slots}
 use Rattle.ti_slots.specs.Slots.{blocks_of, reading_at, StandsAt, IsIndexed}
 use Rattle.ti_dependents.specs.declared.dependents.Dependents.{Dependents}
@@ -15,14 +15,14 @@ use Rattle.ti_plan.specs.inside.Settling.{AreFoundIn, IsPlanOf}
 use Rattle.ti_plan.proofs.Places.{block_of, block_at}
 use Rattle.ti_plan.proofs.MadePlans.{contains_at, at_contains}
 
-module _ (slots : Slots) (d : Dependents) (all : AreAllIds slots d.ids.items d.places.items) where
+module _ (slots : Slots) (d : Dependents) (all : AreAllIds slots d.ids.items d.positions.items) where
   -- each position of the list is that of its node
-  placed : (at : ℕ) → at < length slots.order.listed → slice_get d.places.items at ≡ Some at
+  placed : (at : ℕ) → at < length slots.order.listed → slice_get d.positions.items at ≡ Some at
   placed at l = all.placed at (let n = ap length all.listed in omega arith)
 
-  own_place : (node at : ℕ) → slice_get d.places.items node ≡ Some at → (node ≡ at) × (at < length slots.order.listed)
+  own_place : (node at : ℕ) → slice_get d.positions.items node ≡ Some at → (node ≡ at) × (at < length slots.order.listed)
   own_place node at e =
-      let within : node < length slots.order.listed = (let l = slice_get_within d.places.items node at e in let n = ap length all.listed in let m = all.as_many in omega arith) in
+      let within : node < length slots.order.listed = (let l = slice_get_within d.positions.items node at e in let n = ap length all.listed in let m = all.as_many in omega arith) in
       let same : node ≡ at = same_Some node at (sym (placed node within) ∙ e) in
       (same, omega arith)
 
@@ -44,7 +44,7 @@ module _ (slots : Slots) (d : Dependents) (all : AreAllIds slots d.ids.items d.p
     closed = λ i at user e u. (user, placed user (let l = slice_get_within (blocks_of slots) user u.0 u.1 in let n = length-map slots.order.listed (reading_at slots.slots.items) in omega arith));
     graph = graph;
     whole = whole;
-    others = λ at id s absent. absurd (absent (at_contains d.places.items at at (placed at (stands_within at id s))));
+    others = λ at id s absent. absurd (absent (at_contains d.positions.items at at (placed at (stands_within at id s))));
   }
 
   pub all_planned : (plan : Plan) → AreDistinct slots.order.listed → IsPlanOf slots d plan → IsPlanOfAll slots plan
@@ -53,11 +53,11 @@ module _ (slots : Slots) (d : Dependents) (all : AreAllIds slots d.ids.items d.p
     as_many = p.as_many ∙ ap (λ ids. length ids.items) (sym p.ids);
     settled = λ i at id one e f s.
         (let same : i ≡ at = distinct i at id (listed_at i id (ap (λ ids. slice_get ids.items i) (sym p.ids) ∙ e)) s in
-        p.settled i at (block_of slots id) one f (ap (slice_get d.places.items) same ∙ placed at (stands_within at id s)) (block_at slots at id s));
+        p.settled i at (block_of slots id) one f (ap (slice_get d.positions.items) same ∙ placed at (stands_within at id s)) (block_at slots at id s));
     rising = p.rising;
     rebuilt = λ at. (
-      λ c. (let w = contains_at d.places.items at ((p.members at).0 c) in (own_place w.0 at w.1).1),
-      λ l. (p.members at).1 (at_contains d.places.items at at (placed at l)),
+      λ c. (let w = contains_at d.positions.items at ((p.members at).0 c) in (own_place w.0 at w.1).1),
+      λ l. (p.members at).1 (at_contains d.positions.items at at (placed at l)),
     );
     steps = p.steps;
   }

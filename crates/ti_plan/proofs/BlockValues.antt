@@ -37,7 +37,7 @@ added_use blocks name used old new u added = record {
   adds = λ c valid. rw (← u.2.2 c valid) (added c valid);
 }
 
--- a table that says the same
+-- a table with equal contents
 pub same_table : (blocks : List Reading) (block : Reading) (f g : Contents) → ((c : Capability) → IsCapability c → g c ≡ f c) → IsTableOf blocks block f → IsTableOf blocks block g
 same_table blocks block f g same t = record { depth = t.depth; mentions = t.mentions; expands = t.expands; is_table = λ c valid. same c valid ∙ t.is_table c valid }
 

@@ -3,15 +3,13 @@ use Rattle.std.proofs.Common.{◌≡◌, ℕ, suc, ◌+◌, ◌<◌, List, [], �
 use Rattle.std.proofs.lemmas.List.{length-map, map-append, take_more}
 use Rattle.std.proofs.lemmas.Option.{slice_get_read}
 use Rattle.std.proofs.Math.ListN.{get_or-map}
+pub use Rattle.ti_text.proofs.Lists.{map-take_item}
 
 -- what holds of each image holds of an item's
 pub All-map_item : {X Y : Type 0} (P : Y → Type 0) (f : X → Y) (xs : List X) (i : ℕ) (x : X) → i < length xs → x ≡ get_or xs i x → All P (map f xs) → P (f x)
 All-map_item P f xs i x l e h =
     let within : i < length (map f xs) = rw (length-map xs f) l in
     subst P (get_or-map f xs i x ∙ ap f (sym e)) (h i (f x) within)
-
-pub map-take_item : {X Y : Type 0} (f : X → Y) (xs : List X) (i : ℕ) (x : X) → i < length xs → x ≡ get_or xs i x → map f (take (i + 1) xs) ≡ map f (take i xs) ++ f x ∷ []
-map-take_item f xs i x l e = rw (take_more xs i x l, map-append f (take i xs) (get_or xs i x ∷ []), ← e) refl
 
 pub slice_get-map_item : {X Y : Type 0} (f : X → Y) (xs : List X) (i : ℕ) (x : X) → i < length xs → x ≡ get_or xs i x → slice_get (map f xs) i ≡ Some (f x)
 slice_get-map_item f xs i x l e =

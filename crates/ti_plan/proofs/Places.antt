@@ -10,7 +10,7 @@ use Rattle.ti_meaning.proofs.MentionMerging.{uses_at}
 use Rattle.ti_components.specs.Graph.{Rows}
 use Rattle.ti_components.specs.Leading.{IsWay}
 use Rattle.ti_components.specs.Components.{AreComponents}
-use Rattle.ti_components.proofs.Lists.{item_at}
+use Rattle.ti_text.proofs.Lists.{item_at}
 use Rattle.std.specs.Option.{option_map_or}
 use Rattle.ti_slots.specs.declared.slots.Slot.{Slot}
 use Rattle.ti_slots.specs.declared.slots.Slots.{Slots}
@@ -27,7 +27,7 @@ block_of slots id = reading_at slots.slots.items id
 pub block_at : (slots : Slots) (at id : ℕ) → StandsAt slots at id → slice_get (blocks_of slots) at ≡ Some (block_of slots id)
 block_at slots at id s = rw (slice_get-map (reading_at slots.slots.items) slots.order.listed at, s) refl
 
--- a position has an id where it has a block
+-- a position has an id if it has a block
 pub id_at : (slots : Slots) (at : ℕ) (block : Reading) → slice_get (blocks_of slots) at ≡ Some block → (id : ℕ) × StandsAt slots at id × (block_of slots id ≡ block)
 id_at slots at block e = there slots at block (slice_get slots.order.listed at) refl (sym (slice_get-map (reading_at slots.slots.items) slots.order.listed at) ∙ e) where
   there : (slots : Slots) (at : ℕ) (block : Reading) (o : Option ℕ) → slice_get slots.order.listed at ≡ o → option_map (block_of slots) o ≡ Some block → (id : ℕ) × StandsAt slots at id × (block_of slots id ≡ block)
@@ -43,24 +43,24 @@ usable_at slots d h at block s =
 -- the id and the position of a node
 pub record IsNode (slots : Slots) (d : Dependents) (node at id : ℕ) : Type 0 where
   pub id_is : slice_get d.ids.items node ≡ Some id
-  pub at_is : slice_get d.places.items node ≡ Some at
+  pub at_is : slice_get d.positions.items node ≡ Some at
   pub stands : StandsAt slots at id
   pub block : slice_get (blocks_of slots) at ≡ Some (block_of slots id)
 
-pub node_of_place : (slots : Slots) (d : Dependents) → AreFoundIn slots d → (node at : ℕ) → slice_get d.places.items node ≡ Some at → (id : ℕ) × IsNode slots d node at id
+pub node_of_place : (slots : Slots) (d : Dependents) → AreFoundIn slots d → (node at : ℕ) → slice_get d.positions.items node ≡ Some at → (id : ℕ) × IsNode slots d node at id
 node_of_place slots d h node at e =
-    let id = item_at d.ids.items node (omega (arith, slice_get_within d.places.items node at e, h.as_many)) in
+    let id = item_at d.ids.items node (omega (arith, slice_get_within d.positions.items node at e, h.as_many)) in
     let stands = h.stands node id.0 at id.1 e in
     (id.0, record { id_is = id.1; at_is = e; stands = stands; block = block_at slots at id.0 stands })
 
 pub node_of_id : (slots : Slots) (d : Dependents) → AreFoundIn slots d → (node id : ℕ) → slice_get d.ids.items node ≡ Some id → (at : ℕ) × IsNode slots d node at id
 node_of_id slots d h node id e =
-    let at = item_at d.places.items node (omega (arith, slice_get_within d.ids.items node id e, h.as_many)) in
+    let at = item_at d.positions.items node (omega (arith, slice_get_within d.ids.items node id e, h.as_many)) in
     let stands = h.stands node id at.0 e at.1 in
     (at.0, record { id_is = e; at_is = at.1; stands = stands; block = block_at slots at.0 id stands })
 
 -- a position is that of one node
-pub one_node : (slots : Slots) (d : Dependents) → AreFoundIn slots d → (node other at : ℕ) → slice_get d.places.items node ≡ Some at → slice_get d.places.items other ≡ Some at → node ≡ other
+pub one_node : (slots : Slots) (d : Dependents) → AreFoundIn slots d → (node other at : ℕ) → slice_get d.positions.items node ≡ Some at → slice_get d.positions.items other ≡ Some at → node ≡ other
 one_node slots d h node other at e f =
     let one = node_of_place slots d h node at e in
     let two = node_of_place slots d h other at f in
@@ -83,7 +83,7 @@ use_of_place blocks at index name block u s =
 -- ---- edges
 
 -- the edge of a use leads to the name's owner
-pub edge_is : (slots : Slots) (d : Dependents) → AreFoundIn slots d → (node at index : ℕ) (name : List ℕ) (row : List (Option ℕ)) (edge : Option ℕ) → slice_get d.places.items node ≡ Some at → IsUseAt (blocks_of slots) at index name → slice_get d.uses node ≡ Some row → slice_get row index ≡ Some edge → IsEdgeTo slots d.ids.items name edge
+pub edge_is : (slots : Slots) (d : Dependents) → AreFoundIn slots d → (node at index : ℕ) (name : List ℕ) (row : List (Option ℕ)) (edge : Option ℕ) → slice_get d.positions.items node ≡ Some at → IsUseAt (blocks_of slots) at index name → slice_get d.uses node ≡ Some row → slice_get row index ≡ Some edge → IsEdgeTo slots d.ids.items name edge
 edge_is slots d h node at index name row edge p u r e =
     let n = node_of_place slots d h node at p in
     let same : u.block ≡ block_of slots n.0 = same_Some u.block (block_of slots n.0) (sym u.stands ∙ n.1.block) in
@@ -97,7 +97,7 @@ edge_is slots d h node at index name row edge p u r e =
       λ w. (is place).1 (name, w.0, u.uses, w.1, w.2),
     )
 
-pub row_at : (slots : Slots) (d : Dependents) → AreFoundIn slots d → (node at index : ℕ) (name : List ℕ) (row : List (Option ℕ)) → slice_get d.places.items node ≡ Some at → IsUseAt (blocks_of slots) at index name → slice_get d.uses node ≡ Some row → index < length row
+pub row_at : (slots : Slots) (d : Dependents) → AreFoundIn slots d → (node at index : ℕ) (name : List ℕ) (row : List (Option ℕ)) → slice_get d.positions.items node ≡ Some at → IsUseAt (blocks_of slots) at index name → slice_get d.uses node ≡ Some row → index < length row
 row_at slots d h node at index name row p u r =
     let n = node_of_place slots d h node at p in
     let same : u.block ≡ block_of slots n.0 = same_Some u.block (block_of slots n.0) (sym u.stands ∙ n.1.block) in
@@ -107,9 +107,9 @@ row_at slots d h node at index name row p u r =
     omega arith
 
 -- the graph has an edge between the nodes of blocks where the one uses the other
-pub graph_of : (slots : Slots) (d : Dependents) → AreFoundIn slots d → IsGraphOf (blocks_of slots) d.places.items (laws.HasOptionalEdge d.uses)
+pub graph_of : (slots : Slots) (d : Dependents) → AreFoundIn slots d → IsGraphOf (blocks_of slots) d.positions.items (laws.HasOptionalEdge d.uses)
 graph_of slots d h i j = (there slots d h i j, back slots d h i j) where
-  there : (slots : Slots) (d : Dependents) → AreFoundIn slots d → (i j : ℕ) → laws.HasOptionalEdge d.uses i j → (at : ℕ) × (used : ℕ) × (slice_get d.places.items i ≡ Some at) × (slice_get d.places.items j ≡ Some used) × UsesBlock (blocks_of slots) at used
+  there : (slots : Slots) (d : Dependents) → AreFoundIn slots d → (i j : ℕ) → laws.HasOptionalEdge d.uses i j → (at : ℕ) × (used : ℕ) × (slice_get d.positions.items i ≡ Some at) × (slice_get d.positions.items j ≡ Some used) × UsesBlock (blocks_of slots) at used
   there slots d h i j w =
       let id = item_at d.ids.items i (omega (arith, slice_get_within d.uses i w.0 w.1, h.graph.as_many)) in
       let n = node_of_id slots d h i id.0 id.1 in
@@ -120,12 +120,12 @@ graph_of slots d h i j = (there slots d h i j, back slots d h i j) where
       let same : own.3.0 ≡ m.0 = h.distinct own.3.0 m.0 own.1 own.3.2 m.1.stands in
       (n.0, m.0, n.1.at_is, m.1.at_is, (block_of slots id.0, n.1.block, (own.0, uses_at (block_of slots id.0).items w.2.0 item.0 own.0 item.1 own.2, own.3.1 ∙ ap (λ k. Some k) same)))
 
-  back : (slots : Slots) (d : Dependents) → AreFoundIn slots d → (i j : ℕ) → (at : ℕ) × (used : ℕ) × (slice_get d.places.items i ≡ Some at) × (slice_get d.places.items j ≡ Some used) × UsesBlock (blocks_of slots) at used → laws.HasOptionalEdge d.uses i j
+  back : (slots : Slots) (d : Dependents) → AreFoundIn slots d → (i j : ℕ) → (at : ℕ) × (used : ℕ) × (slice_get d.positions.items i ≡ Some at) × (slice_get d.positions.items j ≡ Some used) × UsesBlock (blocks_of slots) at used → laws.HasOptionalEdge d.uses i j
   back slots d h i j w =
       let m = node_of_place slots d h j w.1 w.3 in
       let use_place = place_of_use w.4.0.items w.4.2.0 w.4.2.1 in
       let use_at : IsUseAt (blocks_of slots) w.0 use_place.0 w.4.2.0 = record { block = w.4.0; stands = w.4.1; item = use_place.1; places = use_place.2; uses = use_place.3 } in
-      let row = item_at d.uses i (omega (arith, slice_get_within d.places.items i w.0 w.2, h.graph.as_many, h.as_many)) in
+      let row = item_at d.uses i (omega (arith, slice_get_within d.positions.items i w.0 w.2, h.graph.as_many, h.as_many)) in
       let edge = item_at row.0 use_place.0 (row_at slots d h i w.0 use_place.0 w.4.2.0 row.0 w.2 use_at row.1) in
       let is = (edge_is slots d h i w.0 use_place.0 w.4.2.0 row.0 edge.0 w.2 use_at row.1 edge.1 j).1 (m.0, (w.1, w.4.2.2, m.1.stands), m.1.id_is) in
       (row.0, row.1, (use_place.0, edge.1 ∙ ap (λ o. Some o) is))
@@ -156,7 +156,7 @@ components_of g numbers count h n i j within_i within_j =
 
 -- ---- what is read of a node
 
-pub node_read : (slots : Slots) (d : Dependents) → AreFoundIn slots d → (node at id : ℕ) → slice_get d.places.items node ≡ Some at → id ≡ get_or d.ids.items node id → IsNode slots d node at id
+pub node_read : (slots : Slots) (d : Dependents) → AreFoundIn slots d → (node at id : ℕ) → slice_get d.positions.items node ≡ Some at → id ≡ get_or d.ids.items node id → IsNode slots d node at id
 node_read slots d h node at id p e =
     let n = node_of_place slots d h node at p in
     let same : n.0 ≡ id = sym (e ∙ get_or_from_slice_get d.ids.items node n.0 id n.1.id_is) in

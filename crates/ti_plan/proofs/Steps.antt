@@ -7,7 +7,7 @@ use Rattle.ti_source.specs.Reading.{Reading}
 use Rattle.ti_meaning.specs.Expansion.{resolves}
 use Rattle.ti_meaning.specs.Dependents.{work, work_of}
 use Rattle.ti_components.specs.Graph.{Rows}
-use Rattle.ti_components.proofs.Lists.{item_at}
+use Rattle.ti_text.proofs.Lists.{item_at}
 use Rattle.ti_slots.specs.declared.slots.Slots.{Slots}
 use Rattle.ti_slots.specs.Slots.{blocks_of}
 use Rattle.ti_dependents.specs.declared.dependents.Dependents.{Dependents}
@@ -52,10 +52,10 @@ edges_bound (x ∷ xs) g once within =
 
 -- ---- one more block
 
-pub row_items : (slots : Slots) (d : Dependents) → AreFoundIn slots d → (node at : ℕ) (block : Reading) → slice_get d.places.items node ≡ Some at → slice_get (blocks_of slots) at ≡ Some block → row_length d.uses node ≡ length block.items
+pub row_items : (slots : Slots) (d : Dependents) → AreFoundIn slots d → (node at : ℕ) (block : Reading) → slice_get d.positions.items node ≡ Some at → slice_get (blocks_of slots) at ≡ Some block → row_length d.uses node ≡ length block.items
 row_items slots d h node at block p s =
     let n = node_of_place slots d h node at p in
-    let row = item_at d.uses node (omega (arith, slice_get_within d.places.items node at p, h.as_many, h.graph.as_many)) in
+    let row = item_at d.uses node (omega (arith, slice_get_within d.positions.items node at p, h.as_many, h.graph.as_many)) in
     let same : block_of slots n.0 ≡ block = same_Some (block_of slots n.0) block (sym n.1.block ∙ s) in
     let as_many = (h.graph.rows node n.0 row.0 n.1.id_is row.1).as_many in
     ap length (get_or_from_slice_get d.uses node row.0 [] row.1) ∙ (as_many ∙ ap (λ (b : Reading). length b.items) same)
@@ -65,7 +65,7 @@ work_bound bs b = elim (resolves bs b) as (λ v. cond v (length b.items) 0 ≤ l
 
 -- there is room for the steps of the next block
 pub next_room : (slots : Slots) (d : Dependents) (order : List ℕ) (end node start steps at : ℕ) (block : Reading) → AreFoundIn slots d → ((i j u : ℕ) → slice_get order i ≡ Some u → slice_get order j ≡ Some u → i ≡ j) → ((i u : ℕ) → slice_get order i ≡ Some u → u < length d.uses)
-    → slice_get order end ≡ Some node → take (end + 1) order ≡ take end order ++ node ∷ [] → slice_get d.places.items node ≡ Some at → slice_get (blocks_of slots) at ≡ Some block
+    → slice_get order end ≡ Some node → take (end + 1) order ≡ take end order ++ node ∷ [] → slice_get d.positions.items node ≡ Some at → slice_get (blocks_of slots) at ≡ Some block
     → steps ≤ start + sum_by (row_length d.uses) (take end order) → start + sum_by length d.uses < 2 ^ 64 → steps + length block.items < 2 ^ 64
 next_room slots d order end node start steps at block h once within o t p s bound room =
     let all = edges_bound order d.uses once within in
@@ -79,7 +79,7 @@ steps_more bs places at start old new e f =
     let more = sum_one (λ p. work_of bs (slice_get bs p)) places at in
     omega arith
 
-pub bound_more : (slots : Slots) (d : Dependents) (nodes : List ℕ) (node at start old new : ℕ) (block : Reading) → AreFoundIn slots d → slice_get d.places.items node ≡ Some at → slice_get (blocks_of slots) at ≡ Some block
+pub bound_more : (slots : Slots) (d : Dependents) (nodes : List ℕ) (node at start old new : ℕ) (block : Reading) → AreFoundIn slots d → slice_get d.positions.items node ≡ Some at → slice_get (blocks_of slots) at ≡ Some block
     → old ≤ start + sum_by (row_length d.uses) nodes → new ≡ old + work_of (blocks_of slots) (slice_get (blocks_of slots) at) → new ≤ start + sum_by (row_length d.uses) (nodes ++ node ∷ [])
 bound_more slots d nodes node at start old new block h p s bound e =
     let more = sum_one (row_length d.uses) nodes node in

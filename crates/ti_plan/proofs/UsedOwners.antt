@@ -22,26 +22,26 @@ use Rattle.ti_slots.specs.declared.slots.Settled.{Settled}
 use Rattle.ti_slots.specs.Slots.{blocks_of, slot_at, IsOwnerId}
 use Rattle.ti_slots.specs.Settled.{table_of}
 use Rattle.ti_dependents.specs.declared.dependents.Dependents.{Dependents}
-use Rattle.ti_plan.specs.inside.Settling.{IsKnown, IsUseAt, IsEdgeTo, IsOwnerState, HasSettledOwners}
+use Rattle.ti_plan.specs.inside.Settling.{IsKnown, IsUseAt, IsEdgeTo, IsOwnerState, IsSettledNode, HasSettledOwners}
 use Rattle.ti_plan.proofs.Places.{block_of, block_at, node_of_place, node_of_id, use_of_place, edge_is, row_at, graph_of, components_of}
 
 -- a use among the blocks found
-pub record IsFoundUse (slots : Slots) (d : Dependents) (component_of : List ℕ) (settled : List (Option Settled)) (node at index : ℕ) (name : List ℕ) (edge : Option ℕ) : Type 0 where
+pub record IsFoundUse (slots : Slots) (d : Dependents) (component_of : List ℕ) (settled : List Settled) (node at index : ℕ) (name : List ℕ) (edge : Option ℕ) : Type 0 where
   pub known : IsKnown slots d component_of settled
-  pub place : slice_get d.places.items node ≡ Some at
+  pub place : slice_get d.positions.items node ≡ Some at
   pub of_item : IsUseAt (blocks_of slots) at index name
   pub leads : IsEdgeTo slots d.ids.items name edge
 
-module _ (slots : Slots) (d : Dependents) (component_of : List ℕ) (settled : List (Option Settled)) (node at index : ℕ) (name : List ℕ) where
-  numbers : IsKnown slots d component_of settled → laws.MarksComponents (length d.places.items) (laws.HasOptionalEdge d.uses) (HaveOneNumber component_of)
-  numbers k = components_of d.uses component_of (length d.places.items) k.components (omega (arith, k.found.as_many, k.found.graph.as_many))
+module _ (slots : Slots) (d : Dependents) (component_of : List ℕ) (settled : List Settled) (node at index : ℕ) (name : List ℕ) where
+  numbers : IsKnown slots d component_of settled → laws.MarksComponents (length d.positions.items) (laws.HasOptionalEdge d.uses) (HaveOneNumber component_of)
+  numbers k = components_of d.uses component_of (length d.positions.items) k.components (omega (arith, k.found.as_many, k.found.graph.as_many))
 
-  -- where the use leads back, its edge leads to a node of the same component
+  -- if the use leads back, its edge leads to a node of the same component
   back_shares : (edge : Option ℕ) → IsFoundUse slots d component_of settled node at index name edge → LeadsTo (blocks_of slots) name at → (owner : ℕ) × (edge ≡ Some owner) × HaveOneNumber component_of node owner
   back_shares edge u lead =
       let found = u.known.found in
       let n = node_of_place slots d found node at u.place in
-      let w = circular_component (blocks_of slots) d.places.items (laws.HasOptionalEdge d.uses) (HaveOneNumber component_of) found.closed (graph_of slots d found) (numbers u.known)
+      let w = circular_component (blocks_of slots) d.positions.items (laws.HasOptionalEdge d.uses) (HaveOneNumber component_of) found.closed (graph_of slots d found) (numbers u.known)
       node at (block_of slots n.0) name u.place n.1.block (use_of_place (blocks_of slots) at index name (block_of slots n.0) u.of_item n.1.block) lead in
       let m = node_of_place slots d found w.0 w.1 w.3 in
       (w.0, (u.leads w.0).1 (m.0, (w.1, w.2, m.1.stands), m.1.id_is), w.4)
@@ -73,14 +73,14 @@ module _ (slots : Slots) (d : Dependents) (component_of : List ℕ) (settled : L
       let m = node_of_id slots d found w own.0 own.2 in
       let same : own.1.0 ≡ m.0 = found.distinct own.1.0 m.0 own.0 own.1.2 m.1.stands in
       let owns : owner (blocks_of slots) name ≡ Some m.0 = own.1.1 ∙ ap (λ k. Some k) same in
-      let lead = component_circular (blocks_of slots) d.places.items (laws.HasOptionalEdge d.uses) (HaveOneNumber component_of) (graph_of slots d found) (numbers u.known)
+      let lead = component_circular (blocks_of slots) d.positions.items (laws.HasOptionalEdge d.uses) (HaveOneNumber component_of) (graph_of slots d found) (numbers u.known)
       node at w m.0 name u.place owns m.1.at_is one in
       let b = owner_is (blocks_of slots) name m.0 owns in
       use_fault_circular (blocks_of slots) at name b.0 b.1 (LeadsTo-leads_to (blocks_of slots) name at lead)
 
   -- the state of an owner that was found
-  pub state_inside : (owner : ℕ) (one : Settled) → IsFoundUse slots d component_of settled node at index name (Some owner) → (HaveOneNumber component_of node owner → ⊥) → slice_get settled owner ≡ Some (Some one) → IsOwnerState (blocks_of slots) at name one.state
-  state_inside w one u apart s =
+  pub state_inside : (owner : ℕ) (one : Settled) → IsFoundUse slots d component_of settled node at index name (Some owner) → (HaveOneNumber component_of node owner → ⊥) → IsSettledNode slots d settled owner → slice_get settled owner ≡ Some one → IsOwnerState (blocks_of slots) at name one.state
+  state_inside w one u apart right s =
       let found = u.known.found in
       let own = (u.leads w).0 refl in
       let m = node_of_id slots d found w own.0 own.2 in
@@ -90,7 +90,7 @@ module _ (slots : Slots) (d : Dependents) (component_of : List ℕ) (settled : L
         block = b.0;
         is = b.1;
         off = off_another w u apart;
-        table = (u.known.so_far.right w m.0 b.0 one s m.1.at_is b.2).table;
+        table = (right m.0 b.0 one s m.1.at_is b.2).table;
       }
 
   -- the state of an owner that was not
@@ -107,26 +107,26 @@ module _ (slots : Slots) (d : Dependents) (component_of : List ℕ) (settled : L
         table = subst P same (found.others own.0 id own.2 (lacks u own) slot s).table;
       }
     where
-      lacks : IsFoundUse slots d component_of settled node at index name None → (own : IsOwnerId slots name id) → Contains d.places.items own.0 → ⊥
+      lacks : IsFoundUse slots d component_of settled node at index name None → (own : IsOwnerId slots name id) → Contains d.positions.items own.0 → ⊥
       lacks u own c =
-          let within : c.0 < length d.places.items = c.1 in
-          let at_is : slice_get d.places.items c.0 ≡ Some own.0 = slice_get-get_or d.places.items c.0 own.0 within ∙ ap (λ k. Some k) c.2 in
+          let within : c.0 < length d.positions.items = c.1 in
+          let at_is : slice_get d.positions.items c.0 ≡ Some own.0 = slice_get-get_or d.positions.items c.0 own.0 within ∙ ap (λ k. Some k) c.2 in
           let n = node_of_place slots d u.known.found c.0 own.0 at_is in
           let same : n.0 ≡ id = same_Some n.0 id (sym n.1.stands ∙ own.2) in
           none-some c.0 ((u.leads c.0).1 (id, own, n.1.id_is ∙ ap (λ k. Some k) same))
 
 -- ---- what is read
 
-module _ (slots : Slots) (d : Dependents) (component_of : List ℕ) (settled : List (Option Settled)) (node at index : ℕ) (name : List ℕ) (row : List (Option ℕ)) where
-  edge_stands : IsKnown slots d component_of settled → slice_get d.places.items node ≡ Some at → IsUseAt (blocks_of slots) at index name → slice_get d.uses node ≡ Some row → (edge : Option ℕ) → slice_index_or row index None ≡ edge → slice_get row index ≡ Some edge
+module _ (slots : Slots) (d : Dependents) (component_of : List ℕ) (settled : List Settled) (node at index : ℕ) (name : List ℕ) (row : List (Option ℕ)) where
+  edge_stands : IsKnown slots d component_of settled → slice_get d.positions.items node ≡ Some at → IsUseAt (blocks_of slots) at index name → slice_get d.uses node ≡ Some row → (edge : Option ℕ) → slice_index_or row index None ≡ edge → slice_get row index ≡ Some edge
   edge_stands k p u r edge e = slice_get-get_or row index None (row_at slots d k.found node at index name row p u r) ∙ ap (λ o. Some o) e
 
   -- the edge of the item is that of its use
-  pub read_use : IsKnown slots d component_of settled → slice_get d.places.items node ≡ Some at → IsUseAt (blocks_of slots) at index name → slice_get d.uses node ≡ Some row → (edge : Option ℕ) → slice_index_or row index None ≡ edge → IsFoundUse slots d component_of settled node at index name edge
+  pub read_use : IsKnown slots d component_of settled → slice_get d.positions.items node ≡ Some at → IsUseAt (blocks_of slots) at index name → slice_get d.uses node ≡ Some row → (edge : Option ℕ) → slice_index_or row index None ≡ edge → IsFoundUse slots d component_of settled node at index name edge
   read_use k p u r edge e =
       record { known = k; place = p; of_item = u; leads = edge_is slots d k.found node at index name row edge p u r (edge_stands k p u r edge e) }
 
-  pub read_edge : IsKnown slots d component_of settled → slice_get d.places.items node ≡ Some at → IsUseAt (blocks_of slots) at index name → slice_get d.uses node ≡ Some row → (owner : ℕ) → slice_index_or row index None ≡ Some owner → HasEdge d.uses node owner
+  pub read_edge : IsKnown slots d component_of settled → slice_get d.positions.items node ≡ Some at → IsUseAt (blocks_of slots) at index name → slice_get d.uses node ≡ Some row → (owner : ℕ) → slice_index_or row index None ≡ Some owner → HasEdge d.uses node owner
   read_edge k p u r owner e = record { row = row; place = index; stands = r; leads = edge_stands k p u r (Some owner) e }
 
   -- the node that the edge leads to has a component and a place among what was settled
@@ -134,7 +134,7 @@ module _ (slots : Slots) (d : Dependents) (component_of : List ℕ) (settled : L
   owner_within owner u =
       let w = (u.leads owner).0 refl in
       let within = slice_get_within d.ids.items owner w.0 w.2 in
-      (omega (arith, u.known.components.as_many, u.known.found.graph.as_many), omega (arith, u.known.so_far.as_many))
+      (omega (arith, u.known.components.as_many, u.known.found.graph.as_many), omega (arith, u.known.as_many))
 
   pub node_within : IsKnown slots d component_of settled → slice_get d.uses node ≡ Some row → node < length component_of
   node_within k r = let within = slice_get_within d.uses node row r in omega (arith, k.components.as_many)
@@ -146,10 +146,6 @@ one_component component_of i j l m e = (slice_index_or component_of i 0, slice_g
 pub two_components : (component_of : List ℕ) (i j : ℕ) → (slice_index_or component_of j 0 ≡ slice_index_or component_of i 0 → ⊥) → HaveOneNumber component_of i j → ⊥
 two_components component_of i j n one = n (get_or_from_slice_get component_of j one.0 0 one.2 ∙ sym (get_or_from_slice_get component_of i one.0 0 one.1))
 
--- an owner of another component that is read was settled
-pub settled_read : (component_of : List ℕ) (settled : List (Option Settled)) (graph : Rows) (node owner : ℕ) (read value : Option Settled) → HasSettledOwners graph component_of settled node → HasEdge graph node owner → (HaveOneNumber component_of node owner → ⊥) → read ≡ slice_index_or settled owner read → slice_index_or settled owner read ≡ value → (one : Settled) × (slice_get settled owner ≡ Some (Some one)) × (value ≡ Some one)
-settled_read component_of settled graph node owner read value h edge apart r e =
-    elim (h owner edge) [
-      | inl one ↦ absurd (apart one)
-      | inr there ↦ (there.0, there.1, sym e ∙ get_or_from_slice_get settled owner (Some there.0) read there.1)
-    ]
+-- an owner of another component was settled
+pub settled_owner : (slots : Slots) (d : Dependents) (component_of : List ℕ) (settled : List Settled) (node owner : ℕ) → HasSettledOwners slots d component_of settled node → HasEdge d.uses node owner → (HaveOneNumber component_of node owner → ⊥) → IsSettledNode slots d settled owner
+settled_owner slots d component_of settled node owner h edge apart = elim (h owner edge) [ inl one ↦ absurd (apart one) | inr right ↦ right ]

@@ -1,5 +1,6 @@
 -- When the plan of an edit is right (own).
 use Rattle.std.specs.Prelude.{ℕ, ◌≡◌, ◌<◌, ◌↔◌, List, length, Option, Some, slice_get, Contains}
+use Rattle.ti_text.specs.Lists.{AreDistinct}
 use Rattle.ti_source.specs.Sound.{IsRising}
 use Rattle.ti_meaning.specs.Exchange.{Exchange}
 use Rattle.ti_meaning.specs.Dependents.{AreDependents, IsDependent, work}
@@ -24,11 +25,11 @@ OthersAreSettled slots exchange = (at id : ℕ) → StandsAt slots at id → (Is
 abbrev pub IsReady : Slots → Option ℕ → List (List ℕ) → Type 0
 IsReady slots put out = (exchange : Exchange) × IsExchangeOf slots put out exchange × OthersAreSettled slots exchange
 
--- the plan has the blocks that depend on the edit, each once, what is right for each, their positions in ascending order
--- and the work
+-- the plan has the blocks that depend on the edit, each once, what is right for each, their
+-- positions in ascending order and the work
 pub record IsPlan (slots : Slots) (put : Option ℕ) (out : List (List ℕ)) (plan : Plan) : Type 0 where
   pub as_many : length plan.settled.items ≡ length plan.ids.items
-  pub once : (i j id : ℕ) → slice_get plan.ids.items i ≡ Some id → slice_get plan.ids.items j ≡ Some id → i ≡ j
+  pub once : AreDistinct plan.ids.items
   pub stands : (i id : ℕ) → slice_get plan.ids.items i ≡ Some id → (at : ℕ) × StandsAt slots at id
   pub rebuilt : (at id : ℕ) → StandsAt slots at id → Contains plan.rebuilt.items at ↔ ((i : ℕ) × (slice_get plan.ids.items i ≡ Some id))
   pub settled : (i at id : ℕ) (settled : Settled) → slice_get plan.ids.items i ≡ Some id → slice_get plan.settled.items i ≡ Some settled
@@ -36,7 +37,8 @@ pub record IsPlan (slots : Slots) (put : Option ℕ) (out : List (List ℕ)) (pl
   pub dependents : (exchange : Exchange) → IsExchangeOf slots put out exchange → AreDependents exchange plan.rebuilt.items
   pub steps : plan.work ≡ work (blocks_of slots) plan.rebuilt.items
 
--- the plan has all blocks of the list in its order, what is right for each, their positions in ascending order and the work
+-- the plan has all blocks of the list in its order, what is right for each, their positions in
+-- ascending order and the work
 pub record IsPlanOfAll (slots : Slots) (plan : Plan) : Type 0 where
   pub listed : plan.ids.items ≡ slots.order.listed
   pub as_many : length plan.settled.items ≡ length plan.ids.items

@@ -1,4 +1,5 @@
-// The faults of a block but those of names that earlier blocks own: of its header, its items in their order, and its entry.
+// The faults of a block but those of names that earlier blocks own: of its header, its items in
+// their order, and its entry.
 ghost use Rattle.std.specs.Prelude.{ℕ, ◌≡◌, ◌≤◌, [], ◌∷◌, drop, filter, map, length, slice_get, Some, is_some, false, option_map, IfOk, OnOk};
 ghost use Rattle.std.specs.Bool.{MatchBool};
 ghost use Rattle.std.specs.Rc.{rc_slice_items};
@@ -17,7 +18,7 @@ use std::rc::RcSlice;
 use ti_slots::{KeptFault, State, copy_detail};
 use ti_source::{Code, Item, Local, Parsed, What};
 
-/// Adds a fault that reading gave. One of a name that an earlier block owns is none of these.
+// Adds a fault that reading gave. One of a name that an earlier block owns is none of these.
 fn add_local(local: &Local, faults: &mut Vec<KeptFault>) -> Result<(), AllocError>
     ghost at: { ℕ }
     ensures { OnOk result (AddsFaults at faults.old.items faults.new.items
@@ -51,8 +52,8 @@ pub(crate) fn add_locals(
     Ok(())
 }
 
-/// Adds the faults that reading gave for items before that ordinal, beginning at a place of the
-/// list, and answers where the others begin.
+// Adds the faults that reading gave for items before that ordinal, beginning at a place of the
+// list, and answers where the others begin.
 fn add_before(
     locals: &[Local],
     next: usize,
@@ -79,8 +80,8 @@ fn add_before(
     Ok(locals.len())
 }
 
-/// Adds what is wrong with a use of the block at a node, an item on that line, if something is, and
-/// says whether something is.
+// Adds what is wrong with a use of the block at a node, an item on that line, if something is, and
+// says whether something is.
 fn add_use_fault(
     known: &Known,
     node: usize,
@@ -107,8 +108,8 @@ fn add_use_fault(
     Ok(true)
 }
 
-/// Adds what is wrong with an item of the block at a node, if it is a use and something is, and
-/// says whether something is.
+// Adds what is wrong with an item of the block at a node, if it is a use and something is, and
+// says whether something is.
 fn add_item_fault(
     known: &Known,
     node: usize,
@@ -158,7 +159,7 @@ pub(crate) fn add_item_faults(
     Ok(is_wrong)
 }
 
-/// The first of the names, its bytes shared.
+// The first of the names, its bytes shared.
 fn first_name(names: &[RcSlice<u8>]) -> Result<Option<RcSlice<u8>>, AllocError>
     ensures { IfOk result (λ name. option_map rc_slice_items name ≡ slice_get (map rc_slice_items names.now) 0) }
 {

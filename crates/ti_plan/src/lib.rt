@@ -1,6 +1,6 @@
-//! What an edit rebuilds: the blocks that depend on it, with the values, the entry and the faults of
-//! each, found along an order in which owners come before their users, and the work of that. Where a
-//! list is made in one go, all of its blocks.
+//! What an edit rebuilds: the blocks that depend on it, with the values, the entry and the faults
+//! of each, found along an order in which owners come before their users, and the work of that. If
+//! a list is made in one go, all of its blocks.
 //!
 //! - `plans`: the plan of an edit
 //! - `planning`: how it is made

@@ -1,4 +1,4 @@
-// What becomes of the owners of used names, and what is wrong with a use.
+//! What becomes of the owners of used names, and what is wrong with a use.
 ghost use Rattle.std.specs.Prelude.{ℕ, ◌≡◌, Some, None, IfOk, IfErr};
 ghost use Rattle.ti_layout.specs.Values.{contents};
 ghost use Rattle.ti_meaning.specs.Faults.{use_fault};
@@ -16,11 +16,11 @@ pub(crate) struct Known<'a> {
     pub(crate) slots: &'a Slots,
     pub(crate) dependents: &'a Dependents,
     pub(crate) component_of: &'a [usize],
-    pub(crate) settled: &'a [Option<Settled>],
+    pub(crate) settled: &'a [Settled],
 }
 
-/// What became of the owner of a name, which an item of the block at a node uses; or what is wrong
-/// with the use, where the name has no owner or leads back to the block.
+// What became of the owner of a name, which an item of the block at a node uses; or what is wrong
+// with the use, if the name has no owner or leads back to the block.
 fn owner_state<'a>(
     known: &Known<'a>,
     node: usize,
@@ -38,10 +38,7 @@ fn owner_state<'a>(
             if known.component_of[owner] == known.component_of[node] {
                 return Err(Code::Circular);
             }
-            match &known.settled[owner] {
-                Some(settled) => Ok(&settled.state),
-                None => unreachable!(),
-            }
+            Ok(&known.settled[owner].state)
         }
         None => match known.slots.owner(name) {
             Some(id) => Ok(&known.slots.slot(id).settled.state),

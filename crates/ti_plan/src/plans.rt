@@ -1,4 +1,4 @@
-// What is planned for blocks of a list.
+//! What is planned for blocks of a list.
 use ti_slots::Settled;
 
 /// What an edit makes of the blocks that depend on it, or what a list that is made in one go makes

@@ -1,4 +1,4 @@
-// What is found out about one block of a plan: what becomes of it, and its faults.
+//! What is found out about one block of a plan: what becomes of it, and its faults.
 ghost use Rattle.std.specs.Prelude.{ℕ, ◌≡◌, ◌+◌, ◌<◌, ◌^◌, map, length, slice_get, Some, IfOk, OnOk};
 ghost use Rattle.std.specs.Bool.{MatchBool};
 ghost use Rattle.std.specs.List.{list_any};
@@ -19,7 +19,7 @@ use std::alloc::{AllocError, Global};
 use ti_slots::{Settled, Slot, State};
 use ti_source::Local;
 
-/// Whether one of the faults is an error.
+// Whether one of the faults is an error.
 fn has_error(faults: &[Local]) -> bool
     ensures { result ≡ list_any (λ f. is_error f.code) (map fault_of faults.now) }
 {
@@ -31,7 +31,7 @@ fn has_error(faults: &[Local]) -> bool
     false
 }
 
-/// The slot of the block at a node, in which what was found out before is still there.
+// The slot of the block at a node, in which what was found out before is still there.
 fn slot_of<'a>(known: &Known<'a>, node: usize) -> &'a Slot
     ghost at: { ℕ }
     requires { CanSettle known.now node at }
@@ -40,7 +40,7 @@ fn slot_of<'a>(known: &Known<'a>, node: usize) -> &'a Slot
     known.slots.slot(known.dependents.ids[node])
 }
 
-/// What becomes of the block at a node, of which one use at least is at fault, or none.
+// What becomes of the block at a node, of which one use at least is at fault, or none.
 fn find_state(
     alloc: Global,
     known: &Known,

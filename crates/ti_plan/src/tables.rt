@@ -1,5 +1,5 @@
-// The values of a block and its entry: items are added to a table, the leftmost mention of a capability first, and the
-// entry that the block had before is patched to have these values.
+// The values of a block and its entry: items are added to a table, the leftmost mention of a
+// capability first, and the entry that the block had before is patched to have these values.
 ghost use Rattle.std.specs.Prelude.{ℕ, ◌≡◌, ◌+◌, ◌<◌, ◌^◌, ◌↔◌, length, false, List, Some, slice_get, IfOk, IsErrOf, OnOk};
 ghost use Rattle.ti_caps.specs.Tables.{Capability, IsCapability};
 ghost use Rattle.ti_source.specs.Reading.{reading_of, said_import, said_of};
@@ -21,8 +21,8 @@ use ti_compiled::{Image, Mentions, Table, Value, WriteError};
 use ti_slots::{BlockEntry, Slot, State};
 use ti_source::{Parsed, What};
 
-/// Adds all values of the owner of a name, which an item of the block at a node uses, behind the
-/// mentions.
+// Adds all values of the owner of a name, which an item of the block at a node uses, after the
+// mentions.
 fn merge_owner(
     known: &Known,
     node: usize,
@@ -42,7 +42,7 @@ fn merge_owner(
     mentions.merge(used)
 }
 
-/// Adds what an item of the block at a node stands for, behind the mentions.
+// Adds the mentions that an item of the block at a node gives, after those before.
 fn add_item(
     known: &Known,
     node: usize,
@@ -71,7 +71,7 @@ fn add_item(
     }
 }
 
-/// The table of the block at a node, which is sound, as are its uses.
+// The table of the block at a node, which is sound, as are its uses.
 fn make_table(
     alloc: Global,
     known: &Known,
@@ -95,8 +95,8 @@ fn make_table(
     mentions.into_table()
 }
 
-/// The image of a sound block that has this table. Where the entry that the block had before has the
-/// same names, a copy of it is patched; else the image is written anew.
+// The image of a sound block that has this table. If the entry that the block had before has the
+// same names, a copy of it is patched; else the image is written anew.
 fn make_image(alloc: Global, slot: &Slot, table: &Table) -> Result<Image, WriteError>
     requires whole { is_broken (reading_of slot.now.block) ≡ false }
     requires usable { IsUsable (reading_of slot.now.block) }
@@ -115,7 +115,7 @@ fn make_image(alloc: Global, slot: &Slot, table: &Table) -> Result<Image, WriteE
     }
 }
 
-/// What becomes of a sound block that has this table.
+// What becomes of a sound block that has this table.
 fn make_state(alloc: Global, slot: &Slot, table: Table) -> Result<State, AllocError>
     requires whole { is_broken (reading_of slot.now.block) ≡ false }
     requires usable { IsUsable (reading_of slot.now.block) }

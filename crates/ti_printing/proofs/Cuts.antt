@@ -54,7 +54,7 @@ unfolding parts_of
 parts_of-nil [] short = refl
 parts_of-nil (byte ∷ text) short = absurd (omega arith)
 
--- the same of the first byte of a text
+-- the first byte of a text, at which no padding is found
 pub parts_of-first : (text : List ℕ) → 1 ≤ length text → padding_at text ≡ None → parts_of text ≡ Literal (get_or text 0 0) ∷ parts_of (take (length text - 1) (drop 1 text))
 parts_of-first [] long h = absurd (omega arith)
 parts_of-first (byte ∷ text) long h = parts_of-none byte text h ∙ ap (λ t. Literal byte ∷ parts_of t) (sym (take_all (length (byte ∷ text) - 1) text (omega arith)))
@@ -80,7 +80,7 @@ parts_of_cut _ _ (cut_literal {byte} {rest} {parts} other cut) =
 parts_of_cut _ _ (cut_padding {text} {rest} {padding} {parts} is cut) =
     ap (λ ps. Delay padding ∷ ps) (parts_of_cut rest parts cut) ∙ sym (parts_of-padding text rest padding is)
 
--- the cut of a text of at most so many bytes
+-- the cut of a text of at most the given number of bytes
 cut_within : (most : ℕ) (text : List ℕ) → length text ≤ most → IsCutIntoParts text (parts_of text)
 unfolding parts_of
 cut_within most [] within = cut_nothing
@@ -121,7 +121,7 @@ too_much_computed text lines line = (
   λ many. record { parts = parts_of text; cut = the_cut text; many = many },
 )
 
--- so an answer that is right as computed is right
+-- an answer that is right as computed is right by the relations
 pub padded_ok : {E : Type 0} (text : List ℕ) (lines : ℕ) (line : Line) (result : Result (Vec ℕ) E) →
     IfOk result (λ out. out.items ≡ with_pad_bytes text lines line) → IfOk result (λ out. IsPadded text lines line out.items)
 padded_ok text lines line (Ok out) h = padded_is text lines line out.items h

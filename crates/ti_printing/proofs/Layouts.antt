@@ -1,4 +1,4 @@
--- The parts of a field one behind the other are what is printed.
+-- The parts of a field, one after the other, are what is printed.
 use Rattle.ti_printing.specs.declared.printf.Conversion.{Conversion}
 use Rattle.ti_printing.specs.declared.printf.Conversion.TheVariants.{Decimal, Octal, LowerHex, UpperHex, Text}
 use Rattle.ti_printing.specs.declared.printf.Directive.{Directive}

@@ -40,7 +40,7 @@ decimal_digits (suc most) (byte ∷ text) =
       | false ↦ λ e. tt
     ] refl
 
--- no digit begins the text
+-- a text that begins with no digit
 abbrev BeginsNoDigit : List ℕ → Type 0
 BeginsNoDigit [] = Unit {0}
 BeginsNoDigit (byte ∷ text) = is_decimal_digit byte ≡ false

@@ -1,4 +1,5 @@
--- Padding: terminfo(5), "Delays and Padding". A delay is written as so many pad bytes, by the line's speed.
+-- Padding: terminfo(5), "Delays and Padding". A delay is written as pad bytes, as many as the
+-- line's speed says.
 use Rattle.std.specs.Prelude.{◌≡◌, ℕ, ◌+◌, ◌*◌, ◌<◌, ◌≤◌, Bool, true, false, not, ◌&&◌, ◌||◌, List, [], ◌∷◌, ◌++◌, length, replicate, if◌then◌else◌, nat_le}
 use Rattle.std.specs.Prelude.{is_some, unwrap_or}
 use Rattle.std.specs.Int.{div_ceil}
@@ -23,12 +24,13 @@ pub record AreMilliseconds (text : List ℕ) (number : ℕ) : Type 0 where
   pub few : length text ≤ delay_digits_max
   pub value : number ≡ decimal_value text
 
--- nothing, or `.` and a digit, which is the tenths of a millisecond
+-- nothing, or `.` and a digit: the tenths of a millisecond
 pub data AreTenths : List ℕ → ℕ → Type 0 where
   no_tenths : AreTenths [] 0
   some_tenths : {digit : ℕ} → is_decimal_digit digit ≡ true → AreTenths (ascii.dot ∷ (digit ∷ [])) (decimal_digit_value digit)
 
--- `*` (the time is for each line) and `/` (the padding is mandatory), each at most once in either order
+-- `*` (the time is for each line) and `/` (the padding is mandatory), each at most once in either
+-- order
 pub data AreMarks : List ℕ → Bool → Bool → Type 0 where
   no_mark : AreMarks [] false false
   star_alone : AreMarks (ascii.asterisk ∷ []) true false
@@ -51,7 +53,7 @@ pub record IsPadding (text : List ℕ) (padding : Padding) : Type 0 where
 
 -- ---- the cut
 
--- no padding stands at the front of the text
+-- no padding is at the front of the text
 abbrev pub BeginsNoPadding : List ℕ → Type 0
 BeginsNoPadding text = (front rest : List ℕ) (padding : Padding) → text ≡ front ++ rest → IsPadding front padding → ⊥
 
@@ -74,15 +76,16 @@ TextsHaveOneCut = (text : List ℕ) → HasOneCut text
 
 -- ---- the padded text
 
--- whether a padding is written as pad bytes: there is a pad byte, and the padding is mandatory or the line wants it
+-- whether a padding is written as pad bytes: there is a pad byte, and the padding is mandatory or
+-- the line wants it
 abbrev pub is_written : Line → Padding → Bool
 is_written line padding = is_some line.pad_byte && (padding.mandatory || (not line.xon && nat_le line.pad_from line.rate))
 
--- its time, in tenths of a millisecond
+-- the time of a padding, in tenths of a millisecond
 abbrev pub time_of : ℕ → Padding → ℕ
 time_of lines padding = if padding.proportional then padding.tenths * lines else padding.tenths
 
--- how many pad bytes it is written as: what the line sends in that time, rounded up
+-- how many pad bytes a padding is written as: what the line sends in its time, rounded up
 abbrev pub pad_count : ℕ → Line → Padding → ℕ
 pad_count lines line padding = if is_written line padding then div_ceil (time_of lines padding * line.rate) 100000 else 0
 

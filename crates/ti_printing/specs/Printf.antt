@@ -1,5 +1,5 @@
--- What a printf form of a parameter string prints: terminfo(5), "Parameterized Strings", and printf(3) for
--- the flags, the width and the precision that it takes over.
+-- What a printf form of a parameter string prints: terminfo(5), "Parameterized Strings", and
+-- printf(3) for the flags, the width and the precision that it takes over.
 use Rattle.std.specs.Prelude.{◌≡◌, ℕ, ◌-◌, ◌^◌, ◌<◌, ◌≤◌, Bool, true, false, not, ◌&&◌, List, [], ◌∷◌, ◌++◌, length, map, take, replicate, ℤ, pos, negsuc}
 use Rattle.std.specs.Prelude.{if◌then◌else◌, ◌==◌, unsigned_abs, Option, Some, None, unwrap_or, is_none, ◌↔◌}
 use Rattle.std.specs.Fmt.{digit_glyph}
@@ -17,7 +17,7 @@ abbrev pub BeginsAboveZero : List ℕ → Type 0
 BeginsAboveZero [] = Unit {0}
 BeginsAboveZero (d ∷ ds) = 0 < d
 
--- ds is the numeral of n: digits of the base, none of them a leading 0, whose number is n
+-- `ds` is the numeral of `n`: digits of the base, without a leading 0, whose number is `n`
 pub record IsNumeralOf (base n : ℕ) (ds : List ℕ) : Type 0 where
   pub digits : AllBelowBase base ds
   pub plain : BeginsAboveZero ds
@@ -39,22 +39,24 @@ numeral LowerHex number = map (digit_glyph false) (digits_of 16 (unsigned_of num
 numeral UpperHex number = map (digit_glyph true) (digits_of 16 (unsigned_of number))
 numeral Text number = []
 
--- at least so many digits, by zeros in front
+-- at least as many digits as the number says, by zeros in front
 abbrev pub at_least : ℕ → List ℕ → List ℕ
 at_least count digits = replicate (count - length digits) ascii.digit_0 ++ digits
 
--- a leading 0 where there is none
+-- a leading 0 if there is none
 abbrev pub with_leading_zero : List ℕ → List ℕ
 with_leading_zero [] = ascii.digit_0 ∷ []
 with_leading_zero (digit ∷ digits) = if digit == ascii.digit_0 then digit ∷ digits else ascii.digit_0 ∷ (digit ∷ digits)
 
--- the digits that are printed: the precision is their least count, 1 where there is none; `#` gives `o` a leading 0
+-- the digits that are printed: the precision is their least count, and is 1 if none is given; `#`
+-- gives `o` a leading 0
 abbrev pub digits_in : Conversion → Flags → Option ℕ → List ℕ → List ℕ
 digits_in Octal flags precision digits =
     if flags.alternate then with_leading_zero (at_least (unwrap_or precision 1) digits) else at_least (unwrap_or precision 1) digits
 digits_in conversion flags precision digits = at_least (unwrap_or precision 1) digits
 
--- the sign place, which `d` alone has: `-` below 0, else the `+` or the space that a flag asks for, `+` first
+-- the sign place, which only `d` has: `-` below 0, else the `+` or the space that a flag asks for;
+-- `+` comes first
 abbrev pub sign_in : Conversion → Flags → ℤ → List ℕ
 sign_in Decimal flags (negsuc n) = ascii.minus ∷ []
 sign_in Decimal flags (pos n) = if flags.sign then ascii.plus ∷ [] else (if flags.space then ascii.space ∷ [] else [])
@@ -66,19 +68,19 @@ prefix_in LowerHex flags number = if flags.alternate && not (unsigned_of number 
 prefix_in UpperHex flags number = if flags.alternate && not (unsigned_of number == 0) then ascii.digit_0 ∷ (byte_of "X" ∷ []) else []
 prefix_in conversion flags number = []
 
--- the text and blanks after it, up to the width
+-- the text, and blanks after it up to the width
 abbrev pub blanks_after : ℕ → List ℕ → List ℕ
 blanks_after width text = text ++ replicate (width - length text) ascii.space
 
--- blanks, up to the width, and the text
+-- blanks up to the width, and the text
 abbrev pub blanks_before : ℕ → List ℕ → List ℕ
 blanks_before width text = replicate (width - length text) ascii.space ++ text
 
--- a leading 0 of the width pads a number with zeros, but not under a precision
+-- a leading 0 of the width pads a number with zeros, but not if there is a precision
 abbrev pub pads_with_zeros : Flags → Option ℕ → Bool
 pads_with_zeros flags precision = flags.zero && is_none precision
 
--- a number's front, which is its sign and prefix, and its digits, up to the width
+-- the front of a number, which is its sign and prefix, and its digits, up to the width
 abbrev pub in_width : Directive → List ℕ → List ℕ → List ℕ
 in_width directive front digits =
     if directive.flags.left then blanks_after directive.width (front ++ digits) else
@@ -102,7 +104,7 @@ printed_text directive text =
     if directive.flags.left then blanks_after directive.width (cut_to_precision directive.precision text)
     else blanks_before directive.width (cut_to_precision directive.precision text)
 
--- what a form prints of what it popped, which is `number` as a number and `text` as a text
+-- what a form prints of what it popped: `number` if it was a number, `text` if it was a string
 abbrev pub printed_by : Conversion → Directive → ℤ → List ℕ → List ℕ
 printed_by Text directive number text = printed_text directive text
 printed_by conversion directive number text = printed_number directive number

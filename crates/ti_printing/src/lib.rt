@@ -1,11 +1,14 @@
-//! Text that is made of counts, as terminfo(5) has it: what a printf form of a parameter string prints
-//! ("Parameterized Strings"), and a text with its delays as pad bytes ("Delays and Padding").
+//! What is printed by counts, as terminfo(5) has it: a printf form of a parameter string
+//! ("Parameterized Strings"), and a string with its delays as pad bytes ("Delays and Padding").
 //!
 //! - `printf`: what one of the printf forms prints
-//! - `padding`: a text with its padding as pad bytes, at a line's speed
+//! - `padding`: a string with its padding as pad bytes, at a line's speed
+//! - `laws`: that a text has one cut, and a number one numeral
 #![tactic(auto)]
 
+mod laws;
 pub mod padding;
 pub mod printf;
 
+pub use laws::{one_cut, one_numeral};
 pub use padding::{Line, PadError, pad, pad_owned};

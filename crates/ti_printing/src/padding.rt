@@ -1,4 +1,4 @@
-//! Padding: a capability's text as bytes for the terminal, with pad bytes at the line's speed.
+//! Padding: a capability's string as bytes for the terminal, with pad bytes at the line's speed.
 ghost use Rattle.std.specs.Prelude.{◌≡◌, ◌+◌, ◌<◌, ◌≤◌, ◌++◌, ◌↔◌, length, IfOk, IfSome, SomeIff, MatchOption, vec_len, vec_capacity};
 ghost use Rattle.std.specs.Iterator.{YieldsFirst, item_count};
 ghost use Rattle.ti_printing.specs.Padding.{AsksForTooMuch, IsPadded, TextsHaveOneCut, delay_digits_max, pad_bytes_max, pad_count};
@@ -12,13 +12,13 @@ use ti_text::room::fill_reserved;
 /// The line to the terminal.
 #[derive(Clone, Copy, Debug, PartialEq, Eq)]
 pub struct Line {
-    /// The speed in bits a second; a byte takes ten bits.
+    /// The speed in bits per second; a byte takes ten bits.
     pub rate: u32,
-    /// The terminal stops the line by itself, so that only mandatory padding is written.
+    /// The terminal stops the line itself, so that only mandatory padding is written.
     pub xon: bool,
-    /// The least rate at which padding is written.
+    /// The least rate, in bits per second, at which padding is written.
     pub pad_from: u32,
-    /// The byte that passes the time; None where the terminal has none, and no padding is written.
+    /// The byte that passes the time; `None` if the terminal has none: then no padding is written.
     pub pad_byte: Option<u8>,
 }
 
@@ -33,10 +33,10 @@ pub enum PadError {
     Memory,
 }
 
-/// The most pad bytes of one text.
+// The most pad bytes of one text.
 const MOST_PAD_BYTES: u128 = 65536;
 
-/// The most digits of the milliseconds of a padding.
+// The most digits of the milliseconds of a padding.
 const DELAY_DIGITS_MAX: usize = 5;
 
 impl From<AllocError> for PadError {
@@ -49,13 +49,13 @@ impl From<AllocError> for PadError {
     }
 }
 
-/// The text with each padding `$<..>` as pad bytes, where it takes effect on `lines` lines. See "Delays
-/// and Padding" in terminfo(5).
+/// The text with each padding `$<..>` as pad bytes, if it takes effect on `lines` lines. See
+/// "Delays and Padding" in terminfo(5).
 ///
 /// # Errors
 ///
-/// `TooMuch` where the text asks for more than 65,536 pad bytes, which is found before any room is made;
-/// `Memory` where the room was refused.
+/// `TooMuch` if the text asks for more than 65,536 pad bytes, which is found before any room is
+/// made; `Memory` if the room was refused.
 pub fn pad(alloc: Global, text: &[u8], lines: u32, line: &Line) -> Result<Vec<u8>, PadError>
     ensures ok { IfOk result (λ out. IsPadded text.now lines line.now out.items) }
     ensures too_much { (result ≡ Err PadError.TooMuch) ↔ AsksForTooMuch text.now lines line.now }
@@ -66,7 +66,8 @@ pub fn pad(alloc: Global, text: &[u8], lines: u32, line: &Line) -> Result<Vec<u8
     }
 }
 
-/// A text that the caller gives up, padded as [`pad`] does: one without padding is given back as it is, and takes no memory.
+/// A text that the caller gives up, padded as [`pad`] does. A text without padding is given back as
+/// it is, and takes no memory.
 ///
 /// # Errors
 ///
@@ -81,7 +82,7 @@ pub fn pad_owned(alloc: Global, text: Vec<u8>, lines: u32, line: &Line) -> Resul
     }
 }
 
-// A text, padded part by part.
+// Pads a text, part by part.
 fn pad_parts(alloc: Global, text: &[u8], lines: u32, line: &Line) -> Result<Vec<u8>, PadError>
     ensures ok { IfOk result (λ out. IsPadded text.now lines line.now out.items) }
     ensures too_much { (result ≡ Err PadError.TooMuch) ↔ AsksForTooMuch text.now lines line.now }
@@ -94,32 +95,26 @@ fn pad_parts(alloc: Global, text: &[u8], lines: u32, line: &Line) -> Result<Vec<
     Ok(out)
 }
 
-/// The law of the cut that `pad` rests on: each text is cut from the left in exactly one way, into paddings
-/// and bytes at which none begins.
-pub fn one_cut()
-    ensures { TextsHaveOneCut }
-{}
-
-/// A time, and when it is waited.
+// A time, and when it is waited.
 #[derive(Clone, Copy)]
 struct Padding {
-    /// Tenths of a millisecond.
+    // Tenths of a millisecond.
     tenths: u32,
-    /// `*`: the time is for each line.
+    // `*`: the time is for each line.
     proportional: bool,
-    /// `/`: the padding is written under `xon` and at any rate.
+    // `/`: the padding is written under `xon` and at any rate.
     mandatory: bool,
 }
 
-/// A part of a text.
+// A part of a text.
 #[derive(Clone, Copy)]
 enum Part {
-    /// A byte at which no padding begins.
+    // A byte at which no padding begins.
     Literal(u8),
     Delay(Padding),
 }
 
-/// The parts of a text, from the left.
+// The parts of a text, from the left.
 #[derive(Clone, Copy)]
 struct Parts<'a> {
     rest: &'a [u8],
@@ -145,7 +140,7 @@ impl<'a> Iterator for Parts<'a> {
     }
 }
 
-/// How many pad bytes the text asks for, where they are not too many.
+// How many pad bytes the text asks for, if they are not too many.
 #[tactic(auto, unfolding(crate::specs::inside::Padding::padding_of))]
 fn pads_in(text: &[u8], lines: u32, line: &Line) -> Option<usize>
     ensures { SomeIff result (padding_of text.now lines line.now ≤ pad_bytes_max) (padding_of text.now lines line.now) }
@@ -163,7 +158,7 @@ fn pads_in(text: &[u8], lines: u32, line: &Line) -> Option<usize>
     Some(total as usize)
 }
 
-/// Appends the padded text, for which the caller has made room.
+// Appends the padded text. The caller has made room for it.
 #[tactic(auto, using(crate::proofs::Cuts::parts_fit), unfolding(crate::specs::inside::Padding::padding_of, crate::specs::inside::Padding::with_pad_bytes))]
 fn write(out: &mut Vec<u8>, text: &[u8], lines: u32, line: &Line)
     requires { vec_len out.old + length text.now + padding_of text.now lines line.now ≤ vec_capacity out.old }
@@ -181,7 +176,7 @@ fn write(out: &mut Vec<u8>, text: &[u8], lines: u32, line: &Line)
     }
 }
 
-/// How many pad bytes a padding is written as.
+// How many pad bytes a padding is written as.
 fn pads_for(padding: Padding, lines: u32, line: &Line) -> u128
     ensures { result ≡ pad_count lines line.now padding }
 {
@@ -198,7 +193,7 @@ fn pads_for(padding: Padding, lines: u32, line: &Line) -> u128
     (time * u128::from(line.rate)).div_ceil(100_000)
 }
 
-/// The padding that the text begins with, and what follows it.
+// The padding that the text begins with, and what follows it.
 #[tactic(auto, unfolding(crate::specs::inside::Padding::padding_at))]
 fn padding_at(text: &[u8]) -> Option<(Padding, &[u8])>
     ensures { MatchOption result (padding_at text.now ≡ None) (λ found. padding_at text.now ≡ Some (found.0, found.1.now)) }
@@ -218,7 +213,7 @@ fn padding_at(text: &[u8]) -> Option<(Padding, &[u8])>
     Some((padding, rest))
 }
 
-/// What follows the byte, where the text begins with it.
+// What follows the byte, if the text begins with it.
 fn after_byte(text: &[u8], byte: u8) -> Option<&[u8]>
     ensures { MatchOption result (after_byte byte text.now ≡ None) (λ rest. after_byte byte text.now ≡ Some rest.now) }
 {
@@ -226,7 +221,7 @@ fn after_byte(text: &[u8], byte: u8) -> Option<&[u8]>
     if *first == byte { Some(rest) } else { None }
 }
 
-/// The number of one to five digits that the text begins with, and what follows it.
+// The number of one to five digits that the text begins with, and what follows it.
 fn milliseconds_at(text: &[u8]) -> Option<(u32, &[u8])>
     ensures value { MatchOption result (milliseconds_at text.now ≡ None) (λ found. milliseconds_at text.now ≡ Some (found.0, found.1.now)) }
     ensures bound { IfSome result (λ found. found.0 < 100000) }
@@ -242,7 +237,7 @@ fn milliseconds_at(text: &[u8]) -> Option<(u32, &[u8])>
     Some((whole, rest))
 }
 
-/// How many of the first five bytes, from the left, are digits.
+// How many of the first five bytes, from the left, are digits.
 fn digits_len(text: &[u8]) -> usize
     ensures { result ≡ digits_len delay_digits_max text.now }
 {
@@ -253,7 +248,7 @@ fn digits_len(text: &[u8]) -> usize
     len
 }
 
-/// The digit after a `.`, or 0, and what follows.
+// The digit after a `.`, or 0, and what follows.
 fn tenths_at(text: &[u8]) -> (u32, &[u8])
     ensures value { (result.0, result.1.now) ≡ tenths_at text.now }
     ensures bound { result.0 < 10 }
@@ -264,7 +259,7 @@ fn tenths_at(text: &[u8]) -> (u32, &[u8])
     }
 }
 
-/// Whether `*` and `/` stand there, and what follows.
+// Whether `*` and `/` are there, and what follows.
 fn marks_at(text: &[u8]) -> (bool, bool, &[u8])
     ensures { (result.0, result.1, result.2.now) ≡ marks_at text.now }
 {
@@ -278,7 +273,7 @@ fn marks_at(text: &[u8]) -> (bool, bool, &[u8])
     (star, slash, rest)
 }
 
-/// Whether the byte stands there, and what follows.
+// Whether the byte is there, and what follows.
 fn mark_at(text: &[u8], byte: u8) -> (bool, &[u8])
     ensures { (result.0, result.1.now) ≡ mark_at byte text.now }
 {

@@ -1,4 +1,4 @@
-//! The printf forms of a parameter string: `%d`, `%o`, `%x`, `%X` and `%s` with flags, width and precision.
+//! The printf forms of a parameter string: `%d`, `%o`, `%x`, `%X` and `%s`.
 ghost use Rattle.std.specs.Prelude.{◌≡◌, ◌≢◌, ◌+◌, ◌^◌, ◌<◌, ◌≤◌, ◌++◌, length, map, drop, replicate, slice_index, vec_len, vec_capacity, OnOk, OnErr};
 ghost use Rattle.std.specs.Fmt.{digit_glyph};
 ghost use Rattle.std.specs.Int.Digits.{digits_of};
@@ -12,7 +12,7 @@ use ti_text::room::{append_reserved, fill_reserved};
 /// The flags of a printf form.
 #[derive(Clone, Copy, Debug, PartialEq, Eq, Default)]
 pub struct Flags {
-    /// `-`: blanks stand after what is printed, not before it.
+    /// `-`: blanks are after what is printed, not before it.
     pub left: bool,
     /// `+`: `d` shows the sign of a number that is not negative.
     pub sign: bool,
@@ -33,9 +33,9 @@ pub enum Conversion {
     Octal,
     /// `x`: the number modulo 2^32, to the base 16.
     LowerHex,
-    /// `X`: the same in capitals.
+    /// `X`: the number modulo 2^32, to the base 16, in capitals.
     UpperHex,
-    /// `s`: a text.
+    /// `s`: a string.
     Text,
 }
 
@@ -43,19 +43,20 @@ pub enum Conversion {
 #[derive(Clone, Copy, Debug, PartialEq, Eq)]
 pub struct Directive {
     pub flags: Flags,
-    /// The least count of bytes; 0 where the form names none.
+    /// The least count of bytes; 0 if the form names none.
     pub width: u16,
-    /// The least count of digits of a number, the greatest count of bytes of a text.
+    /// The least count of digits of a number, the greatest count of bytes of a string.
     pub precision: Option<u16>,
     pub conversion: Conversion,
 }
 
-/// Appends what the form prints of a value, which is `number` as a number and `text` as a text: a text
-/// is 0 as a number, a number is the empty text. See "Parameterized Strings" in terminfo(5), and printf(3).
+/// Appends what the form prints of a value, which is `number` as a number and `text` as a string: a
+/// string is 0 as a number, and a number is the empty string. See "Parameterized Strings" in
+/// terminfo(5), and printf(3).
 ///
 /// # Errors
 ///
-/// `AllocError` where the room for it was refused; `out` then has its items as before.
+/// `AllocError` if the room was refused; `out` then has its items as before.
 pub fn print(
     out: &mut Vec<u8>,
     directive: &Directive,
@@ -71,30 +72,24 @@ pub fn print(
     }
 }
 
-/// The law of numerals that `print` rests on: to each base a number has exactly one numeral, the digits
-/// without a leading 0 whose number it is.
-pub fn one_numeral()
-    ensures { OneNumeral }
-{}
-
-/// As many digits as 32 bits have to the base 8.
+// As many digits as 32 bits have to the base 8.
 const MOST_DIGITS: usize = 11;
 
-/// What is printed, part by part.
+// What is printed, part by part.
 #[derive(Clone, Copy)]
 struct Layout<'a> {
-    /// Blanks.
+    // Blanks.
     before: usize,
-    /// The sign and the prefix.
+    // The sign and the prefix.
     front: &'a [u8],
     zeros: usize,
-    /// The digits, or a text.
+    // The digits, or a string.
     shown: &'a [u8],
-    /// Blanks.
+    // Blanks.
     after: usize,
 }
 
-/// Appends what the form prints of a text.
+// Appends what the form prints of a string.
 fn print_text(out: &mut Vec<u8>, directive: &Directive, text: &[u8]) -> Result<(), AllocError>
     ensures ok { OnOk result (out.new.items ≡ out.old.items ++ printed_text directive.now text.now) }
     ensures err { OnErr result (out.new.items ≡ out.old.items) }
@@ -119,7 +114,7 @@ fn print_text(out: &mut Vec<u8>, directive: &Directive, text: &[u8]) -> Result<(
     push_parts(out, &layout)
 }
 
-/// Appends what the form prints of a number.
+// Appends what the form prints of a number.
 fn print_number(out: &mut Vec<u8>, directive: &Directive, number: i32) -> Result<(), AllocError>
     ensures ok { OnOk result (out.new.items ≡ out.old.items ++ printed_number directive.now number) }
     ensures err { OnErr result (out.new.items ≡ out.old.items) }
@@ -132,7 +127,7 @@ fn print_number(out: &mut Vec<u8>, directive: &Directive, number: i32) -> Result
     push_parts(out, &arrange(directive, front, zeros, digits))
 }
 
-/// Where the parts of a number stand: blanks or zeros fill it up to the width.
+// The parts of a number: blanks or zeros fill it up to the width.
 fn arrange<'a>(directive: &Directive, front: &'a [u8], zeros: usize, shown: &'a [u8]) -> Layout<'a>
     requires { length front.now + zeros + length shown.now < 2 ^ 32 }
     ensures parts { parts_text result.before result.front.now result.zeros result.shown.now result.after
@@ -168,7 +163,7 @@ fn arrange<'a>(directive: &Directive, front: &'a [u8], zeros: usize, shown: &'a 
     }
 }
 
-/// Makes room for all parts, and then appends them.
+// Makes room for all parts, and then appends them.
 fn push_parts(out: &mut Vec<u8>, layout: &Layout<'_>) -> Result<(), AllocError>
     requires { layout.now.before + length layout.now.front.now + layout.now.zeros + length layout.now.shown.now + layout.now.after < 2 ^ 64 }
     ensures ok { OnOk result (out.new.items
@@ -191,7 +186,7 @@ fn push_parts(out: &mut Vec<u8>, layout: &Layout<'_>) -> Result<(), AllocError>
     Ok(())
 }
 
-/// Appends the byte so many times, mostly none, for which the caller has made room.
+// Appends the byte `count` times, mostly none. The caller has made room for them.
 #[inline(always)]
 fn fill(out: &mut Vec<u8>, byte: u8, count: usize)
     requires { vec_len out.old + count ≤ vec_capacity out.old }
@@ -204,7 +199,7 @@ fn fill(out: &mut Vec<u8>, byte: u8, count: usize)
     }
 }
 
-/// Appends the bytes, mostly none, for which the caller has made room.
+// Appends the bytes, mostly none. The caller has made room for them.
 #[inline(always)]
 fn append(out: &mut Vec<u8>, bytes: &[u8])
     requires { vec_len out.old + length bytes.now ≤ vec_capacity out.old }
@@ -217,7 +212,7 @@ fn append(out: &mut Vec<u8>, bytes: &[u8])
     }
 }
 
-/// The sign and the prefix.
+// The sign and the prefix.
 fn front_of(directive: &Directive, number: i32) -> &'static [u8]
     ensures value { result.now ≡ sign_in directive.now.conversion directive.now.flags number
         ++ prefix_in directive.now.conversion directive.now.flags number }
@@ -234,7 +229,7 @@ fn front_of(directive: &Directive, number: i32) -> &'static [u8]
     }
 }
 
-/// How many zeros stand before the digits for the precision and the leading 0 of `o`.
+// How many zeros are before the digits, for the precision and the leading 0 of `o`.
 fn zeros_before(directive: &Directive, digits: &[u8]) -> usize
     requires { slice_index digits.now 0 ≢ ascii.digit_0 }
     ensures value { replicate result ascii.digit_0 ++ digits.now ≡ digits_in directive.now.conversion directive.now.flags directive.now.precision digits.now }
@@ -248,7 +243,7 @@ fn zeros_before(directive: &Directive, digits: &[u8]) -> usize
     }
 }
 
-/// Writes the number's digits to the end of the buffer, and answers where they begin.
+// Writes the number's digits to the end of the buffer, and answers where they begin.
 fn write_numeral(buffer: &mut [u8; MOST_DIGITS], conversion: Conversion, number: i32) -> usize
     ensures bound { result ≤ digits_max }
     ensures digits { drop result buffer.new ≡ numeral conversion number }
@@ -263,7 +258,8 @@ fn write_numeral(buffer: &mut [u8; MOST_DIGITS], conversion: Conversion, number:
     }
 }
 
-/// Writes the digits of a number to a base to the end of the buffer, none for 0, and answers where they begin.
+// Writes the digits of a number to a base to the end of the buffer, none for 0, and answers where
+// they begin.
 fn write_digits(buffer: &mut [u8; MOST_DIGITS], number: u32, base: u32, upper: bool) -> usize
     requires { (8 ≤ base) × (base ≤ 16) }
     ensures bound { result ≤ digits_max }
@@ -280,7 +276,7 @@ fn write_digits(buffer: &mut [u8; MOST_DIGITS], number: u32, base: u32, upper: b
     at
 }
 
-/// The byte for a digit.
+// The byte for a digit.
 fn glyph(digit: u8, upper: bool) -> u8
     requires { digit < 16 }
     ensures { result ≡ digit_glyph upper digit }

@@ -1,5 +1,5 @@
-//! What a view shows of files: a line for the file's name, one for the names of the entry, and one for each
-//! capability that is there.
+//! What a view shows of files: a line for the file's name, one for the names of the entry, and one
+//! for each capability that is there.
 ghost use Rattle.ti_caps.specs.declared.capability.Kind.TheVariants.{Flag, Number, Text};
 
 use std::io::Write;
@@ -8,7 +8,7 @@ use std::{fs, io};
 use ti_caps::{Cap, Kind, count, name};
 use ti_layout::{ReadError, View};
 
-/// The longest file that is read.
+// The longest file that is read.
 const FILE_MAX: usize = 65_536;
 
 fn print_flags(out: &mut impl Write, view: &View<'_>) -> io::Result<()> {

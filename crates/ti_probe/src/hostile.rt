@@ -1,5 +1,6 @@
-//! Hostile bytes through the calls that read, list, compare and print entries and expand formats. It is printed how
-//! often each answer came, which a model that was written from the definitions alone has told before.
+//! Hostile bytes through the calls that read, list, compare and print entries and expand formats.
+//! The program prints how often each answer came; a model that was written from the definitions
+//! alone has predicted it.
 mod changes;
 mod uses;
 
@@ -10,7 +11,7 @@ use std::io::Write;
 use ti_param::{ParamError, Statics, Value, expand};
 use uses::Tally;
 
-/// Each byte of the entry changed in turn.
+// Each byte of the entry changed in turn.
 fn try_each_byte(alloc: Global, entry: &[u8]) -> Result<Tally, AllocError> {
     let mut tally = Tally::default();
     for at in 0..entry.len() {
@@ -21,7 +22,7 @@ fn try_each_byte(alloc: Global, entry: &[u8]) -> Result<Tally, AllocError> {
     Ok(tally)
 }
 
-/// Each two bytes of the entry's header changed in turn.
+// Each two bytes of the entry's header changed in turn.
 fn try_header_pairs(alloc: Global, entry: &[u8]) -> Result<Tally, AllocError> {
     let mut tally = Tally::default();
     for first in 0..HEADER_LEN {
@@ -37,7 +38,7 @@ fn try_header_pairs(alloc: Global, entry: &[u8]) -> Result<Tally, AllocError> {
     Ok(tally)
 }
 
-/// A piece so many times, behind a front.
+// A front, and this many copies of a piece.
 fn repeat_piece(
     alloc: Global,
     front: &[u8],
@@ -51,7 +52,7 @@ fn repeat_piece(
     Ok(format)
 }
 
-/// Expands a format with zeros, and prints how many bytes it gives or why it gives none.
+// Expands a format with zeros, and prints how many bytes it gives or why it gives none.
 fn print_expansion(
     out: &mut impl Write,
     alloc: Global,
@@ -67,7 +68,7 @@ fn print_expansion(
     }
 }
 
-/// Conditionals opened and never closed, a long part that is not taken, and one that is.
+// Conditionals opened and never closed, a long part that is not taken, and one that is.
 fn print_formats(out: &mut impl Write, alloc: Global) -> io::Result<()> {
     let opened = repeat_piece(alloc, b"", b"%?", 1_000_000)?;
     print_expansion(out, alloc, "1,000,000 conditionals opened", &opened)?;

@@ -5,7 +5,7 @@ use ti_base::{Database, EditError};
 use ti_source::{Code, Parsed, UnescapeError, What, escape, is_block, parse, unescape};
 use ti_tried_edits::{Tried, Trouble};
 
-/// Blocks that have a fault of almost each kind.
+// Blocks that have a fault of almost each kind.
 const FAULTY: [&[u8]; 8] = [
     b"a,use=zz,foo,cols=3,kf1=\\q,\n",
     b"b,use=b,\n",
@@ -34,7 +34,7 @@ fn database_of(alloc: Global, blocks: &[&[u8]]) -> Result<Database, Trouble> {
 /// The entry of a block.
 ///
 /// # Errors
-/// `Memory`, and that it has none.
+/// `Memory`, or that it has none.
 pub fn entry_of(alloc: Global, block: &[u8]) -> Result<Vec<u8>, Trouble> {
     let database = database_of(alloc, &[block])?;
     if database.len() == 0 {
@@ -46,7 +46,7 @@ pub fn entry_of(alloc: Global, block: &[u8]) -> Result<Vec<u8>, Trouble> {
     }
 }
 
-// Adds a fault: where it stands and what it is.
+// Adds a fault: where it is and what it is.
 fn add_fault(tried: &mut Tried, line: usize, code: Code, detail: Option<&[u8]>) {
     tried.add_number(line as u64);
     tried.add(code.name().as_bytes());

@@ -9,7 +9,7 @@ use ti_caps::{Cap, Kind};
 use ti_compiled::{Image, Table, Value, WriteError, write};
 use ti_tried_edits::{Tried, Trouble};
 
-/// The places of the texts that are set.
+// The places of the strings that are set.
 const PLACES: [usize; 6] = [1, 2, 11, 14, 19, 129];
 
 const TEXT: &[u8] = b"\x1b[1;2A";
@@ -34,7 +34,7 @@ fn entry_bytes(alloc: Global, table: &Table) -> Result<Vec<u8>, Trouble> {
     }
 }
 
-// Gives a capability of a table the same text as each other one.
+// Gives a capability of a table the string that each other one has.
 fn set_text(alloc: Global, table: &mut Table, cap: Cap) -> Result<Result<(), AllocError>, Trouble> {
     if cap.kind() != Kind::Text || !has_no_nul(TEXT) {
         return Err(Trouble::Wrong("no text"));
@@ -43,7 +43,7 @@ fn set_text(alloc: Global, table: &mut Table, cap: Cap) -> Result<Result<(), All
     Ok(table.set(cap, Some(Value::Text(text))))
 }
 
-/// Texts set in a table one by one, and the entry that is written from it.
+/// Strings set in a table one by one, and the entry that is written from it.
 ///
 /// # Errors
 /// As of a scenario.
@@ -76,7 +76,7 @@ pub fn table(alloc: Global) -> Result<Tried, Trouble> {
     Ok(tried)
 }
 
-// Gives a capability of an image a text, or takes it away.
+// Gives a capability of an image a string, or takes it away.
 fn patch(
     alloc: Global,
     image: &mut Image,
@@ -93,14 +93,14 @@ fn patch(
     Ok(image.set(cap, Some(Value::Text(text))))
 }
 
-/// What an image is given: the first flag, or a first text of so many times `A`.
+// What an image is given: the first boolean, or a first string of this many bytes `A`.
 #[derive(Clone, Copy)]
 enum Given {
     Flag,
     Text(usize),
 }
 
-// Gives an image a flag or a text.
+// Gives an image a boolean or a string.
 fn give(alloc: Global, image: &mut Image, given: Given) -> Result<Result<(), WriteError>, Trouble> {
     let kind = match given {
         Given::Flag => Kind::Flag,
@@ -121,7 +121,8 @@ fn give(alloc: Global, image: &mut Image, given: Given) -> Result<Result<(), Wri
     }
 }
 
-// Gives an image a flag or a text, and once more where memory was refused; what is refused leaves the image.
+// Gives an image a boolean or a string, and once more if memory was refused. What is refused leaves
+// the image as it was.
 fn give_again(
     alloc: Global,
     image: &mut Image,
@@ -140,14 +141,14 @@ fn give_again(
     give(alloc, image, given)
 }
 
-/// What an image of `xy` is given, and what it answers: the last text is too long by far.
+// What an image of `xy` is given, and what it answers: the last string is too long by far.
 const GIVEN: [(Given, Result<(), WriteError>); 3] = [
     (Given::Flag, Ok(())),
     (Given::Text(1), Ok(())),
     (Given::Text(4078), Err(WriteError::TooLarge)),
 ];
 
-// Gives an image of `xy` what it may have, and a text that makes it too large.
+// Gives an image of `xy` what it may have, and a string that makes it too large.
 fn add_full_image(alloc: Global, tried: &mut Tried) -> Result<(), Trouble> {
     let names: &[u8] = b"xy";
     if names.is_empty() || !has_no_nul(names) {

@@ -1,8 +1,8 @@
-//! Calls of the libraries in which any growth of memory may be refused, one in a run: who refuses it is
-//! `tests/refusals`. Each scenario makes its calls; one that answers want of memory must have changed
-//! nothing, and is made again. So a scenario prints the same line whichever growth was refused, and
-//! `refused` goes to standard error where a call of the libraries said so.
-//! The edits among them stand in `ti_tried_edits`.
+//! Calls of the libraries in which any growth of memory may be refused, one in a run.
+//! `tests/refusals` refuses it. Each scenario makes its calls. A call that answers out of memory
+//! must have changed nothing, and is made again. So a scenario prints the same line whichever
+//! growth was refused, and `refused` goes to standard error if a call of the libraries said so. The
+//! edits among them are in `ti_tried_edits`.
 //!
 //! The words are names of scenarios; without any, all run.
 #![tactic(auto)]
@@ -29,7 +29,7 @@ fn main(rt: HostRuntime) -> ExitCode {
     }
 }
 
-// The words of the command line. They are read once more where a growth was refused.
+// The words of the command line. They are read once more if a growth was refused.
 fn words<R: Env + AllocGlobal>(rt: &R) -> io::Result<Vec<String>> {
     if let Ok(words) = env::args(rt) {
         if let Ok(words) = words.collect(rt.alloc()) {
@@ -39,7 +39,7 @@ fn words<R: Env + AllocGlobal>(rt: &R) -> io::Result<Vec<String>> {
     Ok(env::args(rt)?.collect(rt.alloc())?)
 }
 
-// Runs the scenarios that the words name. Whether each ended as it must.
+// Runs the scenarios that the words name. Answers whether each ended as it must.
 fn run<R: Env + Print + Eprint + AllocGlobal>(rt: &R) -> io::Result<bool> {
     let words = words(rt)?;
     let mut all_right = true;
@@ -52,7 +52,8 @@ fn run<R: Env + Print + Eprint + AllocGlobal>(rt: &R) -> io::Result<bool> {
     Ok(all_right)
 }
 
-// Runs one scenario, once more where what it stands on was refused, and prints what it came to.
+// Runs one scenario, once more if memory for what it works on was refused, and prints what it came
+// to.
 fn run_one<R: Print + Eprint + AllocGlobal>(
     rt: &R,
     scenario: Scenario,

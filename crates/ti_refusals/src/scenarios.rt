@@ -82,7 +82,7 @@ impl Scenario {
     /// Makes its calls.
     ///
     /// # Errors
-    /// `Memory` where a growth was refused to the scenario itself, and not to a call that it tries.
+    /// `Memory` if a growth was refused to the scenario itself, and not to a call that it tries.
     pub fn run(self, alloc: Global) -> Result<Tried, Trouble> {
         match self {
             Scenario::Three => edits::apply_all(alloc, &three()),

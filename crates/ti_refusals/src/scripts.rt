@@ -4,10 +4,10 @@ use std::alloc::Global;
 use ti_tools::{Counted, ToolError, entry, session, tput_lines};
 use ti_tried_edits::{Tried, Trouble};
 
-/// More bytes than any of the scripts is answered.
+// Room for more bytes than any of the scripts is answered.
 const ROOM: usize = 4096;
 
-/// The commands of a session, those that an answer `refused Memory` may stand for first.
+// The commands of a session. The first ones are those that may be answered `refused Memory`.
 const COMMANDS: [&[u8]; 9] = [
     b"i 0\na,foo,\n.\n",
     b"i 1\nb,use=zz,\n.\n",
@@ -20,10 +20,10 @@ const COMMANDS: [&[u8]; 9] = [
     b"zap\n",
 ];
 
-/// How many of them are edits or ask for the report.
+// How many of them are edits or ask for the report.
 const MAY_BE_REFUSED: usize = 6;
 
-/// What they are answered where memory is there.
+// What they are answered if there is memory.
 const REPLIES: &[u8] = b"ok\nok\nok\n\
 1: W1 UnknownCapability foo\n2: E6 MissingUse zz\n3: E3 BadNumber cols\n.\n\
 ok\n4: W1 UnknownCapability foo\n5: E6 MissingUse zz\n6: E3 BadNumber cols\n.\n\
@@ -48,7 +48,7 @@ fn replies(alloc: Global, script: &[u8]) -> Result<(Result<(), ToolError>, Vec<u
     Ok((end, writer.into_inner()))
 }
 
-// The replies to a script where memory is there.
+// The replies to a script if there is memory.
 fn full_replies(alloc: Global, script: &[u8]) -> Result<Vec<u8>, Trouble> {
     match replies(alloc, script)? {
         (Ok(()), written) => Ok(written),
@@ -56,8 +56,8 @@ fn full_replies(alloc: Global, script: &[u8]) -> Result<Vec<u8>, Trouble> {
     }
 }
 
-// Whether `refused Memory` stands for the answer to one edit or report, and all other replies follow from the
-// other commands. It is asked after the only refusal.
+// Whether `refused Memory` is the answer to one edit or report, and all other replies follow from
+// the other commands. It is asked after the only refusal.
 fn is_one_refused(alloc: Global, written: &[u8]) -> Result<bool, Trouble> {
     for number in 0..MAY_BE_REFUSED {
         let front = full_replies(alloc, script(alloc, number, number)?.as_slice())?;

@@ -1,10 +1,10 @@
-//! Parameter strings expanded, and texts padded.
+//! Parameter strings expanded, and strings padded.
 use crate::again::again;
 use std::alloc::Global;
 use ti_param::{Line, PadError, ParamError, Statics, Value, expand, pad};
 use ti_tried_edits::{Tried, Trouble};
 
-/// Formats, some of which set a variable or are bad.
+// Formats, some of which set a variable or are bad.
 const FORMATS: [&[u8]; 8] = [
     b"\x1b[%i%p1%d;%p2%dH",
     b"%p1%PA%p2%PB%gA%d",
@@ -16,7 +16,7 @@ const FORMATS: [&[u8]; 8] = [
     b"",
 ];
 
-// The nine parameters: two numbers, a text, and zeros.
+// The nine parameters: two numbers, a string, and zeros.
 fn parameters() -> [Value<'static>; 9] {
     let zero = Value::Number(0);
     [
@@ -61,7 +61,7 @@ pub fn expansion(alloc: Global) -> Result<Tried, Trouble> {
     Ok(tried)
 }
 
-/// Texts that are padded.
+/// Strings that are padded.
 ///
 /// # Errors
 /// As of a scenario.

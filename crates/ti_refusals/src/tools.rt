@@ -8,7 +8,7 @@ use ti_tools::{
 };
 use ti_tried_edits::{Tried, Trouble};
 
-/// Command lines of each tool, and two that ask for no job.
+// Command lines of each tool, and two that ask for no job.
 const COMMANDS: [&[&str]; 7] = [
     &["ti", "tic", "-c", "f.ti"],
     &["ti", "tic", "-o", "out"],
@@ -28,7 +28,7 @@ const SOURCE: &[u8] = b"# c\na|b|d,foo,\nb|e,use=a,cols#80,\nf,use=zz,\n";
 const DUMB: &[u8] =
     b"dumb|80-column dumb tty,\n\tam, cols#80, bel=^G$<5>, cr=\\r, cup=\\E[%i%p1%d;%p2%dH,\n";
 
-// Texts in memory.
+// Strings in memory.
 fn strings(alloc: Global, texts: &[&str]) -> Result<Vec<String>, AllocError> {
     let mut strings = Vec::with_capacity(alloc, 16)?;
     for text in texts {
@@ -37,7 +37,7 @@ fn strings(alloc: Global, texts: &[&str]) -> Result<Vec<String>, AllocError> {
     Ok(strings)
 }
 
-// Adds a text, or that there is none.
+// Adds a string, or that there is none.
 fn add_option(tried: &mut Tried, text: &Option<String>) {
     match text {
         Some(text) => tried.add(text.as_bytes()),
@@ -132,7 +132,8 @@ pub fn places_and_entries(alloc: Global) -> Result<Tried, Trouble> {
     Ok(tried)
 }
 
-// Whether the tree holds the first files, as they are, and none of the others. Each path is that of one file.
+// Whether the tree holds the first files, as they are, and none of the others. Each path is that of
+// one file.
 fn holds_first(tree: &MemTree, files: &[File], count: usize) -> bool {
     for (number, file) in files.iter().enumerate() {
         let held = tree.file(file.path.as_str());

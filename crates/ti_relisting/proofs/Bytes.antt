@@ -5,7 +5,7 @@ use Rattle.ti_source.specs.Folding.{PlacedByte}
 use Rattle.ti_source.specs.inside.Folding.{bytes_on_lines, in_comment, without_comments, without_breaks, folding_of}
 use Rattle.ti_source.specs.Items.{bytes, without_front, without_white_front}
 
--- the bytes that stand in no comment
+-- the bytes that are in no comment
 abbrev pub uncommented : Bool → ℕ → List ℕ → List ℕ
 uncommented comment before [] = []
 uncommented comment before (x ∷ xs) = cond (in_comment comment before x) (uncommented true x xs) (x ∷ uncommented false x xs)

@@ -11,7 +11,7 @@ use Rattle.ti_caps.specs.Tables.{Capability, IsCapability}
 use Rattle.ti_source.specs.Code.{is_error}
 use Rattle.ti_source.specs.Reading.{Said, ReadItem, ReadFault, Reading}
 use Rattle.ti_source.specs.Parsing.{reading_of_text}
-use Rattle.ti_layout.specs.Values.{Content, content_true, content_number, content_text, content_cancelled, Contents}
+use Rattle.ti_layout.specs.Values.{Content, content_true, content_number, content_text, content_cancelled, Contents, contents}
 use Rattle.ti_layout.specs.Image.{image, image_limit, ImageFits}
 use Rattle.ti_layout.specs.Laws.{without_cancel, ImagesAreOfValues, LimitsAreOfValues}
 use Rattle.ti_meaning.specs.Owner.{owner_block, readings}
@@ -32,11 +32,11 @@ uncancelled-twice (Some (content_number n)) = refl
 uncancelled-twice (Some (content_text t)) = refl
 uncancelled-twice (Some content_cancelled) = refl
 
--- the mentions that a used name stands for, at a depth
+-- the mentions that a used name gives, at a depth
 abbrev pub used_at : (List ℕ → Option Reading) → ℕ → List ℕ → Option (List Mention)
 used_at env depth name = option_and_then (expand env depth) (env name)
 
--- a block without faults, that has these items, expands to what they stand for
+-- a block without faults, that has these items, expands to their mentions
 expand-says : (env : List ℕ → Option Reading) (depth : ℕ) (block : Reading) (items : List Said) → block.faults ≡ [] → map (λ (item : ReadItem). item.said) block.items ≡ items
     → expand env (suc depth) block ≡ expand_says (used_at env depth) items
 expand-says env depth block items none says =
@@ -72,7 +72,7 @@ listing-read ordered read field names table layout good has =
     read field names (items_for table (all_in layout.order) ++ []) (listing field table layout) good
     (all-can ordered table layout [] has (All-nil CanBeListed)) (listed-all field table layout [] (10 ∷ []) no_more)
 
--- it expands to what its entry has, whatever stands beside it
+-- a listing expands to what its entry has, whatever is next to it
 pub listing-expands : EachKindIsInOrder → PartsAreRead → (env : List ℕ → Option Reading) (depth : ℕ) (field : List ℕ) (names : List (List ℕ)) (table : Contents) (layout : Layout) → IsListable field names
     → CanHaveAll table → expand env (suc depth) (reading_of_text (listing field table layout)) ≡ Some (mentions_for table (all_in layout.order))
 listing-expands ordered read env depth field names table layout good has =
@@ -84,6 +84,7 @@ pub all-contents : EachKindIsInOrder → (table : Contents) (layout : Layout) (m
 all-contents ordered table layout ms c is = all-say table (all_in layout.order) ms c ((all_in-all ordered layout.order).complete c is)
 
 pub listings_compile : EachKindIsInOrder → PartsAreRead → ImagesAreOfValues → LimitsAreOfValues → ListingsCompile
+unfolding contents
 listings_compile ordered read images limits field names table layout good has within texts at stands =
     let text = listing field table layout in
     let blocks = readings texts in

@@ -1,4 +1,4 @@
--- Texts that stand in one item, told by their bytes.
+-- Texts that are inside one item, by their bytes.
 use Rattle.std.proofs.Common.{◌≡◌, ℕ, ◌<◌, Bool, true, false, not, ◌==◌, ◌||◌, ◌&&◌, List, [], ◌∷◌, ◌++◌, cond, refl, ap, sym, ◌∙◌, inl, inr}
 use Rattle.std.specs.List.{list_all}
 use mathlib.Core.Bool.{beq}
@@ -13,13 +13,13 @@ use Rattle.ti_spelling.specs.Spelling.{AreBytes, byte_text, is_percent, is_empty
 abbrev pub is_plain : ℕ → ℕ → Bool
 is_plain before x = not (x == 44) && not (x == 92 || (x == 94 && not (before == 37)))
 
--- pairs, and bytes that stand alone, whatever follows them
+-- pairs, and bytes by themselves, whatever follows them
 abbrev pub is_clear : ℕ → List ℕ → Bool
 is_clear before [] = true
 is_clear before (x ∷ []) = is_plain before x
 is_clear before (x ∷ y ∷ w) = cond (takes before x y) (is_clear y w) (is_plain before x && is_clear x (y ∷ w))
 
--- pairs, and bytes that stand alone where a comma follows them
+-- pairs, and bytes by themselves if a comma follows them
 abbrev pub is_whole : ℕ → List ℕ → Bool
 is_whole before [] = true
 is_whole before (x ∷ []) = not (x == 44) && not (x == 92)
@@ -67,13 +67,13 @@ clear-whole before (x ∷ y ∷ v) w a b =
           rw (f, plain.0) (clear-whole x (y ∷ v) w parts.1 b)
     ]
 
--- of the byte before a text only matters whether it is a percent
+-- of the byte before a text it matters only whether it is a percent
 pub clear-same : (a b : ℕ) (w : List ℕ) → is_percent a ≡ is_percent b → is_clear a w ≡ is_clear b w
 clear-same a b [] e = refl
 clear-same a b (x ∷ []) e = rw e refl
 clear-same a b (x ∷ y ∷ w) e = rw e refl
 
--- a text without a comma and without a backslash stands in one item
+-- a text without a comma and without a backslash is inside one item
 abbrev pub has_no_cut : List ℕ → Bool
 has_no_cut w = list_all (λ b. not (b == 44) && not (b == 92)) w
 
@@ -113,7 +113,8 @@ text-after : (after : ℕ) (t : List ℕ) → is_empty t ≡ false → last_byte
 text-after after [] h = cc
 text-after after (x ∷ xs) h = refl
 
--- a text of one byte is clear, has no newline, has some byte, and ends in a percent exactly where the byte is one
+-- the text of one byte is clear, has no newline, has some byte, and ends in a percent exactly if
+-- the byte is one
 abbrev is_good : Bool → Bool → ℕ → Bool
 is_good percent edge b =
     is_clear (cond percent 37 0) (byte_text percent edge b) && list_all (λ x. not (x == 10)) (byte_text percent edge b)

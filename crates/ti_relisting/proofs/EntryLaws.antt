@@ -174,7 +174,7 @@ listing-stands ordered stands shown layout can =
     stands shown.names can.names (items_for shown.contents (all_in layout.order) ++ []) (listing shown.names shown.contents layout) can.listable
     (all-can ordered shown.contents layout [] can.holds (All-nil CanBeListed)) (listed-all shown.names shown.contents layout [] (10 ∷ []) no_more)
 
--- a listing compiles to its entry wherever it stands
+-- a listing compiles to its entry, in whatever source it is
 listing-compiles : AreKnown → ListingsCompile → (bytes : List ℕ) (shown : Entry) (layout : Layout) → IsShown bytes shown
     → (texts : List (List ℕ)) (at : ℕ) → slice_get texts at ≡ Some (listing shown.names shown.contents layout) → compiled texts at ≡ Some bytes
 listing-compiles known compiles bytes shown layout is texts at stands =

@@ -1,4 +1,5 @@
--- What the laws say of small entries, and why the blocks of the sources are to be blocks by themselves.
+-- What the laws say of small entries, and why the blocks of the sources have to be blocks by
+-- themselves.
 use Rattle.std.proofs.Common.{◌≡◌, ℕ, false, List, [], ◌∷◌, Some, None, refl}
 use Rattle.std.specs.Prelude.{codes}
 use Rattle.std.specs.Fmt.{digits}
@@ -23,20 +24,21 @@ layout = record { width = 60; one_per_line = false; order = order.Table }
 abbrev nothing : Contents
 nothing c = None
 
--- a text whose names field begins with a `#`, behind a line break: no head line begins it, so it is no block of a source
+-- a text whose names field begins with a `#`, after a line break: no head line begins it, so it is
+-- no block of a source
 abbrev hidden : List ℕ
 hidden = codes "\n #x,\n"
 
 hidden-compiles : compiled (hidden ∷ []) 0 ≡ Some (image (codes "#x") nothing)
-unfolding reading_of_text capability_named names flag_names number_names text_names last_passing some_below below texts_below number_section image
+unfolding reading_of_text capability_named names flag_names number_names text_names last_passing some_below below texts_below number_section image contents
 hidden-compiles = refl
 
--- its listing is a comment, and has no entry
+-- the listing of such a text is a comment, and has no entry
 hidden-lost : compiled (listing (codes "#x") nothing layout ∷ []) 0 ≡ None
 unfolding reading_of_text in_order
 hidden-lost = refl
 
--- an entry whose first name ends in a backslash, which takes the comma behind a use of it
+-- an entry whose first name ends in a backslash, which takes the comma after a use of it
 abbrev slashed : Entry
 slashed = record { names = codes "a\\"; contents = nothing }
 
@@ -47,7 +49,7 @@ slashed-owns : owner (readings (with_others plain layout ((slashed, layout) ∷ 
 unfolding reading_of_text in_order
 slashed-owns = refl
 
--- a relative source that uses it does not resolve
+-- a relative source that uses the entry does not resolve
 slashed-lost : compiled (with_others plain layout ((slashed, layout) ∷ [])) 0 ≡ None
 unfolding reading_of_text in_order
 slashed-lost = refl

@@ -7,7 +7,7 @@ use Rattle.std.proofs.lemmas.List.Elements.{All-nil, All-cons, All-head, All-tai
 use Rattle.ti_caps.specs.Tables.{Capability, IsCapability, same_capability}
 use Rattle.ti_source.specs.Reading.{Said, said_flag, said_number, said_text, said_cancel, said_import, ReadItem, Reading}
 use Rattle.ti_source.specs.Sound.{SetsItsKind}
-use Rattle.ti_layout.specs.Values.{Content, content_true, content_number, content_text, content_cancelled, AgreesIfSome}
+use Rattle.ti_layout.specs.Values.{Content, content_true, content_number, content_text, content_cancelled, AgreesIfSome, contents}
 use Rattle.ti_layout.specs.Laws.{without_cancel}
 use Rattle.ti_meaning.specs.Owner.{is_among, owner_block}
 use Rattle.ti_text.specs.Lists.{both_lists}
@@ -20,7 +20,7 @@ use Rattle.ti_caps.proofs.Same.{same_capability-true}
 abbrev pub MentionFits : Mention → Type 0
 MentionFits m = IsCapability m.capability × CanHave m.capability (Some m.says)
 
--- so is an item, unless it is a use
+-- an item says something that its capability can have, unless it is a use
 abbrev pub SaidFits : Said → Type 0
 SaidFits (said_flag c) = IsCapability c × CanHave c (Some content_true)
 SaidFits (said_number c n) = IsCapability c × CanHave c (Some (content_number n))
@@ -88,7 +88,7 @@ unbroken-expand env depth block ms e =
       | inr f ↦ f
     ]
 
--- something that follows from a value that is there
+-- what follows from a value that is there
 pub record Follows {X Y : Type 0} (f : X → Option Y) (o : Option X) (y : Y) : Type 0 where
   pub from : X
   pub is : o ≡ Some from
@@ -119,6 +119,7 @@ owned-has P (b ∷ bs) name block all e =
 -- ---- what the mentions say
 
 pub said-has : (ms : List Mention) (c : Capability) → All MentionFits ms → CanHave c (leftmost_content ms c)
+unfolding contents
 said-has [] c fits = tt
 said-has (m ∷ ms) c fits =
     elim (cases_Bool (same_capability m.capability c)) [

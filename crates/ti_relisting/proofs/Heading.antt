@@ -33,7 +33,7 @@ no_error-front (f ∷ fs) gs e =
     let parts = or_parts (is_error f.code) (has_error (fs ++ gs)) e in
     rw (parts.0) (no_error-front fs gs parts.1)
 
--- what stands in a names field with no fault
+-- what is in a names field with no fault
 record IsGoodHeader (field : List ℕ) (names : List (List ℕ)) : Type 0 where
   pub header : HeaderNames field names
   pub short : length field ≤ names_max
@@ -78,7 +78,7 @@ field-line _ _ _ (field_and_rest field rest line none) h = front-line field ((44
 
 -- ---- no comment
 
--- the first byte, or this one where there is none
+-- the first byte of a text, or this one if it is empty
 abbrev first_or : ℕ → List ℕ → ℕ
 first_or d [] = d
 first_or d (x ∷ xs) = x
@@ -138,7 +138,7 @@ apart-all w none =
     let others : All (λ b. b ≢ 124) w = All-from_get_or (λ b. b ≢ 124) w 124 (λ i lt e. none (i, lt, e)) in
     list_all-from_AllPass (λ b. not (b == 124)) w (All-weaker (λ b. b ≢ 124) (λ b. not (b == 124) ≡ true) (λ b ne. not_from_false (b == 124) (ne_eqb b 124 ne)) w others)
 
--- of a field in parts the first is a lookup name, if the lookup parts are
+-- in a field of several parts the first is a lookup name, if the lookup parts are lookup names
 first-part : (field : List ℕ) (parts : List (List ℕ)) → field ≡ join_with_byte 124 parts → parts ≢ [] → All (λ part. ¬ Contains part 124) parts → All IsLookupName (lookup_parts parts)
     → IsLookupName (first_name field)
 first-part field [] whole some apart lookup = absurd (some refl)

@@ -10,7 +10,7 @@ use Rattle.ti_caps.specs.Tables.{Capability, IsCapability, same_capability}
 use Rattle.ti_caps.proofs.Same.{same_capability-true}
 use Rattle.ti_caps.specs.declared.capability.Kind.TheVariants.{Flag, Number, Text}
 use Rattle.ti_source.specs.Reading.{Said, said_flag, said_number, said_text, said_cancel, said_import, ReadItem}
-use Rattle.ti_layout.specs.Values.{Content, content_true, content_number, content_text, content_cancelled, Contents}
+use Rattle.ti_layout.specs.Values.{Content, content_true, content_number, content_text, content_cancelled, Contents, contents}
 use Rattle.ti_text.specs.Lists.{both_lists}
 use Rattle.ti_meaning.specs.Expansion.{Mention, leftmost_content, mentions_of, expand_items}
 use Rattle.ti_list.specs.declared.layout.Layout.{Layout}
@@ -24,7 +24,7 @@ use Rattle.ti_relisting.proofs.Orders.{is_among, all_in, all_in-all}
 
 -- ---- the layout
 
--- an item with its comma, and what stands behind it
+-- an item with its comma, and what follows it
 item-then : (item : Said) (later rest : List ℕ) → item_text item ++ 44 ∷ (later ++ rest) ≡ (item_text item ++ 44 ∷ later) ++ rest
 item-then item later rest = sym (append_assoc (item_text item) (44 ∷ later) rest)
 
@@ -98,7 +98,7 @@ relatives_laid_out entry others layout =
     (sym (append_assoc lines (use_lines others) (10 ∷ [])))
     (listed-is entry.names (differing_contents entry.contents others) layout (uses_of others) (use_lines others ++ 10 ∷ []) (uses-tail others))
 
--- the same of the items of all capabilities
+-- a listing in any layout, of the items of all capabilities
 pub listed-all : (field : List ℕ) (table : Contents) (layout : Layout) (more : List Said) (rest : List ℕ) → IsTail more rest
     → IsListing field (items_for table (all_in layout.order) ++ more) (source_lines field table layout ++ rest)
 listed-all field table layout more rest laid =
@@ -136,12 +136,12 @@ abbrev pub mention_for : Capability → Option Content → List Mention
 mention_for c None = []
 mention_for c (Some content) = record { capability = c; says = content } ∷ []
 
--- those of some capabilities, in their order
+-- the mentions of some capabilities, in order
 abbrev pub mentions_for : Contents → List Capability → List Mention
 mentions_for table [] = []
 mentions_for table (c ∷ cs) = mention_for c (table c) ++ mentions_for table cs
 
--- what items stand for, without their places
+-- the mentions of items, without their places
 abbrev pub expand_says : (List ℕ → Option (List Mention)) → List Said → Option (List Mention)
 expand_says of_name [] = Some []
 expand_says of_name (item ∷ items) = both_lists (mentions_of of_name item) (expand_says of_name items)
@@ -171,7 +171,7 @@ item-expands of_name c (Some (content_number n)) ms items later e = ap (both_lis
 item-expands of_name c (Some (content_text t)) ms items later e = ap (both_lists (Some (record { capability = c; says = content_text t } ∷ []))) e ∙ joined-before (record { capability = c; says = content_text t }) ms later
 item-expands of_name c (Some content_cancelled) ms items later e = ap (both_lists (Some (record { capability = c; says = content_cancelled } ∷ []))) e ∙ joined-before (record { capability = c; says = content_cancelled }) ms later
 
--- own items stand for own mentions, whatever follows them
+-- own items give own mentions, whatever follows them
 pub own-expands : (of_name : List ℕ → Option (List Mention)) (table : Contents) (cs : List Capability) (more : List Said)
     → expand_says of_name (items_for table cs ++ more) ≡ before (mentions_for table cs) (expand_says of_name more)
 own-expands of_name table [] more = sym (before-nil (expand_says of_name more))
@@ -179,21 +179,24 @@ own-expands of_name table (c ∷ cs) more =
     ap (expand_says of_name) (append_assoc (item_for c (table c)) (items_for table cs) more)
     ∙ item-expands of_name c (table c) (mentions_for table cs) (items_for table cs ++ more) (expand_says of_name more) (own-expands of_name table cs more)
 
--- the table, of the capabilities that are among these
+-- the table, restricted to these capabilities
 abbrev told : Contents → List Capability → Contents
 told table cs c = cond (is_among cs c) (table c) None
 
 mention-same : (d c : Capability) (o : Option Content) (b : Bool) (ms : List Mention) (later : Option Content) → same_capability d c ≡ true
     → leftmost_content ms c ≡ option_or (cond b o None) later → leftmost_content (mention_for d o ++ ms) c ≡ option_or o later
+unfolding contents
 mention-same d c None true ms later s e = e
 mention-same d c None false ms later s e = e
 mention-same d c (Some content) b ms later s e = rw s refl
 
 mention-other : (d c : Capability) (o : Option Content) (ms : List Mention) → same_capability d c ≡ false → leftmost_content (mention_for d o ++ ms) c ≡ leftmost_content ms c
+unfolding contents
 mention-other d c None ms f = refl
 mention-other d c (Some content) ms f = rw f refl
 
 items-say : (table : Contents) (cs : List Capability) (ms : List Mention) (c : Capability) → leftmost_content (mentions_for table cs ++ ms) c ≡ option_or (told table cs c) (leftmost_content ms c)
+unfolding contents
 items-say table [] ms c = refl
 items-say table (d ∷ cs) ms c =
     let later = items-say table cs ms c in
@@ -205,6 +208,6 @@ items-say table (d ∷ cs) ms c =
       | inr f ↦ rw f (mention-other d c (table d) (mentions_for table cs ++ ms) f ∙ later)
     ]
 
--- where each capability is among them, what they say is what the table has, and then what follows
+-- if each capability is among them, their mentions say what the table has, and then what follows
 pub all-say : (table : Contents) (cs : List Capability) (ms : List Mention) (c : Capability) → is_among cs c ≡ true → leftmost_content (mentions_for table cs ++ ms) c ≡ option_or (table c) (leftmost_content ms c)
 all-say table cs ms c t = items-say table cs ms c ∙ ap (λ b. option_or (cond b (table c) None) (leftmost_content ms c)) t

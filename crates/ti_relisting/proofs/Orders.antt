@@ -17,12 +17,12 @@ use Rattle.ti_list.specs.Listing.{by_index, in_order}
 abbrev pub is_among : List Capability → Capability → Bool
 is_among cs c = list_any (λ d. same_capability d c) cs
 
--- these are capabilities, and each of them
+-- each of these is a capability, and all capabilities are among them
 pub record AreAll (cs : List Capability) : Type 0 where
   pub valid : All IsCapability cs
   pub complete : (c : Capability) → IsCapability c → is_among cs c ≡ true
 
--- all capabilities in an order: the flags, the numbers, the texts
+-- all capabilities in an order: the booleans, the numbers, the strings
 abbrev pub all_in : Order → List Capability
 all_in o = in_order o Flag ++ (in_order o Number ++ in_order o Text)
 

@@ -11,7 +11,7 @@ use Rattle.ti_caps.specs.NameOrder.{EachKindIsInOrder}
 use Rattle.ti_caps.specs.Tables.{Capability, IsCapability}
 use Rattle.ti_source.specs.Reading.{said_import, Reading}
 use Rattle.ti_source.specs.Parsing.{reading_of_text}
-use Rattle.ti_layout.specs.Values.{Content, content_true, content_number, content_text, content_cancelled, Contents}
+use Rattle.ti_layout.specs.Values.{Content, content_true, content_number, content_text, content_cancelled, Contents, contents}
 use Rattle.ti_layout.specs.Laws.{without_cancel, ImagesAreOfValues, LimitsAreOfValues}
 use Rattle.ti_meaning.specs.Owner.{is_among, owner, owner_block, readings}
 use Rattle.ti_meaning.specs.Expansion.{Mention, leftmost_content, expand, expansion}
@@ -93,6 +93,7 @@ uses-expand of_name (one ∷ listed) h =
     rw (first, later) refl
 
 used-contents : EachKindIsInOrder → (listed : List Listed) (c : Capability) → IsCapability c → leftmost_content (used_mentions listed) c ≡ first_of (entries_of listed) c
+unfolding contents
 used-contents ordered [] c is = refl
 used-contents ordered (one ∷ listed) c is =
     all-contents ordered one.0.contents one.1 (used_mentions listed) c is ∙ ap (option_or (one.0.contents c)) (used-contents ordered listed c is)

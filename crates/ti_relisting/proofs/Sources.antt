@@ -1,4 +1,4 @@
--- The blocks of a source of bytes are of bytes, and stand by themselves.
+-- The blocks of a source of bytes are of bytes, and are blocks by themselves.
 use Rattle.std.proofs.Common.{ℕ, ◌<◌, List, [], ◌∷◌, ◌++◌, subst}
 use Rattle.std.specs.List.{All, concat}
 use Rattle.std.proofs.lemmas.List.Elements.{All-from_recursion, recursion_from_All, All-nil, All-cons}

@@ -18,7 +18,7 @@ use Rattle.ti_relisting.proofs.Cutting.{is_inline}
 use Rattle.ti_relisting.proofs.ReadBack.{item-readable}
 use Rattle.ti_relisting.proofs.Heading.{one_plus, first-lookup}
 
--- no head begins in a line, nor just behind it
+-- no head line begins in a line, nor just after it
 inline-headless : (before : ℕ) (w rest : List ℕ) → (before == 10) ≡ false → is_inline w ≡ true → HasNoHead 44 rest → HasNoHead before (w ++ 44 ∷ rest)
 inline-headless before [] rest b h none = (and_left (before == 10) (begins_head 44) b, none)
 inline-headless before (x ∷ xs) rest b h none =
@@ -39,7 +39,7 @@ tail-ends _ _ no_more = refl
 tail-ends _ _ (same_line item items tail laid) = last_byte-append 32 (item_text item) (44 ∷ tail) ∙ tail-ends items tail laid
 tail-ends _ _ (new_line item items tail laid) = last_byte-append 9 (item_text item) (44 ∷ tail) ∙ tail-ends items tail laid
 
--- the first byte of a names field is one of its first name
+-- the first byte of a names field is that of its first name
 name-first : (x : ℕ) (xs : List ℕ) → IsLookupName (first_name (x ∷ xs)) → IsNameByte x
 name-first x xs is =
     elim (cases_Bool (x == 124)) [

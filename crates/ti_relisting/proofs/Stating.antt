@@ -23,7 +23,7 @@ use Rattle.ti_relisting.proofs.Cutting.{is_clear, is_whole, is_inline, has_no_cu
 use Rattle.ti_relisting.proofs.Unfolding.{is_dark}
 use Rattle.ti_relisting.proofs.Words.{is_word_byte, is_word, word_byte-has, word-has, capability-name, decimal-digits, numeral-of}
 
--- a text, in one line, that stands in one item and is read as this
+-- a text, on one line, that is inside one item and is read as this
 pub record IsReadable (w : List ℕ) (said : Said) : Type 0 where
   pub dark : is_dark w ≡ true
   pub inline : is_inline w ≡ true

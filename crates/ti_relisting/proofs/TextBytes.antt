@@ -1,4 +1,4 @@
--- Of a block of bytes each text that is read is of bytes.
+-- In a block of bytes each text that is read is of bytes.
 use Rattle.std.proofs.Common.{ℕ, ◌+◌, ◌<◌, Bool, true, false, ◌==◌, ◌||◌, ◌&&◌, List, [], ◌∷◌, ◌++◌, cond, Option, Some, None, Result, Ok, Err, sym, subst, inl, inr}
 use Rattle.std.specs.List.{All, AllByRecursion}
 use Rattle.std.proofs.lemmas.List.Elements.{All-from_recursion, recursion_from_All, All-nil, All-cons}
@@ -24,7 +24,7 @@ use Rattle.ti_relisting.proofs.Bytes.{uncommented, unbroken, bytes-folded}
 abbrev pub OfBytes : List ℕ → Type 0
 OfBytes s = AllByRecursion (λ b. b < 256) s
 
--- the same of bytes that stand on lines
+-- bytes with their lines: each text that is read is of bytes
 abbrev ArePlacedBytes : List PlacedByte → Type 0
 ArePlacedBytes s = OfBytes (bytes s)
 
@@ -94,7 +94,7 @@ states-bytes _ _ (text_item name value none on) h = (behind-bytes name (61 ∷ v
 states-bytes _ _ (cancel_item name end none white on) h = tt
 states-bytes _ _ (flag_item name end none white on visible last) h = tt
 
--- a text that an item says is of bytes
+-- a string that an item says is of bytes
 abbrev pub SaysBytes : Said → Type 0
 SaysBytes (said_flag c) = Unit {0}
 SaysBytes (said_number c n) = Unit {0}

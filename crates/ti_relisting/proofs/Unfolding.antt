@@ -1,4 +1,4 @@
--- What folding leaves of a text that is laid out in lines.
+-- What is left after folding a text that is laid out in lines.
 use Rattle.std.proofs.Common.{◌≡◌, ℕ, Bool, true, false, not, ◌==◌, ◌||◌, ◌&&◌, List, [], ◌∷◌, ◌++◌, refl, ap, subst, inl, inr}
 use Rattle.std.specs.List.{list_all}
 use Rattle.std.proofs.lemmas.Bool.{cases_Bool, and_parts, or_parts, not-true}
@@ -45,7 +45,7 @@ unbroken-dark (x ∷ xs) rest h =
     let none = or_parts (x == 10) (is_white_space x) (not-true (x == 10 || is_white_space x) h) in
     rw (none.0, none.1) refl
 
--- no `#` stands just after a newline
+-- no `#` is just after a newline
 abbrev pub is_calm : ℕ → List ℕ → Bool
 is_calm before [] = true
 is_calm before (x ∷ xs) = not (before == 10 && x == 35) && is_calm x xs
@@ -66,7 +66,7 @@ calm-inline before (x ∷ xs) rest b h r =
     let parts = and_parts (not (x == 10)) (is_inline xs) h in
     rw b (calm-inline x xs rest (not-true (x == 10) parts.0) parts.1 r)
 
--- a text whose bytes are parted in two is parted so itself
+-- a text whose bytes are split in two is split in two itself
 pub record Parted (s : List PlacedByte) (u v : List ℕ) : Type 0 where
   pub front : List PlacedByte
   pub rest : List PlacedByte

@@ -22,7 +22,7 @@ use Rattle.ti_spelling.specs.Spelling.{is_empty}
 abbrev pub is_word_byte : ℕ → Bool
 is_word_byte b = nat_lt b 123 && (nat_le 97 b || (nat_le 65 b && nat_le b 90) || (nat_le 48 b && nat_le b 57))
 
--- letters and digits alone
+-- letters and digits only
 abbrev pub is_word : List ℕ → Bool
 is_word w = list_all is_word_byte w
 
@@ -84,7 +84,7 @@ digit-value d lt = eqb-true (digit_value (48 + d)) d (agree_below_at (λ d. digi
 digit-word : (d : ℕ) → d < 10 → is_word_byte (48 + d) ≡ true
 digit-word d lt = agree_below_at (λ d. is_word_byte (48 + d)) (λ d. true) 10 d refl lt
 
--- the digits of a number: a first, which is `0` of the number 0 alone, and others
+-- the digits of a number: a first, which is `0` only of the number 0, and others
 pub record AreDigitsOf (n : ℕ) (ds : List ℕ) : Type 0 where
   pub first : ℕ
   pub others : List ℕ

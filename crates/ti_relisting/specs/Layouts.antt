@@ -9,7 +9,8 @@ use Rattle.ti_list.specs.Listing.{kind_items, listing}
 use Rattle.ti_layout.specs.View.{Entry}
 use Rattle.ti_list.specs.RelativeSource.{first_name, differing_contents, relative}
 
--- the items of an entry: flags, numbers, texts, each in the order that the layout asks for
+-- the items of an entry: booleans, numbers, strings, each kind in the order that the layout asks
+-- for
 abbrev pub entry_items : Layout → Contents → List Said
 entry_items layout table = kind_items layout table Flag ++ (kind_items layout table Number ++ kind_items layout table Text)
 
@@ -22,7 +23,8 @@ uses_of (other ∷ others) = said_import (first_name other.names) ∷ uses_of ot
 abbrev pub ListingsAreLaidOut : Type 0
 ListingsAreLaidOut = (field : List ℕ) (table : Contents) (layout : Layout) → IsListing field (entry_items layout table) (listing field table layout)
 
--- a relative source is laid out as the items in which the entry differs from the others, and then the uses
+-- a relative source is laid out as the items in which the entry differs from the others, and then
+-- the uses
 abbrev pub RelativesAreLaidOut : Type 0
 RelativesAreLaidOut =
     (entry : Entry) (others : List Entry) (layout : Layout)

@@ -1,4 +1,4 @@
-// The laws of relisting and of relative source: compiled entries of sources come back byte for byte.
+//! The laws of compiled entries of sources: they come back byte for byte.
 ghost use Rattle.ti_relisting.specs.Entries.{EntriesOfSources, RelativeSource, Relisting, Relistings};
 
 use crate::reading_back::parts_are_blocks;
@@ -7,14 +7,16 @@ use ti_caps::each_kind_is_in_order;
 use ti_layout::{images_are_of_values, images_are_read, one_reading as entries_have_one_reading};
 use ti_source::{blocks_are_single, each_is_well_read, one_outcome, one_reading};
 
-/// Each entry of a source of bytes that is empty or ends with a newline is one of those that the laws speak of.
+/// Each entry of a source of bytes that is empty or ends with a newline is a compiled entry as the
+/// other laws ask for.
 pub fn sources_have_entries()
     ensures { EntriesOfSources }
 {
     blocks_are_single();
 }
 
-/// The listing of a compiled entry, in any layout, is a source of one block, which compiles to the entry, byte for byte.
+/// The listing of a compiled entry, in any layout, is a source of one block, which compiles to the
+/// entry, byte for byte.
 pub fn listings_compile_back()
     ensures { Relisting }
 {
@@ -29,8 +31,8 @@ pub fn listings_compile_back()
     listings_compile();
 }
 
-/// The listings of several compiled entries, one behind the other, are a source of as many blocks, each of which compiles to
-/// its entry, byte for byte, whatever names the entries share.
+/// The listings of several compiled entries, one after the other, are a source of as many blocks,
+/// each of which compiles to its entry, byte for byte, whatever names the entries share.
 pub fn several_listings_compile_back()
     ensures { Relistings }
 {
@@ -45,9 +47,9 @@ pub fn several_listings_compile_back()
     listings_compile();
 }
 
-/// The relative source of a compiled entry, with the listings of the entries that it uses behind it, is a source of these
-/// blocks, of which the first compiles to the entry, byte for byte, where the first names of the used ones belong to their
-/// listings and hold no backslash.
+/// The relative source of a compiled entry, with the listings of the entries that it uses after it,
+/// is a source of these blocks. The first compiles to the entry, byte for byte, if the first names
+/// of the used entries belong to their listings and hold no backslash.
 pub fn relative_sources_compile_back()
     ensures { RelativeSource }
 {

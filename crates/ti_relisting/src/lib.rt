@@ -1,11 +1,12 @@
-//! The laws of compiling what was listed. They compute nothing: each is the contract of a
-//! function that has no code but calls of other laws.
+//! The laws of compiling what was listed. They compute nothing: each is the contract of a function
+//! whose code only calls other laws.
 //!
 //! - `layouts`: listings and relative sources are laid out as items.
-//! - `reading_back`: what is laid out so is one block, and is read as what it lists.
-//! - `relisting`: a listing compiles to what was listed, and a relative source to the entry that it is of.
-//! - `entries`: the same of the compiled entries of any sources, byte for byte.
-//! - `runs`: the same of what a run of edits leaves that inserts listings.
+//! - `reading_back`: what is laid out as a listing is one block, and is read as what it lists.
+//! - `relisting`: a listing compiles to what was listed, and a relative source to its entry.
+//! - `entries`: listings and relative sources of the compiled entries of any sources compile back,
+//!   byte for byte.
+//! - `runs`: the blocks that a run of edits inserts as listings compile back.
 #![tactic(auto)]
 
 mod entries;

@@ -1,11 +1,11 @@
-// A listing is one block, and is read as what it lists.
+//! A listing is one block, and is read as what it lists.
 ghost use Rattle.ti_relisting.specs.ReadingBack.{PartsAreBlocks, PartsAreRead};
 
 use ti_caps::every_name_is_found;
 use ti_source::{one_reading, written_spells};
 
-/// Each text that is laid out as a listing, whatever its layout, is read as the names field and the items that it lists,
-/// without a fault.
+/// Each text that is laid out as a listing, whatever its layout, is read as the names field and the
+/// items that it lists, without a fault.
 pub fn parts_are_read()
     ensures { PartsAreRead }
 {

@@ -1,12 +1,12 @@
-// A listing compiles to what was listed, and a relative source to the entry that it is of.
+//! A listing compiles to what was listed, and a relative source to its entry.
 ghost use Rattle.ti_relisting.specs.Relisting.{ListingsCompile, RelativesCompile};
 
 use crate::reading_back::parts_are_read;
 use ti_caps::each_kind_is_in_order;
 use ti_layout::images_are_of_values;
 
-/// The listing of a names field and contents that a source can give, in any layout, compiles to their image, in whatever
-/// source it stands.
+/// The listing of a names field and contents that a source can give, in any layout, compiles to
+/// their image, in whatever source it is.
 pub fn listings_compile()
     ensures { ListingsCompile }
 {
@@ -15,8 +15,9 @@ pub fn listings_compile()
     parts_are_read();
 }
 
-/// The relative source of an entry, with the listings of the entries that it uses behind it, compiles to the image of the
-/// entry, where the first names of the used ones belong to their listings and hold no backslash.
+/// The relative source of an entry, with the listings of the entries that it uses after it,
+/// compiles to the image of the entry, if the first names of the used entries belong to their
+/// listings and hold no backslash.
 pub fn relatives_compile()
     ensures { RelativesCompile }
 {

@@ -18,7 +18,7 @@ use Rattle.ti_session.specs.Script.{Complete, IsShortScriptLine, Session, Sessio
 use Rattle.ti_session.specs.Streaming.{ScriptEnds}
 use Rattle.ti_session.proofs.Running.{Complete-last, Complete-ran, Ran, Ran-line, Ran-none, SoFar-ran, bytes_of, bytes_of-more}
 
--- the lines that were read are answered, and what was read behind them is ahead
+-- the lines that were read are answered, and what was read after them is ahead
 pub record Progress (given left : Observed) (reading : LineReader) (editor : Editor) (before now : Observed) : Type 0 where
   pub lines : List (List ℕ)
   pub state : SessionState
@@ -172,7 +172,7 @@ module _ (given left before : Observed) (input : List ℕ) (gives : Gives given 
 
 module _ (given left : Observed) (reading : LineReader) (editor : Editor) (before now : Observed)
     (p : Progress given left reading editor before now) (next : LineReader) (later : Observed) where
-  -- the script has ended behind a newline
+  -- the script has ended after a newline
   pub ScriptEnds-end : ReadsLine reading next left later (Ok End) → (now2 : Observed) (result : Result Unit ToolError)
       → ((s : SessionState) → HasState editor s → Wrote now now2 (closing_reply s.mode) result) → ScriptEnds given later before now2 result
   ScriptEnds-end r now2 result closes =
@@ -183,7 +183,7 @@ module _ (given left : Observed) (reading : LineReader) (editor : Editor) (befor
       ScriptEnds-closed given later before (bytes_of p.lines) gives r.2 p.state p.output (Complete-ran p.lines p.state p.output p.ran)
       now now2 result p.written (closes p.state p.holds)
 
-  -- the script has ended behind a last line without newline
+  -- the script has ended after a last line without newline
   module _ (r : ReadsLine reading next left later (Ok LastLine)) where
     gives-last : Gives given later (bytes_of p.lines ++ last_line_of next)
     gives-last =

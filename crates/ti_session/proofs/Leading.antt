@@ -52,7 +52,7 @@ EditStep-of_long (Replace at) texts next text front (Refused NotOneBlock) long o
 EditStep-of_long (Replace at) texts next text front (Refused TooMany) long over step = let short = step.0.1 in absurd (omega arith)
 EditStep-of_long (Replace at) texts next text front (Refused Memory) long over step = let short = step.0.short in absurd (omega arith)
 
--- what is shown of an edit goes by its outcome, and a text that is too long is never accepted
+-- what is shown of an edit depends on its outcome, and a text that is too long is never accepted
 Shows-of_long : (opened : Opened) (texts next : List (List ℕ)) (text front : List ℕ) (outcome : Outcome) (before now : List ℕ)
     → block_bytes_max < length front → EditStep texts (opened_change opened front) outcome next
     → Shows texts (opened_change opened front) outcome before now → Shows texts (opened_change opened text) outcome before now

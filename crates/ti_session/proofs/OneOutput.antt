@@ -1,4 +1,4 @@
--- The lines of a script, and the answers to them, are determined but for want of memory.
+-- The lines of a script, and the answers to them, are determined except for out of memory.
 use Rattle.std.proofs.Common.{◌≡◌, ◌⊎◌, ℕ, List, [], ◌∷◌, ◌++◌, refl, sym, ap, ◌∙◌, subst, append_assoc, inl, inr}
 use Rattle.ti_meaning.specs.Edits.{Change, EditStep}
 use Rattle.ti_meaning.specs.declared.edits.EditError.TheVariants.{Position, TooLong, NotOneBlock, TooMany, Memory}

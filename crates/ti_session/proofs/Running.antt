@@ -25,7 +25,8 @@ Runs-push (first ∷ lines) s t u o reply line ran leads = (
   ap (λ (x : List ℕ). x ++ reply) ran.5 ∙ append_assoc ran.1 ran.2 reply,
 )
 
--- these lines, each with its newline, are within the limit and have led to that state, with their replies
+-- these lines, each with its newline, are within the limit and have led to that state, with their
+-- replies
 pub record Ran (lines : List (List ℕ)) (end : SessionState) (output : List ℕ) : Type 0 where
   pub each : AllByRecursion IsOneLine lines
   pub short : AllByRecursion IsShortScriptLine lines

@@ -1,11 +1,12 @@
--- How the positions of blocks are shown (own): in decimal digits, with single spaces between, or `-` where there are none.
+-- How the positions of blocks are shown (own): in decimal digits, with single spaces between, or
+-- `-` if there are none.
 use Rattle.std.specs.Prelude.{ℕ, List, [], ◌∷◌, ◌++◌, codes}
 use Rattle.std.specs.Fmt.{decimal}
 use Rattle.std.specs.List.{flat_map}
 use Rattle.ti_text.specs.Ascii as ascii
 use Rattle.ti_devices.specs.Lines.{with_newline}
 
--- a position behind another
+-- a space and a position
 abbrev pub next_place : ℕ → List ℕ
 next_place place = ascii.space ∷ decimal place
 

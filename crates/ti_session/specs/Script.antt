@@ -1,4 +1,4 @@
--- The session (own): a script whose lines edit a source and ask of it, and the replies to them.
+-- The session (own): a script whose lines edit a source and ask about it, and the replies to them.
 use Rattle.std.specs.Prelude.{◌≡◌, ℕ, ◌+◌, ◌-◌, ◌/◌, ◌%◌, ◌&&◌, ◌==◌, nat_lt, if◌then◌else◌, Option, Some, None, ◌⊎◌}
 use Rattle.std.specs.Prelude.{List, [], ◌∷◌, ◌++◌, length, take, drop, position, codes, bytes_eq}
 use Rattle.std.specs.List.{flat_map, list_all, AllByRecursion}
@@ -27,14 +27,15 @@ IsShortScriptLine line = IsWithin script_line_max line
 
 -- ---- what a line says
 
--- between commands, or within a block that is to be put in or to take another's place: its position, and its text so far
+-- between commands, or within a block that is to be put in or to replace another: its position, and
+-- its text so far
 pub data ScriptMode : Type 0 where
   outside : ScriptMode
   in_insertion : ℕ → List ℕ → ScriptMode
   in_replacement : ℕ → List ℕ → ScriptMode
 
--- what is asked for: an edit; the entry of the block at a position; the report; which blocks the last accepted edit rebuilt;
--- or nothing that is known
+-- what is asked for: an edit; the entry of the block at a position; the report; which blocks the
+-- last accepted edit rebuilt; or something unknown
 pub data Command : Type 0 where
   edits : Change → Command
   prints : ℕ → Command
@@ -51,7 +52,7 @@ pub data Meaning : Type 0 where
 abbrev pub script_digits_max : ℕ
 script_digits_max = 9
 
--- the number that decimal digits spell, one at least and `script_digits_max` at most
+-- the number that decimal digits spell, at least one and at most `script_digits_max`
 abbrev pub script_number : List ℕ → Option ℕ
 script_number text =
     if nat_lt 0 (length text) && nat_lt (length text) (script_digits_max + 1) && list_all is_decimal_digit text
@@ -67,12 +68,12 @@ meaning_with_number letter (Some n) =
     else if letter == ascii.byte_of "p" then asks (prints n)
     else asks nothing_known
 
--- both numbers, where both are there
+-- both numbers, if both are there
 abbrev pub both_numbers : Option ℕ → Option ℕ → Option (ℕ × ℕ)
 both_numbers (Some one) (Some other) = Some (one, other)
 both_numbers _ _ = None
 
--- the numbers before a place of the text and behind it
+-- the numbers before a place of the text and after it
 abbrev pub numbers_around : List ℕ → Option ℕ → Option (ℕ × ℕ)
 numbers_around text None = None
 numbers_around text (Some place) = both_numbers (script_number (take place text)) (script_number (drop (place + 1) text))
@@ -90,7 +91,8 @@ moves (Some places) = asks (edits (relocation places.0 places.1))
 abbrev pub meaning_alone : ℕ → Meaning
 meaning_alone letter = if letter == ascii.byte_of "f" then asks reports else if letter == ascii.byte_of "w" then asks rebuilds else asks nothing_known
 
--- a line between commands: an empty one says nothing; a letter stands alone; a number follows one space, or two do
+-- a line between commands: an empty one says nothing; a letter is alone, or a space and a number
+-- follow it, or two of each
 abbrev pub meaning_outside : List ℕ → Meaning
 meaning_outside [] = goes_on outside
 meaning_outside (letter ∷ []) = meaning_alone letter
@@ -143,7 +145,8 @@ entry_text (Some bytes) = with_newline (flat_map hex_of bytes)
 abbrev pub print_reply : List (List ℕ) → ℕ → List ℕ
 print_reply texts at = if nat_lt at (length texts) then entry_text (compiled texts at) else refused_text Position
 
--- the source that is edited: the texts of its blocks, and the positions that the last accepted edit rebuilt
+-- the source that is edited: the texts of its blocks, and the positions that the last accepted edit
+-- rebuilt
 pub record Source : Type 0 where
   pub texts : List (List ℕ)
   pub rebuilt : List ℕ
@@ -152,8 +155,8 @@ pub record Source : Type 0 where
 abbrev pub source : List (List ℕ) → List ℕ → Source
 source texts rebuilt = record { texts = texts; rebuilt = rebuilt }
 
--- the positions that are known to be rebuilt after an edit with that outcome: those of its own where it was accepted, and
--- else the same as before
+-- the positions that are known to be rebuilt after an edit with that outcome: those of the edit if
+-- it was accepted, else the same as before
 abbrev pub Shows : List (List ℕ) → Change → Outcome → List ℕ → List ℕ → Type 0
 Shows texts change Accepted before now = (steps : ℕ) × Rebuilds texts change now steps
 Shows texts change (Refused error) before now = now ≡ before
@@ -163,8 +166,8 @@ pub record EditsSource (source : Source) (change : Change) (outcome : Outcome) (
   pub step : EditStep source.texts change outcome next.texts
   pub shows : Shows source.texts change outcome source.rebuilt next.rebuilt
 
--- A command leads from one source to the next, with its reply. An edit without cause, and a report, may be refused for want
--- of memory.
+-- A command leads from one source to the next, with its reply. An edit without cause, and a report,
+-- may be refused as out of memory.
 abbrev pub AnswersCommand : Source → Command → Source → List ℕ → Type 0
 AnswersCommand source (edits change) next reply = (outcome : Outcome) × EditsSource source change outcome next × (reply ≡ outcome_text outcome)
 AnswersCommand source (prints at) next reply = (next ≡ source) × (reply ≡ print_reply source.texts at)
@@ -193,7 +196,7 @@ Runs (line ∷ lines) before after output =
     (next : SessionState) × (reply : List ℕ) × (later : List ℕ)
     × LineLeads (meaning_in before.mode line) before next reply × Runs lines next after later × (output ≡ reply ++ later)
 
--- a script that ends inside a block is answered so
+-- the answer to a script that ends inside a block
 abbrev pub closing_reply : ScriptMode → List ℕ
 closing_reply outside = []
 closing_reply (in_insertion at block) = with_newline (codes "unfinished")
@@ -203,14 +206,16 @@ closing_reply (in_replacement at block) = with_newline (codes "unfinished")
 abbrev pub session_start : SessionState
 session_start = state (source [] []) outside
 
--- lines within the limit are complete, and of a further line this front has come; they have led to that state, with their replies
+-- lines within the limit are complete, and this is the front of a further line; the lines have led
+-- to that state, with their replies
 pub record SoFar (taken line : List ℕ) (end : SessionState) (output : List ℕ) : Type 0 where
   pub lines : List (List ℕ)
   pub split : Splits taken lines line
   pub short : AllByRecursion IsShortScriptLine lines
   pub ran : Runs lines session_start end output
 
--- all lines of the input, a last one without newline too, are within the limit and have led to that state, with their replies
+-- all lines of the input, a last one without newline too, are within the limit and have led to that
+-- state, with their replies
 pub record Complete (input : List ℕ) (end : SessionState) (replies : List ℕ) : Type 0 where
   pub lines : List (List ℕ)
   pub rest : List ℕ

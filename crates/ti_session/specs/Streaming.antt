@@ -30,7 +30,8 @@ pub record ScriptStopsReading (given left before now : Observed) : Type 0 where
   pub written : TakesAll before now output
   pub cause : CannotReadOn given left
 
--- a line that has begun is over the limit: the replies to the lines before it were written, and some bytes more were read
+-- a line that has begun is over the limit: the replies to the lines before it were written, and
+-- some bytes more were read
 pub record ScriptFindsLongLine (given left before now : Observed) : Type 0 where
   pub taken : List ℕ
   pub rest : List ℕ
@@ -42,8 +43,8 @@ pub record ScriptFindsLongLine (given left before now : Observed) : Type 0 where
   pub long : script_line_max < length line
   pub written : TakesAll before now output
 
--- the replies that a session which took these bytes has begun to write: those to the lines that are complete, or, where
--- the input has ended, all
+-- the replies that a session which took these bytes has begun to write: those to the lines that are
+-- complete, or, if the input has ended, all
 abbrev pub IsOutput : List ℕ → List ℕ → Observed → List ℕ → Type 0
 IsOutput taken rest left output =
     ((line : List ℕ) × (end : SessionState) × SoFar taken line end output) ⊎ ((rest ≡ []) × IsAtEnd left.bytes × Session taken output)
@@ -57,7 +58,7 @@ pub record ScriptStopsWriting (given left before now : Observed) : Type 0 where
   pub is_output : IsOutput taken rest left output
   pub written : TakesFront before now output
 
--- How a session ends. Memory is wanting only at the start, with nothing read or written.
+-- How a session ends. Memory can run out only at the start, with nothing read or written.
 abbrev pub ScriptEnds : Observed → Observed → Observed → Observed → Result Unit ToolError → Type 0
 ScriptEnds given left before now (Ok _) = ScriptCompletes given left before now
 ScriptEnds given left before now (Err ReadFault) = ScriptStopsReading given left before now

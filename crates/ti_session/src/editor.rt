@@ -1,4 +1,4 @@
-//! A session's requests and replies: the source that is edited, and the block that is open.
+//! Takes a session's requests and gives the replies: the source, and the block that is open.
 ghost use Rattle.std.specs.Prelude.{◌≡◌, IfOk, Some};
 ghost use Rattle.ti_meaning.specs.Edits.{change_of};
 ghost use Rattle.ti_devices.specs.Counted.{observation};
@@ -15,7 +15,7 @@ use ti_base::{Database, Edit, EditError};
 use ti_devices::{Buffer, Counted, ToolError, write_out};
 use ti_text::limits::BLOCK_BYTES_MAX;
 
-/// How many bytes of a block are held: one more than a block may have.
+// How many bytes of a block are held: one more than a block may have.
 const BLOCK_ROOM: usize = BLOCK_BYTES_MAX + 1;
 
 /// The source that is edited, the positions that its last accepted edit rebuilt, and the block that
@@ -28,8 +28,8 @@ pub struct Editor {
     opened: Option<Opened>,
 }
 
-// Makes an edit, and writes what came of it. Where it is accepted, the positions that it rebuilt
-// take the place of those before.
+// Makes an edit, and writes what came of it. If it is accepted, the positions that it rebuilt
+// replace those before.
 fn carry_out<W: Write>(
     database: &mut Database,
     rebuilt: &mut Vec<usize>,
@@ -90,7 +90,7 @@ impl Editor {
     /// A source without blocks, with room for a block.
     ///
     /// # Errors
-    /// Want of memory.
+    /// `AllocError` if memory ran out.
     pub fn new(alloc: Global) -> Result<Editor, AllocError>
         ensures { IfOk result (λ editor. HasState editor session_start) }
     {
@@ -103,7 +103,7 @@ impl Editor {
         })
     }
 
-    // Takes a line that stands outside a block.
+    // Takes a line outside a block.
     fn take_request<W: Write>(
         &mut self,
         line: &[u8],
@@ -168,7 +168,7 @@ impl Editor {
     /// Takes a line, and writes its reply.
     ///
     /// # Errors
-    /// `WriteFault`.
+    /// `WriteFault` if the writer fails.
     pub fn take_line<W: Write>(
         &mut self,
         line: &[u8],
@@ -190,10 +190,10 @@ impl Editor {
         Ok(())
     }
 
-    /// Writes what a script is answered that ends here.
+    /// Writes the answer to a script that ends here.
     ///
     /// # Errors
-    /// `WriteFault`.
+    /// `WriteFault` if the writer fails.
     pub fn close<W: Write>(&self, writer: &mut Counted<W>) -> Result<(), ToolError>
         ensures { (state : SessionState) → HasState self.now state
             → Wrote (observation W.contents writer.old)

@@ -12,7 +12,7 @@ use std::io::Write;
 use ti_base::EditError;
 use ti_devices::{Counted, ToolError, write_out};
 
-/// How many bytes are spelled in hexadecimal at a time.
+// How many bytes are spelled in hexadecimal at a time.
 const PIECE: usize = 64;
 
 // The reply to a refused request.
@@ -31,7 +31,7 @@ fn refusal(error: EditError) -> &'static [u8]
 /// Writes that a request is refused, and why.
 ///
 /// # Errors
-/// `WriteFault`.
+/// `WriteFault` if the writer fails.
 pub fn write_refusal<W: Write>(writer: &mut Counted<W>, error: EditError) -> Result<(), ToolError>
     ensures { Wrote (observation W.contents writer.old)
         (observation W.contents writer.new) (refused_text error) result }
@@ -39,11 +39,11 @@ pub fn write_refusal<W: Write>(writer: &mut Counted<W>, error: EditError) -> Res
     write_out(writer, refusal(error))
 }
 
-/// Writes positions in decimal digits, with single spaces between, or `-` where there are none. It
+/// Writes positions in decimal digits, with single spaces between, or `-` if there are none. It
 /// takes no memory.
 ///
 /// # Errors
-/// `WriteFault`.
+/// `WriteFault` if the writer fails.
 pub fn write_places<W: Write>(writer: &mut Counted<W>, places: &[usize]) -> Result<(), ToolError>
     ensures { Wrote (observation W.contents writer.old)
         (observation W.contents writer.new)
@@ -58,7 +58,7 @@ pub fn write_places<W: Write>(writer: &mut Counted<W>, places: &[usize]) -> Resu
     write_out(writer, b"\n")
 }
 
-// Writes a position behind a space.
+// Writes a position after a space.
 fn write_next_place<W: Write>(writer: &mut Counted<W>, place: usize) -> Result<(), ToolError>
     ensures { Wrote (observation W.contents writer.old)
         (observation W.contents writer.new)
@@ -69,7 +69,7 @@ fn write_next_place<W: Write>(writer: &mut Counted<W>, place: usize) -> Result<(
     write_out(writer, digits.format(place).as_bytes())
 }
 
-// Writes each of the positions behind a space.
+// Writes each of the positions after a space.
 fn write_next_places<W: Write>(writer: &mut Counted<W>, places: &[usize]) -> Result<(), ToolError>
     ensures { Wrote (observation W.contents writer.old)
         (observation W.contents writer.new)
@@ -109,7 +109,7 @@ fn hex_piece(piece: &[u8]) -> ArrayVec<u8, 128>
 /// Writes bytes in lower-case hexadecimal. It takes no memory.
 ///
 /// # Errors
-/// `WriteFault`.
+/// `WriteFault` if the writer fails.
 pub fn write_hex<W: Write>(writer: &mut Counted<W>, bytes: &[u8]) -> Result<(), ToolError>
     ensures { Wrote (observation W.contents writer.old)
         (observation W.contents writer.new)

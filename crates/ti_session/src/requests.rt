@@ -7,12 +7,12 @@ ghost use Rattle.ti_session.specs.Script.{meaning_alone, meaning_outside, moves,
 /// What is to be done with the block whose lines follow, and at which position.
 #[derive(Clone, Copy)]
 pub enum Opened {
-    /// It is to be put in.
+    /// The block is to be put in.
     Insert {
         /// The position.
         at: usize,
     },
-    /// It is to take another's place.
+    /// The block is to replace another.
     Replace {
         /// The position.
         at: usize,
@@ -31,11 +31,11 @@ pub enum Request {
         /// The position.
         at: usize,
     },
-    /// To move the block at `from`, so that it then stands at `to`.
+    /// To move the block at `from`, so that it is then at `to`.
     Relocate {
         /// The position.
         from: usize,
-        /// The position that it is to have.
+        /// The position that the block is to have.
         to: usize,
     },
     /// To print the entry of the block at `at`.
@@ -47,7 +47,7 @@ pub enum Request {
     Report,
     /// To show which blocks the last accepted edit rebuilt.
     Rebuilt,
-    /// It is no request.
+    /// The line is no request.
     Unknown,
 }
 
@@ -121,7 +121,7 @@ fn request_alone(letter: u8) -> Request
     }
 }
 
-/// What a line asks for that stands outside a block.
+/// What a line outside a block asks for.
 pub fn read_request(line: &[u8]) -> Request
     ensures { request_meaning result ≡ meaning_outside line.now }
 {

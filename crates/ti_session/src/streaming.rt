@@ -11,7 +11,7 @@ use std::alloc::Global;
 use std::io::{Read, Write};
 use ti_devices::{Counted, LineReader, Next, ToolError};
 
-/// The greatest length of a line, without its newline.
+// The greatest length of a line, without its newline.
 const LINE_MAX: usize = 65_536;
 
 // Answers each line of a script, of which nothing was read yet, up to its end.
@@ -43,12 +43,12 @@ fn answer_lines<R: Read, W: Write>(
 
 /// Reads a script to its end, edits a source as its lines ask, and writes a reply to each.
 ///
-/// It holds one line, one block and the source, and never the whole script.
+/// The call holds one line, one block and the source, and never the whole script.
 ///
 /// # Errors
-/// `ReadFault` where the reader fails, and after 4,294,967,296 reads; `WriteFault` where the writer
-/// fails; `LineTooLong` at a line of more than 65,536 bytes, without its newline; `Memory`, before
-/// the first read alone. What was written before stays.
+/// `ReadFault` if the reader fails, and after 4,294,967,296 reads; `WriteFault` if the writer
+/// fails; `LineTooLong` at a line of more than 65,536 bytes, without its newline; `Memory`, only
+/// before the first read. What was written before remains written.
 pub fn session<R: Read, W: Write>(
     alloc: Global,
     reader: &mut Counted<R>,

@@ -1,5 +1,6 @@
 -- The names of a block come to an index, or go, one at a time.
-use Rattle.std.proofs.Common.{◌≡◌, ◌≢◌, ◌⊎◌, ◌<◌, ◌+◌, ℕ, suc, zero, inl, inr, List, [], ◌∷◌, ◌++◌, length, take, get_or, Bool, true, false, not, nat_eq, ◌&&◌, ◌||◌, refl, sym, ◌∙◌, ap, arith, eq-eqb, Global}
+use Rattle.std.proofs.Common.{◌≡◌, ◌≢◌, ◌⊎◌, ◌<◌, ◌≤◌, ◌+◌, ℕ, suc, zero, inl, inr, List, [], ◌∷◌, ◌++◌, length, map, take, get_or, Bool, true, false, not, nat_eq, ◌&&◌, ◌||◌, Option, Some, None, option_map, slice_get, refl, sym, ◌∙◌, ap, arith, eq-eqb, length-append, Global}
+use Rattle.std.specs.List.{list_any}
 use Rattle.std.specs.Option.{option_map_or}
 use Rattle.std.specs.Vec.{vec_capacity}
 use Rattle.std.specs.Str.{bytes_eq}
@@ -7,36 +8,31 @@ use Rattle.std.specs.Rc.{rc_slice_items}
 use Rattle.std.specs.declared.rc.RcSlice.{RcSlice}
 use Rattle.std.specs.Cmp.Lexicographic.{bytes_decides}
 use Rattle.std.proofs.lemmas.Bool.{cases_Bool, false≢true}
-use Rattle.std.proofs.lemmas.List.{take_more}
-use Rattle.ti_source.specs.Reading.{said_of}
+use Rattle.std.proofs.lemmas.List.{take_more, take_all, length-map}
+use Rattle.std.proofs.lemmas.Option.{slice_get_within, get_or_from_slice_get}
+use Rattle.ti_source.specs.Reading.{item_of}
 use Rattle.ti_source.specs.declared.parsing.Item.{Item}
-use Rattle.ti_source.specs.declared.parsing.What.{What}
-use Rattle.ti_source.specs.declared.parsing.What.TheVariants.{Flag, Number, Text, Cancel, Import}
-use Rattle.ti_meaning.specs.Reaching.{used_name, use_passes}
+use Rattle.ti_source.specs.declared.parsing.Parsed.{Parsed}
+use Rattle.ti_meaning.specs.Owner.{is_among}
+use Rattle.ti_meaning.specs.Reaching.{any_use, used_name, use_passes}
 use Rattle.ti_index.specs.declared.names.NameIndex.{NameIndex}
 use Rattle.ti_index.specs.Listing.{AreAmong, Lists, ListsToo, ListsNoMore}
-use Rattle.ti_index.specs.Names.{holders_at, users_at, mentions_at, holder_capacity, user_capacity, HasHolderRoom, HasUserRoom, IsForgotten, IsSeenSame, KeepsCapacity, KeepsOthers}
+use Rattle.ti_index.specs.Names.{mentions_at, holder_capacity, user_capacity, HasHolderRoom, HasUserRoom, IsForgotten, IsSeenSame, KeepsCapacity, KeepsOthers}
 use Rattle.ti_index.proofs.LawProofs.{agreeing_lists, among_all}
-use Rattle.ti_slots.specs.inside.Indexing.{is_name_of, is_used_by, AddsId, Forgets, Removes, HasRoomAt, IsGrown, IsPart}
+use Rattle.ti_slots.specs.declared.indexing.Role.{Role}
+use Rattle.ti_slots.specs.declared.indexing.Role.TheVariants.{Holder, User}
+use Rattle.ti_slots.specs.inside.Indexing.{Said, said_as_own, said_as_used, all_said, says_of, is_role, is_said, is_among_said, ids_at, HasRoom, AddsId, Forgets, Removes, HasRoomAt, IsGrown, IsPart}
 
 -- ---- what depends on the entry of a name alone
 
-abbrev pub ByEntry : (NameIndex → List ℕ → List ℕ) → Type 0
-ByEntry lists = (one other : NameIndex) (name : List ℕ) → mentions_at one name ≡ mentions_at other name → lists one name ≡ lists other name
+ids_by : (role : Role) (one other : NameIndex) (name : List ℕ) → mentions_at one name ≡ mentions_at other name → ids_at role one name ≡ ids_at role other name
+ids_by Holder one other name e = ap (λ o. option_map_or (λ m. m.holders.items) o []) e
+ids_by User one other name e = ap (λ o. option_map_or (λ m. m.users.items) o []) e
 
-pub holders_by : ByEntry holders_at
-holders_by one other name e = ap (λ o. option_map_or (λ m. m.holders.items) o []) e
-
-pub users_by : ByEntry users_at
-users_by one other name e = ap (λ o. option_map_or (λ m. m.users.items) o []) e
-
-abbrev pub CapacityByEntry : (NameIndex → List ℕ → ℕ) → Type 0
-CapacityByEntry capacity = (one other : NameIndex) (name : List ℕ) → mentions_at one name ≡ mentions_at other name → capacity one name ≡ capacity other name
-
-pub holder_capacity_by : CapacityByEntry holder_capacity
+holder_capacity_by : (one other : NameIndex) (name : List ℕ) → mentions_at one name ≡ mentions_at other name → holder_capacity one name ≡ holder_capacity other name
 holder_capacity_by one other name e = ap (λ o. option_map_or (λ m. vec_capacity m.holders) o 0) e
 
-pub user_capacity_by : CapacityByEntry user_capacity
+user_capacity_by : (one other : NameIndex) (name : List ℕ) → mentions_at one name ≡ mentions_at other name → user_capacity one name ≡ user_capacity other name
 user_capacity_by one other name e = ap (λ o. option_map_or (λ m. vec_capacity m.users) o 0) e
 
 -- ---- tests
@@ -53,9 +49,13 @@ or_true : (a b : Bool) → b ≡ true → (a || b) ≡ true
 or_true true b e = refl
 or_true false b e = e
 
-or_both : (a b : Bool) → (a || b) ≡ false → (a ≡ false) × (b ≡ false)
-or_both true b e = absurd (false≢true (sym e))
-or_both false b e = (refl, e)
+and_false : (a b : Bool) → b ≡ false → (a && b) ≡ false
+and_false true b e = e
+and_false false b e = refl
+
+and_none : (a b t : Bool) → b ≡ false → ((a && b) || t) ≡ t
+and_none true b t e = rw e refl
+and_none false b t e = refl
 
 all_added : (a b c t : Bool) → c ≡ true → (a || ((a && b) || t)) ≡ ((a && c) || t)
 all_added true b c t e = rw e refl
@@ -72,9 +72,16 @@ name_cases other name = elim (cases_Bool (bytes_eq other name)) [
   | inr f ↦ inr ((λ e. false≢true (sym f ∙ (bytes_decides other name).1 e)), f)
 ]
 
--- ---- capacity
+-- and so is the role
+role_cases : (other role : Role) → ((other ≡ role) × (is_role other role ≡ true)) ⊎ (is_role other role ≡ false)
+role_cases Holder Holder = inl (refl, refl)
+role_cases Holder User = inr refl
+role_cases User Holder = inr refl
+role_cases User User = inl (refl, refl)
 
-capacity_here : (mid new : NameIndex) (name other : List ℕ) → KeepsCapacity mid new name → KeepsOthers mid new name → KeepsCapacity mid new other
+-- ---- room
+
+pub capacity_here : (mid new : NameIndex) (name other : List ℕ) → KeepsCapacity mid new name → KeepsOthers mid new name → KeepsCapacity mid new other
 capacity_here mid new name other here others = elim (name_cases other name) [
   | inl same ↦ rw same.0 here
   | inr apart ↦
@@ -83,96 +90,130 @@ capacity_here mid new name other here others = elim (name_cases other name) [
       record { holders = omega (arith, a); users = omega (arith, b) }
 ]
 
+pub capacity_same : (index : NameIndex) (name : List ℕ) → KeepsCapacity index index name
+capacity_same index name = record { holders = omega arith; users = omega arith }
+
 pub capacity_more : (old mid new : NameIndex) (name : List ℕ) → KeepsCapacity old mid name → KeepsCapacity mid new name → KeepsCapacity old new name
 capacity_more old mid new name g h = record { holders = omega (arith, g.holders, h.holders); users = omega (arith, g.users, h.users) }
 
+room_kept : (role : Role) (old new : NameIndex) (name : List ℕ) → ids_at role new name ≡ ids_at role old name → KeepsCapacity old new name → HasRoom old role name → HasRoom new role name
+room_kept Holder old new name e k room = omega (arith, room, ap length e, k.holders)
+room_kept User old new name e k room = omega (arith, room, ap length e, k.users)
+
+-- ---- a change at one name
+
+-- of the name that is said, the list changes so; every other stays
+abbrev pub IsChange : (List ℕ → List ℕ → Type 0) → Said → NameIndex → NameIndex → Type 0
+IsChange R said mid new = (role : Role) (name : List ℕ)
+    → ((is_said role name said ≡ true) × R (ids_at role mid name) (ids_at role new name))
+    ⊎ ((is_said role name said ≡ false) × (ids_at role new name ≡ ids_at role mid name))
+
+pub no_change : (R : List ℕ → List ℕ → Type 0) (index : NameIndex) → IsChange R None index index
+no_change R index role name = inr (refl, refl)
+
+pub changed : (R : List ℕ → List ℕ → Type 0) (role : Role) (name : List ℕ) (mid new : NameIndex) → R (ids_at role mid name) (ids_at role new name) → ((other : Role) → is_role other role ≡ false → ids_at other new name ≡ ids_at other mid name) → KeepsOthers mid new name → IsChange R (Some (role, name)) mid new
+changed R role name mid new here rest others = λ r n. elim (name_cases n name) [
+  | inl same ↦ elim (role_cases r role) [
+    | inl one ↦ inl (rw (one.1, same.1) refl, rw (same.0, one.0) here)
+    | inr apart ↦ inr (rw apart refl, rw same.0 (rest r apart))
+  ]
+  | inr apart ↦ inr (and_false (is_role r role) (bytes_eq n name) apart.1, ids_by r new mid n (others n apart.0))
+]
+
+pub changed_holder : (R : List ℕ → List ℕ → Type 0) (name : List ℕ) (mid new : NameIndex) → R (ids_at Holder mid name) (ids_at Holder new name) → ids_at User new name ≡ ids_at User mid name → KeepsOthers mid new name → IsChange R (Some (Holder, name)) mid new
+changed_holder R name mid new here rest others = changed R Holder name mid new here other others where
+  other : (r : Role) → is_role r Holder ≡ false → ids_at r new name ≡ ids_at r mid name
+  other Holder e = absurd (false≢true (sym e))
+  other User e = rest
+
+pub changed_user : (R : List ℕ → List ℕ → Type 0) (name : List ℕ) (mid new : NameIndex) → R (ids_at User mid name) (ids_at User new name) → ids_at Holder new name ≡ ids_at Holder mid name → KeepsOthers mid new name → IsChange R (Some (User, name)) mid new
+changed_user R name mid new here rest others = changed R User name mid new here other others where
+  other : (r : Role) → is_role r User ≡ false → ids_at r new name ≡ ids_at r mid name
+  other Holder e = rest
+  other User e = absurd (false≢true (sym e))
+
+-- ---- tests of names that grow by one
+
+-- the one test is the other, and what is said
+abbrev pub GrowsBy : Said → (Role → List ℕ → Bool) → (Role → List ℕ → Bool) → Type 0
+GrowsBy said passes more = (role : Role) (name : List ℕ) → more role name ≡ (passes role name || is_said role name said)
+
 -- ---- a name comes
 
-pub adds_more : (lists rest : NameIndex → List ℕ → List ℕ) (listed : List ℕ) (passes more : List ℕ → Bool) (id : ℕ) (old mid new : NameIndex) (name : List ℕ) → ByEntry lists → ByEntry rest → AddsId lists rest listed passes id old mid → ((n : List ℕ) → more n ≡ (passes n || bytes_eq n name)) → ListsToo listed (lists mid name) (lists new name) id → rest new name ≡ rest mid name → KeepsCapacity mid new name → KeepsOthers mid new name → AddsId lists rest listed more id old new
-adds_more lists rest listed passes more id old mid new name by by_rest h step too same_rest capacity others = record {
-  added = λ n test e. elim (name_cases n name) [
-    | inl same ↦
-        let here : ListsToo listed (lists mid n) (lists new n) id = rw same.0 too in
-        let all : more n ≡ true = step n ∙ or_true (passes n) (bytes_eq n name) same.1 in
-        here (λ x. (nat_eq x id && passes n) || test x) (h.added n test e)
-        ∙ agreeing_lists listed (λ x. nat_eq x id || ((nat_eq x id && passes n) || test x)) (λ x. (nat_eq x id && more n) || test x) (λ i x f. all_added (nat_eq x id) (passes n) (more n) (test x) all)
+pub adds_more : (listed : List ℕ) (passes more : Role → List ℕ → Bool) (id : ℕ) (old mid new : NameIndex) (said : Said) → AddsId listed passes id old mid → GrowsBy said passes more → IsChange (λ a b. ListsToo listed a b id) said mid new → ((name : List ℕ) → KeepsCapacity mid new name) → AddsId listed more id old new
+adds_more listed passes more id old mid new said h step change capacity = record {
+  added = λ role n test e. elim (change role n) [
+    | inl here ↦
+        let all : more role n ≡ true = step role n ∙ or_true (passes role n) (is_said role n said) here.0 in
+        here.1 (λ x. (nat_eq x id && passes role n) || test x) (h.added role n test e)
+        ∙ agreeing_lists listed (λ x. nat_eq x id || ((nat_eq x id && passes role n) || test x)) (λ x. (nat_eq x id && more role n) || test x) (λ i x f. all_added (nat_eq x id) (passes role n) (more role n) (test x) all)
     | inr apart ↦
-        let as_before : more n ≡ passes n = step n ∙ (ap (λ b. passes n || b) apart.1 ∙ or_none (passes n)) in
-        by new mid n (others n apart.0)
-        ∙ (h.added n test e
-        ∙ agreeing_lists listed (λ x. (nat_eq x id && passes n) || test x) (λ x. (nat_eq x id && more n) || test x) (λ i x f. ap (λ b. (nat_eq x id && b) || test x) (sym as_before)))
+        let as_before : more role n ≡ passes role n = step role n ∙ (ap (λ b. passes role n || b) apart.0 ∙ or_none (passes role n)) in
+        apart.1
+        ∙ (h.added role n test e
+        ∙ agreeing_lists listed (λ x. (nat_eq x id && passes role n) || test x) (λ x. (nat_eq x id && more role n) || test x) (λ i x f. ap (λ b. (nat_eq x id && b) || test x) (sym as_before)))
   ];
-  elsewhere = λ n e.
-      let f = or_both (passes n) (bytes_eq n name) (sym (step n) ∙ e) in
-      others n (λ same. false≢true (sym f.1 ∙ (bytes_decides n name).1 same)) ∙ h.elsewhere n f.0;
-  kept = λ n. elim (name_cases n name) [
-    | inl same ↦ (let here : rest new n ≡ rest mid n = rw same.0 same_rest in here ∙ h.kept n)
-    | inr apart ↦ by_rest new mid n (others n apart.0) ∙ h.kept n
-  ];
-  capacity = λ n. capacity_more old mid new n (h.capacity n) (capacity_here mid new name n capacity others);
-}
-
--- a test that says the same
-pub adds_same : (lists rest : NameIndex → List ℕ → List ℕ) (listed : List ℕ) (passes more : List ℕ → Bool) (id : ℕ) (old new : NameIndex) → AddsId lists rest listed passes id old new → ((n : List ℕ) → more n ≡ passes n) → AddsId lists rest listed more id old new
-adds_same lists rest listed passes more id old new h same = record {
-  added = λ n test e. h.added n test e
-      ∙ agreeing_lists listed (λ x. (nat_eq x id && passes n) || test x) (λ x. (nat_eq x id && more n) || test x) (λ i x f. ap (λ b. (nat_eq x id && b) || test x) (sym (same n)));
-  elsewhere = λ n e. h.elsewhere n (sym (same n) ∙ e);
-  kept = h.kept;
-  capacity = h.capacity;
+  capacity = λ n. capacity_more old mid new n (h.capacity n) (capacity n);
 }
 
 -- what adding a name asks for
-pub place_for : (lists rest : NameIndex → List ℕ → List ℕ) (capacity : NameIndex → List ℕ → ℕ) (listed : List ℕ) (passes : List ℕ → Bool) (id : ℕ) (old mid : NameIndex) (name : List ℕ) → ByEntry lists → CapacityByEntry capacity → AddsId lists rest listed passes id old mid → IsPart listed (lists old name) → length (lists old name) < capacity old name → (length (lists mid name) < capacity mid name) ⊎ Lists listed (lists mid name) id
-place_for lists rest capacity listed passes id old mid name by by_capacity h part room =
-    elim (cases_Bool (passes name)) [
-      | inl t ↦ inr ((λ x. (nat_eq x id && passes name) || part.0 x), h.added name part.0 part.1, rw (t, eq-eqb id id refl) refl)
+pub place_for : (listed : List ℕ) (passes : Role → List ℕ → Bool) (id : ℕ) (old mid : NameIndex) (role : Role) (name : List ℕ) → AddsId listed passes id old mid → IsPart listed (ids_at role old name) → HasRoom old role name → HasRoom mid role name ⊎ Lists listed (ids_at role mid name) id
+place_for listed passes id old mid role name h part room =
+    elim (cases_Bool (passes role name)) [
+      | inl t ↦ inr ((λ x. (nat_eq x id && passes role name) || part.0 x), h.added role name part.0 part.1, rw (t, eq-eqb id id refl) refl)
       | inr f ↦
-          let same = h.elsewhere name f in
-          let one = by mid old name same in
-          let two = by_capacity mid old name same in inl (omega (arith, ap length one, two, room))
+          let same : ids_at role mid name ≡ ids_at role old name =
+          h.added role name part.0 part.1
+          ∙ (agreeing_lists listed (λ x. (nat_eq x id && passes role name) || part.0 x) part.0 (λ i x e. and_none (nat_eq x id) (passes role name) (part.0 x) f)
+          ∙ sym part.1) in
+          inl (room_kept role old mid name same (h.capacity name) room)
     ]
 
-pub added_among : (lists rest : NameIndex → List ℕ → List ℕ) (listed : List ℕ) (passes : List ℕ → Bool) (id : ℕ) (old mid : NameIndex) (name : List ℕ) → AddsId lists rest listed passes id old mid → IsPart listed (lists old name) → AreAmong (lists mid name) listed
-added_among lists rest listed passes id old mid name h part =
-    rw (h.added name part.0 part.1) (among_all listed (λ x. (nat_eq x id && passes name) || part.0 x))
+pub added_among : (listed : List ℕ) (passes : Role → List ℕ → Bool) (id : ℕ) (old mid : NameIndex) (role : Role) (name : List ℕ) → AddsId listed passes id old mid → IsPart listed (ids_at role old name) → AreAmong (ids_at role mid name) listed
+added_among listed passes id old mid role name h part =
+    rw (h.added role name part.0 part.1) (among_all listed (λ x. (nat_eq x id && passes role name) || part.0 x))
 
--- ---- a name goes
-
-pub removes_more : (lists rest : NameIndex → List ℕ → List ℕ) (listed : List ℕ) (passes more : List ℕ → Bool) (id : ℕ) (old mid new : NameIndex) (name : List ℕ) → ByEntry lists → ByEntry rest → Removes lists rest listed passes id old mid → ((n : List ℕ) → more n ≡ (passes n || bytes_eq n name)) → ListsNoMore listed (lists mid name) (lists new name) id → rest new name ≡ rest mid name → KeepsCapacity mid new name → KeepsOthers mid new name → Removes lists rest listed more id old new
-removes_more lists rest listed passes more id old mid new name by by_rest h step gone same_rest capacity others = record {
-  removed = λ n test e. elim (name_cases n name) [
-    | inl same ↦
-        let here : ListsNoMore listed (lists mid n) (lists new n) id = rw same.0 gone in
-        let all : more n ≡ true = step n ∙ or_true (passes n) (bytes_eq n name) same.1 in
-        here (λ x. not (nat_eq x id && passes n) && test x) (h.removed n test e)
-        ∙ agreeing_lists listed (λ x. not (nat_eq x id) && (not (nat_eq x id && passes n) && test x)) (λ x. not (nat_eq x id && more n) && test x) (λ i x f. all_removed (nat_eq x id) (passes n) (more n) (test x) all)
-    | inr apart ↦
-        let as_before : more n ≡ passes n = step n ∙ (ap (λ b. passes n || b) apart.1 ∙ or_none (passes n)) in
-        by new mid n (others n apart.0)
-        ∙ (h.removed n test e
-        ∙ agreeing_lists listed (λ x. not (nat_eq x id && passes n) && test x) (λ x. not (nat_eq x id && more n) && test x) (λ i x f. ap (λ b. not (nat_eq x id && b) && test x) (sym as_before)))
-  ];
-  kept = λ n. elim (name_cases n name) [
-    | inl same ↦ (let here : rest new n ≡ rest mid n = rw same.0 same_rest in here ∙ h.kept n)
-    | inr apart ↦ by_rest new mid n (others n apart.0) ∙ h.kept n
-  ];
-  capacity = λ n. capacity_more old mid new n (h.capacity n) (capacity_here mid new name n capacity others);
-}
-
-pub removes_same : (lists rest : NameIndex → List ℕ → List ℕ) (listed : List ℕ) (passes more : List ℕ → Bool) (id : ℕ) (old new : NameIndex) → Removes lists rest listed passes id old new → ((n : List ℕ) → more n ≡ passes n) → Removes lists rest listed more id old new
-removes_same lists rest listed passes more id old new h same = record {
-  removed = λ n test e. h.removed n test e
-      ∙ agreeing_lists listed (λ x. not (nat_eq x id && passes n) && test x) (λ x. not (nat_eq x id && more n) && test x) (λ i x f. ap (λ b. not (nat_eq x id && b) && test x) (sym (same n)));
-  kept = h.kept;
+-- a test that says the same
+pub adds_same : (listed : List ℕ) (passes more : Role → List ℕ → Bool) (id : ℕ) (old new : NameIndex) → ((role : Role) (name : List ℕ) → more role name ≡ passes role name) → AddsId listed passes id old new → AddsId listed more id old new
+adds_same listed passes more id old new same h = record {
+  added = λ role n test e. h.added role n test e
+      ∙ agreeing_lists listed (λ x. (nat_eq x id && passes role n) || test x) (λ x. (nat_eq x id && more role n) || test x) (λ i x f. ap (λ b. (nat_eq x id && b) || test x) (sym (same role n)));
   capacity = h.capacity;
 }
 
-pub removed_among : (lists rest : NameIndex → List ℕ → List ℕ) (listed : List ℕ) (passes : List ℕ → Bool) (id : ℕ) (old mid : NameIndex) (name : List ℕ) → Removes lists rest listed passes id old mid → IsPart listed (lists old name) → AreAmong (lists mid name) listed
-removed_among lists rest listed passes id old mid name h part =
-    rw (h.removed name part.0 part.1) (among_all listed (λ x. not (nat_eq x id && passes name) && part.0 x))
+-- ---- a name goes
+
+pub removes_more : (listed : List ℕ) (passes more : Role → List ℕ → Bool) (id : ℕ) (old mid new : NameIndex) (said : Said) → Removes listed passes id old mid → GrowsBy said passes more → IsChange (λ a b. ListsNoMore listed a b id) said mid new → ((name : List ℕ) → KeepsCapacity mid new name) → Removes listed more id old new
+removes_more listed passes more id old mid new said h step change capacity = record {
+  removed = λ role n test e. elim (change role n) [
+    | inl here ↦
+        let all : more role n ≡ true = step role n ∙ or_true (passes role n) (is_said role n said) here.0 in
+        here.1 (λ x. not (nat_eq x id && passes role n) && test x) (h.removed role n test e)
+        ∙ agreeing_lists listed (λ x. not (nat_eq x id) && (not (nat_eq x id && passes role n) && test x)) (λ x. not (nat_eq x id && more role n) && test x) (λ i x f. all_removed (nat_eq x id) (passes role n) (more role n) (test x) all)
+    | inr apart ↦
+        let as_before : more role n ≡ passes role n = step role n ∙ (ap (λ b. passes role n || b) apart.0 ∙ or_none (passes role n)) in
+        apart.1
+        ∙ (h.removed role n test e
+        ∙ agreeing_lists listed (λ x. not (nat_eq x id && passes role n) && test x) (λ x. not (nat_eq x id && more role n) && test x) (λ i x f. ap (λ b. not (nat_eq x id && b) && test x) (sym as_before)))
+  ];
+  capacity = λ n. capacity_more old mid new n (h.capacity n) (capacity n);
+}
+
+pub removed_among : (listed : List ℕ) (passes : Role → List ℕ → Bool) (id : ℕ) (old mid : NameIndex) (role : Role) (name : List ℕ) → Removes listed passes id old mid → IsPart listed (ids_at role old name) → AreAmong (ids_at role mid name) listed
+removed_among listed passes id old mid role name h part =
+    rw (h.removed role name part.0 part.1) (among_all listed (λ x. not (nat_eq x id && passes role name) && part.0 x))
+
+pub removes_same : (listed : List ℕ) (passes more : Role → List ℕ → Bool) (id : ℕ) (old new : NameIndex) → ((role : Role) (name : List ℕ) → more role name ≡ passes role name) → Removes listed passes id old new → Removes listed more id old new
+removes_same listed passes more id old new same h = record {
+  removed = λ role n test e. h.removed role n test e
+      ∙ agreeing_lists listed (λ x. not (nat_eq x id && passes role n) && test x) (λ x. not (nat_eq x id && more role n) && test x) (λ i x f. ap (λ b. not (nat_eq x id && b) && test x) (sym (same role n)));
+  capacity = h.capacity;
+}
 
 -- ---- room is made
+
+pub grown_none : (index : NameIndex) → IsGrown index index
+grown_none index = record { seen = λ name. record { holders = refl; users = refl }; capacity = capacity_same index }
 
 pub grown_more : (old mid new : NameIndex) → IsGrown old mid → IsGrown mid new → IsGrown old new
 grown_more old mid new g h = record {
@@ -180,22 +221,20 @@ grown_more old mid new g h = record {
   capacity = λ n. capacity_more old mid new n (g.capacity n) (h.capacity n);
 }
 
-pub holder_room_grown : (old new : NameIndex) (name : List ℕ) → IsGrown old new → HasHolderRoom old name → HasHolderRoom new name
-holder_room_grown old new name h room = omega (arith, room, ap length (h.seen name).holders, (h.capacity name).holders)
+pub room_grown : (old new : NameIndex) → IsGrown old new → (role : Role) (name : List ℕ) → HasRoom old role name → HasRoom new role name
+room_grown old new h Holder name room = room_kept Holder old new name (h.seen name).holders (h.capacity name) room
+room_grown old new h User name room = room_kept User old new name (h.seen name).users (h.capacity name) room
 
-pub user_room_grown : (old new : NameIndex) (name : List ℕ) → IsGrown old new → HasUserRoom old name → HasUserRoom new name
-user_room_grown old new name h room = omega (arith, room, ap length (h.seen name).users, (h.capacity name).users)
+pub room_more : (passes more : Role → List ℕ → Bool) (mid new : NameIndex) (said : Role) (name : List ℕ) → HasRoomAt passes mid → IsGrown mid new → HasHolderRoom new name → HasUserRoom new name → GrowsBy (Some (said, name)) passes more → HasRoomAt more new
+room_more passes more mid new said name room h holder user step role n e = elim (name_cases n name) [
+  | inl same ↦ rw same.0 (either role)
+  | inr apart ↦ room_grown mid new h role n (room role n (sym (or_none (passes role n)) ∙ (ap (λ b. passes role n || b) (sym (and_false (is_role role said) (bytes_eq n name) apart.1)) ∙ (sym (step role n) ∙ e))))
+] where
+  either : (r : Role) → HasRoom new r name
+  either Holder = holder
+  either User = user
 
-pub room_grown : (passes : List ℕ → Bool) (old new : NameIndex) → IsGrown old new → HasRoomAt passes old → HasRoomAt passes new
-room_grown passes old new h room n e = (holder_room_grown old new n h (room n e).0, user_room_grown old new n h (room n e).1)
-
-pub room_more : (passes more : List ℕ → Bool) (mid new : NameIndex) (name : List ℕ) → HasRoomAt passes mid → IsGrown mid new → HasHolderRoom new name → HasUserRoom new name → ((n : List ℕ) → more n ≡ (passes n || bytes_eq n name)) → HasRoomAt more new
-room_more passes more mid new name room h holder user step n e = elim (name_cases n name) [
-  | inl same ↦ rw same.0 (holder, user)
-  | inr apart ↦ room_grown passes mid new h room n (sym (or_none (passes n)) ∙ (ap (λ b. passes n || b) (sym apart.1) ∙ (sym (step n) ∙ e)))
-]
-
--- ---- names are let go of
+-- ---- names are dropped
 
 forgotten_stays : (mid new : NameIndex) (name : List ℕ) → ((n : List ℕ) → IsSeenSame mid new n) → KeepsOthers mid new name → IsForgotten new name → (n : List ℕ) → IsForgotten mid n → IsForgotten new n
 forgotten_stays mid new name seen others gone n before = elim (name_cases n name) [
@@ -203,63 +242,81 @@ forgotten_stays mid new name seen others gone n before = elim (name_cases n name
   | inr apart ↦ λ holders users. others n apart.0 ∙ before (sym (seen n).holders ∙ holders) (sym (seen n).users ∙ users)
 ]
 
-pub forgets_more : (passes more : List ℕ → Bool) (old mid new : NameIndex) (name : List ℕ) → Forgets passes old mid → ((n : List ℕ) → IsSeenSame mid new n) → KeepsOthers mid new name → IsForgotten new name → ((n : List ℕ) → more n ≡ (passes n || bytes_eq n name)) → Forgets more old new
-forgets_more passes more old mid new name h seen others gone step = record {
+pub forgets_more : (passes more : Role → List ℕ → Bool) (old mid new : NameIndex) (said : Role) (name : List ℕ) → Forgets passes old mid → ((n : List ℕ) → IsSeenSame mid new n) → KeepsOthers mid new name → IsForgotten new name → GrowsBy (Some (said, name)) passes more → Forgets more old new
+forgets_more passes more old mid new said name h seen others gone step = record {
   same = λ n. record { holders = (seen n).holders ∙ (h.same n).holders; users = (seen n).users ∙ (h.same n).users };
-  gone = λ n e. elim (name_cases n name) [
+  gone = λ role n e. elim (name_cases n name) [
     | inl same ↦ rw same.0 gone
-    | inr apart ↦ forgotten_stays mid new name seen others gone n (h.gone n (sym (or_none (passes n)) ∙ (ap (λ b. passes n || b) (sym apart.1) ∙ (sym (step n) ∙ e))))
+    | inr apart ↦ forgotten_stays mid new name seen others gone n (h.gone role n (sym (or_none (passes role n)) ∙ (ap (λ b. passes role n || b) (sym (and_false (is_role role said) (bytes_eq n name) apart.1)) ∙ (sym (step role n) ∙ e))))
   ];
   kept = λ n f. forgotten_stays mid new name seen others gone n (h.kept n f);
 }
 
--- ---- one more name, or one more item
+-- ---- one more place
 
-take_push : {X : Type 0} (xs : List X) (k : ℕ) (x : X) → k < length xs → x ≡ get_or xs k x → take (k + 1) xs ≡ take k xs ++ x ∷ []
-take_push xs k x within e = take_more xs k x within ∙ ap (λ y. take k xs ++ y ∷ []) (sym e)
+said_push : (all : List Said) (said : Said) (role : Role) (name : List ℕ) → is_among_said (all ++ said ∷ []) role name ≡ (is_among_said all role name || is_said role name said)
+said_push [] said role name = or_none (is_said role name said)
+said_push (x ∷ xs) said role name =
+    ap (λ b. is_said role name x || b) (said_push xs said role name) ∙ or_assoc (is_said role name x) (is_among_said xs role name) (is_said role name said)
 
-named_push : (xs : List (RcSlice ℕ Global)) (x : RcSlice ℕ Global) (n : List ℕ) → is_name_of (xs ++ x ∷ []) n ≡ (is_name_of xs n || bytes_eq n (rc_slice_items x))
-named_push [] x n = or_none (bytes_eq n (rc_slice_items x))
-named_push (y ∷ ys) x n =
-    ap (λ b. bytes_eq n (rc_slice_items y) || b) (named_push ys x n) ∙ or_assoc (bytes_eq n (rc_slice_items y)) (is_name_of ys n) (bytes_eq n (rc_slice_items x))
+pub said_more : (all : List Said) (k : ℕ) (said : Said) → slice_get all k ≡ Some said → GrowsBy said (is_among_said (take k all)) (is_among_said (take (k + 1) all))
+said_more all k said e role name =
+    ap (λ xs. is_among_said xs role name) (take_more all k said (slice_get_within all k said e) ∙ ap (λ x. take k all ++ x ∷ []) (get_or_from_slice_get all k said said e))
+    ∙ said_push (take k all) said role name
 
-pub named_more : (xs : List (RcSlice ℕ Global)) (k : ℕ) (x : RcSlice ℕ Global) (name : List ℕ) → k < length xs → x ≡ get_or xs k x → rc_slice_items x ≡ name → (n : List ℕ) → is_name_of (take (k + 1) xs) n ≡ (is_name_of (take k xs) n || bytes_eq n name)
-named_more xs k x name within e is n =
-    ap (λ ys. is_name_of ys n) (take_push xs k x within e) ∙ (named_push (take k xs) x n ∙ ap (λ m. is_name_of (take k xs) n || bytes_eq n m) is)
+-- what says nothing more
+pub said_same : (all : List Said) (k : ℕ) → slice_get all k ≡ Some None → (role : Role) (name : List ℕ) → is_among_said (take (k + 1) all) role name ≡ is_among_said (take k all) role name
+said_same all k e role name = said_more all k None e role name ∙ or_none (is_among_said (take k all) role name)
 
-used_push : (xs : List Item) (x : Item) (n : List ℕ) → is_used_by (xs ++ x ∷ []) n ≡ (is_used_by xs n || use_passes (bytes_eq n) (used_name (said_of x.what)))
-used_push [] x n = or_none (use_passes (bytes_eq n) (used_name (said_of x.what)))
-used_push (y ∷ ys) x n =
-    ap (λ b. use_passes (bytes_eq n) (used_name (said_of y.what)) || b) (used_push ys x n)
-    ∙ or_assoc (use_passes (bytes_eq n) (used_name (said_of y.what))) (is_used_by ys n) (use_passes (bytes_eq n) (used_name (said_of x.what)))
+pub said_here : (all : List Said) (k : ℕ) (role : Role) (name : List ℕ) → slice_get all k ≡ Some (Some (role, name)) → is_among_said all role name ≡ true
+said_here [] k role name e = absurd (let l = slice_get_within [] k (Some (role, name)) e in omega arith)
+said_here (x ∷ xs) zero role name e =
+    let is : x ≡ Some (role, name) = cc in
+    let same : bytes_eq name name ≡ true = (bytes_decides name name).1 refl in
+    rw is (elim (role_cases role role) [ inl one ↦ rw (one.1, same) refl | inr apart ↦ absurd (itself role apart) ])
+  where
+    itself : (r : Role) → is_role r r ≡ false → ⊥
+    itself Holder e = false≢true (sym e)
+    itself User e = false≢true (sym e)
+said_here (x ∷ xs) (suc k) role name e = or_true (is_said role name x) (is_among_said xs role name) (said_here xs k role name e)
 
-pub used_more : (xs : List Item) (k : ℕ) (x : Item) (import : RcSlice ℕ Global) (name : List ℕ) → k < length xs → x ≡ get_or xs k x → x.what ≡ Import import → rc_slice_items import ≡ name → (n : List ℕ) → is_used_by (take (k + 1) xs) n ≡ (is_used_by (take k xs) n || bytes_eq n name)
-used_more xs k x import name within e what is n =
-    ap (λ ys. is_used_by ys n) (take_push xs k x within e)
-    ∙ (used_push (take k xs) x n ∙ ap (λ w. is_used_by (take k xs) n || use_passes (bytes_eq n) (used_name (said_of w))) what ∙ ap (λ m. is_used_by (take k xs) n || bytes_eq n m) is)
+-- ---- all places of a block
 
-no_use : (what : What) (n : List ℕ) → ((x : RcSlice ℕ Global) → what ≡ Import x → ⊥) → use_passes (bytes_eq n) (used_name (said_of what)) ≡ false
-no_use (Flag c) n h = refl
-no_use (Number c m) n h = refl
-no_use (Text c t) n h = refl
-no_use (Cancel c) n h = refl
-no_use (Import x) n h = absurd (h x refl)
+used_here : (role : Role) (name : List ℕ) (o : Option (List ℕ)) → is_said Holder name (option_map (λ n. (User, n)) o) ≡ false
+used_here role name None = refl
+used_here role name (Some n) = refl
 
-pub used_same : (xs : List Item) (k : ℕ) (x : Item) → k < length xs → x ≡ get_or xs k x → ((y : RcSlice ℕ Global) → x.what ≡ Import y → ⊥) → (n : List ℕ) → is_used_by (take (k + 1) xs) n ≡ is_used_by (take k xs) n
-used_same xs k x within e other n =
-    ap (λ ys. is_used_by ys n) (take_push xs k x within e) ∙ (used_push (take k xs) x n ∙ (ap (λ b. is_used_by (take k xs) n || b) (no_use x.what n other) ∙ or_none (is_used_by (take k xs) n)))
+no_holder_used : (name : List ℕ) (items : List Item) → is_among_said (map said_as_used items) Holder name ≡ false
+no_holder_used name [] = refl
+no_holder_used name (x ∷ xs) = rw (used_here Holder name (used_name (item_of x).said), no_holder_used name xs) refl
 
--- a name that stands in a list is one of its names
-pub named_here : (xs : List (RcSlice ℕ Global)) (k : ℕ) (x : RcSlice ℕ Global) (name : List ℕ) → k < length xs → x ≡ get_or xs k x → rc_slice_items x ≡ name → is_name_of xs name ≡ true
-named_here [] k x name within e is = absurd (omega arith)
-named_here (y ∷ xs) zero x name within e is =
-    let same : bytes_eq name (rc_slice_items y) ≡ true = (bytes_decides name (rc_slice_items y)).1 (sym is ∙ ap rc_slice_items e) in rw same refl
-named_here (y ∷ xs) (suc k) x name within e is = or_true (bytes_eq name (rc_slice_items y)) (is_name_of xs name) (named_here xs k x name (omega arith) e is)
+own_said : (names : List (RcSlice ℕ Global)) (rest : List Said) (name : List ℕ) → is_among_said rest Holder name ≡ false → is_among_said (map said_as_own names ++ rest) Holder name ≡ is_among name (map rc_slice_items names)
+own_said [] rest name e = e
+own_said (x ∷ xs) rest name e = ap (λ b. bytes_eq name (rc_slice_items x) || b) (own_said xs rest name e)
 
-pub used_here : (xs : List Item) (k : ℕ) (x : Item) (import : RcSlice ℕ Global) (name : List ℕ) → k < length xs → x ≡ get_or xs k x → x.what ≡ Import import → rc_slice_items import ≡ name → is_used_by xs name ≡ true
-used_here [] k x import name within e what is = absurd (omega arith)
-used_here (y ∷ xs) zero x import name within e what is =
-    let same : bytes_eq name (rc_slice_items import) ≡ true = (bytes_decides name (rc_slice_items import)).1 (sym is) in
-    let said : y.what ≡ Import import = ap (λ (z : Item). z.what) (sym e) ∙ what in rw (said, same) refl
-used_here (y ∷ xs) (suc k) x import name within e what is =
-    or_true (use_passes (bytes_eq name) (used_name (said_of y.what))) (is_used_by xs name) (used_here xs k x import name (omega arith) e what is)
+use_said : (name : List ℕ) (o : Option (List ℕ)) → is_said User name (option_map (λ n. (User, n)) o) ≡ use_passes (bytes_eq name) o
+use_said name None = refl
+use_said name (Some n) = refl
+
+uses_said : (items : List Item) (name : List ℕ) → is_among_said (map said_as_used items) User name ≡ any_use (bytes_eq name) (map item_of items)
+uses_said [] name = refl
+uses_said (x ∷ xs) name = rw (use_said name (used_name (item_of x).said), uses_said xs name) refl
+
+past_own : (names : List (RcSlice ℕ Global)) (rest : List Said) (name : List ℕ) → is_among_said (map said_as_own names ++ rest) User name ≡ is_among_said rest User name
+past_own [] rest name = refl
+past_own (x ∷ xs) rest name = past_own xs rest name
+
+pub says_all : (block : Parsed) (role : Role) (name : List ℕ) → says_of block role name ≡ is_among_said (all_said block) role name
+says_all block Holder name = sym (own_said block.names.items (map said_as_used block.items.items) name (no_holder_used name block.items.items))
+says_all block User name = sym (past_own block.names.items (map said_as_used block.items.items) name ∙ uses_said block.items.items name)
+
+-- how many places there are
+said_length : (block : Parsed) → length (all_said block) ≡ length block.names.items + length block.items.items
+said_length block =
+    length-append (map said_as_own block.names.items) (map said_as_used block.items.items) ∙ omega (arith, length-map block.names.items said_as_own, length-map block.items.items said_as_used)
+
+-- after the last place, all is said
+pub said_ended : (block : Parsed) (n : ℕ) → length block.names.items + length block.items.items ≤ n → (role : Role) (name : List ℕ) → says_of block role name ≡ is_among_said (take n (all_said block)) role name
+said_ended block n past role name =
+    let all = take_all n (all_said block) (omega (arith, said_length block)) in
+    says_all block role name ∙ ap (λ xs. is_among_said xs role name) (sym all)

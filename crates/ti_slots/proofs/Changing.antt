@@ -1,4 +1,4 @@
--- What is kept as a block is put in or taken out.
+-- What holds as a block is put in or taken out.
 use Rattle.std.proofs.Common.{◌≡◌, ◌≢◌, ◌<◌, ◌≤◌, ℕ, inl, inr, List, [], ◌∷◌, ◌++◌, map, length, get_or, set, Bool, false, not, nat_eq, ◌&&◌, Option, Some, None, slice_get, filter, insert, remove, refl, ◌∙◌, ap, arith, eq-eqb, length-append, length-set}
 use Rattle.std.specs.Option.{option_map_or, option_and_then, IsSome}
 use Rattle.std.specs.Str.{bytes_eq}
@@ -7,19 +7,18 @@ use Rattle.std.proofs.lemmas.Option.{slice_get_past, slice_get_read}
 use Rattle.ti_source.specs.Reading.{reading_of}
 use Rattle.ti_meaning.specs.Owner.{is_among}
 use Rattle.ti_meaning.specs.Reaching.{any_use}
-use Rattle.ti_text.specs.Lists.{Has}
-use Rattle.ti_index.specs.Labels.{AreDistinct}
-use Rattle.ti_index.specs.declared.names.NameIndex.{NameIndex}
+use Rattle.ti_text.specs.Lists.{Has, AreDistinct}
 use Rattle.ti_index.specs.Names.{holders_at, users_at, holder_capacity, user_capacity, KeepsCapacity}
 use Rattle.ti_slots.specs.declared.slots.Slot.{Slot}
 use Rattle.ti_slots.specs.declared.slots.Slots.{Slots}
 use Rattle.ti_slots.specs.Slots.{slot_at, reading_at, text_at, has_name, uses_name, empty_reading, StandsAt, IsIndexed}
-use Rattle.ti_slots.specs.inside.Indexing.{is_name_of, is_used_by, AddsId, Removes}
+use Rattle.ti_slots.specs.declared.indexing.Role.TheVariants.{Holder, User}
+use Rattle.ti_slots.specs.inside.Indexing.{says_of, AddsId, Removes}
 use Rattle.ti_slots.specs.Changes.{HasRoomFor, KeepsRooms, PutsIn, TakesOut}
-use Rattle.ti_slots.proofs.Adding.{capacity_more}
+use Rattle.ti_meaning.proofs.Leading.{used-any_use}
 use Rattle.ti_slots.proofs.Listings.{list_before, list_with, list_left, list_without, fewer_pass, one_less, and_right, map_put, map_taken, get_set, get_set_other, stood_before, left_before, length-put, length-taken}
 
--- ---- what stands in a slot alone decides
+-- ---- the list is determined by what is in its slots
 
 slot_set : (slots : List (Option Slot)) (id : ℕ) (slot : Option Slot) → id < length slots → slot_at (set slots id slot) id ≡ slot
 slot_set slots id slot l = ap (λ o. option_and_then (λ s. s) o) (get_set slots id slot l)
@@ -50,15 +49,14 @@ text_by_slot one other id e = ap (λ o. option_map_or (λ s. s.text.items) o [])
 
 -- ---- a block is put in
 
-pub record HasPut (a b : Slots) (mid : NameIndex) (at id : ℕ) (slot : Slot) : Type 0 where
+pub record HasPut (a b : Slots) (at id : ℕ) (slot : Slot) : Type 0 where
   pub within : at ≤ length a.order.listed
   pub listed : b.order.listed ≡ insert a.order.listed at id
   pub free : a.order.free ≡ b.order.free ++ id ∷ []
   pub fresh : ¬ Has a.order.listed id
   pub known : id < length a.slots.items
   pub slots : b.slots.items ≡ set a.slots.items id (Some slot)
-  pub holders : AddsId holders_at users_at b.order.listed (is_name_of slot.block.names.items) id a.names mid
-  pub users : AddsId users_at holders_at b.order.listed (is_used_by slot.block.items.items) id mid b.names
+  pub names : AddsId b.order.listed (says_of slot.block) id a.names b.names
 
 -- the lists of a name before, among the new ids
 pub holders_before : (a : Slots) (listed : List ℕ) (at id : ℕ) → IsIndexed a → listed ≡ insert a.order.listed at id → (Has a.order.listed id → ⊥) → (name : List ℕ) → holders_at a.names name ≡ filter (λ x. not (nat_eq x id) && has_name a.slots.items name x) listed
@@ -69,53 +67,52 @@ pub users_before : (a : Slots) (listed : List ℕ) (at id : ℕ) → IsIndexed a
 users_before a listed at id h e fresh name =
     rw e (h.users name ∙ list_before a.order.listed at id (uses_name a.slots.items name) fresh)
 
-put_here : (a b : Slots) (mid : NameIndex) (at id : ℕ) (slot : Slot) → HasPut a b mid at id slot → slot_at b.slots.items id ≡ Some slot
-put_here a b mid at id slot h = rw h.slots (slot_set a.slots.items id (Some slot) h.known)
+put_here : (a b : Slots) (at id : ℕ) (slot : Slot) → HasPut a b at id slot → slot_at b.slots.items id ≡ Some slot
+put_here a b at id slot h = rw h.slots (slot_set a.slots.items id (Some slot) h.known)
 
-put_others : (a b : Slots) (mid : NameIndex) (at id : ℕ) (slot : Slot) → HasPut a b mid at id slot → (other : ℕ) → other ≢ id → slot_at b.slots.items other ≡ slot_at a.slots.items other
-put_others a b mid at id slot h other n = rw h.slots (slot_set_other a.slots.items id other (Some slot) n)
+put_others : (a b : Slots) (at id : ℕ) (slot : Slot) → HasPut a b at id slot → (other : ℕ) → other ≢ id → slot_at b.slots.items other ≡ slot_at a.slots.items other
+put_others a b at id slot h other n = rw h.slots (slot_set_other a.slots.items id other (Some slot) n)
 
-put_filled : (a b : Slots) (mid : NameIndex) (at id : ℕ) (slot : Slot) → IsIndexed a → HasPut a b mid at id slot → (pos x : ℕ) → StandsAt b pos x → IsSome (slot_at b.slots.items x)
-put_filled a b mid at id slot i h pos x e = elim (cases_eq x id) [
-  | inl same ↦ rw (same, put_here a b mid at id slot h) refl
+put_filled : (a b : Slots) (at id : ℕ) (slot : Slot) → IsIndexed a → HasPut a b at id slot → (pos x : ℕ) → StandsAt b pos x → IsSome (slot_at b.slots.items x)
+put_filled a b at id slot i h pos x e = elim (cases_eq x id) [
+  | inl same ↦ rw (same, put_here a b at id slot h) refl
   | inr apart ↦
       let stood = stood_before a.order.listed at id pos x h.within (rw h.listed at e) apart in
-      rw (put_others a b mid at id slot h x apart) (i.filled stood.0 x stood.1)
+      rw (put_others a b at id slot h x apart) (i.filled stood.0 x stood.1)
 ]
 
-put_indexed : (a b : Slots) (mid : NameIndex) (at id : ℕ) (slot : Slot) → IsIndexed a → HasPut a b mid at id slot → IsIndexed b
-put_indexed a b mid at id slot i h =
-    let here = put_here a b mid at id slot h in
-    let others = put_others a b mid at id slot h in
+put_indexed : (a b : Slots) (at id : ℕ) (slot : Slot) → IsIndexed a → HasPut a b at id slot → IsIndexed b
+put_indexed a b at id slot i h =
+    let here = put_here a b at id slot h in
+    let others = put_others a b at id slot h in
     record {
       places = omega (arith, i.places, ap length h.listed, length-put a.order.listed at id, ap length h.free, length-append b.order.free (id ∷ []), ap length h.slots, length-set a.slots.items id (Some slot));
-      filled = put_filled a b mid at id slot i h;
+      filled = put_filled a b at id slot i h;
       holders = λ name.
-          h.users.kept name
-          ∙ (h.holders.added name (λ x. not (nat_eq x id) && has_name a.slots.items name x) (holders_before a b.order.listed at id i h.listed h.fresh name)
-          ∙ list_with b.order.listed id (has_name a.slots.items name) (has_name b.slots.items name) (is_name_of slot.block.names.items name)
+          h.names.added Holder name (λ x. not (nat_eq x id) && has_name a.slots.items name x) (holders_before a b.order.listed at id i h.listed h.fresh name)
+          ∙ list_with b.order.listed id (has_name a.slots.items name) (has_name b.slots.items name) (says_of slot.block Holder name)
           (λ x n. name_by_slot b.slots.items name x (slot_at a.slots.items x) (others x n))
-          (name_by_slot b.slots.items name id (Some slot) here));
+          (name_by_slot b.slots.items name id (Some slot) here);
       users = λ name.
-          h.users.added name (λ x. not (nat_eq x id) && uses_name a.slots.items name x) (h.holders.kept name ∙ users_before a b.order.listed at id i h.listed h.fresh name)
-          ∙ list_with b.order.listed id (uses_name a.slots.items name) (uses_name b.slots.items name) (is_used_by slot.block.items.items name)
+          h.names.added User name (λ x. not (nat_eq x id) && uses_name a.slots.items name x) (users_before a b.order.listed at id i h.listed h.fresh name)
+          ∙ list_with b.order.listed id (uses_name a.slots.items name) (uses_name b.slots.items name) (says_of slot.block User name)
           (λ x n. use_by_slot b.slots.items name x (slot_at a.slots.items x) (others x n))
           (use_by_slot b.slots.items name id (Some slot) here);
     }
 
-pub put_done : (a b : Slots) (mid : NameIndex) (at id : ℕ) (slot : Slot) → IsIndexed a → HasPut a b mid at id slot → PutsIn a b at slot id
-put_done a b mid at id slot i h =
-    let here = put_here a b mid at id slot h in
-    let others = put_others a b mid at id slot h in
+pub put_done : (a b : Slots) (at id : ℕ) (slot : Slot) → IsIndexed a → HasPut a b at id slot → PutsIn a b at slot id
+put_done a b at id slot i h =
+    let here = put_here a b at id slot h in
+    let others = put_others a b at id slot h in
     let apart : (pos x : ℕ) → StandsAt a pos x → x ≢ id = λ pos x e same. h.fresh (pos, rw same at e) in
     record {
-      indexed = put_indexed a b mid at id slot i h;
+      indexed = put_indexed a b at id slot i h;
       listed = h.listed;
       fresh = h.fresh;
       free = h.free;
       here = here;
       others = others;
-      capacity = λ name. capacity_more a.names mid b.names name (h.holders.capacity name) (h.users.capacity name);
+      capacity = h.names.capacity;
       blocks = ap (map (reading_at b.slots.items)) h.listed
           ∙ map_put (reading_at b.slots.items) (reading_at a.slots.items) a.order.listed at id (reading_of slot.block)
           (λ pos x e. reading_by_slot b.slots.items a.slots.items x (others x (apart pos x e)))
@@ -128,7 +125,7 @@ put_done a b mid at id slot i h =
 
 -- ---- a block is taken out
 
-pub record HasTaken (a b : Slots) (mid : NameIndex) (at id : ℕ) (slot : Slot) : Type 0 where
+pub record HasTaken (a b : Slots) (at id : ℕ) (slot : Slot) : Type 0 where
   pub stood : StandsAt a at id
   pub distinct : AreDistinct a.order.listed
   pub listed : b.order.listed ≡ remove a.order.listed at
@@ -136,46 +133,44 @@ pub record HasTaken (a b : Slots) (mid : NameIndex) (at id : ℕ) (slot : Slot) 
   pub was : slot_at a.slots.items id ≡ Some slot
   pub known : id < length a.slots.items
   pub slots : b.slots.items ≡ set a.slots.items id None
-  pub holders : Removes holders_at users_at a.order.listed (is_name_of slot.block.names.items) id a.names mid
-  pub users : Removes users_at holders_at a.order.listed (is_used_by slot.block.items.items) id mid b.names
+  pub names : Removes a.order.listed (says_of slot.block) id a.names b.names
 
-taken_gone : (a b : Slots) (mid : NameIndex) (at id : ℕ) (slot : Slot) → HasTaken a b mid at id slot → slot_at b.slots.items id ≡ None
-taken_gone a b mid at id slot h = rw h.slots (slot_set a.slots.items id None h.known)
+taken_gone : (a b : Slots) (at id : ℕ) (slot : Slot) → HasTaken a b at id slot → slot_at b.slots.items id ≡ None
+taken_gone a b at id slot h = rw h.slots (slot_set a.slots.items id None h.known)
 
-taken_others : (a b : Slots) (mid : NameIndex) (at id : ℕ) (slot : Slot) → HasTaken a b mid at id slot → (other : ℕ) → other ≢ id → slot_at b.slots.items other ≡ slot_at a.slots.items other
-taken_others a b mid at id slot h other n = rw h.slots (slot_set_other a.slots.items id other None n)
+taken_others : (a b : Slots) (at id : ℕ) (slot : Slot) → HasTaken a b at id slot → (other : ℕ) → other ≢ id → slot_at b.slots.items other ≡ slot_at a.slots.items other
+taken_others a b at id slot h other n = rw h.slots (slot_set_other a.slots.items id other None n)
 
 -- the lists of a name after, among the old ids
-holders_after : (a b : Slots) (mid : NameIndex) (at id : ℕ) (slot : Slot) → IsIndexed a → HasTaken a b mid at id slot → (name : List ℕ) → holders_at b.names name ≡ filter (λ x. not (nat_eq x id) && has_name a.slots.items name x) a.order.listed
-holders_after a b mid at id slot i h name =
-    h.users.kept name
-    ∙ (h.holders.removed name (has_name a.slots.items name) (i.holders name)
-    ∙ list_left a.order.listed id (has_name a.slots.items name) (is_name_of slot.block.names.items name) (name_by_slot a.slots.items name id (Some slot) h.was))
+holders_after : (a b : Slots) (at id : ℕ) (slot : Slot) → IsIndexed a → HasTaken a b at id slot → (name : List ℕ) → holders_at b.names name ≡ filter (λ x. not (nat_eq x id) && has_name a.slots.items name x) a.order.listed
+holders_after a b at id slot i h name =
+    h.names.removed Holder name (has_name a.slots.items name) (i.holders name)
+    ∙ list_left a.order.listed id (has_name a.slots.items name) (says_of slot.block Holder name) (name_by_slot a.slots.items name id (Some slot) h.was)
 
-users_after : (a b : Slots) (mid : NameIndex) (at id : ℕ) (slot : Slot) → IsIndexed a → HasTaken a b mid at id slot → (name : List ℕ) → users_at b.names name ≡ filter (λ x. not (nat_eq x id) && uses_name a.slots.items name x) a.order.listed
-users_after a b mid at id slot i h name =
-    h.users.removed name (uses_name a.slots.items name) (h.holders.kept name ∙ i.users name)
-    ∙ list_left a.order.listed id (uses_name a.slots.items name) (is_used_by slot.block.items.items name) (use_by_slot a.slots.items name id (Some slot) h.was)
+users_after : (a b : Slots) (at id : ℕ) (slot : Slot) → IsIndexed a → HasTaken a b at id slot → (name : List ℕ) → users_at b.names name ≡ filter (λ x. not (nat_eq x id) && uses_name a.slots.items name x) a.order.listed
+users_after a b at id slot i h name =
+    h.names.removed User name (uses_name a.slots.items name) (i.users name)
+    ∙ list_left a.order.listed id (uses_name a.slots.items name) (says_of slot.block User name) (use_by_slot a.slots.items name id (Some slot) h.was)
 
-taken_filled : (a b : Slots) (mid : NameIndex) (at id : ℕ) (slot : Slot) → IsIndexed a → HasTaken a b mid at id slot → (pos x : ℕ) → StandsAt b pos x → IsSome (slot_at b.slots.items x)
-taken_filled a b mid at id slot i h pos x e =
+taken_filled : (a b : Slots) (at id : ℕ) (slot : Slot) → IsIndexed a → HasTaken a b at id slot → (pos x : ℕ) → StandsAt b pos x → IsSome (slot_at b.slots.items x)
+taken_filled a b at id slot i h pos x e =
     let stood = left_before a.order.listed at id pos x h.distinct h.stood (rw h.listed at e) in
-    rw (taken_others a b mid at id slot h x stood.1) (i.filled stood.0.0 x stood.0.1)
+    rw (taken_others a b at id slot h x stood.1) (i.filled stood.0.0 x stood.0.1)
 
-taken_indexed : (a b : Slots) (mid : NameIndex) (at id : ℕ) (slot : Slot) → IsIndexed a → HasTaken a b mid at id slot → IsIndexed b
-taken_indexed a b mid at id slot i h =
-    let gone = taken_gone a b mid at id slot h in
-    let others = taken_others a b mid at id slot h in
+taken_indexed : (a b : Slots) (at id : ℕ) (slot : Slot) → IsIndexed a → HasTaken a b at id slot → IsIndexed b
+taken_indexed a b at id slot i h =
+    let gone = taken_gone a b at id slot h in
+    let others = taken_others a b at id slot h in
     record {
       places = omega (arith, i.places, ap length h.listed, length-taken a.order.listed at id h.stood, ap length h.free, length-append a.order.free (id ∷ []), ap length h.slots, length-set a.slots.items id None);
-      filled = taken_filled a b mid at id slot i h;
+      filled = taken_filled a b at id slot i h;
       holders = λ name. rw h.listed
-          (holders_after a b mid at id slot i h name
+          (holders_after a b at id slot i h name
           ∙ list_without a.order.listed at id (has_name a.slots.items name) (has_name b.slots.items name) h.stood
           (λ x n. name_by_slot b.slots.items name x (slot_at a.slots.items x) (others x n))
           (name_by_slot b.slots.items name id None gone));
       users = λ name. rw h.listed
-          (users_after a b mid at id slot i h name
+          (users_after a b at id slot i h name
           ∙ list_without a.order.listed at id (uses_name a.slots.items name) (uses_name b.slots.items name) h.stood
           (λ x n. use_by_slot b.slots.items name x (slot_at a.slots.items x) (others x n))
           (use_by_slot b.slots.items name id None gone));
@@ -185,52 +180,52 @@ no_longer : (id : ℕ) (has : ℕ → Bool) → (not (nat_eq id id) && has id) �
 no_longer id has = rw (eq-eqb id id refl) refl
 
 -- the block leaves the room that it had
-taken_room : (a b : Slots) (mid : NameIndex) (at id : ℕ) (slot : Slot) → IsIndexed a → HasTaken a b mid at id slot → ((name : List ℕ) → length (holders_at a.names name) ≤ holder_capacity a.names name) → ((name : List ℕ) → length (users_at a.names name) ≤ user_capacity a.names name) → ((name : List ℕ) → KeepsCapacity a.names b.names name) → HasRoomFor b (reading_of slot.block)
-taken_room a b mid at id slot i h holders_fit users_fit capacity = record {
+taken_room : (a b : Slots) (at id : ℕ) (slot : Slot) → IsIndexed a → HasTaken a b at id slot → ((name : List ℕ) → length (holders_at a.names name) ≤ holder_capacity a.names name) → ((name : List ℕ) → length (users_at a.names name) ≤ user_capacity a.names name) → ((name : List ℕ) → KeepsCapacity a.names b.names name) → HasRoomFor b (reading_of slot.block)
+taken_room a b at id slot i h holders_fit users_fit capacity = record {
   id = omega (arith, ap length h.free, length-append a.order.free (id ∷ []));
   holders = λ name stated.
       let has = has_name a.slots.items name in
       let less = one_less has (λ x. not (nat_eq x id) && has x) a.order.listed at id (λ x. and_right (not (nat_eq x id)) (has x)) h.stood
       (name_by_slot a.slots.items name id (Some slot) h.was ∙ stated) (no_longer id has) in
-      omega (arith, less, ap length (i.holders name), ap length (holders_after a b mid at id slot i h name), holders_fit name, (capacity name).holders);
+      omega (arith, less, ap length (i.holders name), ap length (holders_after a b at id slot i h name), holders_fit name, (capacity name).holders);
   users = λ name stated.
       let has = uses_name a.slots.items name in
       let less = one_less has (λ x. not (nat_eq x id) && has x) a.order.listed at id (λ x. and_right (not (nat_eq x id)) (has x)) h.stood
-      (use_by_slot a.slots.items name id (Some slot) h.was ∙ stated) (no_longer id has) in
-      omega (arith, less, ap length (i.users name), ap length (users_after a b mid at id slot i h name), users_fit name, (capacity name).users);
+      (use_by_slot a.slots.items name id (Some slot) h.was ∙ used-any_use name (reading_of slot.block).items stated) (no_longer id has) in
+      omega (arith, less, ap length (i.users name), ap length (users_after a b at id slot i h name), users_fit name, (capacity name).users);
 }
 
 -- and takes none from another
-taken_rooms : (a b : Slots) (mid : NameIndex) (at id : ℕ) (slot : Slot) → IsIndexed a → HasTaken a b mid at id slot → ((name : List ℕ) → KeepsCapacity a.names b.names name) → KeepsRooms a b
-taken_rooms a b mid at id slot i h capacity block room = record {
+taken_rooms : (a b : Slots) (at id : ℕ) (slot : Slot) → IsIndexed a → HasTaken a b at id slot → ((name : List ℕ) → KeepsCapacity a.names b.names name) → KeepsRooms a b
+taken_rooms a b at id slot i h capacity block room = record {
   id = omega (arith, ap length h.free, length-append a.order.free (id ∷ []));
   holders = λ name stated.
       let has = has_name a.slots.items name in
       let less = fewer_pass has (λ x. not (nat_eq x id) && has x) a.order.listed (λ x. and_right (not (nat_eq x id)) (has x)) in
-      omega (arith, less, ap length (i.holders name), ap length (holders_after a b mid at id slot i h name), room.holders name stated, (capacity name).holders);
+      omega (arith, less, ap length (i.holders name), ap length (holders_after a b at id slot i h name), room.holders name stated, (capacity name).holders);
   users = λ name stated.
       let has = uses_name a.slots.items name in
       let less = fewer_pass has (λ x. not (nat_eq x id) && has x) a.order.listed (λ x. and_right (not (nat_eq x id)) (has x)) in
-      omega (arith, less, ap length (i.users name), ap length (users_after a b mid at id slot i h name), room.users name stated, (capacity name).users);
+      omega (arith, less, ap length (i.users name), ap length (users_after a b at id slot i h name), room.users name stated, (capacity name).users);
 }
 
-pub taken_done : (a b : Slots) (mid : NameIndex) (at id : ℕ) (slot : Slot) → IsIndexed a → HasTaken a b mid at id slot → ((name : List ℕ) → length (holders_at a.names name) ≤ holder_capacity a.names name) → ((name : List ℕ) → length (users_at a.names name) ≤ user_capacity a.names name) → TakesOut a b at slot
-taken_done a b mid at id slot i h holders_fit users_fit =
-    let others = taken_others a b mid at id slot h in
-    let capacity : (name : List ℕ) → KeepsCapacity a.names b.names name = λ name. capacity_more a.names mid b.names name (h.holders.capacity name) (h.users.capacity name) in
+pub taken_done : (a b : Slots) (at id : ℕ) (slot : Slot) → IsIndexed a → HasTaken a b at id slot → ((name : List ℕ) → length (holders_at a.names name) ≤ holder_capacity a.names name) → ((name : List ℕ) → length (users_at a.names name) ≤ user_capacity a.names name) → TakesOut a b at slot
+taken_done a b at id slot i h holders_fit users_fit =
+    let others = taken_others a b at id slot h in
+    let capacity = h.names.capacity in
     let apart : (pos x : ℕ) → slice_get (remove a.order.listed at) pos ≡ Some x → x ≢ id = λ pos x e. (left_before a.order.listed at id pos x h.distinct h.stood e).1 in
     record {
       id = id;
-      indexed = taken_indexed a b mid at id slot i h;
+      indexed = taken_indexed a b at id slot i h;
       stood = h.stood;
       listed = h.listed;
       free = h.free;
       was = h.was;
-      gone = taken_gone a b mid at id slot h;
+      gone = taken_gone a b at id slot h;
       others = others;
       capacity = capacity;
-      room = taken_room a b mid at id slot i h holders_fit users_fit capacity;
-      rooms = taken_rooms a b mid at id slot i h capacity;
+      room = taken_room a b at id slot i h holders_fit users_fit capacity;
+      rooms = taken_rooms a b at id slot i h capacity;
       blocks = ap (map (reading_at b.slots.items)) h.listed
           ∙ map_taken (reading_at b.slots.items) (reading_at a.slots.items) a.order.listed at (λ pos x e. reading_by_slot b.slots.items a.slots.items x (others x (apart pos x e)));
       texts = ap (map (text_at b.slots.items)) h.listed

@@ -1,9 +1,8 @@
--- Lists of the ids that pass a test, and of what stands under ids, as an id comes or goes.
+-- Lists of the ids that pass a test, and of what is under ids, as an id comes or goes.
 use Rattle.std.proofs.Common.{◌≡◌, ◌≢◌, ◌<◌, ◌≤◌, ℕ, suc, zero, inl, inr, List, [], ◌∷◌, map, length, set, Bool, true, false, not, nat_eq, ◌&&◌, ◌||◌, Some, slice_get, filter, insert, remove, refl, sym, ◌∙◌, ap, arith, eq-eqb}
 use Rattle.std.proofs.lemmas.Bool.{cases_Bool, cases_eq, eqb-true, false≢true}
 use Rattle.std.proofs.lemmas.Option.{same_Some, none-some}
-use Rattle.ti_text.specs.Lists.{Has}
-use Rattle.ti_index.specs.Labels.{AreDistinct}
+use Rattle.ti_text.specs.Lists.{Has, AreDistinct}
 use Rattle.ti_index.proofs.LawProofs.{agreeing_lists, staying_lists}
 use Rattle.ti_index.proofs.Keeping.{insert_cases, remove_cases}
 
@@ -90,7 +89,7 @@ pub and_right : (a b : Bool) → (a && b) ≡ true → b ≡ true
 and_right true b e = e
 and_right false b e = absurd (false≢true e)
 
--- ---- what stands under the ids
+-- ---- what is under the ids
 
 module _ {X : Type 0} where
   same_map : (f g : ℕ → X) (xs : List ℕ) → ((i x : ℕ) → slice_get xs i ≡ Some x → f x ≡ g x) → map f xs ≡ map g xs
@@ -132,14 +131,14 @@ module _ {X : Type 0} where
   get_set_other (z ∷ zs) (suc i) zero y n = refl
   get_set_other (z ∷ zs) (suc i) (suc j) y n = get_set_other zs i j y (λ e. n (ap suc e))
 
--- an id that is not the one put in stood before
+-- an id that is not the one put in was there before
 pub stood_before : (xs : List ℕ) (at id pos x : ℕ) → at ≤ length xs → slice_get (insert xs at id) pos ≡ Some x → x ≢ id → Has xs x
 stood_before xs at id pos x within e apart = elim (insert_cases xs at id pos x within e) [
   | inl before ↦ (pos, before.1)
   | inr late ↦ elim late [ inl here ↦ absurd (apart here.1) | inr behind ↦ (behind.0, behind.3) ]
 ]
 
--- an id that is left stood before, and is not the one taken out
+-- an id that is left was there before, and is not the one taken out
 pub left_before : (xs : List ℕ) (at id pos x : ℕ) → AreDistinct xs → slice_get xs at ≡ Some id → slice_get (remove xs at) pos ≡ Some x → Has xs x × (x ≢ id)
 left_before xs at id pos x distinct stood e = elim (remove_cases xs at pos x e) [
   | inl before ↦ ((pos, before.1), λ same. (let one = distinct pos at id (rw same at before.1) stood in let l = before.0 in omega arith))

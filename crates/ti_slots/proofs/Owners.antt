@@ -1,12 +1,11 @@
 -- The owner of a name is the first of its holders, and its users are the blocks of the list that use it.
-use Rattle.std.proofs.Common.{◌≡◌, ◌⊎◌, ℕ, zero, suc, inl, inr, List, [], ◌∷◌, map, Bool, true, false, ◌||◌, Option, Some, None, slice_get, filter, refl, sym, ◌∙◌, ap}
-use Rattle.std.specs.Str.{bytes_eq}
-use Rattle.std.specs.Cmp.Lexicographic.{bytes_decides}
-use Rattle.std.proofs.lemmas.Bool.{cases_Bool, false≢true}
+use Rattle.std.proofs.Common.{◌≡◌, ℕ, zero, suc, inl, inr, List, [], ◌∷◌, map, Bool, true, Some, None, slice_get, filter, refl, sym, ◌∙◌, ap}
+use Rattle.std.proofs.lemmas.Bool.{cases_Bool}
 use Rattle.std.proofs.lemmas.Option.{same_Some, none-some}
-use Rattle.ti_source.specs.Reading.{Reading, ReadItem}
+use Rattle.ti_source.specs.Reading.{Reading}
 use Rattle.ti_meaning.specs.Owner.{is_among, owner}
-use Rattle.ti_meaning.specs.Reaching.{used_name, Uses, use_passes, any_use}
+use Rattle.ti_meaning.specs.Reaching.{Uses}
+use Rattle.ti_meaning.proofs.Leading.{any_use-used, used-any_use}
 use Rattle.ti_text.specs.Lists.{Has}
 use Rattle.ti_index.specs.Names.{holders_at, users_at}
 use Rattle.ti_slots.specs.declared.slots.Slots.{Slots}
@@ -32,39 +31,12 @@ none_owns read name (x ∷ listed) e =
       | inr lacks ↦ (let rest = none_owns read name listed (rw lacks at e) in rw (lacks, rest) refl)
     ]
 
--- the first of a name's holders owns it, and where there is none nobody does
+-- the first of a name's holders owns it, and if there is none nobody does
 pub first_holder : (slots : Slots) (name : List ℕ) (id : ℕ) → IsIndexed slots → slice_get (holders_at slots.names name) 0 ≡ Some id → IsOwnerId slots name id
 first_holder slots name id h e = first_owns (reading_at slots.slots.items) name slots.order.listed id (rw (h.holders name) at e)
 
 pub no_holder : (slots : Slots) (name : List ℕ) → IsIndexed slots → slice_get (holders_at slots.names name) 0 ≡ None → owner (blocks_of slots) name ≡ None
 no_holder slots name h e = none_owns (reading_at slots.slots.items) name slots.order.listed (rw (h.holders name) at e)
-
--- ---- a name among the uses of items
-
-or_cases : (a b : Bool) → (a || b) ≡ true → (a ≡ true) ⊎ (b ≡ true)
-or_cases true b e = inl refl
-or_cases false b e = inr e
-
-or_right : (a b : Bool) → b ≡ true → (a || b) ≡ true
-or_right true b e = refl
-or_right false b e = e
-
-passing_name : (name : List ℕ) (used : Option (List ℕ)) → use_passes (bytes_eq name) used ≡ true → used ≡ Some name
-passing_name name None e = absurd (false≢true e)
-passing_name name (Some other) e = ap (λ n. Some n) (sym ((bytes_decides name other).0 e))
-
-pub any_use_uses : (name : List ℕ) (items : List ReadItem) → any_use (bytes_eq name) items ≡ true → Uses items name
-any_use_uses name [] e = absurd (false≢true e)
-any_use_uses name (item ∷ items) e =
-    elim (or_cases (use_passes (bytes_eq name) (used_name item.said)) (any_use (bytes_eq name) items) e) [
-      | inl here ↦ inl (passing_name name (used_name item.said) here)
-      | inr later ↦ inr (any_use_uses name items later)
-    ]
-
-pub uses_any_use : (name : List ℕ) (items : List ReadItem) → Uses items name → any_use (bytes_eq name) items ≡ true
-uses_any_use name [] u = absurd u
-uses_any_use name (item ∷ items) (inl here) = let same : bytes_eq name name ≡ true = (bytes_decides name name).1 refl in rw (here, same) refl
-uses_any_use name (item ∷ items) (inr later) = or_right (use_passes (bytes_eq name) (used_name item.said)) (any_use (bytes_eq name) items) (uses_any_use name items later)
 
 -- ---- the blocks of the list that pass a test
 
@@ -94,19 +66,19 @@ stands_filter test (y ∷ xs) (suc at) x e passes =
       | inr t ↦ rw t w
     ]
 
--- each holder of a name stands in the list and has the name, and each block that has it is one
+-- each holder of a name is in the list and has the name, and each block that has it is one
 pub holder_has : (slots : Slots) (name : List ℕ) (k id : ℕ) → IsIndexed slots → slice_get (holders_at slots.names name) k ≡ Some id → (at : ℕ) × StandsAt slots at id × (has_name slots.slots.items name id ≡ true)
 holder_has slots name k id h e = filter_stands (has_name slots.slots.items name) slots.order.listed k id (rw (h.holders name) at e)
 
 pub has_holder : (slots : Slots) (name : List ℕ) (at id : ℕ) → IsIndexed slots → StandsAt slots at id → has_name slots.slots.items name id ≡ true → Has (holders_at slots.names name) id
 has_holder slots name at id h e has = rw (h.holders name) (stands_filter (has_name slots.slots.items name) slots.order.listed at id e has)
 
--- each user of a name stands in the list and uses it, and each block that uses it is one
+-- each user of a name is in the list and uses it, and each block that uses it is one
 pub user_uses : (slots : Slots) (name : List ℕ) (k id : ℕ) → IsIndexed slots → slice_get (users_at slots.names name) k ≡ Some id → (at : ℕ) × StandsAt slots at id × Uses (reading_at slots.slots.items id).items name
 user_uses slots name k id h e =
     let w = filter_stands (uses_name slots.slots.items name) slots.order.listed k id (rw (h.users name) at e) in
-    (w.0, w.1, any_use_uses name (reading_at slots.slots.items id).items w.2)
+    (w.0, w.1, any_use-used name (reading_at slots.slots.items id).items w.2)
 
 pub uses_user : (slots : Slots) (name : List ℕ) (at id : ℕ) → IsIndexed slots → StandsAt slots at id → Uses (reading_at slots.slots.items id).items name → Has (users_at slots.names name) id
 uses_user slots name at id h e u =
-    rw (h.users name) (stands_filter (uses_name slots.slots.items name) slots.order.listed at id e (uses_any_use name (reading_at slots.slots.items id).items u))
+    rw (h.users name) (stands_filter (uses_name slots.slots.items name) slots.order.listed at id e (used-any_use name (reading_at slots.slots.items id).items u))

@@ -6,22 +6,16 @@ use Rattle.std.specs.Str.{bytes_eq}
 use Rattle.ti_source.specs.Reading.{reading_of}
 use Rattle.ti_meaning.specs.Owner.{is_among}
 use Rattle.ti_meaning.specs.Reaching.{any_use}
-use Rattle.ti_index.specs.declared.names.NameIndex.{NameIndex}
 use Rattle.ti_index.specs.Names.{holders_at, users_at}
 use Rattle.ti_slots.specs.declared.slots.Slot.{Slot}
 use Rattle.ti_slots.specs.declared.slots.Slots.{Slots}
 use Rattle.ti_slots.specs.Slots.{blocks_of, slot_texts, slot_at, empty_reading, IsIndexed}
 use Rattle.ti_slots.specs.inside.Indexing.{IsGrown}
 use Rattle.ti_slots.specs.Changes.{KeepsRooms, ShowsSame}
-use Rattle.ti_slots.proofs.Adding.{holder_room_grown, user_room_grown}
+use Rattle.ti_slots.specs.declared.indexing.Role.TheVariants.{Holder, User}
+use Rattle.ti_slots.proofs.Adding.{room_grown}
 
-pub grown_none : (index : NameIndex) → IsGrown index index
-grown_none index = record {
-  seen = λ name. record { holders = refl; users = refl };
-  capacity = λ name. record { holders = omega arith; users = omega arith };
-}
-
--- the list and each slot are the same, a free id has stayed, and so has what the index had
+-- the list and each slot are as before, a free id is still free, and the index has what it had
 pub record IsRoomier (old new : Slots) : Type 0 where
   pub listed : new.order.listed ≡ old.order.listed
   pub free : 0 < length old.order.free → 0 < length new.order.free
@@ -30,7 +24,7 @@ pub record IsRoomier (old new : Slots) : Type 0 where
   pub names : IsGrown old.names new.names
 
 module _ (old new : Slots) (h : IsRoomier old new) where
-  -- what holds of the list and of what stands in the slots
+  -- what holds of the list and of what is in the slots
   kept : (P : (ℕ → Option Slot) → List ℕ → Type 0) → P (slot_at old.slots.items) old.order.listed → P (slot_at new.slots.items) new.order.listed
   kept P p =
       let Q : List ℕ → Type 0 = λ listed. P (slot_at new.slots.items) listed in
@@ -62,6 +56,6 @@ module _ (old new : Slots) (h : IsRoomier old new) where
   pub roomier_rooms : KeepsRooms old new
   roomier_rooms block room = record {
     id = h.free room.id;
-    holders = λ name e. holder_room_grown old.names new.names name h.names (room.holders name e);
-    users = λ name e. user_room_grown old.names new.names name h.names (room.users name e);
+    holders = λ name e. room_grown old.names new.names h.names Holder name (room.holders name e);
+    users = λ name e. room_grown old.names new.names h.names User name (room.users name e);
   }

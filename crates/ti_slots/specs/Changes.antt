@@ -1,9 +1,8 @@
 -- What becomes of a list of blocks as one is put in or taken out (own).
 use Rattle.std.specs.Prelude.{ℕ, ◌≡◌, ◌≢◌, ◌≤◌, ◌<◌, [], ◌∷◌, ◌++◌, List, insert, remove, length, Some, None, true}
-use Rattle.std.specs.Str.{bytes_eq}
 use Rattle.ti_source.specs.Reading.{Reading, reading_of}
 use Rattle.ti_meaning.specs.Owner.{is_among}
-use Rattle.ti_meaning.specs.Reaching.{any_use}
+use Rattle.ti_meaning.specs.Reaching.{Uses}
 use Rattle.ti_text.specs.Lists.{Has}
 use Rattle.ti_index.specs.Names.{holders_at, users_at, HasHolderRoom, HasUserRoom, IsForgotten, KeepsCapacity}
 use Rattle.ti_slots.specs.declared.slots.Slot.{Slot}
@@ -14,12 +13,13 @@ use Rattle.ti_slots.specs.Slots.{blocks_of, slot_texts, slot_at, StandsAt, IsInd
 pub record HasRoomFor (slots : Slots) (block : Reading) : Type 0 where
   pub id : 0 < length slots.order.free
   pub holders : (name : List ℕ) → is_among name block.names ≡ true → HasHolderRoom slots.names name
-  pub users : (name : List ℕ) → any_use (bytes_eq name) block.items ≡ true → HasUserRoom slots.names name
+  pub users : (name : List ℕ) → Uses block.items name → HasUserRoom slots.names name
 
--- nothing is kept of those names of a block, and of those that it uses, which no block of the list has or uses
+-- nothing is kept of those names of a block, and of those that it uses, which no block of the list
+-- has or uses
 pub record HasForgotten (slots : Slots) (block : Reading) : Type 0 where
   pub names : (name : List ℕ) → is_among name block.names ≡ true → IsForgotten slots.names name
-  pub uses : (name : List ℕ) → any_use (bytes_eq name) block.items ≡ true → IsForgotten slots.names name
+  pub uses : (name : List ℕ) → Uses block.items name → IsForgotten slots.names name
 
 -- each block that had room has it
 abbrev pub KeepsRooms : Slots → Slots → Type 0
@@ -29,7 +29,7 @@ KeepsRooms old new = (block : Reading) → HasRoomFor old block → HasRoomFor n
 abbrev pub KeepsCapacities : Slots → Slots → Type 0
 KeepsCapacities old new = (name : List ℕ) → KeepsCapacity old.names new.names name
 
--- both show the same blocks
+-- both lists have the same blocks
 pub record ShowsSame (old new : Slots) : Type 0 where
   pub listed : new.order.listed ≡ old.order.listed
   pub slots : (id : ℕ) → slot_at new.slots.items id ≡ slot_at old.slots.items id
@@ -50,7 +50,8 @@ pub record PutsIn (old new : Slots) (at : ℕ) (slot : Slot) (id : ℕ) : Type 0
   pub blocks : blocks_of new ≡ insert (blocks_of old) at (reading_of slot.block)
   pub texts : slot_texts new ≡ insert (slot_texts old) at slot.text.items
 
--- the block at that position has left the list, with its slot; its id is the one freed last. There is room for it
+-- the block at that position has left the list, with its slot; its id is the one freed last. There
+-- is room for it
 pub record TakesOut (old new : Slots) (at : ℕ) (slot : Slot) : Type 0 where
   pub id : ℕ
   pub indexed : IsIndexed new
@@ -66,7 +67,8 @@ pub record TakesOut (old new : Slots) (at : ℕ) (slot : Slot) : Type 0 where
   pub blocks : blocks_of new ≡ remove (blocks_of old) at
   pub texts : slot_texts new ≡ remove (slot_texts old) at
 
--- the same blocks under the same ids, with the same free ids and no less capacity
+-- the list has the blocks of before under the ids of before, with the same free ids and no less
+-- capacity
 pub record IsAgain (old new : Slots) : Type 0 where
   pub listed : new.order.listed ≡ old.order.listed
   pub free : new.order.free ≡ old.order.free

@@ -21,23 +21,24 @@ state_seen s.Unresolved = unresolved
 state_seen (s.TooLarge table) = oversized
 state_seen (s.Compiled entry) = written (bytes_of entry.image)
 
--- the table of its values, where it resolves
+-- the table of its values, if it resolves
 abbrev pub table_of : State → Option Table
 table_of s.Unresolved = None
 table_of (s.TooLarge table) = Some table
 table_of (s.Compiled entry) = Some entry.table
 
--- the entry, where the block has one
+-- the entry, if the block has one
 abbrev pub slot_entry : State → Option BlockEntry
 slot_entry s.Unresolved = None
 slot_entry (s.TooLarge table) = None
 slot_entry (s.Compiled entry) = Some entry
 
--- a kept fault of the block at that position
+-- a stored fault of the block at that position
 abbrev pub fault_at : ℕ → KeptFault → SourceFault
 fault_at at fault = record { block = at; line = fault.line; code = fault.code; detail = option_map rc_slice_items fault.detail }
 
--- it is right for the block at that position of the list: the values, the entry and the faults
+-- what was found out is right for the block at that position of the list: the values, the entry and
+-- the faults
 pub record IsSettled (blocks : List Reading) (at : ℕ) (block : Reading) (settled : Settled) : Type 0 where
   pub table : HasTable contents blocks block (table_of settled.state)
   pub state : state_seen settled.state ≡ state_of blocks block

@@ -29,7 +29,7 @@ text_at slots id = option_map_or (λ slot. slot.text.items) (slot_at slots id) [
 abbrev pub has_name : List (Option Slot) → List ℕ → ℕ → Bool
 has_name slots name id = is_among name (reading_at slots id).names
 
--- whether it uses the name
+-- whether the block with the id uses the name
 abbrev pub uses_name : List (Option Slot) → List ℕ → ℕ → Bool
 uses_name slots name id = any_use (bytes_eq name) (reading_at slots id).items
 
@@ -37,11 +37,11 @@ uses_name slots name id = any_use (bytes_eq name) (reading_at slots id).items
 abbrev pub blocks_of : Slots → List Reading
 blocks_of slots = map (reading_at slots.slots.items) slots.order.listed
 
--- their texts
+-- the texts of the blocks, in the order of the list
 abbrev pub slot_texts : Slots → List (List ℕ)
 slot_texts slots = map (text_at slots.slots.items) slots.order.listed
 
--- the block with the id stands at that position of the list
+-- the block with the id is at that position of the list
 abbrev pub StandsAt : Slots → ℕ → ℕ → Type 0
 StandsAt slots at id = slice_get slots.order.listed at ≡ Some id
 
@@ -49,8 +49,8 @@ StandsAt slots at id = slice_get slots.order.listed at ≡ Some id
 abbrev pub IsOwnerId : Slots → List ℕ → ℕ → Type 0
 IsOwnerId slots name id = (at : ℕ) × (owner (blocks_of slots) name ≡ Some at) × StandsAt slots at id
 
--- each id has a place among the slots, and each of the list its slot; the index has for each name the blocks that have it and those that use it, in the
--- order of the list
+-- each id has a place among the slots, and each of the list its slot; the index has for each name
+-- the blocks that have it and those that use it, in the order of the list
 pub record IsIndexed (slots : Slots) : Type 0 where
   pub places : length slots.order.listed + length slots.order.free ≤ length slots.slots.items
   pub filled : (at id : ℕ) → StandsAt slots at id → IsSome (slot_at slots.slots.items id)

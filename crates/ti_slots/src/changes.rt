@@ -1,19 +1,16 @@
-// Blocks come to the list and leave it. Room is made first, and then no change takes memory.
+//! Blocks come to the list and leave it. Room is made first, and then no change takes memory.
 ghost use Rattle.std.specs.Prelude.{◌≡◌, ◌<◌, ◌≤◌, ◌+◌, ◌^◌, ℕ, length, OnOk};
 ghost use Rattle.ti_source.specs.Reading.{reading_of};
 ghost use Rattle.ti_slots.specs.Changes.{HasForgotten, HasRoomFor, KeepsCapacities, KeepsRooms, PutsIn, ShowsSame, TakesOut};
 ghost use Rattle.ti_slots.specs.Slots.{slot_at, IsIndexed};
 
-use crate::indexing::{
-    add_holders, add_users, forget_names, forget_uses, remove_holders, remove_users, reserve_names,
-    reserve_uses,
-};
+use crate::indexing::{add, forget, remove, reserve};
 use crate::slots::{Slot, Slots};
 use std::alloc::AllocError;
 use ti_index::Order;
 use ti_source::Parsed;
 
-/// Sees to a free id, and to a place among the slots for each id.
+// Makes sure that an id is free, and that each id has a place among the slots.
 fn make_place(order: &mut Order, slots: &mut Vec<Option<Slot>>) -> Result<(), AllocError>
     requires few { length order.old.listed < 2 ^ 31 }
     requires places { length order.old.listed + length order.old.free ≤ length slots.old.items }
@@ -31,7 +28,10 @@ fn make_place(order: &mut Order, slots: &mut Vec<Option<Slot>>) -> Result<(), Al
 
 impl Slots {
     /// Makes room for one more block that says this, so that it can be put in without memory. No
-    /// look-up shows a difference, also where memory is short, and room made before stays.
+    /// look-up shows a difference, also if it fails, and room made before stays.
+    ///
+    /// # Errors
+    /// Out of memory.
     pub fn make_room(&mut self, block: &Parsed) -> Result<(), AllocError>
         requires indexed { IsIndexed self.old }
         requires few { length self.old.order.listed < 2 ^ 31 }
@@ -42,12 +42,11 @@ impl Slots {
         ensures room { OnOk result (HasRoomFor self.new (reading_of block.now)) }
     {
         make_place(&mut self.order, &mut self.slots)?;
-        reserve_names(&mut self.names, &block.names)?;
-        reserve_uses(&mut self.names, &block.items)
+        reserve(&mut self.names, block)
     }
 
-    /// Puts a block in at a position of the list, under the id that was freed last, and gives the id.
-    /// It takes no memory.
+    /// Puts a block in at a position of the list, under the id that was freed last, and gives the
+    /// id. Takes no memory.
     pub fn put_in(&mut self, at: usize, slot: Slot) -> u32
         requires within { at ≤ length self.old.order.listed }
         requires indexed { IsIndexed self.old }
@@ -55,14 +54,13 @@ impl Slots {
         ensures { PutsIn self.old self.new at slot result }
     {
         let id = self.order.insert(at);
-        add_holders(&mut self.names, &self.order, &slot.block.names, id);
-        add_users(&mut self.names, &self.order, &slot.block.items, id);
+        add(&mut self.names, &self.order, &slot.block, id);
         self.slots[id as usize] = Some(slot);
         id
     }
 
-    /// Takes the block at a position out of the list, and gives its slot. Its id is free from then on.
-    /// It takes no memory, and the room that the block had stays.
+    /// Takes the block at a position out of the list, and gives its slot. Its id is free from then
+    /// on. Takes no memory, and the room that the block had stays.
     pub fn take_out(&mut self, at: usize) -> Slot
         requires within { at < length self.old.order.listed }
         requires indexed { IsIndexed self.old }
@@ -70,13 +68,12 @@ impl Slots {
     {
         let id = self.order.ids()[at];
         let slot = self.slots[id as usize].take().unwrap();
-        remove_holders(&mut self.names, &self.order, &slot.block.names, id);
-        remove_users(&mut self.names, &self.order, &slot.block.items, id);
+        remove(&mut self.names, &self.order, &slot.block, id);
         self.order.remove(at);
         slot
     }
 
-    /// Lets go of what the index keeps of the names of a block that no block has or uses any more. No
+    /// Drops what the index keeps of those names of a block that no block has or uses any more. No
     /// look-up shows a difference; room made before may go.
     pub fn forget_unused(&mut self, block: &Parsed)
         requires { IsIndexed self.old }
@@ -84,7 +81,6 @@ impl Slots {
         ensures indexed { IsIndexed self.new }
         ensures same { ShowsSame self.old self.new }
     {
-        forget_names(&mut self.names, &block.names);
-        forget_uses(&mut self.names, &block.items);
+        forget(&mut self.names, block);
     }
 }

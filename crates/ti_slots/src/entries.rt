@@ -1,4 +1,4 @@
-// The entry of a block.
+//! The entry of a block.
 ghost use Rattle.std.specs.Prelude.{◌≡◌};
 ghost use Rattle.ti_caps.specs.Tables.{Capability, IsCapability};
 ghost use Rattle.ti_layout.specs.Laws.{without_cancel};

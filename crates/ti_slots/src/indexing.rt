@@ -1,104 +1,87 @@
-// The index of names as a block comes or goes.
-ghost use Rattle.std.specs.Prelude.{◌≡◌, ℕ, List, OnOk, true};
+// The index of names as a block comes or goes: one walk over the names that the block says.
+ghost use Rattle.std.specs.Prelude.{◌≡◌, ◌<◌, ◌+◌, ℕ, List, length, OnOk, Some, option_map, slice_get};
 ghost use Rattle.ti_text.specs.Lists.{Has};
-ghost use Rattle.ti_index.specs.Names.{holders_at, users_at, HasHolderRoom, HasUserRoom};
-ghost use Rattle.ti_slots.specs.inside.Indexing.{is_name_of, is_used_by, AddsId, Forgets, HasRoomAt, IsGrown, IsPart, Removes};
+ghost use Rattle.ti_slots.specs.inside.Indexing.{all_said, ids_at, says_of, AddsId, Forgets, HasRoomAt, IsGrown, IsPart, Removes};
 
 use std::alloc::AllocError;
-use std::rc::RcSlice;
 use ti_index::{NameIndex, Order};
-use ti_source::{Item, What};
+use ti_source::{Parsed, What};
 
-/// Puts a block among the holders of its names.
-pub(crate) fn add_holders(index: &mut NameIndex, order: &Order, names: &[RcSlice<u8>], id: u32)
-    requires stands { Has order.now.listed id }
-    requires parts { (name : List ℕ) → IsPart order.now.listed (holders_at index.old name) }
-    requires room { (name : List ℕ) → is_name_of names.now name ≡ true → HasHolderRoom index.old name }
-    ensures { AddsId holders_at users_at order.now.listed (is_name_of names.now) id index.old index.new }
+/// What a block does with a name.
+#[derive(Clone, Copy)]
+pub(crate) enum Role {
+    /// It has the name.
+    Holder,
+    /// It uses the name.
+    User,
+}
+
+// The name that a block says at a place, if it says one there: first come its names, then its
+// items.
+fn said_at(block: &Parsed, place: usize) -> Option<(Role, &[u8])>
+    requires { place < length block.now.names.items + length block.now.items.items }
+    ensures { slice_get (all_said block.now) place ≡ Some (option_map (λ said. (said.0, said.1.now)) result) }
 {
-    for name in names {
-        index.add_holder(order, name.as_slice(), id);
+    if place < block.names.len() {
+        return Some((Role::Holder, block.names[place].as_slice()));
+    }
+    match &block.items[place - block.names.len()].what {
+        What::Import(name) => Some((Role::User, name.as_slice())),
+        _ => None,
     }
 }
 
-/// Puts a block among the users of the names that its items use.
-pub(crate) fn add_users(index: &mut NameIndex, order: &Order, items: &[Item], id: u32)
+/// Lists a block at the names that it says.
+pub(crate) fn add(index: &mut NameIndex, order: &Order, block: &Parsed, id: u32)
     requires stands { Has order.now.listed id }
-    requires parts { (name : List ℕ) → IsPart order.now.listed (users_at index.old name) }
-    requires room { (name : List ℕ) → is_used_by items.now name ≡ true → HasUserRoom index.old name }
-    ensures { AddsId users_at holders_at order.now.listed (is_used_by items.now) id index.old index.new }
+    requires parts { (role : Role) (name : List ℕ) → IsPart order.now.listed (ids_at role index.old name) }
+    requires room { HasRoomAt (says_of block.now) index.old }
+    ensures { AddsId order.now.listed (says_of block.now) id index.old index.new }
 {
-    for item in items {
-        if let What::Import(name) = &item.what {
-            index.add_user(order, name.as_slice(), id);
+    for place in 0..block.names.len() + block.items.len() {
+        match said_at(block, place) {
+            Some((Role::Holder, name)) => index.add_holder(order, name, id),
+            Some((Role::User, name)) => index.add_user(order, name, id),
+            None => {}
         }
     }
 }
 
-/// Takes a block from among the holders of its names.
-pub(crate) fn remove_holders(index: &mut NameIndex, order: &Order, names: &[RcSlice<u8>], id: u32)
+/// Takes a block from the lists of the names that it says.
+pub(crate) fn remove(index: &mut NameIndex, order: &Order, block: &Parsed, id: u32)
     requires stands { Has order.now.listed id }
-    requires parts { (name : List ℕ) → IsPart order.now.listed (holders_at index.old name) }
-    ensures { Removes holders_at users_at order.now.listed (is_name_of names.now) id index.old index.new }
+    requires parts { (role : Role) (name : List ℕ) → IsPart order.now.listed (ids_at role index.old name) }
+    ensures { Removes order.now.listed (says_of block.now) id index.old index.new }
 {
-    for name in names {
-        index.remove_holder(order, name.as_slice(), id);
-    }
-}
-
-/// Takes a block from among the users of the names that its items use.
-pub(crate) fn remove_users(index: &mut NameIndex, order: &Order, items: &[Item], id: u32)
-    requires stands { Has order.now.listed id }
-    requires parts { (name : List ℕ) → IsPart order.now.listed (users_at index.old name) }
-    ensures { Removes users_at holders_at order.now.listed (is_used_by items.now) id index.old index.new }
-{
-    for item in items {
-        if let What::Import(name) = &item.what {
-            index.remove_user(order, name.as_slice(), id);
+    for place in 0..block.names.len() + block.items.len() {
+        match said_at(block, place) {
+            Some((Role::Holder, name)) => index.remove_holder(order, name, id),
+            Some((Role::User, name)) => index.remove_user(order, name, id),
+            None => {}
         }
     }
 }
 
-/// Makes room at the names.
-pub(crate) fn reserve_names(index: &mut NameIndex, names: &[RcSlice<u8>]) -> Result<(), AllocError>
+/// Makes room at the names that a block says.
+pub(crate) fn reserve(index: &mut NameIndex, block: &Parsed) -> Result<(), AllocError>
     ensures grown { IsGrown index.old index.new }
-    ensures room { OnOk result (HasRoomAt (is_name_of names.now) index.new) }
+    ensures room { OnOk result (HasRoomAt (says_of block.now) index.new) }
 {
-    for name in names {
-        index.reserve(name.as_slice())?;
-    }
-    Ok(())
-}
-
-/// Makes room at the names that the items use.
-pub(crate) fn reserve_uses(index: &mut NameIndex, items: &[Item]) -> Result<(), AllocError>
-    ensures grown { IsGrown index.old index.new }
-    ensures room { OnOk result (HasRoomAt (is_used_by items.now) index.new) }
-{
-    for item in items {
-        if let What::Import(name) = &item.what {
-            index.reserve(name.as_slice())?;
+    for place in 0..block.names.len() + block.items.len() {
+        if let Some((_, name)) = said_at(block, place) {
+            index.reserve(name)?;
         }
     }
     Ok(())
 }
 
-/// Lets go of those of the names that no block has or uses.
-pub(crate) fn forget_names(index: &mut NameIndex, names: &[RcSlice<u8>])
-    ensures { Forgets (is_name_of names.now) index.old index.new }
+/// Drops those of the names that a block says that no block has or uses.
+pub(crate) fn forget(index: &mut NameIndex, block: &Parsed)
+    ensures { Forgets (says_of block.now) index.old index.new }
 {
-    for name in names {
-        index.forget_unused(name.as_slice());
-    }
-}
-
-/// Lets go of those of the names that the items use that no block has or uses.
-pub(crate) fn forget_uses(index: &mut NameIndex, items: &[Item])
-    ensures { Forgets (is_used_by items.now) index.old index.new }
-{
-    for item in items {
-        if let What::Import(name) = &item.what {
-            index.forget_unused(name.as_slice());
+    for place in 0..block.names.len() + block.items.len() {
+        if let Some((_, name)) = said_at(block, place) {
+            index.forget_unused(name);
         }
     }
 }

@@ -1,6 +1,6 @@
-//! The blocks of a source under stable ids, in the order of their list, with an index of their names:
-//! what planning an edit reads, and what an edit changes. A block's slot holds its text, the block as
-//! it is read, and what was found out about it in the list.
+//! The blocks of a source under stable ids, in the order of their list, with an index of their
+//! names: what planning an edit reads, and what an edit changes. A block's slot holds its text, the
+//! block as it is read, and what was found out about it in the list.
 //!
 //! - `changes`: blocks come to the list and leave it
 //! - `entries`: the entry of a block, with the values that it has

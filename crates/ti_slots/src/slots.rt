@@ -1,4 +1,4 @@
-// The blocks of a source, each in a slot under an id that stays with it.
+//! The blocks of a source, each in a slot under an id that stays with it.
 ghost use Rattle.std.specs.Prelude.{◌≡◌, ℕ, [], None, Some, IsSome, IfOk, option_map};
 ghost use Rattle.std.specs.Rc.{rc_slice_items};
 ghost use Rattle.ti_meaning.specs.Owner.{owner};
@@ -11,22 +11,22 @@ use ti_compiled::Table;
 use ti_index::{NameIndex, Order};
 use ti_source::{Code, Parsed};
 
-/// A fault of a block, any but that of a name which an earlier block owns. It says nothing of where
-/// the block stands.
+/// A fault of a block, any but that of a name which an earlier block owns. It does not depend on
+/// the position of the block.
 #[derive(Debug, Drop)]
 pub struct KeptFault {
     /// The line in the block, counted from 1.
     pub line: usize,
     /// What is wrong.
     pub code: Code,
-    /// The name that it is about, where it is about one.
+    /// The name that it is about, if it is about one.
     pub detail: Option<RcSlice<u8>>,
 }
 
-/// The same detail once more, its bytes shared.
+/// A copy of the detail. Its bytes are shared.
 ///
 /// # Errors
-/// Want of memory.
+/// Out of memory.
 pub fn copy_detail(detail: &Option<RcSlice<u8>>) -> Result<Option<RcSlice<u8>>, AllocError>
     ensures { IfOk result (λ d. option_map rc_slice_items d ≡ option_map rc_slice_items detail.now) }
 {
@@ -50,7 +50,7 @@ pub enum State {
 impl State {
     ghost use Rattle.ti_slots.specs.Settled.{slot_entry};
 
-    /// The entry, where the block has one.
+    /// The entry, if the block has one.
     pub fn entry(&self) -> Option<&BlockEntry>
         ensures { option_map (λ entry. entry.now) result ≡ slot_entry self.now }
     {
@@ -66,7 +66,7 @@ impl State {
 pub struct Settled {
     /// What becomes of it.
     pub state: State,
-    /// Its faults but those of names that earlier blocks own, in their order.
+    /// Its faults but those of names that earlier blocks own, in order.
     pub faults: Vec<KeptFault>,
 }
 
@@ -81,19 +81,19 @@ pub struct Slot {
     pub settled: Settled,
 }
 
-/// The blocks of a source. An id stays with its block while others come and go.
+/// The blocks of a source. An id remains with its block while others come and go.
 #[derive(Drop)]
 pub struct Slots {
     /// The ids in the order of the list.
     pub order: Order,
     /// The blocks that have a name, and those that use it.
     pub names: NameIndex,
-    /// The slot of each id that stands in the list.
+    /// The slot of each id of the list.
     pub slots: Vec<Option<Slot>>,
 }
 
 impl Slots {
-    /// No blocks. It takes no memory.
+    /// No blocks. Takes no memory.
     pub fn new(alloc: Global) -> Slots
         ensures listed { result.order.listed ≡ [] }
         ensures indexed { IsIndexed result }

@@ -1,4 +1,5 @@
--- Each source has one cut, which `front_of` and `blocks_from_head` compute; each block by itself is one block.
+-- Each source has one cut, which `front_of` and `blocks_from_head` compute. Each block by itself is
+-- one block.
 use Rattle.std.proofs.Common.{◌≡◌, ℕ, ◌≤◌, true, false, ◌==◌, List, [], ◌∷◌, ◌++◌, length, All, cond, refl, sym, ap, ◌∙◌, inl, inr, arith, rules}
 use Rattle.std.specs.List.{concat}
 use Rattle.std.proofs.lemmas.Bool.{cases_Bool, and_parts, and_from, eqb-true, eq-eqb}
@@ -9,7 +10,7 @@ use Rattle.ti_source.specs.Cutting.{last_byte, HasNoHead, HasOneHead, AreBlocks,
 use Rattle.ti_source.specs.Cutting.{front_of, blocks_from_head}
 use Rattle.ti_source.specs.Heads.{begins_head, is_head}
 
--- a head line begins where a newline stands before a byte that may begin one
+-- a head line begins if a newline is before a byte that may begin one
 pub is_head_from : (before x : ℕ) → before ≡ 10 → begins_head x ≡ true → is_head before x ≡ true
 is_head_from before x e h = and_from (before == 10) (begins_head x) (eq-eqb before 10 e) h
 
@@ -18,7 +19,7 @@ is_head_parts before x t =
     let p = and_parts (before == 10) (begins_head x) t in
     (eqb-true before 10 p.0, p.1)
 
--- what a text has where a head line begins at its first byte, and where none does
+-- what a text has if a head line begins at its first byte, and if none does
 pub front_of-head : (before x : ℕ) (xs : List ℕ) → is_head before x ≡ true → front_of before (x ∷ xs) ≡ []
 front_of-head before x xs t = rw t
 
@@ -31,7 +32,7 @@ blocks_of-head before x xs t = rw t
 pub blocks_of-plain : (before x : ℕ) (xs : List ℕ) → is_head before x ≡ false → blocks_from_head before (x ∷ xs) ≡ blocks_from_head x xs
 blocks_of-plain before x xs f = rw f
 
--- what the cut of a text after the byte `before` says, and that it is the computed one
+-- what the cut of a text after the byte `before` says: it is the computed one
 record CutAfter (before : ℕ) (s p : List ℕ) (bs : List (List ℕ)) : Type 0 where
   whole : s ≡ p ++ concat bs
   front : HasNoHead before p
@@ -54,11 +55,11 @@ has_cut_after before (x ∷ xs) =
 pub each_has_cut : EachHasCut
 each_has_cut s = let c = has_cut_after 10 s in record { whole = c.whole; front = c.front; each = c.each }
 
--- preface and blocks are those that are computed from what they make together
+-- preface and blocks are those that are computed from the text that they make together
 abbrev IsComputed : ℕ → List ℕ → List (List ℕ) → Type 0
 IsComputed before p bs = (front_of before (p ++ concat bs) ≡ p) × (blocks_from_head before (p ++ concat bs) ≡ bs)
 
--- where it holds of the blocks alone, it holds with any preface before them
+-- what holds of the blocks alone holds with any preface before them
 with_preface : (bs : List (List ℕ)) → ((before : ℕ) → AreBlocks before bs → IsComputed before [] bs)
     → (before : ℕ) (p : List ℕ) → HasNoHead before p → AreBlocks (last_byte before p) bs → IsComputed before p bs
 with_preface bs alone before [] n a = alone before a
@@ -99,7 +100,7 @@ length-blocks_of before (x ∷ xs) =
 pub one_block_from : (text : List ℕ) → HasOneHead text → last_byte 0 text ≡ 10 → OneBlock text
 one_block_from text h e = record { cut = record { whole = sym (append-nil text); front = tt; each = (refl, h, tt) }; ends = e }
 
--- the last byte of a text that is not empty does not depend on what stands before it
+-- the last byte of a text that is not empty does not depend on what is before it
 last_byte-head : (before : ℕ) (text : List ℕ) → HasOneHead text → last_byte before text ≡ last_byte 0 text
 last_byte-head before [] h = absurd h
 last_byte-head before (x ∷ xs) h = refl
@@ -118,7 +119,7 @@ pub blocks_are_single_law : BlocksAreSingle
 blocks_are_single_law s p bs e c =
     single_blocks (last_byte 10 p) bs c.each (sym (last_byte-append 10 p (concat bs)) ∙ ap (last_byte 10) (sym c.whole) ∙ e)
 
--- a newline at its end gives a text no further head line
+-- a newline at the end of a text adds no head line
 HasNoHead-ended : (before : ℕ) (s : List ℕ) → HasNoHead before s → HasNoHead before (s ++ 10 ∷ [])
 HasNoHead-ended before [] n = (search rules, tt)
 HasNoHead-ended before (x ∷ xs) n = (n.0, HasNoHead-ended x xs n.1)

@@ -47,7 +47,7 @@ length-after_field (x ∷ xs) =
 
 -- ---- a run without a newline folds to itself
 
--- which byte stands before a text does not matter where neither is a newline
+-- which byte is before a text does not matter if neither of two is a newline
 before_any : (one other : ℕ) (s : List PlacedByte) → (one == 10) ≡ false → (other == 10) ≡ false → without_comments false one s ≡ without_comments false other s
 before_any one other [] e f = refl
 before_any one other (x ∷ xs) e f = rw (e, f) refl
@@ -55,7 +55,7 @@ before_any one other (x ∷ xs) e f = rw (e, f) refl
 abbrev straight : (line before : ℕ) → List ℕ → List PlacedByte
 straight line before s = without_breaks false (without_comments false before (bytes_on_lines line s))
 
--- one byte that is no newline
+-- one byte that is not a newline
 straight-byte : (line before x : ℕ) (rest : List ℕ) → (before == 10) ≡ false → (x == 10) ≡ false → straight line before (x ∷ rest) ≡ (x, line) ∷ straight line before rest
 straight-byte line before x rest e f = rw (e, f) (ap (λ (s : List PlacedByte). (x, line) ∷ without_breaks false s) (before_any x before (bytes_on_lines line rest) f e))
 
@@ -66,13 +66,13 @@ straight-run line at rest e (takes_byte {run = run} x goes plain inner) =
     rw (append_assoc run (x ∷ []) rest, on_line-append line run (x ∷ []), append_assoc (on_line line run) ((x, line) ∷ []) (straight line at rest))
     (straight-run line at (x ∷ rest) e goes ∙ ap (λ (s : List PlacedByte). on_line line run ++ s) (straight-byte line at x rest e plain))
 
--- the view of a folded text, of which a run is taken
+-- the view of a folded text from which a run is taken
 pub run_taken : {by next : Taken} {before last : ℕ} {run : List ℕ} (joining : Bool) (at line : ℕ) (text rest : List ℕ)
     → joining ≡ false → (at == 10) ≡ false → text ≡ run ++ rest → PassesRun by before run next last
     → without_breaks joining (without_comments false at (bytes_on_lines line text)) ≡ on_line line run ++ without_breaks joining (without_comments false at (bytes_on_lines line rest))
 run_taken joining at line text rest ej e whole goes = rw (ej, whole) (straight-run line at rest e goes)
 
--- and one of which an item is taken, with its comma
+-- the view of a folded text from which an item is taken, with its comma
 item_taken : {by next : Taken} {before last : ℕ} {item : List ℕ} (joining : Bool) (at line : ℕ) (text rest : List ℕ)
     → joining ≡ false → (at == 10) ≡ false → text ≡ item ++ 44 ∷ rest → PassesRun by before item next last
     → without_breaks joining (without_comments false at (bytes_on_lines line text)) ≡ on_line line item ++ (44, line) ∷ without_breaks joining (without_comments false at (bytes_on_lines line rest))
@@ -88,7 +88,7 @@ not_comment : (before x : ℕ) → (before == 10 && x == 35) ≡ false → in_co
 not_comment before x e =
     elim (before == 10) as (λ b. (b && x == 35) ≡ false → cond b (x == 35) false ≡ false) [ true ↦ λ h. h | false ↦ λ h. refl ] e
 
--- a byte in no comment, which is no newline
+-- a byte that is in no comment and is not a newline
 placed_first : (joining : Bool) (before line x : ℕ) (rest : List ℕ) → (before == 10 && x == 35) ≡ false → (x == 10) ≡ false
     → folded joining before line (x ∷ rest) ≡ without_breaks joining ((x, line) ∷ without_comments false x (bytes_on_lines line rest))
 placed_first joining before line x rest c n = rw (not_comment before x c, n) refl
@@ -123,7 +123,7 @@ skips-white {old = old} false before line x rest w s =
     let left = placed_first false before line x rest (and_right (before == 10) _ other.1) other.0 ∙ kept_byte (x, line) (without_comments false x (bytes_on_lines line rest)) other.0 in
     skips_byte (x, line) (subst (λ (t : List PlacedByte). SkipsWhiteSpace old t) left s) w
 
--- a byte that is no white space and begins no comment ends a break
+-- a byte that is not white space and begins no comment ends a break
 pub folded-visible : (joining : Bool) (before line x : ℕ) (rest : List ℕ) → (before == 10 && x == 35) ≡ false → (x == 10) ≡ false → is_white_space x ≡ false
     → folded joining before line (x ∷ rest) ≡ folded false before line (x ∷ rest)
 folded-visible false before line x rest c n v = refl
@@ -161,7 +161,7 @@ no_true : (b : Bool) → (b ≡ true → ⊥) → b ≡ false
 no_true true never = absurd (never refl)
 no_true false never = refl
 
--- a text whose first newline stands at n, and one without
+-- a text whose first newline is at n, and a text without one
 after_line-at : (s : List ℕ) (n : ℕ) → n < length s → ((k : ℕ) → k < n → (get_or s k 0 == 10) ≡ true → ⊥) → (get_or s n 0 == 10) ≡ true → after_line s ≡ drop (suc n) s
 after_line-at [] n h none t = absurd (omega arith)
 after_line-at (x ∷ xs) zero h none t = rw t refl
@@ -185,7 +185,7 @@ parts_at_comma [] n h e = absurd (omega arith)
 parts_at_comma (x ∷ xs) zero h e = ap (λ y. y ∷ xs) e
 parts_at_comma (x ∷ xs) (suc n) h e = ap (λ s. x ∷ s) (parts_at_comma xs n (omega arith) e)
 
--- what is left behind it
+-- what is left after the comma
 pub behind_comma : (text : List ℕ) (size : ℕ) → take (length (drop size text) - 1) (drop 1 (drop size text)) ≡ drop (suc size) text
 behind_comma text size =
     let next : size + 1 ≡ suc size = omega arith in

@@ -65,7 +65,7 @@ one_placing block text are = placed_so 1 text are.lines ∙ ap (bytes_on_lines 1
 
 -- ---- lines, and those that are no comments
 
--- within a comment nothing is kept, and within another line all is
+-- of a comment nothing stays; of another line everything stays
 skip_line : (before : ℕ) (xs t u : List PlacedByte) → (before == 10) ≡ false → HasNoNewline xs → ((c : ℕ) → (c == 10) ≡ false → without_comments true c t ≡ u)
     → without_comments true before (xs ++ t) ≡ u
 skip_line before [] t u b none end = end before b

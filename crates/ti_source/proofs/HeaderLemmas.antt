@@ -97,7 +97,7 @@ parts_are_parts field = record {
   apart = All-from_recursion IsApart (header_parts field) (apart-parts field);
 }
 
--- a part is cut nowhere
+-- a part has no `|` in it
 no_bar : (part : List ℕ) → IsApart part → All (λ x. (x == 124) ≡ false) part
 no_bar part a k d h = ne_eqb (get_or part k d) 124 (λ e. a (k, h, get_or_default part k 124 d h ∙ e))
 
@@ -209,7 +209,7 @@ lookup_parts-push ps d h =
     let count : length (ps ++ d ∷ []) - 1 ≡ length ps = omega arith in
     rw many (ap (λ n. take n (ps ++ d ∷ [])) count ∙ take-append_seam ps (d ∷ []))
 
--- a field up to its last `|`, and a field that has none
+-- a field up to its last `|`, and a field without one
 pub described : (field : List ℕ) (k : ℕ) → IsLastByte (is_byte 124) field (Some k) → header_parts (take k field) ≡ lookup_parts (header_parts field)
 described field k last =
     let front = take k field in

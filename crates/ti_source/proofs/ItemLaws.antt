@@ -1,4 +1,4 @@
--- The names field, the items and what each states are determined, and are those that are computed.
+-- The names field, the items, and what each item states are determined, and are as computed.
 use Rattle.std.proofs.Common.{◌≡◌, ◌≢◌, ℕ, Bool, true, false, not, ◌==◌, ◌&&◌, List, [], ◌∷◌, ◌++◌, Option, Some, None, refl, sym, ap, subst, ◌∙◌, inl, inr, append_assoc}
 use Rattle.std.proofs.lemmas.List.{append-nil}
 use Rattle.std.proofs.lemmas.Bool.{cases_Bool, eqb-true, eq-eqb, ne_eqb, and_parts, false≢true}
@@ -51,7 +51,8 @@ one_field _ _ _ (field_and_rest field rest line none) = before_comma field rest 
 
 -- ---- the items
 
--- of two bytes, of which the first takes the second, neither ends an item, and nothing takes the byte after them
+-- of two bytes, of which the first takes the second, neither ends an item, and nothing takes the
+-- byte after them
 taken_after-takes : (before x y : ℕ) → takes before x y ≡ true
     → (x == 44 ≡ false) × (cuts (taken_after taken.Nothing before x) y ≡ false) × (taken_after (taken_after taken.Nothing before x) x y ≡ taken.Nothing)
 taken_after-takes before x y t =
@@ -71,7 +72,7 @@ items_of-pair before x y text t =
     items_of-plain taken.Nothing before x (y ∷ text) facts.0
     ∙ ap (with_first x) (items_of-plain (taken_after taken.Nothing before x.0) x.0 y text facts.1 ∙ ap (λ by. with_first y (items_of by y.0 text)) facts.2)
 
--- a byte that takes nothing stands by itself
+-- a byte that takes nothing is by itself
 alone-same : (before x : ℕ) (text : List PlacedByte) → stands_alone before x text ≡ true → items_of (taken_after taken.Nothing before x) x text ≡ items_of taken.Nothing x text
 alone-same before x [] alone = refl
 alone-same before x (y ∷ ys) alone =
@@ -88,7 +89,7 @@ items_of-alone : (before : ℕ) (x : PlacedByte) (text : List PlacedByte) → x.
     → items_of taken.Nothing before (x ∷ text) ≡ with_first x (items_of taken.Nothing x.0 text)
 items_of-alone before x text h alone = items_of-plain taken.Nothing before x text (ne_eqb x.0 44 h) ∙ ap (with_first x) (alone-same before x.0 text alone)
 
--- there is an item in every text
+-- every text has an item
 AreItems-cons : (before : ℕ) (text : List PlacedByte) (all : List (List PlacedByte)) → AreItems before text all → (item : List PlacedByte) × (items : List (List PlacedByte)) × (all ≡ item ∷ items)
 AreItems-cons _ _ _ (last_item _) = ([], [], refl)
 AreItems-cons _ _ _ (item_ends _ _ _ items _) = ([], items, refl)
@@ -140,7 +141,7 @@ one_items _ _ _ (single_byte before x text item items h alone are) = ap (with_fi
 
 -- ---- what an item states
 
--- an item that stands in a text with no white space at its front
+-- an item that is in a text with no white space at its front
 abbrev pub BeginsVisible : List ℕ → Type 0
 BeginsVisible [] = Unit {0}
 BeginsVisible (x ∷ xs) = is_white_space x ≡ false
@@ -149,13 +150,13 @@ statement-of : (text : List ℕ) → IsEnabled text → text ≢ [] → statemen
 statement-of [] on some = absurd (some refl)
 statement-of (x ∷ xs) on some = rw on refl
 
--- the first mark behind a name without one
+-- the first mark after a name without one
 mark_behind : (name : List ℕ) (mark : ℕ) (value : List ℕ) → HasNoMark name → is_mark mark ≡ true
     → (before_mark (name ++ mark ∷ value) ≡ name) × (from_mark (name ++ mark ∷ value) ≡ mark ∷ value)
 mark_behind [] mark value none m = rw m (refl, refl)
 mark_behind (x ∷ xs) mark value none m = let later = mark_behind xs mark value none.1 m in rw none.0 (ap (λ s. x ∷ s) later.0, later.1)
 
--- no mark stands in a name, nor in white space
+-- no mark is in a name, nor in white space
 from_mark-none : (s : List ℕ) → HasNoMark s → from_mark s ≡ []
 from_mark-none [] none = refl
 from_mark-none (x ∷ xs) none = rw none.0 (from_mark-none xs none.1)
@@ -175,7 +176,7 @@ IsWhite-no_mark : (s : List ℕ) → IsWhite s → HasNoMark s
 IsWhite-no_mark [] w = tt
 IsWhite-no_mark (x ∷ xs) w = (white-no_mark x w.0, IsWhite-no_mark xs w.1)
 
--- white space at the end is set aside, up to a byte that is none
+-- white space at the end is left out, up to a byte that is not white space
 without_end-IsWhite : (s : List ℕ) → IsWhite s → without_end s ≡ []
 without_end-IsWhite [] w = refl
 without_end-IsWhite (x ∷ xs) w = rw (without_end-IsWhite xs w.1, w.0) refl
@@ -185,7 +186,7 @@ without_end-before [] x end f w = rw (without_end-IsWhite end w, f) refl
 without_end-before (y ∷ []) x end f w = ap (kept_before y) (without_end-before [] x end f w)
 without_end-before (y ∷ z ∷ zs) x end f w = ap (kept_before y) (without_end-before (z ∷ zs) x end f w)
 
--- a text is all but its last byte, and that
+-- a text is all but its last byte, and its last byte
 last_split : (x : ℕ) (xs : List ℕ) → x ∷ xs ≡ without_last (x ∷ xs) ++ last_byte 0 (x ∷ xs) ∷ []
 last_split x [] = refl
 last_split x (y ∷ ys) = ap (λ s. x ∷ s) (last_split y ys)
@@ -218,7 +219,7 @@ states-cancel name end none white on =
 plain_statement-flag : (x : ℕ) (xs : List ℕ) → last_byte x xs ≢ 64 → record { name = x ∷ xs; claim = claims_flag } ≡ plain_statement (x ∷ xs)
 plain_statement-flag x xs other = rw (ne_eqb (last_byte x xs) 64 other) refl
 
--- a flag's name is not empty, and ends in a visible byte other than `@`
+-- the name of a boolean is not empty, and ends in a visible byte other than `@`
 states-flag : (name end : List ℕ) → HasNoMark name → IsWhite end → IsEnabled (name ++ end) → is_white_space (last_byte 64 name) ≡ false → last_byte 64 name ≢ 64
     → Some (record { name = name; claim = claims_flag }) ≡ statement_of (name ++ end)
 states-flag [] end none white on visible other = absurd (other refl)
@@ -241,7 +242,7 @@ one_statement _ _ (text_item name value none on) = states-text name value none o
 one_statement _ _ (cancel_item name end none white on) = states-cancel name end none white on
 one_statement _ _ (flag_item name end none white on visible other) = states-flag name end none white on visible other
 
--- a text is what stands before its first mark, and the rest, which begins with one
+-- a text is what is before its first mark, and the rest, which begins with one
 mark_split : (s : List ℕ) → (s ≡ before_mark s ++ from_mark s) × HasNoMark (before_mark s) × ((m : ℕ) (value : List ℕ) → from_mark s ≡ m ∷ value → is_mark m ≡ true)
 mark_split [] = (refl, tt, λ m value e. cc)
 mark_split (x ∷ xs) =

@@ -74,7 +74,7 @@ so_far-more start by before x source shown r f = record {
   shorter = omega (arith, r.shorter);
 }
 
--- a text that has a byte, with one more
+-- a text that has a byte, with one more byte
 pushes : (text : List ℕ) (line : ℕ) (x : PlacedByte) → 0 < length text → with_byte (item_piece text line) x ≡ item_piece (text ++ x.0 ∷ []) line
 pushes [] line x some = absurd (omega arith)
 pushes (y ∷ ys) line x some = refl
@@ -154,7 +154,7 @@ so_far-white start (skips_byte {new = new} x skips w) r =
 
 -- ---- an item on one line
 
--- the line of a text on `line`, 0 where it is empty
+-- the line of a text on `line`, 0 if it is empty
 abbrev line_at : ℕ → List ℕ → ℕ
 line_at line [] = 0
 line_at line (x ∷ xs) = line
@@ -172,7 +172,7 @@ visible_more line x [] v =
     ]
 visible_more line x (y ∷ ys) v = refl
 
--- an item of which nothing shows, read over a run that begins with no white space
+-- an item of which nothing shows, read over a run that does not begin with white space
 so_far-item : (start : List PlacedByte) {by next : Taken} {before last : ℕ} {run : List ℕ} (line : ℕ) (source : List PlacedByte)
     → PassesRun by before run next last → begins_visible run ≡ true → ReadsSoFar start by before (on_line line run ++ source) (item_piece [] 0)
     → ReadsSoFar start next last source (item_piece run (line_at line run))
@@ -198,7 +198,7 @@ takes-whole start old text line new r whole =
 
 -- ---- how far an item on one line goes
 
--- the byte just before the place `n` of a text before which a comma stands
+-- the byte just before the place `n` of a text with a comma before it
 abbrev byte_before : List ℕ → ℕ → ℕ
 byte_before text zero = 44
 byte_before text (suc n) = get_or text n 0
@@ -219,7 +219,8 @@ neither true b never = absurd (never refl)
 neither false true never = absurd (never refl)
 neither false false never = (refl, refl)
 
--- an item goes on over bytes that are no comma and no newline, and a comma after them ends it where no backslash stands just before it
+-- an item goes on over bytes that are neither comma nor newline, and a comma after them ends it if
+-- no backslash is just before it
 goes_to : (text : List ℕ) (n : ℕ) → n ≤ length text → ((k : ℕ) → k < n → is_byte2 44 10 (get_or text k 0) ≡ true → ⊥)
     → (next : Taken) × PassesRun taken.Nothing 44 (take n text) next (byte_before text n) × ((byte_before text n == 92) ≡ false → cuts next 44 ≡ true)
 goes_to text zero h none = (taken.Nothing, takes_no_byte, λ f. refl)

@@ -1,4 +1,4 @@
--- Each statement has one verdict, and it is the one that is computed.
+-- Each statement has one verdict, and it is the computed one.
 use Rattle.std.proofs.Common.{◌≡◌, ◌≢◌, ℕ, ◌≤◌, Bool, true, false, List, Some, Result, Ok, Err, refl, sym, ap, ◌∙◌}
 use Rattle.ti_caps.specs.Tables.{Capability, capability_named}
 use Rattle.ti_caps.specs.declared.capability.Kind.TheVariants as kind

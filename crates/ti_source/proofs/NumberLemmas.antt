@@ -153,7 +153,7 @@ reads_within text (Some v) e =
 pub each_text : (text : List ℕ) → ReadsAs text (number_read text)
 each_text text = reads_within text (value_read (without_trailing_space text)) refl
 
--- a computed reading is one
+-- a computed reading is a reading
 pub reads_as : (text : List ℕ) (r : Result ℕ NumberError) → r ≡ number_read text → ReadsAs text r
 reads_as text r e = subst (ReadsAs text) (sym e) (each_text text)
 

@@ -7,7 +7,8 @@ use Rattle.ti_source.specs.Reading.{Reading}
 use Rattle.ti_source.specs.Judging.{items_from, faults_from}
 use Rattle.ti_source.specs.inside.Parsing.{judged_of}
 
--- The items of `start` were added to `old` up to here, with `ordinal` items, and those of `source` are still to come.
+-- The items of `start` were added to `old` so far, `ordinal` items in all. Those of `source` are
+-- still to come.
 pub record AddsSoFar (start : List PlacedByte) (old : Reading) (ordinal : ℕ) (source : List PlacedByte) (now : Reading) : Type 0 where
   pub same_field : now.field ≡ old.field
   pub same_names : now.names ≡ old.names

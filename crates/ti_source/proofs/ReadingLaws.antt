@@ -1,4 +1,4 @@
--- Each block has one reading, and it is the one that is computed.
+-- Each block has one reading, and it is the computed one.
 use Rattle.std.proofs.Common.{◌≡◌, ℕ, List, [], ◌∷◌, ◌++◌, map, Option, Some, None, refl, sym, ap, ◌∙◌, inl, inr}
 use Rattle.std.proofs.lemmas.Bool.{cases_Bool}
 use Rattle.ti_source.specs.declared.items.Taken.TheVariants as taken

@@ -1,4 +1,4 @@
--- What is known of every block as it is read.
+-- What is known of every block that is read.
 use Rattle.std.specs.Option.{option_or}
 use Rattle.std.proofs.Common.{◌≡◌, ◌≢◌, ℕ, suc, ◌+◌, ◌<◌, ◌≤◌, Bool, true, false, ◌==◌, ◌||◌, ◌&&◌, List, [], ◌∷◌, ◌++◌, length, cond, Option, Some, None, option_map, map, Result, Ok, Err, All, nat_lt, refl, sym, subst, ◌∙◌, inl, inr, arith}
 use Rattle.std.specs.List.{list_any, AllByRecursion}
@@ -40,7 +40,7 @@ use Rattle.ti_text.proofs.LineLaws.{lines_add}
 use Rattle.ti_source.proofs.HeaderLemmas.{each_header}
 use Rattle.ti_source.proofs.JudgingLaws.{is_read}
 
--- what holds of each of two lists holds of both joined
+-- what holds of each of two lists holds of the joined list
 AllByRecursion-append : {A : Type 0} (P : A → Type 0) (xs ys : List A) → AllByRecursion P xs → AllByRecursion P ys → AllByRecursion P (xs ++ ys)
 AllByRecursion-append P [] ys p q = q
 AllByRecursion-append P (x ∷ xs) ys p q = (p.0, AllByRecursion-append P xs ys p.1 q)
@@ -51,7 +51,7 @@ AllByRecursion-append P (x ∷ xs) ys p q = (p.0, AllByRecursion-append P xs ys 
 abbrev pub NamedIsCapability : Type 0
 NamedIsCapability = (name : List ℕ) (c : Capability) → capability_named name ≡ Some c → IsCapability c
 
--- what is said by an accepted statement sets its kind
+-- an accepted statement sets the kind of its capability
 abbrev SetsBy : Verdict → Type 0
 SetsBy (accepted said) = SetsItsKind said
 SetsBy (accepted_odd said) = SetsItsKind said
@@ -111,7 +111,7 @@ items_from-sets valid sound n (item ∷ items) =
 
 -- ---- the lines of items
 
--- what holds of the bytes of a text holds of those that are kept of it
+-- what holds of the bytes of a text holds of those that are left of it
 
 module _ (P : PlacedByte → Type 0) where
   without_comments-all : (comment : Bool) (before : ℕ) (s : List PlacedByte) → AllByRecursion P s → AllByRecursion P (without_comments comment before s)
@@ -151,7 +151,7 @@ module _ (P : PlacedByte → Type 0) where
       let later = without_front-all xs all.1 in
       elim (is_white_space x.0) as (λ b. AllByRecursion P (cond b (without_front xs) (x ∷ xs))) [ true ↦ later | false ↦ all ]
 
--- the newline that ends a text is one
+-- the newline that ends a text is one of its newlines
 some_line : (before x : ℕ) (xs : List ℕ) → last_byte before (x ∷ xs) ≡ 10 → 1 ≤ line_count (x ∷ xs)
 some_line before x [] ends = rw ends (omega arith)
 some_line before x (y ∷ ys) ends = omega (arith, lines_add (x ∷ []) (y ∷ ys), some_line x y ys ends)
@@ -177,7 +177,7 @@ placed-between low high line (x ∷ xs) h ends fits =
       ] (omega arith),
     )
 
--- so does each item stand
+-- each item lies on such a line
 items_by-lines : (Q : ℕ → Type 0) (n line : ℕ) (v : Verdict) → Q line → AllByRecursion (λ (i : ReadItem). Q i.line) (items_by n line v)
 items_by-lines Q n line (accepted said) q = (q, tt)
 items_by-lines Q n line (accepted_odd said) q = (q, tt)
@@ -252,7 +252,7 @@ ends_after (x ∷ xs) ends = (ends, some_line 0 x xs ends)
 
 -- ---- the order of items and faults
 
--- at most one, and at this place
+-- at most one item, and at this place
 abbrev IsAt : {A : Type 0} → (A → ℕ) → ℕ → List A → Type 0
 IsAt place n [] = Unit {0}
 IsAt place n (x ∷ []) = place x ≡ n
@@ -262,7 +262,7 @@ all-places : {A : Type 0} (place : A → ℕ) (n : ℕ) (xs : List A) → AllByR
 all-places place n [] all = tt
 all-places place n (x ∷ xs) all = (omega (arith, all.0), all-places place n xs all.1)
 
--- what stands at a place, and what stands after it
+-- what is at a place, and what is after it
 rising-at : {A : Type 0} (place : A → ℕ) (n : ℕ) (here later : List A) → IsAt place n here → AllByRecursion (λ x. n + 1 ≤ place x) later → IsRising (map place later)
     → AllByRecursion (λ x. n ≤ place x) (here ++ later) × IsRising (map place (here ++ later))
 rising-at place n [] later at after rise = (AllByRecursion-weaker (λ x. n + 1 ≤ place x) (λ x. n ≤ place x) (λ x h. omega (arith, h)) later after, rise)

@@ -9,7 +9,7 @@ use Rattle.ti_source.specs.Cutting.{last_byte}
 use Rattle.ti_source.specs.Items.{is_mark}
 use Rattle.ti_source.specs.inside.Items.{before_mark, from_mark, without_last, plain_statement, statement_with_value, statement_by_mark, statement_of}
 
--- a text with one more byte at its front, if that is no white space before nothing
+-- a text with one more byte at its front, if that is not white space before nothing
 abbrev pub kept_before : ℕ → List ℕ → List ℕ
 kept_before x [] = if is_white_space x then [] else x ∷ []
 kept_before x (y ∷ ys) = x ∷ y ∷ ys
@@ -58,7 +58,7 @@ without_last-push [] x = refl
 without_last-push (y ∷ []) x = refl
 without_last-push (y ∷ z ∷ zs) x = ap (λ s. y ∷ s) (without_last-push (z ∷ zs) x)
 
--- a text with no mark is all before it
+-- a text with no mark is wholly before the first mark
 pub no_mark : (s : List ℕ) → ((k : ℕ) → k < length s → is_mark (get_or s k 0) ≡ true → ⊥) → (before_mark s ≡ s) × (from_mark s ≡ [])
 no_mark [] none = (refl, refl)
 no_mark (x ∷ xs) none =
@@ -68,7 +68,7 @@ no_mark (x ∷ xs) none =
       | false ↦ λ f. (ap (λ s. x ∷ s) later.0, later.1)
     ] refl
 
--- a text whose first mark stands at n
+-- a text whose first mark is at n
 pub first_mark : (s : List ℕ) (n : ℕ) → n < length s → ((k : ℕ) → k < n → is_mark (get_or s k 0) ≡ true → ⊥) → is_mark (get_or s n 0) ≡ true
     → (before_mark s ≡ take n s) × (from_mark s ≡ get_or s n 0 ∷ drop (suc n) s)
 first_mark [] n h none t = absurd (omega arith)

@@ -13,7 +13,7 @@ use Rattle.ti_source.specs.inside.Cutting.{begins_with_head, to_next_head}
 use Rattle.ti_source.specs.Heads.{begins_head, is_head}
 use Rattle.ti_source.proofs.CutLemmas.{front_of-head, front_of-plain, blocks_of-head, blocks_of-plain, is_head_from, is_head_parts, one_block_from}
 
--- a text is its front and what stands from its first head line on, which has the same blocks
+-- a text is its front and what begins with its first head line, which has the same blocks
 record Splits (before : ℕ) (s rest : List ℕ) : Type 0 where
   pub whole : front_of before s ++ rest ≡ s
   pub front : front_of 10 rest ≡ []
@@ -44,7 +44,7 @@ splits_at_head before (x ∷ xs) =
           )
     ]
 
--- a first line that is ended, at its newline at n, and what comes after it up to a head line
+-- a first line that ends with its newline at n, and what comes after it up to a head line
 front_of-line : (before : ℕ) (s : List ℕ) (n : ℕ) → before ≢ 10 → n < length s → ((k : ℕ) → k < n → get_or s k 0 ≢ 10) → get_or s n 0 ≡ 10
     → front_of before s ≡ take (suc n) s ++ front_of 10 (drop (suc n) s)
 front_of-line before [] n b h none here = absurd (omega arith)
@@ -72,7 +72,7 @@ to_next_head-no_newline : (s : List ℕ) → ((k : ℕ) → k < length s → get
 to_next_head-no_newline [] none = refl
 to_next_head-no_newline (x ∷ xs) none = ap (λ r. x ∷ r) (front_of-no_newline x xs (none 0 (omega arith)) (λ k l. none (suc k) (omega arith)))
 
--- at the start of a line: a head line begins there, or what stands up to the next one comes first
+-- at the start of a line: a head line begins there, or what is before the next one comes first
 pub front_of-begins : (s : List ℕ) → begins_with_head s ≡ true → front_of 10 s ≡ []
 front_of-begins [] t = refl
 front_of-begins (x ∷ xs) t = front_of-head 10 x xs t
@@ -81,7 +81,7 @@ pub front_of-begins_not : (s : List ℕ) → begins_with_head s ≡ false → fr
 front_of-begins_not [] f = refl
 front_of-begins_not (x ∷ xs) f = front_of-plain 10 x xs f
 
--- the walk from newline to newline: where the rest of the text at `at` has its first newline at n
+-- the walk from newline to newline: the rest of the text at `at` has its first newline at n
 pub walk_step : (s : List ℕ) (at n : ℕ) → length (to_next_head s) ≡ at + length (to_next_head (drop at s))
     → IsFirstByte (is_byte 10) (take (length s - at) (drop at s)) (Some n) → (at + (n + 1) ≤ length s) × (length (to_next_head s) ≡ at + (n + 1) + length (front_of 10 (drop (at + (n + 1)) s)))
 walk_step s at n so first =
@@ -94,7 +94,7 @@ walk_step s at n so first =
     let same = ap (λ t. length (front_of 10 t)) rest in
     (omega (arith, found.0.high, length-drop at s), omega arith)
 
--- and where it has none
+-- the walk from newline to newline: the rest of the text at `at` has no newline
 pub walk_end : (s : List ℕ) (at : ℕ) → at ≤ length s → length (to_next_head s) ≡ at + length (to_next_head (drop at s))
     → IsFirstByte (is_byte 10) (take (length s - at) (drop at s)) None → length (to_next_head s) ≡ length s
 walk_end s at h so none =
@@ -169,7 +169,7 @@ takes_block (x ∷ xs) n h f e =
       | inr g ↦ let clash = sym (front_of-plain 10 x xs g) ∙ f in cc
     ]
 
--- one block, known by its first byte, its last, and the place of the next head line
+-- one block, known by its first byte, its last byte, and the place of the next head line
 front_of-HasNoHead : (before : ℕ) (s : List ℕ) → HasNoHead before s → front_of before s ≡ s
 front_of-HasNoHead before [] n = refl
 front_of-HasNoHead before (x ∷ xs) n = front_of-plain before x xs n.0 ∙ ap (λ r. x ∷ r) (front_of-HasNoHead x xs n.1)
@@ -198,7 +198,7 @@ one_block_parts (x ∷ xs) o =
     let h = o.cut.each.1 in
     record { begins = h.0; ends = o.ends; alone = ap (λ r. length (x ∷ r)) (front_of-HasNoHead x xs h.1); some = omega arith }
 
--- of a text that begins with a head line and ends with a newline
+-- what holds of a text that begins with a head line and ends with a newline
 pub one_block_rule : (s : List ℕ) (n : ℕ) → begins_with_head s ≡ true → (last_byte 0 s == 10) ≡ true → n ≡ length (to_next_head s)
     → (IsTrue (n == length s) → OneBlock s) × (OneBlock s → IsTrue (n == length s))
 one_block_rule s n b e is = (
@@ -210,7 +210,7 @@ one_block_rule s n b e is = (
 pub ends_of_block : (s : List ℕ) → OneBlock s → (last_byte 0 s == 10) ≡ true
 ends_of_block s o = eq-eqb (last_byte 0 s) 10 (one_block_parts s o).ends
 
--- a call of `next` that gave the first of the blocks left
+-- a call of `next` that gave the first of the blocks that are left
 pub takes_run : {S A : Type 0} (can : S → Type 0) (left : S → List (List ℕ)) (s t : S) (x : A) (block : List ℕ) → can t → left s ≡ block ∷ left t
     → MakesProgress can (item_count left) s (Some x) t
 takes_run can left s t x block always e =

@@ -37,7 +37,8 @@ code_name WrongKind = codes "WrongKind"
 code_name UnknownEscape = codes "UnknownEscape"
 code_name DuplicateName = codes "DuplicateName"
 
--- an error keeps an entry from being compiled; the other codes are warnings. The label of an error begins with an `E`
+-- whether a code is an error, which keeps an entry from being compiled; the other codes are
+-- warnings. The label of an error begins with `E`.
 abbrev pub is_error : Code → Bool
 is_error UnknownCapability = false
 is_error WrongKind = false

@@ -1,15 +1,16 @@
--- The text of a block as it is read (terminfo(5); X/Open Curses Issue 7, "Terminfo Source Format"): comment lines are left out, and a line may be
--- broken anywhere, even inside a string. That a break takes the white space and the newlines after it along is this project's choice (own).
+-- The text of a block as it is read (terminfo(5); X/Open Curses Issue 7, "Terminfo Source Format"):
+-- comment lines are left out, and a line may be broken anywhere, even inside a string. A break
+-- takes the white space and the newlines after it along (own).
 use Rattle.ti_text.specs.Ascii as ascii
 use Rattle.std.specs.Prelude.{◌≡◌, ◌≢◌, ℕ, ◌+◌, Bool, true, false, not, ◌||◌, ◌==◌, List, [], ◌∷◌, ◌++◌, map, filter, flat_map}
 use Rattle.ti_text.specs.WhiteSpace.{is_white_space}
 use Rattle.ti_text.specs.Lines.{line_count}
 
--- a byte, and the line that it stands on
+-- a byte, and the line that it is on
 abbrev pub PlacedByte : Type 0
 PlacedByte = ℕ × ℕ
 
--- each byte of a block, with the line that it stands on: one more than the newlines before it
+-- each byte of a block, with the line that it is on: one more than the newlines before it
 pub record ArePlaced (block : List ℕ) (text : List PlacedByte) : Type 0 where
   pub bytes : map (λ x. x.0) text ≡ block
   pub lines : (front back : List PlacedByte) (x : PlacedByte) → text ≡ front ++ x ∷ back → x.1 ≡ line_count (map (λ y. y.0) front) + 1
@@ -19,7 +20,7 @@ abbrev pub HasNoNewline : List PlacedByte → Type 0
 HasNoNewline [] = Unit {0}
 HasNoNewline (x ∷ xs) = ((x.0 == ascii.newline) ≡ false) × HasNoNewline xs
 
--- the lines of a text, each with the newline that ends it, which the last line may lack
+-- the lines of a text, each with the newline that ends it; the last line may lack it
 pub data AreLines : (text : List PlacedByte) (lines : List (List PlacedByte)) → Type 0 where
   no_lines : AreLines [] []
   last_line : (line : List PlacedByte) → line ≢ [] → HasNoNewline line → AreLines line (line ∷ [])
@@ -45,8 +46,8 @@ abbrev pub BeginsNoBlank : List PlacedByte → Type 0
 BeginsNoBlank [] = Unit {0}
 BeginsNoBlank (x ∷ xs) = is_blank x.0 ≡ false
 
--- A text is pieces without newline, and between each two of them a newline with the longest run of white space and newlines after it; `kept` is the
--- pieces, joined.
+-- A text is pieces without newline, and between each two of them a newline with the longest run of
+-- white space and newlines after it. `kept` is the pieces, joined.
 pub data Joins : (text kept : List PlacedByte) → Type 0 where
   last_piece : (piece : List PlacedByte) → HasNoNewline piece → Joins piece piece
   piece_and_break : (piece run rest kept : List PlacedByte) (at : ℕ) → HasNoNewline piece → IsBlankRun run → BeginsNoBlank rest → Joins rest kept

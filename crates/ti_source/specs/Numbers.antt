@@ -1,4 +1,5 @@
--- The numbers of a source (terminfo(5); X/Open Curses Issue 7, "Terminfo Source Format"): octal, hexadecimal or decimal, as C writes them.
+-- The numbers of a source (terminfo(5); X/Open Curses Issue 7, "Terminfo Source Format"): octal,
+-- hexadecimal or decimal, as C writes them.
 use Rattle.ti_text.specs.Limits.{number_max}
 use Rattle.ti_text.specs.Ascii as ascii
 use Rattle.ti_text.specs.Ascii.{byte_of}
@@ -8,7 +9,8 @@ use Rattle.ti_source.specs.declared.numbers.NumberError.{NumberError}
 use Rattle.ti_source.specs.declared.numbers.NumberError.TheVariants.{Bad, TooLarge}
 use Rattle.ti_text.specs.WhiteSpace.{is_white_space}
 
--- what a byte counts for as a digit: `0` to `9`, and `a` to `f` or `A` to `F` from 10 on; a byte that is a digit of no base counts for 16
+-- what a byte counts as a digit: `0` to `9`, and `a` to `f` or `A` to `F` from 10 on; a byte that
+-- is a digit of no base counts 16
 abbrev pub digit_value : ℕ → ℕ
 digit_value b =
     if nat_le ascii.digit_0 b && nat_le b ascii.digit_9 then b - ascii.digit_0
@@ -24,7 +26,8 @@ IsDigit base b = digit_value b < base
 abbrev pub value_in : ℕ → List ℕ → ℕ
 value_in base digits = fold (λ value b. value * base + digit_value b) 0 digits
 
--- a number as it is written, with its value: `0` and octal digits, `0x` or `0X` and hexadecimal digits, or decimal digits of which the first is not `0`
+-- a number as it is written, with its value: `0` and octal digits, `0x` or `0X` and hexadecimal
+-- digits, or decimal digits of which the first is not `0`
 pub data IsNumber : List ℕ → ℕ → Type 0 where
   octal : (ds : List ℕ) → All (IsDigit 8) ds → IsNumber (ascii.digit_0 ∷ ds) (value_in 8 ds)
   hexadecimal : (x d : ℕ) (ds : List ℕ) → (x ≡ byte_of "x") ⊎ (x ≡ byte_of "X") → All (IsDigit 16) (d ∷ ds)
@@ -39,13 +42,14 @@ pub record IsNumeral (text : List ℕ) (value : ℕ) : Type 0 where
   pub blank : AllPass is_white_space space
   pub written : IsNumber number value
 
--- what a reading of a text says: the value, within the limit; that there is one beyond it; or that there is none
+-- what a reading of a text says: the value, within the limit; that the value is over the limit; or
+-- that there is none
 abbrev pub ReadsAs : List ℕ → Result ℕ NumberError → Type 0
 ReadsAs text (Ok value) = IsNumeral text value × (value ≤ number_max)
 ReadsAs text (Err TooLarge) = (value : ℕ) × IsNumeral text value × (number_max < value)
 ReadsAs text (Err Bad) = (value : ℕ) → IsNumeral text value → ⊥
 
--- a text has one value at most
+-- a text has at most one value
 abbrev pub NumeralsHaveOneValue : Type 0
 NumeralsHaveOneValue = (text : List ℕ) (v w : ℕ) → IsNumeral text v → IsNumeral text w → v ≡ w
 

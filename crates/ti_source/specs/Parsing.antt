@@ -12,7 +12,8 @@ use Rattle.ti_source.specs.Reading.{Reading}
 use Rattle.ti_source.specs.inside.Header.{header_names}
 use Rattle.ti_source.specs.inside.Parsing.{block_field, block_items, judged_of}
 
--- a block is read so: its folded text is a names field and a rest, the rest is items, and each item is judged by itself
+-- how a block is read: its folded text is a names field and a rest, the rest is items, and each
+-- item is judged by itself
 pub record Parses (block : List ℕ) (reading : Reading) : Type 0 where
   pub text : List PlacedByte
   pub field : List PlacedByte
@@ -27,7 +28,7 @@ pub record Parses (block : List ℕ) (reading : Reading) : Type 0 where
   pub are_judged : AreJudged items judged
   pub is : reading ≡ reading_by (bytes field) names judged
 
--- the reading of a block: by the laws below the one that it parses to
+-- the reading of a block: by the laws below, the one that it parses to
 unfoldable pub reading_of_text : List ℕ → Reading
 reading_of_text block = reading_by (block_field block) (header_names (block_field block)) (map judged_of (block_items block))
 

@@ -1,4 +1,5 @@
--- What a parsed block says, as plain data (own): a name or a text is its bytes, wherever they lie in memory.
+-- What a parsed block says, as plain data (own): a name or a text is its bytes, wherever they are
+-- in memory.
 use Rattle.std.specs.Prelude.{ℕ, List, map, Option, option_map}
 use Rattle.std.specs.Rc.{rc_slice_items}
 use Rattle.ti_caps.specs.Tables.{Capability}
@@ -9,7 +10,8 @@ use Rattle.ti_source.specs.declared.parsing.Item.{Item}
 use Rattle.ti_source.specs.declared.parsing.Local.{Local}
 use Rattle.ti_source.specs.declared.parsing.Parsed.{Parsed}
 
--- what an accepted item says: a flag, a number or a text, that a capability is cancelled, or that the items of another entry stand here
+-- what an accepted item says: a boolean, a number or a string, that a capability is cancelled, or
+-- that the items of another entry come here
 pub data Said : Type 0 where
   said_flag : Capability → Said
   said_number : Capability → ℕ → Said
@@ -30,7 +32,8 @@ pub record ReadFault : Type 0 where
   pub code : Code
   pub detail : Option (List ℕ)
 
--- a block as it is read: the names field, the lookup names, the accepted items and the faults, each in its order
+-- a block as it is read: the names field, the lookup names, the accepted items and the faults, each
+-- in order
 pub record Reading : Type 0 where
   pub field : List ℕ
   pub names : List (List ℕ)

@@ -1,4 +1,4 @@
--- What is known of every block as it is read, for those who build on it (own).
+-- What is known of every block that is read, for those who build on it (own).
 use Rattle.std.specs.Prelude.{◌≡◌, ◌≢◌, ℕ, ◌<◌, ◌≤◌, false, List, [], ◌++◌, ◌∷◌, length, true, map, All}
 use Rattle.std.specs.List.{list_any, AllByRecursion}
 use Rattle.ti_caps.specs.Tables.{IsCapability}
@@ -12,7 +12,8 @@ use Rattle.ti_spelling.specs.Spelling.{HasNoNul}
 use Rattle.ti_source.specs.Reading.{Reading, ReadItem, ReadFault, Said, said_flag, said_number, said_text, said_cancel, said_import}
 use Rattle.ti_source.specs.Parsing.{reading_of_text}
 
--- what an item says of a capability fits it: its kind, a number within the limit, a text without NUL
+-- what an item says of a capability fits it: its kind, a number within the limit, a string without
+-- NUL
 abbrev pub SetsItsKind : Said → Type 0
 SetsItsKind (said_flag c) = IsCapability c × (c.kind ≡ Flag)
 SetsItsKind (said_number c n) = IsCapability c × (c.kind ≡ Number) × (n ≤ number_max)
@@ -35,7 +36,8 @@ abbrev pub IsRising : List ℕ → Type 0
 IsRising [] = Unit {0}
 IsRising (n ∷ ns) = AllByRecursion (λ m. n < m) ns × IsRising ns
 
--- items stand in their order; faults do, at most one for an item, after at most one of the names field
+-- items are in order, and so are faults: at most one for an item, after at most one of the names
+-- field
 pub record IsInOrder (reading : Reading) : Type 0 where
   pub of_header : List ReadFault
   pub of_items : List ReadFault
@@ -46,10 +48,11 @@ pub record IsInOrder (reading : Reading) : Type 0 where
   pub items_rise : IsRising (map (λ (i : ReadItem). i.ordinal) reading.items)
   pub faults_rise : IsRising (map (λ (f : ReadFault). f.ordinal) of_items)
 
--- what is read of a block is sound: its names, its field where no error stands, what it sets, its order and lines
+-- what is read of a block is sound: its names, its field if no fault is an error, what it sets, its
+-- order and lines
 pub record IsWellRead (block : List ℕ) (reading : Reading) : Type 0 where
   pub names : All IsLookupName reading.names
-  -- where no error stands among the faults, the names field can be written
+  -- if no fault is an error, the names field can be written
   pub named : list_any (λ (f : ReadFault). is_error f.code) reading.faults ≡ false → IsWritable reading.field
   pub sets : All (λ (i : ReadItem). SetsItsKind i.said) reading.items
   pub order : IsInOrder reading

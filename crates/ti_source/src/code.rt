@@ -1,4 +1,4 @@
-// The codes of the faults of a description.
+//! The codes of the faults of a description.
 ghost use Rattle.std.specs.Prelude.{◌≡◌, Some};
 ghost use Rattle.ti_source.specs.Code.{label_of, code_name, code_text, is_error, is_of_header};
 
@@ -8,8 +8,8 @@ use std::fmt;
 /// `TooLarge`, from being written, and four warnings.
 #[derive(Clone, Copy, PartialEq, Eq, Debug)]
 pub enum Code {
-    /// `E1`: the names field or a part of it is empty, the field holds a NUL, or a lookup name breaks
-    /// the rule of `is_lookup_name`.
+    /// `E1`: the names field or a part of it is empty, the field holds a NUL, or a lookup name
+    /// breaks the rule of `is_lookup_name`.
     BadHeader,
     /// `E2`: the names field is longer than 127 bytes.
     NamesTooLong,
@@ -25,13 +25,14 @@ pub enum Code {
     Circular,
     /// `E8`: the entry that `use=` names is not resolved.
     Unresolved,
-    /// `E9`: the compiled entry is over its limit: 32,768 bytes where a number is over 32,767, else 4,096.
+    /// `E9`: the compiled entry is over its limit: 32,768 bytes if a number is over 32,767, else
+    /// 4,096.
     TooLarge,
     /// `W1`: no capability has the name; the item is ignored.
     UnknownCapability,
-    /// `W2`: the capability of the name is of another kind; the item is ignored.
+    /// `W2`: the capability of that name is of another kind; the item is ignored.
     WrongKind,
-    /// `W3`: a backslash stands before a byte for which no escape is named; the item is accepted.
+    /// `W3`: a backslash is before a byte for which no escape is named; the item is accepted.
     UnknownEscape,
     /// `W4`: an earlier entry owns the name.
     DuplicateName,
@@ -80,7 +81,7 @@ impl Code {
         }
     }
 
-    /// Whether the code is an error and not a warning.
+    /// Whether the code is an error, and not a warning.
     pub fn is_error(self) -> bool
         ensures { result ≡ is_error self }
     {
@@ -90,7 +91,7 @@ impl Code {
         )
     }
 
-    /// Whether the code is of a names field and not of an item or of the entry.
+    /// Whether the code is of a names field, and not of an item or of the entry.
     pub fn is_of_header(self) -> bool
         ensures { result ≡ is_of_header self }
     {

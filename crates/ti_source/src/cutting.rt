@@ -1,4 +1,4 @@
-//! Cutting a source into blocks, and the laws of the cut.
+//! Cutting a source into blocks.
 ghost use Rattle.std.specs.Prelude.{◌≡◌, ◌≤◌, ◌↔◌, IsTrue, length};
 ghost use Rattle.ti_source.specs.Cutting as spec;
 ghost use Rattle.ti_text.specs.Ascii as ascii;
@@ -6,9 +6,10 @@ ghost use Rattle.ti_text.specs.Ascii as ascii;
 use crate::heads::{begins_with_head, ends_with_newline, next_head, preface_len};
 use crate::walk::Blocks;
 
-/// The preface and the blocks of `source`, as parts of it: a block is a line that is not empty and begins with neither
-/// white space nor `#`, with the lines after it up to the next such line (X/Open Curses Issue 7, "Terminfo Source Format").
-/// A last line without a newline belongs to the last block as it stands.
+/// The preface and the blocks of `source`, as parts of it. A block is a line that is not empty and
+/// begins with neither white space nor `#`, with the lines after it up to the next such line
+/// (X/Open Curses Issue 7, "Terminfo Source Format"). A last line without a newline belongs to the
+/// last block, unchanged.
 pub fn blocks(source: &[u8]) -> Blocks<'_>
     ensures cut { spec.Cut source.now result.preface result.blocks }
     ensures preface { result.preface ≡ spec.front_of ascii.newline source.now }
@@ -25,23 +26,3 @@ pub fn is_block(text: &[u8]) -> bool
 {
     begins_with_head(text) && ends_with_newline(text) && next_head(text) == text.len()
 }
-
-/// Each source has a cut.
-pub fn each_has_cut()
-    ensures { spec.EachHasCut }
-{}
-
-/// A source has one cut alone.
-pub fn one_cut()
-    ensures { spec.IsOnlyCut }
-{}
-
-/// Each block of a source that ends with a newline is one block by itself.
-pub fn blocks_are_single()
-    ensures { spec.BlocksAreSingle }
-{}
-
-/// Each block of a source is one block by itself, once a newline ends its last line.
-pub fn blocks_are_single_once_ended()
-    ensures { spec.BlocksAreSingleOnceEnded }
-{}

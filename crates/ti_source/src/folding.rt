@@ -1,4 +1,4 @@
-// The text of a block, folded: without its comments and its line breaks.
+//! The text of a block, folded: without its comments and its line breaks.
 ghost use Rattle.std.specs.Prelude.{◌≡◌, ◌+◌, ◌<◌, ◌≤◌, ◌^◌, ◌==◌, ◌&&◌, IfSome, IfNone, length};
 ghost use Rattle.std.specs.Iterator.{YieldsFirst, item_count};
 ghost use Rattle.ti_text.specs.Ascii as ascii;
@@ -15,9 +15,9 @@ use ti_text::is_white_space;
 #[derive(Drop)]
 pub(crate) struct Folded<'a> {
     rest: &'a [u8],
-    // How many newlines stand before the rest.
+    // How many newlines are before the rest.
     newlines: usize,
-    // The byte before the rest, or a newline where there is none.
+    // The byte before the rest, or a newline if there is none.
     before: u8,
     // Whether white space at the front of the rest belongs to a line break.
     joining: bool,
@@ -48,8 +48,8 @@ impl<'a> Folded<'a> {
         }
     }
 
-    /// Takes the run at the front over which an item goes on, where `taken` takes the first byte, which stands just after
-    /// `before`; none where that byte may belong to a comment or a line break.
+    /// Takes the run at the front over which an item goes on: `taken` takes the first byte, which
+    /// is just after `before`. Answers `None` if that byte may belong to a comment or a line break.
     pub(crate) fn take_run(&mut self, taken: Taken, before: u8) -> Run<'a>
         ensures { TakesRun self.old taken before result self.new }
     {
@@ -62,7 +62,8 @@ impl<'a> Folded<'a> {
         }
         let run = front_run(self.rest, taken, before);
         let (_, rest) = self.rest.split_at(run.bytes.len());
-        // no byte of the run is a newline, nor is the one before it, so that `before` may stay
+        // neither a byte of the run nor the one before it is a newline, so that `before` need not
+        // change
         self.rest = rest;
         run
     }
@@ -84,15 +85,15 @@ impl<'a> Folded<'a> {
             } else if begins_comment(self.before, byte) {
                 (self.rest, self.newlines) = after_comment(rest, self.newlines);
             } else {
-                // the byte ends the break, if it stands behind one
+                // the byte ends the break, if it follows one
                 self.joining = false;
                 return;
             }
         }
     }
 
-    /// Takes the item at the front with the comma that ends it, and gives its text and its line; takes nothing where that
-    /// is not seen at once.
+    /// Takes the item at the front with the comma that ends it, and gives its text and its line;
+    /// takes nothing if that is not seen at once.
     pub(crate) fn take_item(&mut self) -> Option<(&'a [u8], usize)>
         ensures taken { IfSome result (λ item. TakesWholeItem self.old item.0.now item.1 self.new) }
         ensures none { IfNone result (self.new ≡ self.old) }
@@ -102,20 +103,20 @@ impl<'a> Folded<'a> {
         }
         let size = whole_item_size(self.rest)?;
         let (item, rest) = self.rest.split_at(size);
-        // neither the item nor the comma has a newline, so that `before` may stay
+        // neither the item nor the comma has a newline, so that `before` need not change
         self.rest = &rest[1..];
         Some((item, self.newlines + 1))
     }
 }
 
-// Whether a comment begins at `byte`, where `before` stands just before it.
+// Whether a comment begins at `byte`, with `before` just before it.
 fn begins_comment(before: u8, byte: u8) -> bool
     ensures { result ≡ (before == ascii.newline && byte == ascii.number_sign) }
 {
     before == b'\n' && byte == b'#'
 }
 
-// What stands behind the first line of a text.
+// What follows the first line of a text.
 fn after_line(text: &[u8]) -> &[u8]
     ensures rest { result.now ≡ after_line text.now }
     ensures shorter { length result.now ≤ length text.now }
@@ -126,8 +127,8 @@ fn after_line(text: &[u8]) -> &[u8]
     }
 }
 
-// What stands behind the comment that `text` begins in, and how many newlines stand before that, where `newlines` stand before
-// `text`.
+// What follows the comment that `text` begins in, and how many newlines are before that, if
+// `newlines` are before `text`.
 fn after_comment(text: &[u8], newlines: usize) -> (&[u8], usize)
     requires { newlines + 1 < 2 ^ 64 }
     ensures rest { result.0.now ≡ after_line text.now }
@@ -165,9 +166,3 @@ impl<'a> Iterator for Folded<'a> {
         None
     }
 }
-
-/// A block has one folded text, which a reading of it begins with.
-pub fn one_folding()
-    ensures each { EachIsFolded }
-    ensures only { OneFolding }
-{}

@@ -23,8 +23,8 @@ fn has_name_bytes(text: &[u8]) -> bool
     text.iter().all(|byte| is_name_byte(*byte))
 }
 
-/// Whether a terminal can have `name`: it is not empty, has only printable bytes without space, comma, `/` and `|`, and is
-/// neither `.` nor `..`.
+/// Whether a terminal can have `name`: it is not empty, has only printable bytes other than space,
+/// comma, `/` and `|`, and is neither `.` nor `..`.
 pub fn is_lookup_name(name: &[u8]) -> bool
     ensures rule { IsTrue result ↔ spec.IsLookupName name.now }
     ensures test { result ≡ spec.is_lookup_name name.now }
@@ -80,12 +80,13 @@ fn parts(alloc: Global, joined: &[u8]) -> Result<Vec<RcSlice<u8>>, AllocError>
     Ok(parts)
 }
 
-/// The lookup names of the names field of a block, in order, or `None` where the field is bad: it or a part of it between
-/// bytes `|` is empty, it holds a NUL, or a lookup name breaks the rule of [`is_lookup_name`]. Of two or more parts the
-/// last is a description and no lookup name (X/Open Curses Issue 7, "Terminfo Source Format").
+/// The lookup names of the names field of a block, in order, or `None` if the field is bad: it or a
+/// part of it between bytes `|` is empty, it holds a NUL, or a lookup name breaks the rule of
+/// [`is_lookup_name`]. Of two or more parts, the last is a description and not a lookup name
+/// (X/Open Curses Issue 7, "Terminfo Source Format").
 ///
 /// # Errors
-/// Want of memory.
+/// `AllocError` if there was no memory for the list.
 pub fn lookup_names(alloc: Global, field: &[u8]) -> Result<Option<Vec<RcSlice<u8>>>, AllocError>
     ensures { IfOk result (λ names. spec.ReadsNames field.now (option_map (λ v. map rc_slice_items v.items) names)) }
 {
@@ -93,7 +94,7 @@ pub fn lookup_names(alloc: Global, field: &[u8]) -> Result<Option<Vec<RcSlice<u8
     Ok(names)
 }
 
-/// The lookup names of a names field, or `None` where it is bad, as [`lookup_names`] gives them.
+/// The lookup names of a names field, or `None` if it is bad, as [`lookup_names`] gives them.
 pub(crate) fn read_names(
     alloc: Global,
     field: &[u8],
@@ -106,13 +107,3 @@ pub(crate) fn read_names(
     let names = parts(alloc, without_description(field))?;
     Ok(Some(names))
 }
-
-/// Each names field has lookup names or is bad.
-pub fn each_header_is_read()
-    ensures { spec.EachHeaderIsRead }
-{}
-
-/// A names field has one reading alone.
-pub fn headers_have_one_reading()
-    ensures { spec.HeadersHaveOneReading }
-{}

@@ -23,7 +23,8 @@ pub(crate) fn ends_with_newline(text: &[u8]) -> bool
     text.last() == Some(&b'\n')
 }
 
-/// The place of the first head line that begins after the first byte of `text`, or the length where there is none.
+/// The place of the first head line that begins after the first byte of `text`, or the length if
+/// there is none.
 pub(crate) fn next_head(text: &[u8]) -> usize
     ensures { result ≡ length (computed.to_next_head text.now) }
 {

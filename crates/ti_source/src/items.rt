@@ -1,4 +1,4 @@
-// The names field and the items of a block, and what an item states.
+//! The names field and the items of a block, and what an item states.
 ghost use Rattle.std.specs.Prelude.{◌≡◌, ◌+◌, ◌<◌, ◌≤◌, IfOk, IfSome, OnOk, length, take, drop, slice_index, option_map};
 ghost use Rattle.memchr.specs.Find.{IsFirstByte};
 ghost use Rattle.std.specs.Option.{option_map_or};
@@ -20,7 +20,7 @@ pub(crate) enum Taken {
 }
 
 impl Taken {
-    // What takes the byte after `byte`, which this takes and which stands just after `before`.
+    // What takes the byte after `byte`, which `self` takes and which is just after `before`.
     fn next_taken(self, before: u8, byte: u8) -> Taken
         ensures { result ≡ taken_after self before byte }
     {
@@ -31,7 +31,7 @@ impl Taken {
         }
     }
 
-    // Whether `byte`, which this takes, ends an item.
+    // Whether `byte`, which `self` takes, ends an item.
     fn cuts(self, byte: u8) -> bool
         ensures { result ≡ cuts self byte }
     {
@@ -46,12 +46,12 @@ pub(crate) struct Run<'a> {
     pub(crate) bytes: &'a [u8],
     /// What takes the byte after them.
     pub(crate) taken: Taken,
-    /// The last of them, or the byte before the run where there is none.
+    /// The last byte of the run, or the byte before it if the run is empty.
     pub(crate) last: u8,
 }
 
-/// The longest run at the front of `text` over which an item goes on, where `taken` takes the first byte, which stands
-/// just after `before`.
+/// The longest run at the front of `text` over which an item goes on: `taken` takes the first byte,
+/// which is just after `before`.
 pub(crate) fn front_run(text: &[u8], taken: Taken, before: u8) -> Run<'_>
     ensures front { result.bytes.now ≡ take (length result.bytes.now) text.now }
     ensures passes_run { PassesRun taken before result.bytes.now result.taken result.last }
@@ -74,8 +74,9 @@ pub(crate) fn front_run(text: &[u8], taken: Taken, before: u8) -> Run<'_>
     }
 }
 
-/// The size of the item at the front of `text`, where it is not empty, begins with no white space, and ends on the same line
-/// with a comma that no backslash stands before; `None` for any other item.
+/// The size of the item at the front of `text`, if it is not empty, does not begin with white
+/// space, and ends on the same line with a comma that has no backslash before it; `None` for any
+/// other item.
 pub(crate) fn whole_item_size(text: &[u8]) -> Option<usize>
     ensures { IfSome result (λ size. IsWholeItem text.now size) }
 {
@@ -101,19 +102,19 @@ pub(crate) fn read_field(alloc: Global, source: &mut Folded<'_>) -> Result<Vec<u
     Ok(field)
 }
 
-/// Where an item stands, and whether the block ends with it.
+/// Where an item is, and whether the block ends with it.
 #[derive(Clone, Copy)]
 pub(crate) struct Reached<'a> {
-    /// Its text, where it is part of the block as it stands.
+    /// Its text, if it is part of the block as it is written.
     pub(crate) whole: Option<&'a [u8]>,
-    /// The line of its first byte that is no white space.
+    /// The line of its first byte that is not white space.
     pub(crate) line: usize,
     /// Whether the block ends with it.
     pub(crate) last: bool,
 }
 
-// Adds a byte to the text of an item, but for white space at its front, and gives the line of the text: `line`, or `at`,
-// the line of the byte, where the byte is the first.
+// Adds a byte to the text of an item, but no white space at its front, and gives the line of the
+// text: `line`, or `at`, the line of the byte, if the byte is the first.
 fn push_visible(text: &mut Vec<u8>, line: usize, byte: u8, at: usize) -> Result<usize, AllocError>
     ensures { IfOk result (λ l. item_piece text.new.items l ≡ with_byte (item_piece text.old.items line) (byte, at)) }
 {
@@ -128,8 +129,9 @@ fn push_visible(text: &mut Vec<u8>, line: usize, byte: u8, at: usize) -> Result<
     Ok(at)
 }
 
-// Adds the run with which an item goes on, once its text has a byte, and gives what takes the byte after it and the byte
-// just before that one. `taken` takes the first byte of the run, which stands just after `before`.
+// Adds the run with which an item goes on, once its text has a byte. Gives what takes the byte
+// after it and the byte just before that one. `taken` takes the first byte of the run, which is
+// just after `before`.
 fn push_run(
     source: &mut Folded<'_>,
     text: &mut Vec<u8>,
@@ -159,8 +161,8 @@ impl<'a> Reached<'a> {
     }
 }
 
-/// Takes the next item, and the comma that ends it. Its text, without white space at its front, is part of the block, or is
-/// left in `text`.
+/// Takes the next item, and the comma that ends it. Its text, without white space at its front, is
+/// part of the block, or is left in `text`.
 pub(crate) fn read_item<'a>(
     source: &mut Folded<'a>,
     text: &mut Vec<u8>,
@@ -168,7 +170,7 @@ pub(crate) fn read_item<'a>(
     ensures { IfOk result (λ item. TakesItem source.old (item_piece (option_map_or (λ t. t.now) item.whole text.new.items) item.line) item.last source.new) }
 {
     source.skip_white_space();
-    // most items stand on one line
+    // most items are on one line
     if let Some((item, line)) = source.take_item() {
         return Ok(Reached {
             whole: Some(item),
@@ -179,7 +181,8 @@ pub(crate) fn read_item<'a>(
     read_runs(source, text)
 }
 
-// The same, byte by byte and run by run, from behind the white space at the front of the item.
+// Takes the next item as `take_item` does, byte by byte and run by run, from after the white space
+// at its front.
 fn read_runs<'a>(source: &mut Folded<'a>, text: &mut Vec<u8>) -> Result<Reached<'a>, AllocError>
     ensures { IfOk result (λ item. EndsItem source.old (item_piece (option_map_or (λ t. t.now) item.whole text.new.items) item.line) item.last source.new) }
 {
@@ -196,7 +199,7 @@ fn read_runs<'a>(source: &mut Folded<'a>, text: &mut Vec<u8>) -> Result<Reached<
             });
         }
         line = push_visible(text, line, byte, at)?;
-        // most bytes of an item stand in such runs, which are added at once
+        // most bytes of an item are in such runs, which are added at once
         (taken, before) = push_run(source, text, taken.next_taken(before, byte), byte)?;
     }
     Ok(Reached {
@@ -213,7 +216,7 @@ pub(crate) struct Statement<'a> {
     pub(crate) claim: Claim<'a>,
 }
 
-/// What is stated: that a flag is there, a number or a text by its spelling, or that the capability is cancelled.
+/// What is stated: a boolean, a number or a string by its spelling, or a cancel.
 #[derive(Clone, Copy)]
 pub(crate) enum Claim<'a> {
     Flag,
@@ -222,8 +225,8 @@ pub(crate) enum Claim<'a> {
     Cancel,
 }
 
-/// What an item states, by its text with no white space at its front. An empty item and a disabled one, which begins
-/// with a dot, state nothing.
+/// What an item states, by its text with no white space at its front. An empty item, and a disabled
+/// one, which begins with a dot, state nothing.
 pub(crate) fn statement_of(text: &[u8]) -> Option<Statement<'_>>
     ensures { option_map statement_in_memory result ≡ statement_of text.now }
 {
@@ -237,14 +240,14 @@ pub(crate) fn statement_of(text: &[u8]) -> Option<Statement<'_>>
     }
 }
 
-// Whether a byte stands between a name and a value.
+// Whether a byte is a mark: it is between a name and a value.
 fn is_mark(byte: u8) -> bool
     ensures { result ≡ is_mark byte }
 {
     matches!(byte, b'#' | b'=')
 }
 
-// Where the first mark stands. Names are short, so that a search byte by byte ends soonest.
+// The place of the first mark. Names are short, so that a search byte by byte is fastest.
 fn first_mark(text: &[u8]) -> Option<usize>
     ensures { IsFirstByte is_mark text.now result }
 {
@@ -258,7 +261,7 @@ fn first_mark(text: &[u8]) -> Option<usize>
     None
 }
 
-// What an item states in which the first mark stands at `end`: a number behind `#`, a text behind `=`.
+// What an item with its first mark at `end` states: a number after `#`, a string after `=`.
 fn statement_with_value(text: &[u8], end: usize) -> Statement<'_>
     requires { end < length text.now }
     ensures { statement_in_memory result ≡ statement_with_value (take end text.now) (slice_index text.now end) (drop (end + 1) text.now) }
@@ -274,7 +277,7 @@ fn statement_with_value(text: &[u8], end: usize) -> Statement<'_>
     }
 }
 
-// What an item with no mark states: a cancel where it ends in `@`, else a flag.
+// What an item with no mark states: a cancel if it ends in `@`, else a boolean.
 #[tactic(auto, using(crate::proofs::TextLemmas::plain_statement_lemmas))]
 fn plain_statement(text: &[u8]) -> Statement<'_>
     ensures { statement_in_memory result ≡ plain_statement text.now }

@@ -1,15 +1,19 @@
-//! The terminfo source format, as terminfo(5) and X/Open Curses Issue 7 ("Terminfo Source Format") describe it: what a
-//! source says, with no files.
+//! The terminfo source format, as terminfo(5) and X/Open Curses Issue 7 ("Terminfo Source Format")
+//! describe it: what a source says, with no files.
 //!
 //! - `code`: the codes of the faults that a description may have.
-//! - `cutting` and `walk`: a source as a preface and blocks, one for each entry; `heads` finds where they begin.
+//! - `cutting` and `walk`: a source as a preface and blocks, one for each entry; `heads` finds
+//!   where they begin.
 //! - `header`: the names field of a block, and its lookup names.
-//! - `numbers`: the value of a number, or why a text is none; `white_space`: what stands after it.
-//! - `folding`: a block without its comments and line breaks; `items`: the names field and the items of a block, and
-//!   what an item states; `verdicts`: what comes of that; `sharing`: texts that blocks share; `parsing`: a block as it is
-//!   read, with its faults.
+//! - `numbers`: the value of a number, or why a text is none; `white_space`: the white space at the
+//!   end of a text.
+//! - `folding`: a block without its comments and line breaks; `items`: the names field and the
+//!   items of a block, and what an item states; `verdicts`: what comes of that; `sharing`: strings
+//!   that blocks share; `parsing`: a block as it is read, with its faults.
+//! - `laws`: that each source has one cut, and each block one reading.
 //!
-//! The crate `ti_spelling` below it has the spelling of string values; what the layers above need of it is public here too.
+//! The crate `ti_spelling` has the spelling of string values. What the layers above need of it is
+//! public here too.
 #![tactic(auto)]
 
 mod code;
@@ -18,6 +22,7 @@ mod folding;
 mod header;
 mod heads;
 mod items;
+mod laws;
 mod numbers;
 mod parsing;
 mod sharing;
@@ -26,19 +31,15 @@ mod walk;
 mod white_space;
 
 pub use code::Code;
-pub use cutting::{
-    blocks, blocks_are_single, blocks_are_single_once_ended, each_has_cut, is_block, one_cut,
+pub use cutting::{blocks, is_block};
+pub use header::{is_lookup_name, lookup_names};
+pub use laws::{
+    blocks_are_single, blocks_are_single_once_ended, each_has_cut, each_header_is_read,
+    each_is_well_read, each_number_is_read, headers_have_one_reading, numbers_have_one_reading,
+    numerals_have_one_value, one_cut, one_folding, one_reading,
 };
-pub use folding::one_folding;
-pub use header::{each_header_is_read, headers_have_one_reading, is_lookup_name, lookup_names};
-pub use numbers::{
-    NumberError, each_number_is_read, numbers_have_one_reading, numerals_have_one_value,
-    read_number,
-};
-pub use parsing::{
-    Item, Local, Parsed, What, each_is_well_read, one_reading, parse, parse_sharing,
-};
+pub use numbers::{NumberError, read_number};
+pub use parsing::{Item, Local, Parsed, What, parse, parse_sharing};
 pub use sharing::SharedTexts;
 pub use ti_spelling::{UnescapeError, Unescaped, escape, one_outcome, unescape, written_spells};
-pub use ti_text::lines_add;
 pub use walk::Blocks;

@@ -9,7 +9,7 @@ use crate::white_space::trim_end;
 use thiserror::Error;
 use ti_text::limits::NUMBER_MAX;
 
-/// The greatest value of a number.
+// The greatest value of a number.
 const GREATEST: u32 = NUMBER_MAX;
 
 /// Why a text is no number.
@@ -47,7 +47,7 @@ fn base_and_digits(number: &[u8]) -> Option<(u32, &[u8])>
     }
 }
 
-// The value of digits in a base; one that is over the limit stops just above it.
+// The value of digits in a base. A value over the limit stops just above it.
 fn digits_value(base: u32, digits: &[u8]) -> Option<u32>
     requires { base ≤ 16 }
     ensures { result ≡ option_map (λ value. min value (number_max + 1)) (computed.digits_read base digits.now) }
@@ -71,12 +71,14 @@ fn value(number: &[u8]) -> Option<u32>
     digits_value(base, digits)
 }
 
-/// The number that `text` writes, as C does: `0` and octal digits, `0x` or `0X` and hexadecimal digits, or decimal digits, with
-/// any white space after it (X/Open Curses Issue 7, "Terminfo Source Format").
+/// The number that `text` writes, as C does: `0` and octal digits, `0x` or `0X` and hexadecimal
+/// digits, or decimal digits, with any white space after it (X/Open Curses Issue 7, "Terminfo
+/// Source Format").
 ///
 /// # Errors
 ///
-/// `Bad` where the text is not written so, and `TooLarge` where its value, of however many digits, is over 2,147,483,647.
+/// `Bad` if the text is not written so, and `TooLarge` if its value, of however many digits, is
+/// over 2,147,483,647.
 pub fn read_number(text: &[u8]) -> Result<u32, NumberError>
     ensures { spec.ReadsAs text.now result }
 {
@@ -86,18 +88,3 @@ pub fn read_number(text: &[u8]) -> Result<u32, NumberError>
         Some(value) => Ok(value),
     }
 }
-
-/// A text has one value at most.
-pub fn numerals_have_one_value()
-    ensures { spec.NumeralsHaveOneValue }
-{}
-
-/// Each text reads as something: a value, one beyond the limit, or none.
-pub fn each_number_is_read()
-    ensures { spec.EachTextIsRead }
-{}
-
-/// A text has no other reading.
-pub fn numbers_have_one_reading()
-    ensures { spec.NumbersHaveOneReading }
-{}

@@ -1,4 +1,4 @@
-// A block as it is read.
+//! Reads a block.
 ghost use Rattle.std.specs.Prelude.{◌≡◌, ◌<◌, ◌+◌, ◌^◌, [], ◌∷◌, ◌++◌, IfOk, OnOk, length, map};
 ghost use Rattle.ti_source.specs.Cutting.{OneBlock};
 ghost use Rattle.ti_source.specs.Items.{item_piece};
@@ -12,6 +12,7 @@ use crate::code::Code;
 use crate::folding::Folded;
 use crate::header::read_names;
 use crate::items::{read_field, read_item, statement_of};
+use crate::laws::{each_is_well_read, one_reading};
 use crate::sharing::SharedTexts;
 use crate::verdicts::{Verdict, judge};
 use std::alloc::{AllocError, Global};
@@ -22,22 +23,22 @@ use ti_text::limits::NAMES_MAX;
 /// What an accepted item says.
 #[derive(Debug, Drop)]
 pub enum What {
-    /// A flag is there.
+    /// A boolean is there.
     Flag(Cap),
     /// A number has this value, at most 2,147,483,647.
     Number(Cap, u32),
-    /// A text has these bytes, none of them a NUL.
+    /// A string has these bytes, none of them a NUL.
     Text(Cap, RcSlice<u8>),
     /// A capability is cancelled.
     Cancel(Cap),
-    /// `use=`: the items of the entry of this name stand here.
+    /// `use=`: the items of the entry of this name come here.
     Import(RcSlice<u8>),
 }
 
 /// An accepted item of a block.
 #[derive(Debug, Drop)]
 pub struct Item {
-    /// Its place among the items of the block, counted from 0; empty and disabled items count.
+    /// Its place among the items of the block, counted from 0. Empty and disabled items count.
     pub ordinal: usize,
     /// The line of its first byte, counted from 1 in the block.
     pub line: usize,
@@ -45,7 +46,7 @@ pub struct Item {
     pub what: What,
 }
 
-/// A fault of a block by itself, whatever stands in other blocks.
+/// A fault of a block by itself, whatever is in other blocks.
 #[derive(Debug, Drop)]
 pub struct Local {
     /// The place of the item, as in `Item`; 0 for a fault of the names field.
@@ -54,28 +55,28 @@ pub struct Local {
     pub line: usize,
     /// What is wrong.
     pub code: Code,
-    /// The name of the item as it stands; `None` for a fault of the names field.
+    /// The name of the item as it is written; `None` for a fault of the names field.
     pub detail: Option<RcSlice<u8>>,
 }
 
 /// A block as it is read.
 #[derive(Debug, Drop)]
 pub struct Parsed {
-    /// The names field, as it stands.
+    /// The names field, as it is written.
     pub field: Vec<u8>,
-    /// The lookup names in their order; none where the names field is bad.
+    /// The lookup names in order; none if the names field is bad.
     pub names: Vec<RcSlice<u8>>,
-    /// The accepted items in their order.
+    /// The accepted items in order.
     pub items: Vec<Item>,
-    /// The faults: that of the names field, and then those of items in their order.
+    /// The faults: that of the names field, and then those of items in order.
     pub faults: Vec<Local>,
 }
 
-/// What a block says: its names field, its lookup names, its accepted items and its own faults, by X/Open Curses
-/// Issue 7, "Terminfo Source Format", and terminfo(5). What stands in other blocks plays no part.
+/// What a block says: its names field, its lookup names, its accepted items and its own faults, by
+/// X/Open Curses Issue 7, "Terminfo Source Format", and terminfo(5). Other blocks play no part.
 ///
-/// A description may be wrong in many ways, and each is a fault of the answer. `AllocError` is the only error: that
-/// there was no memory for the answer.
+/// A description may be wrong in many ways, and each is a fault of the answer. The only error is
+/// `AllocError`: there was no memory for the answer.
 pub fn parse(alloc: Global, block: &[u8]) -> Result<Parsed, AllocError>
     requires { OneBlock block.now }
     ensures reading { IfOk result (λ p. Parses block.now (reading_of p)) }
@@ -85,8 +86,8 @@ pub fn parse(alloc: Global, block: &[u8]) -> Result<Parsed, AllocError>
     parse_sharing(alloc, block, &mut SharedTexts::without_places(alloc))
 }
 
-/// The same, where texts that were read before are shared: the answer is that of `parse`, and takes less memory and time
-/// where blocks say the same.
+/// Parses as `parse` does, and shares strings that were read before: the answer is that of `parse`,
+/// and takes less memory and time if blocks say the same.
 pub fn parse_sharing(
     alloc: Global,
     block: &[u8],
@@ -107,7 +108,7 @@ pub fn parse_sharing(
     Ok(parsed)
 }
 
-// A fault of the names field, which stands on the first line.
+// A fault of the names field, which is on the first line.
 fn header_fault(code: Code) -> Local
     ensures { fault_of result ≡ header_fault code }
 {
@@ -237,19 +238,3 @@ fn push_fault(
     })?;
     Ok(())
 }
-
-/// What is known of each block as it is read: its lookup names are such, its items set their kinds, its lines are its
-/// own, and where no error stands among its faults its names field can be written.
-pub fn each_is_well_read()
-    ensures { EachIsWellRead }
-{
-    count(Kind::Flag);
-    count(Kind::Number);
-    count(Kind::Text);
-}
-
-/// Each block has one reading, which `parse` gives.
-pub fn one_reading()
-    ensures each { HasReading }
-    ensures only { BlocksHaveOneReading }
-{}

@@ -1,4 +1,4 @@
-// Texts that blocks share: what was last read of each capability.
+//! Strings that blocks share: the last one that was read of each capability.
 ghost use Rattle.std.specs.Prelude.{◌≡◌, None, Ok, false, length, All, IfOk, IfSome};
 ghost use Rattle.std.specs.Rc.{rc_slice_items};
 ghost use Rattle.ti_caps.specs.Tables.{count_of};
@@ -9,10 +9,10 @@ use std::alloc::{AllocError, Global};
 use std::rc::RcSlice;
 use ti_caps::{Cap, Kind, count};
 
-/// A longer spelling is not kept, so that what is kept stays small whatever a source says.
+// A longer spelling is not stored, so that what is stored is small whatever a source says.
 const SPELLING_MAX: usize = 512;
 
-/// A text, and how it was spelled, by escapes that the manual names.
+// A string, and how it was spelled, by escapes that the manual names.
 #[derive(Drop)]
 struct SpelledText {
     spelling: Vec<u8>,
@@ -20,19 +20,21 @@ struct SpelledText {
     ghost spelled: { unescape_result spelling.items ≡ Ok (rc_slice_items text, false) },
 }
 
-/// The text that was last read of each capability: the next block that spells it so shares it, and it is made once. Most
-/// of the entries of a family say the same of a capability.
+/// The string that was last read of each capability. The next block that spells it so shares it,
+/// and it is made once. Most of the entries of a family say the same of a capability.
 #[derive(Drop)]
 pub struct SharedTexts {
-    // by the place of the capability among the texts
+    // what the spelling that is read spells, before it is known how it is kept
+    pub(crate) room: Vec<u8>,
+    // by the index of the capability among the strings
     last: Vec<Option<SpelledText>>,
 }
 
 impl SharedTexts {
-    /// No text yet, and a place for that of each string capability.
+    /// No string yet, and a place for one for each string capability.
     ///
     /// # Errors
-    /// Want of memory.
+    /// `AllocError` if there was no memory for the places.
     pub fn new(alloc: Global) -> Result<SharedTexts, AllocError>
         ensures places { IfOk result (λ shared. length shared.last.items ≡ count_of Text) }
         ensures none { IfOk result (λ shared. All (λ kept. kept ≡ None) shared.last.items) }
@@ -41,17 +43,28 @@ impl SharedTexts {
         for _place in 0..count(Kind::Text) {
             last.push(None)?;
         }
-        Ok(SharedTexts { last })
+        Ok(SharedTexts {
+            room: Vec::new(alloc),
+            last,
+        })
     }
 
-    /// No text, and no place for one, so that none is shared.
+    /// No string, and no place for one, so that none is shared.
     pub(crate) fn without_places(alloc: Global) -> SharedTexts {
         SharedTexts {
+            room: Vec::new(alloc),
             last: Vec::new(alloc),
         }
     }
 
-    /// The text of a spelling, where it is the one that was last kept of the capability.
+    /// The string whose bytes are in the room.
+    pub(crate) fn text_in_room(&self, alloc: Global) -> Result<RcSlice<u8>, AllocError>
+        ensures { IfOk result (λ text. rc_slice_items text ≡ self.now.room.items) }
+    {
+        RcSlice::from_slice(alloc, self.room.as_slice())
+    }
+
+    /// The string of a spelling, if it is the one that was stored last for the capability.
     pub(crate) fn text_of(&self, cap: Cap, spelling: &[u8]) -> Option<&RcSlice<u8>>
         ensures { IfSome result (λ text. unescape_result spelling.now ≡ Ok (rc_slice_items text.now, false)) }
     {
@@ -61,7 +74,7 @@ impl SharedTexts {
         }
     }
 
-    /// Keeps the text of a spelling, in the place of the one that was kept of the capability.
+    /// Stores the string of a spelling, in the place of the one stored before for the capability.
     pub(crate) fn keep(
         &mut self,
         alloc: Global,

@@ -1,4 +1,4 @@
-// What comes of what an item states.
+//! What comes of what an item states.
 ghost use Rattle.std.specs.Prelude.{◌≡◌, IfOk};
 ghost use Rattle.ti_source.specs.inside.Items.{statement_in_memory};
 ghost use Rattle.ti_source.specs.inside.Numbers.{number_read};
@@ -14,9 +14,10 @@ use crate::sharing::SharedTexts;
 use std::alloc::{AllocError, Global};
 use std::rc::RcSlice;
 use ti_caps::{Cap, Kind, find};
-use ti_spelling::{UnescapeError, unescape};
+use ti_spelling::{UnescapeError, unescape_into};
 
-/// What comes of a statement: it is accepted, accepted though an escape in it is odd, or refused by a fault.
+/// What comes of a statement: it is accepted, accepted though an escape in it is odd, or refused by
+/// a fault.
 #[derive(Drop)]
 pub(crate) enum Verdict {
     Accepted(What),
@@ -24,8 +25,8 @@ pub(crate) enum Verdict {
     Refused(Code),
 }
 
-/// The verdict on a statement: first a name that is not in the tables, then one of another kind, then a value that cannot
-/// be read. A text may be shared with what was read before.
+/// The verdict on a statement: first a name that is not in the tables, then one of another kind,
+/// then a value that cannot be read. A string may be shared with what was read before.
 pub(crate) fn judge(
     alloc: Global,
     statement: &Statement<'_>,
@@ -73,10 +74,10 @@ fn judge_text(
     if let Some(text) = shared.text_of(cap, value) {
         return Ok(Verdict::Accepted(What::Text(cap, text.clone()?)));
     }
-    match unescape(alloc, value) {
-        Ok(found) => {
-            let text = RcSlice::from_vec(found.bytes)?;
-            if found.odd {
+    match unescape_into(&mut shared.room, value) {
+        Ok(odd) => {
+            let text = shared.text_in_room(alloc)?;
+            if odd {
                 return Ok(Verdict::AcceptedOdd(What::Text(cap, text)));
             }
             shared.keep(alloc, cap, value, &text)?;

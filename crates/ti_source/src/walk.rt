@@ -35,7 +35,7 @@ impl<'a> Blocks<'a> {
         Blocks { preface, rest }
     }
 
-    /// The lines before the first block, whatever of the blocks has been taken.
+    /// The lines before the first block, whichever blocks have been taken.
     pub fn preface(&self) -> &'a [u8]
         ensures { result.now ≡ self.now.preface }
     {

@@ -13,7 +13,8 @@ pub digits_off : (x n : ℕ) (xs : List ℕ) → is_octal_digit x ≡ false → 
 digits_off x zero xs e = refl
 digits_off x (suc n) xs e = ap (λ (b : Bool). cond b (x ∷ octal_digits_up_to n xs) []) e
 
--- `count` digits of `text` were read, and make `value`; at most `left` of the digits of `rest` belong to them
+-- `count` digits of `text` were read, and make `value`; at most `left` of the digits of `rest`
+-- belong to them
 pub record IsOctalFront (text : List ℕ) (value count left : ℕ) (rest : List ℕ) : Type 0 where
   pub values : octal_value (octal_digits text) ≡ octal_value_from value (octal_digits_up_to left rest)
   pub lengths : length (octal_digits text) ≡ count + length (octal_digits_up_to left rest)
@@ -34,7 +35,7 @@ goes_on text value count left x xs e front = record {
   below = rw add-one (omega (arith, pow-suc 8 count, front.below, digit_bounds x e));
 }
 
--- the value stays small while there is room for a digit
+-- the value is small while there is room for a digit
 pub small : (count value : ℕ) → count < 3 → value < 8 ^ count → value < 64
 small zero value lt below = omega arith
 small (suc zero) value lt below = omega arith

@@ -1,4 +1,5 @@
--- Walking over the pieces of a text: each function that computes a piece gives what the relations say.
+-- Walking over the pieces of a text: each function that computes a piece gives what the relations
+-- say.
 use Rattle.std.proofs.Common.{◌≡◌, ◌≢◌, ℕ, zero, suc, ◌+◌, ◌-◌, ◌<◌, ◌≤◌, Bool, true, false, cond, eqb, List, [], ◌∷◌, ◌++◌, length, get_or, take, drop, Option, Some, None, Result, Ok, Err, refl, ap, subst, sym, ◌∙◌, append_assoc, arith}
 use Rattle.std.specs.Prelude.{◌&&◌, ◌||◌, not, bit_and, MatchResult, nat_le}
 use Rattle.std.specs.List.{list_all}
@@ -13,7 +14,7 @@ use Rattle.ti_spelling.specs.inside.Spelling.{octal_piece, unnamed_piece, named_
 
 -- ---- octal digits
 
--- the digits stand at the front
+-- the digits are at the front
 pub record HasFront (xs digits : List ℕ) : Type 0 where
   pub rest : List ℕ
   pub whole : xs ≡ digits ++ rest
@@ -151,7 +152,7 @@ piece_some (piece_control takes c) = omega arith
 piece_some (piece_caret literal) = omega arith
 piece_some (piece_plain a b c) = omega arith
 
--- a piece lies in the text, and isn't empty
+-- a piece is part of the text, and is not empty
 pub piece_fits : (before : ℕ) (raw : List ℕ) (piece : Piece) → first_piece (is_percent before) raw ≡ Ok piece → (0 < piece.size) × (piece.size ≤ length raw)
 unfolding first_piece
 piece_fits before [] piece e = absurd cc
@@ -209,7 +210,7 @@ pub is_whole : (front : List ℕ) (odd : Bool) → with_front front odd (Ok ([],
 is_whole front true = rw append-nil refl
 is_whole front false = rw append-nil refl
 
--- ---- bytes that stand for themselves
+-- ---- bytes that spell themselves
 
 pub joins_front : (front more : List ℕ) (odd : Bool) (r : Result (List ℕ × Bool) UnescapeError) → with_front front odd (with_front more false r) ≡ with_front (front ++ more) odd r
 joins_front front more odd (Ok later) = rw (append_assoc front more later.0) refl
@@ -226,7 +227,7 @@ literal_in_front : (x : ℕ) (front : List ℕ) (r : Result (List ℕ × Bool) U
 literal_in_front x front (Ok later) = refl
 literal_in_front x front (Err cause) = refl
 
--- so many bytes at the front that stand for themselves
+-- the given number of bytes at the front that spell themselves
 pub literals : (k before : ℕ) (text : List ℕ) → k ≤ length text → list_all is_literal (take k text) ≡ true
     → unescaped_from 0 before text ≡ with_front (take k text) false (unescaped_from 0 (get_or (before ∷ text) k 0) (drop k text))
 unfolding unescaped_from

@@ -1,7 +1,6 @@
 -- What is computed of a text is what the relations say, so a text has one outcome.
 use Rattle.std.proofs.Common.{◌≡◌, ◌≢◌, ℕ, zero, suc, ◌+◌, ◌-◌, ◌<◌, ◌≤◌, Bool, true, false, cond, eqb, List, [], ◌∷◌, ◌++◌, length, Option, Some, None, Result, Ok, Err, refl, ap, subst, sym, ◌∙◌, add-one, arith, ◌⊎◌, inl, inr}
-use Rattle.std.specs.Prelude.{◌&&◌, ◌||◌, bit_and, MatchResult, nat_le, is_some, IfOk, IfErr, IsOk}
-use Rattle.ti_spelling.specs.declared.spelling.Unescaped.{Unescaped}
+use Rattle.std.specs.Prelude.{◌&&◌, ◌||◌, bit_and, MatchResult, nat_le, is_some, IsOk}
 use Rattle.std.proofs.lemmas.Bool.{ne_eqb, le-leb, lt-leb, agree_below_at, false_from_ne_true}
 use Rattle.std.proofs.lemmas.Result.{MatchResult-at_ok, MatchResult-at_err}
 use Rattle.std.proofs.lemmas.List.{length-append}
@@ -9,7 +8,7 @@ use Rattle.ti_spelling.specs.declared.spelling.Piece.{Piece}
 use Rattle.ti_spelling.specs.declared.spelling.UnescapeError.{UnescapeError}
 use Rattle.ti_spelling.specs.declared.spelling.UnescapeError.TheVariants.{BadOctal, BadControl, BadByte, Memory}
 use Rattle.ti_spelling.specs.Spelling.{named_escape, is_octal_digit, octal_digits, octal_digits_up_to, octal_value, is_percent, last_byte, not_nul, IsEscape, escape_named, escape_octal, escape_unknown, escape_missing, IsControl, control_delete, control_masked, IsPiece, piece_escape, piece_control, piece_caret, piece_plain, IsRefused, refused_octal, refused_control, refused_control_at_end, refused_nul, refused_escaped_nul, SpellsAfter, spells_nothing, spells_piece, FailsAfter, fails_here, fails_later, Spells, Fails, CanBeSpelled, IsCauseOf, OneOutcome}
-use Rattle.ti_spelling.specs.inside.Spelling.{octal_piece, unnamed_piece, named_piece, escape_piece, is_control_letter, control_piece, first_piece, with_piece, then_later, unescaped_from, unescape_result, GivesUnescaped, UnescapedAgrees}
+use Rattle.ti_spelling.specs.inside.Spelling.{octal_piece, unnamed_piece, named_piece, escape_piece, is_control_letter, control_piece, first_piece, with_piece, then_later, unescaped_from, unescape_result, UnescapedAgrees}
 use Rattle.ti_spelling.proofs.OctalDigits.{digit_bounds}
 use Rattle.ti_spelling.proofs.PieceLemmas.{is_letter, control_letter, Found, first_right, piece_some, refuses}
 
@@ -151,7 +150,7 @@ pub fails_computes : {before : ℕ} {raw : List ℕ} {cause : UnescapeError} →
 fails_computes (fails_here {before = before} {raw = raw} {cause = cause} r) = refuses before raw cause (refusal_some r) (refusal_computes r)
 fails_computes (fails_later {byte = byte} {text = text} {odd = odd} p later) = begins_piece p ∙ ap (with_piece (record { size = length text; byte = byte; odd = odd })) (fails_computes later)
 
--- and back
+-- the way back: what begins with a piece is read as one
 abbrev pub Outcome : ℕ → List ℕ → Result (List ℕ × Bool) UnescapeError → Type 0
 Outcome before raw r = MatchResult r (λ found. SpellsAfter before raw found.0 found.1) (FailsAfter before raw)
 
@@ -228,7 +227,7 @@ one_outcome raw = record {
 
 -- ---- an answer
 
--- no refusal is want of memory
+-- no refusal is out of memory
 fails_not_memory : {before : ℕ} {raw : List ℕ} {cause : UnescapeError} → FailsAfter before raw cause → cause ≢ Memory
 fails_not_memory (fails_here (refused_octal over)) e = cc
 fails_not_memory (fails_here (refused_control takes none)) e = cc
@@ -237,24 +236,17 @@ fails_not_memory (fails_here refused_nul) e = cc
 fails_not_memory (fails_here refused_escaped_nul) e = cc
 fails_not_memory (fails_later p later) e = fails_not_memory later e
 
-pub answer_spells : (raw : List ℕ) (r : Result Unescaped UnescapeError) → GivesUnescaped raw r → IfOk r (λ found. Spells raw found.bytes.items found.odd)
-answer_spells raw (Ok found) e = unescaped_spells e
-answer_spells raw (Err cause) e = tt
-
 can_be_spelled : (raw : List ℕ) (r : Result (List ℕ × Bool) UnescapeError) → Outcome 0 raw r → IsOk r → CanBeSpelled raw
 can_be_spelled raw (Ok found) s ok = (found.0, found.1, s)
 can_be_spelled raw (Err cause) s ok = absurd cc
 
-pub answer_explains : (raw : List ℕ) (r : Result Unescaped UnescapeError) → GivesUnescaped raw r → IfErr r (λ cause. IsCauseOf cause raw)
-answer_explains raw (Ok found) e = tt
-answer_explains raw (Err Memory) e = can_be_spelled raw (unescape_result raw) (outcome raw) e
-answer_explains raw (Err BadOctal) e = unescaped_fails e
-answer_explains raw (Err BadControl) e = unescaped_fails e
-answer_explains raw (Err BadByte) e = unescaped_fails e
+-- out of memory is the answer only to a text that can be spelled
+pub memory_explains : (raw : List ℕ) → IsOk (unescape_result raw) → IsCauseOf Memory raw
+memory_explains raw ok = can_be_spelled raw (unescape_result raw) (outcome raw) ok
 
--- a fault that was computed is an answer
-pub fault_answers : (raw : List ℕ) (cause : UnescapeError) → unescape_result raw ≡ Err cause → GivesUnescaped raw (Err cause)
-fault_answers raw Memory e = absurd (fails_not_memory (unescaped_fails e) refl)
-fault_answers raw BadOctal e = e
-fault_answers raw BadControl e = e
-fault_answers raw BadByte e = e
+-- a fault that was computed is the cause
+pub fault_explains : (raw : List ℕ) (cause : UnescapeError) → unescape_result raw ≡ Err cause → IsCauseOf cause raw
+fault_explains raw Memory e = absurd (fails_not_memory (unescaped_fails e) refl)
+fault_explains raw BadOctal e = unescaped_fails e
+fault_explains raw BadControl e = unescaped_fails e
+fault_explains raw BadByte e = unescaped_fails e

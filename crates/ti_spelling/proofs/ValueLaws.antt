@@ -1,17 +1,13 @@
 -- What a text spells: bytes, none of them a NUL, and no more of them than the text has.
-use Rattle.std.proofs.Common.{◌≡◌, ◌≢◌, ℕ, suc, ◌<◌, ◌≤◌, Bool, true, false, cond, eqb, ltb, List, [], ◌∷◌, ◌++◌, length, Some, Result, Ok, Err, refl, arith}
-use Rattle.std.specs.Prelude.{◌&&◌, IfOk, bit_and}
+use Rattle.std.proofs.Common.{◌≡◌, ◌≢◌, ℕ, suc, ◌<◌, ◌≤◌, Bool, true, false, cond, eqb, ltb, List, [], ◌∷◌, ◌++◌, length, Some, refl, arith}
+use Rattle.std.specs.Prelude.{◌&&◌, bit_and}
 use Rattle.std.specs.Map.{lookup}
 use Rattle.std.proofs.lemmas.Bool.{eqb-false, ltb-true, and_parts, cond_both}
 use Rattle.std.proofs.lemmas.Nat.{and_le_r}
 use Rattle.std.proofs.lemmas.List.{length-append}
 use Rattle.std.proofs.lemmas.List.Elements.{All-nil, All-cons}
-use Rattle.ti_spelling.specs.declared.spelling.Unescaped.{Unescaped}
-use Rattle.ti_spelling.specs.declared.spelling.UnescapeError.{UnescapeError}
 use Rattle.ti_spelling.specs.Spelling.{named_escapes, named_escape, octal_value, not_nul, IsEscape, escape_named, escape_octal, escape_unknown, escape_missing, IsControl, control_delete, control_masked, IsPiece, piece_escape, piece_control, piece_caret, piece_plain, SpellsAfter, spells_nothing, spells_piece, HasNoNul, AreBytes, ValuesAreSound}
-use Rattle.ti_spelling.specs.inside.Spelling.{GivesUnescaped}
 use Rattle.ti_spelling.proofs.PieceLemmas.{piece_some}
-use Rattle.ti_spelling.proofs.SpellingLaws.{unescaped_spells}
 
 -- ---- the named escapes
 
@@ -56,13 +52,13 @@ byte_some (piece_control takes c) = control_some c
 byte_some (piece_caret literal) = omega arith
 byte_some (piece_plain ne92 ne94 ne0) = ne0
 
-spelled_no_nul : {before : ℕ} {raw value : List ℕ} {odd : Bool} → SpellsAfter before raw value odd → HasNoNul value
+pub spelled_no_nul : {before : ℕ} {raw value : List ℕ} {odd : Bool} → SpellsAfter before raw value odd → HasNoNul value
 spelled_no_nul spells_nothing = All-nil (λ byte. byte ≢ 0)
 spelled_no_nul (spells_piece {byte = byte} {value = value} p later) = All-cons (λ byte. byte ≢ 0) byte value (byte_some p) (spelled_no_nul later)
 
 -- ---- the length
 
-spelled_no_longer : {before : ℕ} {raw value : List ℕ} {odd : Bool} → SpellsAfter before raw value odd → length value ≤ length raw
+pub spelled_no_longer : {before : ℕ} {raw value : List ℕ} {odd : Bool} → SpellsAfter before raw value odd → length value ≤ length raw
 spelled_no_longer spells_nothing = omega arith
 spelled_no_longer (spells_piece {text = text} {rest = rest} p later) = omega (arith, piece_some p, spelled_no_longer later, length-append text rest)
 
@@ -99,15 +95,7 @@ spelled_bytes spells_nothing bytes = All-nil (λ byte. byte < 256)
 spelled_bytes (spells_piece {byte = byte} {text = text} {rest = rest} {value = value} p later) bytes =
     All-cons (λ byte. byte < 256) byte value (byte_fits p bytes) (spelled_bytes later (bytes_of_rest text rest bytes))
 
--- ---- the law, and of an answer
+-- ---- the law
 
 pub values_are_sound : ValuesAreSound
 values_are_sound raw value odd s = record { no_nul = spelled_no_nul s; no_longer = spelled_no_longer s; bytes = spelled_bytes s }
-
-pub answer_no_nul : (raw : List ℕ) (r : Result Unescaped UnescapeError) → GivesUnescaped raw r → IfOk r (λ found. HasNoNul found.bytes.items)
-answer_no_nul raw (Ok found) e = spelled_no_nul (unescaped_spells e)
-answer_no_nul raw (Err cause) e = tt
-
-pub answer_no_longer : (raw : List ℕ) (r : Result Unescaped UnescapeError) → GivesUnescaped raw r → IfOk r (λ found. length found.bytes.items ≤ length raw)
-answer_no_longer raw (Ok found) e = spelled_no_longer (unescaped_spells e)
-answer_no_longer raw (Err cause) e = tt

@@ -32,7 +32,7 @@ writes_on text value all before i lt done =
     ap (written_from (eqb i 0) before) (drop-cons value i 0 lt) ∙ ap (λ (last : Bool). byte_text (is_percent before) (eqb i 0 || last) x ++ written_from false x (drop (suc i) value)) edge in
     rw (append_assoc, not_first, add-one) (ap (λ (rest : List ℕ). text ++ rest) (sym one) ∙ done)
 
--- ---- a byte that is its own text
+-- ---- a byte that is its own spelling
 
 is_own_text : (percent edge : Bool) (byte : ℕ) → Bool
 is_own_text percent edge byte = not (is_plain byte) || bytes_eq (byte_text percent edge byte) (byte ∷ [])

@@ -1,7 +1,8 @@
 -- How a string value is spelled in terminfo source: the escapes of X/Open Curses Issue 7, "Terminfo
--- Source Format", and of terminfo(5), and the own choices where these leave one (an unknown escape, a
--- lone backslash at the end, a `^` just after a `%`). `inside/Spelling` has the same computed.
---   Spells, Fails       what a text spells, and its first fault, one constructor for each row of the manual's table
+-- Source Format", and of terminfo(5), and own choices if these say nothing (an unknown escape, a
+-- lone backslash at the end, a `^` just after a `%`). `inside/Spelling` has the computed form.
+--   Spells, Fails       what a text spells, and its first fault: a constructor for each row of the
+--                       manual's table
 --   written value       the text that `escape` writes
 --   OneOutcome          a law: a text spells one value or has one first fault
 --   WrittenSpells       a law: the text that `escape` writes spells the value
@@ -17,7 +18,7 @@ use Rattle.ti_spelling.specs.declared.spelling.UnescapeError.TheVariants.{BadOct
 
 -- ---- the rows of the table
 
--- the letter behind a backslash that terminfo(5) names, and its byte
+-- each letter that terminfo(5) names after a backslash, and its byte
 abbrev pub named_escapes : List (ℕ × ℕ)
 named_escapes =
     (byte_of "E", ascii.escape) ∷ (byte_of "e", ascii.escape) ∷ (byte_of "n", ascii.newline) ∷ (byte_of "l", ascii.newline)
@@ -25,7 +26,7 @@ named_escapes =
     ∷ (byte_of "s", ascii.space) ∷ (byte_of "a", ascii.bell)
     ∷ (ascii.caret, ascii.caret) ∷ (ascii.backslash, ascii.backslash) ∷ (ascii.comma, ascii.comma) ∷ (ascii.colon, ascii.colon) ∷ []
 
--- the byte of a letter behind a backslash, where it has a name
+-- the byte of a letter after a backslash, if it has a name
 abbrev pub named_escape : ℕ → Option ℕ
 named_escape letter = lookup (λ row. row == letter) named_escapes
 
@@ -33,35 +34,37 @@ named_escape letter = lookup (λ row. row == letter) named_escapes
 abbrev pub is_octal_digit : ℕ → Bool
 is_octal_digit x = nat_le ascii.digit_0 x && nat_le x (byte_of "7")
 
--- the octal digits at the front, at most so many
+-- the octal digits at the front, at most the given number of them
 abbrev pub octal_digits_up_to : ℕ → List ℕ → List ℕ
 octal_digits_up_to zero xs = []
 octal_digits_up_to (suc n) [] = []
 octal_digits_up_to (suc n) (x ∷ xs) = if is_octal_digit x then x ∷ octal_digits_up_to n xs else []
 
--- terminfo(5): a byte is given as octal digits behind a backslash; as many are taken as there are, at most three
+-- terminfo(5): after a backslash, octal digits give a byte; as many are taken as there are, at most
+-- three
 abbrev pub octal_digits : List ℕ → List ℕ
 octal_digits text = octal_digits_up_to 3 text
 
--- the value of more digits behind ones of this value
+-- the value of more digits after digits of this value
 abbrev pub octal_value_from : ℕ → List ℕ → ℕ
 octal_value_from value [] = value
 octal_value_from value (x ∷ xs) = octal_value_from (value * 8 + (x - ascii.digit_0)) xs
 
--- the value of octal digits, 0 where there are none
+-- the value of octal digits, 0 if there are none
 abbrev pub octal_value : List ℕ → ℕ
 octal_value digits = octal_value_from 0 digits
 
--- terminfo(5): a string can't hold a NUL, and 0200 stands for it, which most terminals take as one
+-- terminfo(5): a string can't hold a NUL; 0200 takes its place, which most terminals read as a NUL
 abbrev pub not_nul : ℕ → ℕ
 not_nul byte = if byte == ascii.nul then ascii.in_place_of_nul else byte
 
--- whether a byte is a `%`, after which a `^` is literal (own), so that the operator `%^` stays as it is
+-- whether a byte is a `%`, after which a `^` is literal (own), so that the operator `%^` stays as
+-- it is
 abbrev pub is_percent : ℕ → Bool
 is_percent before = before == ascii.percent
 
--- `text`, which `rest` follows, stands behind a backslash, and spells `byte`: a named letter, octal digits; and (own,
--- odd) any other byte but a NUL, which stands for itself, or nothing at all
+-- `text`, with `rest` after it, follows a backslash, and spells `byte`: a named letter or octal
+-- digits; or (own, odd) any other byte but a NUL, which spells itself, or nothing at all
 pub data IsEscape : (text rest : List ℕ) (byte : ℕ) (odd : Bool) → Type 0 where
   escape_named : {letter byte : ℕ} {rest : List ℕ} → named_escape letter ≡ Some byte → IsEscape (letter ∷ []) rest byte false
   escape_octal : {digit : ℕ} {digits rest : List ℕ} → octal_digits (digit ∷ (digits ++ rest)) ≡ digit ∷ digits → octal_value (digit ∷ digits) ≤ 255
@@ -69,8 +72,8 @@ pub data IsEscape : (text rest : List ℕ) (byte : ℕ) (odd : Bool) → Type 0 
   escape_unknown : {x : ℕ} {rest : List ℕ} → named_escape x ≡ None → is_octal_digit x ≡ false → x ≢ ascii.nul → IsEscape (x ∷ []) rest x true
   escape_missing : IsEscape [] [] ascii.backslash true
 
--- `x` stands behind a `^` that takes it, and spells `byte`: terminfo(5)'s control-x, and `^?`, which is DEL; a comma
--- ends the string, and is not taken
+-- `x` follows a `^` that takes it, and spells `byte`: terminfo(5)'s control-x, and `^?`, which is
+-- DEL; a comma ends the string, and is not taken
 pub data IsControl : (x byte : ℕ) → Type 0 where
   control_delete : IsControl ascii.question_mark ascii.delete
   control_masked : {x : ℕ} → ascii.space ≤ x → x ≤ ascii.tilde → x ≢ ascii.comma → x ≢ ascii.question_mark → IsControl x (not_nul (bit_and x 31))
@@ -82,8 +85,8 @@ pub data IsPiece : (before : ℕ) (text rest : List ℕ) (byte : ℕ) (odd : Boo
   piece_caret : {before : ℕ} {rest : List ℕ} → is_percent before ≡ true → IsPiece before (ascii.caret ∷ []) rest ascii.caret false
   piece_plain : {before x : ℕ} {rest : List ℕ} → x ≢ ascii.backslash → x ≢ ascii.caret → x ≢ ascii.nul → IsPiece before (x ∷ []) rest x false
 
--- `raw`, after the byte `before`, begins with the text of a refusal: an octal value over 255, a `^` that takes nothing,
--- or a NUL, plain or behind a backslash
+-- `raw`, after the byte `before`, begins with the text of a refusal: an octal value over 255, a `^`
+-- that takes nothing, or a NUL, plain or after a backslash
 pub data IsRefused : (before : ℕ) (raw : List ℕ) (cause : UnescapeError) → Type 0 where
   refused_octal : {before : ℕ} {rest : List ℕ} → 255 < octal_value (octal_digits rest) → IsRefused before (ascii.backslash ∷ rest) BadOctal
   refused_control : {before x : ℕ} {rest : List ℕ} → is_percent before ≡ false → ((byte : ℕ) → IsControl x byte → ⊥)
@@ -108,7 +111,7 @@ pub data FailsAfter : (before : ℕ) (raw : List ℕ) (cause : UnescapeError) �
       → FailsAfter (last_byte before text) rest cause
       → FailsAfter before (text ++ rest) cause
 
--- the whole text; what stands before it is no `%`
+-- what the whole text spells; the byte before it is not `%`
 abbrev pub Spells : (raw value : List ℕ) (odd : Bool) → Type 0
 Spells raw value odd = SpellsAfter 0 raw value odd
 
@@ -116,7 +119,8 @@ Spells raw value odd = SpellsAfter 0 raw value odd
 abbrev pub Fails : (raw : List ℕ) (cause : UnescapeError) → Type 0
 Fails raw cause = FailsAfter 0 raw cause
 
--- what a text gives: the bytes that it spells and whether an escape in it is odd, or its first fault
+-- what a text gives: the bytes that it spells and whether an escape in it is odd, or its first
+-- fault
 abbrev pub SpellsAs : List ℕ → Result (List ℕ × Bool) UnescapeError → Type 0
 SpellsAs raw (Ok found) = Spells raw found.0 found.1
 SpellsAs raw (Err cause) = Fails raw cause
@@ -125,21 +129,22 @@ SpellsAs raw (Err cause) = Fails raw cause
 abbrev pub CanBeSpelled : List ℕ → Type 0
 CanBeSpelled raw = (value : List ℕ) × (odd : Bool) × Spells raw value odd
 
--- what an error says of the text: it is the first fault in it, and want of memory is only where there is none
+-- what an error says of the text: it is the first fault in it, or `Memory`, which comes only if the
+-- text has no fault
 abbrev pub IsCauseOf : UnescapeError → List ℕ → Type 0
 IsCauseOf Memory raw = CanBeSpelled raw
 IsCauseOf cause raw = Fails raw cause
 
 -- ---- writing (own: terminfo(5) leaves open which of several spellings is chosen)
 
--- the byte, and the letter that stands for it behind a backslash
+-- each byte with a letter after a backslash, and that letter
 abbrev pub short_escapes : List (ℕ × ℕ)
 short_escapes =
     (ascii.escape, byte_of "E") ∷ (ascii.newline, byte_of "n") ∷ (ascii.carriage_return, byte_of "r") ∷ (ascii.tab, byte_of "t")
     ∷ (ascii.backspace, byte_of "b") ∷ (ascii.form_feed, byte_of "f") ∷ (ascii.comma, ascii.comma) ∷ (ascii.backslash, ascii.backslash)
     ∷ (ascii.nul, ascii.digit_0) ∷ []
 
--- the letter of a byte, where it has one
+-- the letter of a byte, if it has one
 abbrev pub short_escape : ℕ → Option ℕ
 short_escape byte = lookup (λ row. row == byte) short_escapes
 
@@ -151,7 +156,8 @@ octal_text byte = ascii.backslash ∷ (ascii.digit_0 + byte / 64) ∷ (ascii.dig
 abbrev pub control_text : ℕ → List ℕ
 control_text byte = ascii.caret ∷ (if byte == ascii.delete then ascii.question_mark else byte + 64) ∷ []
 
--- just after a `%` no `^` begins a pair: it is itself, and what would be such a pair is octal
+-- just after a `%` no `^` begins a pair: it spells itself, and a byte with such a pair is written
+-- in octal
 abbrev pub unnamed_text : (percent edge : Bool) (byte : ℕ) → List ℕ
 unnamed_text percent edge byte = if byte == ascii.space && edge then ascii.backslash ∷ byte_of "s" ∷ []
     else (if byte == ascii.caret then (if percent then ascii.caret ∷ [] else ascii.backslash ∷ ascii.caret ∷ [])
@@ -159,7 +165,7 @@ unnamed_text percent edge byte = if byte == ascii.space && edge then ascii.backs
     else (if nat_lt byte ascii.space || byte == ascii.delete then (if percent then octal_text byte else control_text byte)
     else byte ∷ [])))
 
--- a letter's text, or that of a byte without one
+-- the text of the letter, or of a byte without a letter
 abbrev pub named_text : Option ℕ → List ℕ → List ℕ
 named_text (Some letter) unnamed = ascii.backslash ∷ letter ∷ []
 named_text None unnamed = unnamed
@@ -173,13 +179,13 @@ abbrev pub written_from : (first : Bool) (before : ℕ) (value : List ℕ) → L
 written_from first before [] = []
 written_from first before (x ∷ xs) = byte_text (is_percent before) (first || is_empty xs) x ++ written_from false x xs
 
--- the whole text
+-- the text that spells the whole value
 abbrev pub spelling_of : List ℕ → List ℕ
 spelling_of value = written_from true 0 value
 
 -- ---- laws
 
--- each text spells one value, or has one first fault, and never both
+-- each text spells one value or has one first fault, and never both
 pub record HasOneOutcome (raw : List ℕ) : Type 0 where
   pub some : CanBeSpelled raw ⊎ ((cause : UnescapeError) × Fails raw cause)
   pub one_value : (value other : List ℕ) (odd also_odd : Bool) → Spells raw value odd → Spells raw other also_odd → (value ≡ other) × (odd ≡ also_odd)
@@ -196,10 +202,10 @@ pub record IsValueOf (raw value : List ℕ) : Type 0 where
   pub no_longer : length value ≤ length raw
   pub bytes : AreBytes raw → AreBytes value
 
--- a value has no NUL, is no longer than the text that spells it, and is of bytes where that is
+-- a value has no NUL, is no longer than the text that spells it, and is of bytes if the text is
 abbrev pub ValuesAreSound : Type 0
 ValuesAreSound = (raw value : List ℕ) (odd : Bool) → Spells raw value odd → IsValueOf raw value
 
--- what is written reads back
+-- the text that is written spells the value
 abbrev pub WrittenSpells : Type 0
 WrittenSpells = (value : List ℕ) → AreBytes value → HasNoNul value → Spells (spelling_of value) value false

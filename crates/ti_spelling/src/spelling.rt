@@ -1,4 +1,4 @@
-//! String values as terminfo(5) spells them: reading.
+//! Reads string values as terminfo(5) spells them.
 
 ghost use Rattle.std.specs.Prelude.{◌≡◌, ◌≤◌, ◌<◌, length, take, true, false, Ok, Err, IsOk, OnOk, IfOk, IfErr};
 ghost use Rattle.std.specs.List.{list_all};
@@ -12,22 +12,22 @@ use thiserror::Error;
 /// What a text spells.
 #[derive(Debug, Drop)]
 pub struct Unescaped {
-    /// The bytes that it stands for, none of them a NUL.
+    /// The bytes that it spells, none of them a NUL.
     pub bytes: Vec<u8>,
     /// Whether an escape occurred that terminfo(5) does not name.
     pub odd: bool,
 }
 
-/// Why a text spells nothing: the first cause in it, or want of memory.
+/// Why a text spells nothing: the first fault in it, or no memory.
 #[derive(Clone, Copy, Debug, PartialEq, Eq, Error)]
 pub enum UnescapeError {
     /// A backslash and octal digits whose value is over 255.
     #[error("octal escape over 255")]
     BadOctal,
-    /// A `^` without a byte behind it that it can take.
+    /// A `^` without a byte after it that it can take.
     #[error("bad control pair")]
     BadControl,
-    /// A NUL, plain or behind a backslash.
+    /// A NUL, plain or after a backslash.
     #[error("NUL in a string")]
     BadByte,
     /// The text spells something, but there was no room for it.
@@ -51,7 +51,7 @@ impl<T: Drop> From<AllocFailed<T>> for UnescapeError {
     }
 }
 
-/// A piece at the front of a text: how long it is, and the byte that it stands for.
+// A piece at the front of a text: how long it is, and the byte that it spells.
 #[derive(Clone, Copy)]
 struct Piece {
     size: usize,
@@ -70,7 +70,7 @@ impl Piece {
         }
     }
 
-    /// A piece of an escape that terminfo(5) does not name.
+    // A piece of an escape that terminfo(5) does not name.
     fn of_odd_escape(size: usize, byte: u8) -> Piece
         ensures { result ≡ record { size = size; byte = byte; odd = true } }
     {
@@ -82,7 +82,7 @@ impl Piece {
     }
 }
 
-/// The byte that a backslash before `letter` makes it, where terminfo(5) names one.
+// The byte that a letter after a backslash spells, if terminfo(5) names one.
 fn named_escape(letter: u8) -> Option<u8>
     ensures { result ≡ named_escape letter }
 {
@@ -106,17 +106,17 @@ fn is_octal_digit(byte: u8) -> bool
     matches!(byte, b'0'..=b'7')
 }
 
-/// A string can't hold a NUL: terminfo(5) has 0200 stand for it.
+// A string can't hold a NUL: terminfo(5) has 0200 in its place.
 fn not_nul(byte: u8) -> u8
     ensures { result ≡ not_nul byte }
 {
     if byte == 0 { 0x80 } else { byte }
 }
 
-/// An octal escape takes as many digits as there are, up to this.
+// The most digits of an octal escape.
 const MOST_OCTAL_DIGITS: usize = 3;
 
-/// The value and the count of the octal digits at the front of `text`, at most three.
+// The value and the count of the octal digits at the front of `text`, at most three.
 fn octal_front(text: &[u8]) -> (u16, usize)
     ensures value { result.0 ≡ octal_value (octal_digits text.now) }
     ensures count { result.1 ≡ length (octal_digits text.now) }
@@ -133,7 +133,7 @@ fn octal_front(text: &[u8]) -> (u16, usize)
     (value, count)
 }
 
-/// The piece of a backslash and the octal digits at the front of `after`.
+// The piece of a backslash and the octal digits at the front of `after`.
 fn octal_piece(after: &[u8]) -> Result<Piece, UnescapeError>
     ensures { result ≡ octal_piece (octal_digits after.now) }
 {
@@ -144,7 +144,7 @@ fn octal_piece(after: &[u8]) -> Result<Piece, UnescapeError>
     Ok(Piece::new(count + 1, not_nul(value as u8)))
 }
 
-/// The piece of a backslash and the front of `after`.
+// The piece of a backslash and the front of `after`.
 #[tactic(auto, unfolding(crate::specs::inside::Spelling::escape_piece))]
 fn escape_piece(after: &[u8]) -> Result<Piece, UnescapeError>
     ensures { result ≡ escape_piece after.now }
@@ -164,7 +164,7 @@ fn escape_piece(after: &[u8]) -> Result<Piece, UnescapeError>
     Ok(Piece::of_odd_escape(2, *letter))
 }
 
-/// The piece of a `^` and the front of `after`.
+// The piece of a `^` and the front of `after`.
 #[tactic(auto, unfolding(crate::specs::inside::Spelling::control_piece))]
 fn control_piece(after: &[u8]) -> Result<Piece, UnescapeError>
     ensures { result ≡ control_piece after.now }
@@ -176,7 +176,7 @@ fn control_piece(after: &[u8]) -> Result<Piece, UnescapeError>
     }
 }
 
-/// The piece at the front of `text`, which isn't empty; `percent` where it stands just after a `%`.
+// The piece at the front of `text`, which is not empty; `percent` if it is just after a `%`.
 #[tactic(auto, unfolding(crate::specs::inside::Spelling::first_piece))]
 fn first_piece(percent: bool, text: &[u8]) -> Result<Piece, UnescapeError>
     requires { 0 < length text.now }
@@ -191,14 +191,14 @@ fn first_piece(percent: bool, text: &[u8]) -> Result<Piece, UnescapeError>
     }
 }
 
-/// Whether a byte stands for itself, whatever stands around it.
+// Whether a byte spells itself, whatever is around it.
 fn is_literal(byte: u8) -> bool
     ensures { result ≡ is_literal byte }
 {
     !matches!(byte, b'\\' | b'^' | 0)
 }
 
-/// How many bytes at the front of `text` stand for themselves, up to the first that may not.
+// How many bytes at the front of `text` spell themselves, up to the first that may not.
 fn literal_len(text: &[u8]) -> usize
     ensures len { result ≤ length text.now }
     ensures literal { list_all is_literal (take result text.now) ≡ true }
@@ -210,7 +210,7 @@ fn literal_len(text: &[u8]) -> usize
     len
 }
 
-/// What is left of a text, and the byte before it.
+// What is left of a text, and the byte before it.
 #[derive(Drop)]
 struct Pieces<'a> {
     before: u8,
@@ -229,7 +229,7 @@ impl<'a> Pieces<'a> {
         }
     }
 
-    /// Takes the bytes at the front that stand for themselves.
+    // Takes the bytes at the front that spell themselves.
     fn take_literal(&mut self) -> &'a [u8]
         ensures taken { left_of self.old ≡ with_front result.now false (left_of self.new) }
         ensures len { length self.new.rest.now ≤ length self.old.rest.now }
@@ -244,7 +244,7 @@ impl<'a> Pieces<'a> {
         literal
     }
 
-    /// Takes the next piece, or tells that none is left.
+    // Takes the next piece, or answers that none is left.
     fn next_piece(&mut self) -> Result<Option<Piece>, UnescapeError>
         ensures { TakesPiece self.old result self.new }
     {
@@ -258,7 +258,7 @@ impl<'a> Pieces<'a> {
     }
 }
 
-/// Whether `raw` spells something, or its first fault.
+// Whether `raw` spells something, or its first fault.
 fn check(raw: &[u8]) -> Result<(), UnescapeError>
     ensures ok { OnOk result (IsOk (unescape_result raw.now)) }
     ensures err { IfErr result (λ cause. unescape_result raw.now ≡ Err cause) }
@@ -268,50 +268,64 @@ fn check(raw: &[u8]) -> Result<(), UnescapeError>
     Ok(())
 }
 
-/// What `raw` spells, in one walk over it. An error may be want of memory though `raw` spells nothing.
-fn decode(alloc: Global, raw: &[u8]) -> Result<Unescaped, UnescapeError>
-    ensures { IfOk result (λ found. unescape_result raw.now ≡ Ok (found.bytes.items, found.odd)) }
+// Puts what `raw` spells into `bytes`, in one walk over it, and answers whether an escape is odd.
+// The error may be `Memory` though `raw` spells nothing.
+fn decode(bytes: &mut Vec<u8>, raw: &[u8]) -> Result<bool, UnescapeError>
+    ensures { IfOk result (λ odd. unescape_result raw.now ≡ Ok (bytes.new.items, odd)) }
 {
     let mut pieces = Pieces::new(raw);
+    bytes.clear();
     // a value is no longer than its text
-    let mut bytes = Vec::with_capacity(alloc, raw.len())?;
+    bytes.reserve(raw.len())?;
     let mut odd = false;
     loop {
         bytes.extend_from_slice(pieces.take_literal())?;
         let Some(piece) = pieces.next_piece()? else {
-            return Ok(Unescaped { bytes, odd });
+            return Ok(odd);
         };
         bytes.push(piece.byte)?;
         odd |= piece.odd;
     }
 }
 
-/// The bytes that `raw` stands for, by the escapes of terminfo(5), "Types of capabilities", and X/Open
+/// The bytes that `raw` spells, by the escapes of terminfo(5), "Types of capabilities", and X/Open
 /// Curses Issue 7, "Terminfo Source Format".
 ///
-/// A `^` just after a `%` is literal, so that the operator `%^` stays as it is. A backslash before any
-/// other byte than those that the manual names gives that byte, and at the end of the text itself;
-/// the answer is then `odd`.
+/// A `^` just after a `%` is literal, so that the operator `%^` stays as it is. A backslash before
+/// a byte that the manual does not name spells that byte; a backslash at the end of the text spells
+/// itself. In both cases the answer is `odd`.
 ///
 /// # Errors
 ///
-/// The first fault of the text: `BadOctal` for a value over 255, `BadControl` for a `^` that takes no
-/// byte, `BadByte` for a NUL outside of a pair. `Memory` only where the text has none of these.
+/// The first fault of the text: `BadOctal` for a value over 255, `BadControl` for a `^` before a
+/// byte that it does not take, `BadByte` for a NUL outside of a pair. `Memory` comes only if the
+/// text has none of these.
 pub fn unescape(alloc: Global, raw: &[u8]) -> Result<Unescaped, UnescapeError>
     ensures ok { IfOk result (λ found. Spells raw.now found.bytes.items found.odd) }
     ensures err { IfErr result (λ cause. IsCauseOf cause raw.now) }
     ensures no_nul { IfOk result (λ found. HasNoNul found.bytes.items) }
     ensures no_longer { IfOk result (λ found. length found.bytes.items ≤ length raw.now) }
 {
-    if let Ok(found) = decode(alloc, raw) {
-        return Ok(found);
+    let mut bytes = Vec::new(alloc);
+    let odd = unescape_into(&mut bytes, raw)?;
+    Ok(Unescaped { bytes, odd })
+}
+
+/// Puts the bytes that `raw` spells, which [`unescape`] gives, into `bytes` in the place of what was
+/// there, and answers whether an escape is odd. Room that `bytes` has is used again.
+///
+/// # Errors
+///
+/// Those of [`unescape`]. What `bytes` has then is not told.
+pub fn unescape_into(bytes: &mut Vec<u8>, raw: &[u8]) -> Result<bool, UnescapeError>
+    ensures ok { IfOk result (λ odd. Spells raw.now bytes.new.items odd) }
+    ensures err { IfErr result (λ cause. IsCauseOf cause raw.now) }
+    ensures no_nul { IfOk result (λ odd. HasNoNul bytes.new.items) }
+    ensures no_longer { IfOk result (λ odd. length bytes.new.items ≤ length raw.now) }
+{
+    if let Ok(odd) = decode(bytes, raw) {
+        return Ok(odd);
     }
     check(raw)?;
     Err(UnescapeError::Memory)
 }
-
-/// Each text spells one value or has one first fault, and a value is no longer than its text.
-pub fn one_outcome()
-    ensures outcome { OneOutcome }
-    ensures values { ValuesAreSound }
-{}

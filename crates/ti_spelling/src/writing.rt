@@ -1,4 +1,4 @@
-//! String values as terminfo(5) spells them: writing.
+//! Writes string values as terminfo(5) spells them.
 
 ghost use Rattle.std.specs.Prelude.{◌≡◌, ◌+◌, ◌*◌, ◌^◌, ◌<◌, ◌≤◌, ◌++◌, ◌∷◌, [], length, OnErr, OnOk, IfOk, vec_len, vec_capacity};
 ghost use Rattle.ti_spelling.specs.Spelling.{short_escape, octal_text, byte_text, spelling_of, WrittenSpells};
@@ -7,7 +7,8 @@ ghost use Rattle.ti_spelling.specs.inside.Writing.{is_plain};
 use std::alloc::{AllocError, Global};
 use ti_text::room::append_reserved;
 
-/// Whether `byte` is its own text wherever it stands. Most bytes of most values are, and need no look at the tables.
+// Whether `byte` is its own text wherever it is. Most bytes of most values are, and need no look
+// at the tables.
 #[inline(always)]
 fn is_plain(byte: u8) -> bool
     ensures { result ≡ is_plain byte }
@@ -15,7 +16,7 @@ fn is_plain(byte: u8) -> bool
     matches!(byte, b'!'..=b'+' | b'-'..=b'[' | b']' | b'_'..=b'~')
 }
 
-/// The letter that stands for `byte` behind a backslash, where there is one.
+// The letter that spells `byte` after a backslash, if there is one.
 fn short_escape(byte: u8) -> Option<u8>
     ensures { result ≡ short_escape byte }
 {
@@ -35,7 +36,7 @@ fn short_escape(byte: u8) -> Option<u8>
 /// The most bytes that the text of one byte has.
 pub const MOST_ESCAPED: usize = 4;
 
-/// Appends a backslash and three octal digits, for which there is room.
+// Appends a backslash and three octal digits. There is room for them.
 fn write_octal(text: &mut Vec<u8>, byte: u8)
     requires { vec_len text.old + 4 ≤ vec_capacity text.old }
     ensures items { text.new.items ≡ text.old.items ++ octal_text byte }
@@ -51,7 +52,7 @@ fn write_octal(text: &mut Vec<u8>, byte: u8)
     append_reserved(text, &digits);
 }
 
-/// Appends two bytes, for which there is room.
+// Appends two bytes. There is room for them.
 fn write_pair(text: &mut Vec<u8>, first: u8, second: u8)
     requires { vec_len text.old + 2 ≤ vec_capacity text.old }
     ensures items { text.new.items ≡ text.old.items ++ first ∷ second ∷ [] }
@@ -62,8 +63,8 @@ fn write_pair(text: &mut Vec<u8>, first: u8, second: u8)
     text.push_reserved(second);
 }
 
-/// Appends the text of one byte: `percent` where it follows a `%`, `edge` where it is the first or the
-/// last of its value. There is room for any such text.
+// Appends the text of one byte: `percent` if it follows a `%`, `edge` if it is the first or the
+// last of its value. There is room for any such text.
 #[tactic(auto, unfolding(crate::specs::Spelling::byte_text))]
 fn write_byte(text: &mut Vec<u8>, percent: bool, edge: bool, byte: u8)
     requires { vec_len text.old + 4 ≤ vec_capacity text.old }
@@ -90,46 +91,8 @@ fn write_byte(text: &mut Vec<u8>, percent: bool, edge: bool, byte: u8)
     }
 }
 
-/// How many bytes the text of one byte has, where `percent` and `edge` are as in [`write_byte`].
-#[tactic(auto, unfolding(crate::specs::Spelling::byte_text))]
-fn byte_len(percent: bool, edge: bool, byte: u8) -> usize
-    ensures value { result ≡ length (byte_text percent edge byte) }
-    ensures most { result ≤ 4 }
-{
-    if is_plain(byte) {
-        return 1;
-    }
-    if short_escape(byte).is_some() {
-        return 2;
-    }
-    match byte {
-        b' ' if edge => 2,
-        b'^' if !percent => 2,
-        0x1c | 0x80..=0xff => 4,
-        0x01..=0x1f | 0x7f if percent => 4,
-        0x01..=0x1f | 0x7f => 2,
-        _ => 1,
-    }
-}
-
-/// How many bytes the text has that spells `value`: one to four for each of its bytes.
-pub fn escaped_len(value: &[u8]) -> usize
-    requires { length value.now < 2 ^ 61 }
-    ensures len { result ≡ length (spelling_of value.now) }
-    ensures most { result ≤ 4 * length value.now }
-{
-    let mut len = 0;
-    let mut before = 0;
-    for (i, &byte) in value.iter().enumerate() {
-        let at_edge = i == 0 || i == value.len() - 1;
-        len += byte_len(before == b'%', at_edge, byte);
-        before = byte;
-    }
-    len
-}
-
-/// Appends the text that spells `value`, as [`escape`] gives it, into room for four bytes for each of its own. It takes no
-/// memory.
+/// Appends the text that spells `value`, as [`escape`] gives it, into room for four bytes for each
+/// of its bytes. It takes no memory.
 pub fn write_escaped(text: &mut Vec<u8>, value: &[u8])
     requires { vec_len text.old + 4 * length value.now ≤ vec_capacity text.old }
     ensures items { text.new.items ≡ text.old.items ++ spelling_of value.now }
@@ -148,7 +111,7 @@ pub fn write_escaped(text: &mut Vec<u8>, value: &[u8])
 ///
 /// # Errors
 ///
-/// `AllocError` where there is no room for the text; nothing has then been appended.
+/// `AllocError` if there is no room for the text; then nothing has been appended.
 pub fn push_escaped(text: &mut Vec<u8>, value: &[u8]) -> Result<(), AllocError>
     ensures items { OnOk result (text.new.items ≡ text.old.items ++ spelling_of value.now) }
     ensures err { OnErr result (text.new.items ≡ text.old.items) }
@@ -158,13 +121,13 @@ pub fn push_escaped(text: &mut Vec<u8>, value: &[u8]) -> Result<(), AllocError>
     Ok(())
 }
 
-/// The text that spells `value`: what `unescape` reads as it, where it holds no NUL.
+/// The text that spells `value`: `unescape` reads it as `value` if `value` holds no NUL.
 ///
 /// A NUL is written `\0`, which reads as 0200.
 ///
 /// # Errors
 ///
-/// `AllocError` where there is no room for the text.
+/// `AllocError` if there is no room for the text.
 pub fn escape(alloc: Global, value: &[u8]) -> Result<Vec<u8>, AllocError>
     ensures { IfOk result (λ text. text.items ≡ spelling_of value.now) }
 {
@@ -172,8 +135,3 @@ pub fn escape(alloc: Global, value: &[u8]) -> Result<Vec<u8>, AllocError>
     push_escaped(&mut text, value)?;
     Ok(text)
 }
-
-/// What is written reads back.
-pub fn written_spells()
-    ensures { WrittenSpells }
-{}

@@ -9,10 +9,10 @@ use Rattle.ti_text.specs.Lines.{line_count, LinesAdd}
 pub lines_add : LinesAdd
 lines_add a b = sum_by-append (λ x. cond (x == ascii.newline) 1 0) a b
 
--- a part of the text more
+-- one more part of the text
 pub lines_of_more : (text : List ℕ) (at n : ℕ) → line_count (take (at + n) text) ≡ line_count (take at text) + line_count (chunk at n text)
 lines_of_more text at n = ap line_count (take-add at n text) ∙ lines_add (take at text) (take n (drop at text))
 
--- those before a place and those behind it
+-- the lines before a place and those after it
 pub lines_about : (text : List ℕ) (at : ℕ) → line_count (take at text) + line_count (drop at text) ≡ line_count text
 lines_about text at = sum_by-take-drop (λ x. cond (x == ascii.newline) 1 0) text at

@@ -1,4 +1,5 @@
--- The bytes of ASCII that terminfo gives a meaning, by their names; any other by its character, as `ascii.byte_of "E"`.
+-- The bytes of ASCII that terminfo gives a meaning, by their names. Any other byte is named by its
+-- character, as in `ascii.byte_of "E"`.
 use Prim.Native.Char.{Char, code}
 use Rattle.std.specs.Prelude.{ℕ}
 
@@ -6,7 +7,7 @@ use Rattle.std.specs.Prelude.{ℕ}
 abbrev pub byte_of : Char → ℕ
 byte_of c = code c
 
--- how many bytes ASCII has: each byte from here on is none of it
+-- how many bytes ASCII has: a byte that is no less is not ASCII
 abbrev pub size : ℕ
 size = 128
 
@@ -16,7 +17,7 @@ size = 128
 abbrev pub nul : ℕ
 nul = 0
 
--- 0x80, which stands in a string for the NUL that would end it
+-- 0x80, which a string has in the place of a NUL, which would end it
 abbrev pub in_place_of_nul : ℕ
 in_place_of_nul = 128
 

@@ -1,4 +1,5 @@
--- The limits of the product: those of an entry are the formats' of term(5), the others are own.
+-- The limits of the product. Those of an entry are those of the formats of term(5). The others are
+-- own.
 use Rattle.std.specs.Prelude.{ℕ}
 
 -- the most bytes of a block of source
@@ -9,7 +10,7 @@ block_bytes_max = 1048576
 abbrev pub blocks_max : ℕ
 blocks_max = 65535
 
--- the most bytes of a names field; an entry has one more, its NUL (term(5) has room for 128)
+-- the most bytes of a names field; an entry has one more, its NUL (term(5) allows 128)
 abbrev pub names_max : ℕ
 names_max = 127
 

@@ -2,7 +2,7 @@
 use Rattle.std.specs.Prelude.{◌≡◌, ℕ, ◌+◌, ◌==◌, List, ◌++◌, count_by}
 use Rattle.ti_text.specs.Ascii as ascii
 
--- how many newlines a text has, which is how many lines where the last of them is ended
+-- how many newlines a text has: this is how many lines it has if the last of them is ended
 abbrev pub line_count : List ℕ → ℕ
 line_count text = count_by (λ byte. byte == ascii.newline) text
 

@@ -15,7 +15,7 @@ abbrev pub is_empty : List ℕ → Bool
 is_empty [] = true
 is_empty (x ∷ xs) = false
 
--- the last byte of a text, or `before` where it is empty
+-- the last byte of a text, or `before` if it is empty
 abbrev pub last_byte : ℕ → List ℕ → ℕ
 last_byte before [] = before
 last_byte before (x ∷ xs) = last_byte x xs

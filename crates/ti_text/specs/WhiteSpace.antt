@@ -1,5 +1,5 @@
--- White space of the source format (X/Open Curses Issue 7, "Terminfo Source Format"): spaces and tabs alone. A carriage
--- return is none (own).
+-- White space of the source format (X/Open Curses Issue 7, "Terminfo Source Format"): spaces and
+-- tabs alone. A carriage return is not white space (own).
 use Rattle.std.specs.Prelude.{ℕ, Bool, ◌||◌, ◌==◌}
 use Rattle.ti_text.specs.Ascii as ascii
 

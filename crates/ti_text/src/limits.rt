@@ -6,7 +6,7 @@ pub const BLOCK_BYTES_MAX: usize = 1_048_576;
 /// The most blocks of a source.
 pub const BLOCKS_MAX: usize = 65_535;
 
-/// The most bytes of a names field; an entry has one more, its NUL (term(5)).
+/// The most bytes of a names field. An entry has one more, its NUL (term(5)).
 pub const NAMES_MAX: usize = 127;
 
 /// The most bytes of an entry in the legacy storage format (term(5)).

@@ -8,7 +8,7 @@ use std::simd::prelude::*;
 // How many bytes are looked at together.
 const LANES: usize = 32;
 
-// How many of the bytes from a place on, of as many as are looked at together, are newlines.
+// How many newlines are in the bytes from a place on, of as many bytes as are looked at together.
 fn count_in(text: &[u8], at: usize) -> u32
     requires { at + 32 ≤ length text.now }
     ensures { result ≡ line_count (chunk at 32 text.now) }
@@ -19,7 +19,7 @@ fn count_in(text: &[u8], at: usize) -> u32
         .count_ones()
 }
 
-// How many lines of a text end, by each of its bytes.
+// How many lines of a text end, counted byte by byte.
 fn count_each(text: &[u8]) -> usize
     ensures lines { result ≡ line_count text.now }
     ensures within { result ≤ length text.now }
@@ -40,8 +40,3 @@ pub fn count_lines(text: &[u8]) -> usize
     }
     lines + count_each(&text[at..])
 }
-
-/// Joined texts have the lines of both.
-pub fn lines_add()
-    ensures { LinesAdd }
-{}

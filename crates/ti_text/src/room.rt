@@ -1,7 +1,7 @@
-//! Growth in room that was made before, so that nothing can fail midway.
-ghost use Rattle.std.specs.Prelude.{◌≡◌, ◌+◌, ◌<◌, ◌≤◌, ◌++◌, insert, length, replicate, vec_len, vec_capacity};
+//! Growth into room that was made before, so that nothing can fail midway.
+ghost use Rattle.std.specs.Prelude.{◌≡◌, ◌+◌, ◌≤◌, ◌++◌, length, replicate, vec_len, vec_capacity};
 
-/// Appends the bytes, for which the caller has made room.
+/// Appends the bytes. The caller has made room for them.
 pub fn append_reserved(out: &mut Vec<u8>, bytes: &[u8])
     requires { vec_len out.old + length bytes.now ≤ vec_capacity out.old }
     ensures items { out.new.items ≡ out.old.items ++ bytes.now }
@@ -11,7 +11,7 @@ pub fn append_reserved(out: &mut Vec<u8>, bytes: &[u8])
     out.extend_from_slice(bytes).unwrap();
 }
 
-/// Appends the byte `count` times, for which the caller has made room.
+/// Appends the byte `count` times. The caller has made room for them.
 pub fn fill_reserved(out: &mut Vec<u8>, byte: u8, count: usize)
     requires { vec_len out.old + count ≤ vec_capacity out.old }
     ensures items { out.new.items ≡ out.old.items ++ replicate count byte }
@@ -19,13 +19,4 @@ pub fn fill_reserved(out: &mut Vec<u8>, byte: u8, count: usize)
     ensures capacity { vec_capacity out.old ≤ vec_capacity out.new }
 {
     out.resize(out.len() + count, byte).unwrap();
-}
-
-/// Puts an item in at a place, for which the caller has made room.
-pub fn insert_reserved<T: Drop>(items: &mut Vec<T>, at: usize, item: T)
-    requires within { at ≤ vec_len items.old }
-    requires room { vec_len items.old < vec_capacity items.old }
-    ensures { items.new.items ≡ insert items.old.items at item }
-{
-    items.insert(at, item).unwrap();
 }

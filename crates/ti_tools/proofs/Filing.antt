@@ -18,7 +18,7 @@ use Rattle.ti_tools.specs.inside.EntryFiles.{IsAsciiName}
 use Rattle.ti_tools.specs.EntryFiles.{files_at, files_for, files_from, source_files, own_names}
 use Rattle.ti_devices.specs.Paths.{path_of}
 
--- the files for names that stand behind others
+-- the files for names that follow others
 abbrev pub files_behind : List ℕ → List ℕ → List Reading → ℕ → List (List ℕ) → List (List ℕ) → List FileAt
 files_behind dir image blocks at before rest =
     files_for dir image (filter (λ name. is_owner blocks name at) (distinct_after before rest))
@@ -41,7 +41,7 @@ files_behind-own : (dir image : List ℕ) (blocks : List Reading) (at : ℕ) (be
     → files_behind dir image blocks at before (name ∷ rest) ≡ (path_of dir name, image) ∷ files_behind dir image blocks at (before ++ name ∷ []) rest
 files_behind-own dir image blocks at before name rest new own = rw (new, own)
 
--- the names from a place on are the name there and those behind it
+-- the names from a place on are the name there and those after it
 names_from : (names : List (List ℕ)) (index : ℕ) (name : List ℕ) → index < length names → name ≡ get_or names index name
     → drop index names ≡ name ∷ drop (index + 1) names
 names_from names index name within is =

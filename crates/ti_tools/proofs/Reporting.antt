@@ -1,4 +1,4 @@
--- A test of the elements that a list stands for.
+-- A test of the elements of a list.
 use Rattle.std.proofs.Common.{◌≡◌, Bool, ◌||◌, List, [], ◌∷◌, map, refl, ap}
 use Rattle.std.specs.List.{list_any}
 

@@ -19,11 +19,11 @@ pub record Compilation : Type 0 where
   pub report : List ℕ
   pub status : ℕ
 
--- 1 where one of the faults is an error
+-- 1 if one of the faults is an error, else 0
 abbrev pub fault_status : List SourceFault → ℕ
 fault_status found = if list_any (λ (fault : SourceFault). is_error fault.code) found then 1 else 0
 
--- what comes of a source of these blocks, of which the first line has that number
+-- what comes of a source of these blocks, whose first line has that number
 abbrev pub compilation : Bool → List ℕ → ℕ → List (List ℕ) → Compilation
 compilation check dir first texts = record {
   files = if check then [] else source_files dir texts;
@@ -44,7 +44,8 @@ abbrev pub IsCompiled : List ℕ → Bool → List ℕ → TicOutcome → Type 0
 IsCompiled source check dir outcome =
     AreTaken (source_texts source) × (compilation_of outcome ≡ compilation check dir (first_line source) (source_texts source))
 
--- the answer is what comes of the source; want of memory comes only where it is not refused
+-- the answer is what comes of the source, or `Memory`, which comes only if the source is not
+-- refused
 abbrev pub IsTicAnswer : List ℕ → Bool → List ℕ → Result TicOutcome ToolError → Type 0
 IsTicAnswer source check dir (Ok outcome) = IsCompiled source check dir outcome
 IsTicAnswer source check dir (Err error) = IsSourceRefusal source error ⊎ ((error ≡ Memory) × AreTaken (source_texts source))

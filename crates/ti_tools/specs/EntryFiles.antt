@@ -1,5 +1,5 @@
--- The files of compiled entries (term(5), "Storage location"): one for each lookup name that a block owns, below a folder
--- of the name's first byte.
+-- The files of compiled entries (term(5), "Storage location"): one for each lookup name that a
+-- block owns, below a directory named by the name's first byte.
 use Rattle.std.specs.Prelude.{ℕ, suc, List, [], ◌∷◌, ◌++◌, map, filter, Option, Some, None}
 use Rattle.ti_text.specs.Ascii as ascii
 use Rattle.ti_source.specs.Reading.{Reading}
@@ -10,7 +10,7 @@ use Rattle.ti_meaning.specs.Compiled.{compiled}
 use Rattle.ti_devices.specs.Paths.{path_of}
 use Rattle.ti_devices.specs.Tree.{FileAt}
 
--- those of the names that belong to the block at that position, each once
+-- the names that belong to the block at that position, each once
 abbrev pub own_names : List Reading → ℕ → List (List ℕ) → List (List ℕ)
 own_names blocks at names = filter (λ name. is_owner blocks name at) (distinct names)
 
@@ -23,11 +23,12 @@ abbrev pub files_of_entry : List ℕ → List (List ℕ) → Option (List ℕ) �
 files_of_entry dir names None = []
 files_of_entry dir names (Some image) = files_for dir image names
 
--- the files of the block of this text at that position of a source, given by the texts of its blocks
+-- the files of the block of this text at that position of a source, given by the texts of its
+-- blocks
 abbrev pub files_at : List ℕ → List (List ℕ) → ℕ → List ℕ → List FileAt
 files_at dir texts at text = files_of_entry dir (own_names (readings texts) at (reading_of_text text).names) (compiled texts at)
 
--- those of these blocks, of which the first stands at that position
+-- the files of these blocks, of which the first is at that position
 abbrev pub files_from : List ℕ → List (List ℕ) → ℕ → List (List ℕ) → List FileAt
 files_from dir texts at [] = []
 files_from dir texts at (text ∷ rest) = files_at dir texts at text ++ files_from dir texts (suc at) rest

@@ -23,12 +23,13 @@ printed_listing mode.Common first others layout = flat_map (λ other. comparison
 printed_listing mode.Neither first others layout = flat_map (λ other. comparison first other rows.Neither layout.order) others
 printed_listing mode.Relative first others layout = relative first others layout
 
--- what is printed of one entry or none: their listings, and in another mode nothing, since it takes two
+-- what is printed of one entry or none: their listings, and in another mode nothing, since it takes
+-- two
 abbrev pub text_alone : InfocmpMode → List Entry → Layout → Option (List ℕ)
 text_alone mode.List entries layout = Some (listings_text entries layout)
 text_alone _ entries layout = None
 
--- what infocmp prints; none where a mode other than listing has fewer than two entries
+-- what infocmp prints; none if a mode other than listing has fewer than two entries
 abbrev pub infocmp_result : List Entry → InfocmpOptions → Option (List ℕ)
 infocmp_result [] options = text_alone options.mode [] options.layout
 infocmp_result (first ∷ []) options = text_alone options.mode (first ∷ []) options.layout

@@ -103,8 +103,8 @@ fn compile_source(
 }
 
 /// What `tic` makes of a source: the files of its compiled entries, a report of its faults, and a
-/// status. A missing newline at its end is added. The source, the terminals' descriptions, is that of
-/// terminfo(5); a file of an entry is that of term(5), below `options.dir` as tic(1) has it.
+/// status. A missing newline at its end is added. The source, the terminals' descriptions, is that
+/// of terminfo(5). A file of an entry is that of term(5), below `options.dir` as tic(1) has it.
 ///
 /// # Errors
 /// `BlockTooLong` or `TooManyBlocks`, of the first block at which one of them holds; then `Memory`.

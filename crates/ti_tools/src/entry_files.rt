@@ -33,8 +33,8 @@ fn see<'a>(seen: &mut BTreeSet<&'a [u8]>, name: &'a [u8]) -> Result<bool, AllocE
     Ok(seen.insert(name)?)
 }
 
-// Whether a name of the block at `at` has a file of its own: it is the block's, and none of those seen.
-// Then it is seen from now on.
+// Whether a name of the block at `at` has a file of its own: it is the block's, and none of those
+// seen. Then it is seen from now on.
 fn has_file<'a>(
     database: &Database,
     seen: &mut BTreeSet<&'a [u8]>,
@@ -118,7 +118,7 @@ fn add_block(
 /// The files of all compiled entries of a source, in the order of its blocks and of their names.
 ///
 /// # Errors
-/// Want of memory.
+/// `AllocError` if memory ran out.
 pub fn entry_files(alloc: Global, database: &Database, dir: &str) -> Result<Vec<File>, AllocError>
     ensures { IfOk result (λ files. entries files.items ≡ source_files dir.now database.now) }
 {

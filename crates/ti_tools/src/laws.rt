@@ -1,6 +1,7 @@
-//! The laws of compiling what was listed: the listing of a compiled entry compiles to the entry, byte for byte, and so does its
-//! relative source, with the listings of the entries that it uses behind it. They compute nothing: each is the contract of a
-//! function that has no code but calls of other laws.
+//! The laws of compiling what was listed: the listing of a compiled entry compiles to the entry,
+//! byte for byte, and so does its relative source, with the listings of the entries that it uses
+//! after it. They compute nothing: each is the contract of a function whose code only calls other
+//! laws.
 
 pub use ti_relisting::{
     listings_are_laid_out, listings_compile, listings_compile_back, parts_are_blocks,

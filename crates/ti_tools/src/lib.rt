@@ -7,19 +7,19 @@
 //! - `stopping`: how a tool that stops ends: its status, and the line on standard error
 //! - `laws`: that the listing of an entry, and its relative source, compile back to the entry
 //!
-//! The crate `ti_commands` below it has the command lines and their jobs, `ti_session` the session, and
-//! `ti_devices` the counted devices, the trees of files and the errors of the tools; what users of the
-//! tools need of them is public here too, as is `ti_tput`.
+//! The crate `ti_commands` has the command lines and their jobs, `ti_session` the session, and
+//! `ti_devices` the counted devices, the trees of files and the errors of the tools. What users of
+//! the tools need of them is public here too, as is `ti_tput`.
 #![tactic(auto)]
 
-pub mod compiling;
+mod compiling;
 mod entry_files;
-pub mod laws;
+mod laws;
 mod listings;
 mod loading;
 mod outcome;
 mod sources;
-pub mod stopping;
+mod stopping;
 
 pub use compiling::tic;
 pub use listings::{InfocmpOptions, infocmp};
@@ -27,7 +27,10 @@ pub use outcome::{TicOptions, TicOutcome};
 pub use sources::sources_have_one_refusal;
 pub use stopping::{message, status};
 pub use ti_commands::{InfocmpMode, Job, Refusal, UsageError, job, job_or_refusal};
-pub use ti_devices::{Counted, File, MemTree, Tally, ToolError, Tree, TreeFault, place};
+pub use ti_devices::{
+    Counted, File, MemTree, SYSTEM_DIRECTORY, Tally, ToolError, Tree, TreeFault, entry, locate,
+    place, places,
+};
 pub use ti_list::{Layout, Order};
 pub use ti_session::session;
-pub use ti_tput::{TputOutcome, entry, locate, places, tput, tput_lines};
+pub use ti_tput::{TputOutcome, tput, tput_lines};

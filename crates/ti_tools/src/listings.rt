@@ -19,7 +19,7 @@ use ti_list::{Layout, ListError, Mode, Order, compare, list, relative};
 pub struct InfocmpOptions {
     /// What is printed.
     pub mode: InfocmpMode,
-    /// How source text is laid out; rows stand in its order.
+    /// How source text is laid out. The rows of a comparison are in its order.
     pub layout: Layout,
 }
 
@@ -103,11 +103,12 @@ fn beside_others(
     }
 }
 
-/// What `infocmp` prints of entries that were read, as infocmp(1) has it: each entry in turn as source text, the comparison of
-/// the first with each of the others in turn, or the first as source text that uses the others.
+/// What `infocmp` prints of entries that were read, as infocmp(1) has it: each entry in turn as
+/// source text, the comparison of the first with each of the others in turn, or the first as source
+/// text that uses the others.
 ///
 /// # Errors
-/// `Usage` where a mode other than listing has fewer than two entries; then `Memory`.
+/// `Usage` if a mode other than listing has fewer than two entries; then `Memory`.
 pub fn infocmp(
     alloc: Global,
     views: &[View<'_>],

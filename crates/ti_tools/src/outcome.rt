@@ -6,7 +6,7 @@ use ti_devices::File;
 pub struct TicOptions {
     /// Only report, and give no file.
     pub check: bool,
-    /// The folder that the paths begin with.
+    /// The directory with which the paths begin.
     pub dir: String,
 }
 
@@ -17,6 +17,6 @@ pub struct TicOutcome {
     pub files: Vec<File>,
     /// A line for each fault.
     pub report: Vec<u8>,
-    /// 1 where the report has an error, else 0.
+    /// 1 if the report has an error, else 0.
     pub status: u8,
 }

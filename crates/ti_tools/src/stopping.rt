@@ -1,10 +1,11 @@
 //! How a tool that stops ends: its exit status, and the line on standard error.
-ghost use Rattle.std.specs.Prelude.{◌≡◌, [], None, Some, codes, decimal, map, option_map};
+ghost use Rattle.std.specs.Prelude.{◌≡◌, [], map, option_map};
 ghost use Rattle.std.specs.List.{concat};
 ghost use Rattle.ti_devices.specs.Counted.{observation};
 ghost use Rattle.ti_devices.specs.Writing.{Wrote};
+ghost use Rattle.ti_devices.specs.declared.tool_error.ToolError.TheVariants.{BadEntry, BlockTooLong};
 ghost use Rattle.ti_tools.specs.Stopping.{plain_status, status_of, tput_status};
-ghost use Rattle.ti_tools.specs.Stopping.{is_known, line_parts, message_parts, message_text, plain_text, refusal_name, tool_name};
+ghost use Rattle.ti_tools.specs.Stopping.{capability_line, fault_line, is_known, message_text, refusal_name};
 
 use itoa::Buffer;
 use std::io::Write;
@@ -35,26 +36,15 @@ fn plain_status(error: &ToolError) -> u8
     }
 }
 
-/// The exit status of a tool that stops: 2 at bad usage, else 1; of `tput` 3 at an unknown terminal, at a bad entry and at a
-/// fault on the way to it, else 255. `found` says that the entry was read.
+/// The exit status of a tool that stops: 2 at bad usage, else 1. For `tput` it is 3 at an unknown
+/// terminal, at a bad entry and at a fault on the way to the entry, else 255. `found` says that the
+/// entry was read.
 pub fn status(job: &Job, error: &ToolError, found: bool) -> u8
     ensures { result ≡ status_of job.now error.now found }
 {
     match job {
         Job::Tput { .. } => tput_status(error, found),
         Job::Tic { .. } | Job::Session | Job::Infocmp { .. } => plain_status(error),
-    }
-}
-
-// The name of the tool of a job.
-fn tool_name(job: &Job) -> &'static [u8]
-    ensures { result.now ≡ tool_name job.now }
-{
-    match job {
-        Job::Tic { .. } => b"tic",
-        Job::Tput { .. } => b"tput",
-        Job::Session => b"session",
-        Job::Infocmp { .. } => b"infocmp",
     }
 }
 
@@ -71,23 +61,6 @@ fn refusal_name(error: ReadError) -> &'static [u8]
         ReadError::BadFlag => b"BadFlag",
         ReadError::BadNumber => b"BadNumber",
         ReadError::BadOffset => b"BadOffset",
-    }
-}
-
-// What a fault is called that has no name or number.
-fn plain_text(error: &ToolError) -> &'static [u8]
-    ensures { result.now ≡ plain_text error.now }
-{
-    match error {
-        ToolError::Usage => b"no terminal named",
-        ToolError::NoTerminal => b"unknown terminal",
-        ToolError::BadEntry(_) => b"bad entry",
-        ToolError::ReadFault => b"read fault",
-        ToolError::WriteFault => b"write fault",
-        ToolError::LineTooLong => b"line too long",
-        ToolError::BlockTooLong(_) => b"block too long",
-        ToolError::TooManyBlocks => b"too many blocks",
-        ToolError::Memory => b"out of memory",
     }
 }
 
@@ -108,82 +81,7 @@ fn write_parts<W: Write>(writer: &mut Counted<W>, parts: &[&[u8]]) -> Result<(),
     Ok(())
 }
 
-/// A line that begins with the name of a tool.
-#[derive(Clone, Copy)]
-struct Line<'a> {
-    tool: &'a [u8],
-    head: &'a [u8],
-    subject: &'a [u8],
-    link: &'a [u8],
-    detail: &'a [u8],
-    end: &'a [u8],
-}
-
-// Writes a line.
-fn write_line<W: Write>(writer: &mut Counted<W>, line: Line<'_>) -> Result<(), ToolError>
-    ensures { Wrote (observation W.contents writer.old) (observation W.contents writer.new)
-        (concat (line_parts line.entry.tool.now line.entry.head.now line.entry.subject.now
-        line.entry.link.now line.entry.detail.now line.entry.end.now)) result }
-{
-    write_parts(
-        writer,
-        &[
-            line.tool,
-            line.head,
-            line.subject,
-            line.link,
-            line.detail,
-            line.end,
-        ],
-    )
-}
-
-// The line of a fault that has no name or number.
-fn write_plain<W: Write>(
-    writer: &mut Counted<W>,
-    tool: &[u8],
-    error: &ToolError,
-) -> Result<(), ToolError>
-    ensures { Wrote (observation W.contents writer.old) (observation W.contents writer.new)
-        (concat (line_parts tool.now (codes ": ") [] [] (plain_text error.now) (codes "\n"))) result }
-{
-    write_line(
-        writer,
-        Line {
-            tool,
-            head: b": ",
-            subject: b"",
-            link: b"",
-            detail: plain_text(error),
-            end: b"\n",
-        },
-    )
-}
-
-// The line on a name.
-fn write_named<W: Write>(
-    writer: &mut Counted<W>,
-    tool: &[u8],
-    head: &[u8],
-    name: &[u8],
-) -> Result<(), ToolError>
-    ensures { Wrote (observation W.contents writer.old) (observation W.contents writer.new)
-        (concat (line_parts tool.now head.now name.now [] [] (codes "\"\n"))) result }
-{
-    write_line(
-        writer,
-        Line {
-            tool,
-            head,
-            subject: name,
-            link: b"",
-            detail: b"",
-            end: b"\"\n",
-        },
-    )
-}
-
-// The line on a bad entry.
+// The line on an entry that is refused.
 fn write_refusal<W: Write>(
     writer: &mut Counted<W>,
     tool: &[u8],
@@ -191,43 +89,23 @@ fn write_refusal<W: Write>(
     why: ReadError,
 ) -> Result<(), ToolError>
     ensures { Wrote (observation W.contents writer.old) (observation W.contents writer.new)
-        (concat (line_parts tool.now (codes ": bad entry \"") name.now (codes "\" (") (refusal_name why) (codes ")\n"))) result }
+        (fault_line tool.now name.now (BadEntry why)) result }
 {
-    write_line(
+    let why = refusal_name(why);
+    write_parts(
         writer,
-        Line {
-            tool,
-            head: b": bad entry \"",
-            subject: name,
-            link: b"\" (",
-            detail: refusal_name(why),
-            end: b")\n",
-        },
+        &[tool, b": bad entry \"", name, b"\" (", why, b")\n"],
     )
 }
 
 // The line on a block that is too long.
-fn write_block<W: Write>(
-    writer: &mut Counted<W>,
-    tool: &[u8],
-    number: usize,
-) -> Result<(), ToolError>
+fn write_block<W: Write>(writer: &mut Counted<W>, tool: &[u8], line: usize) -> Result<(), ToolError>
     ensures { Wrote (observation W.contents writer.old) (observation W.contents writer.new)
-        (concat (line_parts tool.now (codes ": ") [] (codes "block too long at line ") (decimal number) (codes "\n"))) result }
+        (fault_line tool.now [] (BlockTooLong line)) result }
 {
     let mut buffer = Buffer::new();
-    let detail = buffer.format(number).as_bytes();
-    write_line(
-        writer,
-        Line {
-            tool,
-            head: b": ",
-            subject: b"",
-            link: b"block too long at line ",
-            detail,
-            end: b"\n",
-        },
-    )
+    let line = buffer.format(line).as_bytes();
+    write_parts(writer, &[tool, b": block too long at line ", line, b"\n"])
 }
 
 // The line on a fault.
@@ -238,18 +116,20 @@ fn write_fault<W: Write>(
     error: &ToolError,
 ) -> Result<(), ToolError>
     ensures { Wrote (observation W.contents writer.old) (observation W.contents writer.new)
-        (concat (message_parts tool.now name.now (Some error.now))) result }
+        (fault_line tool.now name.now error.now) result }
 {
     match error {
-        ToolError::NoTerminal => write_named(writer, tool, b": unknown terminal \"", name),
+        ToolError::Usage => write_parts(writer, &[tool, b": no terminal named\n"]),
+        ToolError::NoTerminal => {
+            write_parts(writer, &[tool, b": unknown terminal \"", name, b"\"\n"])
+        },
         ToolError::BadEntry(why) => write_refusal(writer, tool, name, *why),
-        ToolError::BlockTooLong(number) => write_block(writer, tool, *number),
-        ToolError::Usage
-        | ToolError::ReadFault
-        | ToolError::WriteFault
-        | ToolError::LineTooLong
-        | ToolError::TooManyBlocks
-        | ToolError::Memory => write_plain(writer, tool, error),
+        ToolError::ReadFault => write_parts(writer, &[tool, b": read fault\n"]),
+        ToolError::WriteFault => write_parts(writer, &[tool, b": write fault\n"]),
+        ToolError::LineTooLong => write_parts(writer, &[tool, b": line too long\n"]),
+        ToolError::BlockTooLong(line) => write_block(writer, tool, *line),
+        ToolError::TooManyBlocks => write_parts(writer, &[tool, b": too many blocks\n"]),
+        ToolError::Memory => write_parts(writer, &[tool, b": out of memory\n"]),
     }
 }
 
@@ -260,20 +140,23 @@ fn write_capability<W: Write>(
     name: &[u8],
 ) -> Result<(), ToolError>
     ensures { Wrote (observation W.contents writer.old) (observation W.contents writer.new)
-        (concat (message_parts tool.now name.now None)) result }
+        (capability_line tool.now name.now) result }
 {
     if is_known(name) {
-        return write_named(writer, tool, b": bad string \"", name);
+        return write_parts(writer, &[tool, b": bad string \"", name, b"\"\n"]);
     }
-    write_named(writer, tool, b": unknown terminfo capability \"", name)
+    write_parts(
+        writer,
+        &[tool, b": unknown terminfo capability \"", name, b"\"\n"],
+    )
 }
 
-/// Writes the line for standard error on which a tool that stops says why: the name of the tool, what the fault is, and the
-/// name of the terminal that it speaks of, in quotes. `None` stands for the status 4 of `tput`: `name` is then a capability
-/// that is unknown, or whose string is bad.
+/// Writes the line for standard error on which a tool that stops says why: the name of the tool,
+/// the fault, and in quotes the `name` of the terminal that it is about. `None` means the status 4
+/// of `tput`: `name` is then a capability that is unknown, or whose string is bad.
 ///
 /// # Errors
-/// `WriteFault`.
+/// `WriteFault` if the stream fails.
 pub fn message<W: Write>(
     job: &Job,
     name: &str,
@@ -283,7 +166,7 @@ pub fn message<W: Write>(
     ensures { Wrote (observation W.contents writer.old) (observation W.contents writer.new)
         (message_text job.now name.now (option_map (λ e. e.now) error.entry)) result }
 {
-    let tool = tool_name(job);
+    let tool = job.tool_name().as_bytes();
     match error {
         None => write_capability(writer, tool, name.as_bytes()),
         Some(error) => write_fault(writer, tool, name.as_bytes(), error),

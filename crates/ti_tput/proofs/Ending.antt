@@ -23,7 +23,7 @@ use Rattle.ti_tput.specs.inside.Terminal.{HasCourse, Took}
 use Rattle.ti_tput.specs.declared.terminal.Terminal.{Terminal}
 use Rattle.ti_tput.proofs.Answering.{steps_taken}
 
--- what came of a line that is another line
+-- what came of a line is what came of another line
 pub Took-same : (entry : Entry) (rate : ℕ) (course : Course) (line other : List ℕ) (terminal : Terminal) (before now : Observed)
     (result : Result Unit ToolError) → line ≡ other → Took entry rate (line_step entry rate course line) terminal before now result
     → Took entry rate (line_step entry rate course other) terminal before now result
@@ -32,7 +32,7 @@ Took-same entry rate course line other terminal before now result same took =
 
 -- ---- lines
 
--- what comes of one line more
+-- what comes of one more line
 pub steps-push : (entry : Entry) (rate : ℕ) (course : Course) (lines : List (List ℕ)) (line : List ℕ)
     → steps entry rate course (lines ++ line ∷ []) ≡ record {
       after = (line_step entry rate (steps entry rate course lines).after line).after;
@@ -73,7 +73,7 @@ with_last-some lines [] some = absurd (omega arith)
 with_last-some lines (byte ∷ line) some = refl
 
 module _ (entry : Entry) (rate : ℕ) where
-  -- what stands after these lines, and what they write
+  -- what is after these lines, and what they write
   abbrev pub after_lines : List (List ℕ) → Course
   after_lines lines = (steps entry rate lines_start lines).after
 
@@ -87,7 +87,7 @@ module _ (entry : Entry) (rate : ℕ) where
   after_more : (lines : List (List ℕ)) (line : List ℕ) → (line_step entry rate (after_lines lines) line).after ≡ after_lines (lines ++ line ∷ [])
   after_more lines line = sym (ap (λ (s : LineStep). s.after) (steps-push entry rate lines_start lines line))
 
-  -- the lines that were read are answered, and what was read behind them is ahead
+  -- the lines that were read are answered, and what was read after them is ahead
   pub record Progress (given left : Observed) (reading : LineReader) (terminal : Terminal) (before now : Observed) : Type 0 where
     pub lines : List (List ℕ)
     pub are : AreLines lines
@@ -250,7 +250,7 @@ module _ (entry : Entry) (rate : ℕ) where
       CommandsEnd-fault TooManyBlocks r s = absurd r
       CommandsEnd-fault Memory r s = absurd r
 
-      -- the input has ended behind a newline
+      -- the input has ended after a newline
       pub CommandsEnd-end : ReadsLine reading next left later (Ok End) → (status : ℕ)
           → ((c : Course) → HasCourse entry rate terminal c → status ≡ run_status c.bad) → CommandsEnd entry rate given later before now (Ok status)
       CommandsEnd-end r status is = record {
@@ -268,7 +268,7 @@ module _ (entry : Entry) (rate : ℕ) where
         ends_with = is (after_lines p.lines) p.holds;
       }
 
-      -- the input has ended behind a last line without newline
+      -- the input has ended after a last line without newline
       module _ (r : ReadsLine reading next left later (Ok LastLine)) where
         gives-last : Gives given later (bytes_of p.lines ++ last_line_of next)
         gives-last = subst (λ (t : List ℕ). Gives given later (bytes_of p.lines ++ t)) r.2 (gives-more later r.0 r.1)

@@ -9,4 +9,3 @@ pub mod Terminals
 pub mod Answering
 pub mod Ending
 pub mod Expanded
-pub mod Searches

@@ -17,7 +17,7 @@ use Rattle.ti_tput.specs.Parameters.{is_numeral, negative_number, positive_numbe
 own : IsNumeralModel (λ ds. all_ascii_digits ds ≡ true) (digits_value 10)
 own = numerals_by_value _ tells_all_ascii_digits
 
--- an answer that is there just where a test passes
+-- an answer that is there exactly if a test passes
 ok_when : {E : Type 0} (r : Result ℤ E) (b : Bool) (Q : Type 0) (x : ℤ) → Decides b Q → OkIff r Q x
     → result_ok r ≡ cond b (Some x) None
 ok_when (Ok y) true Q x d h = ap Some h.1

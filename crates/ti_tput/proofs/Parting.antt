@@ -38,7 +38,7 @@ take-one : (n x : ℕ) (xs : List ℕ) → take (1 + n) (x ∷ xs) ≡ x ∷ tak
 take-one n x xs = let e : 1 + n ≡ suc n = omega arith in rw e refl
 
 module _ (w : ℕ → Bool) where
-  -- what parts words makes none in front
+  -- what separates words makes none in front
   skip : (t : List ℕ) → filter has_bytes (slice_split w (drop (position_or_len (λ byte. not (w byte)) t) t)) ≡ filter has_bytes (slice_split w t)
   skip [] = refl
   skip (x ∷ xs) =
@@ -48,7 +48,7 @@ module _ (w : ℕ → Bool) where
         | false ↦ λ e. rw e refl
       ] refl
 
-  -- the first part of a text that is cut, and the parts of what stands behind it
+  -- the first part of a text that is cut, and the parts of what follows it
   first_part : (t : List ℕ) → (parts : List (List ℕ)) × (slice_split w t ≡ take (position_or_len w t) t ∷ parts)
       × (filter has_bytes parts ≡ filter has_bytes (slice_split w (drop (position_or_len w t) t)))
   first_part [] = ([], refl, refl)
@@ -69,7 +69,7 @@ module _ (w : ℕ → Bool) where
       let passes : has_bytes (take (position_or_len w t) t) ≡ true = lt-ltb _ _ some in
       rw (h.1, passes, h.2) refl
 
--- the parts of a word that is followed by what parts words
+-- the parts of a word that is followed by white space
 pub words_of-none : (t : List ℕ) → position (λ byte. not (is_white_space byte)) t ≡ None → words_of t ≡ []
 unfolding words_of
 words_of-none t e =
@@ -132,7 +132,7 @@ module _ (t rest : List ℕ) (n : ℕ) (start : position (λ byte. not (is_white
         omega arith,
       )
 
--- so many words, at the front of more
+-- the given number of words, at the front of more
 pub take_front : {X : Type 0} (all : List (List ℕ)) (f : X → List ℕ) (xs : List X) (more : List (List ℕ)) (n : ℕ) → all ≡ map f xs ++ more → length xs ≡ n
     → map f xs ≡ take n all
 take_front all f xs more n is len =

@@ -44,7 +44,7 @@ row-pfkey : parameters (codes "pfkey") (codes "1" ∷ codes "23" ∷ []) ≡ num
 unfolding parameters word_number
 row-pfkey = refl
 
--- an entry of the example's kind: am, cols#80, bel=^G
+-- an entry like that of the example: am, cols#80, bel=^G
 dumb : Entry
 unfolding contents
 dumb = record {

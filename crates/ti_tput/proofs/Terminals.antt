@@ -18,7 +18,7 @@ of_rate entry rate t course holds = holds.of_rate ∙ ap (λ (e : Entry). line_a
 
 module _ (entry : Entry) (rate : ℕ) (course : Course) (t u : Terminal) (holds : HasCourse entry rate t course) (line : List ℕ) (words : List (List ℕ))
     (front : words ≡ take words_seen (words_of line)) (some : 0 < length words) (same_view : u.view ≡ t.view) (same_line : u.line ≡ t.line) where
-  -- what the terminal's answer says of the course
+  -- what the terminal's answer says of how the line went
   of_course : (r : Option Reply) → tput_result (shown_entry t.view) words rate t.statics ≡ r → tput_result entry words rate course.statics ≡ r
   of_course r is =
       subst (λ (e : Entry). tput_result e words rate course.statics ≡ r) holds.of_entry
@@ -52,7 +52,7 @@ module _ (entry : Entry) (rate : ℕ) (course : Course) (t u : Terminal) (holds 
           is.1 ∙ sym (ap (λ (s : LineStep). s.bytes) is.0),
         )
 
-    -- any other
+    -- any other line
     pub HasCourse-good : outcome.status ≢ 4 → u.bad ≡ t.bad
         → HasCourse entry rate u (line_step entry rate course line).after × (outcome.bytes.items ≡ (line_step entry rate course line).bytes)
     HasCourse-good other same =

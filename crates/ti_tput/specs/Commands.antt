@@ -7,7 +7,8 @@ use Rattle.ti_tput.specs.Replies.{reply_of}
 use Rattle.ti_tput.specs.Results.{Reply, Answers}
 use Rattle.ti_tput.specs.declared.replies.TputOutcome.{TputOutcome}
 
--- the answer to a command, whatever the variables are after it: bad usage where it is none, and want of memory where it is not
+-- the answer to a command, whatever the variables are after it: bad usage if the command is bad,
+-- and `Memory` only if it is not
 abbrev pub AnswersCommand : Entry → ℕ → List ℤ → List (List ℕ) → Result TputOutcome ToolError → Type 0
 AnswersCommand entry rate statics words (Ok outcome) = (after : List ℤ) × Answers entry rate statics words (Some (reply_of outcome after))
 AnswersCommand entry rate statics words (Err Usage) = Answers entry rate statics words None

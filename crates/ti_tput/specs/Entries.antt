@@ -1,4 +1,5 @@
--- What an entry has of a capability that is asked for by its name (terminfo(5)), and its line (terminfo(5), "Delays and Padding").
+-- What an entry has of a capability that is asked for by its name (terminfo(5)), and its line
+-- (terminfo(5), "Delays and Padding").
 use Rattle.std.specs.Prelude.{ℕ, Bool, false, if◌then◌else◌, List, codes, slice_index, Option, Some, None, option_map, unwrap_or}
 use Rattle.ti_caps.specs.Tables.{capability_named}
 use Rattle.ti_caps.specs.declared.capability.Kind.{Kind}
@@ -21,11 +22,11 @@ holding_as Flag content = flag_held (shown_flag content)
 holding_as Number content = number_held (shown_number content)
 holding_as Text content = text_held (shown_text content)
 
--- what the entry has of the capability of a name; None where no capability has the name
+-- what the entry has of the capability of a name; None if no capability has the name
 unfoldable pub holding_of : Entry → List ℕ → Option Holding
 holding_of entry name = option_map (λ c. holding_as c.kind (entry.contents c)) (capability_named name)
 
--- whether it is a flag that is set
+-- whether a boolean is set
 abbrev pub is_set_flag : Option Holding → Bool
 is_set_flag None = false
 is_set_flag (Some (flag_held set)) = set
@@ -39,24 +40,24 @@ given_number (Some (flag_held set)) = None
 given_number (Some (number_held n)) = n
 given_number (Some (text_held t)) = None
 
--- the value of a text that is there
+-- the value of a string that is there
 abbrev pub text_value : Option Holding → Option (List ℕ)
 text_value None = None
 text_value (Some (flag_held set)) = None
 text_value (Some (number_held n)) = None
 text_value (Some (text_held t)) = t
 
--- the first byte of a text, 0 where there is none
+-- the first byte of a string, 0 if it has none
 abbrev pub first_byte : Option (List ℕ) → ℕ
 first_byte None = 0
 first_byte (Some text) = slice_index text 0
 
--- the pad byte: none with `npc`, else the first byte of `pad`, 0 where it has none
+-- the pad byte: none with `npc`, else the first byte of `pad`, 0 if it has none
 abbrev pub pad_byte_of : Entry → Option ℕ
 pad_byte_of entry =
     if is_set_flag (holding_of entry (codes "npc")) then None else Some (first_byte (text_value (holding_of entry (codes "pad"))))
 
--- the line of a terminal at a rate: `xon`, and the least rate of padding `pb`, 0 where there is none
+-- the line of a terminal at a rate: `xon`, and the least rate of padding `pb`, 0 if there is none
 unfoldable pub line_at_rate : Entry → ℕ → Line
 line_at_rate entry rate = record {
   rate = rate;
@@ -67,7 +68,7 @@ line_at_rate entry rate = record {
 
 -- ---- own: what the code knows of an entry
 
--- what a value says, apart from where it lies in memory
+-- what a value says, wherever it is in memory
 abbrev pub value_meaning : CapabilityValue → Holding
 value_meaning (code.Flag set) = flag_held set
 value_meaning (code.Number n) = number_held n

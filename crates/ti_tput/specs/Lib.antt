@@ -6,4 +6,3 @@ pub mod Commands
 pub mod Runs
 pub mod inside
 pub mod Streaming
-pub mod Searching

@@ -29,8 +29,8 @@ word_number (byte ∷ rest) = if byte == ascii.minus then negative_number rest e
 
 -- ---- parameters
 
--- The places of the words that are texts, whatever they spell: the second of pfkey, pfloc, pfx and pln, and the second and
--- third of pfxl.
+-- The places of the words that are strings, whatever they spell: the second of pfkey, pfloc, pfx
+-- and pln, and the second and third of pfxl.
 abbrev pub is_text_place : List ℕ → ℕ → Bool
 is_text_place cap zero = false
 is_text_place cap (suc zero) =
@@ -39,17 +39,17 @@ is_text_place cap (suc zero) =
 is_text_place cap (suc (suc zero)) = bytes_eq cap (codes "pfxl")
 is_text_place cap (suc (suc (suc place))) = false
 
--- a word that spells a number is a number, any other a text
+-- a word that spells a number is a number, any other is a string
 abbrev pub spelled_argument : List ℕ → Option ℤ → FormatArgument
 spelled_argument word None = text word
 spelled_argument word (Some n) = number n
 
--- the word at a place as a parameter of the capability; one that is not given is the number 0
+-- the word at a place as a parameter of the capability; a word that is not given is the number 0
 abbrev pub parameter : List ℕ → ℕ → Option (List ℕ) → FormatArgument
 parameter cap place None = number (pos 0)
 parameter cap place (Some word) = if is_text_place cap place then text word else spelled_argument word (word_number word)
 
--- the parameter that stands at a place
+-- the parameter at a place
 abbrev pub parameter_at : List ℕ → List (List ℕ) → ℕ → FormatArgument
 parameter_at cap words place = parameter cap place (slice_get words place)
 

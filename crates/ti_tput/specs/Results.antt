@@ -25,18 +25,19 @@ reply bytes status statics = record { bytes = bytes; status = status; statics = 
 
 -- ---- strings
 
--- the bytes are the text padded for one line, and its padding is not too much
+-- the bytes are the string padded for one line, and its padding is not too much
 pub record IsSent (line : Line) (text bytes : List ℕ) : Type 0 where
   pub padded : IsPadded text 1 line bytes
   pub few : AsksForTooMuch text 1 line → ⊥
 
--- A string is sent, and the variables are then those after it. One with too much padding is refused: nothing is written, status 4,
--- and the variables are as before.
+-- A string is written, and the variables are then those after it. A string with too much padding is
+-- refused: nothing is written, the status is 4, and the variables are as before.
 pub data Sends (line : Line) (text : List ℕ) (before after : List ℤ) : Reply → Type 0 where
   sent : {bytes : List ℕ} → IsSent line text bytes → Sends line text before after (reply bytes 0 after)
   refused : AsksForTooMuch text 1 line → Sends line text before after (reply [] 4 before)
 
--- a string as it stands where there is no word, else expanded with the words; a fault of the format is refused as too much padding is
+-- a string as it is written if there is no word, else expanded with the words; a fault of the
+-- format is refused as too much padding is
 pub data AnswersString (line : Line) (cap : List ℕ) : List (List ℕ) → (statics : List ℤ) (text : List ℕ) → Reply → Type 0 where
   as_it_stands : {statics : List ℤ} {text : List ℕ} {answer : Reply} → Sends line text statics statics answer → AnswersString line cap [] statics text answer
   by_expansion : {word : List ℕ} {words : List (List ℕ)} {statics after : List ℤ} {text output : List ℕ} {answer : Reply} →
@@ -47,7 +48,7 @@ pub data AnswersString (line : Line) (cap : List ℕ) : List (List ℕ) → (sta
   by_overflow : {word : List ℕ} {words : List (List ℕ)} {statics : List ℤ} {text : List ℕ} {place : ℕ} →
       Overflows text (parameters cap (word ∷ words)) statics place → AnswersString line cap (word ∷ words) statics text (reply [] 4 statics)
 
--- the bytes are those of the strings that are present, each padded for itself, in order
+-- the bytes are those of the strings that are present, each padded by itself, in order
 pub data AreSent (line : Line) : List (Option (List ℕ)) → List ℕ → Type 0 where
   no_string : AreSent line [] []
   absent : {texts : List (Option (List ℕ))} {bytes : List ℕ} → AreSent line texts bytes → AreSent line (None ∷ texts) bytes
@@ -59,7 +60,7 @@ pub data OneAsksForTooMuch (line : Line) : List (Option (List ℕ)) → Type 0 w
   at_first : {text : List ℕ} {texts : List (Option (List ℕ))} → AsksForTooMuch text 1 line → OneAsksForTooMuch line (Some text ∷ texts)
   later : {text : Option (List ℕ)} {texts : List (Option (List ℕ))} → OneAsksForTooMuch line texts → OneAsksForTooMuch line (text ∷ texts)
 
--- strings are sent, or all refused where one has too much padding
+-- strings are written, or all are refused if one has too much padding
 pub data SendsAll (line : Line) (texts : List (Option (List ℕ))) (statics : List ℤ) : Reply → Type 0 where
   all_sent : {bytes : List ℕ} → AreSent line texts bytes → SendsAll line texts statics (reply bytes 0 statics)
   one_refused : OneAsksForTooMuch line texts → SendsAll line texts statics (reply [] 4 statics)
@@ -85,16 +86,18 @@ reset_strings entry = if some_present (own_reset_strings entry) then own_reset_s
 
 -- ---- commands
 
--- the description of the terminal: the names field after its last `|`, the whole of it where there is none
+-- the description of the terminal: the names field after its last `|`, the whole field if it has
+-- none
 abbrev pub long_name : List ℕ → List ℕ
 long_name names = after_last (λ byte. byte == ascii.bar) names
 
--- a number, or -1 where it is absent, and a newline
+-- a number, or -1 if it is absent, and a newline
 abbrev pub number_text : Option ℕ → List ℕ
 number_text None = codes "-1" ++ ascii.newline ∷ []
 number_text (Some n) = decimal n ++ ascii.newline ∷ []
 
--- what is answered of a capability: nothing is written of a flag or of a string that is absent, and the status is then 1
+-- what is answered of a capability: nothing is written of a boolean or of a string that is absent,
+-- and the status is then 1
 abbrev pub AnswersHolding : Line → List ℕ → List (List ℕ) → List ℤ → Option Holding → Reply → Type 0
 AnswersHolding line cap words statics None answer = answer ≡ reply [] 4 statics
 AnswersHolding line cap words statics (Some (flag_held set)) answer = answer ≡ reply [] (if set then 0 else 1) statics

@@ -1,4 +1,5 @@
--- What `tput -S` answers to the lines of its input (tput(1); the count of bad lines and the status are own).
+-- What `tput -S` answers to the lines of its input (tput(1); the count of bad lines and the status
+-- are own).
 use Rattle.std.specs.Prelude.{◌≡◌, ℕ, zero, suc, ◌+◌, ◌==◌, nat_lt, min, Bool, if◌then◌else◌, Option, Some, None, ℤ}
 use Rattle.std.specs.Prelude.{List, [], ◌∷◌, ◌++◌, length, filter}
 use Rattle.std.specs.List.{slice_split}
@@ -13,34 +14,34 @@ use Rattle.ti_tput.specs.Results.{Reply, Answers}
 abbrev pub has_bytes : List ℕ → Bool
 has_bytes word = nat_lt 0 (length word)
 
--- the words of a line, which white space parts
+-- the words of a line, separated by white space
 unfoldable pub words_of : List ℕ → List (List ℕ)
 words_of line = filter has_bytes (slice_split is_white_space line)
 
 -- ---- lines
 
--- what stands between two lines: how many were bad, and the static variables
+-- what is between two lines: how many were bad, and the static variables
 pub record Course : Type 0 where
   pub bad : ℕ
   pub statics : List ℤ
 
--- what comes of a line: what stands after it, and what it writes
+-- what comes of a line: what is after it, and what it writes
 pub record LineStep : Type 0 where
   pub after : Course
   pub bytes : List ℕ
 
--- a bad line writes nothing, and leaves the variables
+-- a bad line writes nothing, and leaves the variables as they were
 abbrev pub bad_step : Course → LineStep
 bad_step course = record { after = record { bad = suc course.bad; statics = course.statics }; bytes = [] }
 
--- a line is bad where it would end with status 2 or 4
+-- a line is bad if it would end with status 2 or 4
 abbrev pub reply_step : Course → Option Reply → LineStep
 reply_step course None = bad_step course
 reply_step course (Some reply) =
     if reply.status == 4 then bad_step course
     else record { after = record { bad = course.bad; statics = reply.statics }; bytes = reply.bytes }
 
--- what comes of the words of a line: nothing where there is none
+-- what comes of the words of a line: nothing if there is none
 pub data TakesWords (entry : Entry) (rate : ℕ) (course : Course) : List (List ℕ) → LineStep → Type 0 where
   no_words : TakesWords entry rate course [] (record { after = course; bytes = [] })
   of_command : {word : List ℕ} {words : List (List ℕ)} {answer : Option Reply} → Answers entry rate course.statics (word ∷ words) answer →
@@ -61,14 +62,14 @@ pub data TakesLines (entry : Entry) (rate : ℕ) : Course → List (List ℕ) �
 abbrev pub lines_start : Course
 lines_start = record { bad = 0; statics = no_variables }
 
--- 0 where no line was bad, else 4 and the count of bad lines, at most 255
+-- 0 if no line was bad, else 4 and the count of bad lines, at most 255
 abbrev pub run_status : ℕ → ℕ
 run_status zero = 0
 run_status (suc bad) = min 255 (4 + suc bad)
 
 -- ---- laws
 
--- a command that would end with status 4 writes nothing, and leaves the variables
+-- a command that would end with status 4 writes nothing, and leaves the variables as they were
 abbrev pub BadCommandsChangeNothing : Type 0
 BadCommandsChangeNothing = (entry : Entry) (words : List (List ℕ)) (rate : ℕ) (statics : List ℤ) (reply : Reply)
     → Answers entry rate statics words (Some reply) → reply.status ≡ 4 → (reply.bytes ≡ []) × (reply.statics ≡ statics)

@@ -20,12 +20,14 @@ command_line_max = 4096
 abbrev pub IsShortCommandLine : List ℕ → Type 0
 IsShortCommandLine line = IsWithin command_line_max line
 
--- of the bytes these lines are complete, each within the limit, and of a further line this front has come
+-- of the bytes these lines are complete, each within the limit, and this is the front of a further
+-- line
 pub record HasLines (taken : List ℕ) (lines : List (List ℕ)) (line : List ℕ) : Type 0 where
   pub split : Splits taken lines line
   pub short : AllByRecursion IsShortCommandLine lines
 
--- the input was read to its end, all that its lines write was written, and the status is that of its lines
+-- the input was read to its end, all that its lines write was written, and the status is that of
+-- its lines
 pub record CommandsComplete (entry : Entry) (rate : ℕ) (given left before now : Observed) (status : ℕ) : Type 0 where
   pub input : List ℕ
   pub lines : List (List ℕ)
@@ -52,7 +54,8 @@ pub record CommandsStopReading (entry : Entry) (rate : ℕ) (given left before n
   pub written : TakesAll before now step.bytes
   pub cause : CannotReadOn given left
 
--- a line that has begun is over the limit: what the lines before it write was written, and some bytes more were read
+-- a line that has begun is over the limit: what the lines before it write was written, and some
+-- bytes more were read
 pub record CommandsFindLongLine (entry : Entry) (rate : ℕ) (given left before now : Observed) : Type 0 where
   pub taken : List ℕ
   pub rest : List ℕ
@@ -65,7 +68,8 @@ pub record CommandsFindLongLine (entry : Entry) (rate : ℕ) (given left before 
   pub takes : TakesLines entry rate lines_start lines step
   pub written : TakesAll before now step.bytes
 
--- memory was wanting for a line: what the lines before it write was written, and some bytes more were read
+-- there was no memory for a line: what the lines before it write was written, and some bytes more
+-- were read
 pub record WantsMemory (entry : Entry) (rate : ℕ) (given left before now : Observed) : Type 0 where
   pub taken : List ℕ
   pub rest : List ℕ
@@ -78,13 +82,15 @@ pub record WantsMemory (entry : Entry) (rate : ℕ) (given left before now : Obs
   pub takes : TakesLines entry rate lines_start lines step
   pub written : TakesAll before now step.bytes
 
--- the lines of which a run has begun to write: those that are complete, or, where the input has ended, all
+-- the lines of which a run has begun to write: those that are complete, or, if the input has ended,
+-- all
 abbrev pub AreBegun : List ℕ → List ℕ → Observed → List (List ℕ) → Type 0
 AreBegun taken rest left begun =
     ((line : List ℕ) × HasLines taken begun line)
     ⊎ ((lines : List (List ℕ)) × (line : List ℕ) × HasLines taken lines line × (rest ≡ []) × IsAtEnd left.bytes × (begun ≡ with_last lines line))
 
--- the writer failed: what these lines write was written up to some byte, and some bytes more were read
+-- the writer failed: what these lines write was written up to some byte, and some bytes more were
+-- read
 pub record CommandsStopWriting (entry : Entry) (rate : ℕ) (given left before now : Observed) : Type 0 where
   pub taken : List ℕ
   pub rest : List ℕ

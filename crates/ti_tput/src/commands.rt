@@ -1,4 +1,4 @@
-//! `tput` of one command: a capability's name, and the words after it.
+//! The command `tput`: a capability's name, and the words after it.
 ghost use Rattle.std.specs.Prelude.{◌≡◌, ℕ, ℤ, List, OnErr, map};
 ghost use Rattle.ti_layout.specs.View.{Entry, shown_entry};
 ghost use Rattle.ti_param.specs.Meaning.{no_variables};
@@ -17,7 +17,8 @@ use ti_layout::View;
 use ti_param::{Line, Statics};
 use ti_text::limits::PARAMETERS_MAX;
 
-/// What a command is answered on the line of its terminal, with the static variables of the commands before it.
+/// The answer to a command on the line of its terminal, with the static variables of the commands
+/// before it.
 #[tactic(auto, unfolding(crate::specs::inside::Results::tput_result))]
 pub(crate) fn answer(
     alloc: Global,
@@ -42,19 +43,21 @@ pub(crate) fn answer(
     }
 }
 
-/// What a capability's name and its parameters are answered, as tput(1) has it: the bytes for standard output, and the exit
-/// status.
+/// The answer to a capability's name and its parameters, as tput(1) has it: the bytes for standard
+/// output, and the exit status.
 ///
-/// A flag writes nothing, and its status is 0 where it is set, else 1. A number is written with a newline, as `-1` where it
-/// is absent. A string is written with its padding at `rate` bits a second; without a parameter it stands as it is, else it
-/// is expanded with the parameters. `longname` writes the terminal's description, `init` and `reset` the strings that
-/// initialize or reset it. Where the status is 1 or 4 nothing is written.
+/// A boolean writes nothing, and its status is 0 if it is set, else 1. A number is written with a
+/// newline, as `-1` if it is absent. A string is written with its padding at `rate` bits per
+/// second; without a parameter it is written as it is, else it is expanded with the parameters.
+/// `longname` writes the terminal's description, `init` and `reset` the strings that initialize or
+/// reset it. If the status is 1 or 4, nothing is written.
 ///
-/// A word that is an optional `-` and decimal digits, from -2,147,483,648 to 2,147,483,647, is a number, any other a text; so
-/// is the second parameter of `pfkey`, `pfloc`, `pfx` and `pln`, and the second and third of `pfxl`.
+/// A word that is an optional `-` and decimal digits, from -2,147,483,648 to 2,147,483,647, is a
+/// number, and any other word is a string. The second parameter of `pfkey`, `pfloc`, `pfx` and
+/// `pln`, and the second and third of `pfxl`, are always strings.
 ///
 /// # Errors
-/// `Usage` where there is no word, or more than nine parameters; then `Memory`.
+/// `Usage` if there is no word, or more than nine parameters; then `Memory`.
 pub fn tput(
     alloc: Global,
     view: &View<'_>,
@@ -67,13 +70,3 @@ pub fn tput(
     let mut statics = Statics::new();
     answer(alloc, view, &line, words, &mut statics)
 }
-
-/// A command that would end with status 4 writes nothing, and leaves the static variables.
-pub fn bad_commands_change_nothing()
-    ensures { BadCommandsChangeNothing }
-{}
-
-/// The law of answers: each command has exactly one.
-pub fn one_answer()
-    ensures { (entry : Entry) (rate : ℕ) (statics : List ℤ) (words : List (List ℕ)) → HasOneAnswer entry rate statics words }
-{}

@@ -10,15 +10,15 @@ use ti_param::Line;
 /// What an entry has of a capability.
 #[derive(Clone, Copy)]
 pub enum CapabilityValue<'a> {
-    /// Whether the flag is set.
+    /// Whether the boolean is set.
     Flag(bool),
-    /// The number, where there is one.
+    /// The number, if there is one.
     Number(Option<u32>),
-    /// The string, where there is one.
+    /// The string, if there is one.
     Text(Option<&'a [u8]>),
 }
 
-/// What an entry has of the capability of a name; `None` where no capability has the name.
+/// What an entry has of the capability of a name; `None` if no capability has the name.
 #[tactic(auto, unfolding(crate::specs::Entries::holding_of))]
 pub fn value_of<'a>(view: &View<'a>, name: &[u8]) -> Option<CapabilityValue<'a>>
     ensures { option_map value_meaning result ≡ holding_of (shown_entry view.now) name.now }
@@ -32,7 +32,7 @@ pub fn value_of<'a>(view: &View<'a>, name: &[u8]) -> Option<CapabilityValue<'a>>
     Some(value)
 }
 
-// Whether an entry has a flag.
+// Whether an entry has a boolean.
 fn flag(view: &View<'_>, name: &[u8]) -> bool
     ensures { result ≡ is_set_flag (holding_of (shown_entry view.now) name.now) }
 {
@@ -62,7 +62,8 @@ pub fn text<'a>(view: &View<'a>, name: &[u8]) -> Option<&'a [u8]>
     }
 }
 
-// The byte that passes the time: the first one of `pad`, 0 where there is none, and no byte with `npc`.
+// The byte that passes the time: the first byte of `pad`, 0 if there is none, and no byte with
+// `npc`.
 fn pad_byte(view: &View<'_>) -> Option<u8>
     ensures { result ≡ pad_byte_of (shown_entry view.now) }
 {
@@ -75,7 +76,8 @@ fn pad_byte(view: &View<'_>) -> Option<u8>
     }
 }
 
-/// The line to the terminal of an entry, at a rate in bits a second: by `xon`, `pb`, `npc` and `pad`.
+/// The line to the terminal of an entry, at a rate in bits per second: by `xon`, `pb`, `npc` and
+/// `pad`.
 #[tactic(auto, unfolding(crate::specs::Entries::line_at_rate))]
 pub fn terminal_line(view: &View<'_>, rate: u32) -> Line
     ensures { result ≡ line_at_rate (shown_entry view.now) rate }

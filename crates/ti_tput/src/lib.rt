@@ -1,22 +1,22 @@
-//! `tput`: the bytes that drive a terminal, from a compiled entry, as tput(1) has it.
+//! The command `tput`: the bytes that drive a terminal, from a compiled entry, as tput(1) has it.
 //!
-//! - `commands`: what one command is answered; `replies` makes its bytes and status, of what `entries` finds
-//!   in the entry and of the words, which `parameters` reads as numbers and texts
-//! - `streaming`: commands read line by line; `terminal` is what takes them, and `words` parts a line
-//! - `searching`: where an entry is looked for, its file, and the entry in it
+//! - `commands`: what one command is answered; `replies` makes its bytes and status, of what
+//!   `entries` finds in the entry and of the words, which `parameters` reads as numbers and texts
+//! - `streaming`: commands read line by line; `terminal` takes them, and `words` splits a line
+//! - `laws`: each command has one answer, and a bad one changes nothing
 #![tactic(auto)]
 
 mod commands;
 mod entries;
+mod laws;
 mod parameters;
 mod replies;
-mod searching;
 mod streaming;
 mod terminal;
 mod words;
 
-pub use commands::{bad_commands_change_nothing, one_answer, tput};
+pub use commands::tput;
 pub use entries::terminal_line;
+pub use laws::{bad_commands_change_nothing, one_answer};
 pub use replies::TputOutcome;
-pub use searching::{entry, locate, places};
 pub use streaming::tput_lines;

@@ -7,7 +7,8 @@ use std::str::from_utf8;
 use ti_param::Value;
 use ti_text::limits::PARAMETERS_MAX;
 
-/// The number that a word spells: an optional `-` and decimal digits, from -2,147,483,648 to 2,147,483,647.
+// The number that a word spells: an optional `-` and decimal digits, from -2,147,483,648 to
+// 2,147,483,647.
 fn spelled_number(word: &[u8]) -> Option<i32>
     ensures { result ≡ word_number word.now }
 {
@@ -20,7 +21,7 @@ fn spelled_number(word: &[u8]) -> Option<i32>
     }
 }
 
-// Whether the word at a place after a capability's name is a text, whatever it spells.
+// Whether the word at a place after a capability's name is a string, whatever it spells.
 fn is_text_place(cap: &[u8], place: usize) -> bool
     ensures { result ≡ is_text_place cap.now place }
 {
@@ -31,7 +32,7 @@ fn is_text_place(cap: &[u8], place: usize) -> bool
     }
 }
 
-// The word at a place as a parameter of the capability; one that is not given is the number 0.
+// The word at a place as a parameter of the capability; a word that is not given is the number 0.
 fn parameter_at<'a>(cap: &[u8], words: &[&'a [u8]], place: usize) -> Value<'a>
     ensures { argument_of result ≡ parameter_at cap.now (map (λ word. word.now) words.now) place }
 {
@@ -47,8 +48,9 @@ fn parameter_at<'a>(cap: &[u8], words: &[&'a [u8]], place: usize) -> Value<'a>
     }
 }
 
-/// The words after a capability's name as its parameters: a word that spells a number is a number and any other a text, as is
-/// the second word of `pfkey`, `pfloc`, `pfx` and `pln`, and the second and third of `pfxl`.
+/// The words after a capability's name as its parameters. A word that spells a number is a number,
+/// and any other is a string. The second word of `pfkey`, `pfloc`, `pfx` and `pln`, and the second
+/// and third of `pfxl`, are always strings.
 #[tactic(auto, unfolding(crate::specs::Parameters::parameters))]
 pub fn parameters<'a>(cap: &[u8], words: &[&'a [u8]]) -> [Value<'a>; PARAMETERS_MAX]
     ensures { map argument_of result ≡ parameters cap.now (map (λ word. word.now) words.now) }

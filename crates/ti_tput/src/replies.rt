@@ -1,4 +1,4 @@
-//! What a command is answered: bytes for the terminal, and an exit status.
+//! The answer to a command: bytes for the terminal, and an exit status.
 ghost use Rattle.std.specs.Prelude.{◌≡◌, ℕ, ℤ, List, [], IfOk, OnErr, MatchResult, Some, map};
 ghost use Rattle.ti_param.specs.Meaning.{argument_of};
 ghost use Rattle.ti_param.specs.inside.Expansion.{EndsWith, expanded, format_expansion};
@@ -19,7 +19,7 @@ use ti_layout::View;
 use ti_param::{Line, PadError, ParamError, Statics, Value, expand, pad, pad_owned};
 use ti_text::limits::PARAMETERS_MAX;
 
-/// The exit status of a capability that is unknown, or of which the string is bad.
+/// The exit status of a capability that is unknown, or whose string is bad.
 pub const BAD_COMMAND: u8 = 4;
 
 /// What a command writes, and its exit status.
@@ -27,11 +27,12 @@ pub const BAD_COMMAND: u8 = 4;
 pub struct TputOutcome {
     /// The bytes for standard output.
     pub bytes: Vec<u8>,
-    /// 0; 1 where a flag or a string is absent; 4 where the capability is unknown or its string is bad.
+    /// 0; 1 if a boolean or a string is absent; 4 if the capability is unknown or its string is
+    /// bad.
     pub status: u8,
 }
 
-// A string padded for one line; `None` where that is too much padding.
+// A string padded for one line; `None` if that is too much padding.
 fn pad_once(alloc: Global, text: &[u8], line: &Line) -> Result<Option<Vec<u8>>, AllocError>
     ensures { IfOk result (λ found. made_bytes found ≡ padded_text line.now text.now) }
 {
@@ -42,7 +43,7 @@ fn pad_once(alloc: Global, text: &[u8], line: &Line) -> Result<Option<Vec<u8>>, 
     }
 }
 
-// The same of a string that an expansion made.
+// A string that an expansion made, padded for one line; `None` if that is too much padding.
 fn pad_output(alloc: Global, output: Vec<u8>, line: &Line) -> Result<Option<Vec<u8>>, AllocError>
     ensures { IfOk result (λ found. made_bytes found ≡ padded_text line.now output.items) }
 {
@@ -53,7 +54,7 @@ fn pad_output(alloc: Global, output: Vec<u8>, line: &Line) -> Result<Option<Vec<
     }
 }
 
-// Those of the strings that are present, each padded for itself; `None` where one has too much padding.
+// The strings that are present, each padded by itself; `None` if one has too much padding.
 fn pad_each(
     alloc: Global,
     texts: &[Option<&[u8]>],
@@ -88,7 +89,7 @@ fn expand_words(
     expand(alloc, text, params, statics)
 }
 
-// A string as it stands where there is no word, else expanded with the words; `None` where it is bad.
+// A string as it is written if there is no word, else expanded with the words; `None` if it is bad.
 fn string(
     alloc: Global,
     cap: &[u8],
@@ -118,7 +119,7 @@ fn string(
     }
 }
 
-// A string that was made is written; else nothing is, and the status is 4.
+// A string that was made is written; if none was made, nothing is written and the status is 4.
 fn outcome_of(alloc: Global, made: Option<Vec<u8>>) -> TputOutcome
     ensures { (statics : List ℤ) → reply_of result statics ≡ sent_reply (made_bytes made) statics statics }
 {
@@ -152,7 +153,7 @@ fn long_name(names: &[u8]) -> &[u8]
     }
 }
 
-// A number and a newline, `-1` where there is none.
+// A number and a newline, `-1` if there is none.
 fn number_text(alloc: Global, number: Option<u32>) -> Result<Vec<u8>, AllocError>
     ensures { IfOk result (λ bytes. bytes.items ≡ number_text number) }
 {
@@ -162,7 +163,7 @@ fn number_text(alloc: Global, number: Option<u32>) -> Result<Vec<u8>, AllocError
     }
 }
 
-// What is answered of a capability that has this value.
+// The answer for a capability that has this value.
 fn answer_value(
     alloc: Global,
     value: CapabilityValue<'_>,
@@ -209,7 +210,7 @@ fn init_strings<'a>(view: &View<'a>) -> [Option<&'a [u8]>; 3]
     [text(view, b"is1"), text(view, b"is2"), text(view, b"is3")]
 }
 
-// The strings that reset it: those that initialize it, where it has no others.
+// The strings that reset the terminal: those that initialize it, if it has no others.
 fn reset_strings<'a>(view: &View<'a>) -> [Option<&'a [u8]>; 3]
     ensures { given_texts result ≡ reset_strings (shown_entry view.now) }
 {
@@ -230,7 +231,7 @@ fn answer_long_name(alloc: Global, names: &[u8]) -> Result<TputOutcome, AllocErr
     })
 }
 
-// What is answered to a name with these words after it.
+/// The answer to a name with these words after it.
 pub(crate) fn answer_name(
     alloc: Global,
     view: &View<'_>,

@@ -1,4 +1,4 @@
-//! `tput -S`: commands read line by line, and what they write as it comes.
+//! The command `tput -S`: reads commands line by line, and writes their output as it comes.
 ghost use Rattle.std.specs.Prelude.{◌+◌, ◌≤◌};
 ghost use Rattle.ti_devices.specs.Counted.{observation, reads_of};
 ghost use Rattle.ti_devices.specs.LineReader.{reads_max};
@@ -11,19 +11,21 @@ use std::io::{Read, Write};
 use ti_devices::{Counted, LineReader, Next, ToolError};
 use ti_layout::View;
 
-/// The greatest length of a line, without its newline.
+// The greatest length of a line, without its newline.
 const LINE_MAX: usize = 4096;
 
-/// Reads commands to the end of an input, one a line, writes what each writes, and answers the exit status: 0 where no line
-/// was bad, else 4 and the number of bad lines, at most 255.
+/// Reads commands to the end of an input, one per line, writes the output of each, and answers the
+/// exit status: 0 if no line was bad, else 4 and the number of bad lines, at most 255.
 ///
-/// A line is split at spaces and tabs into a capability's name and its parameters, which are those of [`crate::tput`]; a line
-/// without words is skipped. One set of static variables serves all lines. A line that `tput` would refuse, or answer with
-/// status 4, is bad: it writes nothing, and leaves the variables. It holds one line, and never the whole input.
+/// A line is split at spaces and tabs into a capability's name and its parameters, which are those
+/// of [`crate::tput`]. A line without words is skipped. One set of static variables serves all
+/// lines. A line that `tput` would refuse, or answer with status 4, is bad: it writes nothing, and
+/// leaves the variables as they were. The call holds one line, and never the whole input.
 ///
 /// # Errors
-/// `ReadFault` where the reader fails, and after 4,294,967,296 reads; `WriteFault` where the writer fails; `LineTooLong` at a
-/// line of more than 4,096 bytes, without its newline; `Memory`. What was written before stays.
+/// `ReadFault` if the reader fails, and after 4,294,967,296 reads; `WriteFault` if the writer
+/// fails; `LineTooLong` at a line of more than 4,096 bytes, without its newline; `Memory`. What was
+/// written before remains written.
 pub fn tput_lines<R: Read, W: Write>(
     alloc: Global,
     view: &View<'_>,

@@ -1,4 +1,4 @@
-//! A terminal that takes commands line by line, and writes what they write.
+//! A terminal that takes commands line by line, and writes their output.
 ghost use Rattle.std.specs.Prelude.{◌≡◌, ◌==◌, ℕ, IfOk};
 ghost use Rattle.ti_devices.specs.Counted.{observation};
 ghost use Rattle.ti_layout.specs.View.{Entry, shown_entry};
@@ -15,7 +15,8 @@ use ti_devices::{Counted, ToolError, write_out};
 use ti_layout::View;
 use ti_param::{Line, Statics};
 
-/// A terminal that takes commands: its entry and line, the static variables, and how many commands were bad, up to 255.
+/// A terminal that takes commands: its entry and line, the static variables, and how many commands
+/// were bad, up to 255.
 #[derive(Drop)]
 pub struct Terminal<'a> {
     alloc: Global,
@@ -25,7 +26,7 @@ pub struct Terminal<'a> {
     bad: u8,
 }
 
-// Whether a command of that status counts as bad: one whose capability is absent does not.
+// Whether a command of that status counts as bad. A command whose capability is absent is not bad.
 fn is_bad(status: u8) -> bool
     ensures { result ≡ (status == 4) }
 {
@@ -48,7 +49,7 @@ impl<'a> Terminal<'a> {
         }
     }
 
-    // What a line writes. A bad one is counted, and writes nothing.
+    // What a line writes. A bad line is counted, and writes nothing.
     fn bytes_of(&mut self, line: &[u8]) -> Result<Vec<u8>, AllocError>
         ensures { (entry : Entry) (rate : ℕ) (course : Course) → HasCourse entry rate self.old course
             → IfOk result (λ bytes. HasCourse entry rate self.new (line_step entry rate course line.now).after
@@ -96,7 +97,8 @@ impl<'a> Terminal<'a> {
         write_out(writer, bytes.as_slice())
     }
 
-    /// The exit status after these commands: 0 where none was bad, else 4 and how many were bad, at most 255.
+    /// The exit status after these commands: 0 if none was bad, else 4 and the number of bad ones,
+    /// at most 255.
     pub fn status(&self) -> u8
         ensures { (entry : Entry) (rate : ℕ) (course : Course) → HasCourse entry rate self.now course → result ≡ run_status course.bad }
     {

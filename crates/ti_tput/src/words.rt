@@ -7,24 +7,24 @@ ghost use Rattle.ti_tput.specs.inside.Runs.{words_seen};
 use arrayvec::ArrayVec;
 use ti_text::is_white_space;
 
-/// One word more than a command may have: with so many it has too many.
+// One word more than a command may have: a line with this number of words has too many.
 const MOST_WORDS: usize = 11;
 
-// Where the first word of a text begins.
+// The place where the first word of a text begins.
 fn word_start(text: &[u8]) -> Option<usize>
     ensures { result ≡ position (λ byte. not (is_white_space byte)) text.now }
 {
     text.iter().position(|byte| !is_white_space(*byte))
 }
 
-// Where the word that a text begins with ends.
+// The place where the word at the front of a text ends.
 fn word_end(text: &[u8]) -> Option<usize>
     ensures { result ≡ position is_white_space text.now }
 {
     text.iter().position(|byte| is_white_space(*byte))
 }
 
-// The first word, and what stands behind it.
+// The first word, and what follows it.
 fn next_word(text: &[u8]) -> Option<(&[u8], &[u8])>
     ensures { MatchOption result (words_of text.now ≡ [])
         (λ p. (words_of text.now ≡ p.0.now ∷ words_of p.1.now) × (length p.1.now < length text.now)) }

@@ -55,8 +55,8 @@ pub fn moves() -> [Edit<'static>; 11] {
     ]
 }
 
-/// Two blocks that have one name, and its user: the first of the two is moved behind the others and back, then where it is and past
-/// the end.
+/// Two blocks that have the same name, and its user: the first of the two is moved after the others
+/// and back, then to where it is and past the end.
 pub fn moved_names() -> [Edit<'static>; 8] {
     [
         insertion(0, b"n,cols#1,\n"),
@@ -70,7 +70,8 @@ pub fn moved_names() -> [Edit<'static>; 8] {
     ]
 }
 
-/// Blocks put in at the end: texts that they share, uses, circular ones, and faults; and a text that is no block.
+/// Blocks put in at the end: strings that they share, uses, circular ones, and faults; and a text
+/// that is no block.
 pub fn insertions() -> [Edit<'static>; 7] {
     [
         insertion(0, b"a,cols#1,bel=^G,cr=\\r,\n"),
@@ -98,10 +99,10 @@ pub const NAMES: [&[u8]; 15] = [
     b"a", b"b", b"c", b"d", b"e", b"n", b"p", b"q", b"r", b"u", b"v", b"x", b"y", b"xy", b"none",
 ];
 
-/// A block with a text of so many letters, behind other items.
+/// A block with a string of this many letters, after other items.
 ///
 /// # Errors
-/// Want of memory.
+/// `AllocError` if memory ran out.
 pub fn long_block(alloc: Global, items: &[u8], letters: usize) -> Result<Vec<u8>, AllocError> {
     let mut text = Vec::with_capacity(alloc, 4200)?;
     text.extend_from_slice(items)?;

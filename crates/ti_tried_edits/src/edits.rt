@@ -1,13 +1,14 @@
-//! Edits of a database, each made again where a growth was refused to it.
+//! Edits of a database, each made again if a growth was refused to it.
 use crate::blocks::{NAMES, insertion, long_block, replacement};
 use crate::tried::{Tried, Trouble};
 use std::alloc::{AllocError, Global};
 use ti_base::{Database, Edit, EditError, Edited};
 
-/// All that is seen of a database: its length, each text and entry, the owner of each name, and the report.
+/// All that is seen of a database: its length, each text and entry, the owner of each name, and the
+/// report.
 ///
 /// # Errors
-/// Want of memory.
+/// `AllocError` if memory ran out.
 pub fn snapshot(alloc: Global, database: &Database) -> Result<Vec<u8>, AllocError> {
     let mut bytes = Vec::with_capacity(alloc, 16_384)?;
     push_blocks(&mut bytes, database)?;
@@ -40,7 +41,7 @@ fn push_owners(bytes: &mut Vec<u8>, database: &Database) -> Result<(), AllocErro
 /// Adds what is seen of a database as an answer.
 ///
 /// # Errors
-/// Want of memory.
+/// `AllocError` if memory ran out.
 pub fn add_seen(alloc: Global, database: &Database, tried: &mut Tried) -> Result<(), AllocError> {
     tried.add(snapshot(alloc, database)?.as_slice());
     Ok(())
@@ -49,7 +50,7 @@ pub fn add_seen(alloc: Global, database: &Database, tried: &mut Tried) -> Result
 /// After an edit that was refused the database is seen as it was before.
 ///
 /// # Errors
-/// Want of memory, or that something has changed.
+/// `Memory`, or that something has changed.
 pub fn expect_unchanged(alloc: Global, database: &Database, before: &[u8]) -> Result<(), Trouble> {
     if snapshot(alloc, database)?.as_slice() == before {
         Ok(())
@@ -134,7 +135,8 @@ pub struct LongBlocks {
     too_long: Vec<u8>,
     longest_with_flag: Vec<u8>,
     too_long_with_flag: Vec<u8>,
-    // as long with two letters for a name, since a zero byte is then in the place of the flag
+    // as long as the longest with two letters for a name, since a zero byte is then in the place of
+    // the boolean
     two_letters: Vec<u8>,
     two_letters_with_flag: Vec<u8>,
 }
@@ -143,7 +145,7 @@ impl LongBlocks {
     /// The blocks.
     ///
     /// # Errors
-    /// Want of memory.
+    /// `AllocError` if memory ran out.
     pub fn new(alloc: Global) -> Result<LongBlocks, AllocError> {
         Ok(LongBlocks {
             longest: long_block(alloc, b"x,", 4079)?,
@@ -155,7 +157,7 @@ impl LongBlocks {
         })
     }
 
-    /// Edits that exchange them to and fro, and a block that uses the first ones.
+    /// Edits that replace them to and fro, and a block that uses the first ones.
     pub fn edits(&self) -> [Edit<'_>; 10] {
         [
             insertion(0, self.longest.as_slice()),

@@ -1,8 +1,9 @@
-//! Scenarios of edits in which any growth of memory may be refused, for the program `ti_refusals`; no code of the product.
+//! Scenarios of edits in which any growth of memory may be refused, for the program `ti_refusals`;
+//! no code of the product.
 //!
 //! - `blocks`: blocks and edits of them
 //! - `edits`: edits made one after the other
-//! - `wholes`: lists of edits that are handed over at once
+//! - `wholes`: lists of edits that are made in one call
 //! - `many`: one edit of a thousand blocks
 //! - `tried`: what a scenario has answered so far
 #![tactic(auto)]

@@ -5,7 +5,7 @@ use crate::tried::{Tried, Trouble};
 use std::alloc::Global;
 use ti_base::{Database, Edit, EditError, Edited};
 
-/// How many blocks there are.
+// How many blocks there are.
 const BLOCKS: usize = 1000;
 
 /// The edit that is made of them.
@@ -39,7 +39,7 @@ impl Many {
         }
     }
 
-    // Whether the edit rebuilt what it must, with so much work.
+    // Whether the edit rebuilt what it must, with this much work.
     fn is_expected(self, edited: &Edited) -> bool {
         let (rebuilt, work) = self.expected_answer();
         edited.rebuilt.first().copied() == rebuilt
@@ -91,7 +91,8 @@ pub fn edit(alloc: Global, many: Many) -> Result<Tried, Trouble> {
     Ok(tried)
 }
 
-// Makes the edit. One that was refused for memory has left the blocks as they were, and is made again.
+// Makes the edit. One that was refused for memory has left the blocks as they were, and is made
+// again.
 fn apply(
     alloc: Global,
     database: &mut Database,

@@ -19,8 +19,8 @@ impl From<AllocError> for Trouble {
     }
 }
 
-/// The answers of a scenario, as their number, their length and a sum over their bytes, and how many
-/// calls answered want of memory. It takes no memory.
+/// The answers of a scenario, as their number, their length and a sum over their bytes, and how
+/// many calls answered out of memory. It takes no memory.
 #[derive(Clone, Copy, Debug)]
 pub struct Tried {
     answers: u32,
@@ -54,7 +54,7 @@ impl Tried {
         self.add(&number.to_le_bytes());
     }
 
-    /// Counts a call that answered want of memory.
+    /// Counts a call that answered out of memory.
     pub fn count_refusal(&mut self) {
         self.refusals = self.refusals.saturating_add(1);
     }
@@ -74,7 +74,7 @@ impl Tried {
         self.sum
     }
 
-    /// How many calls answered want of memory.
+    /// How many calls answered out of memory.
     pub fn refusals(&self) -> u32 {
         self.refusals
     }

@@ -4,7 +4,7 @@ use crate::tried::{Tried, Trouble};
 use std::alloc::Global;
 use ti_base::{Database, Edit, EditError, Outcome, run};
 
-// Whether memory sufficed for all edits. One may have been refused for memory.
+// Whether there was memory for all edits. One may have been refused for memory.
 fn has_sufficed(outcomes: &[Outcome]) -> Result<bool, Trouble> {
     let mut sufficed = true;
     for outcome in outcomes {
@@ -18,8 +18,8 @@ fn has_sufficed(outcomes: &[Outcome]) -> Result<bool, Trouble> {
     Ok(sufficed)
 }
 
-// The edits have these outcomes on the database, but those that were refused for memory, which are left out.
-// It is asked after the only refusal, or where there was none.
+// The edits have these outcomes on the database, except those that were refused for memory, which
+// are left out. It is asked after the only refusal, or if there was none.
 fn expect_outcomes(
     reference: &mut Database,
     edits: &[Edit<'_>],
@@ -53,14 +53,14 @@ fn expect_outcome(
     }
 }
 
-// What is seen after the edits but those that were refused for memory.
+// What is seen after the edits, except those that were refused for memory.
 fn seen_after(alloc: Global, edits: &[Edit<'_>], outcomes: &[Outcome]) -> Result<Vec<u8>, Trouble> {
     let mut reference = Database::new(alloc);
     expect_outcomes(&mut reference, edits, outcomes)?;
     Ok(snapshot(alloc, &reference)?)
 }
 
-// Makes edits in one call. Whether memory sufficed for it and for each of them.
+// Makes edits in one call. Answers whether there was memory for it and for each of them.
 fn run_once(alloc: Global, edits: &[Edit<'_>], tried: &mut Tried) -> Result<bool, Trouble> {
     match run(alloc, edits) {
         Ok((database, outcomes)) => add_run(alloc, edits, &database, &outcomes, tried),
@@ -68,8 +68,8 @@ fn run_once(alloc: Global, edits: &[Edit<'_>], tried: &mut Tried) -> Result<bool
     }
 }
 
-// The outcomes and the database follow from the edits but those that were refused for memory. Where none was, what is
-// seen is added as an answer. Whether none was.
+// The outcomes and the database follow from the edits, except those that were refused for memory.
+// If none was, what is seen is added as an answer. Answers whether none was.
 fn add_run(
     alloc: Global,
     edits: &[Edit<'_>],
@@ -93,7 +93,7 @@ fn expect_seen(alloc: Global, database: &Database, want: &[u8]) -> Result<(), Tr
     }
 }
 
-/// Makes edits in one call, and once more where memory was refused to it.
+/// Makes edits in one call, and once more if memory was refused to it.
 ///
 /// # Errors
 /// As of a scenario.

@@ -80,7 +80,7 @@ def is_one_block(text):
 
 
 def fold(block):
-    """The folded text, and for each of its bytes the line where it stands."""
+    """The folded text, and for each of its bytes the line that it is on."""
     lines = block.split(b"\n")
     kept = [(at + 1, line) for at, line in enumerate(lines[:-1]) if not line.startswith(b"#")]
     folded, where = bytearray(), []
@@ -92,7 +92,7 @@ def fold(block):
 
 
 def ends_of_items(text, start):
-    """The places where the items end, which begin at `start`, each behind the comma of the last."""
+    """The places where the items end, which begin at `start`, each after the comma of the last."""
     at = start
     while at < len(text):
         byte = text[at]
@@ -205,7 +205,7 @@ LETTERS = {
 
 
 def unescape(text):
-    """The value, whether an unknown escape stands in it, and the cause why there is no value."""
+    """The value, whether an unknown escape is in it, and the cause why there is no value."""
     value, odd, at = bytearray(), False, 0
     while at < len(text):
         byte, after = text[at : at + 1], text[at + 1 : at + 2]

@@ -1,4 +1,4 @@
--- What a database keeps of its blocks (own): the slot of each, in the order of the list.
+-- What a database stores of its blocks (own): the slot of each, in the order of the list.
 use Rattle.std.specs.Prelude.{ℕ, ◌≡◌, ◌≤◌, ◌↔◌, List, [], ◌∷◌, length, map, insert, slice_set, Option, Some, None, option_map, slice_get}
 use Rattle.std.specs.Option.{option_map_or}
 use Rattle.ti_text.specs.Limits.{blocks_max}
@@ -35,7 +35,7 @@ pub record IsSoundSlot (slot : Slot) : Type 0 where
 abbrev pub SlotsAreSound : List (Option Slot) → Type 0
 SlotsAreSound listed = (at : ℕ) (slot : Slot) → slice_get listed at ≡ Some (Some slot) → IsSoundSlot slot
 
--- what each holds is right for its block in the list
+-- what each slot holds is right for its block in the list
 abbrev pub SlotsAreSettled : List (Option Slot) → Type 0
 SlotsAreSettled listed = (at : ℕ) (slot : Slot) → slice_get listed at ≡ Some (Some slot)
     → IsSettled (map reading_seen listed) at (reading_of slot.block) slot.settled
@@ -82,7 +82,7 @@ with_settled settled slot = record slot { settled = settled }
 abbrev pub settled_at : List (Option Slot) → ℕ → Settled → List (Option Slot)
 settled_at slots id settled = slice_set slots id (option_map (with_settled settled) (slot_at slots id))
 
--- about those of these ids, in turn
+-- the slots by id, with that found out about the blocks of these ids, in turn
 abbrev pub settled_all : List (Option Slot) → List ℕ → List Settled → List (Option Slot)
 settled_all slots [] settled = slots
 settled_all slots (id ∷ ids) [] = slots

@@ -5,7 +5,7 @@ use Rattle.ti_source.specs.Reading.{Reading, reading_of}
 use Rattle.ti_meaning.specs.Edits.{Change, insertion, replacement, removal, relocation, list_after}
 use Rattle.ti_meaning.specs.Exchange.{Exchange}
 use Rattle.ti_meaning.specs.Dependents.{AreDependents, Rebuilds, work}
-use Rattle.ti_index.specs.Labels.{AreDistinct}
+use Rattle.ti_text.specs.Lists.{AreDistinct}
 use Rattle.ti_slots.specs.declared.slots.Slot.{Slot}
 use Rattle.ti_slots.specs.declared.slots.Slots.{Slots}
 use Rattle.ti_slots.specs.Slots.{IsIndexed, StandsAt, blocks_of, slot_texts}

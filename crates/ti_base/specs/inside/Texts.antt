@@ -17,6 +17,6 @@ IsTextRefusal text TooLong = ¬ (length text ≤ block_bytes_max)
 IsTextRefusal text NotOneBlock = (length text ≤ block_bytes_max) × (¬ (OneBlock text))
 IsTextRefusal text _ = ⊥
 
--- the edit that puts the text in behind all others
+-- the edit that puts the text in after all others
 abbrev pub appended : List (List ℕ) → List ℕ → Change
 appended texts text = insertion (length texts) text

@@ -1,4 +1,5 @@
--- The table of all capabilities in the order of the bytes of their names, and what a look-up by name finds at a place of it (own).
+-- The table of all capabilities in the order of the bytes of their names, and what a look-up by
+-- name finds at a place of it (own).
 use Rattle.std.specs.Prelude.{◌≢◌, ℕ, ◌-◌, List, slice_index_or, All, Contains, map, nat_lt, if◌then◌else◌}
 use Rattle.std.specs.Ordering.{nat_cmp}
 use Rattle.std.specs.Cmp.Lexicographic.{slice_cmp}
@@ -13,7 +14,8 @@ use Rattle.std.specs.Borrow.{Bor}
 abbrev pub NameRow : Type 0
 NameRow = List ℕ × Kind × ℕ
 
--- the capability that has a number: all are counted from 0, the flags first, then the numbers, then the texts, each in the order of its list
+-- the capability that has a number: all are counted from 0, the booleans first, then the numbers,
+-- then the strings, each kind in the order of its list
 abbrev pub capability_numbered : ℕ → Capability
 capability_numbered n =
     if nat_lt n (rank_in Number) then capability Flag n
@@ -39,7 +41,7 @@ IsOfAnother rows place name = (d : NameRow) → (slice_index_or rows place d).0 
 abbrev pub HasNoRow : List NameRow → List ℕ → Type 0
 HasNoRow rows name = All (λ r. r.0 ≢ name) rows
 
--- the texts of a slice of texts
+-- the names in a slice of names
 abbrev pub texts_of : List (Bor (List ℕ)) → List (List ℕ)
 texts_of ts = map (λ t. t.now) ts
 

@@ -1,4 +1,4 @@
--- What clap reads of a tool that stands in a table: its name and its arguments in turn (own).
+-- What clap reads of a tool in a table: its name and its arguments in turn (own).
 use Rattle.std.specs.Prelude.{List, [], ◌∷◌, Option, Some, None, codes, if◌then◌else◌, true}
 use Rattle.std.specs.Str.{bytes_eq}
 use Rattle.clap.specs.Simple.{App, new_app, on_top, with_rule, with_subcommand}
@@ -22,7 +22,7 @@ tool_app orders name =
     else if bytes_eq name (codes "infocmp") then Some (infocmp_app orders)
     else None
 
--- one more argument
+-- the command line with one more argument
 abbrev pub with_argument : App → Argument → App
 with_argument app argument = with_rule app (rule_for argument)
 
@@ -30,11 +30,11 @@ with_argument app argument = with_rule app (rule_for argument)
 abbrev pub app_for : Tool → App
 app_for tool = fold with_argument (new_app tool.name.now) tool.arguments.now
 
--- one more tool of the program
+-- the program with one more tool
 abbrev pub with_tool : App → Tool → App
 with_tool app tool = with_subcommand app (app_for tool).top
 
--- names of the orders, wherever they stand in memory
+-- names of the orders, wherever they are in memory
 abbrev pub some_orders : Choices
 some_orders = record {
   ref_ptr = (0, 0);
@@ -46,20 +46,19 @@ abbrev pub choices_by : Form → Choices → Choices
 choices_by (Choice short value names) later = names
 choices_by _ later = later
 
-abbrev pub choices_among : List Argument → Choices
-choices_among [] = some_orders
-choices_among (argument ∷ arguments) = choices_by argument.form (choices_among arguments)
+abbrev pub choices_among : List Argument → Choices → Choices
+choices_among [] later = later
+choices_among (argument ∷ arguments) later = choices_by argument.form (choices_among arguments later)
 
--- those of a tool
+-- the names of the first choice of a tool
 abbrev pub choices_of : Option Tool → Choices
 choices_of None = some_orders
-choices_of (Some tool) = choices_among tool.arguments.now
+choices_of (Some tool) = choices_among tool.arguments.now some_orders
 
--- those of the last of some tools
-abbrev pub choices_of_last : List Tool → Choices
-choices_of_last [] = some_orders
-choices_of_last (tool ∷ []) = choices_of (Some tool)
-choices_of_last (tool ∷ next ∷ tools) = choices_of_last (next ∷ tools)
+-- the names of the first choice among the arguments of some tools
+abbrev pub choices_in : List Tool → Choices
+choices_in [] = some_orders
+choices_in (tool ∷ tools) = choices_among tool.arguments.now (choices_in tools)
 
 -- the program without tools
 abbrev pub program_app : App

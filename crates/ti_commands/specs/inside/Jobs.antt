@@ -12,7 +12,7 @@ use Rattle.ti_commands.specs.declared.mistakes.Mistake.{Mistake}
 use Rattle.ti_commands.specs.declared.mistakes.NoJob.{NoJob}
 use Rattle.ti_commands.specs.declared.mistakes.NoJob.TheVariants as no_job
 
--- why there is no job where this is asked for; want of memory may come at all times
+-- why there is no job if this is asked for; out of memory may come at any time
 abbrev pub IsNoJob : Asked → NoJob → Type 0
 IsNoJob asked no_job.Memory = ⊤
 IsNoJob asked (no_job.Wrong mistake) = asked ≡ Err mistake
@@ -21,7 +21,7 @@ IsNoJob asked (no_job.Wrong mistake) = asked ≡ Err mistake
 abbrev pub Answers : Asked → Result Job NoJob → Type 0
 Answers asked answer = MatchResult answer (λ job. asked ≡ Ok (task_of job)) (IsNoJob asked)
 
--- the answer to words that clap takes: the job, or its mistake with the line that is said
+-- the answer to words that clap takes: the job, or its mistake with the line of the message
 abbrev pub AnswersTaken : Asked → Result Job Refusal → Type 0
 AnswersTaken asked answer = MatchResult answer (λ job. asked ≡ Ok (task_of job))
     (λ refused. (refused ≡ refusal.Memory)

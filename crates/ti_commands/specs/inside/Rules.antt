@@ -1,4 +1,4 @@
--- What clap reads of an argument that stands in a table (own).
+-- What clap reads of an argument in a table (own).
 use Rattle.std.specs.Prelude.{◌≡◌, ⊤}
 use Rattle.clap.specs.Walk.{Rule, Text}
 use Rattle.clap.specs.declared.builder.texts.Texts.{Texts}
@@ -22,7 +22,7 @@ form_rule id (Operands value) = operands_rule id
 abbrev pub rule_for : Argument → Rule
 rule_for argument = form_rule argument.id.now argument.form
 
--- help shows the name of the value that the table says, where it says one
+-- help shows the name of the value that the table gives, if it gives one
 abbrev pub ShowsValue : Form → Texts → Type 0
 ShowsValue (Value short value) names = names ≡ One value
 ShowsValue (Number short value least greatest) names = names ≡ One value

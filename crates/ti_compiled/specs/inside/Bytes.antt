@@ -1,14 +1,14 @@
--- A part of bytes changed where it lies (own).
+-- A part of bytes changed where it is (own).
 use Rattle.std.specs.Prelude.{◌≡◌, ℕ, ◌+◌, ◌-◌, ◌==◌, nat_lt, if◌then◌else◌, List, [], ◌∷◌, ◌++◌, length, take, drop, replicate, Option, Some, None}
 use Rattle.ti_text.specs.Ascii as ascii
 use Rattle.ti_layout.specs.Layout.{absent_mark}
 use Rattle.ti_layout.specs.declared.layout.Format.TheVariants.{Legacy}
 
--- as many bytes put in at a place
+-- a number of bytes put in at a place
 abbrev pub with_bytes_in : List ℕ → ℕ → ℕ → ℕ → List ℕ
 with_bytes_in bytes at count fill = take at bytes ++ replicate count fill ++ drop at bytes
 
--- as many bytes taken out at a place
+-- a number of bytes taken out at a place
 abbrev pub with_bytes_out : List ℕ → ℕ → ℕ → List ℕ
 with_bytes_out bytes at count = take at bytes ++ drop (at + count) bytes
 
@@ -16,11 +16,12 @@ with_bytes_out bytes at count = take at bytes ++ drop (at + count) bytes
 abbrev pub with_length : List ℕ → ℕ → ℕ → List ℕ
 with_length part size fill = take size part ++ replicate (size - length part) fill
 
--- the part of a size that lies at a place is changed, and nothing else
+-- the part of a size at a place is changed, and nothing else
 abbrev pub Replaces : List ℕ → List ℕ → ℕ → ℕ → (List ℕ → List ℕ) → Type 0
 Replaces old new at size change = (p m r : List ℕ) → old ≡ p ++ (m ++ r) → length p ≡ at → length m ≡ size → new ≡ p ++ (change m ++ r)
 
--- an offset of a text that stands behind another, of which so many bytes are taken out and put in; the one of an absent text stays
+-- an offset of a string after another one, when bytes are taken out and put in there; the offset of
+-- an absent string does not change
 abbrev pub offset_after : ℕ → ℕ → ℕ → ℕ
 offset_after removed added offset = if offset == absent_mark Legacy then absent_mark Legacy else offset + added - removed
 
@@ -28,7 +29,7 @@ offset_after removed added offset = if offset == absent_mark Legacy then absent_
 abbrev pub moved_later : (ℕ → ℕ) → ℕ → ℕ → ℕ → ℕ → ℕ
 moved_later f from removed added j = if nat_lt j from then f j else offset_after removed added (f j)
 
--- a text with the NUL that ends it, or nothing
+-- a string with the NUL that ends it, or nothing
 abbrev pub ended_text : Option (List ℕ) → List ℕ
 ended_text None = []
 ended_text (Some text) = text ++ ascii.nul ∷ []

@@ -12,7 +12,7 @@ use Rattle.ti_layout.specs.Laws.{without_cancel}
 use Rattle.ti_layout.specs.Values.{Content, content_true, content_number, content_text, content_of, Contents, AgreesIfSome}
 use Rattle.ti_layout.specs.declared.values.Value.{Value}
 
--- a flag that is set or is not
+-- a boolean that is set, or is not
 abbrev pub flag_content : Bool → Option Content
 flag_content true = Some content_true
 flag_content false = None
@@ -21,7 +21,7 @@ flag_content false = None
 abbrev pub number_content : Option ℕ → Option Content
 number_content number = option_map content_number number
 
--- a text, or none
+-- a string, or none
 abbrev pub text_content : Option (List ℕ) → Option Content
 text_content text = option_map content_text text
 
@@ -29,7 +29,7 @@ text_content text = option_map content_text text
 abbrev pub content_lent : Option (Bor Value) → Option Content
 content_lent value = option_map (λ (v : Bor Value). content_of v.now) value
 
--- a text that is lent, or none
+-- a string that is lent, or none
 abbrev pub text_lent : Option (Bor (List ℕ)) → Option Content
 text_lent text = text_content (option_map (λ (t : Bor (List ℕ)). t.now) text)
 
@@ -37,19 +37,20 @@ text_lent text = text_content (option_map (λ (t : Bor (List ℕ)). t.now) text)
 abbrev pub image_with : List ℕ → Capability → Option Content → List ℕ
 image_with bytes cap content = image (names_in bytes) (with_content (contents_in bytes) cap content)
 
--- that image is within its limit
+-- the image with the other content is within its limit
 abbrev pub BytesFitWith : List ℕ → Capability → Option Content → Type 0
 BytesFitWith bytes cap content = ImageFits (names_in bytes) (with_content (contents_in bytes) cap content)
 
--- that image is over its limit
+-- the image with the other content is over its limit
 abbrev pub BytesAreOverWith : List ℕ → Capability → Option Content → Type 0
 BytesAreOverWith bytes cap content = ImageIsTooLarge (names_in bytes) (with_content (contents_in bytes) cap content)
 
--- a new image holds what the old one does, but for a capability
+-- a new image holds what the old one does, except for one capability
 pub record IsSameBut (old new : NamedTable) (cap : Capability) : Type 0 where
   pub says : (c : Capability) → IsCapability c → c ≢ cap → held_by new c ≡ held_by old c
 
--- what is held of a capability once all that changes is taken away: what the old and the new values both say, and else nothing
+-- what is held of a capability once all that changes is taken away: what both the old and the new
+-- values say, and else nothing
 pub record IsLeft (old new held : Option Content) : Type 0 where
   pub same : old ≡ new → held ≡ without_cancel new
   pub gone : old ≢ new → held ≡ None
@@ -58,10 +59,10 @@ pub record IsLeft (old new held : Option Content) : Type 0 where
 abbrev pub with_number : List ℕ → ℕ → Option ℕ → Contents
 with_number bytes index number = with_content (contents_in bytes) (capability Number index) (number_content number)
 
--- the number of a place, and what stands for one that is absent
+-- the number of a place, or the number that means absent
 abbrev pub wide_value : Contents → ℕ → ℕ
 wide_value contents index = number_value (absent_mark Extended) (of_kind contents Number index)
 
--- what the places of numbers have, they may have
+-- what the places of numbers have is what they may have
 abbrev pub HasNumbers : Contents → Type 0
 HasNumbers contents = (index : ℕ) → index < count_of Number → AgreesIfSome (capability Number index) (contents (capability Number index))

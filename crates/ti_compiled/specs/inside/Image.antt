@@ -21,8 +21,8 @@ contents_in bytes =
     contents_of (format_in bytes) (flags_section bytes) (numbers_in (format_in bytes) (numbers_section bytes)) (numbers_in Legacy (offsets_section bytes))
     (strings_section bytes)
 
--- Names of 1 to 127 bytes without NUL, contents that agree with their capabilities, none of them cancelled, nothing but of
--- the 497 capabilities, and an image within the limit.
+-- Names of 1 to 127 bytes without NUL, contents that agree with their capabilities, none of them
+-- cancelled, nothing but of the 497 capabilities, and an image within the limit.
 pub record IsImaged (names : List ℕ) (contents : Contents) : Type 0 where
   pub some : 0 < length names
   pub short : length names ≤ names_max
@@ -37,7 +37,7 @@ pub record IsImage (bytes : List ℕ) : Type 0 where
   pub imaged : IsImaged (names_in bytes) (contents_in bytes)
   pub whole : bytes ≡ image (names_in bytes) (contents_in bytes)
 
--- the entry of a capability, where it has something
+-- the entry of a capability, if it has something
 abbrev pub entry_if : Capability → Option Content → List TableEntry
 entry_if c None = []
 entry_if c (Some content) = (c, content) ∷ []

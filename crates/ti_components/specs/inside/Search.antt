@@ -1,9 +1,9 @@
--- What a path search keeps (own): the nodes of open components on a path, each reached from the one before it, and what is
--- known of where components start.
+-- What holds of a path search (own): the nodes of open components on a path, each reached from the
+-- one before it, and what is known of where components start.
 use Rattle.std.specs.Prelude.{ℕ, suc, ◌≡◌, ◌<◌, ◌≤◌, ◌+◌, ◌-◌, ◌*◌, ◌⊎◌, ◌++◌, List, [], ◌∷◌, length, take, drop, Option, Some, slice_get, slice_set}
 use Rattle.ti_components.specs.Graph.{Rows, HasEdge}
 use Rattle.ti_components.specs.Leading.{Leads}
-use Rattle.ti_text.specs.Lists.{Has}
+use Rattle.ti_text.specs.Lists.{Has, AreDistinct}
 use Rattle.ti_components.specs.declared.search.Progress.{Progress}
 use Rattle.ti_components.specs.declared.search.Progress.TheVariants.{Unseen, OnPath, Closed}
 use Rattle.ti_components.specs.declared.search.Search.{Search}
@@ -16,8 +16,8 @@ Rises xs = (i j x y : ℕ) → i < j → slice_get xs i ≡ Some x → slice_get
 abbrev pub IsClosed : List Progress → ℕ → Type 0
 IsClosed progress node = (c : ℕ) × (slice_get progress node ≡ Some (Closed c))
 
--- an edge from the node at place `k` to the node `w` was gone through: the component of `w` is closed, or no component is
--- known to start between them
+-- an edge from the node at place `k` to the node `w` was gone through: the component of `w` is
+-- closed, or no component is known to start between them
 abbrev pub IsExplored : List Progress → List ℕ → List ℕ → ℕ → ℕ → Type 0
 IsExplored progress path starts k w = IsClosed progress w ⊎ ((m : ℕ) × (slice_get path m ≡ Some w) × ((s : ℕ) → Has starts s → s ≤ k → s ≤ m))
 
@@ -52,14 +52,14 @@ pub record IsOrderSoFar (progress : List Progress) (order : List ℕ) : Type 0 w
   pub closed : (i u : ℕ) → slice_get order i ≡ Some u → (c : ℕ) × (slice_get progress u ≡ Some (Closed c)) × (c ≤ i)
   pub early : (j w d u c : ℕ) → slice_get order j ≡ Some w → slice_get progress w ≡ Some (Closed d) → slice_get progress u ≡ Some (Closed c) → d < c → j < c
   pub first : (u c : ℕ) → slice_get progress u ≡ Some (Closed c) → (v : ℕ) × (slice_get order c ≡ Some v) × (slice_get progress v ≡ Some (Closed c))
-  pub once : (i j u : ℕ) → slice_get order i ≡ Some u → slice_get order j ≡ Some u → i ≡ j
+  pub once : AreDistinct order
 
 pub record IsWalk (graph : Rows) (progress : List Progress) (cursors path starts active order : List ℕ) : Type 0 where
   pub going : IsPath graph progress cursors path starts active
   pub shut : AreGroups graph progress (length order)
   pub listing : IsOrderSoFar progress order
 
--- the search keeps it
+-- the search is as described
 abbrev pub IsWalkOf : Rows → Search → Type 0
 IsWalkOf graph s = IsWalk graph s.progress.items s.cursors.items s.path.items s.starts.items s.active.items s.order.items
 
@@ -93,7 +93,7 @@ pub record ClosesPath (old new : Search) (start : ℕ) : Type 0 where
   pub active : new.active.items ≡ old.active.items
   pub order : new.order.items ≡ old.order.items ++ drop start old.path.items
 
--- a node that was met stays met
+-- a node that was met remains met
 abbrev pub KeepsMet : Search → Search → Type 0
 KeepsMet old new = (v : ℕ) → slice_get new.progress.items v ≡ Some Unseen → slice_get old.progress.items v ≡ Some Unseen
 
@@ -127,10 +127,6 @@ pub record Leaves (old new : Search) : Type 0 where
   pub met : KeepsMet old new
   pub fewer : length new.active.items + 1 ≡ length old.active.items
   pub left : (graph : Rows) (place : ℕ) → IsWalkOf graph old → IsTop old.active.items place → IsSpent graph old place → IsWalkOf graph new
-
--- the nodes of the path are nodes
-abbrev pub AreNodes : List ℕ → ℕ → Type 0
-AreNodes path count = (k v : ℕ) → slice_get path k ≡ Some v → v < count
 
 -- how many edges were not gone through
 abbrev pub edges_left : Rows → List ℕ → ℕ

@@ -1,4 +1,5 @@
--- How far a search for the blocks that depend on an edit has come, and what each of its steps adds (own).
+-- How far a search for the blocks that depend on an edit has come, and what each of its steps adds
+-- (own).
 use Rattle.std.specs.Prelude.{ℕ, ◌≡◌, ◌<◌, ◌⊎◌, ◌++◌, List, Option, Some, None, slice_get}
 use Rattle.ti_text.specs.Lists.{Has}
 use Rattle.ti_index.specs.Names.{users_at}
@@ -8,7 +9,7 @@ use Rattle.ti_slots.specs.declared.slots.Slots.{Slots}
 use Rattle.ti_slots.specs.Slots.{reading_at, StandsAt, IsOwnerId}
 use Rattle.ti_dependents.specs.Dependents.{IsExchangeOf}
 
--- ids were put behind others: only such as pass, and all that pass are there
+-- ids were put after others: only such as pass, and all that pass are there
 pub record AddsPassing (IsAdded : ℕ → Type 0) (old new : List ℕ) : Type 0 where
   pub added : List ℕ
   pub behind : new ≡ old ++ added
@@ -33,7 +34,7 @@ IsUserOfOwned slots holder names id =
 abbrev pub IsPutOrUser : Slots → ℕ → ℕ → Type 0
 IsPutOrUser slots put id = (id ≡ put) ⊎ IsUserOfOne slots (reading_at slots.slots.items put).names id
 
--- the same where a block was put in; nothing where none was
+-- the same if a block was put in; nothing if none was
 abbrev pub IsPutOrUserIn : Slots → Option ℕ → ℕ → Type 0
 IsPutOrUserIn slots None id = ⊥
 IsPutOrUserIn slots (Some put) id = IsPutOrUser slots put id
@@ -43,8 +44,8 @@ abbrev pub Depends : Slots → Option ℕ → List (List ℕ) → ℕ → Type 0
 Depends slots put out id =
     (exchange : Exchange) → IsExchangeOf slots put out exchange → (at : ℕ) → StandsAt slots at id → IsDependent exchange at
 
--- what was found depends on the edit, and has the block put in, the users of touched names, and the users of the names
--- that the first `next` of the blocks found own
+-- what was found depends on the edit, and has the block put in, the users of touched names, and the
+-- users of the names that the first `next` of the blocks found own
 pub record IsSearch (slots : Slots) (put : Option ℕ) (out : List (List ℕ)) (found : List ℕ) (next : ℕ) : Type 0 where
   pub within : (id : ℕ) → Has found id → Has slots.order.listed id
   pub sound : (id : ℕ) → Has found id → Depends slots put out id

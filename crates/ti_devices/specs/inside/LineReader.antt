@@ -9,7 +9,8 @@ use Rattle.ti_devices.specs.declared.tool_error.ToolError.{ToolError}
 use Rattle.ti_devices.specs.declared.tool_error.ToolError.TheVariants.{ReadFault, LineTooLong}
 use Rattle.ti_devices.specs.LineReader.{last_line_of, line_limit_of, ahead_of, reads_left_of, bytes_left, CannotRead}
 
--- what stands before the first newline of the bytes ahead was put behind the line, or all of them where there is none
+-- what is before the first newline of the bytes ahead was put after the line, or all of them if
+-- there is none
 abbrev pub TakesLine : LineReader → LineReader → Result Bool ToolError → Type 0
 TakesLine before now (Ok true) =
     (front : List ℕ) × (ahead_of before ≡ with_newline front ++ ahead_of now) × IsOneLine front × (last_line_of now ≡ last_line_of before ++ front)
@@ -21,7 +22,8 @@ TakesLine before now (Err error) =
     (error ≡ LineTooLong) × (front : List ℕ) × (rest : List ℕ) × (ahead_of before ≡ front ++ rest) × IsOneLine front
     × (line_limit_of before < length (last_line_of before ++ front))
 
--- one more read: the bytes ahead are those that came; none came only at the end; or no read was left, or it failed
+-- one more read: the bytes ahead are those that came, and none came only at the end; or no read was
+-- left, or it failed
 abbrev pub Refills : LineReader → LineReader → Observed → Observed → Result Bool ToolError → Type 0
 Refills before now given left (Ok true) =
     Gives given left (ahead_of now) × (reads_left_of now + 1 ≡ reads_left_of before) × (bytes_left now ≤ bytes_left before)

@@ -1,4 +1,4 @@
--- One read, of which only the bytes that it gave are kept (own).
+-- One read, of which only the bytes that it gave are used (own).
 use Rattle.std.specs.Prelude.{◌≡◌, ℕ, List, [], Result, Ok, Err}
 use Rattle.std.specs.Io.KnownBytes.{IsAtEnd}
 use Rattle.ti_devices.specs.Counted.{Observed}

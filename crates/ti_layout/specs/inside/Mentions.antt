@@ -3,16 +3,16 @@ use Rattle.std.specs.Prelude.{◌≡◌, ℕ, suc, ◌<◌, List, length, slice_
 use Rattle.ti_caps.specs.Tables.{Capability, IsCapability, capability_count}
 use Rattle.ti_layout.specs.Values.{TableEntry, contents, rank_of}
 
--- this is the mention that decides of the capability with this rank
+-- the mention that decides for the capability with this rank
 abbrev pub Decides : List TableEntry → ℕ → TableEntry → Type 0
 Decides es rank e = IsCapability e.0 × (rank_of e.0 ≡ rank) × (contents es e.0 ≡ Some e.1)
 
--- by the rank of each capability, one more than the place of its first mention, 0 where there is none
+-- by the rank of each capability, one more than the place of its first mention, 0 if there is none
 pub record AreMentionPlaces (es : List TableEntry) (places : List ℕ) : Type 0 where
   pub all : length places ≡ capability_count
   pub none : (c : Capability) → IsCapability c → slice_index places (rank_of c) ≡ 0 → contents es c ≡ None
   pub first : (rank p : ℕ) → slice_index places rank ≡ suc p → (p < length es) × ((e : TableEntry) → Decides es rank (slice_index_or es p e))
 
--- after how many mentions a table is made of them
+-- how many mentions there are when a table is made of them
 abbrev pub recent_max : ℕ
 recent_max = 1000

@@ -1,4 +1,5 @@
--- What the steps of reading know of an entry (term(5)): the header's numbers, and the sections that they cut.
+-- What the steps of reading know of an entry (term(5)): the header's numbers, and the sections that
+-- they cut.
 use Rattle.std.specs.Prelude.{◌≡◌, ◌≢◌, ℕ, suc, ◌*◌, ◌<◌, ◌≤◌, List, length, slice_index}
 use Rattle.ti_text.specs.Ascii as ascii
 use Rattle.ti_caps.specs.Tables.{count_of}
@@ -49,7 +50,7 @@ pub record AreNames (names : List ℕ) : Type 0 where
   pub no_nul : (k : ℕ) → suc k < length names → slice_index names k ≢ ascii.nul
   pub ended : (k : ℕ) → suc k ≡ length names → slice_index names k ≡ ascii.nul
 
--- each byte of the section may stand for a flag
+-- each byte of the section may be that of a boolean
 abbrev pub AreFlags : List ℕ → Type 0
 AreFlags flags = (k : ℕ) → k < length flags → IsFlagByte (slice_index flags k)
 
@@ -57,10 +58,10 @@ AreFlags flags = (k : ℕ) → k < length flags → IsFlagByte (slice_index flag
 abbrev pub EachNumber : Format → List ℕ → (ℕ → Type 0) → Type 0
 EachNumber format section P = (k : ℕ) → k < count_in format section → P (number_at format (width format * k) section)
 
--- each number of the section is not negative, or stands for absent or cancelled
+-- each number of the section is not negative, or means absent or cancelled
 abbrev pub AreStoredNumbers : Format → List ℕ → Type 0
 AreStoredNumbers format numbers = EachNumber format numbers (IsStoredNumber format)
 
--- each offset leads to a text that a NUL ends in the string table, or stands for absent or cancelled
+-- each offset leads to a string that a NUL ends in the string table, or means absent or cancelled
 abbrev pub AreOffsets : List ℕ → List ℕ → Type 0
 AreOffsets offsets strings = EachNumber Legacy offsets (IsOffset strings)

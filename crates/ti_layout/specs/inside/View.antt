@@ -1,4 +1,4 @@
--- What every view keeps (own).
+-- What holds of every view (own).
 use Rattle.std.specs.Prelude.{ℕ, ◌<◌, List, length}
 use Rattle.ti_layout.specs.declared.layout.Format.TheVariants.{Legacy}
 use Rattle.ti_layout.specs.Layout.{first_negative}

@@ -8,21 +8,21 @@ use Rattle.ti_layout.specs.Values.{Content, content_true, content_number, conten
 use Rattle.ti_list.specs.declared.contents.Content.{Content as ContentInMemory}
 use Rattle.ti_list.specs.declared.contents.Content.TheVariants as memory
 
--- as plain data
+-- a content in memory, as plain data
 abbrev pub plain_content : ContentInMemory → Content
 plain_content memory.True = content_true
 plain_content (memory.Number n) = content_number n
 plain_content (memory.Text t) = content_text t.now
 plain_content memory.Cancelled = content_cancelled
 
--- the item that says it
+-- the item that says a content
 abbrev pub said_for : Capability → Content → Said
 said_for c content_true = said_flag c
 said_for c (content_number n) = said_number c n
 said_for c (content_text t) = said_text c t
 said_for c content_cancelled = said_cancel c
 
--- a text is no longer than a string table can be
+-- a string is no longer than a string table can be
 abbrev pub FitsStringTable : Content → Type 0
 FitsStringTable content_true = Unit {0}
 FitsStringTable (content_number n) = Unit {0}

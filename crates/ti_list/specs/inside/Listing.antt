@@ -1,4 +1,4 @@
--- How the items of a kind go on, where some of them stand already, and what follows them (own).
+-- How the items of a kind go on when some of them are written already, and what follows them (own).
 use Rattle.std.specs.Prelude.{ℕ, ◌+◌, ◌||◌, nat_lt, if◌then◌else◌, List, [], ◌∷◌, ◌++◌, Option, Some, None}
 use Rattle.ti_text.specs.Ascii as ascii
 use Rattle.ti_source.specs.Reading.{Said, said_import}
@@ -8,7 +8,7 @@ use Rattle.ti_list.specs.Items.{item_text}
 use Rattle.ti_list.specs.Listing.{size_of}
 use Rattle.ti_list.specs.RelativeSource.{first_name}
 
--- further items and then the rest, where so many columns of the line are taken
+-- further items and then the rest, when this number of columns of the line is taken
 abbrev pub further_before : Layout → ℕ → List Said → List ℕ → List ℕ
 further_before layout column [] rest = rest
 further_before layout column (item ∷ items) rest =
@@ -26,7 +26,8 @@ abbrev pub uses_before : List Entry → List ℕ → List ℕ
 uses_before [] rest = rest
 uses_before (other ∷ others) rest = ascii.newline ∷ ascii.tab ∷ item_text (said_import (first_name other.names)) ++ ascii.comma ∷ uses_before others rest
 
--- the items and then the rest, where so many columns of the line are taken, or no line has begun
+-- the items and then the rest, when this number of columns of the line is taken, or no line has
+-- begun
 abbrev pub flow : Layout → Option ℕ → List Said → List ℕ → List ℕ
 flow layout None items rest = lines_before layout items rest
 flow layout (Some column) items rest = further_before layout column items rest

@@ -15,7 +15,7 @@ use Rattle.ti_printing.specs.declared.printf.Flags.{Flags}
 use Rattle.ti_param.specs.Codes.{begins_zero, conversions, flags_from, greatest_size, is_flag, no_flags, parameter_numbered, row_for, simple_tokens}
 use Rattle.ti_param.specs.Codes.{span, variable_named}
 
--- what a text has at its front, and the text after it, if it has such a thing there
+-- what a text has at its front, and the text after it, if it has this at its front
 abbrev pub Front : Type 0 → Type 0
 Front T = Option (T × List ℕ)
 
@@ -40,7 +40,7 @@ byte_after [] = None
 byte_after (x ∷ []) = None
 byte_after (x ∷ (y ∷ rest)) = if y == ascii.apostrophe then Some (Operation (Constant (pos x)), rest) else None
 
--- the code of a constant with these digits, one or more and within 32 bits, where a `}` follows them
+-- the code of a constant with these digits, one or more and within 32 bits, if a `}` follows them
 unfoldable pub constant_before : List ℕ → List ℕ → Front Token
 constant_before ds [] = None
 constant_before ds (x ∷ rest) =
@@ -64,12 +64,13 @@ flags_after (x ∷ rest) = if x == ascii.colon then flags_of (span (is_flag true
 abbrev pub precision_of : List ℕ × List ℕ → Front (Option ℕ)
 precision_of parts = if nat_le (decimal_value parts.0) greatest_size then Some (Some (decimal_value parts.0), parts.1) else None
 
--- the precision at the front of a text, none where no `.` stands there, and the text after it
+-- the precision at the front of a text, none if no `.` is there, and the text after it
 unfoldable pub precision_after : List ℕ → Front (Option ℕ)
 precision_after [] = Some (None, [])
 precision_after (x ∷ rest) = if x == ascii.dot then precision_of (span is_decimal_digit rest) else Some (None, x ∷ rest)
 
--- the printf form of these flags, a width of these digits, at most 999, and a precision, before its conversion
+-- the printf form of these flags, a width of these digits, at most 999, and a precision, before its
+-- conversion
 unfoldable pub directive_with : Flags → List ℕ → Front (Option ℕ) → Front Directive
 directive_with flags ds None = None
 directive_with flags ds (Some (precision, [])) = None
@@ -100,14 +101,14 @@ letter_after x rest =
     (if x == ascii.open_brace then number_after rest else
     option_map (λ token. (token, rest)) (row_for x simple_tokens)))))
 
--- the code at the front of a text, which stands after a `%`, and the text after it
+-- the code at the front of a text that is after a `%`, and the text after the code
 unfoldable pub token_after : List ℕ → Front Token
 token_after [] = None
 token_after (x ∷ rest) =
     if begins_directive x then option_map (λ found. (Operation (Print found.0), found.1)) (directive_after (x ∷ rest))
     else letter_after x rest
 
--- what was read, where it is a code that stands by itself
+-- what was read, if it is a code by itself
 abbrev pub code_of : Front Token → Front Code
 code_of None = None
 code_of (Some (Literal b, rest)) = None

@@ -5,7 +5,8 @@ use Rattle.ti_param.specs.declared.errors.ParamError.TheVariants.{BadFormat, Sta
 use Rattle.ti_param.specs.inside.Formats.{stuck_place, tree_of}
 use Rattle.ti_param.specs.Meaning.{FormatArgument, MachineState, MachineOutcome, start, meaning}
 
--- what an expansion gives: output and static variables, or the place where the format is bad or the stack full
+-- what an expansion gives: output and static variables, or the place where the format is bad or the
+-- stack is full
 pub data Expansion : Type 0 where
   expanded : (output : List ℕ) (statics : List ℤ) → Expansion
   bad_format : (place : ℕ) → Expansion
@@ -16,7 +17,7 @@ abbrev pub expansion_by : MachineOutcome → Expansion
 expansion_by (Ok final) = expanded final.output final.statics
 expansion_by (Err place) = stack_full place
 
--- a bad format where there is a place at which it is stuck, else the expansion by the run's outcome
+-- a bad format if there is a place where it is stuck, else the expansion by the run's outcome
 abbrev pub unless_stuck : Option ℕ → MachineOutcome → Expansion
 unless_stuck None outcome = expansion_by outcome
 unless_stuck (Some place) outcome = bad_format place
@@ -25,7 +26,7 @@ unless_stuck (Some place) outcome = bad_format place
 unfoldable pub format_expansion : List ℕ → List FormatArgument → List ℤ → Expansion
 format_expansion format parameters statics = unless_stuck (stuck_place format) (meaning (tree_of format) (start parameters statics))
 
--- the error that an expansion ends with; want of memory may come where the format is not stuck
+-- the error that an expansion ends with; `Memory` may come if the format is not stuck
 abbrev pub EndsWith : ParamError → Expansion → Type 0
 EndsWith (BadFormat place) e = e ≡ bad_format place
 EndsWith (StackFull place) e = e ≡ stack_full place
@@ -34,7 +35,8 @@ EndsWith Memory e = Unit {0}
 
 -- ---- its parts
 
--- the step did what it is to do and left the machine so, or it was refused; for want of memory the machine may be left in any way
+-- the step did what it is to do and left the machine so, or it was refused; after `Memory` the
+-- machine may be left in any way
 abbrev pub HasOutcome : Result (Unit {0}) ParamError → MachineState → MachineOutcome → Type 0
 HasOutcome (Ok done) after outcome = outcome ≡ Ok after
 HasOutcome (Err (StackFull place)) after outcome = outcome ≡ Err place

@@ -1,4 +1,5 @@
--- The tree of a format and the place where it is stuck, computed from left to right; and the law that these are those of `Formats` (own).
+-- The tree of a format and the place where it is stuck, computed from left to right; and the law
+-- that these are those of `Formats` (own).
 use Rattle.std.specs.Prelude.{◌≡◌, ℕ, zero, suc, ◌-◌, Bool, true, false, List, [], ◌∷◌, length, if◌then◌else◌, ◌==◌, nat_lt, Option, Some, None, ◌↔◌}
 use Rattle.ti_param.specs.declared.acceptor.Phase.{Phase}
 use Rattle.ti_param.specs.declared.acceptor.Phase.TheVariants.{Testing, Taken}
@@ -9,12 +10,13 @@ use Rattle.ti_text.specs.Ascii as ascii
 use Rattle.ti_param.specs.inside.Codes.{Front, token_after}
 use Rattle.ti_param.specs.Formats.{IsStuck, IsTree, FormatTree, byte, choice, code, group, most_open, nothing, placed_token}
 
--- the tokens up to the first `%` that begins no code, and that place, where there is one
+-- the tokens up to the first `%` that begins no code, and that place, if there is one
 pub record Scan : Type 0 where
   pub tokens : List Placed
   pub stop : Option ℕ
 
--- the token that a byte and the text after it begin with, and the text after the token: the code after a `%`, else the byte itself
+-- the token that a byte and the text after it begin with, and the text after the token: the code
+-- after a `%`, else the byte itself
 abbrev pub first_token : ℕ → List ℕ → Front Token
 first_token b after = if b == ascii.percent then token_after after else Some (Literal b, after)
 
@@ -22,12 +24,12 @@ first_token b after = if b == ascii.percent then token_after after else Some (Li
 abbrev pub with_token : ℕ → Token → Scan → Scan
 with_token place token scan = record { tokens = placed_token place token ∷ scan.tokens; stop = scan.stop }
 
--- the code at a place, where one was found, and the tokens of the text after it
+-- the code at a place, if one was found, and the tokens of the text after it
 abbrev pub with_code : ℕ → Front Token → (List ℕ → Scan) → Scan
 with_code place None scan_rest = record { tokens = []; stop = Some place }
 with_code place (Some found) scan_rest = with_token place found.0 (scan_rest found.1)
 
--- the scan of a text that begins at a place, whose first bytes belong to a code that was read
+-- the scan of a text that begins at a place; its first bytes belong to a code that was read
 unfoldable pub scan : (passed place : ℕ) → List ℕ → Scan
 scan passed place [] = record { tokens = []; stop = None }
 scan (suc passed) place (b ∷ text) = scan passed (suc place) text
@@ -39,8 +41,8 @@ scan zero place (b ∷ text) =
 abbrev pub scan_of : List ℕ → Scan
 scan_of format = scan 0 0 format
 
--- The open conditionals after one more token, the innermost first, each with what may come in it: a `%t` in its test, an
--- `%e` in the part taken. None where the token may not stand there.
+-- The open conditionals after one more token, the innermost first, each with what may come in it: a
+-- `%t` in its test, an `%e` in the part taken. None if the token may not come there.
 abbrev pub phases_after : List Phase → Token → Option (List Phase)
 phases_after phases (Literal b) = Some phases
 phases_after phases (Operation c) = Some phases
@@ -54,13 +56,14 @@ phases_after (Taken ∷ phases) Else = Some (Testing ∷ phases)
 phases_after [] EndIf = None
 phases_after (phase ∷ phases) EndIf = Some phases
 
--- the place of the first token that may not stand where it does, else the last argument
+-- the place of the first token that may not come where it is, else the last argument
 unfoldable pub refusal : List Phase → List Placed → Option ℕ → Option ℕ
 refusal phases [] stop = stop
 refusal phases (p ∷ tokens) stop =
     elim (phases_after phases p.token) [ None ↦ Some p.place | Some opened ↦ refusal opened tokens stop ]
 
--- the tokens of a scan that may stand where they do, and the place of the first that may not, else that where the scan stopped
+-- the tokens of a scan up to the first that may not come where it is, and the place of that one,
+-- else where the scan stopped
 unfoldable pub accepted : List Phase → List Placed → Option ℕ → Scan
 accepted phases [] stop = record { tokens = []; stop = stop }
 accepted phases (p ∷ tokens) stop = elim (phases_after phases p.token) [
@@ -68,17 +71,18 @@ accepted phases (p ∷ tokens) stop = elim (phases_after phases p.token) [
   | Some opened ↦ record { tokens = p ∷ (accepted opened tokens stop).tokens; stop = (accepted opened tokens stop).stop }
 ]
 
--- those of a scan that goes on inside these open conditionals
+-- the tokens of a scan that goes on inside these open conditionals
 abbrev pub accepted_of : List Phase → Scan → Scan
 accepted_of phases s = accepted phases s.tokens s.stop
 
--- what is left of a format: the text from a place on, inside these open conditionals, the innermost first
+-- what is left of a format: the text from a place on, inside these open conditionals, the innermost
+-- first
 pub record Unread : Type 0 where
   pub place : ℕ
   pub text : List ℕ
   pub phases : List Phase
 
--- the tokens that are left, as far as they may stand where they do
+-- the tokens that are left, up to the first that may not come where it is
 abbrev pub left_of : Unread → Scan
 left_of unread = accepted_of unread.phases (scan 0 unread.place unread.text)
 
@@ -91,12 +95,13 @@ front_of (b ∷ after) = first_token b after
 unfoldable pub stuck_place : List ℕ → Option ℕ
 stuck_place format = refusal [] (scan_of format).tokens (scan_of format).stop
 
--- the tree of the pieces up to the first `%t`, `%e` or `%;` that belongs to a conditional begun before, and such marks with
--- the trees between them
+-- the tree of the pieces up to the first `%t`, `%e` or `%;` that belongs to a conditional begun
+-- before, and such marks with the trees between them
 abbrev pub Marks : Type 0
 Marks = List (Token × FormatTree)
 
--- what stands in a conditional that begins with this test, the tree of what follows the conditional, and the marks after it
+-- what is in a conditional that begins with this test, the tree of what follows the conditional,
+-- and the marks after it
 abbrev pub conditional_of : FormatTree → Marks → FormatTree × FormatTree × Marks
 conditional_of test [] = (test, nothing, [])
 conditional_of test ((EndIf, next) ∷ marks) = (test, next, marks)
@@ -130,13 +135,13 @@ tree_and_marks (p ∷ tokens) = with_first_token p (tree_and_marks tokens)
 abbrev pub tree_of : List ℕ → FormatTree
 tree_of format = (tree_and_marks (scan_of format).tokens).0
 
--- the law of the computing reader: it gives the tree, and the place, that there are
+-- the law of the computing reader: it gives the tree, or the place, that there is
 pub record IsFormatComputed (format : List ℕ) : Type 0 where
   pub tree : (t : FormatTree) → IsTree format t ↔ ((stuck_place format ≡ None) × (tree_of format ≡ t))
   pub stuck : (place : ℕ) → IsStuck format place ↔ (stuck_place format ≡ Some place)
 
--- How many conditionals are open in a skipped part after one more token. None where the token ends the part: its `%;`, or
--- where that may end it its `%e`.
+-- How many conditionals are open in a skipped part after one more token. None if the token ends the
+-- part: the `%;` of the part, or its `%e` if that may end it.
 abbrev pub level_after : ℕ → Bool → Token → Option ℕ
 level_after level to_else (Literal b) = Some level
 level_after level to_else (Operation c) = Some level

@@ -13,7 +13,7 @@ use Rattle.ti_meaning.specs.UseLaws.{AreFound, HaveOneNumber}
 use Rattle.ti_meaning.specs.ValueTables.{HasTable, IsTableOfMentions}
 use Rattle.ti_components.specs.Graph.{Rows, HasEdge, IsGraph}
 use Rattle.ti_components.specs.Components.{AreComponents}
-use Rattle.ti_index.specs.Labels.{AreDistinct}
+use Rattle.ti_text.specs.Lists.{AreDistinct}
 use Rattle.ti_slots.specs.declared.slots.Slots.{Slots}
 use Rattle.ti_slots.specs.declared.slots.Settled.{Settled}
 use Rattle.ti_slots.specs.declared.slots.State.{State}
@@ -25,62 +25,63 @@ use Rattle.ti_plan.specs.declared.owners.Known.{Known}
 use Rattle.ti_plan.specs.declared.plans.Plan.{Plan}
 use Rattle.ti_plan.specs.Plans.{HoldsSettled}
 
--- blocks of a list with all that use them, and their uses of each other; what the slots hold of all other blocks is right
+-- blocks of a list with all that use them, and their uses of each other; what the slots hold of all
+-- other blocks is right
 pub record AreFoundIn (slots : Slots) (dependents : Dependents) : Type 0 where
   pub indexed : IsIndexed slots
   pub usable : All IsUsable (blocks_of slots)
   pub distinct : AreDistinct slots.order.listed
-  pub as_many : length dependents.places.items ≡ length dependents.ids.items
-  pub stands : (i id at : ℕ) → slice_get dependents.ids.items i ≡ Some id → slice_get dependents.places.items i ≡ Some at → StandsAt slots at id
-  pub once : (i j id : ℕ) → slice_get dependents.ids.items i ≡ Some id → slice_get dependents.ids.items j ≡ Some id → i ≡ j
-  pub closed : AreFound (blocks_of slots) dependents.places.items
+  pub as_many : length dependents.positions.items ≡ length dependents.ids.items
+  pub stands : (i id at : ℕ) → slice_get dependents.ids.items i ≡ Some id → slice_get dependents.positions.items i ≡ Some at → StandsAt slots at id
+  pub once : AreDistinct dependents.ids.items
+  pub closed : AreFound (blocks_of slots) dependents.positions.items
   pub graph : IsGraphOfUses slots dependents.ids.items dependents.uses
   pub whole : IsGraph dependents.uses
-  pub others : (at id : ℕ) → StandsAt slots at id → (Contains dependents.places.items at → ⊥) → HoldsSettled slots at id
+  pub others : (at id : ℕ) → StandsAt slots at id → (Contains dependents.positions.items at → ⊥) → HoldsSettled slots at id
 
 -- the position of a node's block
 abbrev pub node_position : Dependents → ℕ → ℕ
-node_position dependents node = slice_index dependents.places.items node
+node_position dependents node = slice_index dependents.positions.items node
 
 -- the plan has the blocks found, what is right for each, and their positions and work
 pub record IsPlanOf (slots : Slots) (dependents : Dependents) (plan : Plan) : Type 0 where
   pub ids : plan.ids ≡ dependents.ids
   pub as_many : length plan.settled.items ≡ length dependents.ids.items
   pub settled : (node at : ℕ) (block : Reading) (one : Settled) → slice_get plan.settled.items node ≡ Some one
-      → slice_get dependents.places.items node ≡ Some at
+      → slice_get dependents.positions.items node ≡ Some at
       → slice_get (blocks_of slots) at ≡ Some block → IsSettled (blocks_of slots) at block one
   pub rising : IsRising plan.rebuilt.items
-  pub members : (at : ℕ) → Contains plan.rebuilt.items at ↔ Contains dependents.places.items at
+  pub members : (at : ℕ) → Contains plan.rebuilt.items at ↔ Contains dependents.positions.items at
   pub steps : plan.work ≡ work (blocks_of slots) plan.rebuilt.items
 
--- what was found out so far about the blocks of a graph is right
-pub record AreSettled (slots : Slots) (dependents : Dependents) (settled : List (Option Settled)) : Type 0 where
+-- what was found out about the block at a node is right
+abbrev pub IsSettledNode : Slots → Dependents → List Settled → ℕ → Type 0
+IsSettledNode slots dependents settled node = (at : ℕ) (block : Reading) (one : Settled)
+    → slice_get settled node ≡ Some one → slice_get dependents.positions.items node ≡ Some at
+    → slice_get (blocks_of slots) at ≡ Some block → IsSettled (blocks_of slots) at block one
+
+-- what was found out about each block of the graph is right
+pub record AreAllSettled (slots : Slots) (dependents : Dependents) (settled : List Settled) : Type 0 where
   pub as_many : length settled ≡ length dependents.ids.items
-  pub right : (node at : ℕ) (block : Reading) (one : Settled) → slice_get settled node ≡ Some (Some one) → slice_get dependents.places.items node ≡ Some at
-      → slice_get (blocks_of slots) at ≡ Some block → IsSettled (blocks_of slots) at block one
+  pub right : (node : ℕ) → IsSettledNode slots dependents settled node
 
--- every block of the graph was settled
-pub record AreAllSettled (slots : Slots) (dependents : Dependents) (settled : List (Option Settled)) : Type 0 where
-  pub so_far : AreSettled slots dependents settled
-  pub all : (node : ℕ) → node < length settled → (one : Settled) × (slice_get settled node ≡ Some (Some one))
-
--- what settling a block stands on
-pub record IsKnown (slots : Slots) (dependents : Dependents) (component_of : List ℕ) (settled : List (Option Settled)) : Type 0 where
+-- what is known as a block is settled
+pub record IsKnown (slots : Slots) (dependents : Dependents) (component_of : List ℕ) (settled : List Settled) : Type 0 where
   pub found : AreFoundIn slots dependents
   pub components : AreComponents dependents.uses component_of
-  pub so_far : AreSettled slots dependents settled
+  pub as_many : length settled ≡ length dependents.ids.items
 
 -- each block that the one at the node uses is of its component or settled
-abbrev pub HasSettledOwners : Rows → List ℕ → List (Option Settled) → ℕ → Type 0
-HasSettledOwners graph component_of settled node =
-    (owner : ℕ) → HasEdge graph node owner
-    → HaveOneNumber component_of node owner ⊎ ((one : Settled) × (slice_get settled owner ≡ Some (Some one)))
+abbrev pub HasSettledOwners : Slots → Dependents → List ℕ → List Settled → ℕ → Type 0
+HasSettledOwners slots dependents component_of settled node =
+    (owner : ℕ) → HasEdge dependents.uses node owner
+    → HaveOneNumber component_of node owner ⊎ IsSettledNode slots dependents settled owner
 
--- the block at the node, which stands at that position of the list, can be settled
-pub record CanBeSettled (slots : Slots) (dependents : Dependents) (component_of : List ℕ) (settled : List (Option Settled)) (node at : ℕ) : Type 0 where
+-- the block at the node, which is at that position of the list, can be settled
+pub record CanBeSettled (slots : Slots) (dependents : Dependents) (component_of : List ℕ) (settled : List Settled) (node at : ℕ) : Type 0 where
   pub known : IsKnown slots dependents component_of settled
-  pub stands : slice_get dependents.places.items node ≡ Some at
-  pub owners : HasSettledOwners dependents.uses component_of settled node
+  pub stands : slice_get dependents.positions.items node ≡ Some at
+  pub owners : HasSettledOwners slots dependents component_of settled node
 
 -- all that is read to settle it is known
 abbrev pub CanSettle : Known → ℕ → ℕ → Type 0
@@ -120,7 +121,8 @@ abbrev pub IsEdgeTo : Slots → List ℕ → List ℕ → Option ℕ → Type 0
 IsEdgeTo slots ids name edge =
     (place : ℕ) → (edge ≡ Some place) ↔ ((id : ℕ) × IsOwnerId slots name id × (slice_get ids place ≡ Some id))
 
--- the name has an owner that does not lead to the block at that position, and the state is that of the owner
+-- the name has an owner that does not lead to the block at that position, and the state is that of
+-- the owner
 pub record IsOwnerState (blocks : List Reading) (at : ℕ) (name : List ℕ) (state : State) : Type 0 where
   pub block : Reading
   pub is : owner_block blocks name ≡ Some block

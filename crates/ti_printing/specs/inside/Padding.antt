@@ -9,7 +9,7 @@ use Rattle.ti_printing.specs.declared.padding.Part.{Part}
 use Rattle.ti_printing.specs.declared.padding.Part.TheVariants.{Literal, Delay}
 use Rattle.ti_printing.specs.Padding.{delay_digits_max, padded_parts, padding_of_parts}
 
--- what follows the byte, where the text begins with it
+-- what follows the byte, if the text begins with it
 abbrev pub after_byte : ℕ → List ℕ → Option (List ℕ)
 after_byte byte [] = None
 after_byte byte (first ∷ rest) = if first == byte then Some rest else None
@@ -31,11 +31,11 @@ tenths_in None text = (0, text)
 tenths_in (Some []) text = (0, text)
 tenths_in (Some (digit ∷ rest)) text = if is_decimal_digit digit then (decimal_digit_value digit, rest) else (0, text)
 
--- the tenths that the text begins with, 0 where there are none, and what follows them
+-- the tenths that the text begins with, 0 if there are none, and what follows them
 abbrev pub tenths_at : List ℕ → ℕ × List ℕ
 tenths_at text = tenths_in (after_byte ascii.dot text) text
 
--- whether a mark stands at the front, given what follows it if it does, and the text that is left then
+-- whether a mark is at the front, and what follows it; else the text
 abbrev pub mark_in : Option (List ℕ) → List ℕ → Bool × List ℕ
 mark_in None text = (false, text)
 mark_in (Some rest) text = (true, rest)
@@ -44,7 +44,7 @@ mark_in (Some rest) text = (true, rest)
 abbrev pub mark_at : ℕ → List ℕ → Bool × List ℕ
 mark_at byte text = mark_in (after_byte byte text) text
 
--- whether `*` and `/` stand there, and what follows
+-- whether `*` and `/` are there, and what follows
 abbrev pub marks_at : List ℕ → Bool × Bool × List ℕ
 marks_at text =
     let first = mark_at ascii.asterisk text in
@@ -52,12 +52,12 @@ marks_at text =
     let last = if first.0 then (true, slash.1) else mark_at ascii.asterisk slash.1 in
     (last.0, slash.0, last.1)
 
--- the padding of that time, where a `>` follows its marks
+-- the padding with that time, if a `>` follows its marks
 abbrev pub padding_with : ℕ → Bool × Bool × List ℕ → Option (Padding × List ℕ)
 padding_with time marks =
     option_and_then (λ rest. Some (record { tenths = time; proportional = marks.0; mandatory = marks.1 }, rest)) (after_byte ascii.greater_than marks.2)
 
--- the padding of these milliseconds, which the text after them goes on with, and what follows it
+-- the padding with these milliseconds, which the text after them goes on with, and what follows it
 abbrev pub padding_from : ℕ × List ℕ → Option (Padding × List ℕ)
 padding_from whole = let part = tenths_at whole.1 in padding_with (10 * whole.0 + part.0) (marks_at part.1)
 
@@ -72,12 +72,12 @@ abbrev pub first_part : Option (Padding × List ℕ) → ℕ → Part
 first_part None byte = Literal byte
 first_part (Some found) byte = Delay found.0
 
--- how many bytes of the text a padding takes that began before it
+-- how many bytes of the text belong to a padding that began before it
 abbrev pub taken_by : Option (Padding × List ℕ) → List ℕ → ℕ
 taken_by None text = 0
 taken_by (Some found) text = length text - length found.1
 
--- the parts after so many bytes
+-- the parts after the given number of bytes
 abbrev pub parts_after : ℕ → List ℕ → List Part
 parts_after taken [] = []
 parts_after (suc taken) (byte ∷ text) = parts_after taken text
@@ -92,6 +92,6 @@ parts_of text = parts_after 0 text
 unfoldable pub with_pad_bytes : List ℕ → ℕ → Line → List ℕ
 with_pad_bytes text lines line = padded_parts lines line (parts_of text)
 
--- how many pad bytes that are in all
+-- how many pad bytes the parts have in all
 unfoldable pub padding_of : List ℕ → ℕ → Line → ℕ
 padding_of text lines line = padding_of_parts lines line (parts_of text)

@@ -9,16 +9,16 @@ pub const HEADER_LEN: usize = 12;
 
 const HEADER: [u8; HEADER_LEN] = [0x1a, 1, 24, 0, 2, 0, 1, 0, 130, 0, 8, 0];
 
-/// The names with their NUL, two flags, and a number.
+// The names with their NUL, two booleans, and a number.
 const FRONT: &[u8] = b"dumb|80-column dumb tty\0\x00\x01\x50\x00";
 
-/// The texts: bel, cr, cud1 and ind.
+// The strings: bel, cr, cud1 and ind.
 const TEXTS: &[u8] = b"\x07\0\x0d\0\x0a\0\x0a\0";
 
-/// How many offsets the entry has.
+// How many offsets the entry has.
 const OFFSET_COUNT: u8 = 130;
 
-/// Where a text lies, the low byte of its offset; `None` where it is absent.
+// Where a string is, the low byte of its offset; `None` if it is absent.
 fn offset(index: u8) -> Option<u8> {
     match index {
         1 => Some(0),

@@ -55,7 +55,7 @@ impl Tally {
         }
     }
 
-    /// Reads an entry, and does all with it that can be done with one, beside a good one.
+    /// Reads an entry, and does all with it that can be done with one, together with a good one.
     pub fn try_entry(
         &mut self,
         alloc: Global,
@@ -143,7 +143,7 @@ impl Tally {
     }
 }
 
-/// How many capabilities the entry has.
+// How many capabilities the entry has.
 fn count_present(view: &View<'_>) -> usize {
     let mut total = 0;
     for index in 0..count(Kind::Flag) {

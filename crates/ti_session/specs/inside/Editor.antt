@@ -12,8 +12,8 @@ use Rattle.ti_session.specs.Script.{LineLeads, Meaning, Source, SessionState, so
 abbrev pub source_of : Editor → Source
 source_of editor = source editor.database editor.rebuilt.items
 
--- The editor holds a state: of the block that is open so many bytes as there is room for, which is more than a block may
--- have.
+-- The editor holds a state: of the block that is open, at most as many bytes as there is room for,
+-- which is more than a block may have.
 pub record HasState (editor : Editor) (state : SessionState) : Type 0 where
   pub text : List ℕ
   pub source : source_of editor ≡ state.source

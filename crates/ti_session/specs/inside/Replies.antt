@@ -16,7 +16,7 @@ pub record CarriesOut (source : Source) (change : Change) (next : Source) (befor
   pub edited : EditsSource source change outcome next
   pub wrote : Wrote before now (outcome_text outcome) result
 
--- the report was written with its end, or a refusal for want of memory
+-- the report was written with its end, or a refusal as out of memory
 abbrev pub WroteReport : List (List ℕ) → Observed → Observed → Result Unit ToolError → Type 0
 WroteReport texts before now result =
     Wrote before now (report texts 1 ++ with_newline (codes ".")) result ⊎ Wrote before now (refused_text Memory) result

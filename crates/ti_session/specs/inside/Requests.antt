@@ -12,7 +12,7 @@ abbrev pub opened_mode : Opened → List ℕ → ScriptMode
 opened_mode (Insert at) text = in_insertion at text
 opened_mode (Replace at) text = in_replacement at text
 
--- the mode where such a block is open, or none is
+-- the mode if such a block is open, or if none is
 abbrev pub mode_of : Option Opened → List ℕ → ScriptMode
 mode_of None text = outside
 mode_of (Some opened) text = opened_mode opened text

@@ -9,11 +9,12 @@ abbrev pub bytes_on_lines : ℕ → List ℕ → List PlacedByte
 bytes_on_lines line [] = []
 bytes_on_lines line (b ∷ bs) = (b, line) ∷ bytes_on_lines (if b == ascii.newline then line + 1 else line) bs
 
--- whether a byte stands in a comment, a line that begins with `#`, where `before` stands just before it and `comment` says it of that byte
+-- whether a byte is in a comment, a line that begins with `#`; `before` is the byte just before it,
+-- and `comment` says it of that byte
 abbrev pub in_comment : Bool → ℕ → ℕ → Bool
 in_comment comment before b = if before == ascii.newline then b == ascii.number_sign else comment
 
--- the bytes that stand in no comment
+-- the bytes that are in no comment
 abbrev pub without_comments : Bool → ℕ → List PlacedByte → List PlacedByte
 without_comments comment before [] = []
 without_comments comment before (x ∷ xs) =
@@ -21,7 +22,8 @@ without_comments comment before (x ∷ xs) =
     then without_comments true x.0 xs
     else x ∷ without_comments false x.0 xs
 
--- the bytes without each newline and the run of white space and newlines after it, where `joining` says that such a run stands just before
+-- the bytes without each newline and the run of white space and newlines after it; `joining` says
+-- that such a run is just before them
 abbrev pub without_breaks : Bool → List PlacedByte → List PlacedByte
 without_breaks joining [] = []
 without_breaks joining (x ∷ xs) =
@@ -29,7 +31,8 @@ without_breaks joining (x ∷ xs) =
     then without_breaks true xs
     else x ∷ without_breaks false xs
 
--- the folded text of a block: comments are left out first, then line breaks; a newline stands before a block, and its lines are counted from 1
+-- the folded text of a block: comments are left out first, then line breaks; before a block comes a
+-- newline, and its lines are counted from 1
 abbrev pub folding_of : List ℕ → List PlacedByte
 folding_of block = without_breaks false (without_comments false ascii.newline (bytes_on_lines 1 block))
 
@@ -38,7 +41,7 @@ pub record FoldingIsComputed : Type 0 where
   pub folds : (block : List ℕ) → Folds block (folding_of block)
   pub only : (block : List ℕ) (text : List PlacedByte) → Folds block text → text ≡ folding_of block
 
--- what stands behind the first line of a text
+-- what follows the first line of a text
 abbrev pub after_line : List ℕ → List ℕ
 after_line [] = []
 after_line (b ∷ bs) = if b == ascii.newline then bs else after_line bs

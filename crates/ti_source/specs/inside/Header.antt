@@ -8,13 +8,13 @@ use Rattle.ti_source.specs.Header.{ReadsNames, is_lookup_name, lookup_parts}
 abbrev pub header_parts : List ℕ → List (List ℕ)
 header_parts field = slice_split (λ b. b == ascii.bar) field
 
--- whether no fault stands in a field
+-- whether a field has no fault
 abbrev pub is_header : List ℕ → Bool
 is_header field =
     not (list_any (λ b. b == ascii.nul) field) && list_all (λ part. not (length part == 0)) (header_parts field)
     && list_all is_lookup_name (lookup_parts (header_parts field))
 
--- the lookup names of a field, or none where a fault stands in it
+-- the lookup names of a field, or none if it has a fault
 abbrev pub header_names : List ℕ → Option (List (List ℕ))
 header_names field = if is_header field then Some (lookup_parts (header_parts field)) else None
 

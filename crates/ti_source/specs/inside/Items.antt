@@ -1,4 +1,5 @@
--- The names field, the items and what an item states, computed; what a reader of a folded text takes, and statements in memory (own).
+-- The names field, the items and what an item states, computed; what a reader of a folded text
+-- takes, and statements in memory (own).
 use Rattle.ti_text.specs.Ascii as ascii
 use Rattle.std.specs.Prelude.{◌≡◌, ℕ, Bool, true, false, not, ◌&&◌, ◌==◌, if◌then◌else◌, List, [], ◌∷◌, ◌++◌, map, length, take, slice_index, ◌<◌, ◌≤◌, Option}
 use Rattle.std.specs.Prelude.{Some, None}
@@ -14,17 +15,17 @@ use Rattle.ti_source.specs.declared.items.Claim.TheVariants as claims
 use Rattle.ti_source.specs.declared.items.Statement.{Statement as StatementInMemory}
 use Rattle.ti_source.specs.Items.{Claim, ItemPiece, Statement, claims_cancel, claims_flag, claims_number, claims_text, is_mark, item_piece, piece_of}
 
--- what stands before the first comma, all where there is none
+-- what is before the first comma, all if there is none
 abbrev pub field_of : List PlacedByte → List PlacedByte
 field_of [] = []
 field_of (x ∷ xs) = if x.0 == ascii.comma then [] else x ∷ field_of xs
 
--- what stands after the first comma, nothing where there is none
+-- what is after the first comma, nothing if there is none
 abbrev pub after_field : List PlacedByte → List PlacedByte
 after_field [] = []
 after_field (x ∷ xs) = if x.0 == ascii.comma then xs else after_field xs
 
--- what takes the byte after `x`, where `before` stands just before `x` and `by` takes `x` itself
+-- what takes the byte after `x`: `before` is just before `x`, and `by` takes `x` itself
 abbrev pub taken_after : Taken → ℕ → ℕ → Taken
 taken_after taken.Nothing before x =
     if x == ascii.backslash then taken.Backslash
@@ -39,7 +40,7 @@ cuts taken.Nothing x = x == ascii.comma
 cuts taken.Backslash x = false
 cuts taken.Caret x = x == ascii.comma
 
--- the items with a byte at the front of the first of them, which is a new one where there is none
+-- the items with a byte at the front of the first of them, which is a new one if there is none
 abbrev pub with_first : PlacedByte → List (List PlacedByte) → List (List PlacedByte)
 with_first x [] = (x ∷ []) ∷ []
 with_first x (item ∷ items) = (x ∷ item) ∷ items
@@ -52,12 +53,12 @@ items_of by before (x ∷ xs) =
     then [] ∷ items_of taken.Nothing ascii.comma xs
     else with_first x (items_of (taken_after by before x.0) x.0 xs)
 
--- the bytes before the first mark, all where there is none
+-- the bytes before the first mark, all if there is none
 abbrev pub before_mark : List ℕ → List ℕ
 before_mark [] = []
 before_mark (x ∷ xs) = if is_mark x then [] else x ∷ before_mark xs
 
--- the bytes from the first mark on, nothing where there is none
+-- the bytes from the first mark on, nothing if there is none
 abbrev pub from_mark : List ℕ → List ℕ
 from_mark [] = []
 from_mark (x ∷ xs) = if is_mark x then x ∷ xs else from_mark xs
@@ -68,18 +69,18 @@ without_last [] = []
 without_last (x ∷ []) = []
 without_last (x ∷ y ∷ ys) = x ∷ without_last (y ∷ ys)
 
--- what a text with no mark states, white space at its end set aside
+-- what a text with no mark states, without the white space at its end
 abbrev pub plain_statement : List ℕ → Statement
 plain_statement text =
     if last_byte 0 text == ascii.at_sign
     then record { name = without_last text; claim = claims_cancel }
     else record { name = text; claim = claims_flag }
 
--- the statement of a name with a value: a number where the mark is a `#`, else a text
+-- the statement of a name with a value: a number if the mark is `#`, else a string
 abbrev pub statement_with_value : List ℕ → ℕ → List ℕ → Statement
 statement_with_value name mark value = record { name = name; claim = if mark == ascii.number_sign then claims_number value else claims_text value }
 
--- what a text states, given what stands from its first mark on
+-- what a text states, given what begins with its first mark
 abbrev pub statement_by_mark : List ℕ → List ℕ → Statement
 statement_by_mark text [] = plain_statement (without_trailing_space text)
 statement_by_mark text (mark ∷ value) = statement_with_value (before_mark text) mark value
@@ -97,7 +98,8 @@ with_byte p x =
       | y ∷ ys ↦ item_piece (y ∷ ys ++ x.0 ∷ []) p.line
     ]
 
--- The item at the front of a text was taken: `piece` has its text and line, and `rest` is left, or the item was the last, and nothing is left.
+-- The item at the front of a text was taken: `piece` has its text and line, and `rest` is left; or
+-- the item was the last, and nothing is left.
 pub record TakesItem (text : List PlacedByte) (piece : ItemPiece) (last : Bool) (rest : List PlacedByte) : Type 0 where
   pub item : List PlacedByte
   pub is_piece : piece_of item ≡ piece
@@ -109,15 +111,16 @@ abbrev pub with_text_before : List PlacedByte → List (List PlacedByte) → Lis
 with_text_before front [] = front ∷ []
 with_text_before front (item ∷ items) = (front ++ item) ∷ items
 
--- An item is read up to here: `seen` of it, which shows as `shown`, and `source` is left.
+-- An item is read so far: `seen` of it, which shows as `shown`, and `source` is left.
 pub record ReadsSoFar (start : List PlacedByte) (by : Taken) (before : ℕ) (source : List PlacedByte) (shown : ItemPiece) : Type 0 where
   pub seen : List PlacedByte
   pub is_piece : piece_of seen ≡ shown
   pub items : items_of taken.Nothing ascii.comma start ≡ with_text_before seen (items_of by before source)
   pub shorter : length source ≤ length start
 
--- An item goes on over a run of bytes: none of them is a newline or ends the item. `by` takes the first of them, which stands just after `before`, and
--- `next` the byte after the run, which stands just after `last`.
+-- An item goes on over a run of bytes: none of them is a newline or ends the item. `by` takes the
+-- first of them, which is just after `before`, and `next` the byte after the run, which is just
+-- after `last`.
 pub data PassesRun : (by : Taken) (before : ℕ) (run : List ℕ) (next : Taken) (last : ℕ) → Type 0 where
   takes_no_byte : {by : Taken} {before : ℕ} → PassesRun by before [] by before
   takes_byte : {by next : Taken} {before last : ℕ} {run : List ℕ} (x : ℕ) → PassesRun by before run next last → (x == ascii.newline) ≡ false
@@ -134,18 +137,20 @@ pub record TakesRun (old : List PlacedByte) (by : Taken) (before : ℕ) (run : R
   pub whole : old ≡ on_line line run.bytes.now ++ new
   pub passes_run : PassesRun by before run.bytes.now run.taken run.last
 
--- However an item with this text was read up to `old`, it is read up to `new` with this longer text.
+-- However an item with this text was read up to `old`, it is read up to `new` with this longer
+-- text.
 abbrev pub ReadsOn : (old : List PlacedByte) (by : Taken) (before : ℕ) (text : List ℕ) (new : List PlacedByte) (next : Taken) (last : ℕ) (longer : List ℕ)
     → Type 0
 ReadsOn old by before text new next last longer =
     (start : List PlacedByte) (line : ℕ) → ReadsSoFar start by before old (item_piece text line) → ReadsSoFar start next last new (item_piece longer line)
 
--- whether a text is empty or begins with no white space
+-- whether a text is empty or does not begin with white space
 abbrev pub begins_visible : List ℕ → Bool
 begins_visible [] = true
 begins_visible (x ∷ xs) = not (is_white_space x)
 
--- A text goes on as an item that ends at once: it is not empty and begins with no white space, and the next byte cuts where it is a comma.
+-- A text goes on as an item that ends at once: it is not empty and does not begin with white space,
+-- and the next byte cuts if it is a comma.
 pub record IsItemText (text : List ℕ) : Type 0 where
   pub next : Taken
   pub last : ℕ
@@ -154,18 +159,21 @@ pub record IsItemText (text : List ℕ) : Type 0 where
   pub passes_run : PassesRun taken.Nothing ascii.comma text next last
   pub ends : cuts next ascii.comma ≡ true
 
--- The first bytes of a text, so many, are an item, and the next is the comma that ends it.
+-- The given number of first bytes of a text are an item, and the next byte is the comma that ends
+-- it.
 pub record IsWholeItem (text : List ℕ) (size : ℕ) : Type 0 where
   pub within : size < length text
   pub comma : slice_index text size ≡ ascii.comma
   pub item : IsItemText (take size text)
 
--- An item of this text was taken with its comma from the front of `old`, all on one line, and `new` is left.
+-- An item of this text was taken with its comma from the front of `old`, all on one line, and `new`
+-- is left.
 pub record TakesWholeItem (old : List PlacedByte) (text : List ℕ) (line : ℕ) (new : List PlacedByte) : Type 0 where
   pub whole : old ≡ on_line line text ++ (ascii.comma, line) ∷ new
   pub item : IsItemText text
 
--- Wherever an item begins with white space up to `old`, it is taken: `piece` has its text and line, and `new` is left, or the item was the last.
+-- Wherever an item begins with white space up to `old`, it is taken: `piece` has its text and line,
+-- and `new` is left; or the item was the last.
 abbrev pub EndsItem : (old : List PlacedByte) (piece : ItemPiece) (last : Bool) (new : List PlacedByte) → Type 0
 EndsItem old piece last new =
     (start : List PlacedByte) → ReadsSoFar start taken.Nothing ascii.comma old (item_piece [] 0) → TakesItem start piece last new

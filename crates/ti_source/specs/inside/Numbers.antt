@@ -9,11 +9,11 @@ use Rattle.ti_source.specs.WhiteSpace.{without_trailing_space}
 use Rattle.ti_source.specs.Numbers.{ReadsAs, digit_value, value_in}
 use Rattle.ti_text.specs.Limits.{number_max}
 
--- the value of digits in a base, or none where a byte is no digit of it
+-- the value of digits in a base, none if a byte is not a digit of it
 abbrev pub digits_read : ℕ → List ℕ → Option ℕ
 digits_read base ds = if list_all (λ b. nat_lt (digit_value b) base) ds then Some (value_in base ds) else None
 
--- the value of what stands after a first `0`
+-- the value of what is after a first `0`
 abbrev pub after_zero_read : List ℕ → Option ℕ
 after_zero_read [] = Some 0
 after_zero_read (x ∷ []) = digits_read 8 (x ∷ [])

@@ -11,7 +11,7 @@ use Rattle.ti_source.specs.Judging.{Judged, items_at, faults_at, items_from, fau
 use Rattle.ti_source.specs.inside.Header.{header_names}
 use Rattle.ti_source.specs.inside.Verdicts.{verdict_of}
 
--- what comes of an item that stands on this line and states this
+-- what comes of an item on this line that states this
 abbrev pub judged_as : ℕ → Option Statement → Option Judged
 judged_as line None = None
 judged_as line (Some s) = Some (record { line = line; name = s.name; verdict = verdict_of s.name s.claim })
@@ -24,7 +24,7 @@ judged_of item = judged_as (piece_of item).line (statement_of (piece_of item).te
 abbrev pub block_field : List ℕ → List ℕ
 block_field block = bytes (field_of (folding_of block))
 
--- the items behind the names field of a block
+-- the items after the names field of a block
 abbrev pub block_items : List ℕ → List (List PlacedByte)
 block_items block = items_of taken.Nothing ascii.comma (after_field (folding_of block))
 

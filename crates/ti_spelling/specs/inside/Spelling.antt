@@ -1,14 +1,12 @@
 -- What a text spells, computed, and the law that joins this to the relations of `Spelling` (own).
 --   unescape_result raw  what the text spells, `Ok (bytes, odd)`, or its first fault
---   GivesUnescaped       an answer of `unescape` is that, or Memory where the text spells something
 -- The law: UnescapedAgrees.
 use Rattle.std.specs.Prelude.{◌≡◌, ℕ, zero, suc, ◌+◌, ◌-◌, ◌==◌, Bool, true, false, not, ◌&&◌, ◌||◌, ◌↔◌, if◌then◌else◌, nat_le, List, [], ◌∷◌, length}
-use Rattle.std.specs.Prelude.{bit_and, IsOk}
+use Rattle.std.specs.Prelude.{bit_and}
 use Rattle.std.specs.Prelude.{Option, Some, None, Result, Ok, Err}
 use Rattle.ti_text.specs.Ascii as ascii
 use Rattle.ti_spelling.specs.declared.spelling.UnescapeError.{UnescapeError}
-use Rattle.ti_spelling.specs.declared.spelling.UnescapeError.TheVariants.{BadOctal, BadControl, BadByte, Memory}
-use Rattle.ti_spelling.specs.declared.spelling.Unescaped.{Unescaped}
+use Rattle.ti_spelling.specs.declared.spelling.UnescapeError.TheVariants.{BadOctal, BadControl, BadByte}
 use Rattle.ti_spelling.specs.declared.spelling.Piece.{Piece}
 use Rattle.ti_spelling.specs.Spelling.{Fails, Spells, is_octal_digit, is_percent, named_escape, not_nul, octal_digits, octal_value}
 use Rattle.std.specs.Prelude.{◌≡◌, ℕ, ◌<◌, Bool, false, ◌||◌, List, [], ◌++◌, length, Option, Some, None, Result, Ok, Err}
@@ -36,7 +34,7 @@ unfoldable pub escape_piece : List ℕ → Result Piece UnescapeError
 escape_piece [] = Ok (record { size = 1; byte = ascii.backslash; odd = true })
 escape_piece (x ∷ xs) = named_piece (named_escape x) (unnamed_piece x xs)
 
--- 0x20 to 0x7E but the comma
+-- 0x20 to 0x7E, except the comma
 abbrev pub is_control_letter : ℕ → Bool
 is_control_letter x = nat_le ascii.space x && (nat_le x ascii.tilde && not (x == ascii.comma))
 
@@ -53,7 +51,7 @@ first_piece percent (x ∷ xs) = if x == ascii.backslash then escape_piece xs
     else (if x == ascii.caret then (if percent then Ok (record { size = 1; byte = ascii.caret; odd = false }) else control_piece xs)
     else (if x == ascii.nul then Err BadByte else Ok (record { size = 1; byte = x; odd = false })))
 
--- whether a byte stands for itself, whatever stands around it
+-- whether a byte spells itself, whatever is around it
 abbrev pub is_literal : ℕ → Bool
 is_literal x = not (x == ascii.backslash || x == ascii.caret || x == ascii.nul)
 
@@ -62,12 +60,13 @@ abbrev pub with_piece : Piece → Result (List ℕ × Bool) UnescapeError → Re
 with_piece piece (Ok later) = Ok (piece.byte ∷ later.0, piece.odd || later.1)
 with_piece piece (Err cause) = Err cause
 
--- the first piece, and then what is later; its fault comes before later ones
+-- the first piece, and then what comes later; a fault in the piece comes before later ones
 abbrev pub then_later : Result Piece UnescapeError → (Piece → Result (List ℕ × Bool) UnescapeError) → Result (List ℕ × Bool) UnescapeError
 then_later (Ok piece) later = with_piece piece (later piece)
 then_later (Err cause) later = Err cause
 
--- what a text spells after the byte `before`, where its first `left` bytes belong to a piece that was read
+-- what a text spells after the byte `before`, if its first `left` bytes belong to a piece that was
+-- read
 unfoldable pub unescaped_from : (left before : ℕ) (text : List ℕ) → Result (List ℕ × Bool) UnescapeError
 unescaped_from left before [] = Ok ([], false)
 unescaped_from zero before (x ∷ xs) = then_later (first_piece (is_percent before) (x ∷ xs)) (λ piece. unescaped_from (piece.size - 1) x xs)
@@ -77,18 +76,12 @@ unescaped_from (suc left) before (x ∷ xs) = unescaped_from left x xs
 unfoldable pub unescape_result : List ℕ → Result (List ℕ × Bool) UnescapeError
 unescape_result raw = unescaped_from 0 0 raw
 
--- an answer of `unescape`: want of memory comes only where the text spells something
-abbrev pub GivesUnescaped : List ℕ → Result Unescaped UnescapeError → Type 0
-GivesUnescaped raw (Ok found) = unescape_result raw ≡ Ok (found.bytes.items, found.odd)
-GivesUnescaped raw (Err Memory) = IsOk (unescape_result raw)
-GivesUnescaped raw (Err cause) = unescape_result raw ≡ Err cause
-
 -- what is computed is what the relations say
 pub record IsUnescapeComputed (raw : List ℕ) : Type 0 where
   pub spelled : (value : List ℕ) (odd : Bool) → Spells raw value odd ↔ (unescape_result raw ≡ Ok (value, odd))
   pub refused : (cause : UnescapeError) → Fails raw cause ↔ (unescape_result raw ≡ Err cause)
 
--- of every text, the value that it spells and its first fault are exactly what `unescape_result` gives
+-- the value that a text spells, or its first fault, is exactly what `unescape_result` gives
 abbrev pub UnescapedAgrees : Type 0
 UnescapedAgrees = (raw : List ℕ) → IsUnescapeComputed raw
 
@@ -96,7 +89,7 @@ UnescapedAgrees = (raw : List ℕ) → IsUnescapeComputed raw
 abbrev pub left_of : Pieces → Result (List ℕ × Bool) UnescapeError
 left_of pieces = unescaped_from 0 pieces.before pieces.rest.now
 
--- the first piece is taken, or there is none, or a refusal stands there
+-- the first piece is taken, or there is none, or a refusal is there
 abbrev pub TakesPiece : (old : Pieces) → Result (Option Piece) UnescapeError → (new : Pieces) → Type 0
 TakesPiece old (Ok (Some piece)) new = (left_of old ≡ with_piece piece (left_of new)) × (length new.rest.now < length old.rest.now)
 TakesPiece old (Ok None) new = left_of old ≡ Ok ([], false)

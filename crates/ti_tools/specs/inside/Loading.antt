@@ -5,12 +5,12 @@ use Rattle.ti_meaning.specs.declared.edits.EditError.{EditError}
 use Rattle.ti_meaning.specs.declared.edits.Outcome.{Outcome}
 use Rattle.ti_meaning.specs.declared.edits.Outcome.TheVariants.{Accepted, Refused}
 
--- the insertions of these texts one behind the other, from that position on
+-- the insertions of these texts one after the other, from that position on
 abbrev pub insertions : ℕ → List (List ℕ) → List Change
 insertions at [] = []
 insertions at (text ∷ texts) = insertion at text ∷ insertions (suc at) texts
 
--- why the first edit that was refused was, if one was
+-- why the first edit that was refused was refused, if one was
 abbrev pub first_refusal : List Outcome → Option EditError
 first_refusal [] = None
 first_refusal (Accepted ∷ outcomes) = first_refusal outcomes

@@ -6,7 +6,8 @@ use Rattle.ti_tput.specs.Replies.{reply_of}
 use Rattle.ti_tput.specs.Results.{Reply}
 use Rattle.ti_tput.specs.declared.replies.TputOutcome.{TputOutcome}
 
--- the answer is the reply, with these variables after it; bad usage where there is none; or want of memory
+-- the answer is the reply, with these variables after it; bad usage if there is no reply; or
+-- `Memory`
 abbrev pub AnswersWords : Result TputOutcome ToolError → List ℤ → Option Reply → Type 0
 AnswersWords (Ok outcome) statics reply = reply ≡ Some (reply_of outcome statics)
 AnswersWords (Err Usage) statics reply = reply ≡ None

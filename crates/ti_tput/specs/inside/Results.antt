@@ -14,28 +14,28 @@ use Rattle.ti_tput.specs.Results.{Reply, reply, init_strings, long_name, number_
 
 -- ---- strings
 
--- a string padded for one line; None where that is too much padding
+-- a string padded for one line; None if that is too much padding
 abbrev pub padded_text : Line → List ℕ → Option (List ℕ)
 padded_text line text = if nat_lt pad_bytes_max (padding_of text 1 line) then None else Some (with_pad_bytes text 1 line)
 
--- A string that was padded is written, and the variables are then those after it. One with too much padding is refused: nothing
--- is written, status 4, and the variables are as before.
+-- A string that was padded is written, and the variables are then those after it. A string with too
+-- much padding is refused: nothing is written, the status is 4, and the variables are as before.
 abbrev pub sent_reply : Option (List ℕ) → (before after : List ℤ) → Reply
 sent_reply None before after = reply [] 4 before
 sent_reply (Some bytes) before after = reply bytes 0 after
 
--- the string that an expansion gives; a fault of the format is refused alike
+-- the string that an expansion gives; a fault of the format is refused in the same way
 abbrev pub expansion_reply : Line → List ℤ → Expansion → Reply
 expansion_reply line before (expanded output after) = sent_reply (padded_text line output) before after
 expansion_reply line before (bad_format place) = reply [] 4 before
 expansion_reply line before (stack_full place) = reply [] 4 before
 
--- a string as it stands where there is no word, else expanded with the words
+-- a string as it is written if there is no word, else expanded with the words
 abbrev pub string_reply : Line → List ℕ → List (List ℕ) → List ℤ → List ℕ → Reply
 string_reply line cap [] statics text = sent_reply (padded_text line text) statics statics
 string_reply line cap (word ∷ words) statics text = expansion_reply line statics (format_expansion text (parameters cap (word ∷ words)) statics)
 
--- those of the strings that are present, each padded for itself, in order; None where one has too much padding
+-- the strings that are present, each padded by itself, in order; None if one has too much padding
 abbrev pub padded_texts : Line → List (Option (List ℕ)) → Option (List ℕ)
 padded_texts line [] = Some []
 padded_texts line (None ∷ texts) = padded_texts line texts
@@ -43,7 +43,8 @@ padded_texts line (Some text ∷ texts) = both_lists (padded_text line text) (pa
 
 -- ---- commands
 
--- what is answered of a capability: nothing is written of a flag or of a string that is absent, and the status is then 1
+-- what is answered of a capability: nothing is written of a boolean or of a string that is absent,
+-- and the status is then 1
 abbrev pub holding_reply : Line → List ℕ → List (List ℕ) → List ℤ → Option Holding → Reply
 holding_reply line cap words statics None = reply [] 4 statics
 holding_reply line cap words statics (Some (flag_held set)) = reply [] (if set then 0 else 1) statics

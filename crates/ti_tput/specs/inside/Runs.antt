@@ -4,7 +4,8 @@ use Rattle.ti_layout.specs.View.{Entry}
 use Rattle.ti_tput.specs.Runs.{Course, LineStep, lines_start, reply_step, run_status, words_of}
 use Rattle.ti_tput.specs.inside.Results.{tput_result}
 
--- so many words of a line are looked at: a name and nine parameters are the most that a command may have, and one more is too many
+-- how many words of a line are looked at: a command has at most a name and nine parameters, and one
+-- more word is too many
 abbrev pub words_seen : ℕ
 words_seen = 11
 

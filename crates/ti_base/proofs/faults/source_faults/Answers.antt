@@ -2,7 +2,7 @@ use Rattle.std.proofs.Common.{◌≡◌, suc, ◌+◌, ◌<◌, ◌++◌, length
 use Rattle.std.proofs.lemmas.List.{length-map, append-nil, drop_all}
 use Rattle.ti_meaning.specs.Faults.{fault_seen, faults, faults_after}
 use Rattle.ti_slots.specs.Slots.{blocks_of, reading_at}
-use Rattle.ti_index.proofs.Lists.{item_at}
+use Rattle.ti_text.proofs.Lists.{item_at}
 use Rattle.ti_base.proofs.KeptFaults.{one_more_block}
 use Rattle.ti_base.proofs.faults.source_faults.Goals as goal
 

@@ -1,4 +1,4 @@
--- the row of the name leads to the capability, and no row to none
+-- the row of the name leads to the capability; if there is no row, there is no capability
 use Rattle.std.proofs.Common.{◌∙◌}
 use Rattle.ti_caps.proofs.Table.{no_name_from_no_row}
 use Rattle.ti_caps.proofs.Named.{found_at, no_capability_named, is_capability_named}

@@ -1,4 +1,4 @@
--- the row of that key has the name, or none has it
+-- the row with that key has the name, or no row has it
 use Rattle.std.proofs.Common.{◌<◌, Ok, Err, subst}
 use Rattle.std.proofs.lemmas.List.Sorted.{searched}
 use Rattle.ti_caps.specs.declared.keys.TheConstants.{KEYS}

@@ -1,4 +1,4 @@
--- the name of the capability is compared whole
+-- the whole name of the capability is compared
 use Rattle.std.proofs.Common.{◌≡◌, ◌∙◌, sym, true, false, bytes_eq}
 use Rattle.std.proofs.lemmas.Slice.Eq.{bytes_eq-Decides}
 use Rattle.ti_caps.specs.Tables.{capability}

@@ -1,4 +1,4 @@
--- the tool's own command finds the job, and clap no fault, as that of the program
+-- the tool's own command finds the job, and clap finds no fault, as with the command of the program
 use Rattle.std.proofs.Common.{rules, ◌≡◌, ◌∙◌, Some, Ok, List, subst, sym, ap, true, map, drop, take, length, ◌-◌, slice_get, option_map, string_bytes}
 use Rattle.std.specs.Result.{result_ok}
 use Rattle.clap.specs.Faults.{fault_of, is_simple_and_free}

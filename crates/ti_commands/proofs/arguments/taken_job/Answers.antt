@@ -1,4 +1,4 @@
--- what is said is the line of the mistake
+-- the message is the line of the mistake
 use Rattle.std.proofs.Common.{inr, refl, rules}
 use Rattle.ti_commands.proofs.arguments.taken_job.Goals as goal
 

@@ -1,10 +1,10 @@
--- each tool is a subcommand behind those before it
+-- each tool is a subcommand after those before it
 use Rattle.std.proofs.Common.{◌≡◌, ◌≤◌, ◌∙◌, List, ap, arith, length, rules, sym}
 use Rattle.std.specs.List.{fold}
 use Rattle.std.proofs.lemmas.List.{take_all}
 use Rattle.std.proofs.lemmas.List.Sums.{fold_more}
 use Rattle.clap.specs.Words.{app_of}
-use Rattle.ti_commands.specs.inside.Commands.{choices_of_last, program_app, with_tool}
+use Rattle.ti_commands.specs.inside.Commands.{choices_in, program_app, with_tool}
 use Rattle.ti_commands.specs.declared.commands.Tool.{Tool}
 use Rattle.ti_commands.proofs.Added.{tool_behind}
 use Rattle.ti_commands.proofs.commands.program_of.Goals as goal
@@ -22,4 +22,4 @@ returns-clause-app c =
     let past : length tools ≤ c.loop-tool.tool-index = omega arith in
     let all : app_of c.loop-tool.program ≡ fold with_tool program_app tools =
     c.loop-tool.invariant.0 ∙ ap (λ (seen : List Tool). fold with_tool program_app seen) (take_all c.loop-tool.tool-index tools past) in
-    (choices_of_last tools, c.requires.orders, all ∙ c.requires.app)
+    (choices_in tools, c.requires.orders, all ∙ c.requires.app)

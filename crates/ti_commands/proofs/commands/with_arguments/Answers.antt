@@ -1,4 +1,4 @@
--- each argument stands behind those before it
+-- each argument is after those before it
 use Rattle.std.proofs.Common.{◌∙◌, rules, sym}
 use Rattle.std.proofs.lemmas.List.Sums.{fold_more}
 use Rattle.ti_commands.specs.inside.Commands.{with_argument}

@@ -5,7 +5,7 @@ use Rattle.clap.specs.declared.builder.Command.TheViews.{out-Command as fields_o
 use Rattle.ti_commands.specs.inside.Commands.{with_argument}
 use Rattle.ti_commands.proofs.commands.with_arguments.Given as goal
 
--- the arguments before stand behind those that the command had
+-- the arguments before are after those that the command had
 abbrev pub invariant-loop-argument : goal.invariant-loop-argument
 invariant-loop-argument l = (app_of l.command ≡ fold with_argument (app_of l.initial.command) (take l.argument-index l.arguments))
     × ((fields_of l.command).has_globals ≡ false)

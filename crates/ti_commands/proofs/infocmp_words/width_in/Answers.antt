@@ -1,4 +1,4 @@
--- the number is within the bounds exactly where clap's test says so
+-- the number is within the bounds exactly if clap's test says so
 use Rattle.std.proofs.Common.{refl}
 use Rattle.ti_commands.proofs.Widths.{within, no_number}
 use Rattle.ti_commands.proofs.infocmp_words.width_in.Goals as goal

@@ -2,8 +2,8 @@ use Rattle.std.proofs.Common.{List, ℕ, slice_get, sym, ◌∙◌, ap, subst}
 use Rattle.ti_dependents.specs.inside.Uses.{ArePositions}
 use Rattle.ti_dependents.proofs.dependents.blocks_found.Goals as goal
 
-pub places_of-requires : goal.places_of-requires
-places_of-requires c = λ i id e.
+pub positions_of-requires : goal.positions_of-requires
+positions_of-requires c = λ i id e.
     let copied = c.deref.ensures.value ∙ (c.in_ok-ids.ensures.items ∙ c.as_slice.ensures.keys) in
     c.requires.listed i id (ap (λ xs. slice_get xs i) (sym copied) ∙ e)
 
@@ -14,12 +14,12 @@ graph_of_uses-requires-clause-filled c = λ i id e.
 pub returns-clause-placed : goal.returns-clause-placed
 returns-clause-placed c =
     let ids = c.in_ok-ids.ensures.items ∙ c.as_slice.ensures.keys in
-    let P : List ℕ → Type 0 = λ xs. ArePositions c.args.slots.now.order.listed xs c.in_ok-places.places.items in
+    let P : List ℕ → Type 0 = λ xs. ArePositions c.args.slots.now.order.listed xs c.in_ok-positions.positions.items in
     record {
       ids_found = ids;
-      positions = subst P (c.deref.ensures.value ∙ ids) c.in_ok-places.ensures.places;
+      are_positions = subst P (c.deref.ensures.value ∙ ids) c.in_ok-positions.ensures.positions;
       found_once = c.as_slice.ensures.unique;
-      listed_once = c.in_ok-places.ensures.distinct;
+      listed_once = c.in_ok-positions.ensures.distinct;
     }
 
 pub returns-clause-uses : goal.returns-clause-uses

@@ -14,8 +14,8 @@ graph_of_uses-requires-clause-indexed c = c.requires.indexed
 pub returns-clause-all : goal.returns-clause-all
 returns-clause-all c = record {
   listed = c.in_ok-ids.ensures.items ∙ (c.as_slice.ensures.keys ∙ c.requires.listed);
-  as_many = omega (arith, c.len.ensures, c.in_ok-places.ensures.len);
-  placed = λ i within. c.in_ok-places.ensures.each i (omega (arith, within, c.len.ensures));
+  as_many = omega (arith, c.len.ensures, c.in_ok-positions.ensures.len);
+  placed = λ i within. c.in_ok-positions.ensures.each i (omega (arith, within, c.len.ensures));
 }
 
 pub returns-clause-graph : goal.returns-clause-graph

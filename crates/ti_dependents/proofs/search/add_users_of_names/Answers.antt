@@ -1,6 +1,6 @@
 use Rattle.std.proofs.Common.{◌<◌, length, map, take, arith}
 use Rattle.std.specs.Rc.{rc_slice_items}
-use Rattle.ti_dependents.proofs.Lists.{map-take_item}
+use Rattle.ti_text.proofs.Lists.{map-take_item}
 use Rattle.ti_dependents.proofs.Adding.{adds_users_of}
 use Rattle.ti_dependents.proofs.search.add_users_of_names.Goals as goal
 

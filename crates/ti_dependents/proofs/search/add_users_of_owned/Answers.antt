@@ -1,7 +1,7 @@
 use Rattle.std.proofs.Common.{◌<◌, length, map, take, sym, ◌∙◌, arith}
 use Rattle.std.specs.Rc.{rc_slice_items}
 use Rattle.std.proofs.lemmas.Bool.{false≢true}
-use Rattle.ti_dependents.proofs.Lists.{map-take_item}
+use Rattle.ti_text.proofs.Lists.{map-take_item}
 use Rattle.ti_dependents.proofs.Adding.{adds_owned_of, adds_not_owned_of}
 use Rattle.ti_dependents.proofs.search.add_users_of_owned.Goals as goal
 use Rattle.ti_dependents.proofs.search.add_users_of_owned.Goals.{then-owns+in_ok-add_users, else-owns}

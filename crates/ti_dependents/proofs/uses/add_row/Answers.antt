@@ -2,7 +2,7 @@ use Rattle.std.proofs.Common.{◌<◌, length, map, take, ◌∷◌, [], ap, sub
 use Rattle.std.proofs.lemmas.List.{length-append, take_all}
 use Rattle.ti_source.specs.Reading.{item_of}
 use Rattle.ti_dependents.specs.inside.Uses.{AddsRow}
-use Rattle.ti_dependents.proofs.Lists.{map-take_item}
+use Rattle.ti_text.proofs.Lists.{map-take_item}
 use Rattle.ti_dependents.proofs.Edges.{row_begun, row_more}
 use Rattle.ti_dependents.proofs.uses.add_row.Goals as goal
 

@@ -3,7 +3,7 @@ use Rattle.ti_devices.specs.Placing.{entries}
 use Rattle.ti_devices.specs.Tree.{Writes}
 use Rattle.ti_devices.proofs.placing.place.Given as goal
 
--- the files that were gone over stand, and nothing failed
+-- the files so far are written, and nothing failed
 abbrev pub invariant-loop-count : goal.invariant-loop-count
 invariant-loop-count g l =
     Writes (take l.count (entries l.files)) (g.T.Tree.files l.initial.tree) (g.T.Tree.files l.tree)

@@ -1,4 +1,4 @@
--- what stands at the place is what the entries say, and a gap says nothing
+-- what is at the place is what the entries say, and a gap says nothing
 use Rattle.std.proofs.Common.{sym}
 use Rattle.ti_layout.proofs.KeptEntries.{contents_nowhere}
 use Rattle.ti_layout.proofs.Places.{nowhere, content_here, agrees_here}

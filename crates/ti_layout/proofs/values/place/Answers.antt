@@ -1,4 +1,4 @@
--- the search goes by the place of each entry among all capabilities
+-- the search compares the place of each entry among all capabilities
 use Rattle.std.proofs.Common.{rules}
 use Rattle.std.proofs.lemmas.List.Sorted.{answers_always}
 use Rattle.ti_layout.specs.Values.{rank_of}

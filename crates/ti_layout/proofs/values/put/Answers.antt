@@ -1,4 +1,4 @@
--- the value is written over the one there, or placed in the gap
+-- the value is written over the one there, or put into the gap
 use Rattle.std.proofs.Common.{◌≡◌, true, subst}
 use Rattle.std.specs.Option.{is_some}
 use Rattle.ti_layout.specs.inside.Values.{IsAt, IsGapFor}

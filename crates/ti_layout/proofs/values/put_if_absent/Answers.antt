@@ -1,4 +1,4 @@
--- what stands at the place stays, and a gap takes the value
+-- what is at the place remains, and a gap takes the value
 use Rattle.std.proofs.Common.{◌≡◌, true, subst}
 use Rattle.std.specs.Option.{is_some}
 use Rattle.ti_layout.specs.inside.Values.{IsAt, IsGapFor}

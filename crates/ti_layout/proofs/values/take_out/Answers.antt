@@ -1,4 +1,4 @@
--- what stands at the place is taken away, and a gap has nothing
+-- what is at the place is taken away, and a gap has nothing
 use Rattle.std.proofs.Common.{subst}
 use Rattle.ti_layout.specs.inside.Values.{IsAt, IsGapFor}
 use Rattle.ti_layout.specs.Values.{entries_of}

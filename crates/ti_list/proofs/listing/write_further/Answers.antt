@@ -1,4 +1,4 @@
--- where the item has room, a space stands in the place of the tab before it
+-- if the item has room, a space is in the place of the tab before it
 use Rattle.std.proofs.Common.{arith}
 use Rattle.std.proofs.lemmas.Grind.{common_steps}
 use Rattle.ti_list.proofs.Spaces.{spaced}

@@ -1,4 +1,5 @@
--- by index a capability stands at its index, and by name the call below gives it
+-- in the order by index a capability is at its index, and in the order by name the call below gives
+-- it
 use Rattle.std.proofs.Common.{◌≡◌, ◌∙◌, sym}
 use Rattle.ti_caps.specs.Tables.{capability}
 use Rattle.ti_list.specs.Listing.{in_order}

@@ -2,7 +2,7 @@ use Rattle.std.proofs.Common.{◌≡◌, ◌+◌, ◌<◌, ◌^◌, ◌≤◌, l
 use Rattle.ti_param.specs.inside.Formats.{after_part, left_of}
 use Rattle.ti_param.proofs.expansion.skip.Given as goal
 
--- what is skipped of the tokens that are left is what is skipped of all
+-- what is skipped of the tokens that are left is what is skipped of all tokens
 abbrev pub invariant-loop-token : goal.invariant-loop-token
 invariant-loop-token l = record {
   left : after_part l.level l.to_else (left_of l.lexer).tokens ≡ after_part 0 l.to_else (left_of l.fn.lexer).tokens;

@@ -8,7 +8,7 @@ use Rattle.ti_printing.specs.declared.printf.Conversion.TheVariants.{Decimal, Oc
 use Rattle.ti_param.specs.inside.Codes.{Front, code_of, plain_form, token_after, directive_after, flags_after, precision_after, directive_with}
 use Rattle.ti_param.proofs.reader.read_code.Goals as goal
 
--- a letter that is read so, at the front of a text
+-- a letter that is read as a conversion, at the front of a text
 plain_read : (text rest : List ℕ) (code : Code) (x y : ℕ) (conversion : Conversion) → code ≡ Print (plain_form conversion) → text ≡ x ∷ rest → x ≡ y →
     code_of (token_after (y ∷ rest)) ≡ Some (Print (plain_form conversion), rest) → ◌≡◌ {A = Front Code} (Some (code, rest)) (code_of (token_after text))
 plain_read text rest code x y conversion made begins letter read =

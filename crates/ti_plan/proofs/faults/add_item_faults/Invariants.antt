@@ -18,7 +18,8 @@ ghost-add_item_fault g a = g.at
 abbrev pub ghost-add_locals : goal.ghost-add_locals
 ghost-add_locals g a = g.at
 
--- what was added and what is to be added are the faults of all items; whether one of the uses so far is at fault
+-- what was added and what is to be added are the faults of all items; whether one of the uses so
+-- far is at fault
 abbrev pub invariant-loop-index : goal.invariant-loop-index
 invariant-loop-index g l = record {
   added : map (fault_at g.at) l.faults.items ++ filter is_no_duplicate (item_faults (blocks_of l.known.slots.now) g.at (filter (is_kept false) (map fault_of (drop l.next l.block.faults.items))) (map item_of (drop l.index l.block.items.items)))

@@ -1,9 +1,9 @@
 use Rattle.std.proofs.Common.{◌≡◌, ◌<◌, ℕ, arith, Some, None, rules}
-use Rattle.std.proofs.lemmas.Option.{slice_get_within, none-some, same_Some}
+use Rattle.std.proofs.lemmas.Option.{slice_get_within, slice_get-get_or}
 use Rattle.ti_slots.specs.Slots.{blocks_of}
 use Rattle.ti_meaning.proofs.UseFaults.{use_fault_missing}
 use Rattle.ti_plan.proofs.Places.{row_at}
-use Rattle.ti_plan.proofs.UsedOwners.{fault_circular, state_inside, state_outside, read_use, read_edge, owner_within, node_within, one_component, two_components, settled_read}
+use Rattle.ti_plan.proofs.UsedOwners.{fault_circular, state_inside, state_outside, read_use, read_edge, owner_within, node_within, one_component, two_components, settled_owner}
 use Rattle.ti_plan.proofs.owners.owner_state.Goals as goal
 
 pub bounds : goal.bounds
@@ -48,22 +48,15 @@ bounds-known-owner-in-Some g c =
 pub offset_bounds-known-owner-in-Some : goal.offset_bounds-known-owner-in-Some
 offset_bounds-known-owner-in-Some g c = let b = bounds-known-owner-in-Some g c in search rules
 
-pub unreachable-requires : goal.unreachable-requires
-unreachable-requires g c =
-    let k = c.args.known.now in
-    let edge = read_edge k.slots.now k.dependents.now k.component_of.now k.settled.now c.args.node g.at c.args.index c.args.name.now c.row.result.now c.requires.0.known c.requires.0.stands c.requires.1 c.row.ensures c.in-Some.owner c.in-Some.is in
-    let w = settled_read k.component_of.now k.settled.now k.dependents.now.uses c.args.node c.in-Some.owner c.index-known-owner.result None c.requires.0.owners edge (two_components k.component_of.now c.args.node c.in-Some.owner c.if-known-owner.false) c.index-known-owner.is c.in-None-settled.is in
-    none-some w.0 w.2
-
-pub returns-in-Some-settled-clause-owner : goal.returns-in-Some-settled-clause-owner
-returns-in-Some-settled-clause-owner g c =
+pub returns-else-known-owner-clause-owner : goal.returns-else-known-owner-clause-owner
+returns-else-known-owner-clause-owner g c =
     let k = c.args.known.now in
     let apart = two_components k.component_of.now c.args.node c.in-Some.owner c.if-known-owner.false in
     let u = read_use k.slots.now k.dependents.now k.component_of.now k.settled.now c.args.node g.at c.args.index c.args.name.now c.row.result.now c.requires.0.known c.requires.0.stands c.requires.1 c.row.ensures (Some c.in-Some.owner) c.in-Some.is in
+    let within = (owner_within k.slots.now k.dependents.now k.component_of.now k.settled.now c.args.node g.at c.args.index c.args.name.now c.row.result.now c.in-Some.owner u).1 in
     let edge = read_edge k.slots.now k.dependents.now k.component_of.now k.settled.now c.args.node g.at c.args.index c.args.name.now c.row.result.now c.requires.0.known c.requires.0.stands c.requires.1 c.row.ensures c.in-Some.owner c.in-Some.is in
-    let w = settled_read k.component_of.now k.settled.now k.dependents.now.uses c.args.node c.in-Some.owner c.index-known-owner.result (Some c.in-Some-settled.settled) c.requires.0.owners edge apart c.index-known-owner.is c.in-Some-settled.is in
-    rw (same_Some c.in-Some-settled.settled w.0 w.2)
-    (state_inside k.slots.now k.dependents.now k.component_of.now k.settled.now c.args.node g.at c.args.index c.args.name.now c.in-Some.owner w.0 u apart w.1)
+    let right = settled_owner k.slots.now k.dependents.now k.component_of.now k.settled.now c.args.node c.in-Some.owner c.requires.0.owners edge apart in
+    state_inside k.slots.now k.dependents.now k.component_of.now k.settled.now c.args.node g.at c.args.index c.args.name.now c.in-Some.owner _ u apart right (slice_get-get_or k.settled.now c.in-Some.owner _ within)
 
 pub returns-in-Some-owner-clause-owner : goal.returns-in-Some-owner-clause-owner
 returns-in-Some-owner-clause-owner g c =
@@ -88,4 +81,4 @@ pub row-requires : goal.row-requires
 row-requires g c =
     let d = c.args.known.now.dependents.now in
     let found = c.requires.0.known.found in
-    below_as_many c.args.node _ _ _ (slice_get_within d.places.items c.args.node g.at c.requires.0.stands) found.as_many found.graph.as_many
+    below_as_many c.args.node _ _ _ (slice_get_within d.positions.items c.args.node g.at c.requires.0.stands) found.as_many found.graph.as_many

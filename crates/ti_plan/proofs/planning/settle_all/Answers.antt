@@ -37,7 +37,7 @@ index_mut-requires c =
     let within : end < length order = rw c.deref-node-items.ensures.value at c.loop-node-test.true in
     let listed : slice_get order end ≡ Some node = rw c.deref-node-items.ensures.value (slice_get-get_or order end 0 within) in
     let below = c.requires.order.nodes end node listed in
-    omega (arith, c.loop-node.settled.ok.0, c.loop-node.invariant.following.so_far.as_many, c.requires.found.graph.as_many)
+    omega (arith, c.loop-node.settled.ok.0, c.loop-node.invariant.following.as_many, c.requires.found.graph.as_many)
 
 pub loop-node-preserved : goal.loop-node-preserved
 loop-node-preserved c =
@@ -53,7 +53,7 @@ loop-node-preserved c =
     let stands = place_stands slots d c.args.components.now.component_of.items order end node c.requires.found c.requires.order listed in
     let n = node_of_place slots d c.requires.found node (node_position d node) stands in
     let below = c.requires.order.nodes end node listed in
-    let fits : node < length c.loop-node.settled.items = omega (arith, h.following.so_far.as_many, c.requires.found.graph.as_many) in
+    let fits : node < length c.loop-node.settled.items = omega (arith, h.following.as_many, c.requires.found.graph.as_many) in
     record {
       following = following_more slots d order c.loop-node.settled.items end node c.in_ok-one.one h.following listed fits (right_at slots d node (node_position d node) c.in_ok-one.one stands c.in_ok-one.ensures.settled);
       steps = rw (more, map-append (node_position d) (take end order) (node ∷ []))
@@ -70,9 +70,9 @@ returns-clause-settled c =
 pub loop-node-init : goal.loop-node-init
 loop-node-init c =
     let all = c.in_ok-settled.settled.items in
-    let none : length all ≡ length c.args.dependents.now.ids.items = omega (arith, c.in_ok-settled.ensures.len, c.len.ensures, c.args.dependents.now.ids.ok.0) in
+    let none : length all ≡ length c.args.dependents.now.ids.items = omega (arith, c.in_ok-settled.ensures, c.len.ensures, c.args.dependents.now.ids.ok.0) in
     record {
-      following = following_begun c.args.slots.now c.args.dependents.now c.args.components.now.order.items all none c.in_ok-settled.ensures.none;
+      following = following_begun c.args.slots.now c.args.dependents.now c.args.components.now.order.items all none;
       steps = none_made c.args.steps.now;
       bound = from_start c.args.steps.now;
     }

@@ -4,7 +4,7 @@ use Rattle.ti_printing.specs.inside.Padding.{with_pad_bytes}
 use Rattle.ti_printing.specs.inside.Padding.{parts_of}
 use Rattle.ti_printing.proofs.padding.write.Given as goal
 
--- there is room for the parts to come, and what stands and what they give are all
+-- there is room for the parts to come, and what is written and what they give are the whole
 abbrev pub invariant-loop-part : goal.invariant-loop-part
 invariant-loop-part l =
     let parts = parts_of l.part-iterator.rest.now in

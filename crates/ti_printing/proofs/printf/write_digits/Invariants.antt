@@ -3,7 +3,7 @@ use Rattle.std.specs.Fmt.{digit_glyph}
 use Rattle.std.specs.Int.Digits.{digits_of}
 use Rattle.ti_printing.proofs.printf.write_digits.Given as goal
 
--- the digits to come and those that stand in the buffer are the numeral, and there is room for those to come
+-- the digits to come and those in the buffer are the numeral, and there is room for those to come
 abbrev pub invariant-loop-rest : goal.invariant-loop-rest
 invariant-loop-rest l = record {
   room : length (digits_of l.base l.rest) ≤ l.at;

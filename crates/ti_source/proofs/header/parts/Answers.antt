@@ -5,7 +5,7 @@ use Rattle.std.proofs.lemmas.Iterator.Consumers.{YieldsList-at, YieldsList-end}
 use Rattle.std.proofs.lemmas.Iterator.Splits.{YieldsList-from_slice_split}
 use Rattle.ti_source.proofs.header.parts.Goals as goal
 
--- `YieldsList-end` with the loop's facts first, which settle what the chain proof is of
+-- `YieldsList-end` with the loop's facts first, which settle what the chain proves
 ended : {S A B : Type 0} {steps : S → Option A → S → Type 0} (v : A → B) {s : S} (all : List B) (xs : List A) (t : S) → Yields steps s xs t
     → (r : Option A) (u : S) → r ≡ None → steps t r u → YieldsList steps v s all → map v xs ≡ all
 ended v all xs t y r u e n chain = (YieldsList-end chain xs t y r u e n).0

@@ -4,14 +4,14 @@ use Rattle.ti_spelling.proofs.SpellingLaws.{spells_unescaped}
 use Rattle.ti_source.proofs.JudgingLaws.{caused}
 use Rattle.ti_source.proofs.verdicts.judge_text.Goals as goal
 
-pub returns-then-found : goal.returns-then-found
-returns-then-found c = rw (spells_unescaped c.in-Ok.ensures.ok, c.if-found.true, c.in_ok-text-in-Ok.ensures) refl
+pub returns-then-odd : goal.returns-then-odd
+returns-then-odd c = rw (spells_unescaped c.in-Ok.ensures.ok, c.if-odd.true, c.in_ok-text-in-Ok.ensures) refl
 
 pub keep-requires : goal.keep-requires
-keep-requires c = rw (spells_unescaped c.in-Ok.ensures.ok, c.if-found.false, c.in_ok-text-in-Ok.ensures) refl
+keep-requires c = rw (spells_unescaped c.in-Ok.ensures.ok, c.if-odd.false, c.in_ok-text-in-Ok.ensures) refl
 
 pub returns-in_ok-keep-in-Ok : goal.returns-in_ok-keep-in-Ok
-returns-in_ok-keep-in-Ok c = rw (spells_unescaped c.in-Ok.ensures.ok, c.if-found.false, c.in_ok-text-in-Ok.ensures) refl
+returns-in_ok-keep-in-Ok c = rw (spells_unescaped c.in-Ok.ensures.ok, c.if-odd.false, c.in_ok-text-in-Ok.ensures) refl
 
 pub returns-in-Err : goal.returns-in-Err
 returns-in-Err c =

@@ -1,4 +1,4 @@
--- a plain byte is its own text
+-- a plain byte is its own spelling
 use Rattle.std.proofs.Common.{◌∙◌, ◌++◌, List, ℕ, ap, sym}
 use Rattle.ti_spelling.proofs.WritingLaws.{plain_text}
 use Rattle.ti_spelling.proofs.writing.write_byte.Goals as goal

@@ -1,4 +1,4 @@
--- each step appends the text of one byte
+-- each step appends the spelling of one byte
 use Rattle.std.proofs.Common.{◌≡◌, ◌-◌, length, eqb, ap, sym, ◌∙◌, arith}
 use Rattle.std.specs.Prelude.{◌||◌}
 use Rattle.std.proofs.lemmas.Bool.{eq-eqb, ne_eqb, or_left}

@@ -8,7 +8,8 @@ use Rattle.ti_tools.specs.EntryFiles.{files_for, own_names}
 use Rattle.ti_devices.specs.Placing.{entries}
 use Rattle.ti_tools.proofs.entry_files.add_files.Given as goal
 
--- the files so far, and those of the names that are left, are those that are wanted; of the block's names, those before were seen
+-- the files so far, and those of the names that are left, are those that are wanted; of the block's
+-- names, those before were seen
 abbrev pub invariant-loop-name : goal.invariant-loop-name
 invariant-loop-name l =
     (entries l.files.items ++ files_left l.dir l.image (readings l.database) l.at (map rc_slice_items l.names) l.name-index

@@ -26,7 +26,7 @@ returns-in-Some-clause-contents c = c.in-Some.ensures.contents
 pub names_of-requires : goal.names_of-requires
 names_of-requires c = image_again _ _ c.deref.ensures.value c.self.invariant
 
--- the names that the image is written anew with
+-- the names with which the image is written anew
 same_names : (c : After-new) → c.names_of.result.now ≡ c.args.self.now.names
 same_names c = c.names_of.ensures.names ∙ ap names_in c.deref.ensures.value ∙ ap (λ (i : NamedTable). i.names) c.self.view_is
 

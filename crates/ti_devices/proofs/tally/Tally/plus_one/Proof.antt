@@ -1,4 +1,5 @@
--- `plus_one` makes the struct without fields, with the count that its clause names. Assumes `Logic`.
+-- `plus_one` makes the struct without fields, with the count that its clause names. Assumes
+-- `Logic`.
 use Rattle.std.proofs.Common.{List, [], ◌∷◌, ◌++◌, ◌+◌, refl}
 use seplogic.Ra.Ura.{Ura}
 use mir.Val.{Val, vptr}

@@ -24,7 +24,7 @@ returns c d valid =
     ∙ added_more now.table now.recent.items (c.args.cap, c.args.value) d
     ∙ ap (λ o. option_or o (cond (same_capability c.args.cap d) (Some (content_of c.args.value)) None)) before
 
--- what the mentions before this one keep
+-- what the mentions before this one leave as it was
 pub invariant_of-self : goal.invariant_of-self
 invariant_of-self c = (c.settle.ensures.few, c.settle.ensures.agree)
 

@@ -2,7 +2,7 @@ use Rattle.std.proofs.Common.{◌≡◌, length}
 use Rattle.ti_param.specs.inside.Formats.{left_of}
 use Rattle.ti_param.proofs.lexer.Lexer.end.Given as goal
 
--- what is left ends where all does
+-- the tokens that are left end where all tokens do
 abbrev pub invariant-loop : goal.invariant-loop
 invariant-loop l = (left_of l.self).stop ≡ (left_of l.fn.self).stop
 

@@ -1,37 +1,43 @@
-use Rattle.std.proofs.Common.{◌≡◌, ◌≤◌, ℕ, List, not, nat_eq, ◌&&◌, length, refl, ◌∙◌, arith}
+use Rattle.std.proofs.Common.{◌≡◌, ◌≤◌, ℕ, List, not, nat_eq, ◌&&◌, length, refl, ◌∙◌, ap, arith}
 use Rattle.std.specs.List.{insert}
+use Rattle.ti_source.specs.Reading.{reading_of}
+use Rattle.ti_meaning.proofs.Leading.{any_use-used}
 use Rattle.ti_text.specs.Lists.{Has}
-use Rattle.ti_slots.specs.Slots.{has_name, uses_name}
+use Rattle.ti_source.specs.declared.parsing.Parsed.{Parsed}
+use Rattle.ti_slots.specs.declared.indexing.Role.{Role}
+use Rattle.ti_slots.specs.declared.indexing.Role.TheVariants.{Holder, User}
+use Rattle.ti_slots.specs.declared.slots.Slots.{Slots}
+use Rattle.ti_slots.specs.Changes.{HasRoomFor}
+use Rattle.ti_slots.specs.inside.Indexing.{says_of, ids_at, HasRoomAt, IsPart}
+use Rattle.ti_slots.specs.Slots.{has_name, uses_name, IsIndexed}
 use Rattle.ti_slots.proofs.Listings.{get-inserted}
 use Rattle.ti_slots.proofs.Changing.{holders_before, users_before, put_done}
 use Rattle.ti_slots.proofs.slots.Slots.put_in.Goals as goal
 
--- where the id stands now
+-- the place of the id now
 stands_now : (listed new : List ℕ) (at id : ℕ) → at ≤ length listed → new ≡ insert listed at id → Has new id
 stands_now listed new at id within e = (at, rw e (get-inserted listed at id within))
 
-pub add_holders-requires-clause-stands : goal.add_holders-requires-clause-stands
-add_holders-requires-clause-stands c = stands_now c.args.self.now.order.listed c.insert-id.new.self.listed c.args.at c.insert-id.result c.requires.within c.insert-id.ensures.listed
+pub add-requires-clause-stands : goal.add-requires-clause-stands
+add-requires-clause-stands c = stands_now c.args.self.now.order.listed c.insert-id.new.self.listed c.args.at c.insert-id.result c.requires.within c.insert-id.ensures.listed
 
-pub add_holders-requires-clause-parts : goal.add_holders-requires-clause-parts
-add_holders-requires-clause-parts c = λ name. (
-  (λ x. not (nat_eq x c.insert-id.result) && has_name c.args.self.now.slots.items name x),
-  holders_before c.args.self.now c.insert-id.new.self.listed c.args.at c.insert-id.result c.requires.indexed c.insert-id.ensures.listed c.insert-id.ensures.fresh name,
-)
+parts : (slots : Slots) (listed : List ℕ) (at id : ℕ) → IsIndexed slots → listed ≡ insert slots.order.listed at id → (Has slots.order.listed id → ⊥) → (role : Role) (name : List ℕ) → IsPart listed (ids_at role slots.names name)
+parts slots listed at id h e fresh Holder name = ((λ x. not (nat_eq x id) && has_name slots.slots.items name x), holders_before slots listed at id h e fresh name)
+parts slots listed at id h e fresh User name = ((λ x. not (nat_eq x id) && uses_name slots.slots.items name x), users_before slots listed at id h e fresh name)
 
-pub add_users-requires-clause-stands : goal.add_users-requires-clause-stands
-add_users-requires-clause-stands c = stands_now c.args.self.now.order.listed c.insert-id.new.self.listed c.args.at c.insert-id.result c.requires.within c.insert-id.ensures.listed
+pub add-requires-clause-parts : goal.add-requires-clause-parts
+add-requires-clause-parts c = parts c.args.self.now c.insert-id.new.self.listed c.args.at c.insert-id.result c.requires.indexed c.insert-id.ensures.listed c.insert-id.ensures.fresh
 
-pub add_users-requires-clause-parts : goal.add_users-requires-clause-parts
-add_users-requires-clause-parts c = λ name. (
-  (λ x. not (nat_eq x c.insert-id.result) && uses_name c.args.self.now.slots.items name x),
-  c.add_holders.ensures.kept name
-      ∙ users_before c.args.self.now c.insert-id.new.self.listed c.args.at c.insert-id.result c.requires.indexed c.insert-id.ensures.listed c.insert-id.ensures.fresh name,
-)
+room : (slots : Slots) (block : Parsed) → HasRoomFor slots (reading_of block) → HasRoomAt (says_of block) slots.names
+room slots block h Holder name said = h.holders name said
+room slots block h User name said = h.users name (any_use-used name (reading_of block).items said)
+
+pub add-requires-clause-room : goal.add-requires-clause-room
+add-requires-clause-room c = room c.args.self.now c.args.slot.block c.requires.room
 
 pub returns : goal.returns
 returns c =
-    put_done c.args.self.now _ c.add_holders.new.index c.args.at c.insert-id.result c.args.slot c.requires.indexed
+    put_done c.args.self.now _ c.args.at c.insert-id.result c.args.slot c.requires.indexed
     (record {
       within = c.requires.within;
       listed = c.insert-id.ensures.listed;
@@ -39,6 +45,5 @@ returns c =
       fresh = c.insert-id.ensures.fresh;
       known = omega (arith, c.insert-id.ensures.known, c.requires.indexed.places);
       slots = refl;
-      holders = rw c.deref.ensures.value at c.add_holders.ensures;
-      users = rw c.deref-2.ensures.value at c.add_users.ensures;
+      names = c.add.ensures;
     })

@@ -1,6 +1,0 @@
--- two capabilities of one name are one
-use Rattle.ti_caps.proofs.Named.{every_name}
-use Rattle.ti_caps.proofs.lookup.every_name_is_found.Goals as goal
-
-pub returns : goal.returns
-returns c = every_name

@@ -1,0 +1,14 @@
+//! The worked rows of parameter strings, printf forms and padding as tests, by the manuals and by
+//! what the printf of the GNU C library prints; no code of the product.
+//!
+//! - `expansion`: parameter strings
+//! - `padding`: strings with delays
+//! - `printf`: forms
+#![tactic(auto)]
+
+#[cfg(test)]
+mod expansion;
+#[cfg(test)]
+mod padding;
+#[cfg(test)]
+mod printf;

@@ -1,0 +1,172 @@
+-- What a client asks for or tells (LSP 3.17; the section is named at each).
+use Rattle.std.specs.Prelude.{ℕ, ◌^◌, ◌||◌, List, [], ◌∷◌, Bool, true, false, not, Option, None, Some, codes, is_some, option_and_then, option_map, unwrap_or, nat_lt, if◌then◌else◌}
+use Rattle.std.specs.Str.{bytes_eq}
+use Rattle.serde_json.specs.Data.{Num, Data, null, boolean, number, unsigned, negative, float, string, array, object, Items, no_items, item}
+use Rattle.serde_json.specs.Find.{as_array, as_number, as_str, get, is_float}
+use Rattle.ti_messages.specs.declared.places.Position.{Position}
+use Rattle.ti_messages.specs.declared.places.Range.{Range}
+
+-- "TextDocumentContentChangeEvent": a new text of a range, or of the whole document
+pub record Edit : Type 0 where
+  pub range : Option Range
+  pub text : List ℕ
+
+-- a request: a known method, or parameters that are not those of its method, or an unknown one
+pub data Asked : Type 0 where
+  initialize : Asked
+  shutdown : Asked
+  unknown : Asked
+
+-- a notification: of a document its URI, its version, and its text or the edits; `nothing` are
+-- those that ask for nothing: `initialized`, unknown ones, and those with parameters that are not
+-- those of the method
+pub data Told : Type 0 where
+  exited : Told
+  opened : List ℕ → ℕ → List ℕ → Told
+  changed : List ℕ → ℕ → List Edit → Told
+  closed : List ℕ → Told
+  nothing : Told
+
+-- what a value is as a message; a faulty one may have an id
+pub data Meaning : Type 0 where
+  request : Data → Asked → Meaning
+  notification : Told → Meaning
+  response : Meaning
+  faulty : Option Data → Meaning
+
+infixl 10 ◌>>=◌
+abbrev pub ◌>>=◌ : {A B : Type 0} → Option A → (A → Option B) → Option B
+o >>= f = option_and_then f o
+
+-- ---- members
+
+abbrev pub text_at : List ℕ → Data → Option (List ℕ)
+text_at key d = option_and_then as_str (get key d)
+
+-- a number that all clients can hold
+abbrev pub small : Num → Option ℕ
+small (unsigned n) = if nat_lt n (2 ^ 31) then Some n else None
+small (negative z) = None
+small (float x) = None
+
+abbrev pub number_at : List ℕ → Data → Option ℕ
+number_at key d = option_and_then small (option_and_then as_number (get key d))
+
+-- ---- parameters
+
+-- "Position"
+abbrev pub position_of : Data → Option Position
+position_of d = do
+  line ← number_at (codes "line") d
+  column ← number_at (codes "character") d
+  Some (record { line = line; column = column })
+
+-- "Range"
+abbrev pub range_of : Data → Option Range
+range_of d = do
+  start ← option_and_then position_of (get (codes "start") d)
+  end ← option_and_then position_of (get (codes "end") d)
+  Some (record { start = start; end = end })
+
+-- a range that may be left out
+abbrev pub optional_range : Option Data → Option (Option Range)
+optional_range None = Some None
+optional_range (Some d) = option_map Some (range_of d)
+
+-- "TextDocumentContentChangeEvent"; `rangeLength` is not read
+abbrev pub edit_of : Data → Option Edit
+edit_of d = do
+  text ← text_at (codes "text") d
+  range ← optional_range (get (codes "range") d)
+  Some (record { range = range; text = text })
+
+abbrev pub edits_of : Items → Option (List Edit)
+edits_of no_items = Some []
+edits_of (item d ds) = option_and_then (λ edit. option_map (λ edits. edit ∷ edits) (edits_of ds)) (edit_of d)
+
+-- "DidOpenTextDocumentParams"; the language is not read
+abbrev pub opened_of : Data → Option Told
+opened_of params = do
+  document ← get (codes "textDocument") params
+  uri ← text_at (codes "uri") document
+  version ← number_at (codes "version") document
+  text ← text_at (codes "text") document
+  Some (opened uri version text)
+
+-- "DidChangeTextDocumentParams"
+abbrev pub changed_of : Data → Option Told
+changed_of params = do
+  document ← get (codes "textDocument") params
+  uri ← text_at (codes "uri") document
+  version ← number_at (codes "version") document
+  items ← option_and_then as_array (get (codes "contentChanges") params)
+  edits ← edits_of items
+  Some (changed uri version edits)
+
+-- "DidCloseTextDocumentParams"
+abbrev pub closed_of : Data → Option Told
+closed_of params = do
+  document ← get (codes "textDocument") params
+  uri ← text_at (codes "uri") document
+  Some (closed uri)
+
+-- ---- methods
+
+abbrev pub asked_of : List ℕ → Asked
+asked_of method =
+    if bytes_eq method (codes "initialize") then initialize
+    else (if bytes_eq method (codes "shutdown") then shutdown else unknown)
+
+-- what parameters tell, if they are those of the method
+abbrev pub told_by : List ℕ → Data → Option Told
+told_by method params =
+    if bytes_eq method (codes "textDocument/didOpen") then opened_of params
+    else (if bytes_eq method (codes "textDocument/didChange") then changed_of params
+    else (if bytes_eq method (codes "textDocument/didClose") then closed_of params else None))
+
+abbrev pub told_of : List ℕ → Data → Told
+told_of method d =
+    if bytes_eq method (codes "exit") then exited else unwrap_or (option_and_then (told_by method) (get (codes "params") d)) nothing
+
+-- ---- messages ("Base Protocol")
+
+-- an id is a string or an integer ("Request Message")
+abbrev pub is_id : Data → Bool
+is_id null = false
+is_id (boolean b) = false
+is_id (number n) = not (is_float n)
+is_id (string s) = true
+is_id (array ds) = false
+is_id (object ms) = false
+
+abbrev pub id_of : Data → Option Data
+id_of d = if is_id d then Some d else None
+
+abbrev pub id_in : Data → Option Data
+id_in d = option_and_then id_of (get (codes "id") d)
+
+-- a request, if its id is an id
+abbrev pub request_of : List ℕ → Option Data → Meaning
+request_of method None = faulty None
+request_of method (Some id) = request id (asked_of method)
+
+-- a message with a method is a notification if no id is there
+abbrev pub called_of : List ℕ → Data → Meaning
+called_of method d =
+    if is_some (get (codes "id") d) then request_of method (id_in d) else notification (told_of method d)
+
+-- the method is a string
+abbrev pub method_meaning : Data → Option (List ℕ) → Meaning
+method_meaning d None = faulty (id_in d)
+method_meaning d (Some method) = called_of method d
+
+-- what has no method is a response, or nothing that is known
+abbrev pub response_or_fault : Data → Meaning
+response_or_fault d = if is_some (get (codes "result") d) || is_some (get (codes "error") d) then response else faulty (id_in d)
+
+abbrev pub meaning_by : Data → Option Data → Meaning
+meaning_by d None = response_or_fault d
+meaning_by d (Some method) = method_meaning d (as_str method)
+
+abbrev pub message_of : Data → Meaning
+message_of d = meaning_by d (get (codes "method") d)

@@ -1,0 +1,97 @@
+-- The values that a language server sends (LSP 3.17; the section is named at each). Members are in
+-- the order of their keys.
+use Rattle.std.specs.Prelude.{ℕ, List, codes, true, Option, None, Some, unwrap_or}
+use Rattle.serde_json.specs.Data.{Data, null, boolean, number, negative, unsigned, string, array, object, Items, no_members, member}
+use Rattle.ti_messages.specs.Failures.{code_of, sentence_of}
+use Rattle.ti_messages.specs.declared.failures.Failure.{Failure}
+use Rattle.ti_messages.specs.declared.places.Position.{Position}
+use Rattle.ti_messages.specs.declared.places.Range.{Range}
+use Rattle.ti_messages.specs.declared.writing.Severity.{Severity}
+use Rattle.ti_messages.specs.declared.writing.Severity.TheVariants.{Error, Warning}
+
+abbrev pub natural : ℕ → Data
+natural n = number (unsigned n)
+
+-- "Position"
+abbrev pub position_data : Position → Data
+position_data place = object (member (codes "character") (natural place.column) (member (codes "line") (natural place.line) no_members))
+
+-- "Range"
+abbrev pub range_data : Range → Data
+range_data range = object (member (codes "end") (position_data range.end) (member (codes "start") (position_data range.start) no_members))
+
+-- "DiagnosticSeverity"
+abbrev pub severity_number : Severity → ℕ
+severity_number Error = 1
+severity_number Warning = 2
+
+-- "Diagnostic"
+abbrev pub diagnostic_data : Range → Severity → List ℕ → List ℕ → Data
+diagnostic_data range severity code message =
+    object (member (codes "code") (string code)
+    (member (codes "message") (string message)
+    (member (codes "range") (range_data range)
+    (member (codes "severity") (natural (severity_number severity))
+    (member (codes "source") (string (codes "ti")) no_members)))))
+
+-- "Notification Message"
+abbrev pub notification_data : List ℕ → Data → Data
+notification_data method params =
+    object (member (codes "jsonrpc") (string (codes "2.0"))
+    (member (codes "method") (string method)
+    (member (codes "params") params no_members)))
+
+-- "PublishDiagnosticsParams"
+abbrev pub published_data : List ℕ → Option ℕ → Items → Data
+published_data uri None diagnostics =
+    object (member (codes "diagnostics") (array diagnostics) (member (codes "uri") (string uri) no_members))
+published_data uri (Some version) diagnostics =
+    object (member (codes "diagnostics") (array diagnostics)
+    (member (codes "uri") (string uri)
+    (member (codes "version") (natural version) no_members)))
+
+-- "PublishDiagnostics Notification"
+abbrev pub publish_data : List ℕ → Option ℕ → Items → Data
+publish_data uri version diagnostics = notification_data (codes "textDocument/publishDiagnostics") (published_data uri version diagnostics)
+
+-- "Response Message"
+abbrev pub response_data : Data → Data → Data
+response_data id result =
+    object (member (codes "id") id
+    (member (codes "jsonrpc") (string (codes "2.0"))
+    (member (codes "result") result no_members)))
+
+-- "ResponseError"
+abbrev pub failure_data : Failure → Data
+failure_data failure =
+    object (member (codes "code") (number (negative (code_of failure)))
+    (member (codes "message") (string (sentence_of failure)) no_members))
+
+-- "Response Message"; a message without an id is answered with `null`
+abbrev pub refusal_data : Option Data → Failure → Data
+refusal_data id failure =
+    object (member (codes "error") (failure_data failure)
+    (member (codes "id") (unwrap_or id null)
+    (member (codes "jsonrpc") (string (codes "2.0")) no_members)))
+
+-- "TextDocumentSyncOptions": documents are opened and closed, and 2 says that changes are parts of
+-- the text
+abbrev pub sync_data : Data
+sync_data = object (member (codes "change") (natural 2) (member (codes "openClose") (boolean true) no_members))
+
+-- "ServerCapabilities"
+abbrev pub capabilities_data : Data
+capabilities_data =
+    object (member (codes "positionEncoding") (string (codes "utf-16"))
+    (member (codes "textDocumentSync") sync_data no_members))
+
+-- "InitializeResult"
+abbrev pub server_data : List ℕ → Data
+server_data version =
+    object (member (codes "name") (string (codes "ti-lsp"))
+    (member (codes "version") (string version) no_members))
+
+abbrev pub initialized_data : List ℕ → Data
+initialized_data version =
+    object (member (codes "capabilities") capabilities_data
+    (member (codes "serverInfo") (server_data version) no_members))

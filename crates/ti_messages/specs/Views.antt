@@ -1,0 +1,33 @@
+-- What a message that borrows its strings means.
+use Rattle.std.specs.Prelude.{map, option_map}
+use Rattle.serde_json.specs.View.{view}
+use Rattle.ti_messages.specs.Messages as means
+use Rattle.ti_messages.specs.Messages.{Asked, Edit, Meaning, Told}
+use Rattle.ti_messages.specs.declared.messages.Change.{Change}
+use Rattle.ti_messages.specs.declared.messages.Call.{Call}
+use Rattle.ti_messages.specs.declared.messages.Call.TheVariants.{Initialize, Shutdown, Unknown}
+use Rattle.ti_messages.specs.declared.messages.Notice.{Notice}
+use Rattle.ti_messages.specs.declared.messages.Notice.TheVariants.{Exited, Opened, Changed, Closed, Nothing}
+use Rattle.ti_messages.specs.declared.messages.Message.{Message}
+use Rattle.ti_messages.specs.declared.messages.Message.TheVariants.{Request, Notification, Response, Faulty}
+
+abbrev pub edit_view : Change → Edit
+edit_view change = record { range = change.range; text = change.text.now }
+
+abbrev pub asked_view : Call → Asked
+asked_view Initialize = means.initialize
+asked_view Shutdown = means.shutdown
+asked_view Unknown = means.unknown
+
+abbrev pub told_view : Notice → Told
+told_view Exited = means.exited
+told_view (Opened uri version text) = means.opened uri.now version text.now
+told_view (Changed uri version changes) = means.changed uri.now version (map edit_view changes.items)
+told_view (Closed uri) = means.closed uri.now
+told_view Nothing = means.nothing
+
+abbrev pub message_view : Message → Meaning
+message_view (Request id call) = means.request (view id.now) (asked_view call)
+message_view (Notification notice) = means.notification (told_view notice)
+message_view Response = means.response
+message_view (Faulty id) = means.faulty (option_map (λ d. view d.now) id)

@@ -1,0 +1,21 @@
+//! The messages of the Language Server Protocol, version 3.17, and the frames that hold them.
+//!
+//! - `places`: positions and ranges in a text
+//! - `failures`: why a request is refused
+//! - `writing`: the values that a server sends
+//! - `messages`: what a client asks for or tells; `reading` reads it from values
+//! - `frames`: a value's text after a header, read and written
+#![tactic(auto)]
+
+pub mod failures;
+pub mod frames;
+pub mod messages;
+pub mod places;
+pub mod reading;
+pub mod writing;
+
+pub use failures::Failure;
+pub use frames::{Frame, FrameFault, read_frame, write_frame};
+pub use messages::{Call, Change, Message, Notice};
+pub use places::{Position, Range};
+pub use reading::{parse, read_message};

@@ -1,0 +1,73 @@
+//! What a client asks for or tells. The strings are those of the value that was read.
+use crate::places::Range;
+use serde_json::Value;
+
+/// A new text of a part of a document ("TextDocumentContentChangeEvent").
+#[derive(Clone, Copy, Drop)]
+pub struct Change<'a> {
+    /// Which part; `None` is the whole document.
+    pub range: Option<Range>,
+    /// Its new text.
+    pub text: &'a str,
+}
+
+/// What a request asks for.
+#[derive(Drop)]
+pub enum Call {
+    /// What the server can do.
+    Initialize,
+    /// That the server gets ready to end.
+    Shutdown,
+    /// The server has no such method.
+    Unknown,
+}
+
+/// What a notification tells.
+#[derive(Drop)]
+pub enum Notice<'a> {
+    /// The server is to end.
+    Exited,
+    /// A document was opened.
+    Opened {
+        /// The document's URI.
+        uri: &'a str,
+        /// The version of the text.
+        version: u32,
+        /// The text.
+        text: &'a str,
+    },
+    /// A document was changed.
+    Changed {
+        /// The document's URI.
+        uri: &'a str,
+        /// The version of the text after all changes.
+        version: u32,
+        /// The changes, in order: each is one of the text that the ones before made.
+        changes: Vec<Change<'a>>,
+    },
+    /// A document was closed.
+    Closed {
+        /// The document's URI.
+        uri: &'a str,
+    },
+    /// Nothing: the method is not known, or its parameters are not those of the method.
+    Nothing,
+}
+
+/// A message of a client.
+#[derive(Drop)]
+pub enum Message<'a> {
+    /// A request.
+    Request {
+        /// The id of the request, a string or an integer.
+        id: &'a Value,
+        /// What the request asks for.
+        call: Call,
+    },
+    /// A notification.
+    Notification(Notice<'a>),
+    /// The answer to a request. The server sends no request, so it is of no use.
+    Response,
+    /// No message; its id, if it has one.
+    Faulty(Option<&'a Value>),
+}

@@ -1,0 +1,192 @@
+//! The values that a language server sends. Each call writes one object of the protocol.
+ghost use Rattle.std.specs.Prelude.{◌≡◌, IfOk, option_map, unwrap_or};
+ghost use Rattle.serde_json.specs.Data.{null};
+ghost use Rattle.serde_json.specs.View.{items_view, view};
+ghost use Rattle.ti_messages.specs.Shapes.{capabilities_data, diagnostic_data, failure_data, initialized_data, notification_data, position_data, publish_data, published_data, range_data, refusal_data, response_data, server_data, severity_number, sync_data};
+
+use crate::failures::Failure;
+use crate::places::{Position, Range};
+use serde_json::{Value, json};
+use std::alloc::{AllocError, Global};
+
+/// How grave a diagnostic is.
+#[derive(Clone, Copy, Debug, PartialEq, Eq)]
+pub enum Severity {
+    /// The entry is not compiled.
+    Error,
+    /// The entry is compiled.
+    Warning,
+}
+
+impl Severity {
+    // The number of the severity in the protocol.
+    fn number(self) -> u32
+        ensures { result ≡ severity_number self }
+    {
+        match self {
+            Severity::Error => 1,
+            Severity::Warning => 2,
+        }
+    }
+}
+
+/// A position ("Position").
+///
+/// # Errors
+/// `AllocError` if memory ran out.
+pub fn position_value(alloc: Global, place: Position) -> Result<Value, AllocError>
+    ensures { IfOk result (λ v. view v ≡ position_data place) }
+{
+    json!(in alloc; {"character": place.column, "line": place.line})
+}
+
+/// A range ("Range").
+///
+/// # Errors
+/// `AllocError` if memory ran out.
+pub fn range_value(alloc: Global, range: Range) -> Result<Value, AllocError>
+    ensures { IfOk result (λ v. view v ≡ range_data range) }
+{
+    let start = position_value(alloc, range.start)?;
+    let end = position_value(alloc, range.end)?;
+    json!(in alloc; {"end": end, "start": start})
+}
+
+/// A diagnostic ("Diagnostic") with its code and message; its source is `ti`.
+///
+/// # Errors
+/// `AllocError` if memory ran out.
+pub fn diagnostic_value(
+    alloc: Global,
+    range: Range,
+    severity: Severity,
+    code: &str,
+    message: &str,
+) -> Result<Value, AllocError>
+    ensures { IfOk result (λ v. view v ≡ diagnostic_data range severity code.now message.now) }
+{
+    let range = range_value(alloc, range)?;
+    let severity = severity.number();
+    json!(in alloc; {"code": code, "message": message, "range": range, "severity": severity, "source": "ti"})
+}
+
+// A notification ("Notification Message").
+fn notification_value(alloc: Global, method: &str, params: Value) -> Result<Value, AllocError>
+    ensures { IfOk result (λ v. view v ≡ notification_data method.now (view params)) }
+{
+    json!(in alloc; {"jsonrpc": "2.0", "method": method, "params": params})
+}
+
+// What is published of a document ("PublishDiagnosticsParams").
+fn published_value(
+    alloc: Global,
+    uri: &str,
+    version: Option<u32>,
+    diagnostics: Vec<Value>,
+) -> Result<Value, AllocError>
+    ensures { IfOk result (λ v. view v ≡ published_data uri.now version (items_view diagnostics.items)) }
+{
+    let diagnostics = Value::Array(diagnostics);
+    match version {
+        None => json!(in alloc; {"diagnostics": diagnostics, "uri": uri}),
+        Some(version) => {
+            json!(in alloc; {"diagnostics": diagnostics, "uri": uri, "version": version})
+        }
+    }
+}
+
+/// The notification of a document's diagnostics ("PublishDiagnostics Notification"), all of them.
+/// The version is that of the text that they are about.
+///
+/// # Errors
+/// `AllocError` if memory ran out.
+pub fn publish_value(
+    alloc: Global,
+    uri: &str,
+    version: Option<u32>,
+    diagnostics: Vec<Value>,
+) -> Result<Value, AllocError>
+    ensures { IfOk result (λ v. view v ≡ publish_data uri.now version (items_view diagnostics.items)) }
+{
+    let params = published_value(alloc, uri, version, diagnostics)?;
+    notification_value(alloc, "textDocument/publishDiagnostics", params)
+}
+
+/// The answer to a request ("Response Message") with its id.
+///
+/// # Errors
+/// `AllocError` if memory ran out.
+pub fn response_value(alloc: Global, id: &Value, answer: Value) -> Result<Value, AllocError>
+    ensures { IfOk result (λ v. view v ≡ response_data (view id.now) (view answer)) }
+{
+    json!(in alloc; {"id": id, "jsonrpc": "2.0", "result": answer})
+}
+
+// Why a request is refused ("ResponseError").
+fn failure_value(alloc: Global, failure: Failure) -> Result<Value, AllocError>
+    ensures { IfOk result (λ v. view v ≡ failure_data failure) }
+{
+    let code = failure.code();
+    let sentence = failure.sentence();
+    json!(in alloc; {"code": code, "message": sentence})
+}
+
+// The id of what is refused, or `null`.
+fn id_or_null(alloc: Global, id: Option<&Value>) -> Result<Value, AllocError>
+    ensures { IfOk result (λ v. view v ≡ unwrap_or (option_map (λ d. view d.now) id.entry) null) }
+{
+    match id {
+        None => Ok(Value::Null),
+        Some(id) => id.clone(),
+    }
+}
+
+/// The refusal of a request ("Response Message"), with its id or, if it has none, with `null`.
+///
+/// # Errors
+/// `AllocError` if memory ran out.
+pub fn refusal_value(
+    alloc: Global,
+    id: Option<&Value>,
+    failure: Failure,
+) -> Result<Value, AllocError>
+    ensures { IfOk result (λ v. view v ≡ refusal_data (option_map (λ d. view d.now) id.entry) failure) }
+{
+    let error = failure_value(alloc, failure)?;
+    let id = id_or_null(alloc, id)?;
+    json!(in alloc; {"error": error, "id": id, "jsonrpc": "2.0"})
+}
+
+// How documents are told ("TextDocumentSyncOptions").
+fn sync_value(alloc: Global) -> Result<Value, AllocError>
+    ensures { IfOk result (λ v. view v ≡ sync_data) }
+{
+    json!(in alloc; {"change": 2_u32, "openClose": true})
+}
+
+// What the server can do ("ServerCapabilities").
+fn capabilities_value(alloc: Global) -> Result<Value, AllocError>
+    ensures { IfOk result (λ v. view v ≡ capabilities_data) }
+{
+    let sync = sync_value(alloc)?;
+    json!(in alloc; {"positionEncoding": "utf-16", "textDocumentSync": sync})
+}
+
+// What the server is.
+fn server_value(alloc: Global, version: &str) -> Result<Value, AllocError>
+    ensures { IfOk result (λ v. view v ≡ server_data version.now) }
+{
+    json!(in alloc; {"name": "ti-lsp", "version": version})
+}
+
+/// The answer to `initialize` ("InitializeResult"), with the version of the server.
+///
+/// # Errors
+/// `AllocError` if memory ran out.
+pub fn initialized_value(alloc: Global, version: &str) -> Result<Value, AllocError>
+    ensures { IfOk result (λ v. view v ≡ initialized_data version.now) }
+{
+    let capabilities = capabilities_value(alloc)?;
+    let server = server_value(alloc, version)?;
+    json!(in alloc; {"capabilities": capabilities, "serverInfo": server})
+}

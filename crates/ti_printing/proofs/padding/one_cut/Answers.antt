@@ -1,5 +1,0 @@
-use Rattle.ti_printing.proofs.Cuts.{one_cut}
-use Rattle.ti_printing.proofs.padding.one_cut.Goals as goal
-
-pub returns : goal.returns
-returns c = one_cut

@@ -1,5 +1,0 @@
-use Rattle.ti_printing.proofs.Numerals.{one_numeral}
-use Rattle.ti_printing.proofs.printf.one_numeral.Goals as goal
-
-pub returns : goal.returns
-returns c = one_numeral

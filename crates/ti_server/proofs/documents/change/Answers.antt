@@ -1,0 +1,23 @@
+use Rattle.std.proofs.Common.{◌≡◌, Some, get_or, map, refl, sym, ap, ◌∙◌}
+use Rattle.std.proofs.Math.ListN.{get_or-map, set}
+use Rattle.std.proofs.lemmas.List.{map-set}
+use Rattle.serde_json.specs.Data.{Data}
+use Rattle.ti_messages.specs.Views.{edit_view}
+use Rattle.ti_server.proofs.Places.{change_found, change_none}
+use Rattle.ti_server.specs.States.{documents_view, open_view}
+use Rattle.ti_server.specs.Steps.{Open, with_edits}
+use Rattle.ti_server.proofs.documents.change.Goals as goal
+
+pub returns-in-None : goal.returns-in-None
+returns-in-None g c =
+    let place = rw c.deref.ensures.value at c.in-None.ensures.place in
+    let h = change_none (with_edits g.D.Source.place_in c.args.version (map edit_view c.args.changes.now)) (documents_view g.D.Source.text_of c.args.documents.now.items) c.args.uri.now place in
+    (sym h.0, rw h.1 refl)
+
+pub returns-in_ok-shown-in-Some : goal.returns-in_ok-shown-in-Some
+returns-in_ok-shown-in-Some g c =
+    let place = rw c.deref.ensures.value at c.in-Some.ensures.place in
+    let f = open_view g.D.Source.text_of in
+    let is : f c.index_mut.result.now ≡ get_or (documents_view g.D.Source.text_of c.args.documents.now.items) c.in-Some.at (f c.index_mut.result.now) = ap f c.index_mut.ensures.value ∙ sym (get_or-map f c.args.documents.now.items c.in-Some.at c.index_mut.result.now) in
+    let h = change_found (with_edits g.D.Source.place_in c.args.version (map edit_view c.args.changes.now)) (documents_view g.D.Source.text_of c.args.documents.now.items) c.args.uri.now c.in-Some.at place (f c.index_mut.result.now) is in
+    (map-set f c.args.documents.now.items c.in-Some.at c.change_one.new.document ∙ (ap (λ (d : Open). set (documents_view g.D.Source.text_of c.args.documents.now.items) c.in-Some.at d) c.in_ok-shown-in-Some.ensures.document ∙ sym h.0), rw h.1 (ap (λ (d : Data). Some d) c.in_ok-shown-in-Some.ensures.shown))

@@ -1,0 +1,16 @@
+use Rattle.std.proofs.Common.{◌≡◌, ◌++◌, ◌∷◌, [], sym, ap, ◌∙◌, rules}
+use Rattle.std.proofs.lemmas.List.{map-append, map-set}
+use Rattle.ti_server.proofs.Places.{put_found, put_none}
+use Rattle.ti_server.specs.States.{documents_view, open_view}
+use Rattle.ti_server.proofs.documents.put.Goals as goal
+
+pub returns-in-Some : goal.returns-in-Some
+returns-in-Some g c =
+    let place = rw c.deref.ensures.value at c.in-Some.ensures.place in
+    map-set (open_view g.D.Source.text_of) c.args.documents.now.items c.in-Some.at c.args.new ∙ sym (put_found (open_view g.D.Source.text_of c.args.new) (documents_view g.D.Source.text_of c.args.documents.now.items) c.as_str.result.now c.in-Some.at c.as_str.ensures.value place)
+
+pub returns-in_ok-push-in-None : goal.returns-in_ok-push-in-None
+returns-in_ok-push-in-None g c =
+    let place = rw c.deref.ensures.value at c.in-None.ensures.place in
+    let pushed : c.push.new.self.items ≡ c.args.documents.now.items ++ c.args.new ∷ [] = search rules in
+    ap (documents_view g.D.Source.text_of) pushed ∙ (map-append (open_view g.D.Source.text_of) c.args.documents.now.items (c.args.new ∷ []) ∙ sym (put_none (open_view g.D.Source.text_of c.args.new) (documents_view g.D.Source.text_of c.args.documents.now.items) c.as_str.result.now c.as_str.ensures.value place))

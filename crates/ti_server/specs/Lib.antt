@@ -1,0 +1,6 @@
+-- The definitions that the contracts of this crate cite.
+pub mod Steps
+pub mod Answers
+pub mod Runs
+pub mod States
+pub mod inside

@@ -1,0 +1,14 @@
+//! How far the server has come ("Server lifecycle").
+
+/// How far the server has come.
+#[derive(Clone, Copy, Debug, PartialEq, Eq)]
+pub enum Phase {
+    /// `initialize` has not come yet.
+    Fresh,
+    /// It works.
+    Running,
+    /// `shutdown` came.
+    Finished,
+    /// `exit` came: 0 after `shutdown`, else 1.
+    Ended(u8),
+}

@@ -1,0 +1,53 @@
+//! What a text has to offer that is open in an editor.
+use serde_json::Value;
+use std::alloc::{AllocError, Global};
+use ti_messages::Position;
+
+/// A text with what is wrong with it.
+pub trait Source {
+    ghost use Rattle.std.specs.Prelude.{◌≡◌, ◌≤◌, ℕ, List, IfOk, OnOk, length};
+    ghost use Rattle.serde_json.specs.Data.{Items};
+    ghost use Rattle.serde_json.specs.View.{items_view};
+    ghost use Rattle.ti_messages.specs.declared.places.Position.{Position};
+
+    // The text.
+    ghost text_of: { Self → List ℕ };
+
+    // Where a place is in a text.
+    ghost place_in: { List ℕ → Position → ℕ };
+
+    // The diagnostics of a text.
+    ghost diagnostics_of: { List ℕ → Items };
+
+    /// Holds a text.
+    ///
+    /// # Errors
+    /// Out of memory.
+    fn open(alloc: Global, text: Vec<u8>) -> Result<Self, AllocError>
+    where
+        Self: Sized,
+        ensures { IfOk result (λ source. text_of source ≡ text.items) };
+
+    /// Holds another text.
+    ///
+    /// # Errors
+    /// Out of memory. It is not used any more after that.
+    fn set(&mut self, text: Vec<u8>) -> Result<(), AllocError>
+        ensures { OnOk result (text_of self.new ≡ text.items) };
+
+    /// The text.
+    fn text(&self) -> &[u8]
+        ensures { result.now ≡ text_of self.now };
+
+    /// The offset of a place in a text.
+    fn offset_of(text: &[u8], place: Position) -> usize
+        ensures offset { result ≡ place_in text.now place }
+        ensures within { result ≤ length text.now };
+
+    /// Its diagnostics, as values of the protocol.
+    ///
+    /// # Errors
+    /// Out of memory.
+    fn diagnostics(&self, alloc: Global) -> Result<Vec<Value>, AllocError>
+        ensures { IfOk result (λ values. items_view values.items ≡ diagnostics_of (text_of self.now)) };
+}

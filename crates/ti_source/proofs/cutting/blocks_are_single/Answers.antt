@@ -1,5 +1,0 @@
-use Rattle.ti_source.proofs.CutLemmas.{blocks_are_single_law}
-use Rattle.ti_source.proofs.cutting.blocks_are_single.Goals as goal
-
-pub returns : goal.returns
-returns c = blocks_are_single_law

@@ -1,5 +1,0 @@
-use Rattle.ti_source.proofs.HeaderLemmas.{each_header_is_read}
-use Rattle.ti_source.proofs.header.each_header_is_read.Goals as goal
-
-pub returns : goal.returns
-returns c = each_header_is_read

@@ -1,5 +1,0 @@
-use Rattle.ti_source.proofs.HeaderLemmas.{headers_have_one_reading}
-use Rattle.ti_source.proofs.header.headers_have_one_reading.Goals as goal
-
-pub returns : goal.returns
-returns c = headers_have_one_reading

@@ -1,0 +1,5 @@
+use Rattle.ti_source.proofs.CutLemmas.{blocks_are_single_law}
+use Rattle.ti_source.proofs.laws.blocks_are_single.Goals as goal
+
+pub returns : goal.returns
+returns c = blocks_are_single_law

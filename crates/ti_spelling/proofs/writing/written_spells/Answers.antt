@@ -1,5 +1,0 @@
-use Rattle.ti_spelling.proofs.WritingLaws.{written_spells}
-use Rattle.ti_spelling.proofs.writing.written_spells.Goals as goal
-
-pub returns : goal.returns
-returns c = written_spells

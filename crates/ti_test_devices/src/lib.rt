@@ -1,0 +1,83 @@
+//! For tests: a reader and a writer that move one byte a call, and come to an end when they are told
+//! to.
+#![tactic(auto)]
+
+ghost use Rattle.std.specs.Prelude.{◌≡◌, IfOk};
+
+use std::io::{self, ErrorKind, Read, Write};
+
+/// What a device answers when it comes to its end.
+#[derive(Clone, Copy, Debug)]
+pub enum End {
+    /// A fault.
+    Fails,
+    /// That the call was interrupted, which is a fault like any other here.
+    IsInterrupted,
+    /// No byte: the end of an input, and a writer that takes nothing.
+    MovesNothing,
+}
+
+impl End {
+    fn answer(self) -> io::Result<usize>
+        ensures { IfOk result (λ count. count ≡ 0) }
+    {
+        match self {
+            End::Fails => Err(io::Error::from(ErrorKind::Other)),
+            End::IsInterrupted => Err(io::Error::from(ErrorKind::Interrupted)),
+            End::MovesNothing => Ok(0),
+        }
+    }
+}
+
+/// A reader that gives one byte a read, this many times.
+#[derive(Drop)]
+pub struct Drip<'a> {
+    pub rest: &'a [u8],
+    pub reads_left: usize,
+    pub end: End,
+}
+
+impl Read for Drip<'_> {
+    fn read(&mut self, buf: &mut [u8]) -> io::Result<usize> {
+        if self.reads_left == 0 {
+            return self.end.answer();
+        }
+        self.reads_left -= 1;
+        let Some((first, rest)) = self.rest.split_first() else {
+            return Ok(0);
+        };
+        if buf.is_empty() {
+            return Ok(0);
+        }
+        buf[0] = *first;
+        self.rest = rest;
+        Ok(1)
+    }
+}
+
+/// A writer that takes one byte a call, and this many in all.
+#[derive(Drop)]
+pub struct Narrow {
+    pub taken: Vec<u8>,
+    pub room: usize,
+    pub end: End,
+}
+
+impl Write for Narrow {
+    fn write(&mut self, buf: &[u8]) -> io::Result<usize> {
+        if self.taken.len() >= self.room {
+            return self.end.answer();
+        }
+        match buf.first() {
+            Some(byte) => {
+                self.taken.push(*byte)?;
+                Ok(1)
+            }
+            None => Ok(0),
+        }
+    }
+
+    fn flush(&mut self) -> io::Result<()> {
+        Ok(())
+    }
+}

@@ -1,5 +1,0 @@
-use Rattle.ti_text.proofs.LineLaws.{lines_add}
-use Rattle.ti_text.proofs.lines.lines_add.Goals as goal
-
-pub returns : goal.returns
-returns c = lines_add
