@@ -4,7 +4,7 @@ use Rattle.std.proofs.lemmas.Result.{IfOk-weaker}
 use Rattle.ti_source.specs.Reading.{reading_of, item_of}
 use Rattle.ti_layout.specs.Values.{contents}
 use Rattle.ti_meaning.specs.Usable.{SetsWell}
-use Rattle.ti_meaning.proofs.MentionMerging.{table_of_one_more, table_of_block}
+use Rattle.ti_meaning.proofs.MentionMerging.{table_of_block, table_of_nothing, table_of_one_more}
 use Rattle.ti_slots.specs.Slots.{blocks_of}
 use Rattle.ti_plan.proofs.ItemLists.{All-map_item, map-take_item, slice_get-map_item}
 use Rattle.ti_plan.proofs.BlockValues.{same_table}
@@ -55,3 +55,9 @@ returns-clause-table g c =
     let items = rw (take_all c.loop-index.index c.args.block.now.items.items past) at c.loop-index.invariant.added in
     let whole = table_of_block (blocks_of c.args.known.now.slots.now) (reading_of c.args.block.now) (contents c.loop-index.mentions) c.requires.1.1.0 items in
     IfOk-weaker c.into_table.result _ _ (λ table same. same_table (blocks_of c.args.known.now.slots.now) (reading_of c.args.block.now) (contents c.loop-index.mentions) (contents table) same whole) c.into_table.ensures
+
+pub loop-index-init : goal.loop-index-init
+loop-index-init g c = record {
+  added = table_of_nothing (blocks_of c.args.known.now.slots.now) (contents c.in_ok-mentions.mentions) c.in_ok-mentions.ensures;
+  steps = omega arith;
+}
