@@ -46,16 +46,16 @@ forget-requires-in-Err c =
 pub returns-clause-kept : goal.returns-clause-kept
 returns-clause-kept c =
     let sound = subst (λ texts. IsSoundEdit texts (change_of c.args.edit.now)) (sym c.read_new.ensures.texts) c.requires.sound in
-    kept_same c.args.slots.now c.forget.new.slots c.requires.kept c.forget.ensures.read
-    (c.forget.ensures.slots
+    kept_same c.args.slots.now c.forget-in-Err.new.slots c.requires.kept c.forget-in-Err.ensures.read
+    (c.forget-in-Err.ensures.slots
     ∙ (edit_undone c.read_new.new.slots c.make-id.new.slots c.rebuild.new.slots c.undo.new.slots (change_of c.args.edit.now) c.in_ok-spare.spare c.make-id.new.spare c.make-id.result c.read_new.ensures.read sound c.in_ok-spare.ensures.new c.make-id.ensures.made c.in-Err.ensures.err c.undo.ensures
     ∙ c.read_new.ensures.slots))
 
 pub returns-clause-err : goal.returns-clause-err
 returns-clause-err c =
     let sound = subst (λ texts. IsSoundEdit texts (change_of c.args.edit.now)) (sym c.read_new.ensures.texts) c.requires.sound in
-    texts_back c.args.slots.now c.forget.new.slots
-    (c.forget.ensures.slots
+    texts_back c.args.slots.now c.forget-in-Err.new.slots
+    (c.forget-in-Err.ensures.slots
     ∙ (edit_undone c.read_new.new.slots c.make-id.new.slots c.rebuild.new.slots c.undo.new.slots (change_of c.args.edit.now) c.in_ok-spare.spare c.make-id.new.spare c.make-id.result c.read_new.ensures.read sound c.in_ok-spare.ensures.new c.make-id.ensures.made c.in-Err.ensures.err c.undo.ensures
     ∙ c.read_new.ensures.slots))
 
