@@ -1,6 +1,7 @@
 -- How a tool that stops ends: its exit status, and the line on standard error (tput(1); the texts
 -- are own).
-use Rattle.std.specs.Prelude.{ℕ, Bool, if◌then◌else◌, ◌||◌, List, ◌++◌, codes, bytes_eq, decimal, Option, Some, None, is_some}
+use Rattle.std.specs.Prelude.{ℕ, Bool, if◌then◌else◌, ◌||◌, List, [], ◌∷◌, codes, bytes_eq, decimal, Option, Some, None, is_some}
+use Rattle.std.specs.List.{concat}
 use Rattle.ti_caps.specs.Tables.{capability_named}
 use Rattle.ti_layout.specs.declared.fault.ReadError.{ReadError}
 use Rattle.ti_layout.specs.declared.fault.ReadError.TheVariants.{Short, Magic, Counts, Truncated, BadNames, BadFlag, BadNumber, BadOffset}
@@ -37,7 +38,7 @@ status_of (Tput lines term rate words) error found = tput_status error found
 status_of Session error found = plain_status error
 status_of (Infocmp mode names layout first_dir other_dir) error found = plain_status error
 
--- the line on standard error
+-- ---- the line on standard error
 
 -- the name of the refusal of an entry
 abbrev pub refusal_name : ReadError → List ℕ
@@ -50,29 +51,37 @@ refusal_name BadFlag = codes "BadFlag"
 refusal_name BadNumber = codes "BadNumber"
 refusal_name BadOffset = codes "BadOffset"
 
+-- what a fault without a name or number is called
+abbrev pub plain_text : ToolError → List ℕ
+plain_text Usage = codes "no terminal named"
+plain_text NoTerminal = codes "unknown terminal"
+plain_text (BadEntry why) = codes "bad entry"
+plain_text ReadFault = codes "read fault"
+plain_text WriteFault = codes "write fault"
+plain_text LineTooLong = codes "line too long"
+plain_text (BlockTooLong line) = codes "block too long"
+plain_text TooManyBlocks = codes "too many blocks"
+plain_text Memory = codes "out of memory"
+
 -- whether `tput` knows the name, so that its string is bad
 abbrev pub is_known : List ℕ → Bool
 is_known name = is_some (capability_named name) || bytes_eq name (codes "init") || bytes_eq name (codes "reset")
 
--- the line on a capability that is unknown, or whose string is bad
-abbrev pub capability_line : List ℕ → List ℕ → List ℕ
-capability_line tool name =
-    if is_known name then tool ++ codes ": bad string \"" ++ name ++ codes "\"\n"
-    else tool ++ codes ": unknown terminfo capability \"" ++ name ++ codes "\"\n"
+-- the parts of a line: the name of the tool, the bytes before a name, the name, the bytes after it,
+-- a detail, and the end
+abbrev pub line_parts : List ℕ → List ℕ → List ℕ → List ℕ → List ℕ → List ℕ → List (List ℕ)
+line_parts tool head subject link detail end = tool ∷ head ∷ subject ∷ link ∷ detail ∷ end ∷ []
 
--- the line on a fault; the name is that of the terminal
-abbrev pub fault_line : List ℕ → List ℕ → ToolError → List ℕ
-fault_line tool name Usage = tool ++ codes ": no terminal named\n"
-fault_line tool name NoTerminal = tool ++ codes ": unknown terminal \"" ++ name ++ codes "\"\n"
-fault_line tool name (BadEntry why) = tool ++ codes ": bad entry \"" ++ name ++ codes "\" (" ++ refusal_name why ++ codes ")\n"
-fault_line tool name ReadFault = tool ++ codes ": read fault\n"
-fault_line tool name WriteFault = tool ++ codes ": write fault\n"
-fault_line tool name LineTooLong = tool ++ codes ": line too long\n"
-fault_line tool name (BlockTooLong line) = tool ++ codes ": block too long at line " ++ decimal line ++ codes "\n"
-fault_line tool name TooManyBlocks = tool ++ codes ": too many blocks\n"
-fault_line tool name Memory = tool ++ codes ": out of memory\n"
+-- The line, in parts: the name of the tool, and the fault; if there is none, the capability of that
+-- name is unknown or its string is bad.
+abbrev pub message_parts : List ℕ → List ℕ → Option ToolError → List (List ℕ)
+message_parts tool name None =
+    line_parts tool (if is_known name then codes ": bad string \"" else codes ": unknown terminfo capability \"") name [] [] (codes "\"\n")
+message_parts tool name (Some NoTerminal) = line_parts tool (codes ": unknown terminal \"") name [] [] (codes "\"\n")
+message_parts tool name (Some (BadEntry why)) = line_parts tool (codes ": bad entry \"") name (codes "\" (") (refusal_name why) (codes ")\n")
+message_parts tool name (Some (BlockTooLong line)) = line_parts tool (codes ": ") [] (codes "block too long at line ") (decimal line) (codes "\n")
+message_parts tool name (Some error) = line_parts tool (codes ": ") [] [] (plain_text error) (codes "\n")
 
--- the line with its newline; without a fault it is about a capability
+-- the line with its newline
 abbrev pub message_text : Job → List ℕ → Option ToolError → List ℕ
-message_text job name None = capability_line (tool_name job) name
-message_text job name (Some error) = fault_line (tool_name job) name error
+message_text job name error = concat (message_parts (tool_name job) name error)

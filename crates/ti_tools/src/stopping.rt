@@ -1,11 +1,11 @@
 //! How a tool that stops ends: its exit status, and the line on standard error.
-ghost use Rattle.std.specs.Prelude.{◌≡◌, [], map, option_map};
+ghost use Rattle.std.specs.Prelude.{◌≡◌, [], None, Some, codes, decimal, map, option_map};
 ghost use Rattle.std.specs.List.{concat};
 ghost use Rattle.ti_devices.specs.Counted.{observation};
 ghost use Rattle.ti_devices.specs.Writing.{Wrote};
-ghost use Rattle.ti_devices.specs.declared.tool_error.ToolError.TheVariants.{BadEntry, BlockTooLong};
+ghost use Rattle.ti_commands.specs.Jobs.{tool_name};
 ghost use Rattle.ti_tools.specs.Stopping.{plain_status, status_of, tput_status};
-ghost use Rattle.ti_tools.specs.Stopping.{capability_line, fault_line, is_known, message_text, refusal_name};
+ghost use Rattle.ti_tools.specs.Stopping.{is_known, line_parts, message_parts, message_text, plain_text, refusal_name};
 
 use itoa::Buffer;
 use std::io::Write;
@@ -36,9 +36,8 @@ fn plain_status(error: &ToolError) -> u8
     }
 }
 
-/// The exit status of a tool that stops: 2 at bad usage, else 1. For `tput` it is 3 at an unknown
-/// terminal, at a bad entry and at a fault on the way to the entry, else 255. `found` says that the
-/// entry was read.
+/// The exit status of a tool that stops: 2 at bad usage, else 1; of `tput` 3 at an unknown terminal,
+/// at a bad entry and at a fault on the way to it, else 255. `found` says that the entry was read.
 pub fn status(job: &Job, error: &ToolError, found: bool) -> u8
     ensures { result ≡ status_of job.now error.now found }
 {
@@ -46,6 +45,13 @@ pub fn status(job: &Job, error: &ToolError, found: bool) -> u8
         Job::Tput { .. } => tput_status(error, found),
         Job::Tic { .. } | Job::Session | Job::Infocmp { .. } => plain_status(error),
     }
+}
+
+// The name of the tool of a job.
+fn tool_name(job: &Job) -> &'static [u8]
+    ensures { result.now ≡ tool_name job.now }
+{
+    job.tool_name().as_bytes()
 }
 
 // The name of the refusal of an entry.
@@ -61,6 +67,23 @@ fn refusal_name(error: ReadError) -> &'static [u8]
         ReadError::BadFlag => b"BadFlag",
         ReadError::BadNumber => b"BadNumber",
         ReadError::BadOffset => b"BadOffset",
+    }
+}
+
+// What a fault is called that has no name or number.
+fn plain_text(error: &ToolError) -> &'static [u8]
+    ensures { result.now ≡ plain_text error.now }
+{
+    match error {
+        ToolError::Usage => b"no terminal named",
+        ToolError::NoTerminal => b"unknown terminal",
+        ToolError::BadEntry(_) => b"bad entry",
+        ToolError::ReadFault => b"read fault",
+        ToolError::WriteFault => b"write fault",
+        ToolError::LineTooLong => b"line too long",
+        ToolError::BlockTooLong(_) => b"block too long",
+        ToolError::TooManyBlocks => b"too many blocks",
+        ToolError::Memory => b"out of memory",
     }
 }
 
@@ -81,7 +104,82 @@ fn write_parts<W: Write>(writer: &mut Counted<W>, parts: &[&[u8]]) -> Result<(),
     Ok(())
 }
 
-// The line on an entry that is refused.
+// A line that begins with the name of a tool.
+#[derive(Clone, Copy)]
+struct Line<'a> {
+    tool: &'a [u8],
+    head: &'a [u8],
+    subject: &'a [u8],
+    link: &'a [u8],
+    detail: &'a [u8],
+    end: &'a [u8],
+}
+
+// Writes a line.
+fn write_line<W: Write>(writer: &mut Counted<W>, line: Line<'_>) -> Result<(), ToolError>
+    ensures { Wrote (observation W.contents writer.old) (observation W.contents writer.new)
+        (concat (line_parts line.entry.tool.now line.entry.head.now line.entry.subject.now
+        line.entry.link.now line.entry.detail.now line.entry.end.now)) result }
+{
+    write_parts(
+        writer,
+        &[
+            line.tool,
+            line.head,
+            line.subject,
+            line.link,
+            line.detail,
+            line.end,
+        ],
+    )
+}
+
+// The line of a fault that has no name or number.
+fn write_plain<W: Write>(
+    writer: &mut Counted<W>,
+    tool: &[u8],
+    error: &ToolError,
+) -> Result<(), ToolError>
+    ensures { Wrote (observation W.contents writer.old) (observation W.contents writer.new)
+        (concat (line_parts tool.now (codes ": ") [] [] (plain_text error.now) (codes "\n"))) result }
+{
+    write_line(
+        writer,
+        Line {
+            tool,
+            head: b": ",
+            subject: b"",
+            link: b"",
+            detail: plain_text(error),
+            end: b"\n",
+        },
+    )
+}
+
+// The line on a name.
+fn write_named<W: Write>(
+    writer: &mut Counted<W>,
+    tool: &[u8],
+    head: &[u8],
+    name: &[u8],
+) -> Result<(), ToolError>
+    ensures { Wrote (observation W.contents writer.old) (observation W.contents writer.new)
+        (concat (line_parts tool.now head.now name.now [] [] (codes "\"\n"))) result }
+{
+    write_line(
+        writer,
+        Line {
+            tool,
+            head,
+            subject: name,
+            link: b"",
+            detail: b"",
+            end: b"\"\n",
+        },
+    )
+}
+
+// The line on a bad entry.
 fn write_refusal<W: Write>(
     writer: &mut Counted<W>,
     tool: &[u8],
@@ -89,23 +187,43 @@ fn write_refusal<W: Write>(
     why: ReadError,
 ) -> Result<(), ToolError>
     ensures { Wrote (observation W.contents writer.old) (observation W.contents writer.new)
-        (fault_line tool.now name.now (BadEntry why)) result }
+        (concat (line_parts tool.now (codes ": bad entry \"") name.now (codes "\" (") (refusal_name why) (codes ")\n"))) result }
 {
-    let why = refusal_name(why);
-    write_parts(
+    write_line(
         writer,
-        &[tool, b": bad entry \"", name, b"\" (", why, b")\n"],
+        Line {
+            tool,
+            head: b": bad entry \"",
+            subject: name,
+            link: b"\" (",
+            detail: refusal_name(why),
+            end: b")\n",
+        },
     )
 }
 
 // The line on a block that is too long.
-fn write_block<W: Write>(writer: &mut Counted<W>, tool: &[u8], line: usize) -> Result<(), ToolError>
+fn write_block<W: Write>(
+    writer: &mut Counted<W>,
+    tool: &[u8],
+    number: usize,
+) -> Result<(), ToolError>
     ensures { Wrote (observation W.contents writer.old) (observation W.contents writer.new)
-        (fault_line tool.now [] (BlockTooLong line)) result }
+        (concat (line_parts tool.now (codes ": ") [] (codes "block too long at line ") (decimal number) (codes "\n"))) result }
 {
     let mut buffer = Buffer::new();
-    let line = buffer.format(line).as_bytes();
-    write_parts(writer, &[tool, b": block too long at line ", line, b"\n"])
+    let detail = buffer.format(number).as_bytes();
+    write_line(
+        writer,
+        Line {
+            tool,
+            head: b": ",
+            subject: b"",
+            link: b"block too long at line ",
+            detail,
+            end: b"\n",
+        },
+    )
 }
 
 // The line on a fault.
@@ -116,20 +234,18 @@ fn write_fault<W: Write>(
     error: &ToolError,
 ) -> Result<(), ToolError>
     ensures { Wrote (observation W.contents writer.old) (observation W.contents writer.new)
-        (fault_line tool.now name.now error.now) result }
+        (concat (message_parts tool.now name.now (Some error.now))) result }
 {
     match error {
-        ToolError::Usage => write_parts(writer, &[tool, b": no terminal named\n"]),
-        ToolError::NoTerminal => {
-            write_parts(writer, &[tool, b": unknown terminal \"", name, b"\"\n"])
-        },
+        ToolError::NoTerminal => write_named(writer, tool, b": unknown terminal \"", name),
         ToolError::BadEntry(why) => write_refusal(writer, tool, name, *why),
-        ToolError::ReadFault => write_parts(writer, &[tool, b": read fault\n"]),
-        ToolError::WriteFault => write_parts(writer, &[tool, b": write fault\n"]),
-        ToolError::LineTooLong => write_parts(writer, &[tool, b": line too long\n"]),
-        ToolError::BlockTooLong(line) => write_block(writer, tool, *line),
-        ToolError::TooManyBlocks => write_parts(writer, &[tool, b": too many blocks\n"]),
-        ToolError::Memory => write_parts(writer, &[tool, b": out of memory\n"]),
+        ToolError::BlockTooLong(number) => write_block(writer, tool, *number),
+        ToolError::Usage
+        | ToolError::ReadFault
+        | ToolError::WriteFault
+        | ToolError::LineTooLong
+        | ToolError::TooManyBlocks
+        | ToolError::Memory => write_plain(writer, tool, error),
     }
 }
 
@@ -140,23 +256,20 @@ fn write_capability<W: Write>(
     name: &[u8],
 ) -> Result<(), ToolError>
     ensures { Wrote (observation W.contents writer.old) (observation W.contents writer.new)
-        (capability_line tool.now name.now) result }
+        (concat (message_parts tool.now name.now None)) result }
 {
     if is_known(name) {
-        return write_parts(writer, &[tool, b": bad string \"", name, b"\"\n"]);
+        return write_named(writer, tool, b": bad string \"", name);
     }
-    write_parts(
-        writer,
-        &[tool, b": unknown terminfo capability \"", name, b"\"\n"],
-    )
+    write_named(writer, tool, b": unknown terminfo capability \"", name)
 }
 
-/// Writes the line for standard error on which a tool that stops says why: the name of the tool,
-/// the fault, and in quotes the `name` of the terminal that it is about. `None` means the status 4
-/// of `tput`: `name` is then a capability that is unknown, or whose string is bad.
+/// Writes the line for standard error on which a tool that stops says why: the name of the tool, the
+/// fault, and in quotes the `name` of the terminal that it is about. `None` means the status 4 of
+/// `tput`: `name` is then a capability that is unknown, or whose string is bad.
 ///
 /// # Errors
-/// `WriteFault` if the stream fails.
+/// `WriteFault`.
 pub fn message<W: Write>(
     job: &Job,
     name: &str,
@@ -166,7 +279,7 @@ pub fn message<W: Write>(
     ensures { Wrote (observation W.contents writer.old) (observation W.contents writer.new)
         (message_text job.now name.now (option_map (λ e. e.now) error.entry)) result }
 {
-    let tool = job.tool_name().as_bytes();
+    let tool = tool_name(job);
     match error {
         None => write_capability(writer, tool, name.as_bytes()),
         Some(error) => write_fault(writer, tool, name.as_bytes(), error),
