@@ -4,7 +4,7 @@ ghost use Rattle.ti_devices.specs.Tree.{HasAtMost, failures_by};
 
 use crate::made_directories::MadeDirectories;
 use crate::new_file::{is_absent, replace_file};
-use crate::whole::read_whole;
+use crate::whole::read_up_to;
 use std::alloc::Global;
 use std::fs;
 use std::io::{self, ErrorKind};
@@ -86,7 +86,7 @@ fn read_file<R: Files>(
     match open_regular(rt, path) {
         Ok(mut file) => {
             let mut piece = [0u8; PIECE];
-            Ok(Some(read_whole(alloc, &mut file, &mut piece, limit)?))
+            Ok(Some(read_up_to(alloc, &mut file, &mut piece, limit)?))
         }
         Err(error) if is_absent(&error) => Ok(None),
         Err(error) => Err(error),

@@ -101,8 +101,8 @@ fn age<R: Files + Clock>(rt: &R, path: &str) -> io::Result<Duration> {
     fs::symlink_metadata(rt, path)?.modified()?.elapsed(rt)
 }
 
-// Writes all of these bytes into a new file, gives it the permissions of the regular file that it is
-// to replace, if there may be one, and closes it.
+// Writes all of these bytes into a new file, gives it the permissions of the regular file that it
+// is to replace, if there may be one, and closes it.
 fn fill<R: Files>(
     rt: &R,
     mut file: R::File,

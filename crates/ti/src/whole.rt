@@ -17,7 +17,7 @@ const PIECE: usize = 16_384;
 /// # Errors
 /// What the reader answers; `Other` if 4,294,967,296 reads came to no end; `OutOfMemory` if a
 /// growth of memory was refused.
-pub fn read_whole(
+pub fn read_up_to(
     alloc: Global,
     reader: &mut impl Read,
     piece: &mut [u8],
@@ -54,10 +54,10 @@ pub fn read_source<R: Files + Input>(
     let mut piece = [0u8; PIECE];
     let whole = match path {
         Some(path) => match fs::open(rt, path) {
-            Ok(mut file) => read_whole(alloc, &mut file, &mut piece, usize::MAX),
+            Ok(mut file) => read_up_to(alloc, &mut file, &mut piece, usize::MAX),
             Err(error) => Err(error),
         },
-        None => read_whole(alloc, &mut rt.reader(), &mut piece, usize::MAX),
+        None => read_up_to(alloc, &mut rt.reader(), &mut piece, usize::MAX),
     };
     match whole {
         Ok(source) => Ok(source),

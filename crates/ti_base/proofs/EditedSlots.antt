@@ -210,7 +210,8 @@ dependent_moved rest from to slot at =
       λ d. (d.0, d.1, elim d.2 [ inl put ↦ inl put | inr r ↦ inr (r.0, among_twice r.0 names ∙ r.1, r.2) ]),
     )
 
--- so those that depend on the edit are told by the block that is spare after it: a moved block is not, since it is put in
+-- so those that depend on the edit are told by the block that is spare after it: a moved block is
+-- not, since it is put in
 same_dependents : (xs : List (Option Slot)) (out put : Option ℕ) (spare : Option Slot) → AreFilled xs → IfSome out (λ at. at < length xs) → (n : ℕ)
     → IsDependent (exchange_with (without xs out) (placed out (slot_out xs out)) (placed_put xs out put spare)) n ↔ IsDependent (exchange_with (without xs out) (placed out (spare_after put (slot_out xs out) spare)) (placed_put xs out put spare)) n
 same_dependents xs None put spare f l n = (λ d. d, λ d. d)

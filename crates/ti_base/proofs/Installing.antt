@@ -1,4 +1,5 @@
--- What was found out about blocks is put into their slots: nothing else of them changes, and then all are settled.
+-- What was found out about blocks is put into their slots: nothing else of them changes, and then
+-- all are settled.
 use Rattle.std.proofs.Common.{◌≡◌, ◌≢◌, ◌⊎◌, inl, inr, ℕ, zero, suc, ◌+◌, ◌<◌, Bool, List, [], ◌∷◌, length, get_or, set, drop, map, filter, All, Option, Some, None, option_map, slice_get, refl, sym, ◌∙◌, ap, subst, arith}
 use Rattle.std.specs.Option.{IsSome, is_some}
 use Rattle.std.specs.Str.{bytes_eq}

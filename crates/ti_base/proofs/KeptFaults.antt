@@ -1,4 +1,5 @@
--- The faults kept with a block, of which those of its header come first, and the faults of all blocks.
+-- The faults kept with a block, of which those of its header come first, and the faults of all
+-- blocks.
 use Rattle.std.proofs.Common.{◌≡◌, ℕ, suc, ◌+◌, ◌≤◌, nat_lt, Bool, true, false, cond, List, [], ◌∷◌, ◌++◌, length, length-append, append_assoc, take, drop, map, filter, Option, Some, None, slice_get, refl, sym, ◌∙◌, ap, arith}
 use Rattle.std.specs.List.{take-map, drop-map}
 use Rattle.std.proofs.lemmas.List.{length-map}
@@ -80,7 +81,7 @@ names-gone at (n ∷ names) = names-gone at names
 lasting : (l n r : List SourceFault) → filter is_no_duplicate n ≡ [] → stays l → stays r → filter is_no_duplicate (l ++ (n ++ r)) ≡ l ++ r
 lasting l n r e h k = filter-append is_no_duplicate l (n ++ r) ∙ (ap (λ xs. xs ++ filter is_no_duplicate (n ++ r)) h ∙ ap (λ xs. l ++ xs) (filter-append is_no_duplicate n r ∙ (ap (λ xs. xs ++ filter is_no_duplicate r) e ∙ k)))
 
--- those behind the faults of the names
+-- the faults after those of the names
 abbrev pub behind_names : List Reading → ℕ → Reading → List SourceFault
 behind_names bs at b = item_faults bs at (filter (is_kept false) b.faults) b.items ++ entry_faults at b.names (state_of bs b)
 

@@ -1,4 +1,4 @@
--- Lists read up to an index and from it on, beside what is known of their items.
+-- Lists read up to an index and from it on, with what is known of their items.
 use Rattle.std.proofs.Common.{◌≡◌, ℕ, ◌+◌, List, [], ◌∷◌, ◌++◌, take, drop, map, Some, slice_get, refl, sym, ◌∙◌, ap}
 use Rattle.std.proofs.lemmas.List.{map-append, take_more}
 use Rattle.std.proofs.lemmas.Option.{slice_get_within, get_or_from_slice_get}

@@ -101,7 +101,7 @@ named_now named now test before x e h name t =
 abbrev pub faults_of : (List ℕ → Bool) → ℕ → List (List ℕ) → List SourceFault
 faults_of test at names = map (name_fault at) (filter test names)
 
--- the faults of the names that follow, where the first of them gives none
+-- the faults of the names that follow, if the first of them gives none
 no_fault : (test : List ℕ → Bool) (at : ℕ) (before names : List (List ℕ)) (x : List ℕ) → (test x && not (is_among x before)) ≡ false → faults_of test at (distinct_after before (x ∷ names)) ≡ faults_of test at (distinct_after (before ++ x ∷ []) names)
 no_fault test at before names x e = by_cases (is_among x before) (test x) refl e where
   by_cases : (b t : Bool) → test x ≡ t → (t && not b) ≡ false → faults_of test at (cond b [] (x ∷ []) ++ distinct_after (before ++ x ∷ []) names) ≡ faults_of test at (distinct_after (before ++ x ∷ []) names)

@@ -1,4 +1,5 @@
--- Slots exchanged: what becomes of the list, the way back, and what planning asks of an edit made so.
+-- Slots exchanged: what becomes of the list, the way back, and what planning asks of an edit made
+-- so.
 use Rattle.std.proofs.Common.{◌≡◌, ◌≢◌, inl, inr, ℕ, zero, suc, ◌+◌, ◌<◌, ◌≤◌, true, List, [], ◌∷◌, length, map, Option, Some, None, slice_get, refl, sym, ◌∙◌, ap, subst, arith}
 use Rattle.std.specs.Prelude.{IfSome, IsSome}
 use Rattle.std.specs.Option.{option_flatten}
@@ -43,7 +44,7 @@ id_put old new at id slot l h = λ k other stands. (
 stands_put : (old new : Slots) (at id : ℕ) (slot : Slot) → at ≤ length old.order.listed → PutsIn old new at slot id → StandsAt new at id
 stands_put old new at id slot l h = ap (λ xs. slice_get xs at) h.listed ∙ get-insert_at old.order.listed at id l
 
--- where an item stands in a list without the one at a place
+-- the position of an item in a list without the one at a position
 pub gone : {X : Type 0} (xs : List X) (at k : ℕ) (x : X) → slice_get (remove xs at) k ≡ Some x → (j : ℕ) × (j ≢ at) × (slice_get xs j ≡ Some x)
 gone [] zero k x e = absurd (none-some x e)
 gone [] (suc at) k x e = absurd (none-some x e)
@@ -63,7 +64,7 @@ slots_taken old new at slot once h =
 slot_taken : (old new : Slots) (at : ℕ) (slot : Slot) → TakesOut old new at slot → slice_get (slots_of old) at ≡ Some (Some slot)
 slot_taken old new at slot h = slot_there old at h.id slot h.stood h.was
 
--- the same slots stand in the list
+-- the list has the same slots
 pub slots_same : (old new : Slots) → new.order.listed ≡ old.order.listed → ((id : ℕ) → slot_at new.slots.items id ≡ slot_at old.slots.items id) → slots_of new ≡ slots_of old
 slots_same old new l h = ap (map (slot_at new.slots.items)) l ∙ map-agree (slot_at new.slots.items) (slot_at old.slots.items) old.order.listed (λ i x e. h x)
 
@@ -72,7 +73,7 @@ slots_same old new l h = ap (map (slot_at new.slots.items)) l ∙ map-agree (slo
 pub texts_back : (old new : Slots) → slots_of new ≡ slots_of old → slot_texts new ≡ slot_texts old
 texts_back old new e = texts_seen new ∙ (ap (map text_seen) e ∙ sym (texts_seen old))
 
--- what was read is, where the same slots are in the list
+-- what was read stays so if the list has the same slots
 pub read_same : (old new : Slots) → AreRead old → IsIndexed new → slots_of new ≡ slots_of old → AreRead new
 read_same old new h indexed e = record {
   indexed = indexed;

@@ -7,7 +7,7 @@ use crate::faults::source_faults;
 use crate::growing::run_at_once;
 use crate::judging::judge;
 use crate::owners::{find_owner, slot_of};
-use crate::report::write_report;
+use crate::report::{line_starts, write_report};
 use crate::slot_edits::edit_sound;
 use std::alloc::{AllocError, Global};
 use std::marker::Model;
@@ -41,7 +41,10 @@ impl Database {
     ghost use Rattle.ti_meaning.specs.Owner.{owner, readings};
     ghost use Rattle.ti_meaning.specs.Compiled.{compiled};
     ghost use Rattle.ti_meaning.specs.Faults.{fault_seen, faults};
-    ghost use Rattle.ti_meaning.specs.Report.{report};
+    ghost use Rattle.ti_meaning.specs.Report.{lines_before, report};
+    ghost use Rattle.std.specs.List.{range_with_len};
+    ghost use Rattle.ti_meaning.specs.Usable.{IsPlaced};
+    ghost use Rattle.std.specs.Prelude.{All};
     ghost use Rattle.ti_meaning.specs.Edits.{EditStep, change_of, insertion, removal, relocation, replacement, outcome_of};
     ghost use Rattle.ti_meaning.specs.Dependents.{Rebuilds};
 
@@ -104,7 +107,8 @@ impl Database {
     /// # Errors
     /// `AllocError` if memory ran out.
     pub fn faults(&self) -> Result<Vec<Fault>, AllocError>
-        ensures { IfOk result (λ all. map fault_seen all.items ≡ faults (readings self.now)) }
+        ensures all { IfOk result (λ all. map fault_seen all.items ≡ faults (readings self.now)) }
+        ensures placed { IfOk result (λ all. All (IsPlaced (length self.now)) (map fault_seen all.items)) }
     {
         let faults = source_faults(self.alloc, &self.slots)?;
         Ok(faults)
@@ -138,9 +142,21 @@ impl Database {
         Ok(report)
     }
 
-    /// Puts a block in, so that it then stands at `at`. The refusals, the first that holds:
-    /// `Position` where `at` is past the end, `TooLong`, `NotOneBlock`, `TooMany`, and `Memory`
-    /// where a growth was refused. After a refusal all is as before.
+    /// How many lines are before each block, in list order: each line ends with a newline.
+    ///
+    /// # Errors
+    /// `AllocError` if memory ran out.
+    pub fn line_starts(&self) -> Result<Vec<u64>, AllocError>
+        ensures starts { IfOk result (λ starts. starts.items ≡ map (lines_before self.now) (range_with_len 0 (length self.now))) }
+        ensures small { IfOk result (λ starts. All (λ start. start ≤ 68719476736) starts.items) }
+    {
+        let starts = line_starts(self.alloc, &self.slots)?;
+        Ok(starts)
+    }
+
+    /// Puts a block in, so that it is then at `at`. The refusals, the first that holds: `Position`
+    /// if `at` is past the end, `TooLong`, `NotOneBlock`, `TooMany`, and `Memory` if a growth was
+    /// refused. After a refusal all is as before.
     pub fn insert(&mut self, at: usize, text: &[u8]) -> Result<Edited, EditError>
         ensures step { EditStep self.old (insertion at text.now) (outcome_of result) self.new }
         ensures rebuilds { IfOk result (λ edited. Rebuilds self.old (insertion at text.now) edited.rebuilt.items edited.work) }

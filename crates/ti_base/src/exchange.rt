@@ -1,5 +1,5 @@
-// An edit of a list as an exchange: at most one block is taken out, and at most one is put in. A block
-// that moves is both.
+// An edit of a list as an exchange: at most one block is taken out, and at most one is put in. A
+// block that moves is both.
 ghost use Rattle.std.specs.Prelude.{◌≡◌, ◌<◌, IfOk, IfSome, OnErr, OnOk, length, map, option_map};
 ghost use Rattle.std.specs.Rc.{rc_slice_items};
 ghost use Rattle.ti_source.specs.Reading.{reading_of};
@@ -42,7 +42,8 @@ fn text_of<'a>(edit: &Edit<'a>) -> Option<&'a [u8]>
     }
 }
 
-/// Makes room for a block. All stays as it is; at an error the index lets go of the names that nobody has or uses.
+/// Makes room for a block. All stays as it is; at an error the index lets go of the names that
+/// nobody has or uses.
 fn reserve(slots: &mut Slots, block: &Parsed) -> Result<(), AllocError>
     requires { AreRead slots.old }
     ensures read { AreRead slots.new }
@@ -60,7 +61,8 @@ fn reserve(slots: &mut Slots, block: &Parsed) -> Result<(), AllocError>
     }
 }
 
-/// The new block of an edit, read, with room made for it, if the edit brings one. The list stays as it is.
+/// The new block of an edit, read, with room made for it, if the edit brings one. The list stays
+/// as it is.
 pub(crate) fn read_new(
     alloc: Global,
     slots: &mut Slots,
@@ -95,8 +97,8 @@ fn take_out(slots: &mut Slots, out: Option<usize>) -> Option<Slot>
     }
 }
 
-/// A new block with what was found out about the one taken out, if there is one, and that with what the
-/// new one had: the entry of before is there to be patched until the new block is rebuilt.
+/// A new block with what was found out about the one taken out, if there is one, and that with what
+/// the new one had: the entry of before is there to be patched until the new block is rebuilt.
 fn swap_settled(mut new: Slot, taken: Option<Slot>) -> (Slot, Option<Slot>)
     ensures new { result.0 ≡ settled_as taken new }
     ensures taken { result.1 ≡ unsettled_as taken new }
@@ -110,7 +112,8 @@ fn swap_settled(mut new: Slot, taken: Option<Slot>) -> (Slot, Option<Slot>)
     }
 }
 
-/// The slot to be put in: the spare one, or the one taken out if there is none. The other one is spare then.
+/// The slot to be put in: the spare one, or the one taken out if there is none. The other one is
+/// spare then.
 fn trade(taken: Option<Slot>, spare: &mut Option<Slot>) -> Option<Slot>
     ensures put { result ≡ slot_put taken spare.old }
     ensures left { spare.new ≡ slot_left taken spare.old }
@@ -125,9 +128,10 @@ fn trade(taken: Option<Slot>, spare: &mut Option<Slot>) -> Option<Slot>
     }
 }
 
-/// Takes a block out of the list and puts one in, if the positions are given, and gives the id of the one
-/// put in. That is the spare one, or the one taken out if there is none; the other one is spare then. It
-/// takes no memory, and so does the same with the positions exchanged, which undoes it.
+/// Takes a block out of the list and puts one in, if the positions are given, and gives the id of
+/// the one put in. That is the spare one, or the one taken out if there is none; the other one is
+/// spare then. It takes no memory, and so does the same with the positions exchanged, which undoes
+/// it.
 fn exchange(
     slots: &mut Slots,
     out: Option<usize>,
@@ -151,8 +155,8 @@ fn exchange(
     }
 }
 
-/// Makes the change of an edit, with the new block that was read for it, and gives the id of the block put
-/// in. A block taken out that is not the one put in is spare then. It takes no memory.
+/// Makes the change of an edit, with the new block that was read for it, and gives the id of the
+/// block put in. A block taken out that is not the one put in is spare then. It takes no memory.
 pub(crate) fn make(slots: &mut Slots, edit: &Edit<'_>, spare: &mut Option<Slot>) -> Option<u32>
     requires read { AreRead slots.old }
     requires sound { IsSoundEdit (slot_texts slots.old) (change_of edit.now) }
@@ -183,8 +187,8 @@ pub(crate) fn names_of(spare: &Option<Slot>) -> &[RcSlice<u8>]
     }
 }
 
-/// Lets go of what the index keeps of the names of a block that is not in the list, and that nobody has
-/// or uses any more.
+/// Lets go of what the index keeps of the names of a block that is not in the list, and that nobody
+/// has or uses any more.
 pub(crate) fn forget(slots: &mut Slots, spare: &Option<Slot>)
     requires { AreRead slots.old }
     ensures read { AreRead slots.new }

@@ -2,12 +2,12 @@
 //! entry of every block: at every time what the whole current source gives when it is taken afresh.
 //! What that is, `ti_meaning` says, whose edits and faults are public here again.
 //!
-//! An edit is an exchange: at most one block is taken out of the list, and at most one is put in. The
-//! blocks that depend on it are then settled in the closing order of the components of their uses. A
-//! use is circular exactly if its owner is in the component of its block, and the owners of all other
-//! uses of a block come before it. So one pass settles each block once. A queue of blocks whose owners
-//! are settled would give the same, and the circular uses would still have to be told from what is
-//! left in it.
+//! An edit is an exchange: at most one block is taken out of the list, and at most one is put in.
+//! The blocks that depend on it are then settled in the closing order of the components of their
+//! uses. A use is circular exactly if its owner is in the component of its block, and the owners of
+//! all other uses of a block come before it. So one pass settles each block once. A queue of blocks
+//! whose owners are settled would give the same, and the circular uses would still have to be told
+//! from what is left in it.
 //!
 //! Two kinds of number name a block: a position is its place in the list, from 0, and changes as
 //! blocks before it come and go; an id is given to it when it is put in, and stays with its slot.
@@ -37,5 +37,5 @@ mod slot_edits;
 mod texts;
 
 pub use database::{Database, run};
-pub use report::write_fault;
+pub use report::{write_detail, write_fault};
 pub use ti_meaning::{Edit, EditError, Edited, Fault, Outcome};

@@ -1,5 +1,5 @@
-// What an edit rebuilds, or a list that is made in one go: the plan of it, and what the plan found out
-// put into the slots.
+// What an edit rebuilds, or a list that is made in one go: the plan of it, and what the plan found
+// out put into the slots.
 ghost use Rattle.std.specs.Prelude.{◌≡◌, ℕ, Option, Some, All, IsSome, map, length, IfOk, OnOk, OnErr};
 ghost use Rattle.std.specs.Rc.{rc_slice_items};
 ghost use Rattle.ti_meaning.specs.Exchange.{Exchange};

@@ -28,8 +28,9 @@ fn printed_byte(byte: u8) -> u8
     }
 }
 
-/// Writes a detail after a space, an empty one as `-`.
-fn write_detail(out: &mut Vec<u8>, detail: &[u8]) -> Result<(), AllocError>
+/// Appends a detail as a report shows it: `?` for each byte that does not print or is white space,
+/// and `-` for an empty detail. At an error a part may have been appended.
+pub fn write_detail(out: &mut Vec<u8>, detail: &[u8]) -> Result<(), AllocError>
     ensures { OnOk result (out.new.items ≡ out.old.items ++ shown_detail detail.now) }
 {
     if detail.is_empty() {
@@ -52,8 +53,8 @@ fn write_code(out: &mut Vec<u8>, code: Code) -> Result<(), AllocError>
     Ok(())
 }
 
-/// Appends the line of a fault that stands on the line of that number, such as
-/// `2: E6 MissingUse zz` and a newline. At an error a part may have been appended.
+/// Appends the line of a fault that is on the line of that number, such as `2: E6 MissingUse zz`
+/// and a newline. At an error a part may have been appended.
 pub fn write_fault(
     alloc: Global,
     out: &mut Vec<u8>,
@@ -76,7 +77,7 @@ pub fn write_fault(
 }
 
 /// The number of lines before each of the texts.
-fn line_starts(alloc: Global, slots: &Slots) -> Result<Vec<u64>, AllocError>
+pub(crate) fn line_starts(alloc: Global, slots: &Slots) -> Result<Vec<u64>, AllocError>
     requires { AreKept slots.now }
     ensures starts { IfOk result (λ starts. starts.items
         ≡ map (lines_before (slot_texts slots.now)) (range_with_len 0 (length (slot_texts slots.now)))) }
@@ -105,7 +106,7 @@ pub(crate) fn write_report(
     ensures { IfOk result (λ out. out.items ≡ flat_map (report_line (slot_texts slots.now) first_line) (map fault_seen faults.now)) }
 {
     let mut out = Vec::new(alloc);
-    // Where there is nothing to report, no lines are counted.
+    // If there is nothing to report, no lines are counted.
     if faults.is_empty() {
         return Ok(out);
     }

@@ -16,7 +16,7 @@ pub struct Place {
     pub index: u32,
 }
 
-// The number that stands for a kind.
+// The number of a kind.
 fn kind_number(kind: Kind) -> u32
     ensures { result ≡ spec.kind_number kind }
 {
@@ -27,7 +27,7 @@ fn kind_number(kind: Kind) -> u32
     }
 }
 
-// The kind that a number stands for.
+// The kind of a number.
 fn kind_numbered(number: u32) -> Option<Kind>
     ensures { result ≡ spec.kind_numbered number }
 {

@@ -90,7 +90,7 @@ fn rank(error: ReadError) -> u32
     }
 }
 
-// The entry that the bytes are, where they lie.
+// The entry that the bytes are, read in place.
 fn read(bytes: &[u8]) -> Result<Entry<'_>, ReadError>
     ensures found { IfOk result (λ e. Reads bytes.now (entry_names e) (entry_contents e)) }
     ensures refused { IfErr result (λ e. FailsToRead bytes.now e) }
@@ -137,8 +137,8 @@ fn empty() -> Entry<'static> {
     }
 }
 
-// An entry of a copy of the bytes, or the number of the refusal. Nothing is copied of bytes that are refused, and the room
-// for the entry comes first, so that no copy is lost.
+// An entry of a copy of the bytes, or the number of the refusal. Nothing is copied of bytes that
+// are refused, and the room for the entry comes first, so that no copy is lost.
 fn copied(alloc: Global, bytes: &[u8]) -> Result<Box<Entry<'static>>, u32>
     ensures ok { IfOk result (λ b. Reads bytes.now (entry_names b.value) (entry_contents b.value)) }
     ensures err { IfErr result (λ answer. IsRefusal bytes.now answer) }

@@ -1,4 +1,4 @@
-//! The directories in which entries stand, and the file of a name below one.
+//! The directories of entries, and the file of a name below one.
 ghost use Rattle.std.specs.Prelude.{◌≡◌, ◌≢◌, ◌⊎◌, ◌≤◌, ◌==◌, ◌++◌, ◌∷◌, [], Some, IfOk, count_by, is_some, length, slice_get, unwrap_or};
 ghost use Rattle.std.specs.List.{slice_split};
 ghost use Rattle.std.specs.Option.{option_copied};
@@ -53,7 +53,7 @@ fn listed_count(dirs: &[u8]) -> usize
     colon_count(dirs) + 1
 }
 
-// The directory at a place behind that of TERMINFO.
+// The directory at a place after that of TERMINFO.
 fn place_behind(is_set: bool, dirs: &[u8], index: usize) -> Option<&[u8]>
     ensures { option_copied result ≡ slice_get (listed_directories (set_to is_set dirs.now) ++ system_directory ∷ []) index }
 {
@@ -105,7 +105,7 @@ pub extern "C" fn ti_places<'a>(
     }
 }
 
-// The path of a name's entry below a directory, with a NUL behind it.
+// The path of a name's entry below a directory, with a NUL after it.
 fn path(alloc: Global, dir: &[u8], name: &[u8]) -> Result<Vec<u8>, AllocError>
     ensures { IfOk result (λ path. path.items ≡ path_bytes dir.now name.now) }
 {

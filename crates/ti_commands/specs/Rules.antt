@@ -40,7 +40,7 @@ number_rule id short least greatest = record (option_rule id short) { parser = S
 abbrev pub long_number_rule : Text → ℕ → ℕ → Rule
 long_number_rule id least greatest = record (long_option_rule id) { parser = Some (parser.Unsigned least greatest) }
 
--- names, where they are in memory
+-- a borrowed list of borrowed names
 abbrev pub Choices : Type 0
 Choices = Bor (List (Bor Text))
 

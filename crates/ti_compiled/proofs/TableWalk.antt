@@ -6,7 +6,7 @@ use Rattle.std.proofs.lemmas.List.{get_or_default, length-map}
 use Rattle.ti_caps.specs.Tables.{Capability, IsCapability, same_capability}
 use Rattle.ti_caps.proofs.Same.{same_capability-true}
 use Rattle.ti_layout.specs.Laws.{without_cancel}
-use Rattle.ti_layout.specs.Values.{Content, Contents, TableEntry, Agrees, IsKept, contents, content_of, entries_of}
+use Rattle.ti_layout.specs.Values.{Content, Contents, TableEntry, Agrees, IsSorted, contents, content_of, entries_of}
 use Rattle.ti_layout.specs.declared.values.Value.{Value}
 use Rattle.ti_layout.proofs.KeptEntries.{contents_nowhere, other_from_test}
 use Rattle.ti_layout.proofs.Places.{elsewhere}
@@ -52,7 +52,7 @@ passes_up k = record { was_left = λ m le. omega arith; is_passed = λ m le e. o
 pub passes_down : (k j : ℕ) → k ≡ j + 1 → Passes (below k) (below j) j
 passes_down k j e = record { was_left = λ m lt. omega arith; is_passed = λ m lt s. omega arith; stays = λ m lt other. elim (cases_lt m j) [ inl under ↦ under | inr not_under ↦ absurd (other (omega arith)) ] }
 
-module _ (es : List TableEntry) (kept : IsKept es) (first last : Wanted) where
+module _ (es : List TableEntry) (kept : IsSorted es) (first last : Wanted) where
   pub walk_begins : (held : Contents) (left : Places) → ((m : ℕ) → m < length es → left m) → ((c : Capability) → IsCapability c → first c (held c))
       → ((c : Capability) → contents es c ≡ None → first c (held c) → last c (held c)) → Walks es first last held left
   walk_begins held left all at_first quiet = record {
@@ -130,7 +130,7 @@ nothing_comes old new c held none left =
 
 -- ---- the walks over slices
 
-module _ (xs : List (Capability × Value)) (kept : IsKept (entries_of xs)) (k : ℕ) (x : Capability × Value) (within : k < length xs) (item : x ≡ get_or xs k x) where
+module _ (xs : List (Capability × Value)) (kept : IsSorted (entries_of xs)) (k : ℕ) (x : Capability × Value) (within : k < length xs) (item : x ≡ get_or xs k x) where
   inside : k < length (entries_of xs)
   inside = rw length-map within
 

@@ -5,7 +5,7 @@ ghost use Rattle.std.specs.Prelude.{◌≡◌, ◌+◌, ◌≤◌, length, vec_l
 ghost use Rattle.ti_compiled.specs.inside.Bytes.{with_bytes_in, with_bytes_out, with_length, Replaces};
 
 // Puts a number of bytes in at a place.
-fn open(bytes: &mut Vec<u8>, at: usize, count: usize, fill: u8)
+fn insert_bytes(bytes: &mut Vec<u8>, at: usize, count: usize, fill: u8)
     requires within { at ≤ vec_len bytes.old }
     requires room { vec_len bytes.old + count ≤ vec_capacity bytes.old }
     ensures items { bytes.new.items ≡ with_bytes_in bytes.old.items at count fill }
@@ -17,7 +17,7 @@ fn open(bytes: &mut Vec<u8>, at: usize, count: usize, fill: u8)
 }
 
 // Takes a number of bytes out at a place.
-fn close(bytes: &mut Vec<u8>, at: usize, count: usize)
+fn remove_bytes(bytes: &mut Vec<u8>, at: usize, count: usize)
     requires within { at + count ≤ vec_len bytes.old }
     ensures items { bytes.new.items ≡ with_bytes_out bytes.old.items at count }
     ensures len { vec_len bytes.new + count ≡ vec_len bytes.old }
@@ -36,9 +36,9 @@ pub fn resize_part(bytes: &mut Vec<u8>, at: usize, size: usize, wanted: usize, f
     ensures capacity { vec_capacity bytes.old ≤ vec_capacity bytes.new }
 {
     if wanted >= size {
-        open(bytes, at + size, wanted - size, fill);
+        insert_bytes(bytes, at + size, wanted - size, fill);
     } else {
-        close(bytes, at + wanted, size - wanted);
+        remove_bytes(bytes, at + wanted, size - wanted);
     }
 }
 

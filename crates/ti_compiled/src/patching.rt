@@ -1,14 +1,14 @@
 //! An image is given the values of another table.
 //!
-//! First each value that changes is taken away, then each new one is given. So each image on the way
-//! holds some of the old values, or some of the new ones, and none is over the limit, if that is the
-//! same for all of them.
+//! First each value that changes is taken away, then each new one is given. So each image on the
+//! way holds some of the old values, or some of the new ones, and none is over the limit, if that
+//! is the same for all of them.
 ghost use Rattle.std.specs.Prelude.{◌≡◌, ◌≢◌, ◌↔◌, Some, option_map, IfSome, IsTrue};
 ghost use Rattle.ti_caps.specs.Tables.{Capability, IsCapability};
 ghost use Rattle.ti_layout.specs.declared.layout.Format.TheVariants.{Extended};
 ghost use Rattle.ti_layout.specs.Image.{format_of};
 ghost use Rattle.ti_layout.specs.Laws.{without_cancel};
-ghost use Rattle.ti_layout.specs.Values.{contents, content_of, entries_of, Agrees, AgreesIfSome, IsKept};
+ghost use Rattle.ti_layout.specs.Values.{contents, content_of, entries_of, Agrees, AgreesIfSome, IsSorted};
 ghost use Rattle.ti_compiled.specs.Changes.{HoldsGiven};
 ghost use Rattle.ti_compiled.specs.inside.Changes.{IsLeft, IsSameBut};
 ghost use Rattle.ti_compiled.specs.Image.{held_by};
@@ -66,7 +66,7 @@ fn take_away_changed(image: &mut Image, entry: &(Cap, Value), new: &Table) -> Op
 // Takes away the old values that the new table does not give. The last one goes first, so that each
 // removal moves only what remains.
 fn take_all_changed_away(image: &mut Image, old: &[(Cap, Value)], new: &Table) -> Option<()>
-    requires kept { IsKept (entries_of old.now) }
+    requires kept { IsSorted (entries_of old.now) }
     requires held { (c : Capability) → IsCapability c → held_by image.old c ≡ without_cancel (contents (entries_of old.now) c) }
     ensures names { IfSome result (λ _. image.new.names ≡ image.old.names) }
     ensures left { IfSome result (λ _. (c : Capability) → IsCapability c
@@ -97,7 +97,7 @@ fn give_changed(image: &mut Image, old: &Table, entry: &(Cap, Value)) -> Option<
 
 // Gives the new values that the old table did not.
 fn give_all_changed(image: &mut Image, old: &Table, new: &[(Cap, Value)]) -> Option<()>
-    requires kept { IsKept (entries_of new.now) }
+    requires kept { IsSorted (entries_of new.now) }
     requires left { (c : Capability) → IsCapability c → IsLeft (contents old.now c) (contents (entries_of new.now) c) (held_by image.old c) }
     ensures names { IfSome result (λ _. image.new.names ≡ image.old.names) }
     ensures contents { IfSome result (λ _. (c : Capability) → IsCapability c

@@ -12,7 +12,8 @@ use Rattle.ti_components.proofs.Rising.{Rises_take, rising_last, but_last, take_
 use Rattle.ti_components.proofs.Leading.{leads_on}
 use Rattle.ti_components.proofs.Walking.{unseen_on_path, unseen_closed, on_path_closed, same_place, same_number}
 
--- what is known where the node at place k, the last that is active and the last start, has no edge left
+-- what is known if the node at place k, the last that is active and the last start, has no
+-- edge left
 pub record IsDone (g : Rows) (progress : List Progress) (cursors path starts active order : List ℕ) (top last k : ℕ) : Type 0 where
   pub walk : IsWalk g progress cursors path starts active order
   pub active_count : length active ≡ suc top
@@ -25,7 +26,7 @@ module _ (g : Rows) (p q : List Progress) (cursors path starts active order : Li
   within_path : k < length path
   within_path = h.walk.going.within k (top, h.active_last)
 
-  -- no start is behind k, nor is a place that is active
+  -- no start is after k, nor is a place that is active
   start_below : (s : ℕ) → Has starts s → s ≤ k
   start_below s f = rising_last starts last k s h.walk.going.starts_rise h.start_count h.start_last f
 

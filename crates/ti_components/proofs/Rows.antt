@@ -94,7 +94,9 @@ edges_from targets s (next ∷ starts) h =
     omega (arith, one, length-take (next - s) (drop s targets), length-drop s targets)
 
 -- what is read of a graph that has a node
-pub edges_read : (targets : List (Option ℕ)) (starts : List ℕ) (rows : Rows) (len first nodes : ℕ) → AreStarts targets starts → rows_of targets starts ≡ rows → len ≡ length targets → nodes ≡ length starts → nodes == 0 ≡ false → first ≡ get_or starts 0 first → (first ≤ len) × (len - first ≡ sum_by length rows)
+pub edges_read : (targets : List (Option ℕ)) (starts : List ℕ) (rows : Rows) (len first nodes : ℕ) → AreStarts targets starts
+    → rows_of targets starts ≡ rows → len ≡ length targets → nodes ≡ length starts → nodes == 0 ≡ false → first ≡ get_or starts 0 first
+    → (first ≤ len) × (len - first ≡ sum_by length rows)
 edges_read targets [] rows len first nodes h r l n some e = absurd (false≢true (sym some ∙ ap (λ k. k == 0) n))
 edges_read targets (start ∷ starts) rows len first nodes h r l n some e =
     let all = edges_from targets start starts h in

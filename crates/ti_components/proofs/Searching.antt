@@ -160,7 +160,9 @@ follow_closed old target c e = record {
   followed = λ g place node walk top here edge. record { walk = walk; stays = here; explored = λ t same. rw (← same_Some target t same) (inl (c, e)) };
 }
 
-pub follow_cut : (old new : Search) (target m : ℕ) → slice_get old.progress.items target ≡ Some (OnPath m) → IsCutOffAt old.starts.items new.starts.items m → new.progress.items ≡ old.progress.items → new.cursors.items ≡ old.cursors.items → new.path.items ≡ old.path.items → new.active.items ≡ old.active.items → new.order.items ≡ old.order.items → Follows old new (Some target)
+pub follow_cut : (old new : Search) (target m : ℕ) → slice_get old.progress.items target ≡ Some (OnPath m)
+    → IsCutOffAt old.starts.items new.starts.items m → new.progress.items ≡ old.progress.items → new.cursors.items ≡ old.cursors.items
+    → new.path.items ≡ old.path.items → new.active.items ≡ old.active.items → new.order.items ≡ old.order.items → Follows old new (Some target)
 follow_cut old new target m e cut p c path active order = record {
   cursors = c;
   met = λ v f. rw p at f;
@@ -181,7 +183,10 @@ follow_cut old new target m e cut p c path active order = record {
 
 -- ---- a node is left
 
-pub leave_only : (old new : Search) (top last place start : ℕ) → length old.active.items ≡ suc top → slice_get old.active.items top ≡ Some place → length old.starts.items ≡ suc last → slice_get old.starts.items last ≡ Some start → (start ≡ place → ⊥) → new.progress.items ≡ old.progress.items → new.cursors.items ≡ old.cursors.items → new.path.items ≡ old.path.items → new.starts.items ≡ old.starts.items → new.active.items ≡ take top old.active.items → new.order.items ≡ old.order.items → Leaves old new
+pub leave_only : (old new : Search) (top last place start : ℕ) → length old.active.items ≡ suc top → slice_get old.active.items top ≡ Some place
+    → length old.starts.items ≡ suc last → slice_get old.starts.items last ≡ Some start → (start ≡ place → ⊥)
+    → new.progress.items ≡ old.progress.items → new.cursors.items ≡ old.cursors.items → new.path.items ≡ old.path.items
+    → new.starts.items ≡ old.starts.items → new.active.items ≡ take top old.active.items → new.order.items ≡ old.order.items → Leaves old new
 leave_only old new top last place start n a m b other p c path starts active order = record {
   cursors = c;
   met = λ v f. rw p at f;
@@ -197,7 +202,10 @@ leave_only old new top last place start n a m b other p c path starts active ord
       });
 }
 
-pub leave_closed : (old mid new : Search) (top last place : ℕ) → length old.active.items ≡ suc top → slice_get old.active.items top ≡ Some place → length old.starts.items ≡ suc last → slice_get old.starts.items last ≡ Some place → mid.progress.items ≡ old.progress.items → mid.cursors.items ≡ old.cursors.items → mid.path.items ≡ old.path.items → mid.starts.items ≡ take last old.starts.items → mid.active.items ≡ take top old.active.items → mid.order.items ≡ old.order.items → ClosesPath mid new place → Leaves old new
+pub leave_closed : (old mid new : Search) (top last place : ℕ) → length old.active.items ≡ suc top → slice_get old.active.items top ≡ Some place
+    → length old.starts.items ≡ suc last → slice_get old.starts.items last ≡ Some place → mid.progress.items ≡ old.progress.items
+    → mid.cursors.items ≡ old.cursors.items → mid.path.items ≡ old.path.items → mid.starts.items ≡ take last old.starts.items
+    → mid.active.items ≡ take top old.active.items → mid.order.items ≡ old.order.items → ClosesPath mid new place → Leaves old new
 leave_closed old mid new top last place n a m b p c path starts active order closes =
     let marked : IsMarked old.progress.items new.progress.items (drop place old.path.items) (length old.order.items) = rw (p, path, order) at closes.progress in
     record {
@@ -231,7 +239,11 @@ edges_left-advanced (r ∷ g) (k ∷ cursors) zero i row e c l =
 edges_left-advanced (r ∷ g) (k ∷ cursors) (suc u) i row e c l =
     let rest = edges_left-advanced g cursors u i row e c l in omega arith
 
-pub step_followed : (g : Rows) (old mid new : Search) (place node next : ℕ) (row : List (Option ℕ)) (edge : Option ℕ) → IsWalkOf g old → IsTop old.active.items place → slice_get old.path.items place ≡ Some node → slice_get old.cursors.items node ≡ Some next → slice_get g node ≡ Some row → slice_get row next ≡ Some edge → Follows old mid edge → new.progress.items ≡ mid.progress.items → new.cursors.items ≡ set mid.cursors.items node (next + 1) → new.path.items ≡ mid.path.items → new.starts.items ≡ mid.starts.items → new.active.items ≡ mid.active.items → new.order.items ≡ mid.order.items → Steps g old new
+pub step_followed : (g : Rows) (old mid new : Search) (place node next : ℕ) (row : List (Option ℕ)) (edge : Option ℕ) → IsWalkOf g old
+    → IsTop old.active.items place → slice_get old.path.items place ≡ Some node → slice_get old.cursors.items node ≡ Some next
+    → slice_get g node ≡ Some row → slice_get row next ≡ Some edge → Follows old mid edge → new.progress.items ≡ mid.progress.items
+    → new.cursors.items ≡ set mid.cursors.items node (next + 1) → new.path.items ≡ mid.path.items → new.starts.items ≡ mid.starts.items
+    → new.active.items ≡ mid.active.items → new.order.items ≡ mid.order.items → Steps g old new
 step_followed g old mid new place node next row edge walk top here cursor stands e h p c path starts active order =
     let f = h.followed g place node walk top here (λ t same. record { row = row; place = next; stands = stands; leads = e ∙ ap (λ x. Some x) same }) in
     let cursor_mid : slice_get mid.cursors.items node ≡ Some next = rw h.cursors cursor in
@@ -252,7 +264,9 @@ step_followed g old mid new place node next row edge walk top here cursor stands
           omega arith;
     }
 
-pub step_left : (g : Rows) (old new : Search) (place node next : ℕ) (row : List (Option ℕ)) → IsWalkOf g old → IsTop old.active.items place → slice_get old.path.items place ≡ Some node → slice_get old.cursors.items node ≡ Some next → slice_get g node ≡ Some row → length row ≤ next → Leaves old new → Steps g old new
+pub step_left : (g : Rows) (old new : Search) (place node next : ℕ) (row : List (Option ℕ)) → IsWalkOf g old → IsTop old.active.items place
+    → slice_get old.path.items place ≡ Some node → slice_get old.cursors.items node ≡ Some next → slice_get g node ≡ Some row → length row ≤ next
+    → Leaves old new → Steps g old new
 step_left g old new place node next row walk top here cursor stands l h = record {
   walk = h.left g place walk top (λ v i r a c s.
       let same : node ≡ v = same_Some node v (sym here ∙ a) in
@@ -370,7 +384,7 @@ met_all g s count h l = record {
   all = λ v e. h.met v (omega (arith, slice_get_within s.progress.items v Unseen e, h.idle.walk.going.nodes)) e;
 }
 
--- ---- what a search that has something active stands at
+-- ---- the node at which a search is that has something active
 
 pub record IsAt (g : Rows) (s : Search) (place node : ℕ) : Type 0 where
   pub top : IsTop s.active.items place

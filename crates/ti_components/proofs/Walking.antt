@@ -52,7 +52,9 @@ order_kept p q order s h = record {
 
 -- ---- a node is put at the end of the path
 
-path_pushed : (g : Rows) (p : List Progress) (cursors path starts active : List ℕ) (v : ℕ) → IsPath g p cursors path starts active → slice_get p v ≡ Some Unseen → ((j u : ℕ) → slice_get path j ≡ Some u → Leads g u v) → IsPath g (set p v (OnPath (length path))) cursors (path ++ v ∷ []) (starts ++ length path ∷ []) (active ++ length path ∷ [])
+path_pushed : (g : Rows) (p : List Progress) (cursors path starts active : List ℕ) (v : ℕ) → IsPath g p cursors path starts active
+    → slice_get p v ≡ Some Unseen → ((j u : ℕ) → slice_get path j ≡ Some u → Leads g u v)
+    → IsPath g (set p v (OnPath (length path))) cursors (path ++ v ∷ []) (starts ++ length path ∷ []) (active ++ length path ∷ [])
 path_pushed g p cursors path starts active v h e leads =
     let k = length path in
     let next : (j : ℕ) → Has active j → j < k = h.within in
@@ -138,7 +140,9 @@ path_pushed g p cursors path starts active v h e leads =
       ];
     }
 
-pub walk_pushed : (g : Rows) (p : List Progress) (cursors path starts active order : List ℕ) (v : ℕ) → IsWalk g p cursors path starts active order → slice_get p v ≡ Some Unseen → ((j u : ℕ) → slice_get path j ≡ Some u → Leads g u v) → IsWalk g (set p v (OnPath (length path))) cursors (path ++ v ∷ []) (starts ++ length path ∷ []) (active ++ length path ∷ []) order
+pub walk_pushed : (g : Rows) (p : List Progress) (cursors path starts active order : List ℕ) (v : ℕ) → IsWalk g p cursors path starts active order
+    → slice_get p v ≡ Some Unseen → ((j u : ℕ) → slice_get path j ≡ Some u → Leads g u v)
+    → IsWalk g (set p v (OnPath (length path))) cursors (path ++ v ∷ []) (starts ++ length path ∷ []) (active ++ length path ∷ []) order
 walk_pushed g p cursors path starts active order v h e leads =
     let q = set p v (OnPath (length path)) in
     let same : SameClosed p q = λ w c. (
@@ -156,7 +160,9 @@ walk_pushed g p cursors path starts active order v h e leads =
 
 -- ---- starts are taken off, since an edge leads back
 
-pub path_cut : (g : Rows) (p : List Progress) (cursors path starts new active : List ℕ) (m k y x : ℕ) → IsPath g p cursors path starts active → IsCutOffAt starts new m → slice_get path m ≡ Some y → slice_get path k ≡ Some x → ((s : ℕ) → Has starts s → s ≤ k) → HasEdge g x y → IsPath g p cursors path new active
+pub path_cut : (g : Rows) (p : List Progress) (cursors path starts new active : List ℕ) (m k y x : ℕ) → IsPath g p cursors path starts active
+    → IsCutOffAt starts new m → slice_get path m ≡ Some y → slice_get path k ≡ Some x → ((s : ℕ) → Has starts s → s ≤ k) → HasEdge g x y
+    → IsPath g p cursors path new active
 path_cut g p cursors path starts new active m k y x h cut here from last edge = record {
   nodes = h.nodes;
   cursor_each = h.cursor_each;
@@ -197,7 +203,9 @@ path_cut g p cursors path starts new active m k y x h cut here from last edge = 
 
 -- ---- one more edge was gone through
 
-pub path_advanced : (g : Rows) (p : List Progress) (cursors path starts active : List ℕ) (k u i : ℕ) (row : List (Option ℕ)) → IsPath g p cursors path starts active → slice_get path k ≡ Some u → slice_get cursors u ≡ Some i → slice_get g u ≡ Some row → ((w : ℕ) → slice_get row i ≡ Some (Some w) → IsExplored p path starts k w) → IsPath g p (set cursors u (i + 1)) path starts active
+pub path_advanced : (g : Rows) (p : List Progress) (cursors path starts active : List ℕ) (k u i : ℕ) (row : List (Option ℕ))
+    → IsPath g p cursors path starts active → slice_get path k ≡ Some u → slice_get cursors u ≡ Some i → slice_get g u ≡ Some row
+    → ((w : ℕ) → slice_get row i ≡ Some (Some w) → IsExplored p path starts k w) → IsPath g p (set cursors u (i + 1)) path starts active
 path_advanced g p cursors path starts active k u i row h here cursor stands done = record {
   nodes = h.nodes;
   cursor_each = length-set cursors u (i + 1) ∙ h.cursor_each;
@@ -237,7 +245,10 @@ path_advanced g p cursors path starts active k u i row h here cursor stands done
 
 -- ---- the last active place is left, and no component starts there
 
-pub path_left : (g : Rows) (p : List Progress) (cursors path starts active : List ℕ) (top k : ℕ) → IsPath g p cursors path starts active → length active ≡ suc top → slice_get active top ≡ Some k → (Has starts k → ⊥) → ((v i : ℕ) (row : List (Option ℕ)) → slice_get path k ≡ Some v → slice_get cursors v ≡ Some i → slice_get g v ≡ Some row → length row ≤ i) → IsPath g p cursors path starts (take top active)
+pub path_left : (g : Rows) (p : List Progress) (cursors path starts active : List ℕ) (top k : ℕ) → IsPath g p cursors path starts active
+    → length active ≡ suc top → slice_get active top ≡ Some k → (Has starts k → ⊥)
+    → ((v i : ℕ) (row : List (Option ℕ)) → slice_get path k ≡ Some v → slice_get cursors v ≡ Some i → slice_get g v ≡ Some row → length row ≤ i)
+    → IsPath g p cursors path starts (take top active)
 path_left g p cursors path starts active top k h n e no_start gone = record {
   nodes = h.nodes;
   cursor_each = h.cursor_each;

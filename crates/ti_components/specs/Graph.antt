@@ -1,5 +1,5 @@
--- Directed graphs: a row for each node, with the number of the node that each of its edges leads to,
--- or nothing if an edge leads nowhere.
+-- Directed graphs: a row for each node, with the number of the node that each of its edges leads
+-- to, or nothing if an edge leads nowhere.
 use Rattle.std.specs.Prelude.{ℕ, ◌≡◌, ◌<◌, ◌≤◌, ◌-◌, ◌++◌, List, [], ◌∷◌, length, take, drop, Option, Some, slice_get}
 
 -- a graph, by its rows

@@ -71,8 +71,8 @@ impl Search {
         Ok(())
     }
 
-    /// Follows an edge: a node that was not met is put on the path, and if the edge leads back on the
-    /// path no component starts after that node.
+    /// Follows an edge: a node that was not met is put on the path, and if the edge leads back on
+    /// the path no component starts after that node.
     fn follow(&mut self, edge: Option<usize>) -> Result<(), AllocError>
         requires within { (target : ℕ) → edge ≡ Some target → target < vec_len self.old.progress }
         requires rises { Rises self.old.starts.items }

@@ -89,7 +89,9 @@ adds_users slots names name xs ys zs h k =
       | inr last ↦ inr (rw (← last.1) a.3)
     ])
 
-pub adds_owned : (slots : Slots) (holder : ℕ) (names : List (List ℕ)) (name : List ℕ) (xs ys zs : List ℕ) → AddsPassing (IsUserOfOwned slots holder names) xs ys → IsOwnerId slots name holder → AddsPassing (IsUserOf slots name) ys zs → AddsPassing (IsUserOfOwned slots holder (names ++ name ∷ [])) xs zs
+pub adds_owned : (slots : Slots) (holder : ℕ) (names : List (List ℕ)) (name : List ℕ) (xs ys zs : List ℕ)
+    → AddsPassing (IsUserOfOwned slots holder names) xs ys → IsOwnerId slots name holder → AddsPassing (IsUserOf slots name) ys zs
+    → AddsPassing (IsUserOfOwned slots holder (names ++ name ∷ [])) xs zs
 adds_owned slots holder names name xs ys zs h first k =
     adds_more (IsUserOfOwned slots holder names) (IsUserOf slots name) (IsUserOfOwned slots holder (names ++ name ∷ [])) xs ys zs h k
     (λ id a. (a.0, a.1, get_front names (name ∷ []) a.0 a.1 a.2, a.3, a.4))
@@ -115,7 +117,9 @@ pub adds_users_of : (slots : Slots) (names : List (List ℕ)) (name other : List
 adds_users_of slots names name other xs ys zs h same k =
     adds_users slots names name xs ys zs h (let P : List ℕ → Type 0 = λ n. AddsPassing (IsUserOf slots n) ys zs in subst P same k)
 
-pub adds_owned_of : (slots : Slots) (holder : ℕ) (names : List (List ℕ)) (name one other : List ℕ) (xs ys zs : List ℕ) → AddsPassing (IsUserOfOwned slots holder names) xs ys → one ≡ name → IsOwnerId slots one holder → other ≡ name → AddsPassing (IsUserOf slots other) ys zs → AddsPassing (IsUserOfOwned slots holder (names ++ name ∷ [])) xs zs
+pub adds_owned_of : (slots : Slots) (holder : ℕ) (names : List (List ℕ)) (name one other : List ℕ) (xs ys zs : List ℕ)
+    → AddsPassing (IsUserOfOwned slots holder names) xs ys → one ≡ name → IsOwnerId slots one holder → other ≡ name
+    → AddsPassing (IsUserOf slots other) ys zs → AddsPassing (IsUserOfOwned slots holder (names ++ name ∷ [])) xs zs
 adds_owned_of slots holder names name one other xs ys zs h same first also k =
     adds_owned slots holder names name xs ys zs h
     (let P : List ℕ → Type 0 = λ n. IsOwnerId slots n holder in subst P same first)

@@ -74,7 +74,7 @@ module _ (s : Slots) (put : Option ℕ) (out : List (List ℕ)) (ids positions :
       let same : there.0 ≡ at = h.distinct there.0 at id (h.positions_are.stands f.0 id there.0 f.1 there.1) st in
       (f.0, there.1 ∙ ap (λ p. Some p) same)
 
-  -- at a place stands a block that was found
+  -- at a place is a block that was found
   found_at : (i at : ℕ) → slice_get positions i ≡ Some at → (id : ℕ) × (slice_get ids i ≡ Some id) × StandsAt s at id
   found_at i at e =
       let n = h.positions_are.as_many in

@@ -15,7 +15,9 @@ use Rattle.ti_dependents.proofs.Lists.{place_given, place_found}
 use Rattle.ti_dependents.proofs.Owners.{owner_one}
 
 -- the edge of an item that uses a name with an owner leads to the place of the owner
-pub edge_there : (s : Slots) (ids : List ℕ) (item : ReadItem) (name : List ℕ) (holder : ℕ) (edge : Option ℕ) → IsDistinct nat_eq ids → used_name item.said ≡ Some name → IsOwnerId s name holder → edge ≡ position (nat_eq holder) ids → is_some edge ≡ list_any (nat_eq holder) ids → IsEdgeOf s ids item edge
+pub edge_there : (s : Slots) (ids : List ℕ) (item : ReadItem) (name : List ℕ) (holder : ℕ) (edge : Option ℕ) → IsDistinct nat_eq ids
+    → used_name item.said ≡ Some name → IsOwnerId s name holder → edge ≡ position (nat_eq holder) ids → is_some edge ≡ list_any (nat_eq holder) ids
+    → IsEdgeOf s ids item edge
 edge_there s ids item name holder edge d used own e some = λ place. (
   (λ f. (name, holder, used, own, place_given ids holder edge place e f)),
   λ w.

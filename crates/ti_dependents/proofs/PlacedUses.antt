@@ -92,6 +92,6 @@ module _ (s : Slots) (ids positions : List ℕ) (graph : Rows) (many : length po
   pub graph_of_positions : IsGraphOf (blocks_of s) positions (HasOptionalEdge graph)
   graph_of_positions i j = ((λ e. edge_uses i j e), λ w. uses_edge i j w.0 w.1 w.2 w.3 w.4)
 
--- no id stands twice in an order (`Order::ids`)
+-- no id is twice in an order (`Order::ids`)
 pub placed_uses : (s : Slots) (put : Option ℕ) (out : List (List ℕ)) (ids positions : List ℕ) (graph : Rows) → AreDependentIds s put out ids positions → AreDistinct s.order.listed → IsGraphOfUses s ids graph → IsGraphOf (blocks_of s) positions (HasOptionalEdge graph)
 placed_uses s put out ids positions graph d once h = graph_of_positions s ids positions graph d.as_many d.stands once h

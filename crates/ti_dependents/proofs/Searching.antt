@@ -124,7 +124,9 @@ search_ended s put out found next h l = record {
 }
 
 -- the names in memory are those of the block
-pub search_step : (s : Slots) (put : Option ℕ) (out : List (List ℕ)) (found new : List ℕ) (next p : ℕ) (names : List (List ℕ)) → IsIndexed s → IsSearch s put out found next → slice_get found next ≡ Some p → names ≡ (reading_at s.slots.items p).names → AddsPassing (IsUserOfOwned s p names) found new → IsSearch s put out new (next + 1)
+pub search_step : (s : Slots) (put : Option ℕ) (out : List (List ℕ)) (found new : List ℕ) (next p : ℕ) (names : List (List ℕ)) → IsIndexed s
+    → IsSearch s put out found next → slice_get found next ≡ Some p → names ≡ (reading_at s.slots.items p).names
+    → AddsPassing (IsUserOfOwned s p names) found new → IsSearch s put out new (next + 1)
 search_step s put out found new next p names x h here same adds =
     let P : List (List ℕ) → Type 0 = λ ns. AddsPassing (IsUserOfOwned s p ns) found new in
     search_more s put out found new next p x h here (subst P same adds)

@@ -9,8 +9,8 @@
 //! - `line_reader`: lines read one at a time, with a limit on their length and on the reads;
 //!   `read_ahead` holds what was read and not used yet. `laws`: bytes are cut into lines in only
 //!   one way
-//! - `paths`: the paths of entries below a directory; `searching`: the directories in which an entry
-//!   is looked for, its file, and the entry in it
+//! - `paths`: the paths of entries below a directory; `searching`: the directories in which an
+//!   entry is looked for, its file, and the entry in it
 //! - `tree`: what a tree of files is; `memory_tree` is one in memory, and `placing` writes files
 //!   into a tree
 #![tactic(auto)]

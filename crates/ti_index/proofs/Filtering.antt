@@ -13,7 +13,8 @@ use Rattle.ti_text.proofs.Lists.{get_back, take_get, drop_get}
 
 -- ---- the place of an element that passes
 
--- an element that passes stands somewhere in the whole list; it stands before a place there exactly where fewer pass before
+-- an element that passes is somewhere in the whole list; it is before a place there exactly if
+-- fewer pass before
 -- it than before that place
 abbrev pub IsPlaced : (ℕ → Bool) → List ℕ → ℕ → ℕ → Type 0
 IsPlaced test xs k x = (q : ℕ) × (slice_get xs q ≡ Some x) × ((p : ℕ) → (q < p → k < length (filter test (take p xs))) × (k < length (filter test (take p xs)) → q < p))
@@ -83,7 +84,7 @@ filter-take_le test (suc n) (x ∷ xs) =
 abbrev pub is_below : List ℕ → ℕ → ℕ → Bool
 is_below labels label x = ltb (get_or labels x 0) label
 
--- of a list in the order of all, those whose labels are below that of an id stand before it
+-- of a list in the order of all, those whose labels are below that of an id are before it
 labels_pass : (ids labels list : List ℕ) (id : ℕ) (test : ℕ → Bool) (place : ℕ) → AreLabelled ids labels → AreBelow ids (length labels) → list ≡ filter test ids → slice_get ids place ≡ Some id → PassesBelow (is_below labels (get_or labels id 0)) list (length (filter test (take place ids)))
 labels_pass ids labels list id test place labelled known e f k d l =
     let x = get_or list k d in
@@ -94,14 +95,16 @@ labels_pass ids labels list id test place labelled known e f k d l =
     )
 
 -- the place that a search by labels gives counts those before the id
-pub counted : (ids labels list : List ℕ) (id i : ℕ) → AreLabelled ids labels → AreBelow ids (length labels) → i ≤ length list → (IsPartitionedBy (is_below labels (get_or labels id 0)) list → IsPartitionPoint (λ x. is_below labels (get_or labels id 0) x ≡ true) (λ x. is_below labels (get_or labels id 0) x ≡ false) list i) → ListsBefore ids list id i
+pub counted : (ids labels list : List ℕ) (id i : ℕ) → AreLabelled ids labels → AreBelow ids (length labels) → i ≤ length list
+    → (IsPartitionedBy (is_below labels (get_or labels id 0)) list → IsPartitionPoint (λ x. is_below labels (get_or labels id 0) x ≡ true) (λ x. is_below labels (get_or labels id 0) x ≡ false) list i)
+    → ListsBefore ids list id i
 counted ids labels list id i labelled known within point test place e f =
     let p = is_below labels (get_or labels id 0) in
     let n = length (filter test (take place ids)) in
     let passes = labels_pass ids labels list id test place labelled known e f in
     point_is p list n i 0 (omega (arith, filter-take_le test place ids, ap length e)) within passes (point (passing_first p list n passes))
 
--- the position of an id, as the number of all that stand before it
+-- the position of an id, as the number of all that are before it
 pub position_is : (listed : List ℕ) (id i : ℕ) → Has listed id → ListsBefore listed listed id i → slice_get listed i ≡ Some id
 position_is listed id i h before =
     let all : (xs : List ℕ) → xs ≡ filter (λ x. true) xs = all_pass in
@@ -171,7 +174,7 @@ with_id t id x n = rw (neq_false x id n) refl
 without_id : (t : ℕ → Bool) (id x : ℕ) → (x ≡ id → ⊥) → (not (nat_eq x id) && t x) ≡ t x
 without_id t id x n = rw (neq_false x id n) refl
 
--- where the id passes, it stands in the list behind those before it
+-- if the id passes, it is in the list after those before it
 passing_at : (listed list : List ℕ) (t : ℕ → Bool) (id count place : ℕ) → list ≡ filter t listed → slice_get listed place ≡ Some id → ListsBefore listed list id count → t id ≡ true → slice_get list count ≡ Some id
 passing_at listed list t id count place e f before passes =
     let b = before t place e f in

@@ -62,11 +62,13 @@ order_relabelled ids labels new free m n h labelled same = record {
 
 -- ---- an id is put in
 
--- the id that was freed last, and why it stands nowhere
+-- the id that was freed last, and why it is in no list
 pub order_fresh : (ids labels free rest : List ℕ) (m n id : ℕ) → IsOrder ids labels free m n → free ≡ rest ++ id ∷ [] → Has ids id → ⊥
 order_fresh ids labels free rest m n id h e has = h.apart has.0 (length rest) id has.1 (rw e (get_last rest id))
 
-label_cases : (ids labels free rest : List ℕ) (m n p id x : ℕ) → IsOrder ids labels free m n → free ≡ rest ++ id ∷ [] → p ≤ length ids → (i y : ℕ) → HasLabel (insert ids p id) (set labels id x) i y → ((i < p) × HasLabel ids labels i y) ⊎ (((i ≡ p) × (y ≡ x)) ⊎ ((j : ℕ) × (i ≡ suc j) × (p ≤ j) × HasLabel ids labels j y))
+label_cases : (ids labels free rest : List ℕ) (m n p id x : ℕ) → IsOrder ids labels free m n → free ≡ rest ++ id ∷ [] → p ≤ length ids → (i y : ℕ)
+    → HasLabel (insert ids p id) (set labels id x) i y
+    → ((i < p) × HasLabel ids labels i y) ⊎ (((i ≡ p) × (y ≡ x)) ⊎ ((j : ℕ) × (i ≡ suc j) × (p ≤ j) × HasLabel ids labels j y))
 label_cases ids labels free rest m n p id x h f l i y (a, e, b) =
     let lacks = order_fresh ids labels free rest m n id h f in
     let other : (j : ℕ) → slice_get ids j ≡ Some a → slice_get labels a ≡ Some y = λ j here.

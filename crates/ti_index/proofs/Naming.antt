@@ -74,33 +74,43 @@ pub record IsGrown (old new : Mentions) : Type 0 where
   pub holders_room : vec_capacity old.holders ≤ vec_capacity new.holders
   pub users_room : vec_capacity old.users ≤ vec_capacity new.users
 
-pub grown_seen : (old : NameIndex) (entries : BTreeMap (Vec ℕ Global) Mentions) (name : List ℕ) (m w : Mentions) → mentions_at old name ≡ Some m → UpdatesBy (λ x y. slice_cmp nat_cmp x.items y.items) (λ key. slice_cmp nat_cmp name key.items) old.entries entries (Some w) → IsGrown m w → (other : List ℕ) → IsSeenSame old (with_entries old entries) other
+pub grown_seen : (old : NameIndex) (entries : BTreeMap (Vec ℕ Global) Mentions) (name : List ℕ) (m w : Mentions) → mentions_at old name ≡ Some m
+    → UpdatesBy (λ x y. slice_cmp nat_cmp x.items y.items) (λ key. slice_cmp nat_cmp name key.items) old.entries entries (Some w) → IsGrown m w
+    → (other : List ℕ) → IsSeenSame old (with_entries old entries) other
 grown_seen old entries name m w found h grown other =
     seen_by_others old (with_entries old entries) name other
     (record { holders = rw (h.1, found) grown.holders; users = rw (h.1, found) grown.users })
     (others_kept name old.entries entries (Some w) h)
 
-pub grown_capacity : (old : NameIndex) (entries : BTreeMap (Vec ℕ Global) Mentions) (name : List ℕ) (m w : Mentions) → mentions_at old name ≡ Some m → UpdatesBy (λ x y. slice_cmp nat_cmp x.items y.items) (λ key. slice_cmp nat_cmp name key.items) old.entries entries (Some w) → IsGrown m w → (other : List ℕ) → KeepsCapacity old (with_entries old entries) other
+pub grown_capacity : (old : NameIndex) (entries : BTreeMap (Vec ℕ Global) Mentions) (name : List ℕ) (m w : Mentions) → mentions_at old name ≡ Some m
+    → UpdatesBy (λ x y. slice_cmp nat_cmp x.items y.items) (λ key. slice_cmp nat_cmp name key.items) old.entries entries (Some w) → IsGrown m w
+    → (other : List ℕ) → KeepsCapacity old (with_entries old entries) other
 grown_capacity old entries name m w found h grown other =
     capacity_by_others old (with_entries old entries) name other
     (record { holders = rw (h.1, found) grown.holders_room; users = rw (h.1, found) grown.users_room })
     (others_kept name old.entries entries (Some w) h)
 
 -- an entry without blocks was brought
-pub brought_seen : (old : NameIndex) (entries : BTreeMap (Vec ℕ Global) Mentions) (name : List ℕ) (w : Mentions) → mentions_at old name ≡ None → UpdatesBy (λ x y. slice_cmp nat_cmp x.items y.items) (λ key. slice_cmp nat_cmp name key.items) old.entries entries (Some w) → w.holders.items ≡ [] → w.users.items ≡ [] → (other : List ℕ) → IsSeenSame old (with_entries old entries) other
+pub brought_seen : (old : NameIndex) (entries : BTreeMap (Vec ℕ Global) Mentions) (name : List ℕ) (w : Mentions) → mentions_at old name ≡ None
+    → UpdatesBy (λ x y. slice_cmp nat_cmp x.items y.items) (λ key. slice_cmp nat_cmp name key.items) old.entries entries (Some w)
+    → w.holders.items ≡ [] → w.users.items ≡ [] → (other : List ℕ) → IsSeenSame old (with_entries old entries) other
 brought_seen old entries name w found h holders users other =
     seen_by_others old (with_entries old entries) name other
     (record { holders = rw (h.1, found) holders; users = rw (h.1, found) users })
     (others_kept name old.entries entries (Some w) h)
 
-pub brought_capacity : (old : NameIndex) (entries : BTreeMap (Vec ℕ Global) Mentions) (name : List ℕ) (w : Mentions) → mentions_at old name ≡ None → UpdatesBy (λ x y. slice_cmp nat_cmp x.items y.items) (λ key. slice_cmp nat_cmp name key.items) old.entries entries (Some w) → (other : List ℕ) → KeepsCapacity old (with_entries old entries) other
+pub brought_capacity : (old : NameIndex) (entries : BTreeMap (Vec ℕ Global) Mentions) (name : List ℕ) (w : Mentions) → mentions_at old name ≡ None
+    → UpdatesBy (λ x y. slice_cmp nat_cmp x.items y.items) (λ key. slice_cmp nat_cmp name key.items) old.entries entries (Some w) → (other : List ℕ)
+    → KeepsCapacity old (with_entries old entries) other
 brought_capacity old entries name w found h other =
     capacity_by_others old (with_entries old entries) name other
     (record { holders = rw found (omega arith); users = rw found (omega arith) })
     (others_kept name old.entries entries (Some w) h)
 
 -- an entry without blocks was let go
-pub forgotten_seen : (old : NameIndex) (entries : BTreeMap (Vec ℕ Global) Mentions) (name : List ℕ) → UpdatesBy (λ x y. slice_cmp nat_cmp x.items y.items) (λ key. slice_cmp nat_cmp name key.items) old.entries entries None → holders_at old name ≡ [] → users_at old name ≡ [] → (other : List ℕ) → IsSeenSame old (with_entries old entries) other
+pub forgotten_seen : (old : NameIndex) (entries : BTreeMap (Vec ℕ Global) Mentions) (name : List ℕ)
+    → UpdatesBy (λ x y. slice_cmp nat_cmp x.items y.items) (λ key. slice_cmp nat_cmp name key.items) old.entries entries None
+    → holders_at old name ≡ [] → users_at old name ≡ [] → (other : List ℕ) → IsSeenSame old (with_entries old entries) other
 forgotten_seen old entries name h holders users other =
     seen_by_others old (with_entries old entries) name other
     (record { holders = rw h.1 (sym holders); users = rw h.1 (sym users) })
@@ -126,11 +136,17 @@ pub none_from_test : (o : Option Mentions) → is_some o ≡ false → o ≡ Non
 none_from_test None e = refl
 none_from_test (Some m) e = absurd (false≢true (sym e))
 
--- the same, where the entry's key has the bytes of the name
-pub brought_key_seen : (old : NameIndex) (entries : BTreeMap (Vec ℕ Global) Mentions) (key name : List ℕ) (w : Mentions) → key ≡ name → mentions_at old name ≡ None → UpdatesBy (λ x y. slice_cmp nat_cmp x.items y.items) (λ k. slice_cmp nat_cmp key k.items) old.entries entries (Some w) → w.holders.items ≡ [] → w.users.items ≡ [] → (other : List ℕ) → IsSeenSame old (with_entries old entries) other
+-- the same, if the entry's key has the bytes of the name
+pub brought_key_seen : (old : NameIndex) (entries : BTreeMap (Vec ℕ Global) Mentions) (key name : List ℕ) (w : Mentions) → key ≡ name
+    → mentions_at old name ≡ None
+    → UpdatesBy (λ x y. slice_cmp nat_cmp x.items y.items) (λ k. slice_cmp nat_cmp key k.items) old.entries entries (Some w) → w.holders.items ≡ []
+    → w.users.items ≡ [] → (other : List ℕ) → IsSeenSame old (with_entries old entries) other
 brought_key_seen old entries key name w same found h = brought_seen old entries name w found (rw same at h)
 
-pub brought_key_capacity : (old : NameIndex) (entries : BTreeMap (Vec ℕ Global) Mentions) (key name : List ℕ) (w : Mentions) → key ≡ name → mentions_at old name ≡ None → UpdatesBy (λ x y. slice_cmp nat_cmp x.items y.items) (λ k. slice_cmp nat_cmp key k.items) old.entries entries (Some w) → (other : List ℕ) → KeepsCapacity old (with_entries old entries) other
+pub brought_key_capacity : (old : NameIndex) (entries : BTreeMap (Vec ℕ Global) Mentions) (key name : List ℕ) (w : Mentions) → key ≡ name
+    → mentions_at old name ≡ None
+    → UpdatesBy (λ x y. slice_cmp nat_cmp x.items y.items) (λ k. slice_cmp nat_cmp key k.items) old.entries entries (Some w) → (other : List ℕ)
+    → KeepsCapacity old (with_entries old entries) other
 brought_key_capacity old entries key name w same found h = brought_capacity old entries name w found (rw same at h)
 
 -- ---- what a list can have

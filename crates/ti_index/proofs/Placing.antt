@@ -9,7 +9,7 @@ use Rattle.ti_text.specs.Lists.{AreBelow}
 label_read : (ids labels : List ℕ) (i id : ℕ) → AreBelow ids (length labels) → slice_get ids i ≡ Some id → HasLabel ids labels i (get_or labels id 0)
 label_read ids labels i id known e = (id, e, slice_get-get_or labels id 0 (known i id e))
 
--- labels say which of two stands first
+-- labels say which of two is first
 pub labels_decide_before : (ids labels : List ℕ) (i j one other : ℕ) → AreLabelled ids labels → AreBelow ids (length labels) → slice_get ids i ≡ Some one → slice_get ids j ≡ Some other → (get_or labels one 0 < get_or labels other 0 → i < j) × (i < j → get_or labels one 0 < get_or labels other 0)
 labels_decide_before ids labels i j one other labelled known e f =
     let a = label_read ids labels i one known e in

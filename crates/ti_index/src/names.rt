@@ -115,8 +115,8 @@ impl NameIndex {
         }
     }
 
-    /// Makes room for one more block that has a name, and for one more that uses it. No look-up shows
-    /// a difference, also if it fails.
+    /// Makes room for one more block that has a name, and for one more that uses it. No look-up
+    /// shows a difference, also if it fails.
     ///
     /// # Errors
     /// Out of memory.

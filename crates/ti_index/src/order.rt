@@ -8,8 +8,8 @@ use std::alloc::{AllocError, Global};
 use std::marker::Model;
 
 /// Ids in the order of a list. An id stays with its block while others come and go, and is used
-/// again after its block has gone. Its position in the list is found by a label that rises along the
-/// list, as is which of two ids comes first.
+/// again after its block has gone. Its position in the list is found by a label that rises along
+/// the list, as is which of two ids comes first.
 #[derive(Drop)]
 pub struct Order {
     /// The ids in the order of the list.
@@ -52,7 +52,8 @@ impl Order {
         &self.ids
     }
 
-    /// How many ids there are, those in the list and those that are free. Each is below that number.
+    /// How many ids there are, those in the list and those that are free. Each is below that
+    /// number.
     pub fn count(&self) -> usize
         ensures count { result ≡ length self.now.listed + length self.now.free }
         ensures listed { AreBelow self.now.listed result }
@@ -79,7 +80,8 @@ impl Order {
         self.labels[one as usize] < self.labels[other as usize]
     }
 
-    /// How many ids of a list, which are in the order of all, come before an id, by a binary search.
+    /// How many ids of a list, which are in the order of all, come before an id, by a binary
+    /// search.
     pub(crate) fn count_before(&self, list: &[u32], id: u32) -> usize
         requires stands { Has self.now.listed id }
         requires among { AreAmong list.now self.now.listed }

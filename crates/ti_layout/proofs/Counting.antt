@@ -10,7 +10,7 @@ use Rattle.ti_layout.specs.declared.layout.Header.{Header}
 use Rattle.ti_layout.specs.declared.values.Value.{Value}
 use Rattle.ti_layout.specs.declared.values.Value.TheVariants.{True, Cancelled}
 use Rattle.ti_layout.specs.declared.values.Value.TheVariants as v
-use Rattle.ti_layout.specs.Values.{Content, content_true, content_number, content_text, content_cancelled, TableEntry, IsKept, contents, content_of, entries_of}
+use Rattle.ti_layout.specs.Values.{Content, content_true, content_number, content_text, content_cancelled, TableEntry, IsSorted, contents, content_of, entries_of}
 use Rattle.ti_layout.specs.Image.{is_wide, format_of, of_kind, texts_below}
 use Rattle.ti_layout.specs.inside.Writing.{HasSizes, at_most_max}
 use Rattle.ti_layout.proofs.Below.{some_below-true, some_below-false}
@@ -33,7 +33,7 @@ wide_is_number (content_number n) e = refl
 wide_is_number (content_text t) e = absurd cc
 wide_is_number content_cancelled e = absurd cc
 
-module _ (xs : List (Capability × Value)) (kept : IsKept (entries_of xs)) where
+module _ (xs : List (Capability × Value)) (kept : IsSorted (entries_of xs)) where
   module _ (k : ℕ) (x : Capability × Value) (within : k < length xs) (item : x ≡ get_or xs k x) where
     entry_here : (e : TableEntry) → get_or (entries_of xs) k e ≡ (x.0, content_of x.1)
     entry_here e = get_or_default (entries_of xs) k e (x.0, content_of x.1) (rw length-map within) ∙ item_read xs k x within item
@@ -94,7 +94,7 @@ counts_begun es =
     let none : length (texts_below (contents es) 0) ≡ 0 = ap (λ (t : List ℕ). length t) (texts-none (contents es)) in
     record { flags_walked = walked-start es Flag; numbers_walked = walked-start es Number; texts_walked = walked-start es Text; strings_are = omega arith }
 
-module _ (xs : List (Capability × Value)) (kept : IsKept (entries_of xs)) (k flags numbers texts strings : ℕ) (x : Capability × Value) (within : k < length xs) (item : x ≡ get_or xs k x)
+module _ (xs : List (Capability × Value)) (kept : IsSorted (entries_of xs)) (k flags numbers texts strings : ℕ) (x : Capability × Value) (within : k < length xs) (item : x ≡ get_or xs k x)
     (has : HasCounts (entries_of xs) k flags numbers texts strings) where
   past : (kind : Kind) (places : ℕ) → Walked (entries_of xs) kind k places → is_of kind (content_of x.1) ≡ false → Walked (entries_of xs) kind (k + 1) places
   past kind places walked other = passed xs kept k places x within item kind places walked other refl
@@ -142,7 +142,7 @@ module _ (xs : List (Capability × Value)) (kept : IsKept (entries_of xs)) (k fl
     strings_are = has.strings_are;
   }
 
-pub counted_all : (xs : List (Capability × Value)) → IsKept (entries_of xs) → (field : List ℕ) (k : ℕ) (h : Header) → length xs ≤ k → h.format ≡ format_of (contents (entries_of xs)) → h.names ≡ suc (length field)
+pub counted_all : (xs : List (Capability × Value)) → IsSorted (entries_of xs) → (field : List ℕ) (k : ℕ) (h : Header) → length xs ≤ k → h.format ≡ format_of (contents (entries_of xs)) → h.names ≡ suc (length field)
     → HasCounts (entries_of xs) k h.flags h.numbers h.texts h.strings → HasSizes field (contents (entries_of xs)) h
 counted_all xs kept field k h all format names has =
     let es = entries_of xs in

@@ -10,7 +10,7 @@ use Rattle.ti_caps.specs.declared.capability.Kind.{Kind}
 use Rattle.ti_caps.specs.declared.capability.Kind.TheVariants.{Flag, Number, Text}
 use Rattle.ti_layout.specs.inside.Mentions.{AreMentionPlaces, Decides, recent_max}
 use Rattle.ti_layout.specs.declared.values.Value.{Value}
-use Rattle.ti_layout.specs.Values.{Content, TableEntry, Agrees, IsKept, contents, content_of, entries_of, rank_of}
+use Rattle.ti_layout.specs.Values.{Content, TableEntry, Agrees, IsSorted, contents, content_of, entries_of, rank_of}
 use Rattle.ti_layout.proofs.KeptEntries.{one_from_rank, same_from_one, test_from_other}
 use Rattle.ti_layout.proofs.Fronts.{AllBefore, absent_behind, contents-append, contents-none, contents-one, kept-push, rank-push}
 
@@ -160,7 +160,7 @@ module _ (es : List TableEntry) (x : TableEntry) (places : List ℕ) (known : Ar
 
 -- these entries are the first mentions of the capabilities below a rank
 pub record Gathers (es out : List TableEntry) (rank : ℕ) : Type 0 where
-  pub kept : IsKept out
+  pub kept : IsSorted out
   pub before : AllBefore out rank
   pub said : (c : Capability) → IsCapability c → rank_of c < rank → contents out c ≡ contents es c
 

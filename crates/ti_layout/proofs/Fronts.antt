@@ -9,7 +9,7 @@ use Rattle.ti_caps.specs.Tables.{Capability, IsCapability, same_capability}
 use Rattle.ti_caps.proofs.Same.{same_capability-true}
 use Rattle.ti_layout.specs.declared.values.Value.{Value}
 use Rattle.ti_layout.specs.inside.Values.{IsGapFor}
-use Rattle.ti_layout.specs.Values.{Content, TableEntry, Agrees, IsKept, contents, content_of, entries_of, rank_at, rank_of}
+use Rattle.ti_layout.specs.Values.{Content, TableEntry, Agrees, IsSorted, contents, content_of, entries_of, rank_at, rank_of}
 use Rattle.ti_layout.specs.inside.Merging.{IsPastBoth}
 use Rattle.ti_layout.proofs.KeptEntries.{contents_nowhere, one_from_rank}
 use Rattle.ti_layout.proofs.Places.{nowhere, kept-insert, rank_read}
@@ -71,10 +71,10 @@ AllBefore es rank = (k : ℕ) → k < length es → rank_at es k < rank
 gap_behind : (es : List TableEntry) (c : Capability) → AllBefore es (rank_of c) → IsGapFor es c (length es)
 gap_behind es c before = record { in_range = omega arith; before = λ j lt. before j lt; after = λ j le lt. absurd (omega arith) }
 
-pub kept-push : (es : List TableEntry) (x : TableEntry) → IsKept es → AllBefore es (rank_of x.0) → IsCapability x.0 → Agrees x.0 x.1 → IsKept (es ++ x ∷ [])
-kept-push es x kept before valid agrees = subst IsKept (insert-end es x) (kept-insert es x.0 x.1 (length es) kept (gap_behind es x.0 before) valid agrees)
+pub kept-push : (es : List TableEntry) (x : TableEntry) → IsSorted es → AllBefore es (rank_of x.0) → IsCapability x.0 → Agrees x.0 x.1 → IsSorted (es ++ x ∷ [])
+kept-push es x kept before valid agrees = subst IsSorted (insert-end es x) (kept-insert es x.0 x.1 (length es) kept (gap_behind es x.0 before) valid agrees)
 
-pub absent_behind : (es : List TableEntry) (c : Capability) → IsKept es → AllBefore es (rank_of c) → contents es c ≡ None
+pub absent_behind : (es : List TableEntry) (c : Capability) → IsSorted es → AllBefore es (rank_of c) → contents es c ≡ None
 absent_behind es c kept before = contents_nowhere es c (nowhere es kept c (length es) (gap_behind es c before))
 
 pub rank-push : (es : List TableEntry) (x : TableEntry) (k rank : ℕ) → k < length (es ++ x ∷ []) → AllBefore es rank → rank_of x.0 < rank → rank_at (es ++ x ∷ []) k < rank
@@ -96,7 +96,7 @@ rank-push es x k rank within before last =
 -- ---- the walk
 
 pub record Merges (fs ss os : List TableEntry) (i j : ℕ) : Type 0 where
-  pub kept : IsKept os
+  pub kept : IsSorted os
   pub said : (c : Capability) → contents os c ≡ option_or (contents (take i fs) c) (contents (take j ss) c)
   pub before_first : i < length fs → AllBefore os (rank_at fs i)
   pub before_second : j < length ss → AllBefore os (rank_at ss j)
@@ -126,12 +126,12 @@ of_both None None (Some v) y o e alone none = ap (λ t. option_or t (Some v)) (a
 of_both None (Some w) (Some v) y o e alone none = absurd (none-some w (sym (alone v refl) ∙ e))
 of_both (Some w) b (Some v) y o e alone none = absurd (none-some w (sym (alone v refl) ∙ e))
 
-module _ (fs ss os : List TableEntry) (i j : ℕ) (kept_f : IsKept fs) (kept_s : IsKept ss) (m : Merges fs ss os i j) (x : TableEntry) where
+module _ (fs ss os : List TableEntry) (i j : ℕ) (kept_f : IsSorted fs) (kept_s : IsSorted ss) (m : Merges fs ss os i j) (x : TableEntry) where
   -- nothing was said of a capability whose rank is still to come
   alone : AllBefore os (rank_of x.0) → (c : Capability) (v : Content) → contents (x ∷ []) c ≡ Some v → contents os c ≡ None
   alone before c v e = subst (λ d. contents os d ≡ None) (one-said x c v e) (absent_behind os x.0 m.kept before)
 
-  rises : (es : List TableEntry) (k : ℕ) → IsKept es → k + 1 < length es → rank_at es k < rank_at es (k + 1)
+  rises : (es : List TableEntry) (k : ℕ) → IsSorted es → k + 1 < length es → rank_at es k < rank_at es (k + 1)
   rises es k kept within = kept.rises k (k + 1) (omega arith) within
 
   module _ (within : i < length fs) (here : get_or fs i x ≡ x) where

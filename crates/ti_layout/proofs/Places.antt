@@ -16,7 +16,7 @@ use Rattle.ti_caps.specs.Tables.{Capability, IsCapability}
 use Rattle.ti_layout.specs.declared.values.Value.{Value}
 use Rattle.ti_layout.specs.declared.values.Value.TheVariants.{True}
 use Rattle.ti_layout.specs.inside.Values.{IsAt, IsGapFor, SetsOnly}
-use Rattle.ti_layout.specs.Values.{Content, content_true, TableEntry, Agrees, IsKept, contents, content_of, entries_of, rank_at, rank_of}
+use Rattle.ti_layout.specs.Values.{Content, content_true, TableEntry, Agrees, IsSorted, contents, content_of, entries_of, rank_at, rank_of}
 use Rattle.ti_layout.proofs.KeptEntries.{Elsewhere, Nowhere, Says, one_from_rank, contents_here, contents_nowhere, says-set, says-insert, says-remove, same_from_one, test_from_other}
 
 -- the rank that a place has is that of the capability there
@@ -25,7 +25,7 @@ rank_read es i e within = get_or-map (λ x. rank_of x.0) es i e 0 within
 
 -- ---- where a search ends
 
-module _ (xs : List (Capability × Value)) (kept : IsKept (entries_of xs)) (c : Capability) (valid : IsCapability c) where
+module _ (xs : List (Capability × Value)) (kept : IsSorted (entries_of xs)) (c : Capability) (valid : IsCapability c) where
   plain : (i : ℕ) (d : Capability × Value) → i < length xs → rank_at (entries_of xs) i ≡ rank_of (get_or xs i d).0
   plain i d within =
       let f : Capability × Value → TableEntry = λ e. (e.0, content_of e.1) in
@@ -74,7 +74,7 @@ module _ (xs : List (Capability × Value)) (kept : IsKept (entries_of xs)) (c : 
 
 -- ---- what is at the place
 
-module _ (es : List TableEntry) (kept : IsKept es) (c : Capability) where
+module _ (es : List TableEntry) (kept : IsSorted es) (c : Capability) where
   rank_here : (i : ℕ) → IsAt es c i → rank_at es i ≡ rank_of c
   rank_here i at = let e : TableEntry = (c, content_true) in rank_read es i e at.in_range ∙ ap rank_of (at.is_here e)
 
@@ -139,7 +139,7 @@ rise-remove l at rises within i j lt in_range =
 abbrev IsGood : TableEntry → Type 0
 IsGood e = IsCapability e.0 × Agrees e.0 e.1
 
-pub kept-set : (es : List TableEntry) (c : Capability) (v : Content) (i : ℕ) → IsKept es → IsAt es c i → IsCapability c → Agrees c v → IsKept (set es i (c, v))
+pub kept-set : (es : List TableEntry) (c : Capability) (v : Content) (i : ℕ) → IsSorted es → IsAt es c i → IsCapability c → Agrees c v → IsSorted (set es i (c, v))
 kept-set es c v i kept at valid agrees =
     let f : TableEntry → ℕ = λ e. rank_of e.0 in
     let e : TableEntry = (c, v) in
@@ -149,7 +149,7 @@ kept-set es c v i kept at valid agrees =
       agree = All-set IsGood es i e (valid, agrees) kept.agree;
     }
 
-pub kept-insert : (es : List TableEntry) (c : Capability) (v : Content) (i : ℕ) → IsKept es → IsGapFor es c i → IsCapability c → Agrees c v → IsKept (insert es i (c, v))
+pub kept-insert : (es : List TableEntry) (c : Capability) (v : Content) (i : ℕ) → IsSorted es → IsGapFor es c i → IsCapability c → Agrees c v → IsSorted (insert es i (c, v))
 kept-insert es c v i kept gap valid agrees =
     let f : TableEntry → ℕ = λ e. rank_of e.0 in
     let e : TableEntry = (c, v) in
@@ -161,7 +161,7 @@ kept-insert es c v i kept gap valid agrees =
       agree = All-append IsGood (take i es) (e ∷ drop i es) (All-take IsGood i es kept.agree) (All-cons IsGood e (drop i es) (valid, agrees) (All-drop IsGood i es kept.agree));
     }
 
-pub kept-remove : (es : List TableEntry) (i : ℕ) → IsKept es → i < length es → IsKept (remove es i)
+pub kept-remove : (es : List TableEntry) (i : ℕ) → IsSorted es → i < length es → IsSorted (remove es i)
 kept-remove es i kept within =
     let f : TableEntry → ℕ = λ e. rank_of e.0 in
     let same : map f (remove es i) ≡ remove (map f es) i = map-remove f es i in
@@ -177,7 +177,7 @@ kept-remove es i kept within =
 abbrev entry_of : Capability × Value → TableEntry
 entry_of e = (e.0, content_of e.1)
 
-module _ (xs : List (Capability × Value)) (kept : IsKept (entries_of xs)) (c : Capability) where
+module _ (xs : List (Capability × Value)) (kept : IsSorted (entries_of xs)) (c : Capability) where
   pub content_here : (i : ℕ) (d : Capability × Value) → IsAt (entries_of xs) c i → Some (content_of (get_or xs i d).1) ≡ contents (entries_of xs) c
   content_here i d at =
       let read : get_or (entries_of xs) i (entry_of d) ≡ entry_of (get_or xs i d) = read_map entry_of xs i d in
@@ -197,8 +197,8 @@ module _ (xs : List (Capability × Value)) (kept : IsKept (entries_of xs)) (c : 
     placed : entries_of (insert xs i (c, v)) ≡ insert (entries_of xs) i (c, content_of v)
     placed = map-insert entry_of xs i (c, v)
 
-    pub kept-written : IsAt (entries_of xs) c i → IsKept (entries_of (set xs i (c, v)))
-    kept-written at = subst IsKept (sym written) (kept-set (entries_of xs) c (content_of v) i kept at valid agrees)
+    pub kept-written : IsAt (entries_of xs) c i → IsSorted (entries_of (set xs i (c, v)))
+    kept-written at = subst IsSorted (sym written) (kept-set (entries_of xs) c (content_of v) i kept at valid agrees)
 
     pub sets-written : IsAt (entries_of xs) c i → SetsOnly (entries_of xs) (entries_of (set xs i (c, v))) c (Some (content_of v))
     sets-written at =
@@ -206,8 +206,8 @@ module _ (xs : List (Capability × Value)) (kept : IsKept (entries_of xs)) (c : 
         subst (λ es. SetsOnly (entries_of xs) es c (Some (content_of v))) (sym written)
         (sets_only _ _ c _ (says-set (entries_of xs) c (content_of v) i e at.in_range (at.is_here e) (elsewhere (entries_of xs) kept c i at)))
 
-    pub kept-placed : IsGapFor (entries_of xs) c i → IsKept (entries_of (insert xs i (c, v)))
-    kept-placed gap = subst IsKept (sym placed) (kept-insert (entries_of xs) c (content_of v) i kept gap valid agrees)
+    pub kept-placed : IsGapFor (entries_of xs) c i → IsSorted (entries_of (insert xs i (c, v)))
+    kept-placed gap = subst IsSorted (sym placed) (kept-insert (entries_of xs) c (content_of v) i kept gap valid agrees)
 
     pub sets-placed : IsGapFor (entries_of xs) c i → SetsOnly (entries_of xs) (entries_of (insert xs i (c, v))) c (Some (content_of v))
     sets-placed gap =
@@ -218,8 +218,8 @@ module _ (xs : List (Capability × Value)) (kept : IsKept (entries_of xs)) (c : 
     taken : entries_of (remove xs i) ≡ remove (entries_of xs) i
     taken = map-remove entry_of xs i
 
-    pub kept-taken : IsKept (entries_of (remove xs i))
-    kept-taken = subst IsKept (sym taken) (kept-remove (entries_of xs) i kept at.in_range)
+    pub kept-taken : IsSorted (entries_of (remove xs i))
+    kept-taken = subst IsSorted (sym taken) (kept-remove (entries_of xs) i kept at.in_range)
 
     pub sets-taken : SetsOnly (entries_of xs) (entries_of (remove xs i)) c None
     sets-taken =

@@ -12,7 +12,7 @@ use Rattle.ti_layout.specs.declared.layout.Format.{Format}
 use Rattle.ti_layout.specs.declared.layout.Format.TheVariants.{Legacy}
 use Rattle.ti_layout.specs.declared.values.Value.{Value}
 use Rattle.ti_layout.specs.inside.Values.{IsAt}
-use Rattle.ti_layout.specs.Values.{Content, content_true, content_number, content_text, content_cancelled, TableEntry, Agrees, IsKept, contents, content_of, entries_of}
+use Rattle.ti_layout.specs.Values.{Content, content_true, content_number, content_text, content_cancelled, TableEntry, Agrees, IsSorted, contents, content_of, entries_of}
 use Rattle.ti_layout.specs.Layout.{absent_mark, number_bytes, number_section, width}
 use Rattle.ti_layout.specs.Image.{is_there, of_kind, written_count, flag_value, number_value, offset_value, text_piece, flags_below, numbers_below, offsets_below, texts_below, below}
 use Rattle.ti_layout.proofs.KeptEntries.{contents_here}
@@ -104,7 +104,7 @@ walked-start es kind = record {
   within = omega arith;
 }
 
-module _ (es : List TableEntry) (kept : IsKept es) where
+module _ (es : List TableEntry) (kept : IsSorted es) where
   pub contents_read : (j : ℕ) (e : TableEntry) → j < length es → contents es (get_or es j e).0 ≡ Some (get_or es j e).1
   contents_read j e lt =
       let at : IsAt es (get_or es j e).0 j = record { in_range = lt; is_here = λ d. ap (λ (x : TableEntry). x.0) (get_or_default es j d e lt) } in
@@ -280,7 +280,7 @@ next_spelled w f places index n e =
     ∙ ap (λ xs. xs ++ number_section w (n ∷ [])) (spelled-append w (below f places) (replicate (index - places) (absent_mark w)) ∙ ap (λ xs. number_section w (below f places) ++ xs) (spelled-absent w (index - places)))
     ∙ ap (λ xs. (number_section w (below f places) ++ replicate (width w * (index - places)) 255) ++ xs) (spelled-one w n)
 
-module _ (es : List TableEntry) (kept : IsKept es) (k places : ℕ) (in_range : k < length es) (e : TableEntry) (here : get_or es k e ≡ e) where
+module _ (es : List TableEntry) (kept : IsSorted es) (k places : ℕ) (in_range : k < length es) (e : TableEntry) (here : get_or es k e ≡ e) where
   pub next_flag : Walked es Flag k places → e.1 ≡ content_true → flags_below (contents es) (e.0.index + 1) ≡ (flags_below (contents es) places ++ replicate (e.0.index - places) 0) ++ 1 ∷ []
   next_flag walked v =
       let is : is_of Flag e.1 ≡ true = ap (is_of Flag) v in

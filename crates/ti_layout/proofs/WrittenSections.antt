@@ -12,7 +12,7 @@ use Rattle.ti_layout.specs.declared.layout.Format.TheVariants.{Legacy}
 use Rattle.ti_layout.specs.declared.values.Value.{Value}
 use Rattle.ti_layout.specs.declared.values.Value.TheVariants.{True, Cancelled}
 use Rattle.ti_layout.specs.declared.values.Value.TheVariants as v
-use Rattle.ti_layout.specs.Values.{content_text, TableEntry, IsKept, contents, content_of, entries_of}
+use Rattle.ti_layout.specs.Values.{content_text, TableEntry, IsSorted, contents, content_of, entries_of}
 use Rattle.ti_layout.specs.Layout.{number_bytes, number_section, width}
 use Rattle.ti_layout.specs.Image.{written_count, flags_below, numbers_below, offsets_below, texts_below}
 use Rattle.ti_layout.proofs.Below.{below-none}
@@ -63,7 +63,7 @@ texts_begun es start = record { places = 0; walked = walked-start es Text; so_fa
 
 -- ---- at the end, all that is written
 
-module _ (es : List TableEntry) (kept : IsKept es) (start image : List ℕ) (k : ℕ) (all : length es ≤ k) where
+module _ (es : List TableEntry) (kept : IsSorted es) (start image : List ℕ) (k : ℕ) (all : length es ≤ k) where
   pub flags_done : (places : ℕ) → HasFlags es start image k places → image ≡ start ++ flags_below (contents es) (written_count (contents es) Flag)
   flags_done places has = has.so_far ∙ ap (λ n. start ++ flags_below (contents es) n) (sym (walked-end es kept Flag k places all has.walked))
 
@@ -109,7 +109,7 @@ text_grown start done t v0 v1 v2 a b c =
 
 -- ---- one more entry
 
-module _ (xs : List (Capability × Value)) (kept : IsKept (entries_of xs)) (k places : ℕ) (x : Capability × Value) (within : k < length xs) (item : x ≡ get_or xs k x) where
+module _ (xs : List (Capability × Value)) (kept : IsSorted (entries_of xs)) (k places : ℕ) (x : Capability × Value) (within : k < length xs) (item : x ≡ get_or xs k x) where
   here : TableEntry
   here = (x.0, content_of x.1)
 

@@ -64,6 +64,6 @@ abbrev pub rank_at : List TableEntry → ℕ → ℕ
 rank_at es i = slice_index (map (λ e. rank_of e.0) es) i
 
 -- each capability comes after those before it, and may have what it has
-pub record IsKept (es : List TableEntry) : Type 0 where
+pub record IsSorted (es : List TableEntry) : Type 0 where
   pub rises : (i j : ℕ) → i < j → j < length es → rank_at es i < rank_at es j
   pub agree : All (λ e. IsCapability e.0 × Agrees e.0 e.1) es

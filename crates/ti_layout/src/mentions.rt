@@ -4,7 +4,7 @@ ghost use Rattle.std.specs.Option.{option_or};
 ghost use Rattle.ti_caps.specs.Tables.{Capability, IsCapability, same_capability};
 ghost use Rattle.ti_layout.specs.Layout.{FitsTwoBytes};
 ghost use Rattle.ti_layout.specs.inside.Mentions.{AreMentionPlaces, recent_max};
-ghost use Rattle.ti_layout.specs.Values.{contents, content_of, entries_of, Agrees, IsKept};
+ghost use Rattle.ti_layout.specs.Values.{contents, content_of, entries_of, Agrees, IsSorted};
 
 use crate::merging::{copy_of, push_copy};
 use crate::values::{Table, Value, rank};
@@ -36,7 +36,7 @@ fn first_places(mentions: &[(Cap, Value)]) -> [u16; CAPABILITY_COUNT]
 fn first_mentions(alloc: Global, mentions: &[(Cap, Value)]) -> Result<Vec<(Cap, Value)>, AllocError>
     requires few { FitsTwoBytes (length mentions.now) }
     requires agree { All (λ e. Agrees e.0 e.1) (entries_of mentions.now) }
-    ensures kept { IfOk result (λ v. IsKept (entries_of v.items)) }
+    ensures kept { IfOk result (λ v. IsSorted (entries_of v.items)) }
     ensures said { IfOk result (λ v. (c : Capability) → IsCapability c → contents (entries_of v.items) c ≡ contents (entries_of mentions.now) c) }
 {
     let places = first_places(mentions);

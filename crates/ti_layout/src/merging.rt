@@ -3,7 +3,7 @@ ghost use Rattle.std.specs.Prelude.{◌≡◌, ◌++◌, ◌∷◌, [], IfOk, On
 ghost use Rattle.std.specs.Option.{option_or};
 ghost use Rattle.ti_caps.specs.Tables.{Capability};
 ghost use Rattle.ti_layout.specs.inside.Merging.{IsPastBoth, TurnIs};
-ghost use Rattle.ti_layout.specs.Values.{contents, content_of, entries_of, IsKept};
+ghost use Rattle.ti_layout.specs.Values.{contents, content_of, entries_of, IsSorted};
 
 use crate::values::{Value, rank};
 use std::alloc::{AllocError, Global};
@@ -79,9 +79,9 @@ pub fn merge(
     first: &[(Cap, Value)],
     second: &[(Cap, Value)],
 ) -> Result<Vec<(Cap, Value)>, AllocError>
-    requires first { IsKept (entries_of first.now) }
-    requires second { IsKept (entries_of second.now) }
-    ensures kept { IfOk result (λ merged. IsKept (entries_of merged.items)) }
+    requires first { IsSorted (entries_of first.now) }
+    requires second { IsSorted (entries_of second.now) }
+    ensures kept { IfOk result (λ merged. IsSorted (entries_of merged.items)) }
     ensures merges { IfOk result (λ merged. (c : Capability) → contents (entries_of merged.items) c
         ≡ option_or (contents (entries_of first.now) c) (contents (entries_of second.now) c)) }
 {

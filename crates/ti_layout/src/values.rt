@@ -3,7 +3,7 @@ ghost use Rattle.std.specs.Prelude.{◌≡◌, ◌≢◌, Option, Some, None, op
 ghost use Rattle.std.specs.Option.{option_or};
 ghost use Rattle.ti_caps.specs.Tables.{Capability, IsCapability, same_capability};
 ghost use Rattle.ti_layout.specs.inside.Values.{IsAt, IsGapFor, SetsOnly};
-ghost use Rattle.ti_layout.specs.Values.{contents, content_of, entries_of, rank_of, Agrees, AgreesIfSome, IsKept};
+ghost use Rattle.ti_layout.specs.Values.{contents, content_of, entries_of, rank_of, Agrees, AgreesIfSome, IsSorted};
 
 use crate::merging::merge;
 use std::alloc::{AllocError, Global};
@@ -32,13 +32,13 @@ pub struct Table {
 
 impl Model for Table {
     ghost use Rattle.std.specs.Prelude.{List};
-    ghost use Rattle.ti_layout.specs.Values.{TableEntry, IsKept, entries_of};
+    ghost use Rattle.ti_layout.specs.Values.{TableEntry, IsSorted, entries_of};
 
     ghost Value = { List TableEntry };
 
     ghost view = { λ t. entries_of t.entries.items };
 
-    ghost invariant = { λ t. IsKept (entries_of t.entries.items) };
+    ghost invariant = { λ t. IsSorted (entries_of t.entries.items) };
 }
 
 impl Table {
@@ -54,7 +54,7 @@ impl Table {
 
     /// A table of these values, which are in the order of the entry.
     pub(crate) fn of_entries(entries: Vec<(Cap, Value)>) -> Table
-        requires { IsKept (entries_of entries.items) }
+        requires { IsSorted (entries_of entries.items) }
         ensures { result ≡ entries_of entries.items }
     {
         Table { entries }
@@ -129,7 +129,7 @@ impl Table {
     /// The capabilities that have a value, with it, in the order of the compiled entry.
     pub fn entries(&self) -> &[(Cap, Value)]
         ensures entries { entries_of result.now ≡ self.now }
-        ensures kept { IsKept (entries_of result.now) }
+        ensures kept { IsSorted (entries_of result.now) }
     {
         &self.entries
     }
@@ -149,7 +149,7 @@ pub(crate) fn rank(cap: Cap) -> usize
 
 // Where a capability is, or where it would be.
 fn place(entries: &[(Cap, Value)], cap: Cap) -> Result<usize, usize>
-    requires { IsKept (entries_of entries.now) }
+    requires { IsSorted (entries_of entries.now) }
     ensures valid { IsCapability cap }
     ensures found { IfOk result (IsAt (entries_of entries.now) cap) }
     ensures absent { IfErr result (IsGapFor (entries_of entries.now) cap) }
@@ -160,7 +160,7 @@ fn place(entries: &[(Cap, Value)], cap: Cap) -> Result<usize, usize>
 
 // The value of a capability.
 fn find(entries: &[(Cap, Value)], cap: Cap) -> Option<&Value>
-    requires { IsKept (entries_of entries.now) }
+    requires { IsSorted (entries_of entries.now) }
     ensures found { option_map (λ v. content_of v.now) result ≡ contents (entries_of entries.now) cap }
     ensures agrees { IfSome result (λ v. Agrees cap (content_of v.now)) }
 {
@@ -172,9 +172,9 @@ fn find(entries: &[(Cap, Value)], cap: Cap) -> Option<&Value>
 
 // Gives a capability a value, in its place.
 fn put(entries: &mut Vec<(Cap, Value)>, cap: Cap, value: Value) -> Result<(), AllocError>
-    requires kept { IsKept (entries_of entries.old.items) }
+    requires kept { IsSorted (entries_of entries.old.items) }
     requires agrees { Agrees cap (content_of value) }
-    ensures kept { IsKept (entries_of entries.new.items) }
+    ensures kept { IsSorted (entries_of entries.new.items) }
     ensures ok { OnOk result (SetsOnly (entries_of entries.old.items) (entries_of entries.new.items) cap (Some (content_of value))) }
     ensures err { OnErr result (entries.new.items ≡ entries.old.items) }
     ensures in_place { IsSome (contents (entries_of entries.old.items) cap) → IsOk result }
@@ -193,9 +193,9 @@ fn put(entries: &mut Vec<(Cap, Value)>, cap: Cap, value: Value) -> Result<(), Al
 
 // Gives a capability a value in its place, unless it has one.
 fn put_if_absent(entries: &mut Vec<(Cap, Value)>, cap: Cap, value: Value) -> Result<(), AllocError>
-    requires kept { IsKept (entries_of entries.old.items) }
+    requires kept { IsSorted (entries_of entries.old.items) }
     requires agrees { Agrees cap (content_of value) }
-    ensures kept { IsKept (entries_of entries.new.items) }
+    ensures kept { IsSorted (entries_of entries.new.items) }
     ensures ok { OnOk result ((c : Capability) → contents (entries_of entries.new.items) c
         ≡ option_or (contents (entries_of entries.old.items) c) (if same_capability cap c then Some (content_of value) else None)) }
     ensures err { OnErr result (entries.new.items ≡ entries.old.items) }
@@ -212,8 +212,8 @@ fn put_if_absent(entries: &mut Vec<(Cap, Value)>, cap: Cap, value: Value) -> Res
 
 // Takes the value of a capability away.
 fn take_out(entries: &mut Vec<(Cap, Value)>, cap: Cap)
-    requires { IsKept (entries_of entries.old.items) }
-    ensures kept { IsKept (entries_of entries.new.items) }
+    requires { IsSorted (entries_of entries.old.items) }
+    ensures kept { IsSorted (entries_of entries.new.items) }
     ensures gone { SetsOnly (entries_of entries.old.items) (entries_of entries.new.items) cap None }
 {
     if let Ok(at) = place(entries, cap) {

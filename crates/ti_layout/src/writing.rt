@@ -1,8 +1,8 @@
 //! An entry written as term(5) lays it out.
 //!
-//! The entries of a table are in the order of the entry, so each section is written in one walk over
-//! them: what is absent before a value is filled up in one step, and what is absent after the last
-//! value is not written.
+//! The entries of a table are in the order of the entry, so each section is written in one walk
+//! over them: what is absent before a value is filled up in one step, and what is absent after the
+//! last value is not written.
 ghost use Rattle.std.specs.Prelude.{◌≡◌, ◌≢◌, ◌<◌, ◌≤◌, ◌↔◌, ◌+◌, ◌*◌, ◌++◌, [], length, replicate, Some, IfOk, IsErrOf, OnOk};
 ghost use Rattle.ti_text.specs.Limits.{names_max};
 ghost use Rattle.ti_caps.specs.declared.capability.Kind.TheVariants.{Flag, Number, Text};
@@ -11,7 +11,7 @@ ghost use Rattle.ti_layout.specs.Image.{image, format_of, image_limit, written_c
 ghost use Rattle.ti_layout.specs.Layout as layout;
 ghost use Rattle.ti_layout.specs.Layout.{FitsTwoBytes, number_section, number_bytes};
 ghost use Rattle.ti_layout.specs.inside.Writing.{HasSizes};
-ghost use Rattle.ti_layout.specs.Values.{contents, content_of, entries_of, IsKept};
+ghost use Rattle.ti_layout.specs.Values.{contents, content_of, entries_of, IsSorted};
 ghost use Rattle.ti_layout.specs.declared.writing.WriteError.TheVariants.{Memory};
 
 use crate::layout::{Format, Header};
@@ -92,7 +92,7 @@ fn is_wide(value: &Value) -> bool
 /// The format of the entry with these values, which are in the order of the entry: the extended one
 /// if a number is over 32,767.
 pub fn format_wanted(entries: &[(Cap, Value)]) -> Format
-    requires { IsKept (entries_of entries.now) }
+    requires { IsSorted (entries_of entries.now) }
     ensures { result ≡ format_of (contents (entries_of entries.now)) }
 {
     for entry in entries {
@@ -107,7 +107,7 @@ pub fn format_wanted(entries: &[(Cap, Value)]) -> Format
 // number.
 fn header_of(names: &[u8], entries: &[(Cap, Value)]) -> Header
     requires names { length names.now ≤ names_max }
-    requires kept { IsKept (entries_of entries.now) }
+    requires kept { IsSorted (entries_of entries.now) }
     ensures { HasSizes names.now (contents (entries_of entries.now)) result }
 {
     let mut header = Header {
@@ -141,7 +141,7 @@ fn entry_bytes(
     header: &Header,
 ) -> Result<Vec<u8>, AllocError>
     requires names { length names.now ≤ names_max }
-    requires kept { IsKept (entries_of entries.now) }
+    requires kept { IsSorted (entries_of entries.now) }
     requires sizes { HasSizes names.now (contents (entries_of entries.now)) header.now }
     requires small { length (image names.now (contents (entries_of entries.now))) ≤ image_limit (contents (entries_of entries.now)) }
     ensures { IfOk result (λ v. v.items ≡ image names.now (contents (entries_of entries.now))) }
@@ -197,7 +197,7 @@ fn push_header(image: &mut Vec<u8>, header: &Header) -> Result<(), AllocError>
 
 // Adds a byte for each boolean up to the last that is there.
 fn push_flags(image: &mut Vec<u8>, entries: &[(Cap, Value)]) -> Result<(), AllocError>
-    requires { IsKept (entries_of entries.now) }
+    requires { IsSorted (entries_of entries.now) }
     ensures { OnOk result (image.new.items
         ≡ image.old.items ++ flags_below (contents (entries_of entries.now)) (written_count (contents (entries_of entries.now)) Flag)) }
 {
@@ -218,7 +218,7 @@ fn push_numbers(
     entries: &[(Cap, Value)],
     format: Format,
 ) -> Result<(), AllocError>
-    requires { IsKept (entries_of entries.now) }
+    requires { IsSorted (entries_of entries.now) }
     ensures { OnOk result (image.new.items
         ≡ image.old.items
         ++ number_section format (numbers_below format (contents (entries_of entries.now)) (written_count (contents (entries_of entries.now)) Number))) }
@@ -236,7 +236,7 @@ fn push_numbers(
 
 // Adds where each string begins in the string table, up to the last that is there.
 fn push_offsets(image: &mut Vec<u8>, entries: &[(Cap, Value)]) -> Result<(), AllocError>
-    requires kept { IsKept (entries_of entries.now) }
+    requires kept { IsSorted (entries_of entries.now) }
     requires fits { FitsTwoBytes (length (texts_below (contents (entries_of entries.now)) (written_count (contents (entries_of entries.now)) Text))) }
     ensures { OnOk result (image.new.items
         ≡ image.old.items
@@ -257,7 +257,7 @@ fn push_offsets(image: &mut Vec<u8>, entries: &[(Cap, Value)]) -> Result<(), All
 
 // Adds the string table: each text with the NUL that ends it.
 fn push_texts(image: &mut Vec<u8>, entries: &[(Cap, Value)]) -> Result<(), AllocError>
-    requires { IsKept (entries_of entries.now) }
+    requires { IsSorted (entries_of entries.now) }
     ensures { OnOk result (image.new.items
         ≡ image.old.items ++ texts_below (contents (entries_of entries.now)) (written_count (contents (entries_of entries.now)) Text)) }
 {

@@ -16,8 +16,8 @@ pub record Mention : Type 0 where
   pub capability : Capability
   pub says : Content
 
--- what the leftmost mention of the capability says, a cancel too, if there is one: what the mentions
--- say as the entries of a table
+-- what the leftmost mention of the capability says, a cancel too, if there is one: what the
+-- mentions say as the entries of a table
 abbrev pub leftmost_content : List Mention → Contents
 leftmost_content mentions = contents (map (λ (mention : Mention). (mention.capability, mention.says)) mentions)
 

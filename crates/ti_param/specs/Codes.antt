@@ -97,13 +97,13 @@ pub data IsFlags : List ℕ → Flags → Type 0 where
   plain_flags : (xs : List ℕ) → AllAre (is_flag false) xs → IsFlags xs (flags_from no_flags xs)
 
 -- the greatest width and precision (own)
-abbrev pub greatest_size : ℕ
-greatest_size = 999
+abbrev pub size_max : ℕ
+size_max = 999
 
 -- the texts of a precision; `.` without digits is 0
 pub data IsPrecision : List ℕ → Option ℕ → Type 0 where
   without_precision : IsPrecision [] None
-  with_precision : (ds : List ℕ) → AllAre is_decimal_digit ds → decimal_value ds ≤ greatest_size → IsPrecision (ascii.dot ∷ ds) (Some (decimal_value ds))
+  with_precision : (ds : List ℕ) → AllAre is_decimal_digit ds → decimal_value ds ≤ size_max → IsPrecision (ascii.dot ∷ ds) (Some (decimal_value ds))
 
 -- a leading 0 of the width
 abbrev pub begins_zero : List ℕ → Bool
@@ -113,7 +113,7 @@ begins_zero (d ∷ ds) = d == ascii.digit_0
 -- the texts of a printf form: flags, width, precision, conversion
 pub data IsDirective : List ℕ → Directive → Type 0 where
   directive : (fs ds ps : List ℕ) (x : ℕ) {flags : Flags} {precision : Option ℕ} {conversion : Conversion} →
-      IsFlags fs flags → AllAre is_decimal_digit ds → decimal_value ds ≤ greatest_size → IsPrecision ps precision → row_for x conversions ≡ Some conversion →
+      IsFlags fs flags → AllAre is_decimal_digit ds → decimal_value ds ≤ size_max → IsPrecision ps precision → row_for x conversions ≡ Some conversion →
       IsDirective (fs ++ (ds ++ (ps ++ x ∷ [])))
       (record { flags = record flags { zero = begins_zero ds }; width = decimal_value ds; precision = precision; conversion = conversion })
 

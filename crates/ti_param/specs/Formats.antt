@@ -27,8 +27,8 @@ pub data IsCutIntoTokens : ℕ → List ℕ → List Placed → Type 0 where
 -- ---- trees
 
 -- how many conditionals may be open at once (own)
-abbrev pub most_open : ℕ
-most_open = 64
+abbrev pub open_max : ℕ
+open_max = 64
 
 -- What a format is made of. A conditional with a `%t` is a choice in a group: its test, the part
 -- taken, and the rest that is run if the test is 0, which is a choice again if it has a `%t` of its
@@ -54,7 +54,7 @@ mutual
         IsSequence depth tokens left next → IsSequence depth (placed_token place (Literal b) ∷ tokens) left (byte b next)
     code_piece : {depth : ℕ} (place : ℕ) (c : Code) {tokens left : List Placed} {next : FormatTree} →
         IsSequence depth tokens left next → IsSequence depth (placed_token place (Operation c) ∷ tokens) left (code place c next)
-    conditional_piece : {depth : ℕ} (place : ℕ) {tokens inner after left : List Placed} {conditional next : FormatTree} → depth < most_open →
+    conditional_piece : {depth : ℕ} (place : ℕ) {tokens inner after left : List Placed} {conditional next : FormatTree} → depth < open_max →
         IsConditional (suc depth) tokens inner conditional → Closes inner after → IsSequence depth after left next →
         IsSequence depth (placed_token place If ∷ tokens) left (group conditional next)
 

@@ -1,14 +1,14 @@
 //! Whether a token may come where it is: conditionals in order, and not too many open at once.
 ghost use Rattle.std.specs.Prelude.{◌≡◌, ℕ, ◌≤◌, List, MatchBool, reverse};
 ghost use Rattle.arrayvec.specs.ArrayVec.{array_vec_len};
-ghost use Rattle.ti_param.specs.Formats.{HasOneTree, most_open};
+ghost use Rattle.ti_param.specs.Formats.{HasOneTree, open_max};
 ghost use Rattle.ti_param.specs.inside.Formats.{phases_after};
 
 use crate::codes::Token;
 use arrayvec::ArrayVec;
 
-/// How many conditionals may be open at once: `most_open` of `specs/Formats.antt`.
-pub(crate) const MOST: usize = 64;
+/// How many conditionals may be open at once: `open_max` of `specs/Formats.antt`.
+pub(crate) const OPEN_MAX: usize = 64;
 
 /// What may come in an open conditional.
 #[derive(Clone, Copy, Default)]
@@ -23,11 +23,11 @@ pub(crate) enum Phase {
 /// Whether the token may come in the open conditionals. If so, these are then those after it, else
 /// as they were.
 #[inline(always)]
-pub(crate) fn advance(phases: &mut ArrayVec<Phase, MOST>, token: &Token) -> bool
-    requires { array_vec_len phases.old ≤ most_open }
+pub(crate) fn advance(phases: &mut ArrayVec<Phase, OPEN_MAX>, token: &Token) -> bool
+    requires { array_vec_len phases.old ≤ open_max }
     ensures step { MatchBool result (phases_after (reverse phases.old.items) token.now ≡ Some (reverse phases.new.items))
         ((phases_after (reverse phases.old.items) token.now ≡ None) × (phases.new.items ≡ phases.old.items)) }
-    ensures bound { array_vec_len phases.new ≤ most_open }
+    ensures bound { array_vec_len phases.new ≤ open_max }
 {
     match token {
         Token::Literal(_) | Token::Operation(_) => true,

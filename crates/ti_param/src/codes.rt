@@ -28,19 +28,19 @@ impl Model for Letter {
 
 /// Which of the nine parameters, counted from 0.
 #[derive(Clone, Copy)]
-pub(crate) struct Ordinal {
+pub(crate) struct ParameterIndex {
     index: u8,
 }
 
-impl Model for Ordinal {
+impl Model for ParameterIndex {
     ghost use Rattle.std.specs.Prelude.{ℕ, ◌<◌};
     ghost use Rattle.ti_text.specs.Limits.{parameters_max};
 
     ghost Value = { ℕ };
 
-    ghost view = { λ ordinal. ordinal.index };
+    ghost view = { λ parameter. parameter.index };
 
-    ghost invariant = { λ ordinal. ordinal.index < parameters_max };
+    ghost invariant = { λ parameter. parameter.index < parameters_max };
 
     ghost inverse = { λ index. record { index = index } };
 }
@@ -82,7 +82,7 @@ pub(crate) enum Code {
     /// `%d`, `%o`, `%x`, `%X` and `%s` print a value.
     Print(Directive),
     /// `%p1` to `%p9` push a parameter.
-    Parameter(Ordinal),
+    Parameter(ParameterIndex),
     /// `%P` and a letter pop a variable's new value.
     Store(Variable),
     /// `%g` and a letter push a variable.
@@ -128,7 +128,7 @@ impl Letter {
     }
 }
 
-impl Ordinal {
+impl ParameterIndex {
     /// The parameter's place, counted from 0.
     pub(crate) fn index(self) -> usize
         ensures value { result ≡ self }
@@ -139,11 +139,11 @@ impl Ordinal {
 }
 
 /// The parameter that a digit names.
-pub(crate) fn ordinal_of(digit: u8) -> Option<Ordinal>
+pub(crate) fn parameter_index(digit: u8) -> Option<ParameterIndex>
     ensures { result ≡ parameter_numbered digit }
 {
     match digit {
-        b'1'..=b'9' => Some(Ordinal {
+        b'1'..=b'9' => Some(ParameterIndex {
             index: digit - b'1',
         }),
         _ => None,

@@ -19,7 +19,7 @@ pub(crate) fn directive(text: &[u8]) -> Option<(Directive, &[u8])>
     let (width, text) = number(text);
     let (precision, text) = precision(text)?;
     let (&letter, rest) = text.split_first()?;
-    if width > MOST {
+    if width > SIZE_MAX {
         return None;
     }
     let conversion = conversion(letter)?;
@@ -45,7 +45,7 @@ fn begins_with_zero(text: &[u8]) -> bool
 }
 
 // The greatest width and precision.
-const MOST: u32 = 999;
+const SIZE_MAX: u32 = 999;
 
 // The flags of a printf form; `-` and `+` are flags only after a `:`, since they are operators
 // too.
@@ -112,7 +112,7 @@ fn precision(text: &[u8]) -> Option<(Option<u16>, &[u8])>
     match text.split_first() {
         Some((&b'.', digits)) => {
             let (value, rest) = number(digits);
-            if value > MOST {
+            if value > SIZE_MAX {
                 return None;
             }
             Some((Some(value as u16), rest))

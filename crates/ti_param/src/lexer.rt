@@ -2,7 +2,7 @@
 ghost use Rattle.std.specs.Prelude.{◌≡◌, ◌^◌, ◌<◌, [], ◌∷◌, Some, MatchOption, IfNone, length};
 ghost use Rattle.ti_param.specs.inside.Formats.{accepted_of, front_of, left_of, scan_of};
 
-use crate::acceptor::{MOST, Phase, advance};
+use crate::acceptor::{OPEN_MAX, Phase, advance};
 use crate::codes::Token;
 use crate::reader::read_code;
 use arrayvec::ArrayVec;
@@ -23,13 +23,13 @@ pub(crate) struct Lexer<'a> {
     total: usize,
     rest: &'a [u8],
     // The open conditionals, the innermost last.
-    phases: ArrayVec<Phase, MOST>,
+    phases: ArrayVec<Phase, OPEN_MAX>,
 }
 
 impl<'a> Model for Lexer<'a> {
     ghost use Rattle.std.specs.Prelude.{◌-◌, ◌≤◌, length, reverse};
     ghost use Rattle.arrayvec.specs.ArrayVec.{array_vec_len};
-    ghost use Rattle.ti_param.specs.Formats.{most_open};
+    ghost use Rattle.ti_param.specs.Formats.{open_max};
     ghost use Rattle.ti_param.specs.inside.Formats.{Unread};
 
     ghost Value = { Unread };
@@ -40,7 +40,7 @@ impl<'a> Model for Lexer<'a> {
       phases = reverse lexer.phases.items;
     } };
 
-    ghost invariant = { λ lexer. (length lexer.rest.now ≤ lexer.total) × (array_vec_len lexer.phases ≤ most_open) };
+    ghost invariant = { λ lexer. (length lexer.rest.now ≤ lexer.total) × (array_vec_len lexer.phases ≤ open_max) };
 }
 
 impl<'a> Lexer<'a> {

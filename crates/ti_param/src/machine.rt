@@ -158,8 +158,8 @@ impl<'a> Machine<'a> {
                 self.write(character(number))
             }
             Code::Print(form) => self.print(form),
-            Code::Parameter(ordinal) => {
-                let value = self.parameters[ordinal.index()];
+            Code::Parameter(index) => {
+                let value = self.parameters[index.index()];
                 self.push(place, value)
             }
             Code::Store(variable) => {

@@ -7,7 +7,7 @@ ghost use Rattle.ti_param.specs.Codes.{OneCode};
 ghost use Rattle.ti_param.specs.inside.Codes.{code_of, token_after, parameter_after, store_after, fetch_after, byte_after, number_after, plain_form};
 ghost use Rattle.ti_param.specs.inside.Reader.{with_rest};
 
-use crate::codes::{Code, Operator, ordinal_of, variable_of};
+use crate::codes::{Code, Operator, parameter_index, variable_of};
 use crate::decimals::number;
 use crate::directives::directive;
 use ti_printing::printf::{Conversion, Directive, Flags};
@@ -78,8 +78,8 @@ fn parameter(text: &[u8]) -> Option<(Code, &[u8])>
     ensures { with_rest result ≡ code_of (parameter_after text.now) }
 {
     let (&digit, rest) = text.split_first()?;
-    let ordinal = ordinal_of(digit)?;
-    Some((Code::Parameter(ordinal), rest))
+    let index = parameter_index(digit)?;
+    Some((Code::Parameter(index), rest))
 }
 
 // `%P` and a letter, after the `P`.

@@ -111,7 +111,9 @@ IsChange R said mid new = (role : Role) (name : List ℕ)
 pub no_change : (R : List ℕ → List ℕ → Type 0) (index : NameIndex) → IsChange R None index index
 no_change R index role name = inr (refl, refl)
 
-pub changed : (R : List ℕ → List ℕ → Type 0) (role : Role) (name : List ℕ) (mid new : NameIndex) → R (ids_at role mid name) (ids_at role new name) → ((other : Role) → is_role other role ≡ false → ids_at other new name ≡ ids_at other mid name) → KeepsOthers mid new name → IsChange R (Some (role, name)) mid new
+pub changed : (R : List ℕ → List ℕ → Type 0) (role : Role) (name : List ℕ) (mid new : NameIndex) → R (ids_at role mid name) (ids_at role new name)
+    → ((other : Role) → is_role other role ≡ false → ids_at other new name ≡ ids_at other mid name) → KeepsOthers mid new name
+    → IsChange R (Some (role, name)) mid new
 changed R role name mid new here rest others = λ r n. elim (name_cases n name) [
   | inl same ↦ elim (role_cases r role) [
     | inl one ↦ inl (rw (one.1, same.1) refl, rw (same.0, one.0) here)
@@ -140,7 +142,9 @@ GrowsBy said passes more = (role : Role) (name : List ℕ) → more role name �
 
 -- ---- a name comes
 
-pub adds_more : (listed : List ℕ) (passes more : Role → List ℕ → Bool) (id : ℕ) (old mid new : NameIndex) (said : Said) → AddsId listed passes id old mid → GrowsBy said passes more → IsChange (λ a b. ListsToo listed a b id) said mid new → ((name : List ℕ) → KeepsCapacity mid new name) → AddsId listed more id old new
+pub adds_more : (listed : List ℕ) (passes more : Role → List ℕ → Bool) (id : ℕ) (old mid new : NameIndex) (said : Said)
+    → AddsId listed passes id old mid → GrowsBy said passes more → IsChange (λ a b. ListsToo listed a b id) said mid new
+    → ((name : List ℕ) → KeepsCapacity mid new name) → AddsId listed more id old new
 adds_more listed passes more id old mid new said h step change capacity = record {
   added = λ role n test e. elim (change role n) [
     | inl here ↦
@@ -183,7 +187,9 @@ adds_same listed passes more id old new same h = record {
 
 -- ---- a name goes
 
-pub removes_more : (listed : List ℕ) (passes more : Role → List ℕ → Bool) (id : ℕ) (old mid new : NameIndex) (said : Said) → Removes listed passes id old mid → GrowsBy said passes more → IsChange (λ a b. ListsNoMore listed a b id) said mid new → ((name : List ℕ) → KeepsCapacity mid new name) → Removes listed more id old new
+pub removes_more : (listed : List ℕ) (passes more : Role → List ℕ → Bool) (id : ℕ) (old mid new : NameIndex) (said : Said)
+    → Removes listed passes id old mid → GrowsBy said passes more → IsChange (λ a b. ListsNoMore listed a b id) said mid new
+    → ((name : List ℕ) → KeepsCapacity mid new name) → Removes listed more id old new
 removes_more listed passes more id old mid new said h step change capacity = record {
   removed = λ role n test e. elim (change role n) [
     | inl here ↦

@@ -180,7 +180,10 @@ no_longer : (id : ℕ) (has : ℕ → Bool) → (not (nat_eq id id) && has id) �
 no_longer id has = rw (eq-eqb id id refl) refl
 
 -- the block leaves the room that it had
-taken_room : (a b : Slots) (at id : ℕ) (slot : Slot) → IsIndexed a → HasTaken a b at id slot → ((name : List ℕ) → length (holders_at a.names name) ≤ holder_capacity a.names name) → ((name : List ℕ) → length (users_at a.names name) ≤ user_capacity a.names name) → ((name : List ℕ) → KeepsCapacity a.names b.names name) → HasRoomFor b (reading_of slot.block)
+taken_room : (a b : Slots) (at id : ℕ) (slot : Slot) → IsIndexed a → HasTaken a b at id slot
+    → ((name : List ℕ) → length (holders_at a.names name) ≤ holder_capacity a.names name)
+    → ((name : List ℕ) → length (users_at a.names name) ≤ user_capacity a.names name) → ((name : List ℕ) → KeepsCapacity a.names b.names name)
+    → HasRoomFor b (reading_of slot.block)
 taken_room a b at id slot i h holders_fit users_fit capacity = record {
   id = omega (arith, ap length h.free, length-append a.order.free (id ∷ []));
   holders = λ name stated.

@@ -1,4 +1,5 @@
--- The owner of a name is the first of its holders, and its users are the blocks of the list that use it.
+-- The owner of a name is the first of its holders, and its users are the blocks of the list that
+-- use it.
 use Rattle.std.proofs.Common.{◌≡◌, ℕ, zero, suc, inl, inr, List, [], ◌∷◌, map, Bool, true, Some, None, slice_get, filter, refl, sym, ◌∙◌, ap}
 use Rattle.std.proofs.lemmas.Bool.{cases_Bool}
 use Rattle.std.proofs.lemmas.Option.{same_Some, none-some}

@@ -6,7 +6,7 @@ use Rattle.memchr.specs.Find.{IsFirstByte, is_byte}
 use Rattle.ti_text.specs.WhiteSpace.{is_white_space}
 use Rattle.ti_source.specs.Folding.{PlacedByte}
 use Rattle.ti_source.specs.inside.Folding.{bytes_on_lines, in_comment, without_comments, without_breaks, folding_of}
-use Rattle.ti_source.specs.declared.items.Taken.{Taken}
+use Rattle.ti_source.specs.declared.items.Escape.{Escape}
 use Rattle.ti_source.specs.inside.Folding.{after_line, SkipsWhiteSpace, skips_byte}
 use Rattle.ti_source.specs.inside.Items.{after_field, on_line, PassesRun, takes_no_byte, takes_byte, IsWholeItem, TakesWholeItem}
 use Rattle.ti_source.proofs.ItemLemmas.{on_line-append}
@@ -59,7 +59,7 @@ straight line before s = without_breaks false (without_comments false before (by
 straight-byte : (line before x : ℕ) (rest : List ℕ) → (before == 10) ≡ false → (x == 10) ≡ false → straight line before (x ∷ rest) ≡ (x, line) ∷ straight line before rest
 straight-byte line before x rest e f = rw (e, f) (ap (λ (s : List PlacedByte). (x, line) ∷ without_breaks false s) (before_any x before (bytes_on_lines line rest) f e))
 
-straight-run : {by next : Taken} {before last : ℕ} {run : List ℕ} (line at : ℕ) (rest : List ℕ) → (at == 10) ≡ false → PassesRun by before run next last
+straight-run : {by next : Escape} {before last : ℕ} {run : List ℕ} (line at : ℕ) (rest : List ℕ) → (at == 10) ≡ false → PassesRun by before run next last
     → straight line at (run ++ rest) ≡ on_line line run ++ straight line at rest
 straight-run line at rest e takes_no_byte = refl
 straight-run line at rest e (takes_byte {run = run} x goes plain inner) =
@@ -67,13 +67,13 @@ straight-run line at rest e (takes_byte {run = run} x goes plain inner) =
     (straight-run line at (x ∷ rest) e goes ∙ ap (λ (s : List PlacedByte). on_line line run ++ s) (straight-byte line at x rest e plain))
 
 -- the view of a folded text from which a run is taken
-pub run_taken : {by next : Taken} {before last : ℕ} {run : List ℕ} (joining : Bool) (at line : ℕ) (text rest : List ℕ)
+pub run_taken : {by next : Escape} {before last : ℕ} {run : List ℕ} (joining : Bool) (at line : ℕ) (text rest : List ℕ)
     → joining ≡ false → (at == 10) ≡ false → text ≡ run ++ rest → PassesRun by before run next last
     → without_breaks joining (without_comments false at (bytes_on_lines line text)) ≡ on_line line run ++ without_breaks joining (without_comments false at (bytes_on_lines line rest))
 run_taken joining at line text rest ej e whole goes = rw (ej, whole) (straight-run line at rest e goes)
 
 -- the view of a folded text from which an item is taken, with its comma
-item_taken : {by next : Taken} {before last : ℕ} {item : List ℕ} (joining : Bool) (at line : ℕ) (text rest : List ℕ)
+item_taken : {by next : Escape} {before last : ℕ} {item : List ℕ} (joining : Bool) (at line : ℕ) (text rest : List ℕ)
     → joining ≡ false → (at == 10) ≡ false → text ≡ item ++ 44 ∷ rest → PassesRun by before item next last
     → without_breaks joining (without_comments false at (bytes_on_lines line text)) ≡ on_line line item ++ (44, line) ∷ without_breaks joining (without_comments false at (bytes_on_lines line rest))
 item_taken {item = item} joining at line text rest ej e whole goes =

@@ -3,13 +3,13 @@ use Rattle.std.proofs.Common.{◌≡◌, ◌≢◌, ℕ, Bool, true, false, not,
 use Rattle.std.proofs.lemmas.List.{append-nil}
 use Rattle.std.proofs.lemmas.Bool.{cases_Bool, eqb-true, eq-eqb, ne_eqb, and_parts, false≢true}
 use Rattle.std.proofs.lemmas.Bool.Decides.{eqb_tells}
-use Rattle.ti_source.specs.declared.items.Taken.TheVariants as taken
+use Rattle.ti_source.specs.declared.items.Escape.TheVariants as escape
 use Rattle.ti_text.specs.WhiteSpace.{is_white_space}
 use Rattle.ti_source.specs.WhiteSpace.{without_trailing_space}
 use Rattle.ti_source.specs.Cutting.{last_byte}
 use Rattle.ti_source.specs.Folding.{PlacedByte}
 use Rattle.ti_source.specs.Items.{HasNoComma, Begins, all_field, field_and_rest, takes, stands_alone, AreItems, last_item, item_ends, pair_of_bytes, single_byte, is_mark, HasNoMark, IsWhite, IsEnabled, States, empty_item, disabled_item, number_item, text_item, cancel_item, flag_item, Statement, claims_flag, claims_number, claims_text, claims_cancel}
-use Rattle.ti_source.specs.inside.Items.{field_of, after_field, taken_after, cuts, with_first, items_of, before_mark, from_mark, without_last, plain_statement, statement_with_value, statement_by_mark, statement_of}
+use Rattle.ti_source.specs.inside.Items.{field_of, after_field, escape_after, cuts, with_first, items_of, before_mark, from_mark, without_last, plain_statement, statement_with_value, statement_by_mark, statement_of}
 use Rattle.ti_source.proofs.ItemLemmas.{items_of-plain}
 use Rattle.ti_source.proofs.TextLemmas.{kept_before, kept_before-visible, without_end, trimmed-is, last_byte-push, without_last-push}
 
@@ -53,9 +53,9 @@ one_field _ _ _ (field_and_rest field rest line none) = before_comma field rest 
 
 -- of two bytes, of which the first takes the second, neither ends an item, and nothing takes the
 -- byte after them
-taken_after-takes : (before x y : ℕ) → takes before x y ≡ true
-    → (x == 44 ≡ false) × (cuts (taken_after taken.Nothing before x) y ≡ false) × (taken_after (taken_after taken.Nothing before x) x y ≡ taken.Nothing)
-taken_after-takes before x y t =
+escape_after-takes : (before x y : ℕ) → takes before x y ≡ true
+    → (x == 44 ≡ false) × (cuts (escape_after escape.Nothing before x) y ≡ false) × (escape_after (escape_after escape.Nothing before x) x y ≡ escape.Nothing)
+escape_after-takes before x y t =
     elim (cases_Bool (x == 92)) [
       | inl backslash ↦ rw (eqb-true x 92 backslash) (refl, refl, refl)
       | inr other ↦
@@ -66,14 +66,14 @@ taken_after-takes before x y t =
     ]
 
 items_of-pair : (before : ℕ) (x y : PlacedByte) (text : List PlacedByte) → takes before x.0 y.0 ≡ true
-    → items_of taken.Nothing before (x ∷ y ∷ text) ≡ with_first x (with_first y (items_of taken.Nothing y.0 text))
+    → items_of escape.Nothing before (x ∷ y ∷ text) ≡ with_first x (with_first y (items_of escape.Nothing y.0 text))
 items_of-pair before x y text t =
-    let facts = taken_after-takes before x.0 y.0 t in
-    items_of-plain taken.Nothing before x (y ∷ text) facts.0
-    ∙ ap (with_first x) (items_of-plain (taken_after taken.Nothing before x.0) x.0 y text facts.1 ∙ ap (λ by. with_first y (items_of by y.0 text)) facts.2)
+    let facts = escape_after-takes before x.0 y.0 t in
+    items_of-plain escape.Nothing before x (y ∷ text) facts.0
+    ∙ ap (with_first x) (items_of-plain (escape_after escape.Nothing before x.0) x.0 y text facts.1 ∙ ap (λ by. with_first y (items_of by y.0 text)) facts.2)
 
 -- a byte that takes nothing is by itself
-alone-same : (before x : ℕ) (text : List PlacedByte) → stands_alone before x text ≡ true → items_of (taken_after taken.Nothing before x) x text ≡ items_of taken.Nothing x text
+alone-same : (before x : ℕ) (text : List PlacedByte) → stands_alone before x text ≡ true → items_of (escape_after escape.Nothing before x) x text ≡ items_of escape.Nothing x text
 alone-same before x [] alone = refl
 alone-same before x (y ∷ ys) alone =
     elim (cases_Bool (x == 92)) [
@@ -86,8 +86,8 @@ alone-same before x (y ∷ ys) alone =
     ]
 
 items_of-alone : (before : ℕ) (x : PlacedByte) (text : List PlacedByte) → x.0 ≢ 44 → stands_alone before x.0 text ≡ true
-    → items_of taken.Nothing before (x ∷ text) ≡ with_first x (items_of taken.Nothing x.0 text)
-items_of-alone before x text h alone = items_of-plain taken.Nothing before x text (ne_eqb x.0 44 h) ∙ ap (with_first x) (alone-same before x.0 text alone)
+    → items_of escape.Nothing before (x ∷ text) ≡ with_first x (items_of escape.Nothing x.0 text)
+items_of-alone before x text h alone = items_of-plain escape.Nothing before x text (ne_eqb x.0 44 h) ∙ ap (with_first x) (alone-same before x.0 text alone)
 
 -- every text has an item
 AreItems-cons : (before : ℕ) (text : List PlacedByte) (all : List (List PlacedByte)) → AreItems before text all → (item : List PlacedByte) × (items : List (List PlacedByte)) × (all ≡ item ∷ items)
@@ -108,13 +108,13 @@ more_single before x text all h alone are =
     let c = AreItems-cons x.0 text all are in
     rw c.2 (single_byte before x text c.0 c.1 h alone (rw c.2 at are))
 
-more_cut : (before : ℕ) (x : PlacedByte) (text : List PlacedByte) → x.0 ≡ 44 → AreItems 44 text (items_of taken.Nothing 44 text) → AreItems before (x ∷ text) (items_of taken.Nothing before (x ∷ text))
+more_cut : (before : ℕ) (x : PlacedByte) (text : List PlacedByte) → x.0 ≡ 44 → AreItems 44 text (items_of escape.Nothing 44 text) → AreItems before (x ∷ text) (items_of escape.Nothing before (x ∷ text))
 more_cut before x text e are =
-    let items = items_of taken.Nothing 44 text in
+    let items = items_of escape.Nothing 44 text in
     let P : ℕ → Type 0 = λ b. AreItems before ((b, x.1) ∷ text) ([] ∷ items) in
     rw (eq-eqb x.0 44 e) (subst P (sym e) (item_ends before x.1 text items are))
 
-pub has_items : (before : ℕ) (text : List PlacedByte) → AreItems before text (items_of taken.Nothing before text)
+pub has_items : (before : ℕ) (text : List PlacedByte) → AreItems before text (items_of escape.Nothing before text)
 has_items before [] = last_item before
 has_items before (x ∷ []) =
     elim (eqb_tells x.0 44) [
@@ -126,14 +126,14 @@ has_items before (x ∷ y ∷ text) =
       | inl comma ↦ more_cut before x (y ∷ text) comma.1 (has_items 44 (y ∷ text))
       | inr other ↦
           elim (cases_Bool (takes before x.0 y.0)) [
-            | inl t ↦ rw (items_of-pair before x y text t) (more_pair before x y text (items_of taken.Nothing y.0 text) t (has_items y.0 text))
+            | inl t ↦ rw (items_of-pair before x y text t) (more_pair before x y text (items_of escape.Nothing y.0 text) t (has_items y.0 text))
             | inr f ↦
                 let alone : stands_alone before x.0 (y ∷ text) ≡ true = ap not f in
-                rw (items_of-alone before x (y ∷ text) other.1 alone) (more_single before x (y ∷ text) (items_of taken.Nothing x.0 (y ∷ text)) other.1 alone (has_items x.0 (y ∷ text)))
+                rw (items_of-alone before x (y ∷ text) other.1 alone) (more_single before x (y ∷ text) (items_of escape.Nothing x.0 (y ∷ text)) other.1 alone (has_items x.0 (y ∷ text)))
           ]
     ]
 
-pub one_items : (before : ℕ) (text : List PlacedByte) (items : List (List PlacedByte)) → AreItems before text items → items ≡ items_of taken.Nothing before text
+pub one_items : (before : ℕ) (text : List PlacedByte) (items : List (List PlacedByte)) → AreItems before text items → items ≡ items_of escape.Nothing before text
 one_items _ _ _ (last_item before) = refl
 one_items _ _ _ (item_ends before line text items are) = ap (λ later. [] ∷ later) (one_items 44 text items are)
 one_items _ _ _ (pair_of_bytes before x y text item items t are) = ap (λ all. with_first x (with_first y all)) (one_items y.0 text (item ∷ items) are) ∙ sym (items_of-pair before x y text t)

@@ -5,29 +5,29 @@ use Rattle.std.proofs.Math.Seq.{take-suc}
 use Rattle.std.proofs.lemmas.Bool.{cases_Bool, ne_eqb, eqb-true}
 use Rattle.memchr.specs.Find.{NoneBefore, is_byte2}
 use Rattle.std.proofs.lemmas.List.{append-nil, length-append, length-take-le}
-use Rattle.ti_source.specs.declared.items.Taken.{Taken}
-use Rattle.ti_source.specs.declared.items.Taken.TheVariants as taken
+use Rattle.ti_source.specs.declared.items.Escape.{Escape}
+use Rattle.ti_source.specs.declared.items.Escape.TheVariants as escape
 use Rattle.ti_text.specs.WhiteSpace.{is_white_space}
 use Rattle.ti_source.specs.Folding.{PlacedByte}
 use Rattle.ti_source.specs.Items.{bytes, ItemPiece, item_piece, without_front, line_of, piece_of}
 use Rattle.ti_source.specs.inside.Folding.{SkipsWhiteSpace, skips_nothing, skips_byte}
-use Rattle.ti_source.specs.inside.Items.{taken_after, cuts, with_first, with_text_before, items_of, with_byte, on_line, PassesRun, takes_no_byte, takes_byte, begins_visible, IsWholeItem, TakesWholeItem, ReadsSoFar, TakesItem}
+use Rattle.ti_source.specs.inside.Items.{escape_after, cuts, with_first, with_text_before, items_of, with_byte, on_line, PassesRun, takes_no_byte, takes_byte, begins_visible, IsWholeItem, TakesWholeItem, ReadsSoFar, TakesItem}
 
-pub items_of-plain : (by : Taken) (before : ℕ) (x : PlacedByte) (xs : List PlacedByte) → cuts by x.0 ≡ false → items_of by before (x ∷ xs) ≡ with_first x (items_of (taken_after by before x.0) x.0 xs)
+pub items_of-plain : (by : Escape) (before : ℕ) (x : PlacedByte) (xs : List PlacedByte) → cuts by x.0 ≡ false → items_of by before (x ∷ xs) ≡ with_first x (items_of (escape_after by before x.0) x.0 xs)
 items_of-plain by before x xs f = rw f
 
-items_of-cut : (by : Taken) (before : ℕ) (x : PlacedByte) (xs : List PlacedByte) → cuts by x.0 ≡ true → items_of by before (x ∷ xs) ≡ [] ∷ items_of taken.Nothing 44 xs
+items_of-cut : (by : Escape) (before : ℕ) (x : PlacedByte) (xs : List PlacedByte) → cuts by x.0 ≡ true → items_of by before (x ∷ xs) ≡ [] ∷ items_of escape.Nothing 44 xs
 items_of-cut by before x xs t = rw t
 
 with_front-with_first : (x : PlacedByte) (items : List (List PlacedByte)) → with_first x items ≡ with_text_before [] (with_first x items)
 with_front-with_first x [] = refl
 with_front-with_first x (i ∷ is) = refl
 
-with_front-nil : (by : Taken) (before : ℕ) (source : List PlacedByte) → items_of by before source ≡ with_text_before [] (items_of by before source)
+with_front-nil : (by : Escape) (before : ℕ) (source : List PlacedByte) → items_of by before source ≡ with_text_before [] (items_of by before source)
 with_front-nil by before [] = refl
 with_front-nil by before (x ∷ xs) =
-    let later = items_of (taken_after by before x.0) x.0 xs in
-    let next = items_of taken.Nothing 44 xs in
+    let later = items_of (escape_after by before x.0) x.0 xs in
+    let next = items_of escape.Nothing 44 xs in
     elim (cuts by x.0) as (λ b. cond b ([] ∷ next) (with_first x later) ≡ with_text_before [] (cond b ([] ∷ next) (with_first x later))) [
       | true ↦ refl
       | false ↦ with_front-with_first x later
@@ -62,15 +62,15 @@ piece_of-push-by seen x (y ∷ ys) e =
 pub piece_of-push : (seen : List PlacedByte) (x : PlacedByte) → piece_of (seen ++ x ∷ []) ≡ with_byte (piece_of seen) x
 piece_of-push seen x = piece_of-push-by seen x (without_front seen) refl
 
-pub so_far-start : (start : List PlacedByte) → ReadsSoFar start taken.Nothing 44 start (item_piece [] 0)
-so_far-start start = record { seen = []; is_piece = refl; items = with_front-nil taken.Nothing 44 start; shorter = omega arith }
+pub so_far-start : (start : List PlacedByte) → ReadsSoFar start escape.Nothing 44 start (item_piece [] 0)
+so_far-start start = record { seen = []; is_piece = refl; items = with_front-nil escape.Nothing 44 start; shorter = omega arith }
 
-pub so_far-more : (start : List PlacedByte) (by : Taken) (before : ℕ) (x : PlacedByte) (source : List PlacedByte) (shown : ItemPiece)
-    → ReadsSoFar start by before (x ∷ source) shown → cuts by x.0 ≡ false → ReadsSoFar start (taken_after by before x.0) x.0 source (with_byte shown x)
+pub so_far-more : (start : List PlacedByte) (by : Escape) (before : ℕ) (x : PlacedByte) (source : List PlacedByte) (shown : ItemPiece)
+    → ReadsSoFar start by before (x ∷ source) shown → cuts by x.0 ≡ false → ReadsSoFar start (escape_after by before x.0) x.0 source (with_byte shown x)
 so_far-more start by before x source shown r f = record {
   seen = r.seen ++ x ∷ [];
   is_piece = piece_of-push r.seen x ∙ ap (λ p. with_byte p x) r.is_piece;
-  items = r.items ∙ ap (with_text_before r.seen) (items_of-plain by before x source f) ∙ with_front-push r.seen x (items_of (taken_after by before x.0) x.0 source);
+  items = r.items ∙ ap (with_text_before r.seen) (items_of-plain by before x source f) ∙ with_front-push r.seen x (items_of (escape_after by before x.0) x.0 source);
   shorter = omega (arith, r.shorter);
 }
 
@@ -84,7 +84,7 @@ on_line-append line [] more = refl
 on_line-append line (b ∷ bs) more = ap (λ (s : List PlacedByte). (b, line) ∷ s) (on_line-append line bs more)
 
 -- an item whose text has a byte, read over a run
-pub so_far-run : (start : List PlacedByte) {by next : Taken} {before last : ℕ} {run : List ℕ} (line at : ℕ) (source : List PlacedByte) (text : List ℕ)
+pub so_far-run : (start : List PlacedByte) {by next : Escape} {before last : ℕ} {run : List ℕ} (line at : ℕ) (source : List PlacedByte) (text : List ℕ)
     → PassesRun by before run next last → 0 < length text → ReadsSoFar start by before (on_line at run ++ source) (item_piece text line)
     → ReadsSoFar start next last source (item_piece (text ++ run) line)
 so_far-run start line at source text takes_no_byte some r = rw append-nil r
@@ -94,18 +94,18 @@ so_far-run start {run = all} line at source text (takes_byte {by = by} {next = n
     let earlier = so_far-run start line at ((x, at) ∷ source) text goes some (subst (λ (s : List PlacedByte). ReadsSoFar start by before s (item_piece text line)) regrouped r) in
     let longer : with_byte (item_piece (text ++ run) line) (x, at) ≡ item_piece (text ++ (run ++ x ∷ [])) line =
     pushes (text ++ run) line (x, at) (omega (arith, length-append text run)) ∙ ap (λ (t : List ℕ). item_piece t line) (append_assoc text run (x ∷ [])) in
-    subst (λ (shown : ItemPiece). ReadsSoFar start (taken_after next last x) x source shown) longer (so_far-more start next last (x, at) source (item_piece (text ++ run) line) earlier inner)
+    subst (λ (shown : ItemPiece). ReadsSoFar start (escape_after next last x) x source shown) longer (so_far-more start next last (x, at) source (item_piece (text ++ run) line) earlier inner)
 
-pub takes-cut : (start : List PlacedByte) (by : Taken) (before : ℕ) (x : PlacedByte) (source : List PlacedByte) (shown : ItemPiece)
+pub takes-cut : (start : List PlacedByte) (by : Escape) (before : ℕ) (x : PlacedByte) (source : List PlacedByte) (shown : ItemPiece)
     → ReadsSoFar start by before (x ∷ source) shown → cuts by x.0 ≡ true → TakesItem start shown false source
 takes-cut start by before x source shown r t = record {
   item = r.seen;
   is_piece = r.is_piece;
-  is_first = r.items ∙ ap (with_text_before r.seen) (items_of-cut by before x source t) ∙ ap (λ item. item ∷ items_of taken.Nothing 44 source) (append-nil r.seen);
+  is_first = r.items ∙ ap (with_text_before r.seen) (items_of-cut by before x source t) ∙ ap (λ item. item ∷ items_of escape.Nothing 44 source) (append-nil r.seen);
   shorter = λ e. omega (arith, r.shorter);
 }
 
-pub takes-last : (start : List PlacedByte) (by : Taken) (before : ℕ) (shown : ItemPiece) → ReadsSoFar start by before [] shown → TakesItem start shown true []
+pub takes-last : (start : List PlacedByte) (by : Escape) (before : ℕ) (shown : ItemPiece) → ReadsSoFar start by before [] shown → TakesItem start shown true []
 takes-last start by before shown r = record {
   item = r.seen;
   is_piece = r.is_piece;
@@ -122,33 +122,33 @@ white_cases x w =
       | inr f ↦ inr (eqb-true x 9 (rw f at w))
     ]
 
-items_of-space : (line : ℕ) (xs : List PlacedByte) → items_of taken.Nothing 44 ((32, line) ∷ xs) ≡ with_first (32, line) (items_of taken.Nothing 44 xs)
+items_of-space : (line : ℕ) (xs : List PlacedByte) → items_of escape.Nothing 44 ((32, line) ∷ xs) ≡ with_first (32, line) (items_of escape.Nothing 44 xs)
 items_of-space line [] = refl
 items_of-space line (x ∷ xs) = refl
 
-items_of-tab : (line : ℕ) (xs : List PlacedByte) → items_of taken.Nothing 44 ((9, line) ∷ xs) ≡ with_first (9, line) (items_of taken.Nothing 44 xs)
+items_of-tab : (line : ℕ) (xs : List PlacedByte) → items_of escape.Nothing 44 ((9, line) ∷ xs) ≡ with_first (9, line) (items_of escape.Nothing 44 xs)
 items_of-tab line [] = refl
 items_of-tab line (x ∷ xs) = refl
 
-items_of-white : (x : PlacedByte) (xs : List PlacedByte) → is_white_space x.0 ≡ true → items_of taken.Nothing 44 (x ∷ xs) ≡ with_first x (items_of taken.Nothing 44 xs)
+items_of-white : (x : PlacedByte) (xs : List PlacedByte) → is_white_space x.0 ≡ true → items_of escape.Nothing 44 (x ∷ xs) ≡ with_first x (items_of escape.Nothing 44 xs)
 items_of-white x xs w =
     elim (white_cases x.0 w) [
-      | inl e ↦ subst (λ b. items_of taken.Nothing 44 ((b, x.1) ∷ xs) ≡ with_first (b, x.1) (items_of taken.Nothing 44 xs)) (sym e) (items_of-space x.1 xs)
-      | inr e ↦ subst (λ b. items_of taken.Nothing 44 ((b, x.1) ∷ xs) ≡ with_first (b, x.1) (items_of taken.Nothing 44 xs)) (sym e) (items_of-tab x.1 xs)
+      | inl e ↦ subst (λ b. items_of escape.Nothing 44 ((b, x.1) ∷ xs) ≡ with_first (b, x.1) (items_of escape.Nothing 44 xs)) (sym e) (items_of-space x.1 xs)
+      | inr e ↦ subst (λ b. items_of escape.Nothing 44 ((b, x.1) ∷ xs) ≡ with_first (b, x.1) (items_of escape.Nothing 44 xs)) (sym e) (items_of-tab x.1 xs)
     ]
 
 white_unseen : (x : PlacedByte) → is_white_space x.0 ≡ true → with_byte (item_piece [] 0) x ≡ item_piece [] 0
 white_unseen x w = rw w refl
 
 pub so_far-white : (start : List PlacedByte) {old new : List PlacedByte} → SkipsWhiteSpace old new
-    → ReadsSoFar start taken.Nothing 44 old (item_piece [] 0) → ReadsSoFar start taken.Nothing 44 new (item_piece [] 0)
+    → ReadsSoFar start escape.Nothing 44 old (item_piece [] 0) → ReadsSoFar start escape.Nothing 44 new (item_piece [] 0)
 so_far-white start skips_nothing r = r
 so_far-white start (skips_byte {new = new} x skips w) r =
     let earlier = so_far-white start skips r in
     record {
       seen = earlier.seen ++ x ∷ [];
       is_piece = piece_of-push earlier.seen x ∙ ap (λ p. with_byte p x) earlier.is_piece ∙ white_unseen x w;
-      items = earlier.items ∙ ap (with_text_before earlier.seen) (items_of-white x new w) ∙ with_front-push earlier.seen x (items_of taken.Nothing 44 new);
+      items = earlier.items ∙ ap (with_text_before earlier.seen) (items_of-white x new w) ∙ with_front-push earlier.seen x (items_of escape.Nothing 44 new);
       shorter = omega (arith, earlier.shorter);
     }
 
@@ -173,7 +173,7 @@ visible_more line x [] v =
 visible_more line x (y ∷ ys) v = refl
 
 -- an item of which nothing shows, read over a run that does not begin with white space
-so_far-item : (start : List PlacedByte) {by next : Taken} {before last : ℕ} {run : List ℕ} (line : ℕ) (source : List PlacedByte)
+so_far-item : (start : List PlacedByte) {by next : Escape} {before last : ℕ} {run : List ℕ} (line : ℕ) (source : List PlacedByte)
     → PassesRun by before run next last → begins_visible run ≡ true → ReadsSoFar start by before (on_line line run ++ source) (item_piece [] 0)
     → ReadsSoFar start next last source (item_piece run (line_at line run))
 so_far-item start line source takes_no_byte v r = r
@@ -181,7 +181,7 @@ so_far-item start line source (takes_byte {by = by} {next = next} {before = befo
     let regrouped : on_line line (run ++ x ∷ []) ++ source ≡ on_line line run ++ ((x, line) ∷ source) =
     rw on_line-append (append_assoc (on_line line run) ((x, line) ∷ []) source) in
     let earlier = so_far-item start line ((x, line) ∷ source) goes (begins_earlier run x v) (subst (λ (s : List PlacedByte). ReadsSoFar start by before s (item_piece [] 0)) regrouped r) in
-    subst (λ (shown : ItemPiece). ReadsSoFar start (taken_after next last x) x source shown) (visible_more line x run v)
+    subst (λ (shown : ItemPiece). ReadsSoFar start (escape_after next last x) x source shown) (visible_more line x run v)
     (so_far-more start next last (x, line) source (item_piece run (line_at line run)) earlier inner)
 
 line_at-some : (line : ℕ) (text : List ℕ) → 0 < length text → line_at line text ≡ line
@@ -189,9 +189,9 @@ line_at-some line [] some = absurd (omega arith)
 line_at-some line (x ∷ xs) some = refl
 
 pub takes-whole : (start old : List PlacedByte) (text : List ℕ) (line : ℕ) (new : List PlacedByte)
-    → ReadsSoFar start taken.Nothing 44 old (item_piece [] 0) → TakesWholeItem old text line new → TakesItem start (item_piece text line) false new
+    → ReadsSoFar start escape.Nothing 44 old (item_piece [] 0) → TakesWholeItem old text line new → TakesItem start (item_piece text line) false new
 takes-whole start old text line new r whole =
-    let from_item = subst (λ (s : List PlacedByte). ReadsSoFar start taken.Nothing 44 s (item_piece [] 0)) whole.whole r in
+    let from_item = subst (λ (s : List PlacedByte). ReadsSoFar start escape.Nothing 44 s (item_piece [] 0)) whole.whole r in
     let read = so_far-item start line ((44, line) ∷ new) whole.item.passes_run whole.item.visible from_item in
     subst (λ (n : ℕ). TakesItem start (item_piece text n) false new) (line_at-some line text whole.item.some)
     (takes-cut start whole.item.next whole.item.last (44, line) new (item_piece text (line_at line text)) read whole.item.ends)
@@ -203,16 +203,16 @@ abbrev byte_before : List ℕ → ℕ → ℕ
 byte_before text zero = 44
 byte_before text (suc n) = get_or text n 0
 
-comma_ends : (by : Taken) (before x : ℕ) → (x == 92) ≡ false → cuts (taken_after by before x) 44 ≡ true
-comma_ends taken.Nothing before x f =
-    rw f (elim (x == 94 && not (before == 37)) as (λ b. cuts (cond b taken.Caret taken.Nothing) 44 ≡ true) [ true ↦ refl | false ↦ refl ])
-comma_ends taken.Backslash before x f = refl
-comma_ends taken.Caret before x f = refl
+comma_ends : (by : Escape) (before x : ℕ) → (x == 92) ≡ false → cuts (escape_after by before x) 44 ≡ true
+comma_ends escape.Nothing before x f =
+    rw f (elim (x == 94 && not (before == 37)) as (λ b. cuts (cond b escape.Caret escape.Nothing) 44 ≡ true) [ true ↦ refl | false ↦ refl ])
+comma_ends escape.Backslash before x f = refl
+comma_ends escape.Caret before x f = refl
 
-no_cut : (by : Taken) (x : ℕ) → (x == 44) ≡ false → cuts by x ≡ false
-no_cut taken.Nothing x f = f
-no_cut taken.Backslash x f = refl
-no_cut taken.Caret x f = f
+no_cut : (by : Escape) (x : ℕ) → (x == 44) ≡ false → cuts by x ≡ false
+no_cut escape.Nothing x f = f
+no_cut escape.Backslash x f = refl
+no_cut escape.Caret x f = f
 
 neither : (a b : Bool) → ((a || b) ≡ true → ⊥) → (a ≡ false) × (b ≡ false)
 neither true b never = absurd (never refl)
@@ -222,16 +222,16 @@ neither false false never = (refl, refl)
 -- an item goes on over bytes that are neither comma nor newline, and a comma after them ends it if
 -- no backslash is just before it
 goes_to : (text : List ℕ) (n : ℕ) → n ≤ length text → ((k : ℕ) → k < n → is_byte2 44 10 (get_or text k 0) ≡ true → ⊥)
-    → (next : Taken) × PassesRun taken.Nothing 44 (take n text) next (byte_before text n) × ((byte_before text n == 92) ≡ false → cuts next 44 ≡ true)
-goes_to text zero h none = (taken.Nothing, takes_no_byte, λ f. refl)
+    → (next : Escape) × PassesRun escape.Nothing 44 (take n text) next (byte_before text n) × ((byte_before text n == 92) ≡ false → cuts next 44 ≡ true)
+goes_to text zero h none = (escape.Nothing, takes_no_byte, λ f. refl)
 goes_to text (suc n) h none =
     let (next, goes, ends) = goes_to text n (omega arith) (λ k i. none k (omega arith)) in
     let byte = get_or text n 0 in
     let (no_comma, no_newline) = neither (byte == 44) (byte == 10) (none n (omega arith)) in
     let more = takes_byte byte goes no_newline (no_cut next byte no_comma) in
     let longer = take-suc text n 0 (omega arith) in (
-      taken_after next (byte_before text n) byte,
-      subst (λ (s : List ℕ). PassesRun taken.Nothing 44 s (taken_after next (byte_before text n) byte) byte) (sym longer) more,
+      escape_after next (byte_before text n) byte,
+      subst (λ (s : List ℕ). PassesRun escape.Nothing 44 s (escape_after next (byte_before text n) byte) byte) (sym longer) more,
       comma_ends next (byte_before text n) byte,
     )
 

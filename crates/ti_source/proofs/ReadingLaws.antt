@@ -1,7 +1,7 @@
 -- Each block has one reading, and it is the computed one.
 use Rattle.std.proofs.Common.{◌≡◌, ℕ, List, [], ◌∷◌, ◌++◌, map, Option, Some, None, refl, sym, ap, ◌∙◌, inl, inr}
 use Rattle.std.proofs.lemmas.Bool.{cases_Bool}
-use Rattle.ti_source.specs.declared.items.Taken.TheVariants as taken
+use Rattle.ti_source.specs.declared.items.Escape.TheVariants as escape
 use Rattle.ti_text.specs.WhiteSpace.{is_white_space}
 use Rattle.ti_source.specs.inside.Header.{header_names}
 use Rattle.ti_source.specs.Folding.{PlacedByte}
@@ -80,7 +80,7 @@ is_parsed block reading p =
     let text = only_folded block p.text p.folds in
     let field = one_field p.text p.field p.rest p.begins in
     let same_field : bytes p.field ≡ block_field block = ap bytes field.0 ∙ ap (λ t. bytes (field_of t)) text in
-    let items : p.items ≡ block_items block = one_items 44 p.rest p.items p.cut ∙ ap (items_of taken.Nothing 44) (field.1 ∙ ap after_field text) in
+    let items : p.items ≡ block_items block = one_items 44 p.rest p.items p.cut ∙ ap (items_of escape.Nothing 44) (field.1 ∙ ap after_field text) in
     p.is ∙ same_parts (bytes p.field) (block_field block) p.names (header_names (block_field block)) p.judged (map judged_of (block_items block)) same_field
     (one_header (bytes p.field) p.names p.reads_names ∙ ap header_names same_field)
     (one_judging p.items p.judged p.are_judged ∙ ap (map judged_of) items)
@@ -99,8 +99,8 @@ pub parsed_by_parts : (block field : List ℕ) (source rest : List PlacedByte) (
 unfolding reading_of_text
 parsed_by_parts block field source rest header reading at_start is_field at_rest reads adds =
     let same_field : field ≡ block_field block = is_field ∙ ap (λ s. bytes (field_of s)) at_start in
-    let judged = map judged_of (items_of taken.Nothing 44 rest) in
-    let same_items : judged ≡ map judged_of (block_items block) = ap (λ s. map judged_of (items_of taken.Nothing 44 s)) (at_rest ∙ ap after_field at_start) in
+    let judged = map judged_of (items_of escape.Nothing 44 rest) in
+    let same_items : judged ≡ map judged_of (block_items block) = ap (λ s. map judged_of (items_of escape.Nothing 44 s)) (at_rest ∙ ap after_field at_start) in
     same_reading reading (reading_of_text block) (adds.same_field ∙ reads.is_field ∙ same_field)
     (adds.same_names ∙ reads.names ∙ ap (λ f. names_found (header_names f)) same_field)
     (adds.more_items ∙ ap (λ l. l ++ items_from 0 judged) reads.items ∙ ap (items_from 0) same_items)

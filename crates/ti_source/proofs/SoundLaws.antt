@@ -11,8 +11,8 @@ use Rattle.ti_caps.specs.Tables.{Capability, IsCapability, capability, capabilit
 use Rattle.ti_caps.specs.declared.capability.Kind.{Kind}
 use Rattle.ti_caps.specs.declared.capability.Kind.TheVariants as kind
 use Rattle.ti_source.specs.declared.code.Code.TheVariants as code
-use Rattle.ti_source.specs.declared.items.Taken.{Taken}
-use Rattle.ti_source.specs.declared.items.Taken.TheVariants as taken
+use Rattle.ti_source.specs.declared.items.Escape.{Escape}
+use Rattle.ti_source.specs.declared.items.Escape.TheVariants as escape
 use Rattle.ti_source.specs.declared.numbers.NumberError.{NumberError}
 use Rattle.ti_source.specs.declared.numbers.NumberError.TheVariants.{Bad, TooLarge}
 use Rattle.ti_spelling.specs.declared.spelling.UnescapeError.{UnescapeError}
@@ -27,7 +27,7 @@ use Rattle.ti_spelling.specs.Spelling.{SpellsAs, ValuesAreSound}
 use Rattle.ti_source.specs.Folding.{PlacedByte}
 use Rattle.ti_source.specs.inside.Folding.{bytes_on_lines, in_comment, without_comments, without_breaks, folding_of}
 use Rattle.ti_source.specs.Items.{Claim, Statement, bytes, without_front, line_of, piece_of}
-use Rattle.ti_source.specs.inside.Items.{after_field, taken_after, cuts, with_first, items_of, statement_of}
+use Rattle.ti_source.specs.inside.Items.{after_field, escape_after, cuts, with_first, items_of, statement_of}
 use Rattle.ti_source.specs.Reading.{ReadItem, ReadFault}
 use Rattle.ti_source.specs.Judging.{Judged, items_at, faults_at, items_from, faults_from, names_found, header_faults}
 use Rattle.ti_source.specs.Parsing.{reading_of_text}
@@ -138,12 +138,12 @@ module _ (P : PlacedByte → Type 0) where
   with_first-all x [] p all = ((p, tt), tt)
   with_first-all x (item ∷ items) p all = ((p, all.0), all.1)
 
-  items_of-all : (by : Taken) (before : ℕ) (s : List PlacedByte) → AllByRecursion P s → AllByRecursion (AllByRecursion P) (items_of by before s)
+  items_of-all : (by : Escape) (before : ℕ) (s : List PlacedByte) → AllByRecursion P s → AllByRecursion (AllByRecursion P) (items_of by before s)
   items_of-all by before [] all = (tt, tt)
   items_of-all by before (x ∷ xs) all =
-      let cut = items_of-all taken.Nothing 44 xs all.1 in
-      let plain = with_first-all x (items_of (taken_after by before x.0) x.0 xs) all.0 (items_of-all (taken_after by before x.0) x.0 xs all.1) in
-      elim (cuts by x.0) as (λ b. AllByRecursion (AllByRecursion P) (cond b ([] ∷ items_of taken.Nothing 44 xs) (with_first x (items_of (taken_after by before x.0) x.0 xs)))) [ true ↦ (tt, cut) | false ↦ plain ]
+      let cut = items_of-all escape.Nothing 44 xs all.1 in
+      let plain = with_first-all x (items_of (escape_after by before x.0) x.0 xs) all.0 (items_of-all (escape_after by before x.0) x.0 xs all.1) in
+      elim (cuts by x.0) as (λ b. AllByRecursion (AllByRecursion P) (cond b ([] ∷ items_of escape.Nothing 44 xs) (with_first x (items_of (escape_after by before x.0) x.0 xs)))) [ true ↦ (tt, cut) | false ↦ plain ]
 
   without_front-all : (s : List PlacedByte) → AllByRecursion P s → AllByRecursion P (without_front s)
   without_front-all [] all = tt
@@ -210,7 +210,7 @@ from-lines Q n (item ∷ items) all =
 block_items-lines : (block : List ℕ) → last_byte 10 block ≡ 10 → AllByRecursion (AllByRecursion (λ (x : PlacedByte). IsBetween 1 (1 + line_count block) x.1)) (block_items block)
 block_items-lines block ends =
     let P : PlacedByte → Type 0 = λ x. IsBetween 1 (1 + line_count block) x.1 in
-    items_of-all P taken.Nothing 44 (after_field (folding_of block))
+    items_of-all P escape.Nothing 44 (after_field (folding_of block))
     (after_field-all P (folding_of block)
     (joined-all P false (without_comments false 10 (bytes_on_lines 1 block))
     (without_comments-all P false 10 (bytes_on_lines 1 block) (placed-between 1 (1 + line_count block) 1 block (omega arith) ends (omega arith)))))

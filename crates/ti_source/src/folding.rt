@@ -6,7 +6,7 @@ ghost use Rattle.ti_source.specs.Folding.{EachIsFolded, OneFolding};
 ghost use Rattle.ti_source.specs.inside.Folding.{folding_of, SkipsWhiteSpace, after_line};
 ghost use Rattle.ti_source.specs.inside.Items.{TakesRun, TakesWholeItem};
 
-use crate::items::{Run, Taken, front_run, whole_item_size};
+use crate::items::{Escape, Run, front_run, whole_item_size};
 use memchr::memchr;
 use std::marker::Model;
 use ti_text::is_white_space;
@@ -48,19 +48,19 @@ impl<'a> Folded<'a> {
         }
     }
 
-    /// Takes the run at the front over which an item goes on: `taken` takes the first byte, which
+    /// Takes the run at the front over which an item goes on: `escape` takes the first byte, which
     /// is just after `before`. Answers `None` if that byte may belong to a comment or a line break.
-    pub(crate) fn take_run(&mut self, taken: Taken, before: u8) -> Run<'a>
-        ensures { TakesRun self.old taken before result self.new }
+    pub(crate) fn take_run(&mut self, escape: Escape, before: u8) -> Run<'a>
+        ensures { TakesRun self.old escape before result self.new }
     {
         if self.joining || self.before == b'\n' {
             return Run {
                 bytes: &self.rest[..0],
-                taken,
+                escape,
                 last: before,
             };
         }
-        let run = front_run(self.rest, taken, before);
+        let run = front_run(self.rest, escape, before);
         let (_, rest) = self.rest.split_at(run.bytes.len());
         // neither a byte of the run nor the one before it is a newline, so that `before` need not
         // change

@@ -3,7 +3,7 @@ ghost use Rattle.std.specs.Prelude.{◌≡◌, ◌+◌, ◌<◌, ◌≤◌, IfOk
 ghost use Rattle.memchr.specs.Find.{IsFirstByte};
 ghost use Rattle.std.specs.Option.{option_map_or};
 ghost use Rattle.ti_source.specs.Items.{bytes, is_mark, item_piece, without_outer_space};
-ghost use Rattle.ti_source.specs.inside.Items.{taken_after, cuts, field_of, after_field, PassesRun, ReadsOn, TakesItem, EndsItem, IsWholeItem, with_byte, statement_in_memory, statement_of, statement_with_value, plain_statement};
+ghost use Rattle.ti_source.specs.inside.Items.{escape_after, cuts, field_of, after_field, PassesRun, ReadsOn, TakesItem, EndsItem, IsWholeItem, with_byte, statement_in_memory, statement_of, statement_with_value, plain_statement};
 
 use crate::folding::Folded;
 use crate::white_space::trim_end;
@@ -11,23 +11,23 @@ use memchr::memchr2;
 use std::alloc::{AllocError, Global};
 use ti_text::is_white_space;
 
-/// What takes the byte that comes next.
+/// The escape that takes the byte that comes next, if one does.
 #[derive(Clone, Copy)]
-pub(crate) enum Taken {
+pub(crate) enum Escape {
     Nothing,
     Backslash,
     Caret,
 }
 
-impl Taken {
+impl Escape {
     // What takes the byte after `byte`, which `self` takes and which is just after `before`.
-    fn next_taken(self, before: u8, byte: u8) -> Taken
-        ensures { result ≡ taken_after self before byte }
+    fn next_escape(self, before: u8, byte: u8) -> Escape
+        ensures { result ≡ escape_after self before byte }
     {
         match (self, byte) {
-            (Taken::Nothing, b'\\') => Taken::Backslash,
-            (Taken::Nothing, b'^') if before != b'%' => Taken::Caret,
-            _ => Taken::Nothing,
+            (Escape::Nothing, b'\\') => Escape::Backslash,
+            (Escape::Nothing, b'^') if before != b'%' => Escape::Caret,
+            _ => Escape::Nothing,
         }
     }
 
@@ -35,7 +35,7 @@ impl Taken {
     fn cuts(self, byte: u8) -> bool
         ensures { result ≡ cuts self byte }
     {
-        byte == b',' && !matches!(self, Taken::Backslash)
+        byte == b',' && !matches!(self, Escape::Backslash)
     }
 }
 
@@ -45,31 +45,31 @@ pub(crate) struct Run<'a> {
     /// The bytes, none of which is a newline or ends the item.
     pub(crate) bytes: &'a [u8],
     /// What takes the byte after them.
-    pub(crate) taken: Taken,
+    pub(crate) escape: Escape,
     /// The last byte of the run, or the byte before it if the run is empty.
     pub(crate) last: u8,
 }
 
-/// The longest run at the front of `text` over which an item goes on: `taken` takes the first byte,
-/// which is just after `before`.
-pub(crate) fn front_run(text: &[u8], taken: Taken, before: u8) -> Run<'_>
+/// The longest run at the front of `text` over which an item goes on: `escape` takes the first
+/// byte, which is just after `before`.
+pub(crate) fn front_run(text: &[u8], escape: Escape, before: u8) -> Run<'_>
     ensures front { result.bytes.now ≡ take (length result.bytes.now) text.now }
-    ensures passes_run { PassesRun taken before result.bytes.now result.taken result.last }
+    ensures passes_run { PassesRun escape before result.bytes.now result.escape result.last }
 {
     let mut size = 0;
-    let mut next = taken;
+    let mut next = escape;
     let mut last = before;
     for &byte in text {
         if byte == b'\n' || next.cuts(byte) {
             break;
         }
-        next = next.next_taken(last, byte);
+        next = next.next_escape(last, byte);
         last = byte;
         size += 1;
     }
     Run {
         bytes: &text[..size],
-        taken: next,
+        escape: next,
         last,
     }
 }
@@ -104,7 +104,7 @@ pub(crate) fn read_field(alloc: Global, source: &mut Folded<'_>) -> Result<Vec<u
 
 /// Where an item is, and whether the block ends with it.
 #[derive(Clone, Copy)]
-pub(crate) struct Reached<'a> {
+pub(crate) struct RawItem<'a> {
     /// Its text, if it is part of the block as it is written.
     pub(crate) whole: Option<&'a [u8]>,
     /// The line of its first byte that is not white space.
@@ -130,26 +130,26 @@ fn push_visible(text: &mut Vec<u8>, line: usize, byte: u8, at: usize) -> Result<
 }
 
 // Adds the run with which an item goes on, once its text has a byte. Gives what takes the byte
-// after it and the byte just before that one. `taken` takes the first byte of the run, which is
+// after it and the byte just before that one. `escape` takes the first byte of the run, which is
 // just after `before`.
 fn push_run(
     source: &mut Folded<'_>,
     text: &mut Vec<u8>,
-    taken: Taken,
+    escape: Escape,
     before: u8,
-) -> Result<(Taken, u8), AllocError>
-    ensures reads { IfOk result (λ reached. ReadsOn source.old taken before text.old.items source.new reached.0 reached.1 text.new.items) }
+) -> Result<(Escape, u8), AllocError>
+    ensures reads { IfOk result (λ reached. ReadsOn source.old escape before text.old.items source.new reached.0 reached.1 text.new.items) }
     ensures shorter { OnOk result (length source.new ≤ length source.old) }
 {
     if text.is_empty() {
-        return Ok((taken, before));
+        return Ok((escape, before));
     }
-    let run = source.take_run(taken, before);
+    let run = source.take_run(escape, before);
     text.extend_from_slice(run.bytes)?;
-    Ok((run.taken, run.last))
+    Ok((run.escape, run.last))
 }
 
-impl<'a> Reached<'a> {
+impl<'a> RawItem<'a> {
     /// The text of the item: the part of the block that it is, or what was left in `text`.
     pub(crate) fn text(&self, text: &'a [u8]) -> &'a [u8]
         ensures { result.now ≡ option_map_or (λ t. t.now) self.now.whole text.now }
@@ -166,13 +166,13 @@ impl<'a> Reached<'a> {
 pub(crate) fn read_item<'a>(
     source: &mut Folded<'a>,
     text: &mut Vec<u8>,
-) -> Result<Reached<'a>, AllocError>
+) -> Result<RawItem<'a>, AllocError>
     ensures { IfOk result (λ item. TakesItem source.old (item_piece (option_map_or (λ t. t.now) item.whole text.new.items) item.line) item.last source.new) }
 {
     source.skip_white_space();
     // most items are on one line
     if let Some((item, line)) = source.take_item() {
-        return Ok(Reached {
+        return Ok(RawItem {
             whole: Some(item),
             line,
             last: false,
@@ -183,16 +183,16 @@ pub(crate) fn read_item<'a>(
 
 // Takes the next item as `take_item` does, byte by byte and run by run, from after the white space
 // at its front.
-fn read_runs<'a>(source: &mut Folded<'a>, text: &mut Vec<u8>) -> Result<Reached<'a>, AllocError>
+fn read_runs<'a>(source: &mut Folded<'a>, text: &mut Vec<u8>) -> Result<RawItem<'a>, AllocError>
     ensures { IfOk result (λ item. EndsItem source.old (item_piece (option_map_or (λ t. t.now) item.whole text.new.items) item.line) item.last source.new) }
 {
     text.clear();
     let mut line = 0;
-    let mut taken = Taken::Nothing;
+    let mut escape = Escape::Nothing;
     let mut before = b',';
     while let Some((byte, at)) = source.next() {
-        if taken.cuts(byte) {
-            return Ok(Reached {
+        if escape.cuts(byte) {
+            return Ok(RawItem {
                 whole: None,
                 line,
                 last: false,
@@ -200,9 +200,9 @@ fn read_runs<'a>(source: &mut Folded<'a>, text: &mut Vec<u8>) -> Result<Reached<
         }
         line = push_visible(text, line, byte, at)?;
         // most bytes of an item are in such runs, which are added at once
-        (taken, before) = push_run(source, text, taken.next_taken(before, byte), byte)?;
+        (escape, before) = push_run(source, text, escape.next_escape(before, byte), byte)?;
     }
-    Ok(Reached {
+    Ok(RawItem {
         whole: None,
         line,
         last: true,
@@ -247,18 +247,11 @@ fn is_mark(byte: u8) -> bool
     matches!(byte, b'#' | b'=')
 }
 
-// The place of the first mark. Names are short, so that a search byte by byte is fastest.
+// The offset of the first mark. Names are short, so that a search byte by byte is fastest.
 fn first_mark(text: &[u8]) -> Option<usize>
     ensures { IsFirstByte is_mark text.now result }
 {
-    let mut place = 0;
-    while place < text.len() {
-        if is_mark(text[place]) {
-            return Some(place);
-        }
-        place += 1;
-    }
-    None
+    text.iter().position(|byte| is_mark(*byte))
 }
 
 // What an item with its first mark at `end` states: a number after `#`, a string after `=`.

@@ -311,8 +311,8 @@ pub fn unescape(alloc: Global, raw: &[u8]) -> Result<Unescaped, UnescapeError>
     Ok(Unescaped { bytes, odd })
 }
 
-/// Puts the bytes that `raw` spells, which [`unescape`] gives, into `bytes` in the place of what was
-/// there, and answers whether an escape is odd. Room that `bytes` has is used again.
+/// Puts the bytes that `raw` spells, which [`unescape`] gives, into `bytes` in the place of what
+/// was there, and answers whether an escape is odd. Room that `bytes` has is used again.
 ///
 /// # Errors
 ///

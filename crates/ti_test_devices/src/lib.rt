@@ -1,5 +1,5 @@
-//! For tests: a reader and a writer that move one byte a call, and come to an end when they are told
-//! to.
+//! For tests: a reader and a writer that move one byte a call, and come to an end when they are
+//! told to.
 #![tactic(auto)]
 
 ghost use Rattle.std.specs.Prelude.{◌≡◌, IfOk};

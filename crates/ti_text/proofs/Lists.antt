@@ -78,7 +78,7 @@ module _ {X : Type 0} where
   item_at (x ∷ xs) zero l = (x, refl)
   item_at (x ∷ xs) (suc i) l = item_at xs i (omega arith)
 
--- ---- what stands in a list
+-- ---- what is in a list
 
 pub Has_front : (xs ys : List ℕ) (x : ℕ) → Has xs x → Has (xs ++ ys) x
 Has_front xs ys x h = (h.0, get_front xs ys h.0 x h.1)

@@ -1,4 +1,5 @@
--- What a run of insertions comes to, of the blocks of a source, and what a newline at the end changes.
+-- What a run of insertions comes to, of the blocks of a source, and what a newline at the end
+-- changes.
 use Rattle.std.proofs.Common.{◌≡◌, ◌⊎◌, ℕ, suc, ◌==◌, All, false, List, [], ◌∷◌, ◌++◌, Option, Some, None, length, map, insert, refl, sym, ap, ◌∙◌, subst, arith}
 use Rattle.std.proofs.lemmas.List.{append_assoc, length-append, map-append}
 use Rattle.std.proofs.Math.Seq.{drop-length, take-length}

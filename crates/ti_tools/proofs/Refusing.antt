@@ -1,4 +1,5 @@
--- Going over the blocks of a source: those before a place are taken, and the next is, or is refused.
+-- Going over the blocks of a source: those before a place are taken, and the next is, or is
+-- refused.
 use Rattle.std.proofs.Common.{◌≡◌, ◌⊎◌, ◌==◌, ℕ, suc, ◌+◌, ◌<◌, ◌≤◌, All, List, [], ◌∷◌, ◌++◌, length, map, take, refl, sym, ap, subst, ◌∙◌, inl, inr, arith}
 use Rattle.std.specs.List.{concat, sum_by}
 use Rattle.std.proofs.lemmas.Bool.{cases_Bool, eqb-true}
@@ -182,7 +183,8 @@ texts_single single cut source =
 
 -- ---- the source as it stands
 
--- The blocks before `offset`, so many, are taken, and `rest` are the blocks from there on, as they stand.
+-- The blocks before `offset`, so many, are taken, and `rest` are the blocks from there on, as they
+-- stand.
 pub record IsCheckedTo (source : List ℕ) (offset count : ℕ) (rest : List (List ℕ)) : Type 0 where
   pub seen : List ℕ
   pub blocks : List (List ℕ)

@@ -1,5 +1,5 @@
--- A source as the compiler takes it: its blocks, once a missing newline is put at its end, and why it is refused before
--- any of it is compiled (the limits are own).
+-- A source as the compiler takes it: its blocks, once a missing newline is put at its end, and why
+-- it is refused before any of it is compiled (the limits are own).
 use Rattle.std.specs.Prelude.{ℕ, ◌≡◌, ◌⊎◌, ◌+◌, ◌==◌, List, ◌∷◌, [], ◌++◌, length, sum_by, if◌then◌else◌}
 use Rattle.ti_text.specs.Ascii as ascii
 use Rattle.ti_source.specs.Cutting.{blocks_from_head, front_of, last_byte}
@@ -31,7 +31,8 @@ abbrev pub AreTaken : List (List ℕ) → Type 0
 AreTaken blocks = (front : List (List ℕ)) (block : List ℕ) (back : List (List ℕ)) → blocks ≡ front ++ block ∷ back
     → IsSoundEdit front (insertion (length front) block)
 
--- the first of these blocks whose insertion at the end of those before it is refused, and it is refused so
+-- the first of these blocks whose insertion at the end of those before it is refused, and it is
+-- refused so
 pub record IsFirstRefused (blocks : List (List ℕ)) (cause : EditError) : Type 0 where
   pub front : List (List ℕ)
   pub block : List ℕ
@@ -40,7 +41,8 @@ pub record IsFirstRefused (blocks : List (List ℕ)) (cause : EditError) : Type 
   pub before : AreTaken front
   pub refused : IsRefusal front (insertion (length front) block) cause
 
--- why a source is refused: its first block that is refused is too long, by the number of its first line, or is one too many
+-- why a source is refused: its first block that is refused is too long, by the number of its first
+-- line, or is one too many
 abbrev pub IsSourceRefusal : List ℕ → ToolError → Type 0
 IsSourceRefusal source (BlockTooLong line) = (refused : IsFirstRefused (source_texts source) TooLong) × (line ≡ first_line source + sum_by line_count refused.front)
 IsSourceRefusal source TooManyBlocks = IsFirstRefused (source_texts source) TooMany

@@ -41,7 +41,8 @@ fn report_status(faults: &[Fault]) -> u8
     if has_error(faults) { 1 } else { 0 }
 }
 
-// What comes of the blocks that the database holds, of which the first begins on the line of that number.
+// What comes of the blocks that the database holds, of which the first begins on the line of that
+// number.
 fn outcome(
     alloc: Global,
     database: &Database,

@@ -57,8 +57,8 @@ pub fn check(source: &[u8]) -> Result<(), ToolError>
     Ok(())
 }
 
-/// A law, with no code: a source is refused for one cause alone, that of its first block that is refused;
-/// where each block is taken, it is not refused.
+/// A law, with no code: a source is refused for one cause alone, that of its first block that is
+/// refused; where each block is taken, it is not refused.
 pub fn sources_have_one_refusal()
     ensures one { SourcesHaveOneRefusal }
     ensures taken { TakenSourcesAreNotRefused }

@@ -36,8 +36,9 @@ fn plain_status(error: &ToolError) -> u8
     }
 }
 
-/// The exit status of a tool that stops: 2 at bad usage, else 1; of `tput` 3 at an unknown terminal,
-/// at a bad entry and at a fault on the way to it, else 255. `found` says that the entry was read.
+/// The exit status of a tool that stops: 2 at bad usage, else 1; of `tput` 3 at an unknown
+/// terminal, at a bad entry and at a fault on the way to it, else 255. `found` says that the entry
+/// was read.
 pub fn status(job: &Job, error: &ToolError, found: bool) -> u8
     ensures { result ≡ status_of job.now error.now found }
 {
@@ -264,9 +265,9 @@ fn write_capability<W: Write>(
     write_named(writer, tool, b": unknown terminfo capability \"", name)
 }
 
-/// Writes the line for standard error on which a tool that stops says why: the name of the tool, the
-/// fault, and in quotes the `name` of the terminal that it is about. `None` means the status 4 of
-/// `tput`: `name` is then a capability that is unknown, or whose string is bad.
+/// Writes the line for standard error on which a tool that stops says why: the name of the tool,
+/// the fault, and in quotes the `name` of the terminal that it is about. `None` means the status 4
+/// of `tput`: `name` is then a capability that is unknown, or whose string is bad.
 ///
 /// # Errors
 /// `WriteFault`.

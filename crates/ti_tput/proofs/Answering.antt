@@ -22,7 +22,7 @@ use Rattle.ti_tput.specs.Parameters.{parameters}
 use Rattle.ti_tput.specs.Results.{Reply, reply, init_strings, long_name, reset_strings, IsSent, Sends, sent, refused, AnswersString, as_it_stands, by_expansion, by_fault, by_overflow}
 use Rattle.ti_tput.specs.Results.{AreSent, no_string, absent, present, OneAsksForTooMuch, at_first, later, SendsAll, all_sent, one_refused, AnswersHolding}
 use Rattle.ti_tput.specs.Results.{AnswersName, of_longname, of_init, of_reset, of_capability, Answers, no_word, too_many, answered, HasOneAnswer}
-use Rattle.ti_tput.specs.Runs.{Course, TakesWords, no_words, of_command, TakesLines, no_lines, then_lines, words_of, BadCommandsChangeNothing}
+use Rattle.ti_tput.specs.Runs.{RunState, TakesWords, no_words, of_command, TakesLines, no_lines, then_lines, words_of, BadCommandsChangeNothing}
 use Rattle.ti_tput.specs.inside.Commands.{AnswersWords}
 use Rattle.ti_tput.specs.inside.Results.{padded_text, sent_reply, expansion_reply, string_reply, padded_texts, holding_reply, named_reply, tput_result}
 use Rattle.ti_tput.specs.inside.Runs.{command_step, line_step, steps}
@@ -255,12 +255,12 @@ command_answered entry rate statics after words (Err LineTooLong) is = absurd is
 command_answered entry rate statics after words (Err (BlockTooLong n)) is = absurd is
 command_answered entry rate statics after words (Err TooManyBlocks) is = absurd is
 
-words_taken : (entry : Entry) (rate : ℕ) (course : Course) (words : List (List ℕ)) → TakesWords entry rate course words (command_step entry rate course words)
-words_taken entry rate course [] = no_words
-words_taken entry rate course (word ∷ words) = of_command (result_so entry rate course.statics (word ∷ words))
+words_taken : (entry : Entry) (rate : ℕ) (state : RunState) (words : List (List ℕ)) → TakesWords entry rate state words (command_step entry rate state words)
+words_taken entry rate state [] = no_words
+words_taken entry rate state (word ∷ words) = of_command (result_so entry rate state.statics (word ∷ words))
 
-pub steps_taken : (entry : Entry) (rate : ℕ) (course : Course) (lines : List (List ℕ)) → TakesLines entry rate course lines (steps entry rate course lines)
+pub steps_taken : (entry : Entry) (rate : ℕ) (state : RunState) (lines : List (List ℕ)) → TakesLines entry rate state lines (steps entry rate state lines)
 unfolding steps
-steps_taken entry rate course [] = no_lines
-steps_taken entry rate course (line ∷ lines) =
-    then_lines (words_taken entry rate course (words_of line)) (steps_taken entry rate (line_step entry rate course line).after lines)
+steps_taken entry rate state [] = no_lines
+steps_taken entry rate state (line ∷ lines) =
+    then_lines (words_taken entry rate state (words_of line)) (steps_taken entry rate (line_step entry rate state line).after lines)

@@ -16,32 +16,32 @@ use Rattle.ti_devices.specs.declared.line_reader.Next.TheVariants.{Line, LastLin
 use Rattle.ti_devices.specs.declared.tool_error.ToolError.{ToolError}
 use Rattle.ti_devices.specs.declared.tool_error.ToolError.TheVariants.{Usage, NoTerminal, BadEntry, ReadFault, WriteFault, LineTooLong, BlockTooLong, TooManyBlocks, Memory}
 use Rattle.ti_layout.specs.View.{Entry}
-use Rattle.ti_tput.specs.Runs.{Course, LineStep, run_status, lines_start}
+use Rattle.ti_tput.specs.Runs.{RunState, LineStep, run_status, lines_start}
 use Rattle.ti_tput.specs.inside.Runs.{line_step, steps, tput_run}
 use Rattle.ti_tput.specs.Streaming.{CommandsEnd, HasLines, IsShortCommandLine, command_line_max}
-use Rattle.ti_tput.specs.inside.Terminal.{HasCourse, Took}
+use Rattle.ti_tput.specs.inside.Terminal.{HasRunState, TakesStep}
 use Rattle.ti_tput.specs.declared.terminal.Terminal.{Terminal}
 use Rattle.ti_tput.proofs.Answering.{steps_taken}
 
 -- what came of a line is what came of another line
-pub Took-same : (entry : Entry) (rate : ℕ) (course : Course) (line other : List ℕ) (terminal : Terminal) (before now : Observed)
-    (result : Result Unit ToolError) → line ≡ other → Took entry rate (line_step entry rate course line) terminal before now result
-    → Took entry rate (line_step entry rate course other) terminal before now result
-Took-same entry rate course line other terminal before now result same took =
-    subst (λ (l : List ℕ). Took entry rate (line_step entry rate course l) terminal before now result) same took
+pub TakesStep-same : (entry : Entry) (rate : ℕ) (state : RunState) (line other : List ℕ) (terminal : Terminal) (before now : Observed)
+    (result : Result Unit ToolError) → line ≡ other → TakesStep entry rate (line_step entry rate state line) terminal before now result
+    → TakesStep entry rate (line_step entry rate state other) terminal before now result
+TakesStep-same entry rate state line other terminal before now result same took =
+    subst (λ (l : List ℕ). TakesStep entry rate (line_step entry rate state l) terminal before now result) same took
 
 -- ---- lines
 
 -- what comes of one more line
-pub steps-push : (entry : Entry) (rate : ℕ) (course : Course) (lines : List (List ℕ)) (line : List ℕ)
-    → steps entry rate course (lines ++ line ∷ []) ≡ record {
-      after = (line_step entry rate (steps entry rate course lines).after line).after;
-      bytes = (steps entry rate course lines).bytes ++ (line_step entry rate (steps entry rate course lines).after line).bytes;
+pub steps-push : (entry : Entry) (rate : ℕ) (state : RunState) (lines : List (List ℕ)) (line : List ℕ)
+    → steps entry rate state (lines ++ line ∷ []) ≡ record {
+      after = (line_step entry rate (steps entry rate state lines).after line).after;
+      bytes = (steps entry rate state lines).bytes ++ (line_step entry rate (steps entry rate state lines).after line).bytes;
     }
 unfolding steps
-steps-push entry rate course [] line = rw (append-nil (line_step entry rate course line).bytes) refl
-steps-push entry rate course (first ∷ lines) line =
-    rw (steps-push entry rate (line_step entry rate course first).after lines line, append_assoc) refl
+steps-push entry rate state [] line = rw (append-nil (line_step entry rate state line).bytes) refl
+steps-push entry rate state (first ∷ lines) line =
+    rw (steps-push entry rate (line_step entry rate state first).after lines line, append_assoc) refl
 
 -- the bytes of lines that are complete
 abbrev pub bytes_of : List (List ℕ) → List ℕ
@@ -74,7 +74,7 @@ with_last-some lines (byte ∷ line) some = refl
 
 module _ (entry : Entry) (rate : ℕ) where
   -- what is after these lines, and what they write
-  abbrev pub after_lines : List (List ℕ) → Course
+  abbrev pub after_lines : List (List ℕ) → RunState
   after_lines lines = (steps entry rate lines_start lines).after
 
   abbrev written_by : List (List ℕ) → List ℕ
@@ -92,13 +92,13 @@ module _ (entry : Entry) (rate : ℕ) where
     pub lines : List (List ℕ)
     pub are : AreLines lines
     pub gives : Gives given left (bytes_of lines ++ ahead_of reading)
-    pub holds : HasCourse entry rate terminal (after_lines lines)
+    pub holds : HasRunState entry rate terminal (after_lines lines)
     pub written : TakesAll before now (written_by lines)
     pub limit : line_limit_of reading ≡ command_line_max
     pub reads : reads_left_of reading + left.reads ≡ reads_max + given.reads
 
   pub Progress-start : (given before : Observed) (reading : LineReader) (terminal : Terminal) → line_limit_of reading ≡ command_line_max
-      → ahead_of reading ≡ [] → reads_left_of reading ≡ reads_max → HasCourse entry rate terminal lines_start
+      → ahead_of reading ≡ [] → reads_left_of reading ≡ reads_max → HasRunState entry rate terminal lines_start
       → Progress given given reading terminal before before
   unfolding steps
   Progress-start given before reading terminal limit ahead reads holds = record {
@@ -157,13 +157,13 @@ module _ (entry : Entry) (rate : ℕ) where
         are-lines = AreLines-more p.lines (last_line_of next) p.are r.3 (short (last_line_of next) r.4)
 
         pub Progress-line : (terminal2 : Terminal) (now2 : Observed) → SpendsReads reading next left later
-            → Took entry rate (line_step entry rate (after_lines p.lines) (last_line_of next)) terminal2 now now2 (Ok tt)
+            → TakesStep entry rate (line_step entry rate (after_lines p.lines) (last_line_of next)) terminal2 now now2 (Ok tt)
             → Progress given later next terminal2 before now2
         Progress-line terminal2 now2 s took = record {
           lines = p.lines ++ last_line_of next ∷ [];
           are = are-lines;
           gives = gives-lines;
-          holds = subst (λ (c : Course). HasCourse entry rate terminal2 c) (after_more p.lines (last_line_of next)) took.0;
+          holds = subst (λ (c : RunState). HasRunState entry rate terminal2 c) (after_more p.lines (last_line_of next)) took.0;
           written = subst (λ (t : List ℕ). TakesAll before now2 t) (written_more p.lines (last_line_of next))
               (TakesAll-then before now now2 (written_by p.lines) _ p.written took.1);
           limit = s.limit ∙ p.limit;
@@ -171,7 +171,7 @@ module _ (entry : Entry) (rate : ℕ) where
         }
 
         pub CommandsEnd-line : (terminal2 : Terminal) (now2 : Observed) (e : ToolError)
-            → Took entry rate (line_step entry rate (after_lines p.lines) (last_line_of next)) terminal2 now now2 (Err e)
+            → TakesStep entry rate (line_step entry rate (after_lines p.lines) (last_line_of next)) terminal2 now now2 (Err e)
             → CommandsEnd entry rate given later before now2 (Err e)
         CommandsEnd-line terminal2 now2 Usage took = absurd took
         CommandsEnd-line terminal2 now2 NoTerminal took = absurd took
@@ -252,7 +252,7 @@ module _ (entry : Entry) (rate : ℕ) where
 
       -- the input has ended after a newline
       pub CommandsEnd-end : ReadsLine reading next left later (Ok End) → (status : ℕ)
-          → ((c : Course) → HasCourse entry rate terminal c → status ≡ run_status c.bad) → CommandsEnd entry rate given later before now (Ok status)
+          → ((c : RunState) → HasRunState entry rate terminal c → status ≡ run_status c.bad) → CommandsEnd entry rate given later before now (Ok status)
       CommandsEnd-end r status is = record {
         input = bytes_of p.lines;
         lines = p.lines;
@@ -280,8 +280,8 @@ module _ (entry : Entry) (rate : ℕ) where
         all = with_last-some p.lines (last_line_of next) r.6
 
         pub CommandsEnd-last : (terminal2 : Terminal) (now2 : Observed) (status : ℕ)
-            → Took entry rate (line_step entry rate (after_lines p.lines) (last_line_of next)) terminal2 now now2 (Ok tt)
-            → ((c : Course) → HasCourse entry rate terminal2 c → status ≡ run_status c.bad) → CommandsEnd entry rate given later before now2 (Ok status)
+            → TakesStep entry rate (line_step entry rate (after_lines p.lines) (last_line_of next)) terminal2 now now2 (Ok tt)
+            → ((c : RunState) → HasRunState entry rate terminal2 c → status ≡ run_status c.bad) → CommandsEnd entry rate given later before now2 (Ok status)
         CommandsEnd-last terminal2 now2 status took is = record {
           input = bytes_of p.lines ++ last_line_of next;
           lines = p.lines;
@@ -296,11 +296,11 @@ module _ (entry : Entry) (rate : ℕ) where
               (subst (λ (t : List ℕ). TakesAll before now2 t) (written_more p.lines (last_line_of next))
               (TakesAll-then before now now2 (written_by p.lines) _ p.written took.1));
           ends_with = subst (λ (ls : List (List ℕ)). status ≡ run_status (after_lines ls).bad) (sym all)
-              (subst (λ (c : Course). status ≡ run_status c.bad) (after_more p.lines (last_line_of next)) (is _ took.0));
+              (subst (λ (c : RunState). status ≡ run_status c.bad) (after_more p.lines (last_line_of next)) (is _ took.0));
         }
 
         pub CommandsEnd-last_cut : (terminal2 : Terminal) (now2 : Observed) (e : ToolError)
-            → Took entry rate (line_step entry rate (after_lines p.lines) (last_line_of next)) terminal2 now now2 (Err e)
+            → TakesStep entry rate (line_step entry rate (after_lines p.lines) (last_line_of next)) terminal2 now now2 (Err e)
             → CommandsEnd entry rate given later before now2 (Err e)
         CommandsEnd-last_cut terminal2 now2 Usage took = absurd took
         CommandsEnd-last_cut terminal2 now2 NoTerminal took = absurd took

@@ -10,7 +10,7 @@ use Rattle.ti_tput.specs.Entries.{Holding, flag_held, number_held, text_held, ho
 use Rattle.ti_tput.specs.Parameters.{parameters}
 use Rattle.ti_tput.specs.Results.{Reply, init_strings, reset_strings}
 use Rattle.ti_tput.specs.inside.Results.{holding_reply, named_reply, padded_texts, padded_text, sent_reply, expansion_reply, string_reply, tput_result}
-use Rattle.ti_tput.specs.Runs.{Course, bad_step, reply_step, words_of}
+use Rattle.ti_tput.specs.Runs.{RunState, bad_step, reply_step, words_of}
 use Rattle.ti_tput.specs.inside.Runs.{command_step, line_step}
 
 -- a reply of status 4 writes nothing and leaves the variables
@@ -97,33 +97,33 @@ nothing-front : (words : List (List ℕ)) (n : ℕ) → take (suc n) words ≡ [
 nothing-front [] n e = refl
 nothing-front (word ∷ words) n e = absurd (cc)
 
-some-step : (entry : Entry) (rate : ℕ) (course : Course) (words : List (List ℕ)) → 0 < length words
-    → command_step entry rate course words ≡ reply_step course (tput_result entry words rate course.statics)
-some-step entry rate course [] some = absurd (omega arith)
-some-step entry rate course (word ∷ words) some = refl
+some-step : (entry : Entry) (rate : ℕ) (state : RunState) (words : List (List ℕ)) → 0 < length words
+    → command_step entry rate state words ≡ reply_step state (tput_result entry words rate state.statics)
+some-step entry rate state [] some = absurd (omega arith)
+some-step entry rate state (word ∷ words) some = refl
 
-module _ (entry : Entry) (rate : ℕ) (course : Course) (line : List ℕ) (words : List (List ℕ)) (front : words ≡ take 11 (words_of line)) where
-  pub step-empty : length words ≡ 0 → line_step entry rate course line ≡ record { after = course; bytes = [] }
+module _ (entry : Entry) (rate : ℕ) (state : RunState) (line : List ℕ) (words : List (List ℕ)) (front : words ≡ take 11 (words_of line)) where
+  pub step-empty : length words ≡ 0 → line_step entry rate state line ≡ record { after = state; bytes = [] }
   step-empty none =
       let empty : words ≡ [] = nil_from_length words none in
       rw (nothing-front (words_of line) 10 (sym front ∙ empty)) refl
 
-  step-replied : 0 < length words → line_step entry rate course line ≡ reply_step course (tput_result entry words rate course.statics)
+  step-replied : 0 < length words → line_step entry rate state line ≡ reply_step state (tput_result entry words rate state.statics)
   step-replied some =
       let len : length words ≡ length (take 11 (words_of line)) = ap length front in
       let more : 0 < length (words_of line) = omega (arith, length-take 11 (words_of line)) in
-      some-step entry rate course (words_of line) more
-      ∙ ap (reply_step course) (sym (ap (λ (w : List (List ℕ)). tput_result entry w rate course.statics) front ∙ tput_result-front entry (words_of line) rate course.statics))
+      some-step entry rate state (words_of line) more
+      ∙ ap (reply_step state) (sym (ap (λ (w : List (List ℕ)). tput_result entry w rate state.statics) front ∙ tput_result-front entry (words_of line) rate state.statics))
 
-  pub step-usage : 0 < length words → tput_result entry words rate course.statics ≡ None → line_step entry rate course line ≡ bad_step course
-  step-usage some none = step-replied some ∙ ap (reply_step course) none
+  pub step-usage : 0 < length words → tput_result entry words rate state.statics ≡ None → line_step entry rate state line ≡ bad_step state
+  step-usage some none = step-replied some ∙ ap (reply_step state) none
 
-  pub step-good : 0 < length words → (r : Reply) → tput_result entry words rate course.statics ≡ Some r → r.status ≢ 4
-      → line_step entry rate course line ≡ record { after = record { bad = course.bad; statics = r.statics }; bytes = r.bytes }
-  step-good some r is other = step-replied some ∙ ap (reply_step course) is ∙ rw (ne_eqb r.status 4 other) refl
+  pub step-good : 0 < length words → (r : Reply) → tput_result entry words rate state.statics ≡ Some r → r.status ≢ 4
+      → line_step entry rate state line ≡ record { after = record { bad = state.bad; statics = r.statics }; bytes = r.bytes }
+  step-good some r is other = step-replied some ∙ ap (reply_step state) is ∙ rw (ne_eqb r.status 4 other) refl
 
-  pub step-bad : 0 < length words → (r : Reply) → tput_result entry words rate course.statics ≡ Some r → r.status ≡ 4
-      → (line_step entry rate course line ≡ bad_step course) × (r.bytes ≡ []) × (r.statics ≡ course.statics)
+  pub step-bad : 0 < length words → (r : Reply) → tput_result entry words rate state.statics ≡ Some r → r.status ≡ 4
+      → (line_step entry rate state line ≡ bad_step state) × (r.bytes ≡ []) × (r.statics ≡ state.statics)
   step-bad some r is four =
-      let left = bad-leaves entry words rate course.statics r is four in
-      (step-replied some ∙ ap (reply_step course) is ∙ rw four refl, left.0, left.1)
+      let left = bad-leaves entry words rate state.statics r is four in
+      (step-replied some ∙ ap (reply_step state) is ∙ rw four refl, left.0, left.1)

@@ -21,45 +21,45 @@ words_of line = filter has_bytes (slice_split is_white_space line)
 -- ---- lines
 
 -- what is between two lines: how many were bad, and the static variables
-pub record Course : Type 0 where
+pub record RunState : Type 0 where
   pub bad : ℕ
   pub statics : List ℤ
 
 -- what comes of a line: what is after it, and what it writes
 pub record LineStep : Type 0 where
-  pub after : Course
+  pub after : RunState
   pub bytes : List ℕ
 
 -- a bad line writes nothing, and leaves the variables as they were
-abbrev pub bad_step : Course → LineStep
-bad_step course = record { after = record { bad = suc course.bad; statics = course.statics }; bytes = [] }
+abbrev pub bad_step : RunState → LineStep
+bad_step state = record { after = record { bad = suc state.bad; statics = state.statics }; bytes = [] }
 
 -- a line is bad if it would end with status 2 or 4
-abbrev pub reply_step : Course → Option Reply → LineStep
-reply_step course None = bad_step course
-reply_step course (Some reply) =
-    if reply.status == 4 then bad_step course
-    else record { after = record { bad = course.bad; statics = reply.statics }; bytes = reply.bytes }
+abbrev pub reply_step : RunState → Option Reply → LineStep
+reply_step state None = bad_step state
+reply_step state (Some reply) =
+    if reply.status == 4 then bad_step state
+    else record { after = record { bad = state.bad; statics = reply.statics }; bytes = reply.bytes }
 
 -- what comes of the words of a line: nothing if there is none
-pub data TakesWords (entry : Entry) (rate : ℕ) (course : Course) : List (List ℕ) → LineStep → Type 0 where
-  no_words : TakesWords entry rate course [] (record { after = course; bytes = [] })
-  of_command : {word : List ℕ} {words : List (List ℕ)} {answer : Option Reply} → Answers entry rate course.statics (word ∷ words) answer →
-      TakesWords entry rate course (word ∷ words) (reply_step course answer)
+pub data TakesWords (entry : Entry) (rate : ℕ) (state : RunState) : List (List ℕ) → LineStep → Type 0 where
+  no_words : TakesWords entry rate state [] (record { after = state; bytes = [] })
+  of_command : {word : List ℕ} {words : List (List ℕ)} {answer : Option Reply} → Answers entry rate state.statics (word ∷ words) answer →
+      TakesWords entry rate state (word ∷ words) (reply_step state answer)
 
 -- what comes of a line
-abbrev pub TakesLine : Entry → ℕ → Course → List ℕ → LineStep → Type 0
-TakesLine entry rate course line step = TakesWords entry rate course (words_of line) step
+abbrev pub TakesLine : Entry → ℕ → RunState → List ℕ → LineStep → Type 0
+TakesLine entry rate state line step = TakesWords entry rate state (words_of line) step
 
 -- what comes of lines, one after another
-pub data TakesLines (entry : Entry) (rate : ℕ) : Course → List (List ℕ) → LineStep → Type 0 where
-  no_lines : {course : Course} → TakesLines entry rate course [] (record { after = course; bytes = [] })
-  then_lines : {course : Course} {line : List ℕ} {lines : List (List ℕ)} {first later : LineStep} → TakesLine entry rate course line first →
+pub data TakesLines (entry : Entry) (rate : ℕ) : RunState → List (List ℕ) → LineStep → Type 0 where
+  no_lines : {state : RunState} → TakesLines entry rate state [] (record { after = state; bytes = [] })
+  then_lines : {state : RunState} {line : List ℕ} {lines : List (List ℕ)} {first later : LineStep} → TakesLine entry rate state line first →
       TakesLines entry rate first.after lines later →
-      TakesLines entry rate course (line ∷ lines) (record { after = later.after; bytes = first.bytes ++ later.bytes })
+      TakesLines entry rate state (line ∷ lines) (record { after = later.after; bytes = first.bytes ++ later.bytes })
 
 -- at the start no line was bad, and each static variable is 0
-abbrev pub lines_start : Course
+abbrev pub lines_start : RunState
 lines_start = record { bad = 0; statics = no_variables }
 
 -- 0 if no line was bad, else 4 and the count of bad lines, at most 255

@@ -2,7 +2,7 @@
 ghost use Rattle.std.specs.Prelude.{◌≡◌, ◌==◌, ℕ, IfOk};
 ghost use Rattle.ti_devices.specs.Counted.{observation};
 ghost use Rattle.ti_layout.specs.View.{Entry, shown_entry};
-ghost use Rattle.ti_tput.specs.Runs.{Course, run_status, lines_start};
+ghost use Rattle.ti_tput.specs.Runs.{RunState, run_status, lines_start};
 ghost use Rattle.ti_tput.specs.inside.Runs.{line_step};
 
 use crate::commands::answer;
@@ -34,11 +34,11 @@ fn is_bad(status: u8) -> bool
 }
 
 impl<'a> Terminal<'a> {
-    ghost use Rattle.ti_tput.specs.inside.Terminal.{HasCourse, Took};
+    ghost use Rattle.ti_tput.specs.inside.Terminal.{HasRunState, TakesStep};
 
     /// The terminal of an entry at a rate, before any command.
     pub fn new(alloc: Global, view: &View<'a>, rate: u32) -> Terminal<'a>
-        ensures { HasCourse (shown_entry view.now) rate result lines_start }
+        ensures { HasRunState (shown_entry view.now) rate result lines_start }
     {
         Terminal {
             alloc,
@@ -51,9 +51,9 @@ impl<'a> Terminal<'a> {
 
     // What a line writes. A bad line is counted, and writes nothing.
     fn bytes_of(&mut self, line: &[u8]) -> Result<Vec<u8>, AllocError>
-        ensures { (entry : Entry) (rate : ℕ) (course : Course) → HasCourse entry rate self.old course
-            → IfOk result (λ bytes. HasCourse entry rate self.new (line_step entry rate course line.now).after
-            × (bytes.items ≡ (line_step entry rate course line.now).bytes)) }
+        ensures { (entry : Entry) (rate : ℕ) (state : RunState) → HasRunState entry rate self.old state
+            → IfOk result (λ bytes. HasRunState entry rate self.new (line_step entry rate state line.now).after
+            × (bytes.items ≡ (line_step entry rate state line.now).bytes)) }
     {
         let words = split_words(line);
         if words.is_empty() {
@@ -89,8 +89,8 @@ impl<'a> Terminal<'a> {
         line: &[u8],
         writer: &mut Counted<W>,
     ) -> Result<(), ToolError>
-        ensures { (entry : Entry) (rate : ℕ) (course : Course) → HasCourse entry rate self.old course
-            → Took entry rate (line_step entry rate course line.now) self.new
+        ensures { (entry : Entry) (rate : ℕ) (state : RunState) → HasRunState entry rate self.old state
+            → TakesStep entry rate (line_step entry rate state line.now) self.new
             (observation W.contents writer.old) (observation W.contents writer.new) result }
     {
         let bytes = self.bytes_of(line)?;
@@ -100,7 +100,7 @@ impl<'a> Terminal<'a> {
     /// The exit status after these commands: 0 if none was bad, else 4 and the number of bad ones,
     /// at most 255.
     pub fn status(&self) -> u8
-        ensures { (entry : Entry) (rate : ℕ) (course : Course) → HasCourse entry rate self.now course → result ≡ run_status course.bad }
+        ensures { (entry : Entry) (rate : ℕ) (state : RunState) → HasRunState entry rate self.now state → result ≡ run_status state.bad }
     {
         if self.bad == 0 {
             return 0;

@@ -60,7 +60,8 @@ abbrev pub slot_out : List (Option Slot) → Option ℕ → Option Slot
 slot_out listed None = None
 slot_out listed (Some at) = option_flatten (slice_get listed at)
 
--- a new slot with what was found out about a block taken out, if one was, and that slot with what the new one had
+-- a new slot with what was found out about a block taken out, if one was, and that slot with what
+-- the new one had
 abbrev pub settled_as : Option Slot → Slot → Slot
 settled_as None new = new
 settled_as (Some old) new = with_settled old.settled new
@@ -124,7 +125,8 @@ abbrev pub IsOut : Slots → Slots → Option ℕ → Option Slot → Type 0
 IsOut old new None taken = (new ≡ old) × (taken ≡ None)
 IsOut old new (Some at) taken = (slot : Slot) × (taken ≡ Some slot) × TakesOut old new at slot × AreDistinct old.order.listed
 
--- slots were exchanged, and the block put in has the id; the same with the positions exchanged can follow
+-- slots were exchanged, and the block put in has the id; the same with the positions exchanged can
+-- follow
 pub record IsExchanged (old new : Slots) (out put : Option ℕ) (before after : Option Slot) (id : Option ℕ) : Type 0 where
   pub slots : slots_of new ≡ with_exchange (slots_of old) out put before
   pub spare : after ≡ spare_after put (slot_out (slots_of old) out) before
@@ -142,7 +144,8 @@ CanUndo slots change spare = CanExchange slots (put_position change) (out_positi
 abbrev pub IsUndone : Slots → Slots → Change → Option Slot → Type 0
 IsUndone old new change spare = IsIndexed new × (slots_of new ≡ with_exchange (slots_of old) (put_position change) (out_position change) spare)
 
--- the list after an edit; what planning asks of it, given the id of the block put in and the names of one that is spare; and what is rebuilt
+-- the list after an edit; what planning asks of it, given the id of the block put in and the names
+-- of one that is spare; and what is rebuilt
 pub record IsEdited (old new : Slots) (change : Change) (id : Option ℕ) (names : List (List ℕ)) : Type 0 where
   pub read : AreRead new
   pub texts : slot_texts new ≡ list_after (slot_texts old) change

@@ -12,7 +12,7 @@ use Rattle.ti_param.specs.declared.codes.Token.TheVariants.{Literal, Operation, 
 use Rattle.ti_printing.specs.declared.printf.Conversion.{Conversion}
 use Rattle.ti_printing.specs.declared.printf.Directive.{Directive}
 use Rattle.ti_printing.specs.declared.printf.Flags.{Flags}
-use Rattle.ti_param.specs.Codes.{begins_zero, conversions, flags_from, greatest_size, is_flag, no_flags, parameter_numbered, row_for, simple_tokens}
+use Rattle.ti_param.specs.Codes.{begins_zero, conversions, flags_from, size_max, is_flag, no_flags, parameter_numbered, row_for, simple_tokens}
 use Rattle.ti_param.specs.Codes.{span, variable_named}
 
 -- what a text has at its front, and the text after it, if it has this at its front
@@ -62,7 +62,7 @@ flags_after (x ∷ rest) = if x == ascii.colon then flags_of (span (is_flag true
 
 -- the precision that the digits of the first of two texts write, at most 999, and the second text
 abbrev pub precision_of : List ℕ × List ℕ → Front (Option ℕ)
-precision_of parts = if nat_le (decimal_value parts.0) greatest_size then Some (Some (decimal_value parts.0), parts.1) else None
+precision_of parts = if nat_le (decimal_value parts.0) size_max then Some (Some (decimal_value parts.0), parts.1) else None
 
 -- the precision at the front of a text, none if no `.` is there, and the text after it
 unfoldable pub precision_after : List ℕ → Front (Option ℕ)
@@ -75,7 +75,7 @@ unfoldable pub directive_with : Flags → List ℕ → Front (Option ℕ) → Fr
 directive_with flags ds None = None
 directive_with flags ds (Some (precision, [])) = None
 directive_with flags ds (Some (precision, x ∷ rest)) =
-    if nat_le (decimal_value ds) greatest_size then option_map (λ conversion.
+    if nat_le (decimal_value ds) size_max then option_map (λ conversion.
     (record { flags = record flags { zero = begins_zero ds }; width = decimal_value ds; precision = precision; conversion = conversion }, rest))
     (row_for x conversions)
     else None

@@ -8,7 +8,7 @@ use Rattle.ti_param.specs.declared.codes.Token.TheVariants.{Literal, Operation, 
 use Rattle.ti_param.specs.declared.lexer.Placed.{Placed}
 use Rattle.ti_text.specs.Ascii as ascii
 use Rattle.ti_param.specs.inside.Codes.{Front, token_after}
-use Rattle.ti_param.specs.Formats.{IsStuck, IsTree, FormatTree, byte, choice, code, group, most_open, nothing, placed_token}
+use Rattle.ti_param.specs.Formats.{IsStuck, IsTree, FormatTree, byte, choice, code, group, open_max, nothing, placed_token}
 
 -- the tokens up to the first `%` that begins no code, and that place, if there is one
 pub record Scan : Type 0 where
@@ -46,7 +46,7 @@ scan_of format = scan 0 0 format
 abbrev pub phases_after : List Phase → Token → Option (List Phase)
 phases_after phases (Literal b) = Some phases
 phases_after phases (Operation c) = Some phases
-phases_after phases If = if nat_lt (length phases) most_open then Some (Testing ∷ phases) else None
+phases_after phases If = if nat_lt (length phases) open_max then Some (Testing ∷ phases) else None
 phases_after [] Then = None
 phases_after (Testing ∷ phases) Then = Some (Taken ∷ phases)
 phases_after (Taken ∷ phases) Then = None

@@ -1,7 +1,7 @@
 -- How the items of a block are judged, computed, and what the parts of its reader do (own).
 use Rattle.ti_text.specs.Ascii as ascii
 use Rattle.std.specs.Prelude.{◌≡◌, ℕ, List, [], ◌++◌, map, Option, Some, None}
-use Rattle.ti_source.specs.declared.items.Taken.TheVariants as taken
+use Rattle.ti_source.specs.declared.items.Escape.TheVariants as escape
 use Rattle.ti_source.specs.Folding.{PlacedByte}
 use Rattle.ti_source.specs.inside.Folding.{folding_of}
 use Rattle.ti_source.specs.Items.{Statement, ItemPiece, bytes, piece_of}
@@ -26,7 +26,7 @@ block_field block = bytes (field_of (folding_of block))
 
 -- the items after the names field of a block
 abbrev pub block_items : List ℕ → List (List PlacedByte)
-block_items block = items_of taken.Nothing ascii.comma (after_field (folding_of block))
+block_items block = items_of escape.Nothing ascii.comma (after_field (folding_of block))
 
 -- the names and the fault of a names field were read, and no items
 pub record ReadsField (field : List ℕ) (reading : Reading) : Type 0 where
@@ -49,5 +49,5 @@ AddsItem ordinal p old new = AddsToReading (items_at ordinal (judged_as p.line (
 -- what the items of a text say, and their faults, were added to a reading
 abbrev pub AddsItems : List PlacedByte → Reading → Reading → Type 0
 AddsItems source old new =
-    let judged = map judged_of (items_of taken.Nothing ascii.comma source) in
+    let judged = map judged_of (items_of escape.Nothing ascii.comma source) in
     AddsToReading (items_from 0 judged) (faults_from 0 judged) old new

@@ -1,7 +1,7 @@
 -- What `tput -S` answers to the lines of its input, computed (own).
 use Rattle.std.specs.Prelude.{ℕ, List, [], ◌∷◌, ◌++◌}
 use Rattle.ti_layout.specs.View.{Entry}
-use Rattle.ti_tput.specs.Runs.{Course, LineStep, lines_start, reply_step, run_status, words_of}
+use Rattle.ti_tput.specs.Runs.{RunState, LineStep, lines_start, reply_step, run_status, words_of}
 use Rattle.ti_tput.specs.inside.Results.{tput_result}
 
 -- how many words of a line are looked at: a command has at most a name and nine parameters, and one
@@ -10,19 +10,19 @@ abbrev pub words_seen : ℕ
 words_seen = 11
 
 -- a line without words does nothing
-abbrev pub command_step : Entry → ℕ → Course → List (List ℕ) → LineStep
-command_step entry rate course [] = record { after = course; bytes = [] }
-command_step entry rate course (word ∷ words) = reply_step course (tput_result entry (word ∷ words) rate course.statics)
+abbrev pub command_step : Entry → ℕ → RunState → List (List ℕ) → LineStep
+command_step entry rate state [] = record { after = state; bytes = [] }
+command_step entry rate state (word ∷ words) = reply_step state (tput_result entry (word ∷ words) rate state.statics)
 
 -- what comes of a line
-abbrev pub line_step : Entry → ℕ → Course → List ℕ → LineStep
-line_step entry rate course line = command_step entry rate course (words_of line)
+abbrev pub line_step : Entry → ℕ → RunState → List ℕ → LineStep
+line_step entry rate state line = command_step entry rate state (words_of line)
 
 -- what comes of lines, one after another
-unfoldable pub steps : Entry → ℕ → Course → List (List ℕ) → LineStep
-steps entry rate course [] = record { after = course; bytes = [] }
-steps entry rate course (line ∷ lines) =
-    let first = line_step entry rate course line in
+unfoldable pub steps : Entry → ℕ → RunState → List (List ℕ) → LineStep
+steps entry rate state [] = record { after = state; bytes = [] }
+steps entry rate state (line ∷ lines) =
+    let first = line_step entry rate state line in
     let later = steps entry rate first.after lines in
     record { after = later.after; bytes = first.bytes ++ later.bytes }
 

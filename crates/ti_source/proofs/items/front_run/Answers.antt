@@ -16,5 +16,5 @@ loop-byte-preserved c =
     let inner : cuts c.loop-byte.next byte ≡ false = sym c.cuts.ensures ∙ c.if-cuts.false in
     record {
       counted = omega (arith, c.loop-byte.invariant.counted);
-      passes_run = rw (take_more text at 0 c.loop-byte-test.true, c.next_taken-next.ensures) (takes_byte byte c.loop-byte.invariant.passes_run plain inner);
+      passes_run = rw (take_more text at 0 c.loop-byte-test.true, c.next_escape-next.ensures) (takes_byte byte c.loop-byte.invariant.passes_run plain inner);
     }

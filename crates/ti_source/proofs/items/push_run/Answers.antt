@@ -11,5 +11,5 @@ returns-clause-reads c = λ start line reads.
     let text = c.args.text.now.items in
     let taken = c.take_run-run.ensures in
     let some : 0 < length text = omega (arith, eqb-false _ _ (sym c.is_empty.ensures ∙ c.if-is_empty.false), c.args.text.now.ok.0) in
-    let from_run = subst (λ (s : List PlacedByte). ReadsSoFar start c.args.taken c.args.before s (item_piece text line)) taken.whole reads in
+    let from_run = subst (λ (s : List PlacedByte). ReadsSoFar start c.args.escape c.args.before s (item_piece text line)) taken.whole reads in
     rw c.in_ok-extend_from_slice.ensures.items (so_far-run start line taken.line c.take_run-run.new.self text taken.passes_run some from_run)

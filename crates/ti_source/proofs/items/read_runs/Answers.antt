@@ -13,7 +13,7 @@ returns-then-cuts c = λ start reads.
 pub loop-byte-preserved : goal.loop-byte-preserved
 loop-byte-preserved c = λ start reads.
     let so_far = rw c.in-Some.ensures.steps at (c.loop-byte.invariant start reads) in
-    c.in_ok-taken.ensures.reads _ _ (rw (c.next_taken.ensures, c.in_ok-line.ensures) (so_far-more _ _ _ _ _ _ so_far (sym c.cuts.ensures ∙ c.if-cuts.false)))
+    c.in_ok-escape.ensures.reads _ _ (rw (c.next_escape.ensures, c.in_ok-line.ensures) (so_far-more _ _ _ _ _ _ so_far (sym c.cuts.ensures ∙ c.if-cuts.false)))
 
 pub returns : goal.returns
 returns c = λ start reads.

@@ -4,7 +4,7 @@ use Rattle.ti_devices.proofs.Written.{TakesAll-then, Wrote-over}
 use Rattle.ti_tools.proofs.Parts.{parts-more, parts-whole}
 use Rattle.ti_tools.proofs.stopping.write_parts.Goals as goal
 
--- what stands past the end of the parts
+-- what is past the end of the parts
 no_part : Bor (List ℕ)
 no_part = record { ref_ptr = (0, 0); now = [] }
 

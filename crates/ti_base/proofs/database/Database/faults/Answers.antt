@@ -1,8 +1,21 @@
-use Rattle.std.proofs.Common.{ap, ◌∙◌}
+use Rattle.std.proofs.Common.{◌≡◌, ℕ, List, length, map, All, ap, sym, ◌∙◌}
 use Rattle.ti_meaning.specs.Owner.{readings}
-use Rattle.ti_meaning.specs.Faults.{faults}
-use Rattle.ti_base.proofs.SlotLists.{blocks_read}
+use Rattle.ti_meaning.specs.Usable.{IsPlaced}
+use Rattle.ti_meaning.specs.Faults.{SourceFault, fault_seen, faults}
+use Rattle.ti_meaning.proofs.Bounding.{faults_placed}
+use Rattle.ti_slots.specs.Slots.{blocks_of}
+use Rattle.ti_base.proofs.SlotLists.{blocks_read, length_blocks, length_texts}
+use Rattle.ti_base.proofs.Installing.{all_usable}
 use Rattle.ti_base.proofs.database.Database.faults.Goals as goal
 
-pub returns : goal.returns
-returns c = c.in_ok-faults.ensures ∙ ap faults (blocks_read c.self.inside.slots c.self.invariant.read ∙ ap readings c.self.view_is)
+pub returns-clause-all : goal.returns-clause-all
+returns-clause-all c = c.in_ok-faults.ensures ∙ ap faults (blocks_read c.self.inside.slots c.self.invariant.read ∙ ap readings c.self.view_is)
+
+placed_as : (n m : ℕ) (all found : List SourceFault) → n ≡ m → found ≡ all → All (IsPlaced n) all → All (IsPlaced m) found
+placed_as n m all found e f h = rw (← e, f) h
+
+pub returns-clause-placed : goal.returns-clause-placed
+returns-clause-placed c =
+    let slots = c.self.inside.slots in
+    placed_as (length (blocks_of slots)) (length c.args.self.now) (faults (blocks_of slots)) (map fault_seen c.in_ok-faults.faults.items)
+    (length_blocks slots ∙ sym (length_texts slots) ∙ ap length c.self.view_is) c.in_ok-faults.ensures (faults_placed (blocks_of slots) (all_usable slots c.self.invariant.read))
