@@ -116,7 +116,8 @@ module _ (b : List ℕ) (is : IsImage b) (h : Header) (has : HasSizes (names_in 
         ap (λ t. number_section Legacy t ++ texts_below g (written_count g Text) ++ []) (same_offsets g c (λ i. refl) (written_count g Text) ∙ ap (offsets_below c) (same_text_count g c (λ i. refl)))
         ∙ ap (λ t. number_section Legacy (offsets_below c (written_count c Text)) ++ t ++ []) (same_strings g c (λ i. refl))
 
-    all_spelled : (values : List ℕ) → values ≡ below (wide_value (with_number b index n)) 39 → number_section k.format (take k.numbers values) ≡ number_section (format_of (with_number b index n)) (below (number_in (format_of (with_number b index n)) (with_number b index n)) (written_count (with_number b index n) Number))
+    all_spelled : (values : List ℕ) → values ≡ below (wide_value (with_number b index n)) 39
+        → number_section k.format (take k.numbers values) ≡ number_section (format_of (with_number b index n)) (below (number_in (format_of (with_number b index n)) (with_number b index n)) (written_count (with_number b index n) Number))
     all_spelled values all =
         ap (λ t. number_section k.format (take k.numbers t)) all ∙ ap (number_section k.format) (take-below (wide_value g) 39 k.numbers has_g.numbers_fit)
         ∙ ap (λ w. number_section w (below (wide_value g) k.numbers)) has_g.format ∙ ap (λ m. number_section (format_of g) (below (wide_value g) m)) has_g.numbers ∙ narrow_spelled (format_of g) g (written_count g Number)

@@ -67,7 +67,9 @@ number_in w c j = number_value (absent_mark w) (of_kind c Number j)
 pub number_frame : (names : List ℕ) (c : Contents) → image names c ≡ head_of names c ++ (before_numbers names c ++ (number_section (format_of c) (below (number_in (format_of c) c) (written_count c Number)) ++ after_numbers c))
 unfolding image
 number_frame names c =
-    nine (head_of names c) names (0 ∷ []) (flags_below c (written_count c Flag)) (even_gap names (written_count c Flag)) (number_section (format_of c) (numbers_below (format_of c) c (written_count c Number))) (number_section Legacy (offsets_below c (written_count c Text))) (texts_below c (written_count c Text)) []
+    nine (head_of names c) names (0 ∷ []) (flags_below c (written_count c Flag)) (even_gap names (written_count c Flag))
+    (number_section (format_of c) (numbers_below (format_of c) c (written_count c Number))) (number_section Legacy (offsets_below c (written_count c Text)))
+    (texts_below c (written_count c Text)) []
 
 abbrev pub numbers_from : Header → ℕ
 numbers_from h = 12 + h.names + h.flags + (h.names + h.flags) % 2

@@ -105,7 +105,9 @@ head_of names c =
 pub text_frame : (names : List ℕ) (c : Contents) → image names c ≡ head_of names c ++ (middle names c ++ (number_section Legacy (offsets_below c (written_count c Text)) ++ (texts_below c (written_count c Text) ++ [])))
 unfolding image
 text_frame names c =
-    nine (head_of names c) names (0 ∷ []) (flags_below c (written_count c Flag)) (even_gap names (written_count c Flag)) (number_section (format_of c) (numbers_below (format_of c) c (written_count c Number))) (number_section Legacy (offsets_below c (written_count c Text))) (texts_below c (written_count c Text)) []
+    nine (head_of names c) names (0 ∷ []) (flags_below c (written_count c Flag)) (even_gap names (written_count c Flag))
+    (number_section (format_of c) (numbers_below (format_of c) c (written_count c Number))) (number_section Legacy (offsets_below c (written_count c Text)))
+    (texts_below c (written_count c Text)) []
 
 pub length_head : (names : List ℕ) (c : Contents) → length (head_of names c) ≡ 12
 length_head names c = length-header (format_of c) (suc (length names)) (length (flags_below c (written_count c Flag))) (length (numbers_below (format_of c) c (written_count c Number))) (length (offsets_below c (written_count c Text))) (length (texts_below c (written_count c Text)))

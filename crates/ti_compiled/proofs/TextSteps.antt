@@ -68,7 +68,8 @@ module _ (b : List ℕ) (is : IsImage b) (h : Header) (has : HasSizes (names_in 
   -- the string is replaced in the table
   pub table_changed : (b1 : List ℕ) (place at start removed : ℕ) → place ≡ offsets_from h → at ≡ place + 2 * h.texts + start → start ≡ length (texts_below (contents_in b) index) → removed ≡ length (text_piece (of_kind (contents_in b) Text index))
       → Replaces b b1 at removed (λ _. ended_text t)
-      → b1 ≡ (head_of (names_in b) (contents_in b) ++ middle (names_in b) (contents_in b)) ++ (number_section Legacy (below (offset_of (contents_in b)) (written_count (contents_in b) Text)) ++ (texts_below (with_content (contents_in b) (capability Text index) (text_content t)) (written_count (with_content (contents_in b) (capability Text index) (text_content t)) Text) ++ []))
+      → b1 ≡ (head_of (names_in b) (contents_in b) ++ middle (names_in b) (contents_in b)) ++
+      (number_section Legacy (below (offset_of (contents_in b)) (written_count (contents_in b) Text)) ++ (texts_below (with_content (contents_in b) (capability Text index) (text_content t)) (written_count (with_content (contents_in b) (capability Text index) (text_content t)) Text) ++ []))
   table_changed b1 place at start removed ep ea es er replaces =
       let o = number_section Legacy (below (offset_of c) T) in
       let a = texts_below c index in
@@ -142,7 +143,8 @@ module _ (b : List ℕ) (is : IsImage b) (h : Header) (has : HasSizes (names_in 
   ]
 
   pub text_changed : (b4 b5 : List ℕ) (k : Header) (removed added : ℕ) → removed ≡ length (text_piece (of_kind (contents_in b) Text index)) → added ≡ length (ended_text t)
-      → b4 ≡ (head_of (names_in b) (contents_in b) ++ middle (names_in b) (contents_in b)) ++ (number_section Legacy (below (moved_later (λ j. if j == index then offset_of (with_content (contents_in b) (capability Text index) (text_content t)) index else offset_of (contents_in b) j) (index + 1) removed added) k.texts)
+      → b4 ≡ (head_of (names_in b) (contents_in b) ++ middle (names_in b) (contents_in b)) ++
+      (number_section Legacy (below (moved_later (λ j. if j == index then offset_of (with_content (contents_in b) (capability Text index) (text_content t)) index else offset_of (contents_in b) j) (index + 1) removed added) k.texts)
       ++ (texts_below (with_content (contents_in b) (capability Text index) (text_content t)) (written_count (with_content (contents_in b) (capability Text index) (text_content t)) Text) ++ []))
       → HasSizes (names_in b) (with_content (contents_in b) (capability Text index) (text_content t)) k
       → length (image (names_in b) (with_content (contents_in b) (capability Text index) (text_content t))) ≤ image_limit (with_content (contents_in b) (capability Text index) (text_content t))

@@ -12,7 +12,8 @@ ghost use Rattle.ti_compiled.specs.Image.{with_content};
 ghost use Rattle.ti_compiled.specs.inside.Image.{names_in, contents_in, IsImage};
 
 use crate::bytes::resize_part;
-use crate::header::{header_of, make_room, write_header};
+use crate::changing::{Change, make_change};
+use crate::header::{header_of, write_header};
 use ti_layout::{HEADER_SIZE, Header, WriteError};
 
 // One more than the last boolean that is set, 0 if none is.
@@ -72,6 +73,34 @@ fn change_flag(bytes: &mut Vec<u8>, old: &Header, new: &Header, index: usize, on
     write_header(bytes, new);
 }
 
+// A boolean of an image that is set or taken away.
+#[derive(Clone, Copy)]
+struct FlagChange {
+    index: usize,
+    on: bool,
+}
+
+impl Change for FlagChange {
+    ghost use Rattle.std.specs.Prelude.{◌<◌};
+    ghost use Rattle.ti_caps.specs.Tables.{capability, count_of};
+    ghost use Rattle.ti_caps.specs.declared.capability.Kind.TheVariants.{Flag};
+    ghost use Rattle.ti_compiled.specs.inside.Changes.{flag_content};
+
+    ghost capability_of = { λ change. capability Flag change.index };
+
+    ghost content_of = { λ change. flag_content change.on };
+
+    ghost suits = { λ change bytes. change.index < count_of Flag };
+
+    fn sizes(&self, bytes: &[u8], old: &Header) -> Header {
+        sizes_with_flag(bytes, old, self.index, self.on)
+    }
+
+    fn make(&self, bytes: &mut Vec<u8>, old: &Header, new: &Header) {
+        change_flag(bytes, old, new, self.index, self.on);
+    }
+}
+
 /// Sets a boolean or takes it away. A refused change leaves the image as it was.
 ///
 /// # Errors
@@ -87,10 +116,5 @@ pub fn set_flag(bytes: &mut Vec<u8>, index: usize, on: bool) -> Result<(), Write
     ensures err { OnErr result (bytes.new.items ≡ bytes.old.items) }
 {
     let old = header_of(bytes);
-    let new = sizes_with_flag(bytes, &old, index, on);
-    let room = make_room(bytes, &new);
-    if room.is_ok() {
-        change_flag(bytes, &old, &new, index, on);
-    }
-    room
+    make_change(bytes, &old, &FlagChange { index, on })
 }

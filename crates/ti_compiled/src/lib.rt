@@ -1,8 +1,8 @@
 //! Compiled terminfo entries that are changed in place.
 //!
 //! - `image`: an entry's bytes, of which one capability is given another value without writing the
-//!   rest anew; `flags`, `numbers` and `texts` change one of a kind, and `patching` all that
-//!   changes
+//!   rest anew; `changing` is a change of one capability, of whose kinds `flags`, `numbers` and
+//!   `texts` each have one, and `patching` makes all that are wanted
 //! - `header`: the header's six numbers in the bytes
 //! - `bytes`: a part of bytes overwritten, made longer or shorter
 //!
@@ -11,6 +11,7 @@
 #![tactic(auto)]
 
 mod bytes;
+mod changing;
 mod flags;
 mod header;
 mod image;

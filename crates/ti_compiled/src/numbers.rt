@@ -16,7 +16,8 @@ ghost use Rattle.ti_compiled.specs.inside.Image.{names_in, contents_in, IsImage}
 ghost use Rattle.ti_compiled.specs.inside.Bytes.{Replaces};
 
 use crate::bytes::{overwrite, resize_part};
-use crate::header::{header_of, make_room, write_header};
+use crate::changing::{Change, make_change};
+use crate::header::{header_of, write_header};
 use byteorder::{ByteOrder, LittleEndian};
 use ti_caps::NUMBER_COUNT;
 use ti_layout::{Format, HEADER_SIZE, Header, WriteError, number};
@@ -157,6 +158,38 @@ fn change_numbers(bytes: &mut Vec<u8>, old: &Header, new: &Header, values: &[u32
     write_header(bytes, new);
 }
 
+// A number of an image that is given or taken away, and all numbers after that.
+#[derive(Clone, Copy)]
+struct NumberChange<'a> {
+    index: usize,
+    number: Option<u32>,
+    values: &'a [u32],
+}
+
+impl Change for NumberChange<'_> {
+    ghost use Rattle.std.specs.Prelude.{◌≡◌, ◌<◌, ◌≤◌, IfSome};
+    ghost use Rattle.ti_text.specs.Limits.{number_max};
+    ghost use Rattle.ti_caps.specs.Tables.{capability, count_of};
+    ghost use Rattle.ti_caps.specs.declared.capability.Kind.TheVariants.{Number};
+    ghost use Rattle.ti_layout.specs.Image.{below};
+    ghost use Rattle.ti_compiled.specs.inside.Changes.{number_content, wide_value, with_number};
+
+    ghost capability_of = { λ change. capability Number change.index };
+
+    ghost content_of = { λ change. number_content change.number };
+
+    ghost suits = { λ change bytes. (change.index < count_of Number) × IfSome change.number (λ n. n ≤ number_max)
+        × (change.values.now ≡ below (wide_value (with_number bytes change.index change.number)) (count_of Number)) };
+
+    fn sizes(&self, bytes: &[u8], old: &Header) -> Header {
+        sizes_with_numbers(old, self.values)
+    }
+
+    fn make(&self, bytes: &mut Vec<u8>, old: &Header, new: &Header) {
+        change_numbers(bytes, old, new, self.values);
+    }
+}
+
 /// Gives a number or takes it away. A refused change leaves the image as it was.
 ///
 /// # Errors
@@ -173,11 +206,11 @@ pub fn set_number(bytes: &mut Vec<u8>, index: usize, number: Option<u32>) -> Res
     ensures err { OnErr result (bytes.new.items ≡ bytes.old.items) }
 {
     let old = header_of(bytes);
-    let values = numbers_with(bytes, &old, index, number);
-    let new = sizes_with_numbers(&old, &values);
-    let room = make_room(bytes, &new);
-    if room.is_ok() {
-        change_numbers(bytes, &old, &new, &values);
-    }
-    room
+    let values = &numbers_with(bytes, &old, index, number);
+    let changed = NumberChange {
+        index,
+        number,
+        values,
+    };
+    make_change(bytes, &old, &changed)
 }

@@ -17,7 +17,8 @@ ghost use Rattle.ti_compiled.specs.inside.Image.{names_in, contents_in, IsImage}
 ghost use Rattle.ti_compiled.specs.inside.Bytes.{Replaces, moved_later, ended_text};
 
 use crate::bytes::{overwrite, resize_part};
-use crate::header::{header_of, make_room, word_bytes, write_header};
+use crate::changing::{Change, make_change};
+use crate::header::{header_of, word_bytes, write_header};
 use ti_layout::{Format, HEADER_SIZE, Header, WriteError, word};
 
 // The offset that an absent string has.
@@ -187,6 +188,34 @@ fn change_text(bytes: &mut Vec<u8>, old: &Header, new: &Header, index: usize, te
     write_header(bytes, new);
 }
 
+// A string of an image that is given or taken away.
+#[derive(Clone, Copy)]
+struct TextChange<'a> {
+    index: usize,
+    text: Option<&'a [u8]>,
+}
+
+impl Change for TextChange<'_> {
+    ghost use Rattle.std.specs.Prelude.{◌<◌};
+    ghost use Rattle.ti_caps.specs.Tables.{capability, count_of};
+    ghost use Rattle.ti_caps.specs.declared.capability.Kind.TheVariants.{Text};
+    ghost use Rattle.ti_compiled.specs.inside.Changes.{text_lent};
+
+    ghost capability_of = { λ change. capability Text change.index };
+
+    ghost content_of = { λ change. text_lent change.text };
+
+    ghost suits = { λ change bytes. change.index < count_of Text };
+
+    fn sizes(&self, bytes: &[u8], old: &Header) -> Header {
+        sizes_with_text(bytes, old, self.index, self.text)
+    }
+
+    fn make(&self, bytes: &mut Vec<u8>, old: &Header, new: &Header) {
+        change_text(bytes, old, new, self.index, self.text);
+    }
+}
+
 /// Gives a string or takes it away. A refused change leaves the image as it was.
 ///
 /// # Errors
@@ -202,10 +231,5 @@ pub fn set_text(bytes: &mut Vec<u8>, index: usize, text: Option<&[u8]>) -> Resul
     ensures err { OnErr result (bytes.new.items ≡ bytes.old.items) }
 {
     let old = header_of(bytes);
-    let new = sizes_with_text(bytes, &old, index, text);
-    let room = make_room(bytes, &new);
-    if room.is_ok() {
-        change_text(bytes, &old, &new, index, text);
-    }
-    room
+    make_change(bytes, &old, &TextChange { index, text })
 }

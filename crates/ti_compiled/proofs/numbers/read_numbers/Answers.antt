@@ -15,8 +15,10 @@ loop-at-preserved c =
     let b = c.args.bytes.now in
     let h = c.args.header.now in
     elim c.if-number-first_negative.branch [
-      | then-number-first_negative w ↦ w.values-is ∙ read_plain b c.requires.image h c.requires.sizes c.loop-at.values c.numbers_place-place.result c.width-width.result c.loop-at.at c.number-number.result c.numbers_place-place.ensures c.width-width.ensures.value c.loop-at-test.true c.number-number.ensures.value c.loop-at.invariant (let n = c.first_negative.ensures in let t = w.if-number-first_negative.true in omega arith)
-      | else-number-first_negative w ↦ w.values-is ∙ read_void b c.requires.image h c.requires.sizes c.loop-at.values c.numbers_place-place.result c.width-width.result c.loop-at.at c.number-number.result c.numbers_place-place.ensures c.width-width.ensures.value c.loop-at-test.true c.number-number.ensures.value c.loop-at.invariant (let n = c.first_negative.ensures in let t = w.if-number-first_negative.false in omega arith)
+      | then-number-first_negative w ↦ w.values-is
+          ∙ read_plain b c.requires.image h c.requires.sizes c.loop-at.values c.numbers_place-place.result c.width-width.result c.loop-at.at c.number-number.result c.numbers_place-place.ensures c.width-width.ensures.value c.loop-at-test.true c.number-number.ensures.value c.loop-at.invariant (let n = c.first_negative.ensures in let t = w.if-number-first_negative.true in omega arith)
+      | else-number-first_negative w ↦ w.values-is
+          ∙ read_void b c.requires.image h c.requires.sizes c.loop-at.values c.numbers_place-place.result c.width-width.result c.loop-at.at c.number-number.result c.numbers_place-place.ensures c.width-width.ensures.value c.loop-at-test.true c.number-number.ensures.value c.loop-at.invariant (let n = c.first_negative.ensures in let t = w.if-number-first_negative.false in omega arith)
     ]
 
 pub returns : goal.returns

@@ -25,7 +25,8 @@ loop-at-preserved c =
     let b = c.args.bytes.now in
     let d = contents_in b in
     let at = c.loop-at.at in
-    let none : text_piece (of_kind d Text at) ≡ [] = ((offset_tells (names_in b) d c.requires.image.imaged at).absent (sym (offset_found c.args.bytes.now c.requires.image c.args.header.now c.requires.sizes c.offsets_place-place.result c.loop-at.at c.word-offset.result c.offsets_place-place.ensures c.loop-at-test.true c.word-offset.ensures.value) ∙ c.if-offset-ne-ABSENT.false)).1 in
+    let none : text_piece (of_kind d Text at) ≡ [] =
+    ((offset_tells (names_in b) d c.requires.image.imaged at).absent (sym (offset_found c.args.bytes.now c.requires.image c.args.header.now c.requires.sizes c.offsets_place-place.result c.loop-at.at c.word-offset.result c.offsets_place-place.ensures c.loop-at-test.true c.word-offset.ensures.value) ∙ c.if-offset-ne-ABSENT.false)).1 in
     ap (λ (t : List ℕ). length t) (texts-more d at ∙ ap (λ t. texts_below d at ++ t) none ∙ append-nil (texts_below d at)) ∙ c.loop-at.invariant
 
 pub returns : goal.returns

@@ -1,4 +1,4 @@
-use Rattle.std.proofs.Common.{◌≡◌, ◌≤◌, List, ℕ, length, sym, ap, ◌∙◌, subst}
+use Rattle.std.proofs.Common.{◌≤◌, List, ℕ, length, sym, ap, ◌∙◌, subst}
 use Rattle.ti_layout.specs.Image.{image_limit}
 use Rattle.ti_compiled.specs.Image.{NamedTable, bytes_of, held_by}
 use Rattle.ti_compiled.specs.inside.Image.{contents_in}
