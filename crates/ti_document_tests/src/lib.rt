@@ -1,7 +1,10 @@
-//! The worked rows of documents, as tests; no code of the product.
+//! The worked rows of sources and documents, as tests; no code of the product.
 //!
+//! - `sources`: the line of the first block, why a source is refused, a database of its blocks
 //! - `places`: offsets and places, and parts of a text exchanged
 #![tactic(auto)]
 
 #[cfg(test)]
 mod places;
+#[cfg(test)]
+mod sources;
