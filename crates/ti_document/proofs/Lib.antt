@@ -1,1 +1,9 @@
+pub mod FaultLines
+pub mod Fitting
+pub mod HeldTexts
+pub mod ListEdits
+pub mod PartsExchanged
 pub mod Places
+pub mod ShownDetails
+pub mod SmallExchanges
+pub mod TextLists

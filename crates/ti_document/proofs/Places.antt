@@ -1,12 +1,13 @@
 -- That places and offsets are inverse at the start of a character, and how both are found step by
 -- step.
-use Rattle.std.proofs.Common.{◌≡◌, ◌⊎◌, ℕ, suc, zero, ◌+◌, ◌-◌, ◌<◌, ◌≤◌, ◌==◌, ◌||◌, ◌&&◌, not, Bool, true, false, List, [], ◌∷◌, drop, get_or, length, min, refl, sym, ap, subst, ◌∙◌, inl, inr, arith}
+use Rattle.std.proofs.Common.{◌≡◌, ◌⊎◌, ℕ, suc, zero, ◌+◌, ◌-◌, ◌<◌, ◌≤◌, ◌==◌, ◌&&◌, not, true, false, List, [], ◌∷◌, ◌++◌, drop, get_or, length, min, take, refl, sym, ap, subst, ◌∙◌, inl, inr, arith}
 use Rattle.std.specs.Prelude.{nat_lt}
-use Rattle.std.proofs.lemmas.Bool.{and_parts, cases_Bool, cases_lt, eqb-true, eqb-false, eq-eqb, le-ltb, lt-ltb, ltb-true, ne_eqb, not-true}
-use Rattle.std.proofs.lemmas.List.{drop_all, drop_more}
+use Rattle.std.proofs.lemmas.Bool.{and_parts, cases_Bool, cases_lt, le-ltb, lt-ltb, ltb-true, ne_eqb, not-true}
+use Rattle.std.proofs.lemmas.List.{append_assoc, drop_all, drop_more, take_more}
 use Rattle.std.proofs.Math.Nat.{le-min}
-use Rattle.ti_document.specs.Position.{PositionsAreInverse, begins_with_newline, column_offset, ends_line, is_start, line_start, lines_left, offset_of, place_after, position_of, step_over, units}
-use Rattle.ti_document.specs.declared.position.Position.{Position}
+use Rattle.ti_document.specs.LineTexts.{until_end}
+use Rattle.ti_document.specs.Position.{PositionsAreInverse, begins_with_newline, column_offset, ends_line, is_start, line_start, lines_left, place_after, position_of, step_over, units}
+use Rattle.ti_messages.specs.declared.places.Position.{Position}
 
 pub line_start-zero : (text : List ℕ) → line_start text 0 ≡ 0
 line_start-zero [] = refl
@@ -180,3 +181,19 @@ place_end text place i offset past =
       ]
       | inr past_end ↦ ap (λ t. place_after place t (offset - i)) (drop_all i text past_end)
     ]
+
+-- ---- the first line, step by step
+
+until_end-inside : (byte : ℕ) (bytes : List ℕ) → ends_line (byte ∷ bytes) ≡ false → until_end (byte ∷ bytes) ≡ byte ∷ until_end bytes
+until_end-inside byte bytes inside = rw inside
+
+pub until_end_next : (text : List ℕ) (i : ℕ) → i < length text → ends_line (drop i text) ≡ false → take i text ++ until_end (drop i text) ≡ until_end text
+    → take (i + 1) text ++ until_end (drop (i + 1) text) ≡ until_end text
+until_end_next text i within inside e =
+    let byte = get_or text i 0 in
+    let rest = drop (i + 1) text in
+    let head = drop_more text i 0 within in
+    let plain : ends_line (byte ∷ rest) ≡ false = ap ends_line (sym head) ∙ inside in
+    let next : until_end (byte ∷ rest) ≡ byte ∷ until_end rest = until_end-inside byte rest plain in
+    ap (λ t. t ++ until_end rest) (take_more text i 0 within) ∙ append_assoc (take i text) (byte ∷ []) (until_end rest)
+    ∙ ap (λ t. take i text ++ t) (sym next ∙ ap until_end (sym head)) ∙ e

@@ -1,3 +1,9 @@
 -- The definitions that the contracts of this crate cite.
 pub mod Position
 pub mod Splicing
+pub mod LineTexts
+pub mod Exchanges
+pub mod Documents
+pub mod Advice
+pub mod Diagnostics
+pub mod inside

@@ -2,7 +2,7 @@
 -- columns in UTF-16 units. A line ends with LF or CR LF; that a lone CR ends none is own.
 use Rattle.std.specs.Prelude.{ℕ, suc, zero, ◌≡◌, ◌+◌, ◌-◌, ◌≤◌, ◌==◌, ◌&&◌, ◌||◌, not, nat_lt, Bool, true, false, List, [], ◌∷◌, drop, length, if◌then◌else◌}
 use Rattle.ti_text.specs.Ascii as ascii
-use Rattle.ti_document.specs.declared.position.Position.{Position}
+use Rattle.ti_messages.specs.declared.places.Position.{Position}
 
 -- the UTF-16 units of the character that begins with a byte of UTF-8; none for a byte within a
 -- character

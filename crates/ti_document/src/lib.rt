@@ -1,12 +1,27 @@
-//! A text as an editor holds it: places in it as the Language Server Protocol counts them, and
-//! parts of it exchanged.
+//! A terminfo source as an editor holds it: a text that is exchanged, places in it as the Language
+//! Server Protocol counts them, and what is wrong with it, told with the place and with advice.
 //!
 //! - `position`: places in a text by lines and UTF-16 columns
 //! - `splicing`: a text with a part of it exchanged
+//! - `lines`: a line of a text, and what of it is shown as faulty
+//! - `cut`: what two lists of blocks have in common at their ends
+//! - `exchanging`: the edits that make the blocks of one text those of another
+//! - `document`: a text with a database of its blocks
+//! - `advice`: what each fault means, and what to do about it
+//! - `diagnostics`: the faults of a document, with their places
 #![tactic(auto)]
 
+mod advice;
+mod cut;
+mod diagnostics;
+mod document;
+mod exchanging;
+mod lines;
 mod position;
 mod splicing;
 
-pub use position::{Position, offset_of, position_of, positions_are_inverse};
+pub use diagnostics::{Diagnostic, Problem};
+pub use document::Document;
+pub use exchanging::one_change_is_one_edit;
+pub use position::{offset_of, position_of, positions_are_inverse};
 pub use splicing::spliced;

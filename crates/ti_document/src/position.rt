@@ -1,20 +1,12 @@
 //! Places in a text as the Language Server Protocol 3.17 counts them: lines from 0, and columns in
-//! UTF-16 units.
+//! UTF-16 units. A line ends with LF, or with CR LF, whose CR is no column. A lone CR ends none.
 ghost use Rattle.std.specs.Prelude.{◌≡◌, ◌+◌, ◌*◌, ◌^◌, ◌<◌, ◌≤◌, length};
 ghost use Rattle.ti_document.specs.Position as spec;
 
-/// A place in a text. A line ends with LF, or with CR LF, whose CR is no column. A lone CR ends
-/// none.
-#[derive(Clone, Copy, Debug, PartialEq, Eq)]
-pub struct Position {
-    /// The number of the line, from 0.
-    pub line: usize,
-    /// How many UTF-16 units of the line are before the place.
-    pub column: usize,
-}
+use ti_messages::Position;
 
 // The UTF-16 units of the character that begins with the byte; none for a byte within a character.
-fn units(byte: u8) -> usize
+pub(crate) fn units(byte: u8) -> usize
     ensures units { result ≡ spec.units byte }
     ensures few { result ≤ 2 }
 {
@@ -30,7 +22,7 @@ fn units(byte: u8) -> usize
 }
 
 // Whether a line ends where the text begins.
-fn ends_line(text: &[u8]) -> bool
+pub(crate) fn ends_line(text: &[u8]) -> bool
     ensures { result ≡ spec.ends_line text.now }
 {
     matches!(text, [] | [b'\n', ..] | [b'\r', b'\n', ..])
@@ -47,9 +39,9 @@ fn lines_left(left: usize, byte: u8) -> usize
     }
 }
 
-// The offset at which the line of that number begins; the length of the text if it has no such
-// line.
-fn line_start(text: &[u8], line: usize) -> usize
+/// The offset at which the line of that number begins; the length of the text if it has no such
+/// line.
+pub(crate) fn line_start(text: &[u8], line: usize) -> usize
     ensures start { result ≡ spec.line_start text.now line }
     ensures within { result ≤ length text.now }
 {

@@ -2,8 +2,14 @@
 //!
 //! - `sources`: the line of the first block, why a source is refused, a database of its blocks
 //! - `places`: offsets and places, and parts of a text exchanged
+//! - `documents`: a text that is exchanged, and how many edits that takes
+//! - `diagnostics`: what is wrong with a text, and where
 #![tactic(auto)]
 
+#[cfg(test)]
+mod diagnostics;
+#[cfg(test)]
+mod documents;
 #[cfg(test)]
 mod places;
 #[cfg(test)]

@@ -1,7 +1,8 @@
 //! Offsets and places, and parts of a text exchanged.
 use std::alloc::AllocError;
 use std::process::Abort;
-use ti_document::{Position, offset_of, position_of, spliced};
+use ti_document::{offset_of, position_of, spliced};
+use ti_messages::Position;
 
 /// The text that the rows are in: letters of one, two, three and four bytes, LF, CR LF, a lone CR
 /// and an open last line.

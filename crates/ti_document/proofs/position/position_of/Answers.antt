@@ -1,4 +1,4 @@
-use Rattle.std.proofs.Common.{◌≡◌, ◌<◌, ◌≤◌, min, ap, arith, drop, length, sym, ◌∙◌, ◌+◌, ◌-◌}
+use Rattle.std.proofs.Common.{◌<◌, ◌≤◌, min, ap, arith, drop, length, sym, ◌∙◌, ◌+◌, ◌-◌}
 use Rattle.std.proofs.lemmas.List.{take_rest}
 use Rattle.std.proofs.Math.Nat.{min-le_left, min-le_right}
 use Rattle.ti_document.specs.Position.{place_after, step_over}
