@@ -107,7 +107,8 @@ fn exchange_all(alloc: Global, database: &mut Database, ended: &[u8]) -> Result<
     exchange(database, &texts, front, back)
 }
 
-// The same, except that a source that is refused has no blocks.
+// Makes the blocks of a database those of a text whose last line is ended, or none if the source is
+// refused, and gives the number of edits.
 fn change_to(alloc: Global, database: &mut Database, ended: &[u8]) -> Result<usize, EditError>
     requires { last_byte ascii.newline ended.now ≡ ascii.newline }
     ensures held { OnOk result (database.new ≡ held ended.now) }
@@ -124,7 +125,8 @@ fn change_to(alloc: Global, database: &mut Database, ended: &[u8]) -> Result<usi
     }
 }
 
-// The same of any text, which stays.
+// Makes the blocks of a database those of a text, or none if the source is refused, and gives the
+// number of edits. The text stays as it is.
 fn change_to_text(
     alloc: Global,
     database: &mut Database,
