@@ -1,2 +1,4 @@
+pub mod Floats
 pub mod Places
+pub mod Serves
 pub mod Shown

@@ -1,12 +1,14 @@
--- What is shown for a URI after a message is the document that is open under it, if it was so before.
+-- What is shown for a URI after a message is the document that is open under it, if it was so
+-- before.
 use Rattle.std.proofs.Common.{ℕ, ◌≡◌, List, [], ◌∷◌, ◌++◌, Bool, true, false, cond, not, Option, None, Some, option_map, refl, sym, ap, subst, ◌∙◌}
 use Rattle.std.specs.Option.{option_to_list}
 use Rattle.std.specs.Str.{bytes_eq}
 use Rattle.std.proofs.lemmas.Slice.Eq.{bytes_eq-Decides}
 use Rattle.serde_json.specs.Data.{Data}
-use Rattle.ti_messages.specs.Messages.{Asked, initialize, shutdown, unknown, Meaning, request, notification, response, faulty, Told, exited, opened, changed, closed, nothing}
+use Rattle.ti_messages.specs.Messages.{Asked, initialize, shutdown, unknown, Meaning, message_of, request, notification, response, faulty, Told, exited, opened, changed, closed, nothing}
 use Rattle.ti_server.specs.Runs.{answers_to, last_shown, shown_by, state_after, OpenDocumentsAreShown}
-use Rattle.ti_server.specs.Steps.{Answer, shown, cleared, Open, Places, State, at_start, open_at, requested, requested_fresh, requested_running, step, told, told_in, with_change, with_document, with_edits, without}
+use Rattle.ti_server.specs.Serving.{ServedDocumentsAreShown, replies_to, served_state}
+use Rattle.ti_server.specs.Steps.{Answer, shown, cleared, Open, Places, State, at_start, open_at, requested, requested_fresh, requested_running, replied, step, told, told_in, with_change, with_document, with_edits, without}
 use Rattle.ti_server.specs.declared.phase.Phase.{Phase}
 use Rattle.ti_server.specs.declared.phase.Phase.TheVariants.{Fresh, Running, Finished, Ended}
 
@@ -192,3 +194,19 @@ shown_through places uri state (message ∷ messages) =
 
 pub all_shown : OpenDocumentsAreShown
 all_shown places messages uri = shown_through places uri at_start messages
+
+-- ---- runs of frames
+
+shown_replied : (places : Places) (uri : List ℕ) (state : State) (value : Option Data) → shown_after uri (open_at uri state.documents) (replied places state value).1 ≡ open_at uri (replied places state value).0.documents
+shown_replied places uri state None = refl
+shown_replied places uri state (Some value) = shown_step places uri state (message_of value)
+
+shown_served : (places : Places) (uri : List ℕ) (state : State) (values : List (Option Data)) → last_shown uri (open_at uri state.documents) (replies_to places state values) ≡ open_at uri (served_state places state values).documents
+shown_served places uri state [] = refl
+shown_served places uri state (value ∷ values) =
+    last_shown-more uri (open_at uri state.documents) (replied places state value).1 (replies_to places (replied places state value).0 values)
+    ∙ (ap (λ (before : Option Open). last_shown uri before (replies_to places (replied places state value).0 values)) (shown_replied places uri state value)
+    ∙ shown_served places uri (replied places state value).0 values)
+
+pub all_served_shown : ServedDocumentsAreShown
+all_served_shown places values uri = shown_served places uri at_start values

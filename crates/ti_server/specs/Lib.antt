@@ -2,5 +2,6 @@
 pub mod Steps
 pub mod Answers
 pub mod Runs
+pub mod Serving
 pub mod States
 pub mod inside

@@ -29,7 +29,8 @@ abbrev pub last_shown : List ℕ → Option Open → List Answer → Option Open
 last_shown uri before [] = before
 last_shown uri before (answer ∷ answers) = last_shown uri (shown_by uri before answer) answers
 
--- after any messages, what is shown for a URI is the text and version of the document that is open under it
+-- after any messages, what is shown for a URI is the text and version of the document that is open
+-- under it
 abbrev pub OpenDocumentsAreShown : Type 0
 OpenDocumentsAreShown =
     (places : Places) (messages : List Meaning) (uri : List ℕ)

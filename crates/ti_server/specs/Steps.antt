@@ -1,4 +1,5 @@
--- What the server does with a message (LSP 3.17, "Server lifecycle" and "Text Document Synchronization").
+-- What the server does with a message (LSP 3.17, "Server lifecycle" and "Text Document
+-- Synchronization").
 use Rattle.std.specs.Prelude.{ℕ, ◌++◌, List, [], ◌∷◌, not, Option, None, Some, drop, max, option_map, take, if◌then◌else◌}
 use Rattle.std.specs.List.{filter}
 use Rattle.std.specs.Str.{bytes_eq}
@@ -21,8 +22,8 @@ pub record State : Type 0 where
   pub phase : Phase
   pub documents : List Open
 
--- what is sent: that the server is ready, or will end, or why a request is refused; the diagnostics of a document, or
--- none of one that was closed
+-- what is sent: that the server is ready, or will end, or why a request is refused; the diagnostics
+-- of a document, or none of one that was closed
 pub data Answer : Type 0 where
   ready : Data → Answer
   done : Data → Answer
@@ -58,7 +59,8 @@ requested (Ended status) id asked = (Ended status, refused (Some id) NoRequest)
 abbrev pub Places : Type 0
 Places = List ℕ → Position → ℕ
 
--- a text whose bytes from `start` to before `end` are exchanged; an end before the start is the start
+-- a text whose bytes from `start` to before `end` are exchanged; an end before the start is the
+-- start
 abbrev pub with_part : List ℕ → ℕ → ℕ → List ℕ → List ℕ
 with_part text start end new = take start text ++ new ++ drop (max start end) text
 

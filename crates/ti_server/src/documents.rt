@@ -108,7 +108,8 @@ fn change_one<D: Source>(
     show(alloc, document.uri.as_str(), version, &document.source)
 }
 
-/// Changes the text of a document. The answer is what is published of it, or `None` if it is not open.
+/// Changes the text of a document. The answer is what is published of it, or `None` if it is not
+/// open.
 ///
 /// # Errors
 /// Out of memory.
@@ -138,7 +139,8 @@ fn remove<D: Source + Drop>(documents: &mut Vec<Opened<D>>, uri: &str)
     documents.retain(|document| document.uri.as_str() != uri);
 }
 
-/// Closes a document. The answer is that nothing is shown of it any more, or `None` if it is not open.
+/// Closes a document. The answer is that nothing is shown of it any more, or `None` if it is not
+/// open.
 ///
 /// # Errors
 /// Out of memory.

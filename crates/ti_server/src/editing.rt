@@ -7,7 +7,8 @@ use crate::source::Source;
 use std::alloc::{AllocError, Global};
 use ti_messages::{Change, Range};
 
-// A text whose bytes from `start` to before `end` are exchanged. An end before the start is the start.
+// A text whose bytes from `start` to before `end` are exchanged. An end before the start is the
+// start.
 fn with_part(
     alloc: Global,
     text: &[u8],

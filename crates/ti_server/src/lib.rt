@@ -4,8 +4,8 @@
 //! - `source`: what a text has to offer that is open in an editor
 //! - `phase`: how far the server has come; `requests` answers requests by it
 //! - `documents`: the documents that are open; `editing` changes the text of one
-//! - `server`: the state, changed by a message; `serving` answers frames by it; `runs` has the law on
-//!   whole runs
+//! - `server`: the state, changed by a message; `serving` answers frames by it; `runs` has the law
+//!   on whole runs
 //! - `descriptions`: what each capability is, in a sentence
 #![tactic(auto)]
 

@@ -37,7 +37,7 @@ fn answer_fresh(alloc: Global, id: &Value, call: &Call) -> Result<(Phase, Value)
     }
 }
 
-// The same after it.
+// What becomes of the phase, and the answer, between `initialize` and `shutdown`.
 fn answer_running(alloc: Global, id: &Value, call: &Call) -> Result<(Phase, Value), AllocError>
     ensures { IfOk result (λ r. IsAnswer r (requested_running (view id.now) (asked_view call.now))) }
 {

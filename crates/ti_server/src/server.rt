@@ -68,7 +68,8 @@ fn tell<D: Source + Drop>(
     }
 }
 
-// The same while the server runs, else nothing.
+// Tells the documents of a notification while the server runs; before and after that, nothing. The
+// answer is what is published.
 fn tell_in<D: Source + Drop>(
     alloc: Global,
     phase: Phase,
@@ -130,8 +131,8 @@ impl<D: Source + Drop> Server<D> {
         }
     }
 
-    /// Takes the value of a body, or `None` for a body that is no JSON or too long. The answer is what is to
-    /// be sent, if something is.
+    /// Takes the value of a body, or `None` for a body that is no JSON or too long. The answer is
+    /// what is to be sent, if something is.
     ///
     /// # Errors
     /// Out of memory. Nothing is known of the server after that.

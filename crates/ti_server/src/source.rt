@@ -5,9 +5,10 @@ use ti_messages::Position;
 
 /// A text with what is wrong with it.
 pub trait Source {
-    ghost use Rattle.std.specs.Prelude.{◌≡◌, ◌≤◌, ℕ, List, IfOk, OnOk, length};
+    ghost use Rattle.std.specs.Prelude.{◌≡◌, ◌≤◌, ℕ, List, IfOk, OnOk, false, length};
     ghost use Rattle.serde_json.specs.Data.{Items};
     ghost use Rattle.serde_json.specs.View.{items_view};
+    ghost use Rattle.serde_json.specs.Written.{items_have_float};
     ghost use Rattle.ti_messages.specs.declared.places.Position.{Position};
 
     // The text.
@@ -50,4 +51,7 @@ pub trait Source {
     /// Out of memory.
     fn diagnostics(&self, alloc: Global) -> Result<Vec<Value>, AllocError>
         ensures { IfOk result (λ values. items_view values.items ≡ diagnostics_of (text_of self.now)) };
+
+    // A law: no diagnostic has a float, whose text would not be known.
+    ghost no_floats: { (text : List ℕ) → items_have_float (diagnostics_of text) ≡ false };
 }
