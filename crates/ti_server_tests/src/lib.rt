@@ -1,7 +1,19 @@
-//! The descriptions of the language server as tests; no code of the product.
+//! The language server's frames, messages and descriptions as tests, with bytes by hand from the
+//! protocol; no code of the product.
 //!
 //! - `descriptions`: each capability has one, and some are these
+//! - `frames`: headers and bodies, read and written
+//! - `values`: the values that are sent
+//! - `measured`: a source for tests; `sessions` has runs of frames over it, with what is written
 #![tactic(auto)]
 
 #[cfg(test)]
 mod descriptions;
+#[cfg(test)]
+mod frames;
+#[cfg(test)]
+mod measured;
+#[cfg(test)]
+mod sessions;
+#[cfg(test)]
+mod values;

@@ -1,0 +1,95 @@
+//! The values that are sent, as the protocol has them.
+use serde_json::Value;
+use std::process::Abort;
+use std::test::Fail;
+use ti_messages::writing::{
+    Severity, diagnostic_value, initialized_value, position_value, publish_value, range_value,
+    refusal_value, response_value,
+};
+use ti_messages::{Failure, Message, Notice, Position, Range, parse, read_message};
+
+const RANGE: Range = Range {
+    start: Position { line: 2, column: 1 },
+    end: Position { line: 3, column: 0 },
+};
+
+const POSITION_TEXT: &str = r#"{"character":1,"line":2}"#;
+
+const RANGE_TEXT: &str = r#"{"end":{"character":0,"line":3},"start":{"character":1,"line":2}}"#;
+
+const DIAGNOSTIC_TEXT: &str =
+    r#"{"code":"E3","message":"m \"q\"","range":{"end":{"character":0,"line":3},"start":{"character":1,"line":2}},"severity":1,"source":"ti"}"#;
+
+const WARNING_TEXT: &str =
+    r#"{"code":"W1","message":"","range":{"end":{"character":0,"line":3},"start":{"character":1,"line":2}},"severity":2,"source":"ti"}"#;
+
+#[test]
+fn places_and_diagnostics(rt: HostRuntime) -> Result<(), Fail> {
+    let alloc = rt.alloc();
+    let place = position_value(alloc, RANGE.start)?.to_string(alloc)?;
+    assert!(rt; place.as_str() == POSITION_TEXT);
+    let range = range_value(alloc, RANGE)?.to_string(alloc)?;
+    assert!(rt; range.as_str() == RANGE_TEXT);
+    let error = diagnostic_value(alloc, RANGE, Severity::Error, "E3", "m \"q\"")?;
+    assert!(rt; error.to_string(alloc)?.as_str() == DIAGNOSTIC_TEXT);
+    let warning = diagnostic_value(alloc, RANGE, Severity::Warning, "W1", "")?;
+    assert!(rt; warning.to_string(alloc)?.as_str() == WARNING_TEXT);
+    Ok(())
+}
+
+const PUBLISHED: &str =
+    r#"{"jsonrpc":"2.0","method":"textDocument/publishDiagnostics","params":{"diagnostics":[],"uri":"file:///a%20b.ti","version":0}}"#;
+
+const RESPONSE: &str = r#"{"id":null,"jsonrpc":"2.0","result":true}"#;
+
+const REFUSAL: &str =
+    r#"{"error":{"code":-32602,"message":"the parameters are not those of the method"},"id":true,"jsonrpc":"2.0"}"#;
+
+const READY: &str =
+    r#"{"capabilities":{"positionEncoding":"utf-16","textDocumentSync":{"change":2,"openClose":true}},"serverInfo":{"name":"ti-lsp","version":"9"}}"#;
+
+#[test]
+fn messages(rt: HostRuntime) -> Result<(), Fail> {
+    let alloc = rt.alloc();
+    let published = publish_value(alloc, "file:///a%20b.ti", Some(0), Vec::new(alloc))?;
+    assert!(rt; published.to_string(alloc)?.as_str() == PUBLISHED);
+    let response = response_value(alloc, &Value::Null, Value::Bool(true))?;
+    assert!(rt; response.to_string(alloc)?.as_str() == RESPONSE);
+    let id = Value::Bool(true);
+    let refusal = refusal_value(alloc, Some(&id), Failure::BadParameters)?;
+    assert!(rt; refusal.to_string(alloc)?.as_str() == REFUSAL);
+    let ready = initialized_value(alloc, "9")?;
+    assert!(rt; ready.to_string(alloc)?.as_str() == READY);
+    Ok(())
+}
+
+// JSON-RPC 2.0, section 5.1, and "ErrorCodes" of the protocol.
+const CODES: [(Failure, i32); 5] = [
+    (Failure::NoJson, -32700),
+    (Failure::NoRequest, -32600),
+    (Failure::NoMethod, -32601),
+    (Failure::BadParameters, -32602),
+    (Failure::NotInitialized, -32002),
+];
+
+#[test]
+fn failures_have_their_codes(rt: HostRuntime) {
+    for (failure, code) in CODES {
+        assert_eq!(rt; failure.code(), code);
+        assert!(rt; !failure.sentence().is_empty());
+    }
+}
+
+#[test]
+fn a_message_is_read(rt: HostRuntime) -> Result<(), Fail> {
+    let alloc = rt.alloc();
+    let text =
+        b"{\"method\":\"textDocument/didClose\",\"params\":{\"textDocument\":{\"uri\":\"u\"}}}";
+    let value = parse(alloc, text)?.ok_or("no JSON")?;
+    match read_message(alloc, &value)? {
+        Message::Notification(Notice::Closed { uri }) => assert!(rt; uri == "u"),
+        _ => assert!(rt; false),
+    }
+    assert!(rt; parse(alloc, b"\xff")?.is_none());
+    Ok(())
+}
