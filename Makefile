@@ -8,10 +8,12 @@
 #   make hostile    malicious inputs of full size, and 20,000 made at random
 #   make wrong-bodies   the further wrong bodies, which the prover must refuse too
 #   make library    builds the C library: libti.a, libti.so.1 and ti.pc
+#   make lsp        builds the language server, ti-lsp
 #   make bench      compares counts and times of the tools with ncurses's, and edits of long lists
 #   make install    puts the program, its pages, completions and examples below
 #                   DESTDIR and PREFIX (which is /usr/local); with TOOLS=1 also
-#                   ti-tic, ti-infocmp and ti-tput; the C library too, if it is made
+#                   ti-tic, ti-infocmp and ti-tput; the C library and the language server
+#                   too, if they are made
 #   make install-library   the C library alone, with its header and page, into
 #                   LIBDIR and INCLUDEDIR
 #   make uninstall  takes all of that away again
@@ -32,6 +34,7 @@ INCLUDEDIR ?= $(PREFIX)/include
 VERSION := $(shell cat VERSION)
 
 PROGRAM = crates/ti/out/ti
+LSP = crates/ti_lsp/out/ti_lsp
 EXAMPLES = $(wildcard examples/*)
 PAGES = man/ti.1 man/ti-tic.1 man/ti-infocmp.1 man/ti-tput.1 man/ti-session.1 man/ti-report.7
 TOOL_NAMES = ti-tic ti-infocmp ti-tput
@@ -40,7 +43,7 @@ LIBRARY_FILES = $(INCLUDEDIR)/ti.h $(LIBDIR)/libti.a $(LIBDIR)/libti.so.1 $(LIBD
 	$(LIBDIR)/pkgconfig/ti.pc $(MANDIR)/man3/ti.3
 PC_VALUES = -e 's|@PREFIX@|$(PREFIX)|' -e 's|@LIBDIR@|$(LIBDIR)|' -e 's|@INCLUDEDIR@|$(INCLUDEDIR)|'
 
-.PHONY: all test cli integration package hostile wrong-bodies library bench
+.PHONY: all test cli integration package hostile wrong-bodies library lsp bench
 .PHONY: install install-library uninstall uninstall-library dist deb release reproduce
 
 all:
@@ -52,13 +55,13 @@ test:
 cli: all
 	python3 tests/cli/run.py
 
-integration: all
+integration: all lsp
 	python3 tests/integration/run.py
 
 package: all
 	python3 tests/package/run.py
 
-hostile: all
+hostile: all lsp
 	python3 build/build.py ti_probe
 	python3 tests/hostile/run.py --all
 
@@ -68,6 +71,9 @@ wrong-bodies:
 library:
 	python3 build/library.py
 	sed $(PC_VALUES) include/ti.pc.in >$(LIBRARY)/ti.pc
+
+lsp:
+	python3 build/build.py ti_lsp
 
 bench: all
 	python3 build/build.py ti_bench
@@ -95,6 +101,10 @@ ifeq ($(TOOLS),1)
 	done
 endif
 	if test -f $(LIBRARY)/libti.a; then $(MAKE) -s install-library; fi
+	if test -x $(LSP); then \
+		install -m 755 $(LSP) "$(DESTDIR)$(BINDIR)/ti-lsp" && \
+		install -m 644 man/ti-lsp.1 "$(DESTDIR)$(MANDIR)/man1/ti-lsp.1"; \
+	fi
 
 install-library:
 	test -f $(LIBRARY)/libti.a || $(MAKE) library
@@ -108,7 +118,7 @@ install-library:
 	install -m 644 man/ti.3 "$(DESTDIR)$(MANDIR)/man3/ti.3"
 
 uninstall: uninstall-library
-	rm -f "$(DESTDIR)$(BINDIR)/ti"
+	rm -f "$(DESTDIR)$(BINDIR)/ti" "$(DESTDIR)$(BINDIR)/ti-lsp" "$(DESTDIR)$(MANDIR)/man1/ti-lsp.1"
 	for page in $(PAGES); do \
 		rm -f "$(DESTDIR)$(MANDIR)/man$${page##*.}/$${page##*/}"; \
 	done

@@ -1,8 +1,8 @@
-"""Cases that are runs of the built program `ti`: each is a directory of files.
+"""Cases that are runs of the built program `ti`, or of `ti-lsp`, each a directory of files.
 
     args      the words after `ti`, one a line
-    run       in place of args, a command that sh runs with `ti` on PATH: it lays
-              out what `before` cannot, as a link or a FIFO, and then runs `ti`
+    run       in place of args, a command that sh runs with `ti` on PATH, and `ti-lsp` if it
+              is built: it lays out what `before` cannot, as a link or a FIFO, and then runs `ti`
     env       NAME=VALUE a line; apart from these only PATH is set
     stdin     what standard input holds (none: nothing)
     data/     the files that lie in the directory that it runs in
@@ -39,7 +39,7 @@ import subprocess
 import sys
 import tempfile
 
-from common import PROGRAM, TOP, Tally, bytes_of, files_below, is_missing, lines_of
+from common import LSP, PROGRAM, TOP, Tally, bytes_of, files_below, is_missing, lines_of
 
 SECONDS = 120
 SHOWN = 400
@@ -76,6 +76,8 @@ class Case:
         # the directories above the program may be closed to others
         place = shutil.copy if self.has("as-nobody") else os.symlink
         place(PROGRAM, os.path.join(self.tools, "ti"))
+        if os.access(LSP, os.X_OK):
+            place(LSP, os.path.join(self.tools, "ti-lsp"))
         if not self.has("before"):
             return None
         done = self.shell(self.bytes("before"))

@@ -19,6 +19,7 @@ def program_of(crate):
 
 
 PROGRAM = program_of("ti")
+LSP = program_of("ti_lsp")
 
 
 def need(program):

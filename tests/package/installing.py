@@ -6,7 +6,7 @@ import subprocess
 import tarfile
 import tempfile
 
-from shared import PAGES, TOP, Skipped, files_below, need, output
+from shared import HAS_LSP, INSTALLED_PAGES, TOP, Skipped, files_below, need, output
 
 
 def check_install():
@@ -21,7 +21,8 @@ def check_install():
         wanted = ["usr/bin/ti", "usr/bin/ti-infocmp", "usr/bin/ti-tic", "usr/bin/ti-tput"]
         wanted += ["usr/share/bash-completion/completions/ti", "usr/share/fish/vendor_completions.d/ti.fish"]
         wanted += ["usr/share/zsh/site-functions/_ti", "usr/share/man/man7/ti-report.7"]
-        wanted += [f"usr/share/man/man1/{it}" for it in PAGES if it.endswith(".1")]
+        wanted += [f"usr/share/man/man1/{it}" for it in INSTALLED_PAGES if it.endswith(".1")]
+        wanted += ["usr/bin/ti-lsp"] if HAS_LSP else []
         wanted += [f"usr/share/doc/ti/examples/{it}" for it in os.listdir(os.path.join(TOP, "examples"))]
         for name in sorted(set(wanted) - set(installed)):
             yield f"make install puts no {name}"

@@ -7,7 +7,7 @@ import shutil
 import subprocess
 import tempfile
 
-from shared import PAGES, TOP, Skipped, files_below, need, output, text_of, ti
+from shared import INSTALLED_PAGES, TOP, Skipped, files_below, need, output, text_of, ti
 
 MAKER = os.path.join(TOP, "build", "packages.py")
 # what a user does with the program of a package, and what that prints
@@ -110,7 +110,7 @@ def check_deb():
             output(["dpkg-deb", "-x", os.path.join(made, name), unpacked])
             if name.startswith("ti_"):
                 pages = [it for it in files_below(unpacked) if "/man/man" in it]
-                if len(pages) != len(PAGES):
+                if len(pages) != len(INSTALLED_PAGES):
                     yield f"{name} has the pages {pages}"
                 yield from program_faults(name, unpacked, os.path.join(unpacked, "usr", "bin"))
         need("lintian")

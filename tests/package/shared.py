@@ -6,10 +6,13 @@ import sys
 
 HERE = os.path.dirname(os.path.abspath(__file__))
 sys.path.insert(0, os.path.dirname(HERE))
-from common import PROGRAM, TOP, Skipped, files_below, need, text_of  # noqa: E402, F401
+from common import LSP, PROGRAM, TOP, Skipped, files_below, need, text_of  # noqa: E402, F401
 
 TOOLS = ["tic", "infocmp", "tput", "session"]
-PAGES = ["ti.1", *(f"ti-{tool}.1" for tool in TOOLS), "ti-report.7"]
+PAGES = ["ti.1", *(f"ti-{tool}.1" for tool in TOOLS), "ti-lsp.1", "ti-report.7"]
+# the language server and its page are installed if it is built
+HAS_LSP = os.access(LSP, os.X_OK)
+INSTALLED_PAGES = [page for page in PAGES if HAS_LSP or page != "ti-lsp.1"]
 
 
 def output(words, stdin="", **more):

@@ -1,0 +1,4 @@
+-- The definitions that the contracts of this program cite.
+pub mod Command
+pub mod Floats
+pub mod Shown

@@ -1,0 +1,73 @@
+//! The command line of the program, by clap.
+ghost use Rattle.std.specs.Prelude.{◌≡◌, ◌≢◌, IfOk, map, true};
+ghost use Rattle.std.specs.String.{string_bytes};
+ghost use Rattle.clap.specs.Takes.{takes};
+ghost use Rattle.clap.specs.Words.{app_of, kind_of};
+ghost use Rattle.ti_lsp.specs.Command.{lsp_app};
+ghost use Rattle.ti_lsp.specs.declared.command.Task.TheVariants.{Serve};
+
+use clap::Command;
+use clap::error::ErrorKind;
+use std::alloc::{AllocError, Global};
+use ti_server::VERSION;
+
+// What the program is, in its help.
+const ABOUT: &str = "ti-lsp 1.0.0: a language server for terminfo source.";
+
+// What follows the options in the help.
+const NOTES: &str = "\
+An editor starts it, and speaks the Language Server Protocol 3.17 with it over
+standard input and output. It shows the faults that 'ti tic -c' reports.
+
+Exit status:
+  0  it was told to shut down, and then to exit
+  1  it was told to exit without that, the input or the output failed or ended,
+     or memory ran out
+  2  bad usage";
+
+/// What the words of a command line ask for.
+#[derive(Drop)]
+pub enum Task {
+    /// To serve.
+    Serve,
+    /// The text of the help or the version.
+    Text(String),
+    /// Nothing that the program does: what clap says of the words.
+    Refusal(String),
+}
+
+// The program's command line.
+fn command<'a>(alloc: Global) -> Command<'a>
+    ensures { app_of result ≡ lsp_app }
+{
+    Command::new(alloc, "ti-lsp")
+        .version(VERSION)
+        .about(ABOUT)
+        .after_help(NOTES)
+}
+
+// What clap says of words that it does not take.
+fn said(alloc: Global, error: &clap::error::Error) -> Result<Task, AllocError>
+    ensures { IfOk result (λ _. kind_of error.now ≢ ErrorKind.OutOfMemory) }
+{
+    match error.kind() {
+        ErrorKind::OutOfMemory => Err(AllocError),
+        ErrorKind::DisplayHelp | ErrorKind::DisplayVersion => {
+            Ok(Task::Text(format!(in alloc; "{error}")?))
+        }
+        _ => Ok(Task::Refusal(format!(in alloc; "{error}")?)),
+    }
+}
+
+/// What the words of a command line ask for. The first is the program's name.
+///
+/// # Errors
+/// Out of memory.
+pub fn asked(alloc: Global, words: &[String]) -> Result<Task, AllocError>
+    ensures { IfOk result (λ task. takes lsp_app (map string_bytes words.now) ≡ true → task ≡ Serve) }
+{
+    match command(alloc).try_get_matches_from(words) {
+        Ok(_) => Ok(Task::Serve),
+        Err(error) => said(alloc, &error),
+    }
+}

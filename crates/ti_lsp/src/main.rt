@@ -1,0 +1,60 @@
+//! The program `ti-lsp`: a language server for terminfo source, over standard input and output.
+//!
+//! - `command`: what the words of the command line ask for
+//! - `terminfo`: a source as the server holds and shows it
+#![tactic(auto)]
+
+mod command;
+mod terminfo;
+
+use crate::command::{Task, asked};
+use crate::terminfo::Terminfo;
+use std::process::ExitCode;
+use std::rt::Env;
+use std::{env, io};
+use ti_messages::FrameFault;
+use ti_server::{Server, serve};
+
+fn main(rt: HostRuntime) -> ExitCode {
+    ExitCode::from(run(&rt))
+}
+
+// Does what the command line asks for. The answer is the status of the process.
+fn run<R: Env + Input + Print + Eprint + AllocGlobal>(rt: &R) -> u8 {
+    let Ok(words) = words(rt) else {
+        return 1;
+    };
+    match asked(rt.alloc(), words.as_slice()) {
+        Ok(Task::Serve) => serve_input(rt),
+        Ok(Task::Text(text)) => match rt.print(text.as_str()) {
+            Ok(()) => 0,
+            Err(_) => 1,
+        },
+        Ok(Task::Refusal(text)) => {
+            let _ = rt.eprint(text.as_str());
+            2
+        }
+        Err(_) => 1,
+    }
+}
+
+// The words of the command line, the program's name first.
+fn words<R: Env + AllocGlobal>(rt: &R) -> io::Result<Vec<String>> {
+    Ok(env::args(rt)?.collect(rt.alloc())?)
+}
+
+// Answers what comes on standard input. The answer is the status of the process: 1 at a fault.
+fn serve_input<R: Input + Print + AllocGlobal>(rt: &R) -> u8 {
+    match serve_buffered(rt) {
+        Ok(status) => status,
+        Err(_) => 1,
+    }
+}
+
+// Answers what comes on standard input, read with a buffer.
+fn serve_buffered<R: Input + Print + AllocGlobal>(rt: &R) -> Result<u8, FrameFault> {
+    let mut server: Server<Terminfo> = Server::new(rt.alloc());
+    let mut reader = io::BufReader::new(rt.alloc(), rt.reader())?;
+    let mut writer = io::writer(rt);
+    serve(rt.alloc(), &mut server, &mut reader, &mut writer)
+}

@@ -1,0 +1,75 @@
+//! A terminfo source as the server holds and shows it.
+ghost use Rattle.std.specs.Prelude.{◌≡◌, IfOk, map};
+ghost use Rattle.serde_json.specs.View.{view};
+ghost use Rattle.ti_document.specs.Diagnostics.{diagnostic_seen};
+ghost use Rattle.ti_lsp.specs.Shown.{shown_data};
+
+use serde_json::Value;
+use std::alloc::{AllocError, Global};
+use ti_document::{Diagnostic, Document, offset_of};
+use ti_messages::Position;
+use ti_messages::writing::diagnostic_value;
+use ti_server::Source;
+
+/// A terminfo source.
+#[derive(Drop)]
+pub struct Terminfo {
+    document: Document,
+}
+
+// A diagnostic as a value of the protocol.
+fn value_of(alloc: Global, shown: &Diagnostic) -> Result<Value, AllocError>
+    ensures { IfOk result (λ v. view v ≡ shown_data (diagnostic_seen shown.now)) }
+{
+    let severity = shown.problem.severity();
+    let label = shown.problem.label();
+    diagnostic_value(alloc, shown.range, severity, label, shown.message.as_str())
+}
+
+// Diagnostics as values of the protocol.
+fn values_of(alloc: Global, all: &[Diagnostic]) -> Result<Vec<Value>, AllocError>
+    ensures { IfOk result (λ values. map view values.items ≡ map (λ d. shown_data (diagnostic_seen d)) all.now) }
+{
+    let mut values = Vec::new(alloc);
+    for shown in all {
+        values.push(value_of(alloc, shown)?)?;
+    }
+    Ok(values)
+}
+
+impl Source for Terminfo {
+    ghost use Rattle.ti_document.specs.Position.{offset_of as place_of};
+    ghost use Rattle.ti_lsp.specs.Floats.{shown_have_no_floats};
+    ghost use Rattle.ti_lsp.specs.Shown.{shown_of};
+
+    ghost text_of = { λ source. source.document };
+
+    ghost place_in = { place_of };
+
+    ghost diagnostics_of = { shown_of };
+
+    ghost no_floats = { λ text. shown_have_no_floats text };
+
+    fn open(alloc: Global, text: Vec<u8>) -> Result<Terminfo, AllocError> {
+        let document = Document::open(alloc, text)?;
+        Ok(Terminfo { document })
+    }
+
+    fn set(&mut self, text: Vec<u8>) -> Result<(), AllocError> {
+        self.document.set(text)?;
+        Ok(())
+    }
+
+    fn text(&self) -> &[u8] {
+        self.document.text()
+    }
+
+    fn offset_of(text: &[u8], place: Position) -> usize {
+        offset_of(text, place)
+    }
+
+    fn diagnostics(&self, alloc: Global) -> Result<Vec<Value>, AllocError> {
+        let all = self.document.diagnostics(alloc)?;
+        values_of(alloc, all.as_slice())
+    }
+}
