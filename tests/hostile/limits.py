@@ -13,6 +13,7 @@ from common import program_of  # noqa: E402
 
 PROGRAM = os.environ.get("TI_PROGRAM") or program_of("ti")
 PROBE = os.environ.get("TI_PROBE") or program_of("ti_probe")
+LSP = os.environ.get("TI_LSP") or program_of("ti_lsp")
 MEMORY_MAX = 2_000_000_000
 # of the processor
 SECONDS_MAX = 120
@@ -63,10 +64,10 @@ def run(words, given=b"", program=PROGRAM, env=None):
         return Done(**found, **texts)
 
 
-def quick(words, given=b"", env=None):
+def quick(words, given=b"", program=PROGRAM, env=None):
     """As `run` with no measure, for what is small: its status, what it wrote, and its errors."""
     done = subprocess.run(
-        [PROGRAM, *words], input=given, env=env or {}, stdout=subprocess.PIPE, stderr=subprocess.PIPE,
+        [program, *words], input=given, env=env or {}, stdout=subprocess.PIPE, stderr=subprocess.PIPE,
         timeout=SECONDS_MAX, check=False,
     )
     return done.returncode, done.stdout, done.stderr

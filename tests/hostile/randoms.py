@@ -8,6 +8,7 @@ import os
 import shutil
 import tempfile
 
+from documents import disordered, edited
 from generate import Source, fits_a_session, lines_of
 from limits import ROOM, quick
 from model.base import Database, Meaning, compile_source
@@ -138,7 +139,7 @@ def listing_fault(room, names, files):
     return None if (code, got, err) == (0, wanted, b"") else f"listings, status {code}: {first_difference(got, wanted)}"
 
 
-KINDS = {"edits": edits, "scripts": script, "sources": source}
+KINDS = {"edits": edits, "scripts": script, "sources": source, "documents": edited, "messages": disordered}
 
 
 def one(question):

@@ -21,10 +21,15 @@ import files  # noqa: F401, adds its inputs
 import inputs
 import limits
 import randoms
+import server  # noqa: F401, adds its inputs
 import squares  # noqa: F401, adds its inputs
 
-# how many of each kind are made at random: short, and with --all. A session of `edits` has 20 edits, so these are 2,000.
-COUNTS = {"edits": (100, 100), "scripts": (1_000, 12_000), "sources": (600, 8_000)}
+# how many of each kind are made at random: short, and with --all. A session of `edits` has 20 edits,
+# so these are 2,000; a run of `documents` too.
+COUNTS = {
+    "edits": (100, 100), "scripts": (1_000, 12_000), "sources": (600, 8_000), "documents": (100, 1_000),
+    "messages": (200, 2_000),
+}
 # how many of the faults of a kind are printed
 FAULTS_SHOWN = 10
 
@@ -58,7 +63,7 @@ def main():
     words.add_argument("--seed", type=int, default=None)
     words.add_argument("--only", default="")
     words = words.parse_args()
-    for program in (limits.PROGRAM, limits.PROBE):
+    for program in (limits.PROGRAM, limits.PROBE, limits.LSP):
         if not os.access(program, os.X_OK):
             print(f"{program} is not built")
             print("hostile: 0 passed, 1 failed")

@@ -8,4 +8,5 @@ It is slow and plain on purpose: every question is answered from the whole list 
     base      owners, expansion, faults, entries, the report, edits and their dependents
     session   the replies of a session; files, report and status of a compilation
     listing   listings, comparisons and relative source
+    server    what the language server answers, and the diagnostics of a text
 """

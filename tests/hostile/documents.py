@@ -1,0 +1,195 @@
+"""Documents edited at random, and messages in any order: what the language server sends must be what
+the model says, and its diagnostics those that `ti tic -c` reports of the same text.
+"""
+
+import copy
+import json
+import random
+
+from generate import Source
+from limits import LSP, quick
+from model.server import Server, agree, frames_in, seen
+
+EDITS_A_RUN = 20
+LETTERS = [
+    "é", "\u20ac", "\U0001d11e", "\U0001f600", "a", "\r", "\r\n", "\n", "\t", "", "x,", "use=a,", "\u2028", "\x85",
+]
+URIS = ["file:///a.ti", "file:///b%20c.ti", "u\U0001d11e"]
+METHODS = [
+    "initialize", "shutdown", "exit", "initialized", "textDocument/hover", "$/cancelRequest", "textDocument/didOpen",
+    "textDocument/didChange", "textDocument/didClose", "textDocument/didSave", "", "textDocument/didOpen\0", "Initialize",
+]
+ODD_VALUES = [
+    None, True, 0, -1, 2**31 - 1, 2**31, 2**32, 2**63, 2**64 - 1, 1.5, "", "file:///a.ti", "am", [], [1], {},
+    {"uri": "file:///a.ti"},
+]
+ODD_BODIES = [
+    b"", b" ", b"{", b"nul", b"[]", b"1", b'"\\ud800"', b'{"id":1,"method":"\\udc00\\ud834"}', b"\xff", b"{}{}",
+    b"[" * 128 + b"]" * 128, b"[" * 127 + b"]" * 127, b"NaN", b'{"a":1,}', b"\xef\xbb\xbf{}", b'{"id":"\\ud834\\udd1e"}',
+    b'"\x00"', b"[1", b"{}", b"tru", b"01", b"-",
+]
+
+
+def framed(body):
+    return b"Content-Length: %d\r\n\r\n" % len(body) + body
+
+
+def body_of(value):
+    """A text of a value, in UTF-8 or escaped."""
+    return json.dumps(value, ensure_ascii=False).encode("utf-8")
+
+
+def notification(method, params):
+    return {"jsonrpc": "2.0", "method": method, "params": params}
+
+
+INITIALIZE = {"jsonrpc": "2.0", "id": 0, "method": "initialize", "params": {"capabilities": {}}}
+
+
+class Editor:
+    """Makes the messages of an editor, with random numbers from a seed."""
+
+    def __init__(self, seed):
+        self.random, self.source = random.Random(seed), Source(seed)
+        self.texts, self.version = {}, 0
+
+    def one(self, choices):
+        return copy.deepcopy(self.random.choice(choices))
+
+    def text(self):
+        """A text: a source, whose bytes over 127 are letters of Latin-1, with other letters in it."""
+        text = self.source.source().decode("latin-1")
+        for _ in range(self.one([0, 0, 1, 3])):
+            at = self.random.randint(0, len(text))
+            text = text[:at] + self.one(LETTERS) + text[at:]
+        return text.replace("\n", "\r\n") if self.random.random() < 0.1 else text
+
+    def piece(self):
+        """A text for a part of a document."""
+        return self.one([lambda: "", lambda: self.one(LETTERS), lambda: self.source.block().decode("latin-1"),
+                         lambda: self.source.item().decode("latin-1") + ",", self.text])()
+
+    def place(self, text):
+        """A place in a text, or past an end."""
+        lines = text.split("\n")
+        line = self.random.randrange(len(lines))
+        column = self.random.randint(0, len(lines[line]) + 1)
+        if self.random.random() < 0.05:
+            line, column = self.one([line, len(lines), 2**31 - 1]), self.one([column, 2**31 - 1, 0])
+        return {"line": line, "character": column}
+
+    def change(self, text):
+        if self.random.random() < 0.1:
+            return {"text": self.text()}
+        start = self.place(text)
+        near = {
+            "line": start["line"] + self.one([0, 0, 0, 1, 2]),
+            "character": start["character"] + self.one([0, 0, 1, 2, 5]),
+        }
+        end = near if self.random.random() < 0.7 else self.place(text)
+        return {"range": {"start": start, "end": end}, "rangeLength": self.one([0, 1, 99]), "text": self.piece()}
+
+    def edit(self):
+        """A message that opens, changes or closes a document."""
+        uri = self.one(URIS)
+        self.version += self.one([1, 1, 1, 0, 7])
+        document = {"uri": uri, "version": self.version}
+        kind = self.random.random()
+        if uri not in self.texts or kind < 0.05:
+            self.texts[uri] = self.text()
+            document |= {"languageId": "terminfo", "text": self.texts[uri]}
+            return notification("textDocument/didOpen", {"textDocument": document})
+        if kind < 0.1:
+            self.texts.pop(uri)
+            return notification("textDocument/didClose", {"textDocument": {"uri": uri}})
+        changes = [self.change(self.texts[uri]) for _ in range(self.one([1, 1, 1, 2, 3, 0]))]
+        return notification("textDocument/didChange", {"textDocument": document, "contentChanges": changes})
+
+    def oddity(self):
+        """A body of no sense, or a message with parts that are not what they should be."""
+        if self.random.random() < 0.3:
+            return self.one(ODD_BODIES)
+        message = {"method": self.one(METHODS), "params": self.one(ODD_VALUES)}
+        if self.random.random() < 0.5:
+            message = self.edit()
+        if self.random.random() < 0.6:
+            message["id"] = self.one(ODD_VALUES)
+        for _ in range(self.one([0, 1, 2])):
+            self.damage(message)
+        return body_of(message)
+
+    def damage(self, value):
+        """Exchanges or takes out a part of a value, wherever it is."""
+        while value:
+            keys = list(value) if isinstance(value, dict) else list(range(len(value)))
+            key = self.one(keys)
+            if isinstance(value[key], (dict, list)) and value[key] and self.random.random() < 0.7:
+                value = value[key]
+            elif self.random.random() < 0.3:
+                del value[key]
+                return
+            else:
+                value[key] = self.one(ODD_VALUES)
+                return
+
+
+def wanted_of(bodies):
+    """What the model sends for bodies, with what it then shows of each text, and the status."""
+    server, answers, shown = Server(), [], []
+    for body in bodies:
+        for answer in server.answer(body):
+            answers.append(answer)
+            text = server.texts.get(answer.get("uri")) if answer.get("shown") is not None else None
+            if text is not None:
+                shown.append((len(answers) - 1, text))
+        if server.status is not None:
+            return answers, shown, server.status
+    return answers, shown, 1
+
+
+def run_fault(bodies):
+    """What is wrong with what the server sends for bodies."""
+    wanted, shown, status = wanted_of(bodies)
+    code, out, err = quick([], b"".join(map(framed, bodies)), program=LSP)
+    got = [seen(answer) for answer in frames_in(out)]
+    for at, (one, other) in enumerate(zip(got, wanted)):
+        if not agree(one, other):
+            return f"answer {at} is {str(one)[:300]}, wanted {str(other)[:300]}"
+    if (len(got), code, err) != (len(wanted), status, b""):
+        return f"{len(got)} answers, status {code}, errors {err[:80]!r}, wanted {len(wanted)} and {status}"
+    for at, text in shown:
+        fault = report_fault(got[at]["shown"], text)
+        if fault is not None:
+            return f"answer {at}: {fault}"
+    return None
+
+
+def report_fault(shown, text):
+    """What is wrong with diagnostics, compared with the report of `ti tic -c` of the text."""
+    _, out, err = quick(["tic", "-c"], text.encode("utf-8"))
+    if err.startswith(b"tic: "):
+        refused = [it[4] in ("BlockTooLong", "TooManyBlocks") for it in shown]
+        return None if refused == [True] else f"{shown}, but {err!r}"
+    lines = "".join(f"{it[0] + 1}: {it[4]} {it[5].split(': ')[0]}\n" for it in shown).encode()
+    return None if (out, err) == (b"", lines) else f"shown are {lines[:200]!r}, but tic reports {err[:200]!r}"
+
+
+def edited(seed):
+    """A run of an editor with some documents."""
+    editor = Editor(seed)
+    return run_fault([body_of(INITIALIZE)] + [body_of(editor.edit()) for _ in range(EDITS_A_RUN)])
+
+
+def disordered(seed):
+    """A run of messages in any order, many of them of no sense."""
+    editor = Editor(seed)
+    bodies = [body_of(INITIALIZE)] if editor.random.random() < 0.8 else []
+    for _ in range(editor.one([3, 10, 20])):
+        odd = editor.random.random()
+        if odd < 0.5:
+            bodies.append(editor.oddity())
+        else:
+            bodies.append(body_of(editor.edit()))
+        if editor.random.random() < 0.02:
+            bodies.append(body_of({"id": 1, "method": "shutdown"}))
+    return run_fault(bodies)

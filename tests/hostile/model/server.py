@@ -1,0 +1,283 @@
+"""What a language server for terminfo source answers, written from the protocol alone: a state of the
+life of the server, and the texts of the open documents as Python strings.
+"""
+
+import json
+import re
+
+from .base import BLOCK_MAX, BLOCKS_MAX, Meaning
+from .source import FAULTS, cut
+
+SMALL = 2**31
+BODY_MAX = 67_108_864
+DEPTH_MAX = 127
+NO_JSON, NO_REQUEST, NO_METHOD, FRESH = -32700, -32600, -32601, -32002
+
+
+class NoJson(Exception):
+    """A text is no JSON that is read."""
+
+
+def refuse_constant(_):
+    raise NoJson
+
+
+def depth_of(value):
+    """How deep lists and objects nest in a value, counted without recursion."""
+    deepest, todo = 0, [(value, 0)]
+    while todo:
+        it, depth = todo.pop()
+        deepest = max(deepest, depth)
+        if isinstance(it, (list, dict)):
+            inner = it.values() if isinstance(it, dict) else it
+            deepest = max(deepest, depth + 1)
+            todo += [(each, depth + 1) for each in inner]
+    return deepest
+
+
+def value_of(body):
+    """The JSON value of a body."""
+    if len(body) > BODY_MAX:
+        raise NoJson
+    try:
+        text = body.decode("utf-8")
+        value = json.loads(text, parse_constant=refuse_constant)
+        # a lone surrogate has no UTF-8
+        json.dumps(value, ensure_ascii=False).encode("utf-8")
+    except (ValueError, RecursionError) as error:
+        raise NoJson from error
+    if depth_of(value) > DEPTH_MAX:
+        raise NoJson
+    return value
+
+
+def is_integer(value):
+    return isinstance(value, int) and not isinstance(value, bool) and -(2**63) <= value < 2**64
+
+
+def is_small(value):
+    return is_integer(value) and 0 <= value < SMALL
+
+
+def id_of(message):
+    """The id of a message, or None."""
+    value = message.get("id") if isinstance(message, dict) else None
+    return value if isinstance(value, str) or is_integer(value) else None
+
+
+def refusal(number, code):
+    return {"id": number, "error": code}
+
+
+def units(character):
+    return 2 if ord(character) > 0xFFFF else 1
+
+
+def width(text):
+    return sum(map(units, text))
+
+
+def lines_of(text):
+    """The lines of a text: where each begins, and its characters without its end."""
+    found, start = [], 0
+    for piece in text.split("\n"):
+        last = start + len(piece) == len(text)
+        found.append((start, piece[:-1] if piece.endswith("\r") and not last else piece))
+        start += len(piece) + 1
+    return found
+
+
+def offset_of(text, line, column):
+    """The place in a string of a place in the protocol."""
+    lines = lines_of(text)
+    if line >= len(lines):
+        return len(text)
+    start, characters = lines[line]
+    for at, character in enumerate(characters):
+        if column < units(character):
+            return start + at
+        column -= units(character)
+    return start + len(characters)
+
+
+def place_of(value):
+    """A place of the protocol, or None."""
+    if isinstance(value, dict) and is_small(value.get("line")) and is_small(value.get("character")):
+        return value["line"], value["character"]
+    return None
+
+
+def with_change(text, change):
+    """The text after a change, or None if that is no change."""
+    if not isinstance(change, dict) or not isinstance(change.get("text"), str):
+        return None
+    if "range" not in change:
+        return change["text"]
+    if not isinstance(change["range"], dict):
+        return None
+    start, end = (place_of(change["range"].get(word)) for word in ("start", "end"))
+    if start is None or end is None:
+        return None
+    at = offset_of(text, *start)
+    return text[:at] + change["text"] + text[max(at, offset_of(text, *end)) :]
+
+
+def shown_detail(detail):
+    """A detail as a report shows it, after a space; none if there is none."""
+    if detail is None:
+        return ""
+    return " " + ("".join(chr(it) if 0x21 <= it <= 0x7E else "?" for it in detail) or "-")
+
+
+def mark(lines, line, code, front):
+    """A diagnostic: its line, the columns, its code, and how its message begins."""
+    characters = lines[line][1]
+    # white space is the two bytes of terminfo(5)
+    indent = len(characters) - len(characters.lstrip(" \t"))
+    return line, indent, width(characters), 1 if code[0] != "W" else 2, code, front
+
+
+def refused_line(preface, blocks):
+    """The line of the block for which a source is refused, counted from 0, and the code; or None."""
+    line = preface.count(b"\n")
+    for at, block in enumerate(blocks):
+        if at == BLOCKS_MAX:
+            return line, "TooManyBlocks"
+        if len(block) > BLOCK_MAX:
+            return line, "BlockTooLong"
+        line += block.count(b"\n")
+    return None
+
+
+def diagnostics_of(text):
+    """The diagnostics of a text."""
+    source = text.encode("utf-8")
+    preface, blocks = cut(source if source.endswith(b"\n") else source + b"\n")
+    lines = lines_of(text if text.endswith("\n") else text + "\n")
+    refused = refused_line(preface, blocks)
+    if refused is not None:
+        return [mark(lines, *refused, "")]
+    meaning, found, line = Meaning(blocks), [], preface.count(b"\n")
+    for at, block in enumerate(blocks):
+        for fault in meaning.faults(at):
+            front = FAULTS[fault.code] + shown_detail(fault.detail) + ": "
+            found.append(mark(lines, line + fault.line - 1, fault.code, front))
+        line += block.count(b"\n")
+    return found
+
+
+class Server:
+    """The life of a server, and its open documents."""
+
+    def __init__(self):
+        self.phase, self.texts, self.status = "fresh", {}, None
+
+    def answer(self, body):
+        """What is sent back for a body, as a list that is empty or has one answer."""
+        try:
+            message = value_of(body)
+        except NoJson:
+            return [refusal(None, NO_JSON)]
+        method = message.get("method") if isinstance(message, dict) else None
+        if not isinstance(message, dict) or (method is None and "method" not in message):
+            is_answer = isinstance(message, dict) and ("result" in message or "error" in message)
+            return [] if is_answer else [refusal(id_of(message), NO_REQUEST)]
+        if not isinstance(method, str):
+            return [refusal(id_of(message), NO_REQUEST)]
+        if "id" not in message:
+            return self.tell(method, message.get("params"))
+        if id_of(message) is None:
+            return [refusal(None, NO_REQUEST)]
+        return [self.ask(id_of(message), method)]
+
+    def ask(self, number, method):
+        """The answer to a request."""
+        if self.phase == "fresh" and method != "initialize":
+            return refusal(number, FRESH)
+        if self.phase == "fresh":
+            self.phase = "running"
+            return {"id": number, "ready": True}
+        if self.phase == "running" and method == "shutdown":
+            self.phase = "finished"
+            return {"id": number, "done": True}
+        if self.phase == "running" and method != "initialize":
+            return refusal(number, NO_METHOD)
+        return refusal(number, NO_REQUEST)
+
+    def tell(self, method, params):
+        """What is published by a notification."""
+        if method == "exit":
+            self.status = 0 if self.phase == "finished" else 1
+            return []
+        if self.phase != "running":
+            return []
+        document = params.get("textDocument") if isinstance(params, dict) else None
+        uri = document.get("uri") if isinstance(document, dict) else None
+        if not isinstance(uri, str):
+            return []
+        if method == "textDocument/didClose" and uri in self.texts:
+            del self.texts[uri]
+            return [{"uri": uri, "version": None, "shown": []}]
+        if method not in ("textDocument/didOpen", "textDocument/didChange"):
+            return []
+        text = document.get("text") if method.endswith("Open") else self.changed(uri, params.get("contentChanges"))
+        if not is_small(document.get("version")) or not isinstance(text, str):
+            return []
+        self.texts[uri] = text
+        return [{"uri": uri, "version": document["version"], "shown": diagnostics_of(text)}]
+
+    def changed(self, uri, changes):
+        """The text of a document after changes, or None if one of them is none, or it is not open."""
+        text = self.texts.get(uri)
+        if not isinstance(changes, list):
+            return None
+        for change in changes:
+            text = None if text is None else with_change(text, change)
+        return text
+
+
+def frames_in(output):
+    """The values of the frames of an output."""
+    found = []
+    while output:
+        header = re.match(rb"Content-Length: ([0-9]+)\r\n\r\n", output)
+        if header is None:
+            raise ValueError(f"no header: {output[:80]!r}")
+        end = header.end() + int(header[1])
+        if len(output) < end:
+            raise ValueError("the last frame is cut off")
+        found.append(json.loads(output[header.end() : end].decode("utf-8")))
+        output = output[end:]
+    return found
+
+
+def seen_diagnostic(shown):
+    """A diagnostic that was sent, as `mark` has it, with its whole message."""
+    start, end = shown["range"]["start"], shown["range"]["end"]
+    if start["line"] != end["line"] or shown["source"] != "ti":
+        raise ValueError(f"a diagnostic is {shown}")
+    return start["line"], start["character"], end["character"], shown["severity"], shown["code"], shown["message"]
+
+
+def seen(answer):
+    """An answer that was sent, as the model has it."""
+    if answer.get("jsonrpc") != "2.0":
+        raise ValueError(f"an answer is {answer}")
+    if "method" in answer:
+        if answer["method"] != "textDocument/publishDiagnostics" or "id" in answer:
+            raise ValueError(f"a notification is {answer}")
+        params = answer["params"]
+        shown = [seen_diagnostic(it) for it in params["diagnostics"]]
+        return {"uri": params["uri"], "version": params.get("version"), "shown": shown}
+    if "error" in answer:
+        return refusal(answer["id"], answer["error"]["code"])
+    return {"id": answer["id"], "done" if answer["result"] is None else "ready": True}
+
+
+def agree(got, wanted):
+    """Whether an answer that was sent is the one that is wanted: of a message only the front is known."""
+    if "shown" not in got or "shown" not in wanted:
+        return got == wanted
+    if {**got, "shown": None} != {**wanted, "shown": None} or len(got["shown"]) != len(wanted["shown"]):
+        return False
+    return all(one[:5] == other[:5] and one[5].startswith(other[5]) for one, other in zip(got["shown"], wanted["shown"]))
