@@ -11,6 +11,8 @@ system    the entries of the system, as ncurses's infocmp lists them, compiled i
 tools     `ti tput` and `ti infocmp` on the system's own entry, if it is there; both read one file
 edits     edits of a database of 1,000 and of 65,535 blocks, a chain of uses, circular ones, and
           lists of edits in one call: medians of five runs in microseconds, and MB
+editor    the CPU time of `ti-lsp` for opening a source and for a key in it, and that of ncurses's `tic -c`
+          of the whole: ncurses's own source, if MASTER names it, and 1,000 entries of 1.1 KB each
 rates     MB/s (10^6 bytes a second) of `ti tic -c` on one-block sources of 64 KiB, 256 KiB and
           1 MiB, and of ncurses's `tic -c` on the last: the best of several runs
 machine   what `ti_bench` prints of the libraries alone
@@ -33,6 +35,8 @@ import sys
 import tempfile
 import time
 from xml.sax.saxutils import escape
+
+import server
 
 TOP = os.path.dirname(os.path.dirname(os.path.abspath(__file__)))
 PROGRAM = os.path.join(TOP, "crates", "ti", "out", "ti")
@@ -179,6 +183,8 @@ TOOLS_HEAD = """| Work | Instructions, ti | ncurses | Ratio | Milliseconds, ti |
 |---|---:|---:|---:|---:|---:|---:|"""
 EDITS_HEAD = """| Blocks | Edit | Microseconds | MB at most |
 |---:|---|---:|---:|"""
+EDITOR_HEAD = """| Source | Opening, ms of CPU time | A key | ncurses's `tic -c` |
+|---|---:|---:|---:|"""
 
 
 def compare(room, work, ours, theirs, stdin=None, runs=5):
@@ -305,6 +311,17 @@ def edits(_room):
             print(f"| {count:,} | {edit} | {statistics.median(took) / 1000:,.1f} | {most / 1024:.0f} |")
 
 
+def editor(room):
+    if not os.access(server.SERVER, os.X_OK):
+        print("editor: left out (ti-lsp is not built: make lsp)")
+        return
+    master = os.environ.get("MASTER")
+    if master:
+        with open(master, "rb") as file:
+            print(server.measured(room, "ncurses's own source", file.read()))
+    print(server.measured(room, "1,000 entries", large_entries(1000)))
+
+
 def rows_of_readme():
     """The rows of README's table of speed: the work, and ti's instructions and wall-clock time as a part of ncurses's."""
     with open(os.path.join(TOP, "README.md"), encoding="utf-8") as file:
@@ -345,10 +362,10 @@ def picture(_room):
 
 
 PARTS = {
-    "entries": entries, "system": system, "tools": tools, "edits": edits, "rates": rates, "machine": machine,
-    "picture": picture,
+    "entries": entries, "system": system, "tools": tools, "edits": edits, "editor": editor, "rates": rates,
+    "machine": machine, "picture": picture,
 }
-HEADS = {"entries": TOOLS_HEAD, "system": TOOLS_HEAD, "tools": TOOLS_HEAD, "edits": EDITS_HEAD}
+HEADS = {"entries": TOOLS_HEAD, "system": TOOLS_HEAD, "tools": TOOLS_HEAD, "edits": EDITS_HEAD, "editor": EDITOR_HEAD}
 
 
 def main():

@@ -1,0 +1,63 @@
+"""How much CPU time the language server takes to open a source, and for a key in the middle of it, next
+to the time in which ncurses's `tic -c` reads the whole source.
+"""
+
+import json
+import os
+import shutil
+import subprocess
+
+TOP = os.path.dirname(os.path.dirname(os.path.abspath(__file__)))
+SERVER = os.path.join(TOP, "crates", "ti_lsp", "out", "ti_lsp")
+RUNS = 5
+KEYS = 40
+SECONDS = 600
+
+
+def framed(method, params, **more):
+    body = json.dumps({"jsonrpc": "2.0", "method": method, "params": params, **more}).encode()
+    return b"Content-Length: %d\r\n\r\n" % len(body) + body
+
+
+def opened(text):
+    """The messages of an editor that opens a text."""
+    document = {"uri": "file:///bench.ti", "languageId": "terminfo", "version": 0, "text": text}
+    return framed("initialize", {}, id=0) + framed("textDocument/didOpen", {"textDocument": document})
+
+
+def keys(text, count):
+    """The messages of so many keys, each in a line in the middle of the text."""
+    lines = text.split("\n")
+    line = next(at for at in range(len(lines) // 2, len(lines)) if lines[at].startswith("\t"))
+    messages = b""
+    for version in range(1, count + 1):
+        place = {"line": line, "character": 1}
+        change = {"range": {"start": place, "end": place}, "text": "x"}
+        document = {"uri": "file:///bench.ti", "version": version}
+        messages += framed("textDocument/didChange", {"textDocument": document, "contentChanges": [change]})
+    return messages
+
+
+def cpu_time(words, path):
+    """The least CPU time of several runs, in milliseconds, with a file on standard input."""
+    least = None
+    for _ in range(RUNS):
+        with open(path, "rb") as given:
+            run = subprocess.Popen(words, stdin=given, stdout=subprocess.DEVNULL, stderr=subprocess.DEVNULL)
+            _, _, used = os.wait4(run.pid, 0)
+            run.returncode = 0
+        took = (used.ru_utime + used.ru_stime) * 1000
+        least = took if least is None else min(least, took)
+    return least
+
+
+def measured(room, what, source):
+    """A row: what was opened, and the milliseconds of CPU time for opening, for a key, and for `tic -c`."""
+    text = source.decode("utf-8", "replace")
+    nothing, whole = room.write("nothing", b""), room.write("opened", opened(text))
+    edited = room.write("edited", opened(text) + keys(text, KEYS))
+    start, opening, editing = (cpu_time([SERVER], path) for path in (nothing, whole, edited))
+    checked = "-"
+    if shutil.which("tic"):
+        checked = f"{cpu_time(['tic', '-c', room.write('source.ti', source)], nothing):.0f}"
+    return f"| {what}, {len(source):,} bytes | {opening - start:.1f} | {(editing - opening) / KEYS:.2f} | {checked} |"
