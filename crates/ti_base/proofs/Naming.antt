@@ -1,5 +1,5 @@
--- A set of names after one more was put in.
-use Rattle.std.proofs.Common.{◌≡◌, ℕ, Bool, true, false, ◌||◌, List, [], ◌∷◌, refl, sym, ◌∙◌, ap}
+-- A set of names after one more was put in, and names each once.
+use Rattle.std.proofs.Common.{◌≡◌, ℕ, Bool, true, false, ◌||◌, cond, List, [], ◌∷◌, ◌++◌, filter, refl, sym, ◌∙◌, ap}
 use Rattle.std.proofs.Common.{Ordering, Less, Equal, Greater}
 use Rattle.std.specs.Ordering.{is_eq, nat_cmp, match_ordering}
 use Rattle.std.specs.Cmp.Lexicographic.{slice_cmp, bytes_decides}
@@ -7,7 +7,9 @@ use Rattle.std.specs.Str.{bytes_eq}
 use Rattle.std.specs.List.{list_any}
 use Rattle.std.specs.BTreeSet.{insert_key}
 use Rattle.std.proofs.lemmas.Map.Text.{is_eq-slice_cmp}
+use Rattle.std.proofs.lemmas.Bool.{false≢true}
 use Rattle.ti_meaning.specs.Owner.{is_among}
+use Rattle.ti_meaning.specs.Faults.{distinct_after}
 
 or_twice : (a b : Bool) → (a || b) ≡ (a || (a || b))
 or_twice true b = refl
@@ -52,3 +54,16 @@ module _ {K : Type 0} (bytes : K → List ℕ) where
 -- the names seen are those before
 abbrev pub AreSeen : (List ℕ → Bool) → List (List ℕ) → Type 0
 AreSeen seen before = (name : List ℕ) → seen name ≡ is_among name before
+
+-- no name that passes the test is there once
+pub none_once : (test : List ℕ → Bool) (before names : List (List ℕ)) → list_any test names ≡ false → filter test (distinct_after before names) ≡ []
+none_once test before [] none = refl
+none_once test before (name ∷ names) none = by_test (test name) refl none (none_once test (before ++ name ∷ []) names) where
+  by_place : (b : Bool) → test name ≡ false → filter test (distinct_after (before ++ name ∷ []) names) ≡ [] → filter test (cond b [] (name ∷ []) ++ distinct_after (before ++ name ∷ []) names) ≡ []
+  by_place true fails rest = rest
+  by_place false fails rest = rw fails rest
+
+  by_test : (b : Bool) → test name ≡ b → (b || list_any test names) ≡ false → (list_any test names ≡ false → filter test (distinct_after (before ++ name ∷ []) names) ≡ [])
+      → filter test (distinct_after before (name ∷ names)) ≡ []
+  by_test true is e rest = absurd (false≢true (sym e))
+  by_test false is e rest = by_place (is_among name before) is (rest e)

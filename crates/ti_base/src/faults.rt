@@ -1,5 +1,6 @@
 // The faults of a source: those kept with each block, and between them those of its names.
 ghost use Rattle.std.specs.Prelude.{◌≡◌, ◌<◌, ◌++◌, ◌∷◌, [], filter, map, length, slice_get, Some, true, IfOk, OnOk};
+ghost use Rattle.std.specs.List.{list_any};
 ghost use Rattle.std.specs.Rc.{rc_slice_items};
 ghost use Rattle.ti_source.specs.Reading.{Reading, fault_of};
 ghost use Rattle.ti_meaning.specs.Faults.{block_faults, fault_seen, faults, is_kept, is_owned_before, name_fault, name_faults};
@@ -43,6 +44,19 @@ fn add_kept(at: usize, kept: &[KeptFault], faults: &mut Vec<Fault>) -> Result<()
     Ok(())
 }
 
+/// Whether an earlier block owns one of the names.
+fn has_duplicate(slots: &Slots, at: usize, names: &[RcSlice<u8>]) -> bool
+    requires { IsIndexed slots.now }
+    ensures { result ≡ list_any (is_owned_before (blocks_of slots.now) at) (map rc_slice_items names.now) }
+{
+    for name in names {
+        if is_owned_before(slots, at, name.as_slice()) {
+            return true;
+        }
+    }
+    false
+}
+
 /// Adds the fault of a name, if an earlier block owns it.
 fn add_name_fault(
     slots: &Slots,
@@ -77,6 +91,10 @@ fn add_name_faults(
     ensures { OnOk result (map fault_seen faults.new.items ≡ map fault_seen faults.old.items
         ++ name_faults (blocks_of slots.now) at (map rc_slice_items names.now)) }
 {
+    // Few blocks have such a name; for the others no set of names is made.
+    if !has_duplicate(slots, at, names) {
+        return Ok(());
+    }
     let once = distinct_names(alloc, names)?;
     for name in &once {
         add_name_fault(slots, at, name, faults)?;
