@@ -1,5 +1,5 @@
 -- An edit made as an exchange of slots: the list after it, what planning asks, and what is rebuilt.
-use Rattle.std.proofs.Common.{◌≡◌, ◌↔◌, inl, inr, ℕ, zero, suc, ◌+◌, ◌<◌, ◌≤◌, Bool, true, false, ◌||◌, List, [], ◌∷◌, ◌++◌, length, set, map, Option, Some, None, option_map, slice_get, refl, sym, ◌∙◌, ap, subst, arith}
+use Rattle.std.proofs.Common.{◌≡◌, ◌↔◌, inl, inr, ℕ, zero, suc, ◌<◌, ◌≤◌, Bool, true, false, ◌||◌, List, [], ◌∷◌, ◌++◌, length, set, map, Option, Some, None, option_map, slice_get, refl, sym, ◌∙◌, ap, subst, arith}
 use Rattle.std.specs.Prelude.{IfSome}
 use Rattle.std.specs.Option.{option_flatten}
 use Rattle.std.specs.List.{insert, remove}
@@ -22,7 +22,7 @@ use Rattle.ti_slots.specs.Slots.{blocks_of, slot_texts}
 use Rattle.ti_slots.specs.Settled.{IsSettled}
 use Rattle.ti_dependents.specs.Dependents.{IsExchangeOf}
 use Rattle.ti_plan.specs.Plans.{OthersAreSettled}
-use Rattle.ti_base.specs.inside.Database.{AreRead, SlotsAreSettled, SlotsAreSound, IsSoundSlot, PlacedSlot, slots_of, reading_seen, text_seen, with_slot, block_seen, exchange_with, with_settled}
+use Rattle.ti_base.specs.inside.Database.{AreRead, SlotsAreSettled, SlotsAreSound, IsSoundSlot, PlacedSlot, slots_of, reading_seen, text_seen, with_slot, block_seen, exchange_with}
 use Rattle.ti_base.specs.inside.Texts.{IsBlockText}
 use Rattle.ti_base.specs.inside.Exchanges.{out_position, put_position, new_text, IsNewOf, names_seen, without, slot_out, slot_put, spare_after, placed, placed_put, with_exchange, IsOfSlots, CanExchange, IsMade, IsUndone, IsEdited}
 use Rattle.ti_base.proofs.SlotLists.{AreFilled, are_filled, blocks_seen, texts_seen, length_slots, length_texts, slot_there, blocks_read, readings_with}
@@ -52,8 +52,7 @@ sound_out xs (Some at) slot h e = h at slot (flat (slice_get xs at) e) where
 sound_put : (out spare : Option Slot) → ((slot : Slot) → out ≡ Some slot → IsSoundSlot slot) → IfSome spare IsSoundSlot → IfSome (slot_put out spare) IsSoundSlot
 sound_put None None h k = tt
 sound_put (Some slot) None h k = h slot refl
-sound_put None (Some new) h k = k
-sound_put (Some slot) (Some new) h k = record { text = k.text; read = k.read; usable = k.usable }
+sound_put out (Some new) h k = k
 
 sound_placed : (rest : List (Option Slot)) (put : Option ℕ) (slot : Option Slot) → IfSome put (λ to. to ≤ length rest) → IfSome slot IsSoundSlot → SlotsAreSound rest → SlotsAreSound (with_slot rest (placed put slot))
 sound_placed rest None slot l k h = h
@@ -129,10 +128,8 @@ texts_after xs (replacement at text) None f l e = absurd (none-some text e)
 texts_after xs (replacement at text) (Some new) f l e =
     let k : at < length (map text_seen xs) = l in
     let m : at < length xs = omega (arith, length-map xs text_seen) in
-    let there = f at m in
-    let put : Option Slot = Some (with_settled there.0.settled new) in
-    rw there.1 (
-    ap (map text_seen) (insert-set xs at put m) ∙ (map-set text_seen xs at put ∙ ap (set (map text_seen xs) at) (same_Some new.text.items text e)))
+    let put : Option Slot = Some new in
+    ap (map text_seen) (insert-set xs at put m) ∙ (map-set text_seen xs at put ∙ ap (set (map text_seen xs) at) (same_Some new.text.items text e))
 texts_after xs (removal at) (Some new) f l e = absurd (none-some new.text.items (sym e))
 texts_after xs (removal at) None f l e = map-remove text_seen xs at
 texts_after xs (relocation from to) (Some new) f l e = absurd (none-some new.text.items (sym e))
@@ -182,7 +179,7 @@ exchange_seen old (insertion at text) (Some new) h l n =
 exchange_seen old (replacement at text) None h l n = absurd (none-some text n.text)
 exchange_seen old (replacement at text) (Some new) h l n =
     let there = there_in old at h l in
-    rw there.1 (exchange_same (exchange_of (slot_texts old) (replacement at text)) (remove (slots_of old) at) (Some (record { at = at; slot = there.0 })) (Some (record { at = at; slot = with_settled there.0.settled new }))
+    rw there.1 (exchange_same (exchange_of (slot_texts old) (replacement at text)) (remove (slots_of old) at) (Some (record { at = at; slot = there.0 })) (Some (record { at = at; slot = new }))
     (left_in old at h) (block_there (readings (slot_texts old)) (slots_of old) at at there.0 (readings_seen old h) there.1) (text_there at text new n.sound (same_Some new.text.items text n.text)))
 exchange_seen old (removal at) (Some new) h l n = absurd (none-some new.text.items (sym n.text))
 exchange_seen old (removal at) None h l n =

@@ -6,7 +6,6 @@ use Rattle.std.specs.Str.{bytes_eq}
 use Rattle.std.proofs.lemmas.Bool.{cases_eq}
 use Rattle.std.proofs.lemmas.List.{length-map, length-set, drop-set-lt}
 use Rattle.std.proofs.lemmas.Option.{same_Some, none-some, slice_get-map, get_or_from_slice_get}
-use Rattle.ti_text.specs.Limits.{blocks_max}
 use Rattle.ti_source.specs.Reading.{reading_of}
 use Rattle.ti_source.specs.Parsing.{reading_of_text}
 use Rattle.ti_meaning.specs.Owner.{is_among}

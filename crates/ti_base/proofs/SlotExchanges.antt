@@ -1,6 +1,6 @@
 -- Slots exchanged: what becomes of the list, the way back, and what planning asks of an edit made
 -- so.
-use Rattle.std.proofs.Common.{◌≡◌, ◌≢◌, inl, inr, ℕ, zero, suc, ◌+◌, ◌<◌, ◌≤◌, true, List, [], ◌∷◌, length, map, Option, Some, None, slice_get, refl, sym, ◌∙◌, ap, subst, arith}
+use Rattle.std.proofs.Common.{◌≡◌, ◌≢◌, inl, inr, ℕ, zero, suc, ◌+◌, ◌<◌, ◌≤◌, List, [], ◌∷◌, length, map, Option, Some, None, slice_get, refl, sym, ◌∙◌, ap, subst, arith}
 use Rattle.std.specs.Prelude.{IfSome, IsSome}
 use Rattle.std.specs.Option.{option_flatten}
 use Rattle.std.specs.List.{insert, remove}
@@ -16,8 +16,8 @@ use Rattle.ti_slots.specs.declared.slots.Slot.{Slot}
 use Rattle.ti_slots.specs.declared.slots.Slots.{Slots}
 use Rattle.ti_slots.specs.Slots.{IsIndexed, StandsAt, slot_at, slot_texts}
 use Rattle.ti_slots.specs.Changes.{HasRoomFor, PutsIn, TakesOut, ChangesAreUndone}
-use Rattle.ti_base.specs.inside.Database.{AreKept, AreRead, SlotsAreSettled, SlotsAreSound, slots_of, text_seen, with_slot, HasId, with_settled}
-use Rattle.ti_base.specs.inside.Exchanges.{without, slot_out, settled_as, unsettled_as, slot_put, slot_left, spare_after, placed, placed_put, with_exchange, IsOfSlots, HasRoomThen, CanExchange, IsOut, IsExchanged}
+use Rattle.ti_base.specs.inside.Database.{AreKept, AreRead, SlotsAreSettled, SlotsAreSound, slots_of, text_seen, with_slot, HasId}
+use Rattle.ti_base.specs.inside.Exchanges.{without, slot_out, slot_put, slot_left, spare_after, placed, placed_put, with_exchange, IsOfSlots, HasRoomThen, CanExchange, IsOut, IsExchanged}
 use Rattle.ti_base.proofs.SlotLists.{AreFilled, are_filled, texts_seen, length_slots, slot_there}
 
 -- ---- a slot is put in or taken out
@@ -146,14 +146,9 @@ room_then : (old rest : Slots) (out : Option ℕ) (taken : Option Slot) (block :
 room_then old rest None taken block room is = subst (λ s. HasRoomFor s block) (sym is.0) room
 room_then old rest (Some at) taken block room is = room rest is.0 is.2
 
-same_block : (taken : Option Slot) (new : Slot) → (settled_as taken new).block ≡ new.block
-same_block None new = refl
-same_block (Some old) new = refl
-
 pub put_room : (old rest : Slots) (out : Option ℕ) (to : ℕ) (spare taken : Option Slot) (slot : Slot) → CanExchange old out (Some to) spare → IsOut old rest out taken → Some slot ≡ slot_put taken spare → HasRoomFor rest (reading_of slot.block)
 put_room old rest out to (Some new) taken slot can is e =
-    let same : slot.block ≡ new.block = ap (λ (s : Slot). s.block) (same_Some slot (settled_as taken new) e) ∙ same_block taken new in
-    subst (λ b. HasRoomFor rest (reading_of b)) (sym same) (room_then old rest out taken (reading_of new.block) can.room is)
+    subst (λ (s : Slot). HasRoomFor rest (reading_of s.block)) (sym (same_Some slot new e)) (room_then old rest out taken (reading_of new.block) can.room is)
 put_room old rest None to None taken slot can is e = absurd (false≢true can.other)
 put_room old rest (Some at) to None taken slot can is e = subst (λ (s : Slot). HasRoomFor rest (reading_of s.block)) (sym (same_Some slot is.0 (e ∙ is.1))) is.2.room
 
@@ -198,7 +193,7 @@ exchanged_put law old rest new out to id spare taken after slot can is put e f =
 
     of_slots : (out : Option ℕ) (spare taken after : Option Slot) → IsOut old rest out taken → after ≡ slot_left taken spare → IsOfSlots (Some to) out after
     of_slots None None taken after is f = f
-    of_slots None (Some one) taken after is f = f ∙ ap (λ t. unsettled_as t one) is.1
+    of_slots None (Some one) taken after is f = f ∙ is.1
     of_slots (Some at) spare taken after is f = tt
 
 -- ---- the way back
@@ -231,9 +226,9 @@ undone xs (Some at) (Some to) None f s l m =
 undone xs (Some at) (Some to) (Some new) f s l m =
     let there = f at l in
     let rest = remove xs at in
-    let put : Option Slot = Some (with_settled there.0.settled new) in
+    let put : Option Slot = Some new in
     let b = back_at rest to put m in
-    rw there.1 (ap (λ o. with_slot (remove (insert rest to put) to) (placed (Some at) (slot_put o (Some (with_settled new.settled there.0))))) b.1
+    rw there.1 (ap (λ o. with_slot (remove (insert rest to put) to) (placed (Some at) (slot_put o (Some there.0)))) b.1
     ∙ (ap (λ ys. insert ys at (Some there.0)) b.0 ∙ insert-remove xs at (Some there.0) there.1))
 
 pub exchanged_back : (old new : Slots) (out put : Option ℕ) (spare after : Option Slot) (id : Option ℕ) → CanExchange old out put spare → IsExchanged old new out put spare after id → with_exchange (slots_of new) put out after ≡ slots_of old

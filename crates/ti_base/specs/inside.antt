@@ -1,6 +1,6 @@
 -- Computed forms of what the other files define by relations, and words that only private
 -- functions and proofs use.
-pub mod Faults
+pub mod Names
 pub mod Texts
 pub mod Database
 pub mod Exchanges

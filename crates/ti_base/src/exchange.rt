@@ -7,14 +7,13 @@ ghost use Rattle.ti_meaning.specs.Edits.{IsSoundEdit, change_of};
 ghost use Rattle.ti_slots.specs.Slots.{IsIndexed, slot_texts};
 ghost use Rattle.ti_slots.specs.Changes.{HasForgotten, HasRoomFor};
 ghost use Rattle.ti_base.specs.inside.Database.{AreRead, slots_of};
-ghost use Rattle.ti_base.specs.inside.Exchanges.{CanExchange, CanUndo, IsEdited, IsExchanged, IsMade, IsNewOf, IsOut, IsUndone, names_seen, new_text, out_position, put_position, settled_as, slot_left, slot_put, unsettled_as};
+ghost use Rattle.ti_base.specs.inside.Exchanges.{CanExchange, CanUndo, IsEdited, IsExchanged, IsMade, IsNewOf, IsOut, IsUndone, names_seen, new_text, out_position, put_position, slot_left, slot_put};
 
 use crate::texts::read_slot;
 use std::alloc::{AllocError, Global};
-use std::mem;
 use std::rc::RcSlice;
 use ti_meaning::Edit;
-use ti_slots::{Slot, Slots, changes_are_undone};
+use ti_slots::{BlockEntry, Slot, Slots, changes_are_undone};
 use ti_source::{Parsed, SharedTexts};
 
 /// The position from which an edit takes a block out, and the one at which it puts one in.
@@ -97,21 +96,6 @@ fn take_out(slots: &mut Slots, out: Option<usize>) -> Option<Slot>
     }
 }
 
-/// A new block with what was found out about the one taken out, if there is one, and that with what
-/// the new one had: the entry of before is there to be patched until the new block is rebuilt.
-fn swap_settled(mut new: Slot, taken: Option<Slot>) -> (Slot, Option<Slot>)
-    ensures new { result.0 ≡ settled_as taken new }
-    ensures taken { result.1 ≡ unsettled_as taken new }
-{
-    match taken {
-        Some(mut old) => {
-            mem::swap(&mut new.settled, &mut old.settled);
-            (new, Some(old))
-        }
-        None => (new, None),
-    }
-}
-
 /// The slot to be put in: the spare one, or the one taken out if there is none. The other one is
 /// spare then.
 fn trade(taken: Option<Slot>, spare: &mut Option<Slot>) -> Option<Slot>
@@ -120,8 +104,7 @@ fn trade(taken: Option<Slot>, spare: &mut Option<Slot>) -> Option<Slot>
 {
     match spare.take() {
         Some(new) => {
-            let (new, old) = swap_settled(new, taken);
-            *spare = old;
+            *spare = taken;
             Some(new)
         }
         None => taken,
@@ -184,6 +167,14 @@ pub(crate) fn names_of(spare: &Option<Slot>) -> &[RcSlice<u8>]
     match spare {
         Some(slot) => &slot.block.names,
         None => &[],
+    }
+}
+
+/// The entry of a block that is not in the list, if there is one and it has one.
+pub(crate) fn entry_of(spare: &Option<Slot>) -> Option<&BlockEntry> {
+    match spare {
+        Some(slot) => slot.settled.state.entry(),
+        None => None,
     }
 }
 

@@ -1,17 +1,16 @@
 // The faults of a source: those kept with each block, and between them those of its names.
-ghost use Rattle.std.specs.Prelude.{◌≡◌, ◌<◌, ◌++◌, ◌∷◌, [], List, ℕ, filter, map, length, slice_get, Some, true, not, ◌||◌, ◌&&◌, IfOk, OnOk};
-ghost use Rattle.std.specs.Str.{bytes_eq};
+ghost use Rattle.std.specs.Prelude.{◌≡◌, ◌<◌, ◌++◌, ◌∷◌, [], filter, map, length, slice_get, Some, true, IfOk, OnOk};
+ghost use Rattle.std.specs.List.{list_any};
 ghost use Rattle.std.specs.Rc.{rc_slice_items};
 ghost use Rattle.ti_source.specs.Reading.{Reading, fault_of};
 ghost use Rattle.ti_meaning.specs.Faults.{block_faults, fault_seen, faults, is_kept, is_owned_before, name_fault, name_faults};
 ghost use Rattle.ti_slots.specs.Slots.{IsIndexed, blocks_of};
 ghost use Rattle.ti_slots.specs.Settled.{fault_at};
 ghost use Rattle.ti_base.specs.inside.Database.{AreKept};
-ghost use Rattle.ti_base.specs.inside.Faults.{is_named};
 
+use crate::names::distinct_names;
 use crate::owners::{is_owned_before, slot_of};
 use std::alloc::{AllocError, Global};
-use std::collections::BTreeSet;
 use std::rc::RcSlice;
 use ti_meaning::Fault;
 use ti_slots::{KeptFault, Slots, copy_detail};
@@ -45,38 +44,38 @@ fn add_kept(at: usize, kept: &[KeptFault], faults: &mut Vec<Fault>) -> Result<()
     Ok(())
 }
 
-/// Puts a name among those whose fault was added.
-fn add_named<'a>(named: &mut BTreeSet<&'a [u8]>, name: &'a [u8]) -> Result<(), AllocError>
-    ensures { OnOk result ((other : List ℕ) → is_named named.new other ≡ (bytes_eq other name.now || is_named named.old other)) }
+/// Whether an earlier block owns one of the names.
+fn has_duplicate(slots: &Slots, at: usize, names: &[RcSlice<u8>]) -> bool
+    requires { IsIndexed slots.now }
+    ensures { result ≡ list_any (is_owned_before (blocks_of slots.now) at) (map rc_slice_items names.now) }
 {
-    named.insert(name)?;
-    Ok(())
+    for name in names {
+        if is_owned_before(slots, at, name.as_slice()) {
+            return true;
+        }
+    }
+    false
 }
 
-/// Whether the name belongs to a block before that position and has no fault yet.
-fn is_new_duplicate<'a>(
+/// Adds the fault of a name, if an earlier block owns it.
+fn add_name_fault(
     slots: &Slots,
     at: usize,
-    named: &BTreeSet<&'a [u8]>,
-    name: &'a [u8],
-) -> bool
+    name: &RcSlice<u8>,
+    faults: &mut Vec<Fault>,
+) -> Result<(), AllocError>
     requires { IsIndexed slots.now }
-    ensures { result ≡ (is_owned_before (blocks_of slots.now) at name.now && not (is_named named.now name.now)) }
+    ensures { OnOk result (map fault_seen faults.new.items ≡ map fault_seen faults.old.items
+        ++ map (name_fault at) (filter (is_owned_before (blocks_of slots.now) at) (rc_slice_items name.now ∷ []))) }
 {
-    is_owned_before(slots, at, name) && !named.contains(&name)
-}
-
-/// Adds the fault of a name that an earlier block owns.
-fn add_name_fault(at: usize, name: &RcSlice<u8>, faults: &mut Vec<Fault>) -> Result<(), AllocError>
-    ensures { OnOk result (map fault_seen faults.new.items
-        ≡ map fault_seen faults.old.items ++ name_fault at (rc_slice_items name.now) ∷ []) }
-{
-    faults.push(Fault {
-        block: at,
-        line: 1,
-        code: Code::DuplicateName,
-        detail: Some(name.clone()?),
-    })?;
+    if is_owned_before(slots, at, name.as_slice()) {
+        faults.push(Fault {
+            block: at,
+            line: 1,
+            code: Code::DuplicateName,
+            detail: Some(name.clone()?),
+        })?;
+    }
     Ok(())
 }
 
@@ -92,12 +91,13 @@ fn add_name_faults(
     ensures { OnOk result (map fault_seen faults.new.items ≡ map fault_seen faults.old.items
         ++ name_faults (blocks_of slots.now) at (map rc_slice_items names.now)) }
 {
-    let mut named = BTreeSet::new(alloc);
-    for name in names {
-        if is_new_duplicate(slots, at, &named, name.as_slice()) {
-            add_named(&mut named, name.as_slice())?;
-            add_name_fault(at, name, faults)?;
-        }
+    // Few blocks have such a name; for the others no set of names is made.
+    if !has_duplicate(slots, at, names) {
+        return Ok(());
+    }
+    let once = distinct_names(alloc, names)?;
+    for name in &once {
+        add_name_fault(slots, at, name, faults)?;
     }
     Ok(())
 }

@@ -21,6 +21,7 @@
 //! - `slot_edits`: the edits of a settled list, taken back if memory is short
 //! - `rebuilding`: what an edit rebuilds, put into the slots of the blocks
 //! - `owners`: whose a name is
+//! - `names`: each of the names of a block once
 //! - `faults`: what is wrong with a source
 //! - `report`: a fault as text
 #![tactic(auto)]
@@ -30,6 +31,7 @@ mod exchange;
 mod faults;
 mod growing;
 mod judging;
+mod names;
 mod owners;
 mod rebuilding;
 mod report;
@@ -37,5 +39,6 @@ mod slot_edits;
 mod texts;
 
 pub use database::{Database, run};
+pub use names::distinct_names;
 pub use report::{write_detail, write_fault};
 pub use ti_meaning::{Edit, EditError, Edited, Fault, Outcome};

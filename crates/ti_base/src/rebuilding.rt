@@ -1,17 +1,17 @@
 // What an edit rebuilds, or a list that is made in one go: the plan of it, and what the plan found
 // out put into the slots.
-ghost use Rattle.std.specs.Prelude.{◌≡◌, ℕ, Option, Some, All, IsSome, map, length, IfOk, OnOk, OnErr};
-ghost use Rattle.std.specs.Rc.{rc_slice_items};
+ghost use Rattle.std.specs.Prelude.{◌≡◌, ℕ, Option, Some, All, IsSome, length, IfOk, OnOk, OnErr};
 ghost use Rattle.ti_meaning.specs.Exchange.{Exchange};
 ghost use Rattle.ti_meaning.specs.Dependents.{AreDependents, work};
 ghost use Rattle.ti_slots.specs.Slots.{StandsAt, slot_at, blocks_of, slot_texts};
 ghost use Rattle.ti_dependents.specs.Dependents.{IsExchangeOf};
 ghost use Rattle.ti_plan.specs.Plans.{IsReady};
 ghost use Rattle.ti_base.specs.inside.Database.{AreKept, AreRead, settled_at, settled_all};
+ghost use Rattle.ti_base.specs.inside.Exchanges.{names_seen};
 
+use crate::exchange::{entry_of, names_of};
 use std::alloc::{AllocError, Global};
 use std::mem;
-use std::rc::RcSlice;
 use ti_meaning::Edited;
 use ti_plan::{Plan, plan, plan_all};
 use ti_slots::{Settled, Slot, Slots};
@@ -46,24 +46,24 @@ fn install(slots: &mut Slots, mut plan: Plan) -> Edited
 }
 
 /// Rebuilds the blocks that depend on the exchange by which the list came about: the block put in
-/// has the id `put`, the block taken out the names `out`. At an error all is as before.
+/// has the id `put`, and `out` is the block taken out. At an error all is as before.
 pub(crate) fn rebuild(
     alloc: Global,
     slots: &mut Slots,
     put: Option<u32>,
-    out: &[RcSlice<u8>],
+    out: &Option<Slot>,
 ) -> Result<Edited, AllocError>
     requires read { AreRead slots.old }
     requires put { (id : ℕ) → put ≡ Some id → (at : ℕ) × StandsAt slots.old at id }
-    requires ready { IsReady slots.old put (map rc_slice_items out.now) }
+    requires ready { IsReady slots.old put (names_seen out.now) }
     ensures kept { OnOk result (AreKept slots.new) }
     ensures texts { OnOk result (slot_texts slots.new ≡ slot_texts slots.old) }
-    ensures dependents { IfOk result (λ e. (exchange : Exchange) → IsExchangeOf slots.old put (map rc_slice_items out.now) exchange
+    ensures dependents { IfOk result (λ e. (exchange : Exchange) → IsExchangeOf slots.old put (names_seen out.now) exchange
         → AreDependents exchange e.rebuilt.items) }
     ensures steps { IfOk result (λ e. e.work ≡ work (blocks_of slots.old) e.rebuilt.items) }
     ensures err { OnErr result (slots.new ≡ slots.old) }
 {
-    let plan = plan(alloc, slots, put, out)?;
+    let plan = plan(alloc, slots, put, names_of(out), entry_of(out))?;
     Ok(install(slots, plan))
 }
 

@@ -6,7 +6,7 @@ ghost use Rattle.ti_meaning.specs.Dependents.{Rebuilds};
 ghost use Rattle.ti_slots.specs.Slots.{slot_texts};
 ghost use Rattle.ti_base.specs.inside.Database.{AreKept};
 
-use crate::exchange::{forget, make, names_of, read_new, undo};
+use crate::exchange::{forget, make, read_new, undo};
 use crate::rebuilding::rebuild;
 use std::alloc::{AllocError, Global};
 use ti_meaning::{Edit, Edited};
@@ -27,7 +27,7 @@ pub(crate) fn edit_sound(
 {
     let mut spare = read_new(alloc, slots, None, edit)?;
     let id = make(slots, edit, &mut spare);
-    match rebuild(alloc, slots, id, names_of(&spare)) {
+    match rebuild(alloc, slots, id, &spare) {
         Ok(edited) => {
             forget(slots, &spare);
             Ok(edited)

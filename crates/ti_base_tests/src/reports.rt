@@ -4,7 +4,7 @@ use super::steps::{Step, expect_source, expect_steps, source_of};
 use std::alloc::AllocError;
 use std::process::Abort;
 use std::rc::RcSlice;
-use ti_base::{Database, Edit, EditError, Fault};
+use ti_base::{Database, Edit, EditError, Fault, distinct_names};
 use ti_source::Code;
 
 #[rattlefmt::skip]
@@ -125,6 +125,36 @@ fn names_of_blocks(rt: HostRuntime) -> Result<(), EditError> {
         assert!(rt; at < database.len());
         assert!(rt;
             are_names(database.names(at), NAMES[at]),
+            "names of block {at}"
+        );
+    }
+    Ok(())
+}
+
+// Each of these lookup names once.
+const NAMES_ONCE: [&[u8]; 3] = [b"an", b"", b"nc"];
+
+// Whether the names are these bytes.
+fn are_names_once(names: &[&RcSlice<u8>], want: &[u8]) -> bool {
+    if names.len() != want.len() {
+        return false;
+    }
+    for at in 0..want.len() {
+        if names[at].as_slice() != [want[at]].as_slice() {
+            return false;
+        }
+    }
+    true
+}
+
+#[test]
+fn each_name_of_blocks_once(rt: HostRuntime) -> Result<(), EditError> {
+    let database = source_of(rt.alloc(), &SHARED_NAMES)?;
+    for at in 0..NAMES_ONCE.len() {
+        assert!(rt; at < database.len());
+        let once = distinct_names(rt.alloc(), database.names(at))?;
+        assert!(rt;
+            are_names_once(&once, NAMES_ONCE[at]),
             "names of block {at}"
         );
     }

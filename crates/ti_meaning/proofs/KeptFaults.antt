@@ -3,7 +3,6 @@
 use Rattle.std.proofs.Common.{◌≡◌, ℕ, inl, inr, Bool, true, false, cond, List, [], ◌∷◌, ◌++◌, filter, map, Option, Some, None, is_some, option_and_then, refl, sym, ◌∙◌, ap}
 use Rattle.std.proofs.lemmas.Bool.{false_from_ne_true}
 use Rattle.std.proofs.lemmas.List.{map-append}
-use Rattle.std.proofs.lemmas.List.Elements.{filter-append}
 use Rattle.ti_source.specs.declared.code.Code.{Code}
 use Rattle.ti_source.specs.declared.code.Code.TheVariants as code
 use Rattle.ti_source.specs.Reading.{Reading, ReadItem, ReadFault}
@@ -11,10 +10,10 @@ use Rattle.ti_meaning.specs.Owner.{is_among, owner_block}
 use Rattle.ti_meaning.specs.Expansion.{expansion, resolves}
 use Rattle.ti_meaning.specs.Reaching.{used_name, Uses, leads_to}
 use Rattle.ti_meaning.specs.Compiled.{EntryState, unresolved, oversized, written, state_of, entry_of, state_with}
-use Rattle.ti_meaning.specs.Faults.{SourceFault, fault_between, use_fault, local_fault, local_faults, is_kept, name_fault, name_faults, is_owned_before, distinct, fault_of_use, fault_of_item, faults_before, faults_from, item_faults, entry_faults}
+use Rattle.ti_meaning.specs.Faults.{SourceFault, fault_between, use_fault, local_fault, local_faults, is_kept, fault_of_use, fault_of_item, faults_before, faults_from, item_faults, entry_faults}
 use Rattle.ti_meaning.specs.Exchange.{PlacedBlock, with_block, old_list, new_list, shifted_position}
 use Rattle.ti_meaning.specs.Dependents.{touched_names, ReachesOne}
-use Rattle.ti_meaning.specs.KeptBlocks.{is_no_duplicate, moved_to, lasting_faults, UntouchedBlocksAreKept, TouchedInBothLists}
+use Rattle.ti_meaning.specs.KeptBlocks.{moved_to, lasting_faults, UntouchedBlocksAreKept, TouchedInBothLists}
 use Rattle.ti_meaning.proofs.Leading.{leads_to-LeadsTo, LeadsTo-leads_to}
 use Rattle.ti_meaning.proofs.Placing.{owner-with, get-with}
 use Rattle.ti_meaning.proofs.KeptWays.{IsFree}
@@ -22,21 +21,9 @@ use Rattle.ti_meaning.proofs.Exchanging.{IsOff, off_old, off_new, expansion-same
 
 -- ---- faults of the block at another position
 
-filter_step : (v : Bool) (at : ℕ) (f : SourceFault) (xs ys : List SourceFault) → ys ≡ map (moved_to at) xs → cond v (moved_to at f ∷ ys) ys ≡ map (moved_to at) (cond v (f ∷ xs) xs)
-filter_step true at f xs ys e = ap (λ zs. moved_to at f ∷ zs) e
-filter_step false at f xs ys e = e
-
-filter-moved : (at : ℕ) (fs : List SourceFault) → filter is_no_duplicate (map (moved_to at) fs) ≡ map (moved_to at) (filter is_no_duplicate fs)
-filter-moved at [] = refl
-filter-moved at (f ∷ fs) = filter_step (is_no_duplicate f) at f (filter is_no_duplicate fs) (filter is_no_duplicate (map (moved_to at) fs)) (filter-moved at fs)
-
 locals-moved : (p q : ℕ) (fs : List ReadFault) → map (local_fault p) fs ≡ map (moved_to p) (map (local_fault q) fs)
 locals-moved p q [] = refl
 locals-moved p q (f ∷ fs) = ap (λ xs. local_fault p f ∷ xs) (locals-moved p q fs)
-
-names-gone : (at : ℕ) (names : List (List ℕ)) → filter is_no_duplicate (map (name_fault at) names) ≡ []
-names-gone at [] = refl
-names-gone at (n ∷ names) = names-gone at names
 
 entry-moved : (p q : ℕ) (names : List (List ℕ)) (s : EntryState) → entry_faults p names s ≡ map (moved_to p) (entry_faults q names s)
 entry-moved p q names unresolved = refl
@@ -65,35 +52,15 @@ items-moved bs cs p q fs (i ∷ is) h =
       ← items-moved bs cs p q (faults_from i.ordinal fs) is (λ n u. h n (inr u)),
     ) refl
 
--- the lasting faults of a block are those of its parts
-lasting-parts : (l n i e : List SourceFault) → filter is_no_duplicate n ≡ [] → filter is_no_duplicate (l ++ (n ++ (i ++ e))) ≡ filter is_no_duplicate l ++ (filter is_no_duplicate i ++ filter is_no_duplicate e)
-lasting-parts l n i e gone =
-    rw (filter-append is_no_duplicate l (n ++ (i ++ e)), filter-append is_no_duplicate n (i ++ e), gone, filter-append is_no_duplicate i e) refl
-
-parts-moved : (at : ℕ) (l i e l' i' e' : List SourceFault) → l' ≡ map (moved_to at) l → i' ≡ map (moved_to at) i → e' ≡ map (moved_to at) e → filter is_no_duplicate l' ++ (filter is_no_duplicate i' ++ filter is_no_duplicate e') ≡ map (moved_to at) (filter is_no_duplicate l ++ (filter is_no_duplicate i ++ filter is_no_duplicate e))
-parts-moved at l i e l' i' e' f g h =
-    rw (
-      f,
-      g,
-      h,
-      filter-moved at l,
-      filter-moved at i,
-      filter-moved at e,
-      map-append (moved_to at) (filter is_no_duplicate l) (filter is_no_duplicate i ++ filter is_no_duplicate e),
-      map-append (moved_to at) (filter is_no_duplicate i) (filter is_no_duplicate e),
-    ) refl
+parts-moved : (at : ℕ) (l i e l' i' e' : List SourceFault) → l' ≡ map (moved_to at) l → i' ≡ map (moved_to at) i → e' ≡ map (moved_to at) e → l' ++ (i' ++ e') ≡ map (moved_to at) (l ++ (i ++ e))
+parts-moved at l i e l' i' e' f g h = rw (f, g, h, map-append (moved_to at) l (i ++ e), map-append (moved_to at) i e) refl
 
 pub lasting-moved : (bs cs : List Reading) (p q : ℕ) (b : Reading) → ((n : List ℕ) → Uses b.items n → use_fault cs p n ≡ use_fault bs q n) → state_of cs b ≡ state_of bs b → lasting_faults cs p b ≡ map (moved_to p) (lasting_faults bs q b)
 lasting-moved bs cs p q b uses state =
-    let fs = filter (is_kept true) b.faults in
     let gs = filter (is_kept false) b.faults in
-    let old = lasting-parts (local_faults true q b.faults) (name_faults bs q b.names) (item_faults bs q gs b.items) (entry_faults q b.names (state_of bs b)) (names-gone q (filter (is_owned_before bs q) (distinct b.names))) in
-    let new = lasting-parts (local_faults true p b.faults) (name_faults cs p b.names) (item_faults cs p gs b.items) (entry_faults p b.names (state_of cs b)) (names-gone p (filter (is_owned_before cs p) (distinct b.names))) in
-    new
-    ∙ (parts-moved p (local_faults true q b.faults) (item_faults bs q gs b.items) (entry_faults q b.names (state_of bs b))
+    parts-moved p (local_faults true q b.faults) (item_faults bs q gs b.items) (entry_faults q b.names (state_of bs b))
     (local_faults true p b.faults) (item_faults cs p gs b.items) (entry_faults p b.names (state_of cs b))
-    (locals-moved p q fs) (items-moved bs cs p q gs b.items uses) (ap (λ s. entry_faults p b.names s) state ∙ entry-moved p q b.names (state_of bs b))
-    ∙ ap (λ xs. map (moved_to p) xs) (sym old))
+    (locals-moved p q (filter (is_kept true) b.faults)) (items-moved bs cs p q gs b.items uses) (ap (λ s. entry_faults p b.names s) state ∙ entry-moved p q b.names (state_of bs b))
 
 -- ---- the fault of a use that reaches no touched name
 

@@ -20,4 +20,3 @@ pub mod ItemLawProofs
 pub mod ReadOrder
 pub mod DistinctNames
 pub mod Causes
-pub mod NoDuplicates

@@ -1,24 +1,13 @@
 -- What an edit leaves of the blocks that do not depend on it (own).
-use Rattle.std.specs.Prelude.{ℕ, ◌≡◌, ◌↔◌, List, filter, map, Some, option_map, slice_get, Bool, true, false, not}
-use Rattle.ti_source.specs.declared.code.Code.{Code}
-use Rattle.ti_source.specs.declared.code.Code.TheVariants.{DuplicateName}
+use Rattle.std.specs.Prelude.{ℕ, ◌≡◌, ◌↔◌, List, ◌++◌, filter, map, Some, option_map, slice_get, true, false}
 use Rattle.ti_source.specs.Reading.{Reading}
 use Rattle.ti_meaning.specs.Owner.{owner, owner_block}
 use Rattle.ti_meaning.specs.Expansion.{expand, expansion}
 use Rattle.ti_meaning.specs.Reaching.{Uses}
 use Rattle.ti_meaning.specs.Compiled.{entry, state_of}
-use Rattle.ti_meaning.specs.Faults.{SourceFault, block_faults}
+use Rattle.ti_meaning.specs.Faults.{SourceFault, entry_faults, is_kept, item_faults, local_faults}
 use Rattle.ti_meaning.specs.Exchange.{Exchange, IsExchange, old_list, new_list, shifted_position}
 use Rattle.ti_meaning.specs.Dependents.{touched_names, ReachesOne}
-
--- whether the code is that of a name which an earlier block owns
-abbrev pub is_duplicate : Code → Bool
-is_duplicate DuplicateName = true
-is_duplicate _ = false
-
--- whether a fault has another code
-abbrev pub is_no_duplicate : SourceFault → Bool
-is_no_duplicate fault = not (is_duplicate fault.code)
 
 -- the fault of the block when it is at another position
 abbrev pub moved_to : ℕ → SourceFault → SourceFault
@@ -26,7 +15,10 @@ moved_to at fault = record { block = at; line = fault.line; code = fault.code; d
 
 -- the faults of a block at a position, except those about names that earlier blocks own
 abbrev pub lasting_faults : List Reading → ℕ → Reading → List SourceFault
-lasting_faults blocks at block = filter is_no_duplicate (block_faults blocks at block)
+lasting_faults blocks at block =
+    local_faults true at block.faults
+    ++ (item_faults blocks at (filter (is_kept false) block.faults) block.items
+    ++ entry_faults at block.names (state_of blocks block))
 
 -- what remains of a block, at this position of the list without the blocks taken out and put in:
 -- its expansion at every depth, its entry, its faults except for duplicate names, and the owner of

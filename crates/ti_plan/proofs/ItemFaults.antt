@@ -1,16 +1,11 @@
 -- The faults of a block's items, added one item after another, and whether one is of a use.
-use Rattle.std.proofs.Common.{◌≡◌, ℕ, ◌+◌, ◌<◌, ◌≤◌, inl, inr, Bool, true, false, cond, List, ◌∷◌, ◌++◌, append_assoc, filter, length, map, Option, Some, None, is_some, slice_get, refl, sym, ◌∙◌, ap, subst, arith}
+use Rattle.std.proofs.Common.{◌≡◌, ℕ, ◌+◌, ◌<◌, ◌≤◌, inl, inr, Bool, true, false, List, ◌∷◌, ◌++◌, append_assoc, length, map, Option, Some, None, is_some, slice_get, refl, sym, ◌∙◌, ap, subst, arith}
 use Rattle.std.specs.Bool.{MatchBool}
 use Rattle.std.proofs.lemmas.Bool.{cases_eq}
-use Rattle.std.proofs.lemmas.List.Elements.{filter-append}
 use Rattle.std.proofs.lemmas.Option.{same_Some, slice_get_within}
-use Rattle.ti_source.specs.declared.code.Code.TheVariants.{Unresolved}
 use Rattle.ti_source.specs.Reading.{Reading, ReadItem, ReadFault}
-use Rattle.ti_meaning.specs.Expansion.{resolves}
-use Rattle.ti_meaning.specs.Owner.{owner_block}
-use Rattle.ti_meaning.specs.Reaching.{used_name, Uses, leads_to}
-use Rattle.ti_meaning.specs.Faults.{SourceFault, local_fault, fault_between, use_fault, fault_of_use, fault_of_item, faults_before, faults_from, item_faults}
-use Rattle.ti_meaning.specs.KeptBlocks.{is_no_duplicate}
+use Rattle.ti_meaning.specs.Reaching.{used_name, Uses}
+use Rattle.ti_meaning.specs.Faults.{SourceFault, local_fault, use_fault, fault_of_item, faults_before, faults_from, item_faults}
 use Rattle.ti_meaning.specs.UseLaws.{HasUseAtFault}
 use Rattle.ti_meaning.proofs.MentionMerging.{uses_at}
 use Rattle.ti_plan.specs.inside.Settling.{AreUsesSound, is_at_fault}
@@ -18,34 +13,14 @@ use Rattle.ti_plan.proofs.Places.{place_of_use}
 
 -- ---- what is added
 
-abbrev pub lasting : List SourceFault → List SourceFault
-lasting faults = filter is_no_duplicate faults
-
-between_lasts : (at line : ℕ) (name : List ℕ) (o : Option Reading) (back : Bool) (does : Reading → Bool) → lasting (fault_of_use at line name (fault_between o back does)) ≡ fault_of_use at line name (fault_between o back does)
-between_lasts at line name None back does = refl
-between_lasts at line name (Some b) true does = refl
-between_lasts at line name (Some b) false does =
-    elim (does b) as (λ v. lasting (fault_of_use at line name (cond v None (Some Unresolved))) ≡ fault_of_use at line name (cond v None (Some Unresolved))) [ true ↦ refl | false ↦ refl ]
-
--- no fault of a use is of a name that an earlier block owns
-pub use_lasts : (bs : List Reading) (at line : ℕ) (o : Option (List ℕ)) → lasting (fault_of_item bs at line o) ≡ fault_of_item bs at line o
-use_lasts bs at line None = refl
-use_lasts bs at line (Some name) = between_lasts at line name (owner_block bs name) (leads_to bs name at) (resolves bs)
-
 -- the faults before an item and that of the item were added
 pub one_more_item : (bs : List Reading) (at : ℕ) (item : ReadItem) (items : List ReadItem) (faults rest : List ReadFault) (old early new all : List SourceFault)
-    → old ++ lasting (item_faults bs at faults (item ∷ items)) ≡ all
-    → early ≡ old ++ lasting (map (local_fault at) (faults_before item.ordinal faults))
+    → old ++ item_faults bs at faults (item ∷ items) ≡ all
+    → early ≡ old ++ map (local_fault at) (faults_before item.ordinal faults)
     → new ≡ early ++ fault_of_item bs at item.line (used_name item.said)
     → rest ≡ faults_from item.ordinal faults
-    → new ++ lasting (item_faults bs at rest items) ≡ all
-one_more_item bs at item items faults rest old early new all h e f g =
-    let before = map (local_fault at) (faults_before item.ordinal faults) in
-    let here = fault_of_item bs at item.line (used_name item.said) in
-    let later = item_faults bs at (faults_from item.ordinal faults) items in
-    let parts : lasting (before ++ (here ++ later)) ≡ lasting before ++ (here ++ lasting later) =
-    filter-append is_no_duplicate before (here ++ later) ∙ ap (λ x. lasting before ++ x) (filter-append is_no_duplicate here later ∙ ap (λ x. x ++ lasting later) (use_lasts bs at item.line (used_name item.said))) in
-    rw (f, e, g, append_assoc, append_assoc) (ap (λ x. old ++ x) (sym parts) ∙ h)
+    → new ++ item_faults bs at rest items ≡ all
+one_more_item bs at item items faults rest old early new all h e f g = rw (f, e, g, append_assoc, append_assoc) h
 
 -- ---- whether a use is at fault
 

@@ -1,6 +1,6 @@
 -- Lists read from an index on, and lists mapped.
-use Rattle.std.proofs.Common.{◌≡◌, ℕ, suc, ◌+◌, ◌<◌, List, [], ◌∷◌, ◌++◌, length, get_or, take, drop, map, Some, slice_get, All, refl, sym, ◌∙◌, ap, subst, drop-cons, arith}
-use Rattle.std.proofs.lemmas.List.{length-map, map-append, take_more}
+use Rattle.std.proofs.Common.{◌≡◌, ℕ, suc, ◌+◌, ◌<◌, List, ◌∷◌, length, get_or, drop, map, Some, slice_get, All, refl, sym, ◌∙◌, ap, subst, drop-cons, arith}
+use Rattle.std.proofs.lemmas.List.{length-map}
 use Rattle.std.proofs.lemmas.Option.{slice_get_read}
 use Rattle.std.proofs.Math.ListN.{get_or-map}
 pub use Rattle.ti_text.proofs.Lists.{map-take_item}

@@ -1,5 +1,5 @@
 -- A plan from its parts.
-use Rattle.std.proofs.Common.{◌≡◌, ◌<◌, ℕ, List, length, map, ◌+◌, Option, Some, slice_get, All, Contains, refl, sym, ◌∙◌, ap, arith}
+use Rattle.std.proofs.Common.{◌≡◌, ℕ, List, length, map, ◌+◌, Option, Some, slice_get, All, Contains, refl, sym, ◌∙◌, ap, arith}
 use Rattle.std.specs.List.Sorted.{IsPermutation, IsNonDecreasing}
 use Rattle.std.proofs.lemmas.List.{length-map}
 use Rattle.std.proofs.lemmas.List.Sorted.{IsPermutation-sym, Contains-permutation, sum_by-IsPermutation}

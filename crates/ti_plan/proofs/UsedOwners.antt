@@ -15,7 +15,7 @@ use Rattle.ti_meaning.specs.ValueTables.{HasTable}
 use Rattle.ti_meaning.proofs.Leading.{leads_to-LeadsTo, LeadsTo-leads_to}
 use Rattle.ti_meaning.proofs.UseFaults.{use_fault_circular, owner_is}
 use Rattle.ti_meaning.proofs.UseLawProofs.{circular_component, component_circular}
-use Rattle.ti_components.specs.Graph.{Rows, HasEdge}
+use Rattle.ti_components.specs.Graph.{HasEdge}
 use Rattle.ti_slots.specs.declared.slots.Slots.{Slots}
 use Rattle.ti_slots.specs.declared.slots.Slot.{Slot}
 use Rattle.ti_slots.specs.declared.slots.Settled.{Settled}

@@ -5,7 +5,6 @@ ghost use Rattle.std.specs.Bool.{MatchBool};
 ghost use Rattle.std.specs.Rc.{rc_slice_items};
 ghost use Rattle.ti_source.specs.Reading.{fault_of, reading_of, said_of};
 ghost use Rattle.ti_meaning.specs.Faults.{entry_faults, fault_of_item, fault_of_use, faults_before, faults_from, is_kept, item_faults, local_fault, local_faults, use_fault};
-ghost use Rattle.ti_meaning.specs.KeptBlocks.{is_no_duplicate};
 ghost use Rattle.ti_meaning.specs.Reaching.{used_name};
 ghost use Rattle.ti_meaning.specs.UseLaws.{HasUseAtFault};
 ghost use Rattle.ti_slots.specs.Settled.{state_seen};
@@ -18,19 +17,16 @@ use std::rc::RcSlice;
 use ti_slots::{KeptFault, State, copy_detail};
 use ti_source::{Code, Item, Local, Parsed, What};
 
-// Adds a fault that reading gave. One of a name that an earlier block owns is none of these.
+// Adds a fault that reading gave.
 fn add_local(local: &Local, faults: &mut Vec<KeptFault>) -> Result<(), AllocError>
     ghost at: { ℕ }
-    ensures { OnOk result (AddsFaults at faults.old.items faults.new.items
-        (filter is_no_duplicate (local_fault at (fault_of local.now) ∷ []))) }
+    ensures { OnOk result (AddsFaults at faults.old.items faults.new.items (local_fault at (fault_of local.now) ∷ [])) }
 {
-    if !matches!(local.code, Code::DuplicateName) {
-        faults.push(KeptFault {
-            line: local.line,
-            code: local.code,
-            detail: copy_detail(&local.detail)?,
-        })?;
-    }
+    faults.push(KeptFault {
+        line: local.line,
+        code: local.code,
+        detail: copy_detail(&local.detail)?,
+    })?;
     Ok(())
 }
 
@@ -42,7 +38,7 @@ pub(crate) fn add_locals(
 ) -> Result<(), AllocError>
     ghost at: { ℕ }
     ensures { OnOk result (AddsFaults at faults.old.items faults.new.items
-        (filter is_no_duplicate (local_faults of_header at (map fault_of locals.now)))) }
+        (local_faults of_header at (map fault_of locals.now))) }
 {
     for local in locals {
         if local.code.is_of_header() == of_header {
@@ -64,7 +60,7 @@ fn add_before(
     requires { next ≤ length locals.now }
     ensures within { IfOk result (λ rest. rest ≤ length locals.now) }
     ensures added { OnOk result (AddsFaults at faults.old.items faults.new.items
-        (filter is_no_duplicate (map (local_fault at) (faults_before ordinal (filter (is_kept false) (map fault_of (drop next locals.now))))))) }
+        (map (local_fault at) (faults_before ordinal (filter (is_kept false) (map fault_of (drop next locals.now)))))) }
     ensures rest { IfOk result (λ rest. filter (is_kept false) (map fault_of (drop rest locals.now))
         ≡ faults_from ordinal (filter (is_kept false) (map fault_of (drop next locals.now)))) }
 {
@@ -142,8 +138,7 @@ pub(crate) fn add_item_faults(
     requires ready { CanSettle known.now node at }
     requires block { slice_get (blocks_known known.now) at ≡ Some (reading_of block.now) }
     ensures added { OnOk result (AddsFaults at faults.old.items faults.new.items
-        (filter is_no_duplicate (item_faults (blocks_known known.now) at
-        (filter (is_kept false) (reading_of block.now).faults) (reading_of block.now).items))) }
+        (item_faults (blocks_known known.now) at (filter (is_kept false) (reading_of block.now).faults) (reading_of block.now).items)) }
     ensures found { IfOk result (λ is_wrong. MatchBool is_wrong
         (HasUseAtFault (blocks_known known.now) at (reading_of block.now)) (AreUsesSound (blocks_known known.now) at)) }
 {

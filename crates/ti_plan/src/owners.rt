@@ -6,17 +6,19 @@ ghost use Rattle.ti_plan.specs.inside.Settling.{CanSettle, IsOwnerState, IsUseAt
 
 use ti_compiled::Table;
 use ti_dependents::Dependents;
-use ti_slots::{Settled, Slots, State};
+use ti_slots::{BlockEntry, Settled, Slots, State};
 use ti_source::Code;
 
-/// What settling a block reads: the list, the blocks that depend on the edit, their components, and
-/// what was found out so far about each of them.
+/// What settling a block reads: the list, the blocks that depend on the edit, their components,
+/// what was found out so far about each of them, and the entry of the block that the edit takes
+/// out.
 #[derive(Drop)]
 pub(crate) struct Known<'a> {
     pub(crate) slots: &'a Slots,
     pub(crate) dependents: &'a Dependents,
     pub(crate) component_of: &'a [usize],
     pub(crate) settled: &'a [Settled],
+    pub(crate) entry_out: Option<&'a BlockEntry>,
 }
 
 // What became of the owner of a name, which an item of the block at a node uses; or what is wrong

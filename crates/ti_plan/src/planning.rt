@@ -15,7 +15,7 @@ use std::alloc::{AllocError, Global};
 use std::rc::RcSlice;
 use ti_components::Components;
 use ti_dependents::{Dependents, find_all, find_dependents};
-use ti_slots::{Settled, Slots, State};
+use ti_slots::{BlockEntry, Settled, Slots, State};
 
 // What a list of so many blocks has for each before it is settled. None of it is read.
 fn unsettled_nodes(alloc: Global, count: usize) -> Result<Vec<Settled>, AllocError>
@@ -38,6 +38,7 @@ fn settle_all(
     slots: &Slots,
     dependents: &Dependents,
     components: &Components,
+    entry_out: Option<&BlockEntry>,
     steps: &mut u64,
 ) -> Result<Vec<Settled>, AllocError>
     requires found { AreFoundIn slots.now dependents.now }
@@ -54,6 +55,7 @@ fn settle_all(
             dependents,
             component_of: &components.component_of,
             settled: &settled,
+            entry_out,
         };
         let one = settle(alloc, &known, *node, steps)?;
         settled[*node] = one;
@@ -61,8 +63,13 @@ fn settle_all(
     Ok(settled)
 }
 
-// The plan that rebuilds these blocks.
-fn make_plan(alloc: Global, slots: &Slots, dependents: Dependents) -> Result<Plan, AllocError>
+// The plan that rebuilds these blocks, after an edit that takes out a block with that entry.
+fn make_plan(
+    alloc: Global,
+    slots: &Slots,
+    dependents: Dependents,
+    entry_out: Option<&BlockEntry>,
+) -> Result<Plan, AllocError>
     requires { AreFoundIn slots.now dependents }
     ensures { IfOk result (λ plan. IsPlanOf slots.now dependents plan) }
 {
@@ -70,7 +77,7 @@ fn make_plan(alloc: Global, slots: &Slots, dependents: Dependents) -> Result<Pla
     // Each step has an edge, so the number of steps fits because this one does.
     let _edges = dependents.uses.edge_count();
     let mut work = 0;
-    let settled = settle_all(alloc, slots, &dependents, &components, &mut work)?;
+    let settled = settle_all(alloc, slots, &dependents, &components, entry_out, &mut work)?;
     let Dependents {
         ids,
         positions: mut rebuilt,
@@ -88,8 +95,10 @@ fn make_plan(alloc: Global, slots: &Slots, dependents: Dependents) -> Result<Pla
 /// The plan of an edit of a list: of the block put in, which has the id `put`, and each block that
 /// reaches a name of it or one of the names `out` of the block taken out, what is found out about
 /// it in the new list. The list is the new one; what its slots hold of all other blocks is right.
-/// The time is linear, up to a logarithm, in what the blocks found say, in how many use their names
-/// and in the values that they have.
+/// `entry_out` is the entry of the block taken out, if it has one: of a block with the same names
+/// that has no entry of its own, the entry is a copy of it, patched. The time is linear, up to a
+/// logarithm, in what the blocks found say, in how many use their names and in the values that they
+/// have.
 ///
 /// # Errors
 /// Out of memory.
@@ -98,6 +107,7 @@ pub fn plan(
     slots: &Slots,
     put: Option<u32>,
     out: &[RcSlice<u8>],
+    entry_out: Option<&BlockEntry>,
 ) -> Result<Plan, AllocError>
     requires indexed { IsIndexed slots.now }
     requires usable { All IsUsable (blocks_of slots.now) }
@@ -106,7 +116,7 @@ pub fn plan(
     ensures { IfOk result (λ plan. IsPlan slots.now put (map rc_slice_items out.now) plan) }
 {
     let dependents = find_dependents(alloc, slots, put, out)?;
-    make_plan(alloc, slots, dependents)
+    make_plan(alloc, slots, dependents, entry_out)
 }
 
 /// The plan of a list that is made in one go: what is found out about each of its blocks. Nothing
@@ -122,5 +132,5 @@ pub fn plan_all(alloc: Global, slots: &Slots) -> Result<Plan, AllocError>
     ensures { IfOk result (λ plan. IsPlanOfAll slots.now plan) }
 {
     let all = find_all(alloc, slots)?;
-    make_plan(alloc, slots, all)
+    make_plan(alloc, slots, all, None)
 }

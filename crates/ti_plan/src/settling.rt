@@ -41,11 +41,11 @@ fn slot_of<'a>(known: &Known<'a>, node: usize) -> &'a Slot
 }
 
 // What becomes of the block at a node, of which one use at least is at fault, or none.
-fn find_state(
+fn find_state<'a>(
     alloc: Global,
-    known: &Known,
+    known: &Known<'a>,
     node: usize,
-    slot: &Slot,
+    slot: &'a Slot,
     is_wrong: bool,
     work: &mut u64,
 ) -> Result<State, AllocError>

@@ -95,9 +95,23 @@ fn make_table(
     mentions.into_table()
 }
 
-// The image of a sound block that has this table. If the entry that the block had before has the
-// same names, a copy of it is patched; else the image is written anew.
-fn make_image(alloc: Global, slot: &Slot, table: &Table) -> Result<Image, WriteError>
+// The entry of before that the block in a slot may be patched from: its own, or else that of the
+// block taken out.
+fn entry_before<'a>(known: &Known<'a>, slot: &'a Slot) -> Option<&'a BlockEntry> {
+    match slot.settled.state.entry() {
+        Some(entry) => Some(entry),
+        None => known.entry_out,
+    }
+}
+
+// The image of a sound block that has this table. If the entry of before has the same names, a copy
+// of it is patched; else the image is written anew.
+fn make_image(
+    alloc: Global,
+    slot: &Slot,
+    before: Option<&BlockEntry>,
+    table: &Table,
+) -> Result<Image, WriteError>
     requires whole { is_broken (reading_of slot.now.block) ≡ false }
     requires usable { IsUsable (reading_of slot.now.block) }
     ensures image { IfOk result (λ i. bytes_of i ≡ image slot.now.block.field.items (contents table.now)) }
@@ -107,7 +121,7 @@ fn make_image(alloc: Global, slot: &Slot, table: &Table) -> Result<Image, WriteE
     ensures names_fit { IsErrOf result WriteError.NamesTooLong → ⊥ }
 {
     let names = &slot.block.field;
-    match slot.settled.state.entry() {
+    match before {
         Some(before) if before.image.names() == names.as_slice() => {
             before.image.patch(&before.table, table)
         }
@@ -115,15 +129,20 @@ fn make_image(alloc: Global, slot: &Slot, table: &Table) -> Result<Image, WriteE
     }
 }
 
-// What becomes of a sound block that has this table.
-fn make_state(alloc: Global, slot: &Slot, table: Table) -> Result<State, AllocError>
+// What becomes of a sound block that has this table, given the entry of before.
+fn make_state(
+    alloc: Global,
+    slot: &Slot,
+    before: Option<&BlockEntry>,
+    table: Table,
+) -> Result<State, AllocError>
     requires whole { is_broken (reading_of slot.now.block) ≡ false }
     requires usable { IsUsable (reading_of slot.now.block) }
     ensures table { IfOk result (λ state. table_of state ≡ Some table) }
     ensures state { IfOk result (λ state. (mentions : List Mention) → IsTableOfMentions (contents table) mentions
         → state_seen state ≡ state_with (reading_of slot.now.block) (Some mentions)) }
 {
-    match make_image(alloc, slot, &table) {
+    match make_image(alloc, slot, before, &table) {
         Ok(image) => Ok(State::Compiled(BlockEntry { table, image })),
         Err(WriteError::TooLarge) => Ok(State::TooLarge(table)),
         Err(WriteError::Memory) => Err(AllocError),
@@ -132,11 +151,11 @@ fn make_state(alloc: Global, slot: &Slot, table: Table) -> Result<State, AllocEr
 }
 
 /// What becomes of the block at a node, which is sound, as are its uses.
-pub(crate) fn compile(
+pub(crate) fn compile<'a>(
     alloc: Global,
-    known: &Known,
+    known: &Known<'a>,
     node: usize,
-    slot: &Slot,
+    slot: &'a Slot,
     work: &mut u64,
 ) -> Result<State, AllocError>
     ghost at: { ℕ }
@@ -150,5 +169,5 @@ pub(crate) fn compile(
     ensures work { OnOk result (work.new ≡ work.old + work_of (blocks_known known.now) (Some (reading_of slot.now.block))) }
 {
     let table = make_table(alloc, known, node, &slot.block, work)?;
-    make_state(alloc, slot, table)
+    make_state(alloc, slot, entry_before(known, slot), table)
 }

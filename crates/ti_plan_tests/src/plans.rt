@@ -78,7 +78,7 @@ fn plan_all(alloc: Global, slots: &Slots, id: u32) -> Result<Plan, Fail>
     if !are_all(slots.order.ids().len(), &found.positions) {
         return Err(Fail::new("a block that does not depend"));
     }
-    Ok(plan(alloc, slots, Some(id), &[])?)
+    Ok(plan(alloc, slots, Some(id), &[], None)?)
 }
 
 // What a plan finds out about the block at a position.

@@ -12,7 +12,7 @@ use Rattle.ti_slots.specs.Slots.{IsIndexed, StandsAt, blocks_of, slot_texts}
 use Rattle.ti_slots.specs.Changes.{HasRoomFor, TakesOut}
 use Rattle.ti_dependents.specs.Dependents.{IsExchangeOf}
 use Rattle.ti_plan.specs.Plans.{IsReady}
-use Rattle.ti_base.specs.inside.Database.{AreRead, SlotsAreSettled, IsSoundSlot, PlacedSlot, HasId, slots_of, with_settled, with_slot}
+use Rattle.ti_base.specs.inside.Database.{AreRead, SlotsAreSettled, IsSoundSlot, PlacedSlot, HasId, slots_of, with_slot}
 
 -- ---- an edit in its parts
 
@@ -60,25 +60,15 @@ abbrev pub slot_out : List (Option Slot) → Option ℕ → Option Slot
 slot_out listed None = None
 slot_out listed (Some at) = option_flatten (slice_get listed at)
 
--- a new slot with what was found out about a block taken out, if one was, and that slot with what
--- the new one had
-abbrev pub settled_as : Option Slot → Slot → Slot
-settled_as None new = new
-settled_as (Some old) new = with_settled old.settled new
-
-abbrev pub unsettled_as : Option Slot → Slot → Option Slot
-unsettled_as None new = None
-unsettled_as (Some old) new = Some (with_settled new.settled old)
-
 -- the slot put in: the spare one, or the one taken out if there is none
 abbrev pub slot_put : Option Slot → Option Slot → Option Slot
 slot_put out None = out
-slot_put out (Some new) = Some (settled_as out new)
+slot_put out (Some new) = Some new
 
 -- the other one
 abbrev pub slot_left : Option Slot → Option Slot → Option Slot
 slot_left out None = None
-slot_left out (Some new) = unsettled_as out new
+slot_left out (Some new) = out
 
 -- the slot that is spare then, if one is
 abbrev pub spare_after : Option ℕ → Option Slot → Option Slot → Option Slot

@@ -1,5 +1,5 @@
 -- What is known while the blocks that depend on an edit are settled (own).
-use Rattle.std.specs.Prelude.{ℕ, ◌≡◌, ◌<◌, ◌⊎◌, ◌↔◌, List, length, slice_index, Option, Some, None, is_some, Bool, slice_get, All, Contains, false}
+use Rattle.std.specs.Prelude.{ℕ, ◌≡◌, ◌⊎◌, ◌↔◌, List, length, slice_index, Option, Some, None, is_some, Bool, slice_get, All, Contains, false}
 use Rattle.ti_source.specs.Reading.{Reading, ReadItem, Said}
 use Rattle.ti_layout.specs.Values.{contents, Contents}
 use Rattle.ti_source.specs.Sound.{IsRising}
@@ -11,7 +11,7 @@ use Rattle.ti_meaning.specs.Faults.{use_fault}
 use Rattle.ti_meaning.specs.Usable.{IsUsable}
 use Rattle.ti_meaning.specs.UseLaws.{AreFound, HaveOneNumber}
 use Rattle.ti_meaning.specs.ValueTables.{HasTable, IsTableOfMentions}
-use Rattle.ti_components.specs.Graph.{Rows, HasEdge, IsGraph}
+use Rattle.ti_components.specs.Graph.{HasEdge, IsGraph}
 use Rattle.ti_components.specs.Components.{AreComponents}
 use Rattle.ti_text.specs.Lists.{AreDistinct}
 use Rattle.ti_slots.specs.declared.slots.Slots.{Slots}

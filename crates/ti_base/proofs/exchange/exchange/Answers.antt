@@ -1,4 +1,4 @@
-use Rattle.std.proofs.Common.{Some, None, subst, sym, ◌∙◌}
+use Rattle.std.proofs.Common.{subst, sym, ◌∙◌}
 use Rattle.ti_base.specs.inside.Exchanges.{CanExchange}
 use Rattle.ti_base.proofs.SlotExchanges.{exchanged_out, exchanged_put, is_left, put_fits, put_there, put_room}
 use Rattle.ti_base.proofs.exchange.exchange.Goals as goal

@@ -1,19 +1,23 @@
-use Rattle.std.proofs.Common.{map}
-use Rattle.std.specs.Rc.{rc_slice_items}
+use Rattle.ti_base.specs.inside.Exchanges.{names_seen}
 use Rattle.ti_base.proofs.Installing.{all_usable, all_stand, kept_installed, texts_stay}
 use Rattle.ti_base.proofs.rebuilding.rebuild.Goals as goal
 
 pub plan-requires-clause-usable : goal.plan-requires-clause-usable
 plan-requires-clause-usable c = all_usable c.args.slots.now c.requires.read
 
+pub plan-requires-clause-ready : goal.plan-requires-clause-ready
+plan-requires-clause-ready c = rw c.names_of.ensures c.requires.ready
+
 pub install-requires-clause-stand : goal.install-requires-clause-stand
 install-requires-clause-stand c =
-    all_stand c.args.slots.now c.args.put (map rc_slice_items c.args.out.now) c.in_ok-plan.plan c.requires.read.indexed c.in_ok-plan.ensures
+    let is = rw c.names_of.ensures at c.in_ok-plan.ensures in
+    all_stand c.args.slots.now c.args.put (names_seen c.args.out.now) c.in_ok-plan.plan c.requires.read.indexed is
 
 pub returns-clause-kept : goal.returns-clause-kept
 returns-clause-kept c =
+    let is = rw c.names_of.ensures at c.in_ok-plan.ensures in
     let e = c.install.ensures in
-    kept_installed c.args.slots.now c.install.new.slots c.args.put (map rc_slice_items c.args.out.now) c.in_ok-plan.plan c.requires.read c.requires.ready c.in_ok-plan.ensures
+    kept_installed c.args.slots.now c.install.new.slots c.args.put (names_seen c.args.out.now) c.in_ok-plan.plan c.requires.read c.requires.ready is
     (record { order = e.order; names = e.names; slots = e.slots })
 
 pub returns-clause-texts : goal.returns-clause-texts

@@ -1,8 +1,6 @@
-use Rattle.std.proofs.Common.{◌≡◌, ap, subst, sym, ◌∙◌}
+use Rattle.std.proofs.Common.{ap, subst, sym, ◌∙◌}
 use Rattle.ti_meaning.specs.Edits.{IsSoundEdit, change_of, list_after}
-use Rattle.ti_meaning.specs.Exchange.{Exchange}
-use Rattle.ti_meaning.specs.Dependents.{AreDependents, Rebuilds}
-use Rattle.ti_dependents.specs.Dependents.{IsExchangeOf}
+use Rattle.ti_meaning.specs.Dependents.{Rebuilds}
 use Rattle.ti_base.specs.inside.Database.{SlotsAreSettled}
 use Rattle.ti_base.specs.inside.Exchanges.{CanUndo}
 use Rattle.ti_base.proofs.SlotExchanges.{kept_same, read_same, texts_back}
@@ -14,7 +12,7 @@ make-id-requires-clause-sound c = subst (λ texts. IsSoundEdit texts (change_of 
 
 pub rebuild-requires-clause-ready : goal.rebuild-requires-clause-ready
 rebuild-requires-clause-ready c =
-    rw c.names_of.ensures (c.make-id.ensures.edited.ready (subst SlotsAreSettled (sym c.read_new.ensures.slots) c.requires.kept.settled))
+    c.make-id.ensures.edited.ready (subst SlotsAreSettled (sym c.read_new.ensures.slots) c.requires.kept.settled)
 
 pub returns-in-Ok-clause-kept : goal.returns-in-Ok-clause-kept
 returns-in-Ok-clause-kept c = kept_same c.rebuild.new.slots c.forget.new.slots c.in-Ok.ensures.kept c.forget.ensures.read c.forget.ensures.slots
@@ -28,9 +26,8 @@ returns-in-Ok-clause-texts c =
 pub returns-in-Ok-clause-rebuilds : goal.returns-in-Ok-clause-rebuilds
 returns-in-Ok-clause-rebuilds c =
     let e = c.in-Ok.edited in
-    let dependents = subst (λ names. (x : Exchange) → IsExchangeOf c.make-id.new.slots c.make-id.result names x → AreDependents x e.rebuilt.items) c.names_of.ensures c.in-Ok.ensures.dependents in
     subst (λ texts. Rebuilds texts (change_of c.args.edit.now) e.rebuilt.items e.work) c.read_new.ensures.texts
-    (c.make-id.ensures.edited.rebuilds e.rebuilt.items e.work dependents c.in-Ok.ensures.steps)
+    (c.make-id.ensures.edited.rebuilds e.rebuilt.items e.work c.in-Ok.ensures.dependents c.in-Ok.ensures.steps)
 
 -- ---- the way back
 

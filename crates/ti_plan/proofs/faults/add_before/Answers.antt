@@ -1,13 +1,10 @@
 use Rattle.std.proofs.Common.{◌≡◌, ℕ, ◌+◌, ◌<◌, ◌≤◌, true, false, List, [], ◌∷◌, ◌++◌, append_assoc, append-nil, filter, map, drop, refl, sym, ap, ◌∙◌, arith}
-use Rattle.std.proofs.lemmas.List.Elements.{filter-append}
 use Rattle.std.proofs.Math.Seq.{drop-length}
 use Rattle.std.proofs.lemmas.Grind.{common_steps}
 use Rattle.ti_slots.specs.Settled.{fault_at}
 use Rattle.ti_source.specs.Code.{is_of_header}
 use Rattle.ti_source.specs.Reading.{ReadFault, fault_of}
 use Rattle.ti_meaning.specs.Faults.{SourceFault, faults_before, faults_from, is_kept, local_fault}
-use Rattle.ti_meaning.specs.KeptBlocks.{is_no_duplicate}
-use Rattle.ti_plan.proofs.ItemFaults.{lasting}
 use Rattle.ti_plan.proofs.ItemLists.{map-drop_item}
 use Rattle.ti_plan.proofs.faults.add_before.Goals as goal
 use Rattle.ti_plan.proofs.faults.add_before.Goals.{then-not-is_of_header+else-local-ordinal+in_ok-add_local, else-not-is_of_header}
@@ -17,7 +14,7 @@ of_items faults = filter (is_kept false) faults
 
 -- what is added of these faults: those before an item at that ordinal
 abbrev added : ℕ → ℕ → List ReadFault → List SourceFault
-added at ordinal faults = lasting (map (local_fault at) (faults_before ordinal (of_items faults)))
+added at ordinal faults = map (local_fault at) (faults_before ordinal (of_items faults))
 
 skipped : (f : ReadFault) (rest : List ReadFault) → is_of_header f.code ≡ true → of_items (f ∷ rest) ≡ of_items rest
 skipped f rest e = rw e refl
@@ -39,16 +36,15 @@ all_from ordinal f rest l = grind (arith, common_steps)
 
 -- one more fault is added, and those after it are to be added as before
 more_added : (at ordinal : ℕ) (f : ReadFault) (rest : List ReadFault) (old new all : List SourceFault) → is_of_header f.code ≡ false → f.ordinal < ordinal
-    → old ++ added at ordinal (f ∷ rest) ≡ all → new ≡ old ++ lasting (local_fault at f ∷ []) → new ++ added at ordinal rest ≡ all
+    → old ++ added at ordinal (f ∷ rest) ≡ all → new ≡ old ++ local_fault at f ∷ [] → new ++ added at ordinal rest ≡ all
 more_added at ordinal f rest old new all e l h n =
-    let parts : added at ordinal (f ∷ rest) ≡ lasting (local_fault at f ∷ []) ++ added at ordinal rest =
-    ap (λ fs. lasting (map (local_fault at) fs)) (ap (faults_before ordinal) (taken f rest e) ∙ one_before ordinal f (of_items rest) l)
-    ∙ filter-append is_no_duplicate (local_fault at f ∷ []) (map (local_fault at) (faults_before ordinal (of_items rest))) in
+    let parts : added at ordinal (f ∷ rest) ≡ local_fault at f ∷ added at ordinal rest =
+    ap (map (local_fault at)) (ap (faults_before ordinal) (taken f rest e) ∙ one_before ordinal f (of_items rest) l) in
     rw (n, append_assoc) (ap (λ x. old ++ x) (sym parts) ∙ h)
 
 none_added : (at ordinal : ℕ) (f : ReadFault) (rest : List ReadFault) (old all : List SourceFault) → is_of_header f.code ≡ false → ordinal ≤ f.ordinal → old ++ added at ordinal (f ∷ rest) ≡ all → old ≡ all
 none_added at ordinal f rest old all e l h =
-    let none : added at ordinal (f ∷ rest) ≡ [] = ap (λ fs. lasting (map (local_fault at) fs)) (ap (faults_before ordinal) (taken f rest e) ∙ none_before ordinal f (of_items rest) l) in
+    let none : added at ordinal (f ∷ rest) ≡ [] = ap (map (local_fault at)) (ap (faults_before ordinal) (taken f rest e) ∙ none_before ordinal f (of_items rest) l) in
     sym (append-nil old) ∙ (ap (λ x. old ++ x) (sym none) ∙ h)
 
 next_within : (i n : ℕ) → i < n → i + 1 ≤ n

@@ -6,20 +6,17 @@ use Rattle.ti_source.specs.Code.{is_of_header}
 use Rattle.ti_source.specs.Reading.{ReadFault, fault_of}
 use Rattle.ti_slots.specs.Settled.{fault_at}
 use Rattle.ti_meaning.specs.Faults.{SourceFault, is_kept, local_fault, local_faults}
-use Rattle.ti_meaning.specs.KeptBlocks.{is_no_duplicate}
-use Rattle.ti_plan.proofs.ItemFaults.{lasting}
 use Rattle.ti_plan.proofs.ItemLists.{map-take_item}
 use Rattle.ti_plan.proofs.faults.add_locals.Goals as goal
 use Rattle.ti_plan.proofs.faults.add_locals.Goals.{then-is_of_header-of_header+in_ok-add_local, else-is_of_header-of_header}
 
 -- the faults of one more are those before it and its own
-parted : (of_header : Bool) (at : ℕ) (front : List ReadFault) (f : ReadFault) → lasting (local_faults of_header at (front ++ f ∷ [])) ≡ lasting (local_faults of_header at front) ++ lasting (local_faults of_header at (f ∷ []))
+parted : (of_header : Bool) (at : ℕ) (front : List ReadFault) (f : ReadFault) → local_faults of_header at (front ++ f ∷ []) ≡ local_faults of_header at front ++ local_faults of_header at (f ∷ [])
 parted of_header at front f =
-    ap (λ fs. lasting (map (local_fault at) fs)) (filter-append (is_kept of_header) front (f ∷ []))
-    ∙ (ap lasting (map-append (local_fault at) (filter (is_kept of_header) front) (filter (is_kept of_header) (f ∷ [])))
-    ∙ filter-append is_no_duplicate (local_faults of_header at front) (local_faults of_header at (f ∷ [])))
+    ap (map (local_fault at)) (filter-append (is_kept of_header) front (f ∷ []))
+    ∙ map-append (local_fault at) (filter (is_kept of_header) front) (filter (is_kept of_header) (f ∷ []))
 
-one_more : (of_header : Bool) (at : ℕ) (front : List ReadFault) (f : ReadFault) (old before new : List SourceFault) → before ≡ old ++ lasting (local_faults of_header at front) → new ≡ before ++ lasting (local_faults of_header at (f ∷ [])) → new ≡ old ++ lasting (local_faults of_header at (front ++ f ∷ []))
+one_more : (of_header : Bool) (at : ℕ) (front : List ReadFault) (f : ReadFault) (old before new : List SourceFault) → before ≡ old ++ local_faults of_header at front → new ≡ before ++ local_faults of_header at (f ∷ []) → new ≡ old ++ local_faults of_header at (front ++ f ∷ [])
 one_more of_header at front f old before new b n = rw (n, b, append_assoc, ← parted of_header at front f) refl
 
 beq-true : (b : Bool) → b ≡ beq b true

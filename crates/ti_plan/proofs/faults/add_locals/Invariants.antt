@@ -1,7 +1,6 @@
-use Rattle.std.proofs.Common.{◌≡◌, ◌++◌, filter, map, take}
+use Rattle.std.proofs.Common.{◌≡◌, ◌++◌, map, take}
 use Rattle.ti_source.specs.Reading.{fault_of}
 use Rattle.ti_meaning.specs.Faults.{local_faults}
-use Rattle.ti_meaning.specs.KeptBlocks.{is_no_duplicate}
 use Rattle.ti_slots.specs.Settled.{fault_at}
 use Rattle.ti_plan.proofs.faults.add_locals.Given as goal
 
@@ -10,4 +9,4 @@ ghost-add_local g a = g.at
 
 abbrev pub invariant-loop-local : goal.invariant-loop-local
 invariant-loop-local g l =
-    map (fault_at g.at) l.faults.items ≡ map (fault_at g.at) l.fn.faults.items ++ filter is_no_duplicate (local_faults l.of_header g.at (map fault_of (take l.local-index l.locals)))
+    map (fault_at g.at) l.faults.items ≡ map (fault_at g.at) l.fn.faults.items ++ local_faults l.of_header g.at (map fault_of (take l.local-index l.locals))
