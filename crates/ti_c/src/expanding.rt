@@ -3,7 +3,7 @@ ghost use Rattle.std.specs.Prelude.{◌≡◌, ◌≢◌, ◌<◌, ◌≤◌, �
 ghost use Rattle.ti_param.specs.Expansion.{Overflows};
 ghost use Rattle.ti_param.specs.Formats.{FormatTree, IsTree, IsStuck};
 ghost use Rattle.ti_param.specs.Meaning.{argument_of};
-ghost use Rattle.ti_c.specs.Expanding.{argument_at, arguments_of, IsExpanded, IsTooLong};
+ghost use Rattle.ti_c.specs.Expanding.{arguments_of, given_argument, IsExpanded, IsTooLong};
 
 use crate::answers::{BAD_FORMAT, NO_MEMORY, NO_ROOM, OK, Outcome, STACK_FULL, write_to};
 use std::alloc::Global;
@@ -26,33 +26,26 @@ pub struct Variables {
     pub values: [i32; LETTERS],
 }
 
-// The parameter at a place; one that is not given is the number 0.
-fn argument_at<'a>(params: &[Parameter<'a>], place: usize) -> Value<'a>
-    ensures { argument_of result ≡ argument_at params.now place }
+// What a parameter gives to a format.
+fn value_of<'a>(param: &Parameter<'a>) -> Value<'a>
+    ensures { argument_of result ≡ given_argument param.now }
 {
-    match params.get(place) {
-        None => Value::Number(0),
-        Some(param) if param.kind == 0 => Value::Number(param.number),
-        Some(param) => Value::Text(param.text),
+    if param.kind == 0 {
+        Value::Number(param.number)
+    } else {
+        Value::Text(param.text)
     }
 }
 
-// The nine parameters.
-#[tactic(auto, unfolding(crate::specs::Expanding::arguments_of))]
+// The nine parameters; each that is not given is the number 0.
 fn arguments<'a>(params: &[Parameter<'a>]) -> [Value<'a>; PARAMETERS_MAX]
     ensures { map argument_of result ≡ arguments_of params.now }
 {
-    [
-        argument_at(params, 0),
-        argument_at(params, 1),
-        argument_at(params, 2),
-        argument_at(params, 3),
-        argument_at(params, 4),
-        argument_at(params, 5),
-        argument_at(params, 6),
-        argument_at(params, 7),
-        argument_at(params, 8),
-    ]
+    let mut values = [Value::Number(0); PARAMETERS_MAX];
+    for place in 0..params.len().min(PARAMETERS_MAX) {
+        values[place] = value_of(&params[place]);
+    }
+    values
 }
 
 /// Expands a string with its parameters, of which those after the ninth are not looked at, and
