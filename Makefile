@@ -18,8 +18,8 @@
 #                   LIBDIR and INCLUDEDIR
 #   make uninstall  takes all of that away again
 #   make dist       makes ti-VERSION.tar.gz of the last commit, which builds
-#   make deb        makes Debian packages of the built program, in packages/
-#   make release    makes archives of the built program and of the source, in packages/
+#   make deb        makes Debian packages of the built programs, in packages/
+#   make release    makes archives of the built programs and of the source, in packages/
 #   make reproduce  builds two clones of the last commit, and compares what they give
 
 PREFIX ?= /usr/local
@@ -36,6 +36,7 @@ VERSION := $(shell cat VERSION)
 PROGRAM = crates/ti/out/ti
 LSP = crates/ti_lsp/out/ti_lsp
 EXAMPLES = $(wildcard examples/*)
+EDITORS = $(filter-out editors/vscode,$(wildcard editors/* editors/vscode/*))
 PAGES = man/ti.1 man/ti-tic.1 man/ti-infocmp.1 man/ti-tput.1 man/ti-session.1 man/ti-report.7
 TOOL_NAMES = ti-tic ti-infocmp ti-tput
 LIBRARY = crates/ti_c/out/lib
@@ -103,7 +104,10 @@ endif
 	if test -f $(LIBRARY)/libti.a; then $(MAKE) -s install-library; fi
 	if test -x $(LSP); then \
 		install -m 755 $(LSP) "$(DESTDIR)$(BINDIR)/ti-lsp" && \
-		install -m 644 man/ti-lsp.1 "$(DESTDIR)$(MANDIR)/man1/ti-lsp.1"; \
+		install -m 644 man/ti-lsp.1 "$(DESTDIR)$(MANDIR)/man1/ti-lsp.1" || exit 1; \
+		for file in $(EDITORS); do \
+			install -D -m 644 "$$file" "$(DESTDIR)$(EXAMPLESDIR)/$$file" || exit 1; \
+		done; \
 	fi
 
 install-library:
@@ -124,6 +128,8 @@ uninstall: uninstall-library
 	done
 	rm -f "$(DESTDIR)$(BASHDIR)/ti" "$(DESTDIR)$(ZSHDIR)/_ti" "$(DESTDIR)$(FISHDIR)/ti.fish"
 	for example in $(EXAMPLES); do rm -f "$(DESTDIR)$(EXAMPLESDIR)/$${example##*/}"; done
+	for file in $(EDITORS); do rm -f "$(DESTDIR)$(EXAMPLESDIR)/$$file"; done
+	rmdir "$(DESTDIR)$(EXAMPLESDIR)/editors/vscode" "$(DESTDIR)$(EXAMPLESDIR)/editors" 2>/dev/null || true
 	rmdir "$(DESTDIR)$(EXAMPLESDIR)" "$$(dirname "$(DESTDIR)$(EXAMPLESDIR)")" 2>/dev/null || true
 	for tool in $(TOOL_NAMES); do \
 		rm -f "$(DESTDIR)$(BINDIR)/$$tool" "$(DESTDIR)$(BASHDIR)/$$tool" "$(DESTDIR)$(FISHDIR)/$$tool.fish"; \
@@ -136,10 +142,10 @@ dist:
 	git archive --format=tar.gz --prefix=ti-$(VERSION)/ -o ti-$(VERSION).tar.gz HEAD
 	@echo ti-$(VERSION).tar.gz
 
-deb: all
+deb: all lsp
 	python3 build/packages.py deb
 
-release: all
+release: all lsp
 	python3 build/packages.py release
 
 reproduce:

@@ -29,7 +29,8 @@ uninstall)
     find bin include lib share -type f -o -type l 2>/dev/null | while read -r file; do
         rm -f "$target/$file"
     done
-    rmdir "$target/share/doc/ti/examples" "$target/share/doc/ti" 2>/dev/null || true
+    examples=$target/share/doc/ti/examples
+    rmdir "$examples/editors/vscode" "$examples/editors" "$examples" "$target/share/doc/ti" 2>/dev/null || true
     ;;
 *)
     echo "usage: [DESTDIR=DIR] [PREFIX=DIR] ./install.sh [uninstall]" >&2

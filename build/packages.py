@@ -25,7 +25,7 @@ from crates import TOP
 
 MAINTAINER = "Cevnang maintainers <maintainers@users.noreply.cevnang.example>"
 LICENCES = ("LICENSE-MIT", "LICENSE-APACHE")
-PAGES_FOR_USERS = ("README.md", "SECURITY.md", "docs/CLAIMS.md", "docs/COMPARED.md")
+PAGES_FOR_USERS = ("README.md", "SECURITY.md", "docs/CLAIMS.md", "docs/COMPARED.md", "docs/EDITORS.md")
 # what belongs to libti-dev and not to ti, below the prefix
 OF_LIBRARY = ("include/", "lib/", "share/man/man3/")
 REVISION = "1"
@@ -114,11 +114,11 @@ def fill(template, values):
     return text.encode()
 
 
-def library_needs(program):
-    """What a program needs of the system's libraries, as dpkg-shlibdeps says."""
+def library_needs(programs):
+    """What programs need of the system's libraries, as dpkg-shlibdeps says."""
     with tempfile.TemporaryDirectory(prefix="ti-deb-") as room:
         write(os.path.join(room, "debian", "control"), b"Source: ti\n\nPackage: ti\nArchitecture: any\n")
-        said = output("dpkg-shlibdeps", "-O", program, cwd=room, stderr=subprocess.DEVNULL)
+        said = output("dpkg-shlibdeps", "-O", *programs, cwd=room, stderr=subprocess.DEVNULL)
     return said.partition("shlibs:Depends=")[2]
 
 
@@ -207,7 +207,8 @@ def make_deb(made):
                 write(place, text_of(name).encode())
         write(os.path.join(stage, "usr", "share", "doc", "ti", "README.Debian"), fill("README.Debian", {}))
         has_library = split(stage, other)
-        needs = library_needs(os.path.join(stage, "usr", "bin", "ti"))
+        programs = [os.path.join(stage, "usr", "bin", name) for name in ("ti", "ti-lsp")]
+        needs = library_needs([program for program in programs if os.path.exists(program)])
         yield build_deb(made, "ti", stage, architecture, needs)
         if has_library:
             yield build_deb(made, "libti-dev", other, architecture, "")

@@ -23,6 +23,8 @@ def check_install():
         wanted += ["usr/share/zsh/site-functions/_ti", "usr/share/man/man7/ti-report.7"]
         wanted += [f"usr/share/man/man1/{it}" for it in INSTALLED_PAGES if it.endswith(".1")]
         wanted += ["usr/bin/ti-lsp"] if HAS_LSP else []
+        editors = files_below(os.path.join(TOP, "editors")) if HAS_LSP else []
+        wanted += [f"usr/share/doc/ti/examples/editors/{it}" for it in editors]
         wanted += [f"usr/share/doc/ti/examples/{it}" for it in os.listdir(os.path.join(TOP, "examples"))]
         for name in sorted(set(wanted) - set(installed)):
             yield f"make install puts no {name}"
