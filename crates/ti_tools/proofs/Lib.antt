@@ -1,8 +1,6 @@
-pub mod Ending
 pub mod Filing
-pub mod Inserting
 pub mod Printing
-pub mod Refusing
 pub mod Parts
 pub mod Reporting
 pub mod Seeing
+pub mod Refusals

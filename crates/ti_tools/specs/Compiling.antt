@@ -7,7 +7,8 @@ use Rattle.ti_meaning.specs.Faults.{SourceFault, faults}
 use Rattle.ti_meaning.specs.Report.{report}
 use Rattle.ti_tools.specs.EntryFiles.{source_files}
 use Rattle.ti_devices.specs.Placing.{entries}
-use Rattle.ti_tools.specs.Sources.{AreTaken, IsSourceRefusal, first_line, source_texts}
+use Rattle.ti_sources.specs.Sources.{AreTaken, first_line, source_texts}
+use Rattle.ti_tools.specs.Sources.{IsSourceRefusal}
 use Rattle.ti_devices.specs.Tree.{FileAt}
 use Rattle.ti_tools.specs.declared.outcome.TicOutcome.{TicOutcome}
 use Rattle.ti_devices.specs.declared.tool_error.ToolError.{ToolError}

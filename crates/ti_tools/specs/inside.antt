@@ -1,4 +1,3 @@
 -- Words that only private functions and proofs use.
 pub mod EntryFiles
 pub mod Listings
-pub mod Loading

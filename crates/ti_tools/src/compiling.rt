@@ -1,31 +1,18 @@
 //! Compiling a source into files.
-ghost use Rattle.std.specs.Prelude.{◌≡◌, ◌+◌, ◌≤◌, ◌^◌, [], ◌∷◌, ◌++◌, IfOk, map};
+ghost use Rattle.std.specs.Prelude.{◌≡◌, ◌≤◌, ◌^◌, IfOk, map};
 ghost use Rattle.std.specs.List.{list_any};
 ghost use Rattle.std.specs.String.{string_bytes};
-ghost use Rattle.ti_text.specs.Ascii as ascii;
-ghost use Rattle.ti_source.specs.Cutting.{front_of, last_byte};
 ghost use Rattle.ti_source.specs.Code.{is_error};
-ghost use Rattle.ti_text.specs.Lines.{line_count};
 ghost use Rattle.ti_meaning.specs.Faults.{fault_seen};
 ghost use Rattle.ti_tools.specs.Compiling.{IsCompiled, IsTicAnswer, compilation, compilation_of, fault_status};
 
 use crate::entry_files::entry_files;
-use crate::loading::database_of;
 use crate::outcome::{TicOptions, TicOutcome};
-use crate::sources::{check, is_ended};
+use crate::sources::refusal;
 use std::alloc::{AllocError, Global};
 use ti_base::{Database, EditError, Fault};
 use ti_devices::ToolError;
-use ti_source::blocks;
-use ti_text::count_lines;
-
-// The number of the line on which the first block of a source begins.
-fn first_number(source: &[u8]) -> u64
-    ensures number { result ≡ line_count (front_of ascii.newline source.now) + 1 }
-    ensures bound { result ≤ 2 ^ 63 }
-{
-    count_lines(blocks(source).preface()) as u64 + 1
-}
+use ti_sources::{database_of, first_line};
 
 // Whether one of the faults is an error.
 fn has_error(faults: &[Fault]) -> bool
@@ -34,7 +21,7 @@ fn has_error(faults: &[Fault]) -> bool
     faults.iter().any(|fault| fault.code.is_error())
 }
 
-// The status of a run with these faults: 1 where one of them is an error.
+// The status of a run with these faults: 1 if one of them is an error.
 fn report_status(faults: &[Fault]) -> u8
     ensures { result ≡ fault_status (map fault_seen faults.now) }
 {
@@ -67,26 +54,6 @@ fn outcome(
     })
 }
 
-// Compiles a source whose last line has its newline.
-fn compile(alloc: Global, source: &[u8], options: &TicOptions) -> Result<TicOutcome, EditError>
-    requires { last_byte ascii.newline source.now ≡ ascii.newline }
-    ensures { IfOk result (λ outcome. IsCompiled source.now options.now.check
-        (string_bytes options.now.dir) outcome) }
-{
-    let database = database_of(alloc, source)?;
-    Ok(outcome(alloc, &database, first_number(source), options)?)
-}
-
-// The text with a newline after it.
-fn with_newline(alloc: Global, text: &[u8]) -> Result<Vec<u8>, AllocError>
-    ensures { IfOk result (λ ended. ended.items ≡ text.now ++ ascii.newline ∷ []) }
-{
-    let mut ended = Vec::with_capacity(alloc, text.len() + 1)?;
-    ended.extend_from_slice(text)?;
-    ended.push(b'\n')?;
-    Ok(ended)
-}
-
 // Compiles a source.
 fn compile_source(
     alloc: Global,
@@ -96,11 +63,9 @@ fn compile_source(
     ensures { IfOk result (λ outcome. IsCompiled source.now options.now.check
         (string_bytes options.now.dir) outcome) }
 {
-    if is_ended(source) {
-        return compile(alloc, source, options);
-    }
-    let ended = with_newline(alloc, source)?;
-    compile(alloc, ended.as_slice(), options)
+    let database = database_of(alloc, source)?;
+    let first = first_line(source) as u64;
+    Ok(outcome(alloc, &database, first, options)?)
 }
 
 /// What `tic` makes of a source: the files of its compiled entries, a report of its faults, and a
@@ -114,10 +79,7 @@ pub fn tic(alloc: Global, source: &[u8], options: &TicOptions) -> Result<TicOutc
 {
     match compile_source(alloc, source, options) {
         Ok(outcome) => Ok(outcome),
-        // What is wrong with the source comes before want of memory.
-        Err(_) => {
-            check(source)?;
-            Err(ToolError::Memory)
-        }
+        // What is wrong with the source is told before that memory ran out.
+        Err(_) => Err(refusal(source)),
     }
 }

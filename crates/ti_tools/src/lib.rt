@@ -1,8 +1,8 @@
 //! The tools over terminfo entries, over any files and streams: what a tool makes of its input.
 //!
-//! - `compiling`: what `tic` makes of a source: files, a report and a status. `loading` makes a
-//!   database of the blocks, `entry_files` names the files of the entries, and `sources` says why a
-//!   source is refused
+//! - `compiling`: what `tic` makes of a source: files, a report and a status. `entry_files` names
+//!   the files of the entries, and `sources` says why a source is refused; the crate `ti_sources`
+//!   makes a database of its blocks
 //! - `outcome`: what `tic` is asked for, and what it made
 //! - `listings`: what `infocmp` prints of entries
 //! - `stopping`: how a tool that stops ends: its status, and the line on standard error
@@ -17,7 +17,6 @@ mod compiling;
 mod entry_files;
 mod laws;
 mod listings;
-mod loading;
 mod outcome;
 mod sources;
 mod stopping;
