@@ -3,6 +3,7 @@ closed output.
 """
 
 import os
+import resource
 import subprocess
 
 from documents import INITIALIZE, body_of, framed, notification, run_fault
@@ -109,6 +110,36 @@ def unwritable(bodies, output):
     )
     wanted = (done.returncode, done.stderr) == (1, b"")
     return None if wanted else f"status {done.returncode}, errors {done.stderr[:200]!r}"
+
+
+def with_data(given, most):
+    """A run of the server that may have so many bytes of memory beside its code."""
+    return subprocess.run(
+        [LSP], input=given, stdout=subprocess.PIPE, stderr=subprocess.PIPE, env={}, timeout=SECONDS_MAX, check=False,
+        preexec_fn=lambda: resource.setrlimit(resource.RLIMIT_DATA, (most, most)),
+    )
+
+
+@case("server: memory refused, sooner and later")
+def little_memory(_):
+    document = {"uri": "u", "version": 1}
+    place = {"start": {"line": 7, "character": 0}, "end": {"line": 9, "character": 3}}
+    change = {"range": place, "text": "c,use=zz,"}
+    given = b"".join(map(framed, map(body_of, (
+        INITIALIZE,
+        notification("textDocument/didOpen", {"textDocument": {**document, "text": "a|b,\n\tam, cols#8o, foo,\n" * 300}}),
+        notification("textDocument/didChange", {"textDocument": document, "contentChanges": [change]}),
+        {"id": 1, "method": "shutdown"},
+        {"method": "exit"},
+    ))))
+    whole, fronts = with_data(given, 2**30), set()
+    for most in range(200_000, 8_000_000, 100_000):
+        done = with_data(given, most)
+        fronts.add(len(done.stdout))
+        ended = (0, whole.stdout) if done.returncode == 0 else (1, whole.stdout[: len(done.stdout)])
+        if (done.returncode, done.stdout, done.stderr) != (*ended, b""):
+            return f"with {most} bytes: status {done.returncode}, {done.stdout[-80:]!r}, errors {done.stderr[:80]!r}"
+    return None if whole.returncode == 0 and len(fronts) > 2 else f"the lengths of what was written are {sorted(fronts)}"
 
 
 @case("server: a closed output")
