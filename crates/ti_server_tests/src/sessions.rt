@@ -93,7 +93,7 @@ const LIVES: [Session; 7] = [
             INITIALIZE,
             r#"{"jsonrpc":"2.0","method":"initialized","params":{}}"#,
             OPEN,
-            r#"{"jsonrpc":"2.0","method":"textDocument/didChange","params":{"textDocument":{"uri":"u","version":2},"contentChanges":[{"range":{"start":{"line":0,"character":1},"end":{"line":0,"character":2}},"rangeLength":1,"text":"XYZ"},{"range":{"start":{"line":0,"character":0},"end":{"line":0,"character":1}},"text":""}]}}"#,
+            r#"{"jsonrpc":"2.0","method":"textDocument/didChange","params":{"textDocument":{"uri":"u","version":2},"contentChanges":[{"range":{"start":{"line":0,"character":1},"end":{"line":0,"character":2}},"rangeLength":1,"text":"XYZ"},{"range":{"start":{"line":0,"character":2},"end":{"line":0,"character":4}},"text":""}]}}"#,
             CLOSE,
             SHUTDOWN,
             EXIT,
@@ -101,7 +101,7 @@ const LIVES: [Session; 7] = [
         answers: &[
             READY,
             OPENED,
-            r#"{"jsonrpc":"2.0","method":"textDocument/publishDiagnostics","params":{"diagnostics":[4],"uri":"u","version":2}}"#,
+            r#"{"jsonrpc":"2.0","method":"textDocument/publishDiagnostics","params":{"diagnostics":[3],"uri":"u","version":2}}"#,
             CLOSED,
             DONE,
         ],
