@@ -5,4 +5,3 @@ pub mod Printing
 pub mod Refusing
 pub mod Parts
 pub mod Reporting
-pub mod Seeing
