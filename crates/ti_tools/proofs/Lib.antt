@@ -2,5 +2,4 @@ pub mod Filing
 pub mod Printing
 pub mod Parts
 pub mod Reporting
-pub mod Seeing
 pub mod Refusals

@@ -1,17 +1,15 @@
 //! The files of a source's compiled entries.
-ghost use Rattle.std.specs.Prelude.{◌≡◌, ◌<◌, ◌++◌, ◌∷◌, ◌||◌, ◌&&◌, [], List, ℕ, All, IfOk, OnOk, Some, length, map, not, slice_get};
+ghost use Rattle.std.specs.Prelude.{◌≡◌, ◌<◌, ◌++◌, ◌∷◌, [], List, ℕ, All, IfOk, OnOk, Some, length, map, slice_get};
 ghost use Rattle.std.specs.Rc.{rc_slice_items};
-ghost use Rattle.std.specs.Str.{bytes_eq};
 ghost use Rattle.ti_meaning.specs.Owner.{readings, is_owner};
-ghost use Rattle.ti_tools.specs.inside.EntryFiles.{IsAsciiName, is_seen};
+ghost use Rattle.ti_tools.specs.inside.EntryFiles.{IsAsciiName};
 ghost use Rattle.ti_tools.specs.EntryFiles.{files_at, files_for, source_files, own_names};
 ghost use Rattle.ti_devices.specs.Paths.{path_of};
 ghost use Rattle.ti_devices.specs.Placing.{entries};
 
 use std::alloc::{AllocError, Global};
-use std::collections::BTreeSet;
 use std::rc::RcSlice;
-use ti_base::Database;
+use ti_base::{Database, distinct_names};
 use ti_devices::{File, entry_path};
 use ti_source::one_reading;
 
@@ -23,33 +21,6 @@ fn owns(database: &Database, name: &[u8], at: usize) -> bool
         Some(place) => place == at,
         None => false,
     }
-}
-
-// Puts a name among those seen, and answers whether it is new there.
-fn see<'a>(seen: &mut BTreeSet<&'a [u8]>, name: &'a [u8]) -> Result<bool, AllocError>
-    ensures new { IfOk result (λ is_new. is_new ≡ not (is_seen seen.old name.now)) }
-    ensures seen { OnOk result ((other : List ℕ) → is_seen seen.new other ≡ (bytes_eq other name.now || is_seen seen.old other)) }
-{
-    Ok(seen.insert(name)?)
-}
-
-// Whether a name of the block at `at` has a file of its own: it is the block's, and none of those
-// seen. Then it is seen from now on.
-fn has_file<'a>(
-    database: &Database,
-    seen: &mut BTreeSet<&'a [u8]>,
-    name: &'a [u8],
-    at: usize,
-) -> Result<bool, AllocError>
-    ensures is { IfOk result (λ has_file. has_file
-        ≡ (is_owner (readings database.now) name.now at && not (is_seen seen.old name.now))) }
-    ensures seen { OnOk result ((other : List ℕ) → is_seen seen.new other
-        ≡ ((is_owner (readings database.now) name.now at && bytes_eq other name.now) || is_seen seen.old other)) }
-{
-    if !owns(database, name, at) {
-        return Ok(false);
-    }
-    see(seen, name)
 }
 
 // Adds the file of a name.
@@ -85,10 +56,10 @@ fn add_files(
         ++ files_for dir.now image.now
         (own_names (readings database.now) at (map rc_slice_items names.now))) }
 {
-    let mut seen = BTreeSet::new(alloc);
-    for name in names {
+    let once = distinct_names(alloc, names)?;
+    for name in &once {
         let name = name.as_slice();
-        if has_file(database, &mut seen, name, at)? {
+        if owns(database, name, at) {
             push_file(alloc, files, dir, name, image)?;
         }
     }
