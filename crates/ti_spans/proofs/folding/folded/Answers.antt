@@ -1,0 +1,12 @@
+use Rattle.std.proofs.Common.{◌<◌, ◌^◌, All, List, length, subst, arith}
+use Rattle.std.proofs.lemmas.Result.{IfOk-weaker}
+use Rattle.ti_source.specs.Folding.{Joins, PlacedByte}
+use Rattle.ti_spans.proofs.Laws.{offsets_small}
+use Rattle.ti_spans.proofs.folding.folded.Goals as goal
+
+pub returns-clause-offsets : goal.returns-clause-offsets
+returns-clause-offsets c =
+    let small : length c.args.block.now < 2 ^ 63 = omega arith in
+    IfOk-weaker c.joined.result (λ text. Joins c.deref.result.now text.items) (λ text. All (λ (x : PlacedByte). x.1 < 2 ^ 63) text.items)
+    (λ text joins. offsets_small c.args.block.now c.in_ok-kept.kept.items text.items c.in_ok-kept.ensures
+    (subst (λ (t : List PlacedByte). Joins t text.items) c.deref.ensures.value joins) small) c.joined.ensures

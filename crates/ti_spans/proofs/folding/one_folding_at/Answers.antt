@@ -1,0 +1,8 @@
+use Rattle.ti_spans.proofs.Laws.{offsets_lead, one_folding}
+use Rattle.ti_spans.proofs.folding.one_folding_at.Goals as goal
+
+pub returns-clause-one : goal.returns-clause-one
+returns-clause-one c = one_folding
+
+pub returns-clause-offsets : goal.returns-clause-offsets
+returns-clause-offsets c = offsets_lead
