@@ -57,7 +57,7 @@ fn frames_are_read(rt: HostRuntime) {
     }
 }
 
-const BROKEN: [&[u8]; 14] = [
+const BROKEN: [&[u8]; 15] = [
     b"",
     b"\r\n{}",
     b"Content-Length: 2",
@@ -66,6 +66,7 @@ const BROKEN: [&[u8]; 14] = [
     b"Content-Length: 3\r\n\r\n{}",
     b"Content-Length: 2\n\n{}",
     b"Content-Length: 2\r\n\n{}",
+    b"Content-Length: 2 \n\r\n{}",
     b"Content-Lengt: 2\r\n\r\n{}",
     b"Content-Length : 2\r\n\r\n{}",
     b"Content-Length:\r\n\r\n",
