@@ -29,7 +29,7 @@ def read(file):
 
 
 def table_at(text, name):
-    """The place of what stands between the brackets of a table."""
+    """The place of what is between the brackets of a table."""
     found = re.search(rf"static {name}: \[[^\]]*\] = \[\n(.*?)\];\n", text, re.S)
     if not found:
         sys.exit(f"no table {name}")

@@ -91,7 +91,7 @@ class Pen:
             self.paper = colour
 
     def take_plain(self, number):
-        """Takes a number that stands for itself."""
+        """Takes a number that means itself."""
         if number == 0:
             self.__init__()
         elif number in (1, 22):
@@ -108,7 +108,7 @@ class Pen:
             self.paper = None if number == 49 else PALETTE[number - 40 if number < 50 else number - 92]
 
     def look(self):
-        """The colour of letters and that behind them, and the font."""
+        """The colour of letters and of their background, and the font."""
         ink, paper = self.ink or INK, self.paper or PAPER
         if self.swapped:
             ink, paper = paper, ink

@@ -2,11 +2,15 @@
  * The part of libti that opens files and calls back: C over the functions that ti.h declares, and
  * nothing else of the library. It is tested, and not proved.
  */
+#ifndef _POSIX_C_SOURCE
+#define _POSIX_C_SOURCE 200809L /* for stat */
+#endif
 #include "ti.h"
 
 #include <errno.h>
 #include <stdio.h>
 #include <stdlib.h>
+#include <sys/stat.h>
 
 /* The most bytes of a file that may be an entry; one more is read, to know of a longer one. */
 enum { FILE_MAX = 65536, READ_MAX = FILE_MAX + 1 };
@@ -61,12 +65,22 @@ static uint32_t read_entry(FILE *file, struct ti_entry **entry) {
     return answer;
 }
 
+/* Opens a file. What is no regular file is not opened, since a pipe without a writer never opens. */
+static FILE *open_regular(const char *path) {
+    struct stat found;
+    if (stat(path, &found) == 0 && !S_ISREG(found.st_mode)) {
+        errno = EINVAL;
+        return NULL;
+    }
+    return fopen(path, "rb");
+}
+
 /* Reads the entry of a name below a directory; TI_NO_TERMINAL if it has no file of the name. */
 static uint32_t open_below(struct ti_text dir, struct ti_text name, struct ti_entry **entry) {
     uint32_t refusal = TI_ENTRY_MEMORY;
     uint8_t *path = path_below(dir, name, &refusal);
     if (!path) return refusal;
-    FILE *file = fopen((const char *)path, "rb");
+    FILE *file = open_regular((const char *)path);
     int why = errno;
     free(path);
     if (!file) {

@@ -56,7 +56,7 @@ enum { TI_FLAG = 0, TI_NUMBER = 1, TI_STRING = 2 };
 /* How many there are of each kind. */
 enum { TI_FLAGS = 44, TI_NUMBERS = 39, TI_STRINGS = 414 };
 
-/* A capability: its kind, and its index among those of the kind, from 0, in the order of <term.h>. */
+/* A capability: its kind, and its index in the kind, from 0, in the order of <term.h>. */
 struct ti_place {
     uint32_t kind;
     uint32_t index;
@@ -111,7 +111,8 @@ enum {
  * Reads a compiled entry, of the legacy storage format or of the extended number format, where its
  * bytes are, in one pass and without memory. 0, or the first of the refusals TI_SHORT to
  * TI_BAD_OFFSET that holds, and *entry is then as it was. Bytes after the string table, as the
- * extended storage format of ncurses has them, are not looked at.
+ * extended storage format of ncurses has them, are not looked at. The bytes have to stay, and to
+ * stay as they are, as long as the entry is used.
  */
 uint32_t ti_entry_read(const uint8_t *bytes, size_t size, struct ti_entry *entry);
 
@@ -120,6 +121,11 @@ uint32_t ti_entry_read(const uint8_t *bytes, size_t size, struct ti_entry *entry
  * ti_entry_free. 0, or as ti_entry_read, or TI_ENTRY_MEMORY; if not 0, *entry is as it was.
  */
 uint32_t ti_entry_new(const uint8_t *bytes, size_t size, struct ti_entry **entry);
+
+/*
+ * What follows reads an entry that ti_entry_read, ti_entry_new or ti_open gave, or
+ * TI_ENTRY_EMPTY. A text that it gives lies in the entry's bytes, and is to be used no longer.
+ */
 
 /* Gives in *text the names field, as "xterm|xterm terminal emulator", without its NUL. */
 void ti_names(const struct ti_entry *entry, struct ti_text *text);
@@ -236,6 +242,8 @@ struct ti_outcome ti_path(const uint8_t *dir, size_t dir_size, const uint8_t *na
  * `name` is NULL, TERM is taken. 0, and *entry is then to be given to ti_entry_free; else as
  * ti_entry_new, TI_NO_TERMINAL or TI_READ_FAILED, and *entry is as it was. Of a file of more than
  * 65,536 bytes the first 65,537 are looked at, and it is refused, as TI_COUNTS if not otherwise.
+ * What is no regular file is not opened: TI_READ_FAILED. The variables are trusted, so that a
+ * setuid program must not call it.
  */
 uint32_t ti_open(const char *name, struct ti_entry **entry);
 

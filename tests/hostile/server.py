@@ -113,7 +113,7 @@ def unwritable(bodies, output):
 
 
 def with_data(given, most):
-    """A run of the server that may have so many bytes of memory beside its code."""
+    """A run of the server that may have so many bytes of memory besides its code."""
     return subprocess.run(
         [LSP], input=given, stdout=subprocess.PIPE, stderr=subprocess.PIPE, env={}, timeout=SECONDS_MAX, check=False,
         preexec_fn=lambda: resource.setrlimit(resource.RLIMIT_DATA, (most, most)),

@@ -101,7 +101,9 @@ def check_header(room):
     compilers = [("gcc", "g++"), ("clang", "clang++")]
     for pair in compilers:
         for name, words in zip(pair, (["-std=c99", "-x", "c"], ["-std=c++17", "-x", "c++"])):
-            if shutil.which(name):
+            if not shutil.which(name):
+                print(f"    not tried with {name}, which is not installed")
+            else:
                 status, said = run([name, *words, *WARN, "-I", INCLUDE, "-fsyntax-only", source])
                 status2, said2 = run([name, *words, *WARN, "-I", INCLUDE, "-fsyntax-only", f"{INCLUDE}/ti.c"])
                 faults += said.splitlines() + said2.splitlines() if status or status2 else []
@@ -171,7 +173,7 @@ REFUSALS = ["Short", "Magic", "Counts", "Truncated", "BadNames", "BadFlag", "Bad
 
 
 def files_to_open(entry):
-    """Files in the place of an entry, by name, and the answer of ti_open to each; None is a directory."""
+    """What is in the place of an entry, by name, and the answer of ti_open: bytes, a directory or a pipe."""
     flags = 12 + len(b"dumb|tty|80-column dumb tty\0")
     put = lambda at, byte: entry[:at] + bytes([byte]) + entry[at + 1:]
     return {
@@ -180,7 +182,8 @@ def files_to_open(entry):
         "truncated": (entry[:-1], 4), "names": (put(14, 0), 5), "flag": (put(flags, 9), 6),
         "number": (put(flags + 3, 0x80), 7), "offset": (put(flags + 4, 0xF0), 8),
         "too-long": (entry + b"x" * (65537 - len(entry)), 3),
-        "too-long-and-bad": (put(flags, 9) + b"x" * 70000, 6), "directory": (None, 11),
+        "too-long-and-bad": (put(flags, 9) + b"x" * 70000, 6), "directory": (os.mkdir, 11),
+        "pipe": (os.mkfifo, 11),
     }
 
 
@@ -199,12 +202,14 @@ def check_open(room):
         if status or said.split("\n")[0] != str(wanted):
             faults.append(f"{name}, {variables}: {said!r}, not {wanted}")
 
-    for name, (file_bytes, wanted) in files_to_open(entry).items():
+    for name, (content, wanted) in files_to_open(entry).items():
         path = os.path.join(directory, name[0], name)
-        os.makedirs(path if file_bytes is None else os.path.dirname(path), exist_ok=True)
-        if file_bytes is not None:
+        os.makedirs(os.path.dirname(path), exist_ok=True)
+        if callable(content):
+            content(path)
+        else:
             with open(path, "wb") as file:
-                file.write(file_bytes)
+                file.write(content)
         expect([name], wanted)
         if os.access(PROGRAM, os.X_OK):
             status, said = run([PROGRAM, "tput", "-T", name, "cols"], env=environment)

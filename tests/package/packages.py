@@ -7,14 +7,18 @@ import shutil
 import subprocess
 import tempfile
 
-from shared import INSTALLED_PAGES, TOP, Skipped, files_below, need, output, text_of, ti
+from shared import HAS_LSP, INSTALLED_PAGES, TOP, Skipped, files_below, need, output, text_of, ti
 
 MAKER = os.path.join(TOP, "build", "packages.py")
-# what a user does with the program of a package, and what that prints
+# what a user does with the programs of a package, and what that prints
 SCRIPT = """ti tic -o out dumb.ti && ti-tic -o again dumb.ti && cmp out/d/dumb again/d/dumb &&
 TERMINFO=out ti infocmp dumb | head -n 1 && TERMINFO=out ti tput -T dumb cols &&
+TERMINFO=out ti-infocmp dumb | head -n 1 && TERMINFO=out ti-tput -T dumb cols &&
 printf 'i 0\\nx,\\n.\\nf\\n' | ti session"""
-PRINTED = "dumb|80-column dumb tty,\n80\nok\n.\n"
+PRINTED = "dumb|80-column dumb tty,\n80\n" * 2 + "ok\n.\n"
+if HAS_LSP:
+    SCRIPT += " && ti-lsp --version"
+    PRINTED += f"ti-lsp {text_of('VERSION').strip()}\n"
 # a program in C that takes the library
 SOURCE = """#include <stdio.h>
 #include <ti.h>

@@ -6,5 +6,5 @@
 pub use ti_relisting::{
     listings_are_laid_out, listings_compile, listings_compile_back, parts_are_blocks,
     parts_are_read, relative_sources_compile_back, relatives_compile,
-    several_listings_compile_back, sources_have_entries,
+    runs_of_listings_compile_back, several_listings_compile_back, sources_have_entries,
 };

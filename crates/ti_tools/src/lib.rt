@@ -15,11 +15,12 @@
 
 mod compiling;
 mod entry_files;
-mod laws;
 mod listings;
 mod outcome;
 mod sources;
 mod stopping;
+
+pub mod laws;
 
 pub use compiling::tic;
 pub use listings::{InfocmpOptions, infocmp};
