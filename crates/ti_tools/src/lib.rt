@@ -15,12 +15,11 @@
 
 mod compiling;
 mod entry_files;
+pub mod laws;
 mod listings;
 mod outcome;
 mod sources;
 mod stopping;
-
-pub mod laws;
 
 pub use compiling::tic;
 pub use listings::{InfocmpOptions, infocmp};

@@ -41,11 +41,11 @@ loop-place-preserved c =
     record {
       nine = length-set values place c.value_of.result ∙ nine;
       given = λ at below.
-        elim (cases_eq at place) [
-          | inl same ↦
-            rw same (read place ∙ get_or-set_same (map argument_of values) place _ zero_number (omega arith) ∙ c.value_of.ensures ∙ there params place _ (omega arith))
-          | inr other ↦ read at ∙ get_or-set_other (map argument_of values) place at _ zero_number other ∙ c.loop-place.invariant.given at (omega arith)
-        ];
+          elim (cases_eq at place) [
+            | inl same ↦
+                rw same (read place ∙ get_or-set_same (map argument_of values) place _ zero_number (omega arith) ∙ c.value_of.ensures ∙ there params place _ (omega arith))
+            | inr other ↦ read at ∙ get_or-set_other (map argument_of values) place at _ zero_number other ∙ c.loop-place.invariant.given at (omega arith)
+          ];
       others = λ at from below. read at ∙ get_or-set_other (map argument_of values) place at _ zero_number (omega arith) ∙ c.loop-place.invariant.others at (omega arith) below;
     }
 
@@ -56,7 +56,7 @@ returns c =
     let values = map argument_of c.loop-place.values in
     let nine : length values ≡ 9 = length-map c.loop-place.values argument_of ∙ c.loop-place.invariant.nine in
     ext_get_or (number (pos 0)) values (arguments_of params) nine (λ at within.
-      elim (cases_lt at c.loop-place.place) [
-        | inl below ↦ c.loop-place.invariant.given at below ∙ sym (each params at (omega arith))
-        | inr past ↦ c.loop-place.invariant.others at past (omega arith) ∙ sym (each params at (omega arith) ∙ none params at (omega arith))
-      ])
+    elim (cases_lt at c.loop-place.place) [
+      | inl below ↦ c.loop-place.invariant.given at below ∙ sym (each params at (omega arith))
+      | inr past ↦ c.loop-place.invariant.others at past (omega arith) ∙ sym (each params at (omega arith) ∙ none params at (omega arith))
+    ])
