@@ -51,8 +51,10 @@ fn a_new_document(rt: HostRuntime) -> Result<(), AllocError> {
     assert!(rt; document.text() == b"".as_slice());
     assert!(rt; document.database().len() == 0);
     assert!(rt; document.set(text_of(rt.alloc(), b"# c\na,\nb,\n\tam,")?)? == 2);
-    assert!(rt; document.database().text(1) == b"b,\n\tam,\n".as_slice());
-    assert!(rt; document.database().owner(b"b") == Some(1));
+    let database = document.database();
+    assert!(rt; database.len() == 2);
+    assert!(rt; database.text(1) == b"b,\n\tam,\n".as_slice());
+    assert!(rt; database.owner(b"b") == Some(1));
     Ok(())
 }
 
@@ -81,6 +83,8 @@ fn a_refused_source(rt: HostRuntime) -> Result<(), AllocError> {
     assert!(rt; document.database().len() == 0);
     assert!(rt; document.text().len() == 196_608);
     assert!(rt; document.set(text_of(rt.alloc(), b"b,\n")?)? == 1);
-    assert!(rt; document.database().text(0) == b"b,\n".as_slice());
+    let database = document.database();
+    assert!(rt; database.len() == 1);
+    assert!(rt; database.text(0) == b"b,\n".as_slice());
     Ok(())
 }
