@@ -79,7 +79,7 @@ all_at slots now ids id s e h = rw e (λ k d l. some_at slots id (get_or ids k d
 
 -- ---- what a slot holds then
 
--- what was found out about a block is that given for its id, or what it was where none is given
+-- what was found out about a block is that given for its id, or what it was if none is given
 pub record IsInstalled (slots : List (Option Slot)) (ids : List ℕ) (settled : List Settled) (id : ℕ) (slot : Slot) : Type 0 where
   pub before : Slot
   pub was : slot_at slots id ≡ Some before

@@ -1,5 +1,5 @@
-// An edit of a list as an exchange: at most one block is taken out, and at most one is put in. A
-// block that moves is both.
+//! An edit of a list as an exchange: at most one block is taken out, and at most one is put in. A
+//! block that moves is both.
 ghost use Rattle.std.specs.Prelude.{◌≡◌, ◌<◌, IfOk, IfSome, OnErr, OnOk, length, map, option_map};
 ghost use Rattle.std.specs.Rc.{rc_slice_items};
 ghost use Rattle.ti_source.specs.Reading.{reading_of};
@@ -16,7 +16,7 @@ use ti_meaning::Edit;
 use ti_slots::{BlockEntry, Slot, Slots, changes_are_undone};
 use ti_source::{Parsed, SharedTexts};
 
-/// The position from which an edit takes a block out, and the one at which it puts one in.
+// The position from which an edit takes a block out, and the one at which it puts one in.
 fn positions(edit: &Edit<'_>) -> (Option<usize>, Option<usize>)
     ensures out { result.0 ≡ out_position (change_of edit.now) }
     ensures put { result.1 ≡ put_position (change_of edit.now) }
@@ -29,7 +29,7 @@ fn positions(edit: &Edit<'_>) -> (Option<usize>, Option<usize>)
     }
 }
 
-/// The text of the new block that an edit brings, if it brings one.
+// The text of the new block that an edit brings, if it brings one.
 fn text_of<'a>(edit: &Edit<'a>) -> Option<&'a [u8]>
     ensures { option_map (λ text. text.now) result ≡ new_text (change_of edit.now) }
 {
@@ -41,8 +41,8 @@ fn text_of<'a>(edit: &Edit<'a>) -> Option<&'a [u8]>
     }
 }
 
-/// Makes room for a block. All stays as it is; at an error the index lets go of the names that
-/// nobody has or uses.
+// Makes room for a block. All stays as it is; at an error the index lets go of the names that
+// nobody has or uses.
 fn reserve(slots: &mut Slots, block: &Parsed) -> Result<(), AllocError>
     requires { AreRead slots.old }
     ensures read { AreRead slots.new }
@@ -83,7 +83,7 @@ pub(crate) fn read_new(
     Ok(Some(slot))
 }
 
-/// Takes a block out of the list, if a position is given.
+// Takes a block out of the list, if a position is given.
 fn take_out(slots: &mut Slots, out: Option<usize>) -> Option<Slot>
     requires indexed { IsIndexed slots.old }
     requires within { IfSome out (λ at. at < length slots.old.order.listed) }
@@ -96,8 +96,8 @@ fn take_out(slots: &mut Slots, out: Option<usize>) -> Option<Slot>
     }
 }
 
-/// The slot to be put in: the spare one, or the one taken out if there is none. The other one is
-/// spare then.
+// The slot to be put in: the spare one, or the one taken out if there is none. The other one is
+// spare then.
 fn trade(taken: Option<Slot>, spare: &mut Option<Slot>) -> Option<Slot>
     ensures put { result ≡ slot_put taken spare.old }
     ensures left { spare.new ≡ slot_left taken spare.old }
@@ -111,10 +111,10 @@ fn trade(taken: Option<Slot>, spare: &mut Option<Slot>) -> Option<Slot>
     }
 }
 
-/// Takes a block out of the list and puts one in, if the positions are given, and gives the id of
-/// the one put in. That is the spare one, or the one taken out if there is none; the other one is
-/// spare then. It takes no memory, and so does the same with the positions exchanged, which undoes
-/// it.
+// Takes a block out of the list and puts one in, if the positions are given, and gives the id of
+// the one put in. That is the spare one, or the one taken out if there is none; the other one is
+// spare then. It takes no memory, and so does the same with the positions exchanged, which undoes
+// it.
 fn exchange(
     slots: &mut Slots,
     out: Option<usize>,

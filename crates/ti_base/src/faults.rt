@@ -1,4 +1,4 @@
-// The faults of a source: those kept with each block, and between them those of its names.
+//! The faults of a source: those kept with each block, and between them those of its names.
 ghost use Rattle.std.specs.Prelude.{◌≡◌, ◌<◌, ◌++◌, ◌∷◌, [], filter, map, length, slice_get, Some, true, IfOk, OnOk};
 ghost use Rattle.std.specs.List.{list_any};
 ghost use Rattle.std.specs.Rc.{rc_slice_items};
@@ -16,7 +16,7 @@ use ti_meaning::Fault;
 use ti_slots::{KeptFault, Slots, copy_detail};
 use ti_source::{Code, Local};
 
-/// How many of the faults that reading gave are of the header.
+// How many of the faults that reading gave are of the header.
 fn count_of_header(locals: &[Local]) -> usize
     ensures { result ≡ length (filter (is_kept true) (map fault_of locals.now)) }
 {
@@ -29,7 +29,7 @@ fn count_of_header(locals: &[Local]) -> usize
     count
 }
 
-/// Adds faults that are kept with the block at a position.
+// Adds faults that are kept with the block at a position.
 fn add_kept(at: usize, kept: &[KeptFault], faults: &mut Vec<Fault>) -> Result<(), AllocError>
     ensures { OnOk result (map fault_seen faults.new.items ≡ map fault_seen faults.old.items ++ map (fault_at at) kept.now) }
 {
@@ -44,7 +44,7 @@ fn add_kept(at: usize, kept: &[KeptFault], faults: &mut Vec<Fault>) -> Result<()
     Ok(())
 }
 
-/// Whether an earlier block owns one of the names.
+// Whether an earlier block owns one of the names.
 fn has_duplicate(slots: &Slots, at: usize, names: &[RcSlice<u8>]) -> bool
     requires { IsIndexed slots.now }
     ensures { result ≡ list_any (is_owned_before (blocks_of slots.now) at) (map rc_slice_items names.now) }
@@ -57,7 +57,7 @@ fn has_duplicate(slots: &Slots, at: usize, names: &[RcSlice<u8>]) -> bool
     false
 }
 
-/// Adds the fault of a name, if an earlier block owns it.
+// Adds the fault of a name, if an earlier block owns it.
 fn add_name_fault(
     slots: &Slots,
     at: usize,
@@ -79,7 +79,7 @@ fn add_name_fault(
     Ok(())
 }
 
-/// Adds a fault for each lookup name of a block that an earlier block owns.
+// Adds a fault for each lookup name of a block that an earlier block owns.
 fn add_name_faults(
     alloc: Global,
     slots: &Slots,
@@ -102,7 +102,7 @@ fn add_name_faults(
     Ok(())
 }
 
-/// Adds the faults of the block at a position.
+// Adds the faults of the block at a position.
 fn add_block_faults(
     alloc: Global,
     slots: &Slots,

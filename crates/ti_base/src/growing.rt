@@ -1,5 +1,5 @@
-// A list that edits make with nothing found out about its blocks in between: all edits change the
-// list, and then what there is to find out about the last list is found once.
+//! A list that edits make with nothing found out about its blocks in between: all edits change the
+//! list, and then what there is to find out about the last list is found once.
 ghost use Rattle.std.specs.Prelude.{◌≡◌, ◌≤◌, [], IfOk, OnErr, OnOk, length, map, vec_capacity};
 ghost use Rattle.ti_meaning.specs.Edits.{EditRun, EditStep, IsSoundEdit, change_of, list_after};
 ghost use Rattle.ti_slots.specs.Slots.{slot_texts};

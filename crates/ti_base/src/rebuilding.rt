@@ -1,5 +1,5 @@
-// What an edit rebuilds, or a list that is made in one go: the plan of it, and what the plan found
-// out put into the slots.
+//! What an edit rebuilds, or a list that is made in one go: the plan of it, and what the plan found
+//! out put into the slots.
 ghost use Rattle.std.specs.Prelude.{◌≡◌, ℕ, Option, Some, All, IsSome, length, IfOk, OnOk, OnErr};
 ghost use Rattle.ti_meaning.specs.Exchange.{Exchange};
 ghost use Rattle.ti_meaning.specs.Dependents.{AreDependents, work};

@@ -1,4 +1,4 @@
-// Faults as the lines of a report.
+//! Faults as the lines of a report.
 ghost use Rattle.std.specs.Prelude.{◌≡◌, ◌≤◌, ◌++◌, length, map, option_map, All, IfOk, OnOk};
 ghost use Rattle.std.specs.List.{flat_map, range_with_len};
 ghost use Rattle.std.specs.Rc.{rc_slice_items};
@@ -17,7 +17,7 @@ use ti_slots::Slots;
 use ti_source::Code;
 use ti_text::count_lines;
 
-/// What a report shows for a byte of a detail: `?` for one that does not print or is white space.
+// What a report shows for a byte of a detail: `?` for one that does not print or is white space.
 fn printed_byte(byte: u8) -> u8
     ensures { result ≡ shown_byte byte }
 {
@@ -43,7 +43,7 @@ pub fn write_detail(out: &mut Vec<u8>, detail: &[u8]) -> Result<(), AllocError>
     Ok(())
 }
 
-/// Writes a code and its name.
+// Writes a code and its name.
 fn write_code(out: &mut Vec<u8>, code: Code) -> Result<(), AllocError>
     ensures { OnOk result (out.new.items ≡ out.old.items ++ code_text code) }
 {

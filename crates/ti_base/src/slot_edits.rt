@@ -1,5 +1,5 @@
-// Edits of a settled list: the blocks exchanged, what depends on that rebuilt, and all taken back
-// if memory is refused.
+//! Edits of a settled list: the blocks exchanged, what depends on that rebuilt, and all taken back
+//! if memory is refused.
 ghost use Rattle.std.specs.Prelude.{◌≡◌, IfOk, OnErr, OnOk};
 ghost use Rattle.ti_meaning.specs.Edits.{IsSoundEdit, change_of, list_after};
 ghost use Rattle.ti_meaning.specs.Dependents.{Rebuilds};

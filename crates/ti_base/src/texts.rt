@@ -30,7 +30,7 @@ pub(crate) fn read_slot(
     slot_of(alloc, text, block)
 }
 
-/// The slot of a text and of the block that it is read as.
+// The slot of a text and of the block that it is read as.
 fn slot_of(alloc: Global, text: &[u8], block: Parsed) -> Result<Slot, AllocError>
     requires text { IsBlockText text.now }
     requires computed { reading_of block ≡ reading_of_text text.now }

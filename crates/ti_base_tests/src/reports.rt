@@ -161,7 +161,7 @@ fn each_name_of_blocks_once(rt: HostRuntime) -> Result<(), EditError> {
     Ok(())
 }
 
-/// The report of the faults of a source that are found before it is asked for.
+// The report of the faults of a source that are found before it is asked for.
 fn report_of_faults(database: &Database) -> Result<Vec<u8>, AllocError> {
     let faults = database.faults()?;
     database.report_of(&faults, 7)

@@ -1,4 +1,4 @@
-// Laws of components, for the crates above. They compute nothing.
+//! Laws of components, for the crates above. They compute nothing.
 ghost use Rattle.ti_components.specs.Laws.{ComponentsAreDetermined, NumbersFall, CyclesShareANumber, WalksJoin};
 
 /// The ends of an edge are in one component exactly if the edge is on a cycle.

@@ -71,8 +71,8 @@ impl Search {
         Ok(())
     }
 
-    /// Follows an edge: a node that was not met is put on the path, and if the edge leads back on
-    /// the path no component starts after that node.
+    // Follows an edge: a node that was not met is put on the path, and if the edge leads back on
+    // the path no component starts after that node.
     fn follow(&mut self, edge: Option<usize>) -> Result<(), AllocError>
         requires within { (target : ℕ) → edge ≡ Some target → target < vec_len self.old.progress }
         requires rises { Rises self.old.starts.items }
@@ -89,7 +89,7 @@ impl Search {
         Ok(())
     }
 
-    /// Closes the component of the nodes that are on the path from a place on.
+    // Closes the component of the nodes that are on the path from a place on.
     fn close(&mut self, start: usize) -> Result<(), AllocError>
         requires within { start ≤ vec_len self.old.path }
         requires nodes { AreBelow self.old.path.items (vec_len self.old.progress) }

@@ -1,4 +1,4 @@
-// The positions of the blocks found, and which of them use each other.
+//! The positions of the blocks found, and which of them use each other.
 ghost use Rattle.std.specs.Prelude.{◌≡◌, ◌<◌, ℕ, Some, IsSome, map, nat_eq, slice_get, OnOk, IfOk};
 ghost use Rattle.ti_source.specs.Reading.{item_of};
 ghost use Rattle.std.specs.List.{IsDistinct};

@@ -16,7 +16,7 @@ use ti_source::is_lookup_name;
 /// The directory of the system's entries.
 pub const SYSTEM_DIRECTORY: &str = "/usr/share/terminfo";
 
-/// The most bytes of a file that may be an entry.
+// The most bytes of a file that may be an entry.
 const FILE_MAX: usize = 65_536;
 
 // Adds a directory.

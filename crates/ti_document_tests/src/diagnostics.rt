@@ -6,15 +6,15 @@ use ti_messages::writing::Severity;
 use ti_messages::{Position, Range};
 use ti_source::Code;
 
-/// A document of these bytes.
+// A document of these bytes.
 fn document_of(alloc: Global, bytes: &[u8]) -> Result<Document, AllocError> {
     let mut text = Vec::new(alloc);
     text.extend_from_slice(bytes)?;
     Document::open(alloc, text)
 }
 
-/// A diagnostic as it is wanted: its line and columns, its label, how grave it is, and what its
-/// message begins with.
+// A diagnostic as it is wanted: its line and columns, its label, how grave it is, and what its
+// message begins with.
 #[derive(Clone, Copy)]
 struct Row {
     line: usize,
@@ -25,7 +25,7 @@ struct Row {
     message: &'static str,
 }
 
-/// Whether a diagnostic is as it is wanted.
+// Whether a diagnostic is as it is wanted.
 fn is_shown(shown: &Diagnostic, row: &Row) -> bool {
     let range = Range {
         start: Position {
@@ -43,7 +43,7 @@ fn is_shown(shown: &Diagnostic, row: &Row) -> bool {
         && shown.message.starts_with(row.message)
 }
 
-/// A source with a fault of each kind that a small one can have, after a preface of two lines.
+// A source with a fault of each kind that a small one can have, after a preface of two lines.
 const FAULTY: &[u8] = b"# c
 \t\xC3\xA9
 
@@ -73,7 +73,7 @@ const ROWS: [Row; 12] = [
     Row { line: 11, start: 0, end: 9, label: "E8", severity: Severity::Error, message: "Unresolved a: " },
 ];
 
-/// Whether the diagnostics of a source are these.
+// Whether the diagnostics of a source are these.
 fn are_shown(alloc: Global, source: &[u8], rows: &[Row]) -> Result<bool, AllocError> {
     let all = document_of(alloc, source)?.diagnostics(alloc)?;
     Ok(
@@ -91,8 +91,8 @@ fn each_fault_has_its_place(rt: HostRuntime) -> Result<(), AllocError> {
     Ok(())
 }
 
-/// The CR of a CR LF is no column of its line. It is an item of its own, since it is no white
-/// space.
+// The CR of a CR LF is no column of its line. It is an item of its own, since it is no white
+// space.
 #[rattlefmt::skip]
 const RETURNS: [Row; 2] = [
     Row { line: 1, start: 1, end: 8, label: "E3", severity: Severity::Error, message: "BadNumber cols: " },
@@ -129,7 +129,7 @@ fn diagnostics_follow_the_text(rt: HostRuntime) -> Result<(), AllocError> {
     Ok(())
 }
 
-/// A problem, its label and how grave it is.
+// A problem, its label and how grave it is.
 #[rattlefmt::skip]
 const PROBLEMS: [(Problem, &str, Severity); 4] = [
     (Problem::Fault(Code::TooLarge), "E9", Severity::Error),
@@ -146,7 +146,7 @@ fn problems(rt: HostRuntime) {
     }
 }
 
-/// A text of a front, and a byte so many times.
+// A text of a front, and a byte so many times.
 fn with_run(alloc: Global, front: &[u8], byte: u8, count: usize) -> Result<Vec<u8>, AllocError> {
     let mut text = Vec::new(alloc);
     text.extend_from_slice(front)?;

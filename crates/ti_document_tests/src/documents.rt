@@ -3,15 +3,15 @@ use std::alloc::{AllocError, Global};
 use std::process::Abort;
 use ti_document::Document;
 
-/// A text of these bytes.
+// A text of these bytes.
 fn text_of(alloc: Global, bytes: &[u8]) -> Result<Vec<u8>, AllocError> {
     let mut text = Vec::new(alloc);
     text.extend_from_slice(bytes)?;
     Ok(text)
 }
 
-/// A text, the text after it, and the edits from the one to the other: one for each block of the
-/// longer part between what both have in common at the ends.
+// A text, the text after it, and the edits from the one to the other: one for each block of the
+// longer part between what both have in common at the ends.
 #[rattlefmt::skip]
 const EXCHANGES: [(&[u8], &[u8], usize); 14] = [
     (b"", b"", 0),
@@ -58,7 +58,7 @@ fn a_new_document(rt: HostRuntime) -> Result<(), AllocError> {
     Ok(())
 }
 
-/// A source of so many blocks of a line each.
+// A source of so many blocks of a line each.
 fn with_blocks(alloc: Global, count: usize) -> Result<Vec<u8>, AllocError> {
     let mut source = Vec::new(alloc);
     for _ in 0..count {

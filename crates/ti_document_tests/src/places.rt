@@ -4,11 +4,11 @@ use std::process::Abort;
 use ti_document::{offset_of, position_of, spliced};
 use ti_messages::Position;
 
-/// The text that the rows are in: letters of one, two, three and four bytes, LF, CR LF, a lone CR
-/// and an open last line.
+// The text that the rows are in: letters of one, two, three and four bytes, LF, CR LF, a lone CR
+// and an open last line.
 const TEXT: &[u8] = b"a\xC3\xA9\xE2\x82\xAC\xF0\x9F\x98\x80z\r\n\rq\n\nlast";
 
-/// The offset of the start of a character, its line and its column.
+// The offset of the start of a character, its line and its column.
 const STARTS: [(usize, usize, usize); 13] = [
     (0, 0, 0),
     (1, 0, 1),
@@ -34,7 +34,7 @@ fn starts_of_characters(rt: HostRuntime) {
     }
 }
 
-/// Places that are none: their line, their column and the offset that they are taken for.
+// Places that are none: their line, their column and the offset that they are taken for.
 const OTHERS: [(usize, usize, usize); 6] = [
     // Past the end of a line, whose CR is no column.
     (0, 7, 11),
@@ -58,7 +58,7 @@ fn other_places(rt: HostRuntime) {
     assert!(rt; offset_of(b"", Position { line: 0, column: 0 }) == 0);
 }
 
-/// A start and an end in `abcd`, what is put in, and the text after it.
+// A start and an end in `abcd`, what is put in, and the text after it.
 #[rattlefmt::skip]
 const SPLICES: [(usize, usize, &[u8], &[u8]); 6] = [
     (1, 3, b"x", b"axd"),

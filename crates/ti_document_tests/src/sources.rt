@@ -4,7 +4,7 @@ use std::process::Abort;
 use ti_base::EditError;
 use ti_sources::{SourceError, check, database_of, first_line, is_ended};
 
-/// A source, whether its last line is ended, and the line on which its first block begins.
+// A source, whether its last line is ended, and the line on which its first block begins.
 #[rattlefmt::skip]
 const FIRST_LINES: [(&[u8], bool, usize); 9] = [
     (b"", true, 1),
@@ -29,7 +29,7 @@ fn first_lines(rt: HostRuntime) {
     }
 }
 
-/// Appends a byte so many times.
+// Appends a byte so many times.
 fn push_many(text: &mut Vec<u8>, byte: u8, count: usize) -> Result<(), AllocError> {
     for _ in 0..count {
         text.push(byte)?;
@@ -37,7 +37,7 @@ fn push_many(text: &mut Vec<u8>, byte: u8, count: usize) -> Result<(), AllocErro
     Ok(())
 }
 
-/// A source of a comment and two blocks, of which the second has 7 bytes and so many more.
+// A source of a comment and two blocks, of which the second has 7 bytes and so many more.
 fn with_long_block(alloc: Global, more: usize) -> Result<Vec<u8>, AllocError> {
     let mut source = Vec::new(alloc);
     source.extend_from_slice(b"# c\na|b,\n\tam,\nx|y,\n#")?;
@@ -55,7 +55,7 @@ fn a_block_at_its_limit(rt: HostRuntime) -> Result<(), AllocError> {
     Ok(())
 }
 
-/// A source of so many blocks of a line each.
+// A source of so many blocks of a line each.
 fn with_blocks(alloc: Global, count: usize) -> Result<Vec<u8>, AllocError> {
     let mut source = Vec::new(alloc);
     for _ in 0..count {

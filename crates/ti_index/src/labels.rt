@@ -1,4 +1,4 @@
-// Labels that rise along a list of ids, with room between for labels of ids that are put in.
+//! Labels that rise along a list of ids, with room between for labels of ids that are put in.
 ghost use Rattle.std.specs.Prelude.{◌≡◌, ◌<◌, ◌≤◌, ◌*◌, ◌+◌, ◌^◌, ℕ, Some, slice_get, slice_index_or, length, vec_len};
 ghost use Rattle.ti_index.specs.inside.Labels.{AreLabelled, FitsAt, IsGap};
 ghost use Rattle.ti_text.specs.Lists.{AreBelow, AreDistinct};
@@ -23,7 +23,7 @@ fn relabel(ids: &[u32], labels: &mut Vec<u64>)
     }
 }
 
-/// The labels of the ids before and after a position between ids, or the ends.
+// The labels of the ids before and after a position between ids, or the ends.
 fn gap_at(ids: &[u32], labels: &[u64], position: usize) -> (u64, u64)
     requires known { AreBelow ids.now (length labels.now) }
     requires labelled { AreLabelled ids.now labels.now }

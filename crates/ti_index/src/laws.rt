@@ -1,4 +1,4 @@
-// Laws of the lists that an index keeps, for the crates above. They compute nothing.
+//! Laws of the lists that an index keeps, for the crates above. They compute nothing.
 ghost use Rattle.ti_index.specs.Laws.{FirstsAreFirst, ListsAgree, ListsAreAmong, ListsFit, ListsStay};
 
 /// Each id of a list is in the order of all.

@@ -130,7 +130,7 @@ impl NameIndex {
         self.grow(name)
     }
 
-    /// Makes an entry for a name that has none.
+    // Makes an entry for a name that has none.
     fn bring(&mut self, name: &[u8]) -> Result<(), AllocError>
         ensures seen { (other : List ℕ) → IsSeenSame self.old self.new other }
         ensures capacity { (other : List ℕ) → KeepsCapacity self.old self.new other }

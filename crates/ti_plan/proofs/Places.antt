@@ -106,7 +106,7 @@ row_at slots d h node at index name row p u r =
     let as_many = (h.graph.rows node n.0 row n.1.id_is r).as_many in
     omega arith
 
--- the graph has an edge between the nodes of blocks where the one uses the other
+-- the graph has an edge between the nodes of two blocks if the one uses the other
 pub graph_of : (slots : Slots) (d : Dependents) → AreFoundIn slots d → IsGraphOf (blocks_of slots) d.positions.items (laws.HasOptionalEdge d.uses)
 graph_of slots d h i j = (there slots d h i j, back slots d h i j) where
   there : (slots : Slots) (d : Dependents) → AreFoundIn slots d → (i j : ℕ) → laws.HasOptionalEdge d.uses i j → (at : ℕ) × (used : ℕ) × (slice_get d.positions.items i ≡ Some at) × (slice_get d.positions.items j ≡ Some used) × UsesBlock (blocks_of slots) at used

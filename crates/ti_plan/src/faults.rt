@@ -1,5 +1,5 @@
-// The faults of a block but those of names that earlier blocks own: of its header, its items in
-// their order, and its entry.
+//! The faults of a block but those of names that earlier blocks own: of its header, its items in
+//! their order, and its entry.
 ghost use Rattle.std.specs.Prelude.{ℕ, ◌≡◌, ◌≤◌, [], ◌∷◌, drop, filter, map, length, slice_get, Some, is_some, false, option_map, IfOk, OnOk};
 ghost use Rattle.std.specs.Bool.{MatchBool};
 ghost use Rattle.std.specs.Rc.{rc_slice_items};

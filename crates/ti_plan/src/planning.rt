@@ -1,4 +1,4 @@
-// The plan of an edit, made: the blocks found settled along the closing order of their uses.
+//! The plan of an edit, made: the blocks found settled along the closing order of their uses.
 ghost use Rattle.std.specs.Prelude.{ℕ, ◌≡◌, ◌+◌, ◌<◌, ◌^◌, length, map, Some, sum_by, All, IfOk, OnOk};
 ghost use Rattle.ti_components.specs.Components.{AreComponents, IsClosingOrder};
 ghost use Rattle.ti_meaning.specs.Dependents.{work};

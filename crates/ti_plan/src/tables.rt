@@ -1,5 +1,5 @@
-// The values of a block and its entry: items are added to a table, the leftmost mention of a
-// capability first, and the entry that the block had before is patched to have these values.
+//! The values of a block and its entry: items are added to a table, the leftmost mention of a
+//! capability first, and the entry that the block had before is patched to have these values.
 ghost use Rattle.std.specs.Prelude.{ℕ, ◌≡◌, ◌+◌, ◌<◌, ◌^◌, ◌↔◌, length, false, List, Some, slice_get, IfOk, IsErrOf, OnOk};
 ghost use Rattle.ti_caps.specs.Tables.{Capability, IsCapability};
 ghost use Rattle.ti_source.specs.Reading.{reading_of, said_import, said_of};

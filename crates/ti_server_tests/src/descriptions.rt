@@ -25,7 +25,7 @@ fn describes_each_capability(rt: HostRuntime) {
     assert_eq!(rt; seen, 497);
 }
 
-/// Capabilities with their variables: those at the ends of the lists, and some from their middle.
+// Capabilities with their variables: those at the ends of the lists, and some from their middle.
 static VARIABLES: [(&'static str, &'static str); 14] = [
     ("bw", "auto_left_margin"),
     ("am", "auto_right_margin"),
@@ -51,7 +51,7 @@ fn gives_the_variables(rt: HostRuntime) {
     }
 }
 
-/// Capabilities with their sentences and their parameters.
+// Capabilities with their sentences and their parameters.
 static SENTENCES: [(&'static str, &'static str, &'static str); 5] = [
     ("am", "Lines wrap at the right margin", ""),
     ("cols", "Columns on the screen", ""),

@@ -7,8 +7,8 @@ use ti_messages::FrameFault;
 use ti_server::{Server, serve};
 use ti_test_devices::{Drip, End, Narrow};
 
-/// A session: what it shows, the bodies that come, those that are sent back, and how it ends. With
-/// no status the input ends before `exit`.
+// A session: what it shows, the bodies that come, those that are sent back, and how it ends. With
+// no status the input ends before `exit`.
 struct Session {
     name: &'static str,
     sent: &'static [&'static str],

@@ -1,4 +1,4 @@
-// The index of names as a block comes or goes: one walk over the names that the block says.
+//! The index of names as a block comes or goes: one walk over the names that the block says.
 ghost use Rattle.std.specs.Prelude.{◌≡◌, ◌<◌, ◌+◌, ℕ, List, length, OnOk, Some, option_map, slice_get};
 ghost use Rattle.ti_text.specs.Lists.{Has};
 ghost use Rattle.ti_slots.specs.inside.Indexing.{all_said, ids_at, says_of, AddsId, Forgets, HasRoomAt, IsGrown, IsPart, Removes};

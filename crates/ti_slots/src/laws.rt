@@ -1,4 +1,4 @@
-// A law of the changes, for the crates above. It computes nothing.
+//! A law of the changes, for the crates above. It computes nothing.
 ghost use Rattle.ti_slots.specs.Changes.{ChangesAreUndone};
 
 /// A change is undone by its opposite, without memory.

@@ -3,10 +3,10 @@ use std::alloc::AllocError;
 use std::process::Abort;
 use ti_spans::{Part, field_len, folded, item_parts, name_parts, span_of};
 
-/// A part of a folded text, and where it is in the block; the ends are the same if it is nowhere.
+// A part of a folded text, and where it is in the block; the ends are the same if it is nowhere.
 type Row = (usize, usize, usize, usize);
 
-/// A block, the bytes of its names field, and its items.
+// A block, the bytes of its names field, and its items.
 struct Block {
     text: &'static [u8],
     field: usize,
@@ -32,7 +32,7 @@ const BLOCKS: [Block; 6] = [
     Block { text: b"n,a\n#c\n b,", field: 1, items: &[(2, 4, 2, 9), (5, 5, 0, 0)] },
 ];
 
-/// The span of a part, or two zeros.
+// The span of a part, or two zeros.
 fn ends(span: Option<Part>) -> (usize, usize) {
     match span {
         Some(span) => (span.start, span.end),
@@ -56,7 +56,7 @@ fn the_parts_of_blocks(rt: HostRuntime) -> Result<(), AllocError> {
     Ok(())
 }
 
-/// A block, and the spans of the names in its names field.
+// A block, and the spans of the names in its names field.
 #[rattlefmt::skip]
 const NAMES: [(&[u8], &[(usize, usize)]); 5] = [
     (b"x|y z,am,", &[(0, 1), (2, 5)]),

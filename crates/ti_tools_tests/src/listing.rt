@@ -47,7 +47,7 @@ fn listing(alloc: Global, entry: &[u8], layout: &Layout) -> Result<Vec<u8>, Fail
     Ok(list(alloc, &view, layout)?)
 }
 
-/// How an entry is listed, and its listing.
+// How an entry is listed, and its listing.
 pub struct Listed {
     pub layout: Layout,
     pub text: &'static [u8],
