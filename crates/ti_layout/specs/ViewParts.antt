@@ -1,5 +1,4 @@
 -- A view taken apart (own): what its parts hold.
-use Rattle.std.specs.Prelude.{ℕ, List}
 use Rattle.ti_layout.specs.declared.layout.Format.TheVariants.{Legacy}
 use Rattle.ti_layout.specs.declared.view_parts.ViewParts.{ViewParts}
 use Rattle.ti_layout.specs.Reading.{contents_of, numbers_in}

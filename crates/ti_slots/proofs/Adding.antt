@@ -1,6 +1,5 @@
 -- The names of a block come to an index, or go, one at a time.
-use Rattle.std.proofs.Common.{◌≡◌, ◌≢◌, ◌⊎◌, ◌<◌, ◌≤◌, ◌+◌, ℕ, suc, zero, inl, inr, List, [], ◌∷◌, ◌++◌, length, map, take, get_or, Bool, true, false, not, nat_eq, ◌&&◌, ◌||◌, Option, Some, None, option_map, slice_get, refl, sym, ◌∙◌, ap, arith, eq-eqb, length-append, Global}
-use Rattle.std.specs.List.{list_any}
+use Rattle.std.proofs.Common.{◌≡◌, ◌≢◌, ◌⊎◌, ◌≤◌, ◌+◌, ℕ, suc, zero, inl, inr, List, [], ◌∷◌, ◌++◌, length, map, take, Bool, true, false, not, nat_eq, ◌&&◌, ◌||◌, Option, Some, None, option_map, slice_get, refl, sym, ◌∙◌, ap, arith, eq-eqb, length-append, Global}
 use Rattle.std.specs.Option.{option_map_or}
 use Rattle.std.specs.Vec.{vec_capacity}
 use Rattle.std.specs.Str.{bytes_eq}

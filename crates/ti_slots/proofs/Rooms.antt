@@ -1,6 +1,6 @@
 -- Room for one more block: nothing that shows is changed by it.
 use mathlib.Core.Path.{fun_ext}
-use Rattle.std.proofs.Common.{◌≡◌, ◌<◌, ◌≤◌, ◌+◌, ℕ, List, length, map, filter, Option, Some, slice_get, [], refl, sym, ◌∙◌, subst, arith}
+use Rattle.std.proofs.Common.{◌≡◌, ◌<◌, ◌≤◌, ◌+◌, ℕ, List, length, map, filter, Option, Some, slice_get, [], refl, sym, ◌∙◌, subst}
 use Rattle.std.specs.Option.{option_map_or, IsSome}
 use Rattle.std.specs.Str.{bytes_eq}
 use Rattle.ti_source.specs.Reading.{reading_of}

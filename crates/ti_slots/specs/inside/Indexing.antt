@@ -11,7 +11,7 @@ use Rattle.ti_source.specs.declared.parsing.Parsed.{Parsed}
 use Rattle.ti_meaning.specs.Owner.{is_among}
 use Rattle.ti_meaning.specs.Reaching.{any_use, used_name}
 use Rattle.ti_index.specs.declared.names.NameIndex.{NameIndex}
-use Rattle.ti_index.specs.Names.{mentions_at, holders_at, users_at, holder_capacity, user_capacity, IsForgotten, IsSeenSame, KeepsCapacity}
+use Rattle.ti_index.specs.Names.{holders_at, users_at, holder_capacity, user_capacity, IsForgotten, IsSeenSame, KeepsCapacity}
 use Rattle.ti_slots.specs.declared.indexing.Role.{Role}
 use Rattle.ti_slots.specs.declared.indexing.Role.TheVariants.{Holder, User}
 

@@ -1,4 +1,4 @@
-use Rattle.std.proofs.Common.{◌≡◌, ◌≤◌, ◌+◌, length, take, Some, None, slice_get, ap, ◌∙◌, arith}
+use Rattle.std.proofs.Common.{◌≤◌, ◌+◌, length, take, Some, ap, ◌∙◌, arith}
 use Rattle.ti_index.specs.Listing.{ListsNoMore}
 use Rattle.ti_slots.specs.declared.indexing.Role.TheVariants.{Holder, User}
 use Rattle.ti_slots.specs.inside.Indexing.{all_said, says_of, is_among_said}

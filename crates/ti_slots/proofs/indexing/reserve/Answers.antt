@@ -1,4 +1,4 @@
-use Rattle.std.proofs.Common.{◌≡◌, ◌≤◌, ◌+◌, length, take, Some, sym, ◌∙◌, arith}
+use Rattle.std.proofs.Common.{◌≤◌, ◌+◌, length, take, sym, ◌∙◌, arith}
 use Rattle.ti_slots.specs.inside.Indexing.{all_said, is_among_said, IsGrown}
 use Rattle.ti_slots.proofs.Adding.{grown_more, room_more, said_more, said_same, said_ended}
 use Rattle.ti_slots.proofs.indexing.reserve.Goals as goal

@@ -1,4 +1,4 @@
-use Rattle.std.proofs.Common.{◌≡◌, ◌≤◌, ℕ, List, not, nat_eq, ◌&&◌, length, refl, ◌∙◌, ap, arith}
+use Rattle.std.proofs.Common.{◌≡◌, ◌≤◌, ℕ, List, not, nat_eq, ◌&&◌, length, refl, arith}
 use Rattle.std.specs.List.{insert}
 use Rattle.ti_source.specs.Reading.{reading_of}
 use Rattle.ti_meaning.proofs.Leading.{any_use-used}
