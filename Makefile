@@ -142,10 +142,10 @@ dist:
 	git archive --format=tar.gz --prefix=ti-$(VERSION)/ -o ti-$(VERSION).tar.gz HEAD
 	@echo ti-$(VERSION).tar.gz
 
-deb: all lsp
+deb: all lsp library
 	python3 build/packages.py deb
 
-release: all lsp
+release: all lsp library
 	python3 build/packages.py release
 
 reproduce:

@@ -28,18 +28,19 @@ def compiler():
     return os.environ.get("CC") or "cc"
 
 
-def make(archive, directory):
-    """Makes the static and the shared library from the archive of the crate."""
+def make(archive, directory, flags=(), names=("libti.a", SONAME)):
+    """Makes the libraries named from the archive of the crate; `flags` are for include/ti.c."""
     os.makedirs(directory, exist_ok=True)
     with tempfile.TemporaryDirectory() as room:
         run = lambda *words: subprocess.run(words, cwd=room, check=True)
-        run(compiler(), *FLAGS, "-I", f"{TOP}/include", "-c", f"{TOP}/include/ti.c", "-o", "c.o")
+        run(compiler(), *FLAGS, *flags, "-I", f"{TOP}/include", "-c", f"{TOP}/include/ti.c", "-o", "c.o")
         whole = [os.path.abspath(archive), f"{KIT}/c/liblibc_c.a"]
         run("ld", "-r", "-o", "ti.o", "c.o", "--whole-archive", *whole, "--no-whole-archive")
         run("objcopy", "--wildcard", "--keep-global-symbol=ti_*", "ti.o")
         run("ar", "rcsD", "libti.a", "ti.o")
-        run(compiler(), *SHARED, "-o", SONAME, "ti.o")
-        for name in ("libti.a", SONAME):
+        if SONAME in names:
+            run(compiler(), *SHARED, "-o", SONAME, "ti.o")
+        for name in names:
             shutil.copy(f"{room}/{name}", f"{directory}/{name}.new")
             os.replace(f"{directory}/{name}.new", f"{directory}/{name}")
 

@@ -2,7 +2,7 @@
 """Makes what a release consists of, from the built program, into a directory, or packages/.
 
     build/packages.py deb [DIRECTORY]        ti_VERSION-1_ARCH.deb, by Debian's own tools; libti-dev
-                                             likewise, if `make library` has made the library
+                                             likewise, if the C library is made
     build/packages.py release [DIRECTORY]    ti-VERSION-ARCH-linux.tar.gz with install.sh, the
                                              source as ti-VERSION.tar.gz, and SHA256SUMS of both
 

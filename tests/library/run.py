@@ -8,7 +8,7 @@ The archive of crates/ti_c is built already, by the gate or by `make library`. T
 header        ti.h is C99 and C++17 without a warning
 symbols       both libraries export what ti.h declares, and nothing else
 calls         every call and every refusal (calls.c), from each library and under sanitizers
-memory        each allocation refused in turn (memory.c)
+memory        each allocation refused in turn (memory.c), also under sanitizers
 damaged       damaged entries (damaged.c), under sanitizers
 open          ti_open answers as ti-tput(1) does, with the same refusals
 tput          a program in C and `ti tput` write the same bytes
@@ -66,13 +66,22 @@ class Room:
     def path(self, name):
         return os.path.join(self.directory, name)
 
+    def archive(self, words):
+        """The static library, its part in C under sanitizers if a program is."""
+        if not set(SANITIZE) <= set(words):
+            return self.path("libti.a")
+        directory = self.path("sanitized")
+        if not os.path.isdir(directory):
+            library.make(ARCHIVE, directory, SANITIZE, ["libti.a"])
+        return f"{directory}/libti.a"
+
     def compile(self, source, *words, libraries=(), shared=False):
         """Compiles a source of this directory. Gives the program."""
         name = f"{os.path.basename(source).partition('.')[0]}-{len(os.listdir(self.directory))}"
         linked = ["-L", self.directory, "-l:libti.so.1", f"-Wl,-rpath,{self.directory}"]
         status, said = run([
             self.compiler, "-std=c99", "-D_DEFAULT_SOURCE", "-O1", *WARN, "-I", INCLUDE, *words,
-            os.path.join(HERE, source), *(linked if shared else [self.path("libti.a")]), *libraries,
+            os.path.join(HERE, source), *(linked if shared else [self.archive(words)]), *libraries,
             "-o", self.path(name),
         ])
         if status:
@@ -160,8 +169,12 @@ def clean_environment(**more):
 def check_memory(room):
     directory, _ = dumb_entry(room)
     wraps = [f"-Wl,--wrap={name}" for name in ("malloc", "realloc", "free")]
-    program = room.compile("memory.c", "-fno-builtin", *wraps)
-    return room.faults([program], env=clean_environment(TERMINFO=directory))
+    environment = clean_environment(TERMINFO=directory)
+    faults = []
+    for flags in ([], SANITIZE):
+        program = room.compile("memory.c", "-fno-builtin", *wraps, *flags)
+        faults += room.faults([program], env=environment)
+    return faults
 
 
 def check_damaged(room):

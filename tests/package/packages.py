@@ -152,12 +152,15 @@ def bytes_of_system():
 
 def chroot_faults(system, package):
     """What is wrong with a package in a system: installing, running, removing, purging."""
-    shutil.copy(package, os.path.join(system, "ti.deb"))
-    shutil.copy(os.path.join(TOP, "examples", "dumb.ti"), system)
-    before = set(files_below(os.path.join(system, "usr")))
+    before = set(files_below(system))
+    room = os.path.join(system, "room")
+    os.mkdir(room)
+    shutil.copy(package, os.path.join(room, "ti.deb"))
+    shutil.copy(os.path.join(TOP, "examples", "dumb.ti"), room)
 
     def run(script):
-        return output(["chroot", system, "sh", "-c", script], env={"PATH": "/usr/sbin:/usr/bin:/sbin:/bin"})
+        words = ["chroot", system, "sh", "-c", f"cd /room && {script}"]
+        return output(words, env={"PATH": "/usr/sbin:/usr/bin:/sbin:/bin"})
 
     said = run("dpkg -i ti.deb >log 2>&1 || cat log")
     if said:
@@ -167,7 +170,8 @@ def chroot_faults(system, package):
         yield f"the installed program prints {got!r}"
     for action in ("--remove", "--purge"):
         run(f"dpkg {action} ti")
-    left = set(files_below(os.path.join(system, "usr"))) - before
+    shutil.rmtree(room)
+    left = set(files_below(system)) - before
     if left:
         yield f"after a purge there are {sorted(left)[:5]}"
 
