@@ -1,34 +1,33 @@
 """Cases that are runs of the built program `ti`, or of `ti-lsp`, each a directory of files.
 
     args      the words after `ti`, one a line
-    run       in place of args, a command that sh runs with `ti` on PATH, and `ti-lsp` if it
-              is built: it lays out what `before` cannot, as a link or a FIFO, and then runs `ti`
+    run       in place of args, a command that sh runs with `ti` on PATH, and `ti-lsp` if it is
+              built: it lays out what `before` cannot, as a link or a FIFO, and then runs `ti`
     env       NAME=VALUE a line; apart from these only PATH is set
-    stdin     what standard input holds (none: nothing)
-    data/     the files that lie in the directory that it runs in
-    from-repo files of the repository that are copied there too, a line for each: a path (which
-              may have `*`), and the directory that it goes to, if that is another one
-    before    a command that sh runs there first, for files too large to keep;
-              what it makes must still be there afterwards, unchanged
-    needs     programs that the case needs, one a line; if one is not
-              installed the case is skipped, and said to be
-    when      a command that sh runs before all else; if it fails the case is
-              skipped, and what it prints says why
-    as-nobody that the case is run without root's rights, which let it read and
-              write everything: if root runs the cases, the user nobody runs
-              this one, on a copy of the program
-    stdout    what standard output must hold (none: nothing)
+    stdin     what standard input has (none: nothing)
+    data/     the files of the directory that it runs in
+    from-repo files of the repository that are copied there too, a line for each: a path (which may
+              have `*`), and the directory that it goes to, if that is another one
+    before    a command that sh runs there first, for files too large to keep; what it makes must
+              still be there afterwards, unchanged; if it fails, so does the case
+    needs     programs that the case needs, one a line; if one is not installed the case is
+              skipped, and that is said
+    when      a command that sh runs before all else; if it fails the case is skipped, and what it
+              prints says why
+    as-nobody that the case is run without root's rights, which let it read and write everything:
+              if root runs the cases, the user nobody runs this one, on a copy of the program
+    stdout    what standard output must have (none: nothing)
+    stderr    what standard error must have (none: nothing)
     stdout-begins, stderr-begins
-              if a text is not held to the letter (usage and help), how it
-              begins; it must also fit in 80 columns
-    stderr    what standard error must hold (none: nothing)
+              how a text begins of which the rest is free (usage and help); it must also fit in 80
+              columns
     status    the exit status that is wanted (none: 0)
-    files     the files that must lie there afterwards, apart from those of data/: for each a
-              line `file PATH`, and then its bytes in hexadecimal, white space
-              apart; no other file may. A case without it may leave any files
-    then      a command, run by sh in that directory afterwards with `ti` on PATH;
-              its standard output must be that of the file then-stdout, and its
-              status 0
+    files     the files that must be there afterwards, apart from those that were laid out: for
+              each a line `file PATH` and then its bytes in hexadecimal, white space apart, or a
+              line `file PATH FROM` if they are those of a file of the repository; no other file
+              may be there. A case without it may leave any files
+    then      a command that sh runs in that directory afterwards with `ti` on PATH; its standard
+              output must be that of the file then-stdout, and its status 0
 """
 
 import glob
@@ -65,7 +64,7 @@ class Case:
         return bytes_of(self.part(name), default)
 
     def prepare(self):
-        """Lays out the directory that the case runs in. Gives what is wrong with its `before`, or None."""
+        """Lays out the directory of the case. Gives what is wrong with its `before`, or None."""
         if os.path.isdir(self.part("data")):
             shutil.copytree(self.part("data"), self.here)
         else:
@@ -112,7 +111,7 @@ class Case:
         why = self.prepare()
         if why:
             return [why]
-        laid = contents(self.here)
+        before = contents(self.here)
         done = subprocess.run(
             self.words(), input=self.bytes("stdin"), cwd=self.here, env=self.environment(),
             stdout=subprocess.PIPE, stderr=subprocess.PIPE, timeout=SECONDS, check=False,
@@ -121,7 +120,7 @@ class Case:
         status = int(self.bytes("status", b"0"))
         if done.returncode != status:
             found.append(f"status is {done.returncode}, wanted {status}")
-        found += [*self.file_faults(laid), self.then_fault()]
+        found += [*self.file_faults(before), self.then_fault()]
         return [fault for fault in found if fault]
 
     def text_fault(self, what, got):
@@ -136,9 +135,9 @@ class Case:
         wanted = self.bytes(what)
         return None if got == wanted else f"{what} is {got[:SHOWN]!r}, wanted {wanted[:SHOWN]!r}"
 
-    def file_faults(self, laid):
-        """What is wrong with the files that lie there afterwards; `laid` lay there before."""
-        wanted, got = {**laid, **listed(self.part("files"))}, contents(self.here)
+    def file_faults(self, before):
+        """What is wrong with the files that are there afterwards; `before` has those of before."""
+        wanted, got = {**before, **listed(self.part("files"))}, contents(self.here)
         for name in sorted({*wanted, *got} if self.has("files") else wanted):
             if wanted.get(name) != got.get(name):
                 yield f"file {name}: {bytes_shown(got.get(name))}, wanted {bytes_shown(wanted.get(name))}"
@@ -173,8 +172,8 @@ def listed(path):
     found, name = {}, None
     for line in lines_of(path):
         if line.startswith("file "):
-            name = line[len("file ") :]
-            found[name] = b""
+            _, name, *repository_file = line.split()
+            found[name] = bytes_of(os.path.join(TOP, *repository_file)) if repository_file else b""
         else:
             found[name] += bytes.fromhex("".join(line.split()))
     return found
@@ -189,7 +188,8 @@ def bytes_shown(content):
 
 
 def without_rights(room):
-    """The words before a command that have nobody run it, who then owns all below the room; for root alone."""
+    """If root runs this, the words before a command that have nobody run it, who then owns the
+    room."""
     if os.geteuid() != 0:
         return []
     nobody = pwd.getpwnam("nobody")
@@ -214,7 +214,7 @@ def why_skipped(directory):
 
 
 def run_cases(word, cases):
-    """Runs the cases of a directory, or those that are named as arguments. Gives the exit status."""
+    """Runs the cases of a directory, or those named as arguments. Gives the exit status."""
     if is_missing(PROGRAM, word):
         return 1
     tally = Tally(word)

@@ -1,7 +1,7 @@
 #!/usr/bin/env python3
 """Programs that the borrow checker must refuse, and their neighbours that it must accept.
 
-Each directory here is one library crate of a file `program`; `stands-on` names what it
+Each directory here is one library crate of a file `program`; `uses` names what it
 uses of this repository, one crate a line. With a file `refused-by` the check must
 refuse it by that error; without one it must pass. The crates are checked in a copy
 of the repository's crates, over what the gate has stored of them. The last line is
@@ -34,7 +34,7 @@ def crate_of(case):
 def prepare(room, cases):
     """Copies the crates that the cases depend on, and makes each case a crate of its own too."""
     crates, copied = read_crates(), os.path.join(room, "crates")
-    used = {name for case in cases for name in lines_of(part(case, "stands-on"))}
+    used = {name for case in cases for name in lines_of(part(case, "uses"))}
     needed = sorted(used.union(*(all_below(crates, name) for name in used)))
     for name in needed:
         shutil.copytree(os.path.join(TOP, "crates", name), os.path.join(copied, name))
@@ -45,7 +45,7 @@ def prepare(room, cases):
             source = os.path.join(copied, crate_of(case), "src")
             os.makedirs(source)
             shutil.copyfile(part(case, "program"), os.path.join(source, "lib.rt"))
-            file.write(f"{crate_of(case)}: {' '.join(lines_of(part(case, 'stands-on')))}\n")
+            file.write(f"{crate_of(case)}: {' '.join(lines_of(part(case, 'uses')))}\n")
     subprocess.run(["git", "init", "-q", "."], cwd=room, check=True)
 
 
@@ -59,7 +59,7 @@ def run(case, room):
     if wanted:
         if done.returncode == 0:
             return "it was accepted"
-        if not any(f"error[{it}]" in done.stdout for it in wanted):
+        if not any(f"error[{code}]" in done.stdout for code in wanted):
             return f"it was refused, but not by {wanted[0]}: {done.stdout[-1500:]}"
         return None
     return None if done.returncode == 0 else f"it was refused: {done.stdout[-1500:]}"

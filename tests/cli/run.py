@@ -1,5 +1,5 @@
 #!/usr/bin/env python3
-"""Black-box cases on the built program: each directory below cases/ is one (tests/cases.py says how).
+"""Black-box cases on the built program: each directory below cases/ is one, as tests/cases.py says.
 
 With names of cases as arguments only those are run. The last line is
 `cli: N passed, M failed`.

@@ -1,15 +1,17 @@
-"""Compiles entries of the system, as ncurses's infocmp lists them, and the examples, by `ti tic` and by
-ncurses's `tic -x`. Where ncurses writes no cancelled value the files are the same byte for byte, and
-else they say the same but for that. Prints what differs, and whether there was enough to compare."""
+"""Compiles entries of the system, as ncurses's infocmp lists them, and the examples, by `ti tic`
+and by ncurses's `tic -x`. If ncurses writes no cancelled value, the files must be the same byte for
+byte, and else say the same but for that. Prints what differs, and whether there was enough to
+compare."""
 
 import glob
 import os
 import struct
 import subprocess
 
-# The first of these that has entries: where another package adds terminals, as Debian's ncurses-term, theirs are not compared.
+# The first of these that has entries: those that another package adds, as Debian's ncurses-term,
+# are not compared.
 PLACES = ["/etc/terminfo", "/lib/terminfo", "/usr/share/terminfo"]
-FOLDERS = [it for it in PLACES if glob.glob(f"{it}/?/*")][:1]
+DIRECTORIES = [place for place in PLACES if glob.glob(f"{place}/?/*")][:1]
 
 
 def run(*words):
@@ -19,7 +21,7 @@ def run(*words):
 def shorn(values, absent):
     while values and values[-1] in absent:
         values.pop()
-    return [None if it in absent else it for it in values]
+    return [None if value in absent else value for value in values]
 
 
 def read(entry):
@@ -34,13 +36,13 @@ def read(entry):
     at += numbers * width
     places = list(struct.unpack_from(f"<{offsets}h", entry, at))
     at += offsets * 2
-    texts = [it if it < 0 else entry[at + it :].split(b"\0")[0] for it in places]
+    texts = [offset if offset < 0 else entry[at + offset :].split(b"\0")[0] for offset in places]
     cancelled = cancelled or -2 in values or -2 in places
     return (magic, entry[12 : 12 + names], shown, shorn(values, (-1, -2)), shorn(texts, (-1, -2))), cancelled
 
 
-def files(folder):
-    return {os.path.relpath(os.path.join(at, it), folder) for at, _, names in os.walk(folder) for it in names}
+def files(directory):
+    return {os.path.relpath(os.path.join(at, name), directory) for at, _, names in os.walk(directory) for name in names}
 
 
 def compare(source, compared):
@@ -59,14 +61,14 @@ def main():
     compared = {}
     for source in ("dumb.ti", "lantern.ti", "beacon.ti", "comet.ti"):
         compare(source, compared)
-    for folder in FOLDERS:
-        for name in sorted(files(folder)):
-            listing = run("infocmp", "-A", folder, os.path.basename(name))
+    for directory in DIRECTORIES:
+        for name in sorted(files(directory)):
+            listing = run("infocmp", "-A", directory, os.path.basename(name))
             if listing:
                 with open("listing.ti", "wb") as file:
                     file.write(listing)
                 compare("listing.ti", compared)
-    same = sum(not it for it in compared.values())
+    same = sum(not differing for differing in compared.values())
     if len(compared) > 20 and same > 15:
         print("compared")
     else:
