@@ -1,8 +1,8 @@
 /*
- * `library WHAT COUNT`: does one thing COUNT times, for bench/library.py, which counts instructions.
- * WHAT is the library (libti, ncurses or unibilium), `-` and the thing: setaf, cup, find (the string
- * of a name), get (the string of an index) or read (an entry from its bytes). The entry is that of
- * the file that TERMINFO_FILE names.
+ * `library WHAT COUNT`: does one thing COUNT times, for bench/library.py, which counts
+ * instructions. WHAT is the library (libti, ncurses or unibilium), `-` and the thing: setaf, cup,
+ * find (the string of a name), get (the string of an index) or read (an entry from its bytes). The
+ * entry is that of the file that TERMINFO_FILE names.
  */
 #include "ti.h"
 

@@ -1,10 +1,11 @@
 #!/usr/bin/env python3
-"""Instructions that a call of libti takes, compared with ncurses and unibilium, by valgrind's callgrind.
+"""Instructions that a call of libti takes, compared with ncurses and unibilium, by valgrind's
+callgrind.
 
     bench/library.py
 
-The C library is made already (`make library`). What a call takes is the difference of a run of 20,000
-calls and one of 10,000, by 10,000, on the system's entry of xterm-256color.
+The C library is made already (`make library`). What a call takes is the difference of a run of
+20,000 calls and one of 10,000, by 10,000, on the system's entry of xterm-256color.
 """
 
 import os
@@ -14,9 +15,10 @@ import subprocess
 import sys
 import tempfile
 
-TOP = os.path.dirname(os.path.dirname(os.path.abspath(__file__)))
+sys.path.append(os.path.join(os.path.dirname(os.path.dirname(os.path.abspath(__file__))), "build"))
+from repository import TOP, entry_file  # noqa: E402
+
 LIBRARY = os.path.join(TOP, "crates", "ti_c", "out", "lib", "libti.a")
-DIRECTORIES = ("/etc/terminfo", "/lib/terminfo", "/usr/share/terminfo")
 THINGS = ("setaf", "cup", "find", "get", "read")
 LACKING = {"ncurses-get", "ncurses-read", "unibilium-find"}
 COUNT = 10_000
@@ -30,11 +32,11 @@ def instructions(program, what, count, environment):
 
 
 def main():
-    files = [f"{it}/x/xterm-256color" for it in DIRECTORIES if os.path.exists(f"{it}/x/xterm-256color")]
-    if not files or not shutil.which("valgrind") or not os.path.exists(LIBRARY):
+    entry = entry_file("xterm-256color")
+    if not entry or not shutil.which("valgrind") or not os.path.exists(LIBRARY):
         print("not measured: valgrind, the entry of xterm-256color and the C library are needed")
         return 1
-    environment = {**os.environ, "TERMINFO_FILE": files[0]}
+    environment = {**os.environ, "TERMINFO_FILE": entry}
     libraries = ["libti", "ncurses", "unibilium"]
     with tempfile.TemporaryDirectory() as room:
         program = os.path.join(room, "library")
@@ -43,7 +45,7 @@ def main():
         if subprocess.run([*words, "-DUNIBILIUM", "-lunibilium"], capture_output=True, check=False).returncode:
             subprocess.run(words, check=True)
             libraries.remove("unibilium")
-        print("instructions a call".ljust(24), *(it.rjust(10) for it in libraries))
+        print("instructions a call".ljust(24), *(name.rjust(10) for name in libraries))
         for thing in THINGS:
             row = []
             for name in libraries:
@@ -53,7 +55,7 @@ def main():
                     continue
                 runs = [instructions(program, what, count, environment) for count in (COUNT, 2 * COUNT)]
                 row.append(f"{(runs[1] - runs[0]) / COUNT:,.0f}")
-            print(thing.ljust(24), *(it.rjust(10) for it in row), flush=True)
+            print(thing.ljust(24), *(figure.rjust(10) for figure in row), flush=True)
     return 0
 
 

@@ -1,5 +1,5 @@
-"""How much CPU time the language server takes to open a source, and for a key in the middle of it, next
-to the time in which ncurses's `tic -c` reads the whole source.
+"""How much CPU time the language server takes to open a source, and for a key in the middle of it,
+compared with the time in which ncurses's `tic -c` reads the whole source.
 """
 
 import json
@@ -7,8 +7,9 @@ import os
 import shutil
 import subprocess
 
-TOP = os.path.dirname(os.path.dirname(os.path.abspath(__file__)))
-SERVER = os.path.join(TOP, "crates", "ti_lsp", "out", "ti_lsp")
+from repository import program_of
+
+SERVER = program_of("ti_lsp")
 RUNS = 5
 KEYS = 40
 SECONDS = 600
@@ -52,7 +53,7 @@ def cpu_time(words, path):
 
 
 def measured(room, what, source):
-    """A row: what was opened, and the milliseconds of CPU time for opening, for a key, and for `tic -c`."""
+    """A row: what was opened; milliseconds of CPU time for opening, a key, and `tic -c`."""
     text = source.decode("utf-8", "replace")
     nothing, whole = room.write("nothing", b""), room.write("opened", opened(text))
     edited = room.write("edited", opened(text) + keys(text, KEYS))

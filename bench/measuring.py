@@ -1,0 +1,160 @@
+"""How commands of `ti` and of ncurses are measured: instructions, wall-clock time, files."""
+
+import json
+import os
+import re
+import shlex
+import shutil
+import statistics
+import subprocess
+import time
+from typing import NamedTuple
+
+from repository import files_below
+
+# runs of what writes files, and of the rest, which is short
+FILE_RUNS, SHORT_RUNS = 10, 100
+SECONDS = 600
+# what takes longer is timed alone, since callgrind takes some fifty times as long
+COUNTED_SECONDS = 2.0
+# the word of a command in whose place each run has a directory of its own
+OUT = "{out}"
+
+
+class Work(NamedTuple):
+    """Some work: its name, the commands of `ti` and of ncurses, and the file for their input."""
+
+    name: str
+    ours: list
+    theirs: list
+    given: str = os.devnull
+
+    def writes_files(self):
+        return OUT in self.ours
+
+    def runs(self):
+        return FILE_RUNS if self.writes_files() else SHORT_RUNS
+
+
+class Measure(NamedTuple):
+    """What the two commands took; instructions are None if they were not counted."""
+
+    name: str
+    instructions: tuple
+    seconds: tuple
+
+    def ratio(self, of):
+        """What ours took, as a part of what theirs took; None if it was not measured."""
+        return of[0] / of[1] if None not in of else None
+
+
+class Room:
+    """A directory for what runs read and write; no directory in it is written to by two runs."""
+
+    def __init__(self, path):
+        self.path, self.count = path, 0
+
+    def write(self, name, content):
+        """Writes a file, and gives its path."""
+        path = os.path.join(self.path, name)
+        with open(path, "wb") as file:
+            file.write(content)
+        return path
+
+    def new(self):
+        """The path of a directory that is not there yet, and was not there before."""
+        self.count += 1
+        return os.path.join(self.path, f"out{self.count}")
+
+    def words(self, words):
+        """The words of a command, with a new directory in place of OUT."""
+        place = self.new()
+        return [place if word == OUT else word for word in words]
+
+
+def run(words, given):
+    """Runs a command with a file as its input; gives its status and what it wrote."""
+    with open(given, "rb") as file:
+        done = subprocess.run(
+            words, stdin=file, stdout=subprocess.PIPE, stderr=subprocess.DEVNULL, timeout=SECONDS, check=False,
+        )
+    return done.returncode, done.stdout
+
+
+def clock(room, words, given):
+    """The wall-clock seconds of one run."""
+    words = room.words(words)
+    with open(given, "rb") as file:
+        begun = time.perf_counter()
+        subprocess.run(
+            words, stdin=file, stdout=subprocess.DEVNULL, stderr=subprocess.DEVNULL, timeout=SECONDS, check=False,
+        )
+        return time.perf_counter() - begun
+
+
+def hyperfine_command(words, given, following):
+    """A command as hyperfine runs it: by sh if it reads a file, or takes its directory from one."""
+    if OUT not in words and given == os.devnull:
+        return shlex.join(words)
+    command = " ".join('"$out"' if word == OUT else shlex.quote(word) for word in words)
+    return f"read -r out <{shlex.quote(following)}; exec {command} <{shlex.quote(given)}"
+
+
+def hyperfine(room, work):
+    """The median wall-clock seconds of both commands, by hyperfine."""
+    report, following = os.path.join(room.path, "hyperfine.json"), os.path.join(room.path, "following")
+    words = ["hyperfine", "--style", "none", "--ignore-failure", "--warmup", "1", "--runs", str(work.runs())]
+    if not work.writes_files() and work.given == os.devnull:
+        words += ["--shell", "none"]
+    else:
+        # before each run: the name of a directory that is not there
+        words += ["--prepare", f"mktemp -u {shlex.quote(room.new())}-XXXXXXXXXX >{shlex.quote(following)}"]
+    words += ["--export-json", report]
+    words += [hyperfine_command(command, work.given, following) for command in (work.ours, work.theirs)]
+    done = subprocess.run(words, stdout=subprocess.PIPE, stderr=subprocess.STDOUT, text=True, check=False)
+    if done.returncode:
+        raise OSError(f"hyperfine: {done.stdout}")
+    with open(report, encoding="utf-8") as file:
+        return tuple(result["median"] for result in json.load(file)["results"])
+
+
+def wall_clock(room, work):
+    """The median wall-clock seconds of both commands: by hyperfine, if installed, else in turn."""
+    if shutil.which("hyperfine"):
+        return hyperfine(room, work)
+    pairs = [
+        (clock(room, work.ours, work.given), clock(room, work.theirs, work.given)) for _ in range(work.runs())
+    ]
+    return tuple(statistics.median(taken) for taken in zip(*pairs))
+
+
+def instructions(room, words, given):
+    """How many instructions one run takes, by callgrind, or None if valgrind is not installed."""
+    if not shutil.which("valgrind"):
+        return None
+    words = ["valgrind", "--tool=callgrind", "--callgrind-out-file=/dev/null", *room.words(words)]
+    with open(given, "rb") as file:
+        done = subprocess.run(
+            words, stdin=file, stdout=subprocess.DEVNULL, stderr=subprocess.PIPE, timeout=SECONDS, check=False,
+        )
+    found = re.search(rb"Collected : (\d+)", done.stderr)
+    return int(found[1]) if found else None
+
+
+def measure(room, work):
+    """What both commands of a work take. The directories that they wrote are removed."""
+    seconds = wall_clock(room, work)
+    counted = (None, None)
+    if seconds[0] < COUNTED_SECONDS:
+        counted = tuple(instructions(room, words, work.given) for words in (work.ours, work.theirs))
+    for name in os.listdir(room.path):
+        if name.startswith("out"):
+            shutil.rmtree(os.path.join(room.path, name), ignore_errors=True)
+    return Measure(work.name, counted, seconds)
+
+
+def files_written(room, words):
+    """The files that a command writes into a new directory."""
+    words = room.words(words)
+    run(words, os.devnull)
+    return set(files_below(words[words.index("-o") + 1]))
