@@ -4,18 +4,13 @@ import os
 import shutil
 import sys
 
-TOP = os.path.dirname(os.path.dirname(os.path.abspath(__file__)))
 # after the directories of tests, one of which also has a module `packages`
-sys.path.append(os.path.join(TOP, "build"))
+sys.path.append(os.path.join(os.path.dirname(os.path.dirname(os.path.abspath(__file__))), "build"))
+from repository import ENTRY_DIRECTORIES, TOP, entry_file, files_below, program_of, text_of  # noqa: E402, F401
 
 
 class Skipped(Exception):
     """What a case needs is not there; the text says what."""
-
-
-def program_of(crate):
-    """The program that the gate, or a build, has made of a crate."""
-    return os.path.join(TOP, "crates", crate, "out", crate)
 
 
 PROGRAM = program_of("ti")
@@ -26,12 +21,6 @@ def need(program):
     """Skips the case unless a program is installed."""
     if not shutil.which(program):
         raise Skipped(f"{program} is not installed")
-
-
-def text_of(*parts):
-    """The text of a file of the repository."""
-    with open(os.path.join(TOP, *parts), encoding="utf-8") as file:
-        return file.read()
 
 
 def bytes_of(path, default=None):
@@ -46,16 +35,14 @@ def bytes_of(path, default=None):
 
 
 def lines_of(path):
-    """The lines of a file that are not empty, without white space around them; none if there is no file."""
+    """The lines of a file that are not empty, stripped; none if there is no file."""
     return [line.strip() for line in bytes_of(path, b"").decode().split("\n") if line.strip()]
 
 
-def files_below(directory):
-    """The paths of all files below a directory, relative to it, in order."""
-    found = []
-    for at, _, names in os.walk(directory):
-        found += [os.path.relpath(os.path.join(at, name), directory) for name in names]
-    return sorted(found)
+def commands_of(page, heading):
+    """The commands of the first block of sh after a heading of a page, without their comments."""
+    block = text_of(page).split(f"\n{heading}\n")[1].split("```sh\n")[1].split("```")[0]
+    return [line.split("  #")[0].strip() for line in block.strip().split("\n")]
 
 
 def is_missing(program, word):

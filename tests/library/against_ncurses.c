@@ -1,10 +1,10 @@
 /*
  * Compares libti with ncurses: each flag, number and string of an entry, and each string expanded
  * with several parameters. Standard input has a line for each entry: the name that ncurses opens it
- * by, a blank, and its file. Prints each difference, and then the counts; the status is 0 if nothing
- * differs. Not compared, and counted apart: a format that libti refuses (ncurses writes what it can),
- * one that takes parameters without `%p` (ncurses hands them over as termcap does), and one with two
- * `%i` (ncurses counts one).
+ * by, a blank, and its file. Prints each difference, and then the counts; the status is 0 if
+ * nothing differs. Not compared, and counted apart: a format that libti refuses (ncurses writes
+ * what it can), one that takes parameters without `%p` (ncurses hands them over as termcap does),
+ * and one with two `%i` (ncurses counts one).
  */
 #include "ti.h"
 

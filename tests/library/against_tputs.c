@@ -1,9 +1,10 @@
 /*
  * Compares ti_pad with the tputs of ncurses: each string of each entry, at several rates, on one
- * and on 24 lines. Standard input is as that of against_ncurses.c. The bytes that are no padding are
- * to be the same, and the pad bytes are to be at the same places. How many they are differs: ncurses
- * takes whole milliseconds and nine bits a byte, and rounds down; libti takes tenths and ten bits,
- * and rounds up, so that its count is the one that follows from the other within these bounds.
+ * and on 24 lines. Standard input is as that of against_ncurses.c. The bytes that are no padding
+ * are to be the same, and the pad bytes are to be at the same places. How many they are differs:
+ * ncurses takes whole milliseconds and nine bits a byte, and rounds down; libti takes tenths and
+ * ten bits, and rounds up, so that its count is the one that follows from the other within these
+ * bounds.
  */
 #include "ti.h"
 
@@ -39,7 +40,7 @@ static bool is_alike(size_t size, uint32_t rate) {
     size_t i = 0, j = 0;
     while (i < size || j < their_size) {
         size_t a = run_of_pads(ours, size, i), b = run_of_pads(theirs, their_size, j);
-        /* bits: ncurses loses less than a millisecond and a byte of nine, libti adds less than ten */
+        /* bits: ncurses loses less than a millisecond and a byte of nine, libti adds under ten */
         if (b * 9 > a * 10 + 9 || a * 10 > b * 9 + 9 + 10 + rate / 1000 + 1) return false;
         padded += a > 0;
         i += a, j += b;
@@ -66,7 +67,7 @@ static void compare_entry(const struct ti_entry *entry) {
         if (!text || text == (char *)-1) continue;
         /*
          * A byte 0x80 of the string itself looks like padding. A time without a whole digit, as
-         * `$<.7*>`, is no padding for libti, and tputs waits; in `$$<9>` it sees none, and libti does.
+         * `$<.7*>`, is no padding for libti, and tputs waits; in `$$<9>` libti alone sees one.
          */
         if (strchr(text, PAD) || strstr(text, "$<.") || strstr(text, "$$<")) {
             apart++;

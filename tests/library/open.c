@@ -1,4 +1,4 @@
-/* Opens the entry of the name that is the argument, or that TERM has, and prints the answer of ti_open. */
+/* Opens the entry that the argument, or TERM, names, and prints the answer of ti_open. */
 #include "test.h"
 
 int main(int argc, char **argv) {

@@ -16,8 +16,9 @@ ncurses       every entry of the system, compared with ncurses (against_ncurses.
 tputs         its padding, compared with tputs (against_tputs.c)
 unibilium     these entries, compared with unibilium (against_unibilium.c)
 page          the example of ti(3) is compiled, and writes what the page says
+commands      the commands of docs/LIBRARY.md for programs in C work on the installed library
 examples      the programs of examples/ in C and Python
-install       `make install-library` puts what a program needs where it says
+install       `make install-library` puts what a program needs into the directories that it is given
 
 What is not installed is skipped, and said to be. The last line is
 `library: N passed, M failed[, K skipped]`.
@@ -35,14 +36,15 @@ from concurrent.futures import ThreadPoolExecutor
 
 HERE = os.path.dirname(os.path.abspath(__file__))
 sys.path.insert(0, os.path.dirname(HERE))
-from common import PROGRAM, TOP, Skipped, Tally, is_missing, need, text_of  # noqa: E402
+from common import (  # noqa: E402
+    ENTRY_DIRECTORIES, PROGRAM, TOP, Skipped, Tally, commands_of, entry_file, files_below, text_of,
+)
 import library  # noqa: E402
 
 ARCHIVE = os.path.join(TOP, "crates", "ti_c", "out", "libti_c.a")
 INCLUDE = os.path.join(TOP, "include")
 WARN = ["-Wall", "-Wextra", "-Wpedantic", "-Werror"]
 SANITIZE = ["-g", "-fsanitize=address,undefined", "-fno-sanitize-recover=all"]
-DIRECTORIES = ("/etc/terminfo", "/lib/terminfo", "/usr/share/terminfo")
 # how many processes compare the entries of the system
 AT_ONCE = 4
 
@@ -128,11 +130,11 @@ def declared():
 
 def check_symbols(room):
     wanted, faults = declared(), []
-    for words in (["nm", "-g", "--defined-only", room.path("libti.a")], ["nm", "-D", "--defined-only", room.path("libti.so.1")]):
-        _, said = run(words)
+    for option, name in (("-g", "libti.a"), ("-D", "libti.so.1")):
+        _, said = run(["nm", option, "--defined-only", room.path(name)])
         found = sorted(line.split()[2] for line in said.splitlines() if len(line.split()) == 3)
         if found != wanted:
-            faults.append(f"{words[-1]}: {set(found) ^ set(wanted)}")
+            faults.append(f"{name}: {set(found) ^ set(wanted)}")
     _, said = run(["readelf", "-d", room.path("libti.so.1")])
     needed = re.findall(r"NEEDED.*\[(.*)\]", said)
     if needed != ["libc.so.6"] or "[libti.so.1]" not in said or "TEXTREL" in said:
@@ -186,7 +188,8 @@ REFUSALS = ["Short", "Magic", "Counts", "Truncated", "BadNames", "BadFlag", "Bad
 
 
 def files_to_open(entry):
-    """What is in the place of an entry, by name, and the answer of ti_open: bytes, a directory or a pipe."""
+    """What is at the path of an entry (bytes, a directory, a pipe), by name, and ti_open's
+    answer."""
     flags = 12 + len(b"dumb|tty|80-column dumb tty\0")
     put = lambda at, byte: entry[:at] + bytes([byte]) + entry[at + 1:]
     return {
@@ -201,7 +204,7 @@ def files_to_open(entry):
 
 
 def check_open(room):
-    """Also whether `ti tput` refuses the same, where the program is built."""
+    """Also whether `ti tput` refuses what ti_open refuses, if the program is built."""
     directory, entry = dumb_entry(room)
     program = room.compile("open.c", *SANITIZE)
     faults, tried = [], 0
@@ -249,13 +252,13 @@ def check_open(room):
 def entries_of_system():
     """A name and a file for each entry of the system that ncurses can find, each once."""
     found, seen = [], set()
-    for directory in DIRECTORIES:
+    for directory in ENTRY_DIRECTORIES:
         for path in sorted(glob.glob(f"{directory}/?/*")):
             name = os.path.basename(path)
             with open(path, "rb") as file:
                 content = file.read()
             # ncurses takes the first directory that has the name
-            if name in {it for it, _ in found} or content[:2] not in (b"\x1a\x01", b"\x1e\x02"):
+            if name in {known for known, _ in found} or content[:2] not in (b"\x1a\x01", b"\x1e\x02"):
                 continue
             digest = hashlib.sha256(content).digest()
             if digest not in seen:
@@ -264,12 +267,13 @@ def entries_of_system():
     return found
 
 
-def compare_all(room, program, lines=None, words=None):
-    """Runs a comparison over the system's entries, in several processes. Gives its faults."""
+def compare_all(room, program, lines=False):
+    """Runs a comparison over the system's entries, in several processes; they are given as lines of
+    names and files, or as files in words. Gives its faults."""
     entries = entries_of_system()
     if not entries:
         raise Skipped("the system has no terminfo entries")
-    environment = clean_environment(TERMINFO_DIRS=":".join(DIRECTORIES), TERM="dumb")
+    environment = clean_environment(TERMINFO_DIRS=":".join(ENTRY_DIRECTORIES), TERM="dumb")
     parts = [entries[at::AT_ONCE] for at in range(AT_ONCE)]
 
     def compare(part):
@@ -282,16 +286,19 @@ def compare_all(room, program, lines=None, words=None):
         return [fault for faults in pool.map(compare, parts) for fault in faults]
 
 
-def check_ncurses(room):
+def compare_with_ncurses(room, source):
+    """Runs a comparison with ncurses over the system's entries."""
     has_header(room, "term.h")
-    program = room.compile("against_ncurses.c", libraries=["-lncurses", "-ltinfo"])
+    program = room.compile(source, libraries=["-lncurses", "-ltinfo"])
     return compare_all(room, program, lines=True)
+
+
+def check_ncurses(room):
+    return compare_with_ncurses(room, "against_ncurses.c")
 
 
 def check_tputs(room):
-    has_header(room, "term.h")
-    program = room.compile("against_tputs.c", libraries=["-lncurses", "-ltinfo"])
-    return compare_all(room, program, lines=True)
+    return compare_with_ncurses(room, "against_tputs.c")
 
 
 def check_unibilium(room):
@@ -311,10 +318,10 @@ def check_tput(room):
         raise Skipped("crates/ti/out/ti is not built")
     program = room.compile("tput.c", *SANITIZE)
     faults, tried = [], 0
-    names = [name for name in ("xterm-256color", "vt100", "linux", "dumb") if any(os.path.exists(f"{it}/{name[0]}/{name}") for it in DIRECTORIES)]
+    names = [name for name in ("xterm-256color", "vt100", "linux", "dumb") if entry_file(name)]
     if not names:
         raise Skipped("the system has no terminfo entries")
-    environment = clean_environment(TERMINFO_DIRS=":".join(DIRECTORIES))
+    environment = clean_environment(TERMINFO_DIRS=":".join(ENTRY_DIRECTORIES))
     for name in names:
         for words in COMMANDS:
             tried += 1
@@ -337,8 +344,8 @@ def check_page(room):
     program = room.compile(source, *SANITIZE)
     status, said = run([program], env=clean_environment(TERMINFO=directory, TERM="dumb"))
     faults = [] if (status, said) == (0, "dumb: 80 columns\n") else [f"{status}, {said!r}"]
-    missing = [name for name in declared() + re.findall(r"static inline .*?\b(ti_\w+)\(", text_of("include", "ti.h")) if name not in page]
-    faults += [f"the page says nothing of {name}" for name in missing]
+    names = declared() + re.findall(r"static inline .*?\b(ti_\w+)\(", text_of("include", "ti.h"))
+    faults += [f"the page says nothing of {name}" for name in names if name not in page]
     if shutil.which("mandoc"):
         status, said = run(["mandoc", "-T", "lint", "-W", "warning", os.path.join(TOP, "man", "ti.3")])
         faults += said.splitlines() if status or said else []
@@ -346,10 +353,10 @@ def check_page(room):
 
 
 def check_examples(room):
-    names = [f"{it}/x/xterm-256color" for it in DIRECTORIES if os.path.exists(f"{it}/x/xterm-256color")]
-    if not names:
+    if not entry_file("xterm-256color"):
         raise Skipped("the system has no entry of xterm-256color")
-    environment = clean_environment(TERMINFO_DIRS=":".join(DIRECTORIES), TERM="xterm-256color", LD_LIBRARY_PATH=room.directory)
+    places = ":".join(ENTRY_DIRECTORIES)
+    environment = clean_environment(TERMINFO_DIRS=places, TERM="xterm-256color", LD_LIBRARY_PATH=room.directory)
     faults = []
     program = room.compile(os.path.join(TOP, "examples", "colours.c"))
     status, said = run([program], env=environment)
@@ -358,6 +365,28 @@ def check_examples(room):
     status, said = run([sys.executable, os.path.join(TOP, "examples", "colours.py")], env=environment)
     if status or said != "\033[38;5;200mcolour 200\n":
         faults.append(f"colours.py: {status}, {said!r}")
+    return faults
+
+
+def check_commands(room):
+    if not shutil.which("pkg-config"):
+        raise Skipped("pkg-config is not installed")
+    if not entry_file("xterm-256color"):
+        raise Skipped("the system has no entry of xterm-256color")
+    prefix, place = room.path("prefix"), room.path("commands")
+    os.mkdir(place)
+    os.symlink(os.path.join(TOP, "examples"), os.path.join(place, "examples"))
+    words = ["make", "-s", "-C", TOP, f"PREFIX={prefix}", f"LIBRARY={room.directory}", "install-library"]
+    status, said = run(words)
+    faults = [said] if status else []
+    environment = clean_environment(
+        PKG_CONFIG_PATH=f"{prefix}/lib/pkgconfig", LD_LIBRARY_PATH=f"{prefix}/lib",
+        TERMINFO_DIRS=":".join(ENTRY_DIRECTORIES), TERM="xterm-256color",
+    )
+    for command in commands_of("docs/LIBRARY.md", "## From C"):
+        status, said = run(["sh", "-c", command], cwd=place, env=environment)
+        if status or "\033[38;5;200m" not in said:
+            faults.append(f"{command}: {status}, {said!r}")
     return faults
 
 
@@ -373,8 +402,7 @@ def check_install(room):
         return [said]
     wanted = ["opt/ti/include/ti.h", "opt/ti/lib64/libti.a", "opt/ti/lib64/libti.so", "opt/ti/lib64/libti.so.1",
               "opt/ti/lib64/pkgconfig/ti.pc", "opt/ti/share/man/man3/ti.3"]
-    found = sorted(os.path.relpath(os.path.join(at, name), target) for at, _, names in os.walk(target) for name in names)
-    faults = [] if found == wanted else [f"installed: {found}"]
+    faults = [] if files_below(target) == wanted else [f"installed: {files_below(target)}"]
     if shutil.which("pkg-config"):
         environment = {**os.environ, "PKG_CONFIG_PATH": f"{target}/opt/ti/lib64/pkgconfig"}
         status, said = run(["pkg-config", "--cflags", "--libs", "ti"], env=environment)
@@ -387,9 +415,10 @@ def check_install(room):
         room.compiler, "-std=c99", "-I", f"{target}/opt/ti/include", f"{HERE}/calls.c",
         "-L", f"{target}/opt/ti/lib64", "-lti", "-o", room.path("installed"),
     ])
-    faults += [said] if status else room.faults([room.path("installed")], env={**os.environ, "LD_LIBRARY_PATH": f"{target}/opt/ti/lib64"})
+    environment = {**os.environ, "LD_LIBRARY_PATH": f"{target}/opt/ti/lib64"}
+    faults += [said] if status else room.faults([room.path("installed")], env=environment)
     status, said = run([*words, "uninstall-library"])
-    left = [name for _, _, names in os.walk(target) for name in names]
+    left = files_below(target)
     return faults + ([f"left over: {left}, {said}"] if status or left else [])
 
 
@@ -397,7 +426,7 @@ CASES = {
     "header": check_header, "symbols": check_symbols, "calls": check_calls, "memory": check_memory,
     "damaged": check_damaged, "open": check_open, "tput": check_tput, "ncurses": check_ncurses,
     "tputs": check_tputs, "unibilium": check_unibilium, "page": check_page, "examples": check_examples,
-    "install": check_install,
+    "commands": check_commands, "install": check_install,
 }
 
 

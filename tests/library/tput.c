@@ -1,6 +1,6 @@
 /*
- * What `tput` writes of a string, by libti alone: `tput TERM CAPABILITY [NUMBER..]`. The status is 0;
- * 1 if the string is absent, 3 if the entry is not opened, 4 if the capability is unknown.
+ * What `tput` writes of a string, by libti alone: `tput TERM CAPABILITY [NUMBER..]`. The status is
+ * 0; 1 if the string is absent, 3 if the entry is not opened, 4 if the capability is unknown.
  */
 #include "test.h"
 

@@ -12,10 +12,10 @@ from shared import TOP, need
 from crates import all_below, read_crates  # of build/, which shared has put on the path
 
 
-# What takes the place of the toolchain if only the order of a build is tried: its prover needs what a crate depends on,
-# notes in the file PROVED what it proves, refuses the crate REFUSED and edits `ti_text` while it proves the crate EDITS; its
-# linker makes a program that prints `built`.
-STAND_IN = {
+# What takes the place of the toolchain if only the order of a build is tried: its prover needs what
+# a crate depends on, notes in the file PROVED what it proves, refuses the crate REFUSED and edits
+# `ti_text` while it proves the crate EDITS; its linker makes a program that prints `built`.
+SUBSTITUTE = {
     "rt": "exit 1\n",
     "rattle": """
 for word in "$@"; do
@@ -49,15 +49,15 @@ chmod +x "$made"
 }
 
 
-def make_stand_in(folder):
-    """Puts the stand-in for the toolchain into a directory, and gives the directory of its commands."""
-    kit = os.path.join(folder, "kit")
+def make_substitute(directory):
+    """Puts the substitute for the toolchain into a directory; gives that of its commands."""
+    kit = os.path.join(directory, "kit")
     os.makedirs(os.path.join(kit, "bin"))
     for library in ("std", "arrayvec", "byteorder", "clap", "indexmap", "itoa", "memchr", "thiserror"):
         os.makedirs(os.path.join(kit, "rlibs", f"{library}.rlib"))
     with open(os.path.join(kit, "WHAT"), "w") as file:
-        file.write("a stand-in\n")
-    for name, text in STAND_IN.items():
+        file.write("a substitute\n")
+    for name, text in SUBSTITUTE.items():
         with open(os.path.join(kit, "bin", name), "w") as file:
             file.write(f"#!/bin/sh\n{text}")
         os.chmod(file.name, 0o755)
@@ -65,18 +65,19 @@ def make_stand_in(folder):
 
 
 class Checkout:
-    """A checkout that is built with the stand-in for the toolchain."""
+    """A checkout that is built with the substitute for the toolchain."""
 
     def __init__(self, directory):
         self.made, _ = unpacked(directory)
         self.crates = read_crates(self.made)
-        self.tools = make_stand_in(directory)
+        self.tools = make_substitute(directory)
         self.log = os.path.join(directory, "proved")
 
     def build(self, jobs="2", refused="", edits="", words=("./ti",)):
-        """What ./ti, or another command, came to: its status, what it printed and said, and which crates were proved, in order.
+        """What ./ti, or another command, came to: its status, what it printed and said, and which
+        crates were proved, in order.
 
-        The crate that is refused is not proved; while the one of `edits` is proved, `ti_text` is edited.
+        The crate `refused` is not proved; while the crate `edits` is proved, `ti_text` is edited.
         """
         with contextlib.suppress(FileNotFoundError):
             os.remove(self.log)
@@ -89,7 +90,7 @@ class Checkout:
         return ran.returncode, ran.stdout, ran.stderr, proved
 
     def built(self, what, wanted, **how):
-        """Builds; gives what is wrong unless just the crates that are wanted were proved, in some order."""
+        """Builds; gives what is wrong unless just the crates wanted were proved, in some order."""
         status, printed, said, proved = self.build(**how)
         if status or printed != "built\n" or sorted(proved) != sorted(wanted):
             yield f"{what}: status {status}, printed {printed!r}, said {said!r}, proved {proved}"
@@ -105,7 +106,7 @@ class Checkout:
 
 
 def check_build():
-    """Whether ./ti proves what it is to prove, in order (tried with a stand-in for the toolchain)."""
+    """Whether ./ti proves what it must, in order, with a substitute for the toolchain."""
     with tempfile.TemporaryDirectory(prefix="ti-package-") as directory:
         checkout = Checkout(directory)
         yield from first_build_faults(checkout)
@@ -177,7 +178,7 @@ def jobs_faults(checkout):
 
 
 def library_faults(checkout):
-    """What the gate has proved below the C library is not proved again, but what is edited then is."""
+    """What the gate has proved below the C library is proved again only after an edit."""
     for name in all_below(checkout.crates, "ti_c"):
         place = os.path.join(checkout.made, "crates", name, "out", "rlib", f"{name}.rlib")
         os.makedirs(place)
@@ -206,17 +207,18 @@ fn main(rt: HostRuntime) -> io::Result<()> {
 
 
 def check_small_build():
-    """Whether ./ti proves a library with the toolchain itself, and proves, compiles and links a program above it."""
+    """Whether ./ti proves a library with the toolchain itself, and proves, compiles and links a
+    program above it."""
     need("rt")
-    with tempfile.TemporaryDirectory(prefix="ti-package-") as folder:
-        shutil.copy(os.path.join(TOP, "ti"), folder)
-        for it in ("build", os.path.join("crates", "ti_text")):
-            shutil.copytree(os.path.join(TOP, it), os.path.join(folder, it), ignore=shutil.ignore_patterns("out"))
-        os.makedirs(os.path.join(folder, "crates", "ti", "src"))
-        with open(os.path.join(folder, "crates", "ti", "src", "main.rt"), "w") as file:
+    with tempfile.TemporaryDirectory(prefix="ti-package-") as directory:
+        shutil.copy(os.path.join(TOP, "ti"), directory)
+        for part in ("build", os.path.join("crates", "ti_text")):
+            shutil.copytree(os.path.join(TOP, part), os.path.join(directory, part), ignore=shutil.ignore_patterns("out"))
+        os.makedirs(os.path.join(directory, "crates", "ti", "src"))
+        with open(os.path.join(directory, "crates", "ti", "src", "main.rt"), "w") as file:
             file.write(SMALL_PROGRAM)
-        with open(os.path.join(folder, "crates.txt"), "w") as file:
+        with open(os.path.join(directory, "crates.txt"), "w") as file:
             file.write("ti_text:\nti: ti_text\n")
-        ran = subprocess.run(["./ti"], cwd=folder, env={**os.environ, "TI_JOBS": "1"}, capture_output=True, text=True)
+        ran = subprocess.run(["./ti"], cwd=directory, env={**os.environ, "TI_JOBS": "1"}, capture_output=True, text=True)
         if ran.returncode or ran.stdout != "2 lines\n" or "ti: proved, crate 1 of 2: ti_text\n" not in ran.stderr:
             yield f"status {ran.returncode}, printed {ran.stdout!r}, said {ran.stderr!r}"

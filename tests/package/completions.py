@@ -1,4 +1,4 @@
-"""Options, commands and capabilities: pages, help and completions have one set; what shells complete."""
+"""Options, commands and capabilities are one set in pages, help, completions; what shells do."""
 
 import os
 import pty
@@ -52,28 +52,29 @@ def flags(line):
 
 
 def options_of_page(tool):
-    return {it for line in page_of(tool).split("\n") if line.startswith(".It Fl ") for it in flags(line)}
+    return {name for line in page_of(tool).split("\n") if line.startswith(".It Fl ") for name in flags(line)}
 
 
 def options_of_synopsis(tool):
     synopsis = page_of(tool).split(".Sh SYNOPSIS\n")[1].split(".Sh ")[0]
-    return {it for line in synopsis.split("\n") for it in flags(line)}
+    return {name for line in synopsis.split("\n") for name in flags(line)}
 
 
-def bash_candidates(lines, folder=None):
+def bash_candidates(lines, directory=None):
     env = dict(os.environ, TERMINFO="out", TERMINFO_DIRS="none::also")
     asked = os.path.join(TOP, "completions", "ti.bash")
-    got = output(["bash", "--norc", os.path.join(HERE, "ask.bash"), asked], "".join(it + "\n" for it in lines), cwd=folder, env=env)
+    words = ["bash", "--norc", os.path.join(HERE, "ask.bash"), asked]
+    got = output(words, "".join(line + "\n" for line in lines), cwd=directory, env=env)
     return {line.rpartition(": ")[0]: line.rpartition(": ")[2].split() for line in got.split("\n") if line}
 
 
-def fish_candidates(lines, folder=None):
-    env = dict(os.environ, TERMINFO="out", TERMINFO_DIRS="none::also", HOME=folder or "/nonexistent")
+def fish_candidates(lines, directory=None):
+    env = dict(os.environ, TERMINFO="out", TERMINFO_DIRS="none::also", HOME=directory or "/nonexistent")
     found = {}
     for line in lines:
         script = f"source {TOP}/completions/ti.fish; complete -C '{line}'"
-        got = output(["fish", "--no-config", "-c", script], cwd=folder, env=env)
-        found[line] = [it.split("\t")[0] for it in got.split("\n") if it]
+        got = output(["fish", "--no-config", "-c", script], cwd=directory, env=env)
+        found[line] = [row.split("\t")[0] for row in got.split("\n") if row]
     return found
 
 
@@ -81,9 +82,9 @@ class Zsh:
     """An interactive zsh, asked for candidates by the key Tab; a compadd of ours writes each into a
     file, and the key what the last word has become."""
 
-    def __init__(self, folder):
-        self.asked = os.path.join(folder, "asked")
-        with open(os.path.join(folder, ".zshrc"), "w", encoding="utf-8") as file:
+    def __init__(self, directory):
+        self.asked = os.path.join(directory, "asked")
+        with open(os.path.join(directory, ".zshrc"), "w", encoding="utf-8") as file:
             file.write(f"asked={self.asked} PS1=\nfpath=({TOP}/completions $fpath)\nautoload -U compinit; compinit -u -D\n")
             file.write("zle -N ask; ask() { zle complete-word; print -rl -- ${${(z)BUFFER}[-1]} done. >>$asked }; bindkey '^I' ask\n")
             file.write("compadd() {\n  local -a hits\n  [[ ${@[1,(i)(-|--)]} == *-[OAD]\\ * ]] || {\n")
@@ -91,8 +92,8 @@ class Zsh:
             file.write("print done. >>$asked\n")
         self.pid, self.terminal = pty.fork()
         if self.pid == 0:
-            os.chdir(folder)
-            os.environ.update(TERM="dumb", TERMINFO="out", ZDOTDIR=folder)
+            os.chdir(directory)
+            os.environ.update(TERM="dumb", TERMINFO="out", ZDOTDIR=directory)
             os.execvp("zsh", ["zsh", "-i", "--no-globalrcs"])
         self.answer("")
 
@@ -120,15 +121,30 @@ class Zsh:
         os.waitpid(self.pid, 0)
 
 
+def zsh_candidates(lines, directory):
+    zsh = Zsh(directory)
+    try:
+        return {line: zsh.candidates(line) for line in lines}
+    finally:
+        zsh.close()
+
+
 def with_entries(check):
     """Runs a check in a directory in which the examples are, compiled."""
-    with tempfile.TemporaryDirectory(prefix="ti-package-") as folder:
+    with tempfile.TemporaryDirectory(prefix="ti-package-") as directory:
         for name in ("dumb.ti", "lantern.ti"):
-            shutil.copy(os.path.join(TOP, "examples", name), folder)
-            subprocess.run([PROGRAM, "tic", "-o", "out", name], cwd=folder, check=True)
-        os.makedirs(os.path.join(folder, "more", "l"))
-        shutil.copy(os.path.join(folder, "out", "l", "lantern-color"), os.path.join(folder, "more", "l"))
-        yield from check(folder)
+            shutil.copy(os.path.join(TOP, "examples", name), directory)
+            subprocess.run([PROGRAM, "tic", "-o", "out", name], cwd=directory, check=True)
+        os.makedirs(os.path.join(directory, "more", "l"))
+        shutil.copy(os.path.join(directory, "out", "l", "lantern-color"), os.path.join(directory, "more", "l"))
+        yield from check(directory)
+
+
+def check_shell(shell, candidates):
+    """Whether a shell gives the candidates that are wanted."""
+    need(shell)
+    lines = [line for line, _, _ in CANDIDATES]
+    yield from with_entries(lambda directory: faults_of_candidates(shell, candidates(lines, directory)))
 
 
 def faults_of_candidates(shell, found):
@@ -139,27 +155,15 @@ def faults_of_candidates(shell, found):
 
 
 def check_bash():
-    need("bash")
-    yield from with_entries(lambda folder: faults_of_candidates("bash", bash_candidates([it[0] for it in CANDIDATES], folder)))
+    yield from check_shell("bash", bash_candidates)
 
 
 def check_fish():
-    need("fish")
-    yield from with_entries(lambda folder: faults_of_candidates("fish", fish_candidates([it[0] for it in CANDIDATES], folder)))
+    yield from check_shell("fish", fish_candidates)
 
 
 def check_zsh():
-    need("zsh")
-
-    def asked(folder):
-        zsh = Zsh(folder)
-        try:
-            found = {line: zsh.candidates(line) for line, _, _ in CANDIDATES}
-        finally:
-            zsh.close()
-        yield from faults_of_candidates("zsh", found)
-
-    yield from with_entries(asked)
+    yield from check_shell("zsh", zsh_candidates)
 
 
 def check_options():
@@ -174,7 +178,7 @@ def check_options():
             if got != helped:
                 yield f"{name}: completion in bash has {sorted(got)}, the help {sorted(helped)}"
         if shutil.which("fish"):
-            got = {it for found in fish_candidates([f"{name} -", f"{name} --"]).values() for it in found}
+            got = {word for found in fish_candidates([f"{name} -", f"{name} --"]).values() for word in found}
             if got != helped:
                 yield f"{name}: completion in fish has {sorted(got)}, the help {sorted(helped)}"
         zsh = text_of("completions", "_ti")
@@ -193,9 +197,9 @@ def check_options():
 
 
 def capability_faults():
-    with tempfile.TemporaryDirectory(prefix="ti-package-") as folder:
-        output([PROGRAM, "tic", "-o", folder], "empty|no capability,\n")
-        absent = output([PROGRAM, "infocmp", "-n", "-s", "d", "-A", folder, "-B", folder, "empty", "empty"])
+    with tempfile.TemporaryDirectory(prefix="ti-package-") as directory:
+        output([PROGRAM, "tic", "-o", directory], "empty|no capability,\n")
+        absent = output([PROGRAM, "infocmp", "-n", "-s", "d", "-A", directory, "-B", directory, "empty", "empty"])
     known = re.findall(r"^\t!(\w+)\.$", absent, re.M)
     for name in SHELLS:
         part = re.search(r"_ti_capabilities(?:='|=\(|\n    string split ' ' -- \\\n)(.*?)(?:'\n\n|\)\n|\nend)", text_of("completions", name), re.S)

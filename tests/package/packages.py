@@ -7,7 +7,9 @@ import shutil
 import subprocess
 import tempfile
 
-from shared import HAS_LSP, INSTALLED_PAGES, TOP, Skipped, files_below, need, output, text_of, ti
+from shared import (
+    HAS_LSP, INSTALLED_PAGES, TOP, Skipped, commands_of, files_below, install_command, need, output, text_of, ti,
+)
 
 MAKER = os.path.join(TOP, "build", "packages.py")
 # what a user does with the programs of a package, and what that prints
@@ -36,7 +38,7 @@ def version():
 
 
 def check_version():
-    """Whether help, pages, changes and the header of the library have the version of the file VERSION."""
+    """Whether help, pages, changes and the library's header have the version in VERSION."""
     if f" {version()}" not in ti("--help").split("\n", 1)[0]:
         yield f"the first line of help is {ti('--help').split(chr(10), 1)[0]!r}"
     for page in sorted(os.listdir(os.path.join(TOP, "man"))):
@@ -62,13 +64,13 @@ def make(what, directory):
 
 
 def made_twice(what, room):
-    """Makes packages or archives twice. Gives the directory of one, and what differs in the other."""
+    """Makes packages or archives twice. Gives one directory, its files, and what differs."""
     first, second = os.path.join(room, "first"), os.path.join(room, "second")
     names = make(what, first)
     if make(what, second) != names:
-        return first, names, ["other files"]
+        return first, names, [f"{what}: other files the second time"]
     differ = filecmp.cmpfiles(first, second, names, shallow=False)
-    return first, names, [*differ[1], *differ[2]]
+    return first, names, [f"{name} is not the same the second time" for name in [*differ[1], *differ[2]]]
 
 
 def program_faults(what, directory, path):
@@ -82,17 +84,17 @@ def program_faults(what, directory, path):
 
 
 def library_faults(unpacked):
-    """What is wrong with the unpacked package of the C library: its files, and a program that takes them."""
-    names = [f"/{it}" for it in files_below(unpacked)]
+    """What is wrong with the unpacked C library: its files, and a program that takes them."""
+    names = [f"/{name}" for name in files_below(unpacked)]
     for wanted in OF_LIBRARY:
-        if not any(it.endswith(wanted) for it in names):
+        if not any(name.endswith(wanted) for name in names):
             yield f"libti-dev has no {wanted}"
             return
     need("cc")
     program, source = os.path.join(unpacked, "program"), os.path.join(unpacked, "program.c")
     with open(source, "w", encoding="utf-8") as file:
         file.write(SOURCE)
-    archive = next(it for it in names if it.endswith("/libti.a"))
+    archive = next(name for name in names if name.endswith("/libti.a"))
     headers = os.path.join(unpacked, "usr", "include")
     output(["cc", "-std=c99", "-I", headers, source, unpacked + archive, "-o", program])
     got = output([program])
@@ -106,14 +108,13 @@ def check_deb():
     need("dpkg-shlibdeps")
     need("git")
     with tempfile.TemporaryDirectory(prefix="ti-package-") as room:
-        made, names, differ = made_twice("deb", room)
-        for name in differ:
-            yield f"{name} is not the same the second time"
+        made, names, faults = made_twice("deb", room)
+        yield from faults
         for name in names:
             unpacked = os.path.join(room, name.split("_")[0])
             output(["dpkg-deb", "-x", os.path.join(made, name), unpacked])
             if name.startswith("ti_"):
-                pages = [it for it in files_below(unpacked) if "/man/man" in it]
+                pages = [name for name in files_below(unpacked) if "/man/man" in name]
                 if len(pages) != len(INSTALLED_PAGES):
                     yield f"{name} has the pages {pages}"
                 yield from program_faults(name, unpacked, os.path.join(unpacked, "usr", "bin"))
@@ -123,7 +124,7 @@ def check_deb():
             for line in output(words).split("\n"):
                 if re.match("[EW]: ", line):
                     yield line
-        library = next((it for it in names if it.startswith("libti-dev_")), None)
+        library = next((name for name in names if name.startswith("libti-dev_")), None)
         if not library:
             raise Skipped("the C library is not made: make library")
         yield from library_faults(os.path.join(room, "libti-dev"))
@@ -137,37 +138,40 @@ def check_deb_in_chroot():
         raise Skipped("a chroot takes root's rights")
     with tempfile.TemporaryDirectory(prefix="ti-package-") as room:
         made, system = os.path.join(room, "made"), os.path.join(room, "system")
-        name = next(it for it in make("deb", made) if it.startswith("ti_"))
-        release = re.search(r"VERSION_CODENAME=(\w+)", bytes_of_system())
-        words = ["debootstrap", "--variant=minbase", release[1] if release else "stable", system]
+        name = next(file for file in make("deb", made) if file.startswith("ti_"))
+        words = ["debootstrap", "--variant=minbase", debian_release(), system]
         if subprocess.run(words, stdout=subprocess.DEVNULL, stderr=subprocess.DEVNULL, check=False).returncode:
             raise Skipped("debootstrap could make no system here")
         yield from chroot_faults(system, os.path.join(made, name))
 
 
-def bytes_of_system():
+def debian_release():
+    """The name of this system's release of Debian."""
     with open("/etc/os-release", encoding="utf-8") as file:
-        return file.read()
+        found = re.search(r"VERSION_CODENAME=(\w+)", file.read())
+    return found[1] if found else "stable"
 
 
 def chroot_faults(system, package):
     """What is wrong with a package in a system: installing, running, removing, purging."""
     before = set(files_below(system))
     room = os.path.join(system, "room")
-    os.mkdir(room)
-    shutil.copy(package, os.path.join(room, "ti.deb"))
+    os.makedirs(os.path.join(room, "packages"))
+    shutil.copy(package, os.path.join(room, "packages"))
     shutil.copy(os.path.join(TOP, "examples", "dumb.ti"), room)
 
     def run(script):
         words = ["chroot", system, "sh", "-c", f"cd /room && {script}"]
         return output(words, env={"PATH": "/usr/sbin:/usr/bin:/sbin:/bin"})
 
-    said = run("dpkg -i ti.deb >log 2>&1 || cat log")
+    command = install_command("dpkg -i")
+    said = run(f"{command} >log 2>&1 || cat log")
     if said:
-        yield f"dpkg -i says {said!r}"
+        yield f"{command}: {said!r}"
     got = run(SCRIPT)
     if got != PRINTED:
         yield f"the installed program prints {got!r}"
+    yield from alternative_faults(run)
     for action in ("--remove", "--purge"):
         run(f"dpkg {action} ti")
     shutil.rmtree(room)
@@ -176,28 +180,41 @@ def chroot_faults(system, package):
         yield f"after a purge there are {sorted(left)[:5]}"
 
 
+def alternative_faults(run):
+    """What is wrong with the commands of COMPARED.md that put `ti tput` in the place of tput."""
+    (command,) = commands_of("docs/COMPARED.md", "## In place of ncurses's tools")
+    said = run(f"{command} >log 2>&1 || cat log; /usr/local/bin/tput --help | head -n 1")
+    if said != ti("help", "tput").split("\n")[0] + "\n":
+        yield f"{command}: {said!r}"
+    command = re.search(r"`(update-alternatives --remove [^`]*)`", text_of("docs", "COMPARED.md"))[1]
+    said = run(f"{command}; ls /usr/local/bin")
+    if said:
+        yield f"{command}: {said!r}"
+
+
 def check_release():
-    """Whether the archives are the same each time, and install.sh installs what runs, and takes it away."""
+    """Whether the archives are the same each time; install.sh installs and removes a program that
+    runs."""
     need("git")
     with tempfile.TemporaryDirectory(prefix="ti-package-") as room:
-        made, names, differ = made_twice("release", room)
-        for name in differ:
-            yield f"{name} is not the same the second time"
+        made, names, faults = made_twice("release", room)
+        yield from faults
         said = output(["sha256sum", "-c", "SHA256SUMS"], cwd=made)
         if said.count(": OK\n") != len(names) - 1:
             yield f"SHA256SUMS: {said!r}"
-        archive = next(it for it in names if it.endswith("-linux.tar.gz"))
-        output(["tar", "xf", os.path.join(made, archive)], cwd=room)
-        script = os.path.join(room, archive.removesuffix(".tar.gz"), "install.sh")
+        archive = next(name for name in names if name.endswith("-linux.tar.gz"))
+        os.rename(made, os.path.join(room, "packages"))
         env = {"PATH": "/usr/bin:/bin", "DESTDIR": os.path.join(room, "stage"), "PREFIX": "/opt/ti"}
-        said = output([script], env=env)
+        command = install_command("install.sh")
+        said = output(["sh", "-c", command], cwd=room, env=env)
         if said:
-            yield f"install.sh says {said!r}"
+            yield f"{command}: {said!r}"
+        script = os.path.join(room, archive.removesuffix(".tar.gz"), "install.sh")
         installed = os.path.join(room, "stage", "opt", "ti")
         yield from program_faults(archive, room, os.path.join(installed, "bin"))
         for path in files_below(installed):
             if path.endswith(".pc") and "/usr" in text_of(installed, path):
-                yield f"{path} says where the library is not"
+                yield f"{path} names a directory in which the library is not"
         output([script, "uninstall"], env=env)
         if files_below(os.path.join(room, "stage")):
             yield f"install.sh uninstall leaves {files_below(os.path.join(room, 'stage'))[:5]}"

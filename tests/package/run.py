@@ -9,8 +9,9 @@ options      the options and commands of pages, help and completions are one set
 bash, fish, zsh
              the shell gives the candidates that are wanted
 pages        the pages are clean under `mandoc -T lint`, and each says what a page is to say
-markdown     the links of pages lead to files, lines keep to the width, and the picture of the
-             crates is that of crates.txt
+markdown     pages link to the pages that they name, links lead to files, lines keep to the width,
+             words are plain, and the picture of the crates is that of crates.txt
+scripts      comments of scripts, of the header and of examples keep to the width, in plain words
 readme       the first command of README writes what README says of it, and the
              second is what CI runs
 install      what `make install` puts into a directory runs from there, and `make uninstall`
@@ -18,13 +19,13 @@ install      what `make install` puts into a directory runs from there, and `mak
 version      help, pages, changes and the library's header have the version of the file VERSION
 deb          the Debian packages are the same each time, run unpacked, and please lintian
 deb-in-chroot
-             the package installs, runs, and is removed and purged, in a system that debootstrap makes
+             the package installs, runs, is removed and purged in a system made by debootstrap
 release      the archives of a release are the same each time; install.sh installs what runs
 tarball      `make dist` makes a tarball of every file of the commit
 tarball-builds
-             the program is built from that tarball, every proof anew: some 12 minutes
+             the program is built from that tarball, with every proof anew
 build        ./ti proves each crate after those that it depends on, ends if one is refused, and
-             proves again what an edit reaches and nothing else (with a stand-in for the toolchain)
+             proves again what an edit reaches and nothing else (with a substitute for the toolchain)
 small-build  ./ti proves, compiles and links with the toolchain itself: one library, a small program
 
 What needs a program that is not installed is skipped, and said to be. The last line is
@@ -50,6 +51,7 @@ CHECKS = {
     "zsh": completions.check_zsh,
     "pages": pages.check_pages,
     "markdown": pages.check_markdown,
+    "scripts": pages.check_scripts,
     "readme": pages.check_readme,
     "install": installing.check_install,
     "version": packages.check_version,
@@ -62,7 +64,7 @@ CHECKS = {
     "small-build": building.check_small_build,
 }
 # these look at the repository alone, and not at the built program
-WITHOUT_PROGRAM = {"tables", "markdown", "pages", "tarball", "tarball-builds", "build", "small-build"}
+WITHOUT_PROGRAM = {"tables", "markdown", "scripts", "pages", "tarball", "tarball-builds", "build", "small-build"}
 EXPECTED = (subprocess.SubprocessError, OSError, IndexError, KeyError, TypeError, StopIteration)
 
 
