@@ -28,13 +28,14 @@ import subprocess
 import sys
 from concurrent.futures import FIRST_COMPLETED, ThreadPoolExecutor, wait
 
-from crates import TOP, all_below, direct_needs, files_of, read_crates
+from crates import all_below, direct_needs, files_of, read_crates
+from repository import TOP
 
 # Each command of rt is a file of the toolchain's directory `bin`.
 KIT = os.path.dirname(os.path.dirname(os.path.realpath(shutil.which("rt") or "rt")))
 # The one directory of this crate in which rt expects built libraries and looks for no sources.
 LIBRARIES = f"{TOP}/crates/ti/out/rlib"
-FIRST_BUILD = "the first build proves each crate: about 12 minutes on four cores"
+FIRST_BUILD = "the first build proves each crate; README.md says how long that takes"
 # More do not shorten the proof of one crate.
 JOBS_OF_ONE = 4
 MEMORY_OF_ONE = 2 << 30
@@ -76,7 +77,7 @@ def digest_of(crates, name, known):
 
 
 def take_proved(crates, digests, program):
-    """Takes the libraries below a program as the gate has just proved them, so that none is proved again."""
+    """Takes the libraries below a program as the gate has just proved them."""
     os.makedirs(LIBRARIES, exist_ok=True)
     for name in all_below(crates, program):
         proved, place = f"{TOP}/crates/{name}/out/rlib/{name}.rlib", f"{LIBRARIES}/{name}.rlib"

@@ -14,7 +14,8 @@ import os
 import re
 import sys
 
-TOP = os.path.dirname(os.path.dirname(os.path.abspath(__file__)))
+from repository import TOP
+
 SOURCES = os.path.join(TOP, "crates", "ti_caps", "src")
 KINDS = ["FLAGS", "NUMBERS", "TEXTS"]
 KEY_BYTES = 8

@@ -9,7 +9,8 @@ group alone, `# product`, `# tests` or `# tools`, begins that group.
 
 import os
 
-TOP = os.path.dirname(os.path.dirname(os.path.abspath(__file__)))
+from repository import TOP
+
 GROUPS = ("product", "tests", "tools")
 
 
@@ -41,7 +42,7 @@ def direct_needs(crates, name):
 
 
 def all_below(crates, name):
-    """The crates of the repository that one depends on, each after those that it depends on itself."""
+    """The crates of the repository that one depends on, each after its own dependencies."""
     found = {}
 
     def visit(crate):

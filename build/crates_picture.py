@@ -13,7 +13,8 @@ import os
 import re
 import sys
 
-from crates import GROUPS, TOP, all_below, direct_needs, read_crates
+from crates import GROUPS, all_below, direct_needs, read_crates
+from repository import TOP
 
 PAGE = os.path.join(TOP, "docs", "ARCHITECTURE.md")
 PICTURE = re.compile(r"```mermaid\n.*?```\n", re.S)

@@ -16,7 +16,8 @@ import sys
 import tempfile
 
 from build import KIT, build_if_changed, place_of, tell
-from crates import TOP, read_crates
+from crates import read_crates
+from repository import TOP
 
 SONAME = "libti.so.1"
 FLAGS = ["-std=c99", "-O2", "-fPIC", "-fvisibility=default", "-Wall", "-Wextra", "-Wpedantic"]

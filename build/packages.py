@@ -6,8 +6,8 @@
     build/packages.py release [DIRECTORY]    ti-VERSION-ARCH-linux.tar.gz with install.sh, the
                                              source as ti-VERSION.tar.gz, and SHA256SUMS of both
 
-What is made depends on the commit and the built program alone: two clones give the same bytes. Times
-are SOURCE_DATE_EPOCH, or that of the last commit; owners are numbers, and names are sorted.
+What is made depends on the commit and the built program alone: two clones give the same bytes.
+Times are SOURCE_DATE_EPOCH, or that of the last commit; owners are numbers, and names are sorted.
 """
 
 import contextlib
@@ -21,7 +21,7 @@ import sys
 import tarfile
 import tempfile
 
-from crates import TOP
+from repository import TOP, files_below, text_of
 
 MAINTAINER = "Cevnang maintainers <maintainers@users.noreply.cevnang.example>"
 LICENCES = ("LICENSE-MIT", "LICENSE-APACHE")
@@ -29,11 +29,6 @@ PAGES_FOR_USERS = ("README.md", "SECURITY.md", "docs/CLAIMS.md", "docs/COMPARED.
 # what belongs to libti-dev and not to ti, below the prefix
 OF_LIBRARY = ("include/", "lib/", "share/man/man3/")
 REVISION = "1"
-
-
-def text_of(*parts):
-    with open(os.path.join(TOP, *parts), encoding="utf-8") as file:
-        return file.read()
 
 
 def output(*words, **how):
@@ -56,13 +51,6 @@ def install(stage, *words):
     output("make", "-s", "install", f"DESTDIR={stage}", *words, cwd=TOP)
 
 
-def files_below(directory):
-    found = []
-    for at, _, names in os.walk(directory):
-        found += [os.path.relpath(os.path.join(at, name), directory) for name in names]
-    return sorted(found)
-
-
 def write(path, content):
     """Writes a file, which everyone may read, and the directories above it."""
     os.makedirs(os.path.dirname(path), exist_ok=True)
@@ -80,7 +68,7 @@ def compressed(content):
 
 
 def archive(directory, name, when):
-    """A compressed tar archive of a directory, under a name: sorted, of one time, with numeric owners."""
+    """A compressed tar archive of a directory: sorted, of one time, with numeric owners."""
 
     def owned(member):
         member.uid = member.gid = 0

@@ -63,7 +63,8 @@ function __ti_is
     test "$words[1]" = ti-$argv[1]
 end
 
-# The terminals that the next name of infocmp may be: the first name's are those of -A, all others' those of -B.
+# The terminals that the next name of infocmp may be: the first name's are those of -A, all others'
+# those of -B.
 function __ti_infocmp_names
     set -l words (commandline -opc)
     test "$words[1]" = ti; and set -e words[1]

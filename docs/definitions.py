@@ -14,9 +14,9 @@ import os
 import re
 import sys
 
-TOP = os.path.dirname(os.path.dirname(os.path.abspath(__file__)))
-sys.path.insert(0, os.path.join(TOP, "build"))
+sys.path.append(os.path.join(os.path.dirname(os.path.dirname(os.path.abspath(__file__))), "build"))
 from crates import read_crates  # noqa: E402
+from repository import TOP  # noqa: E402
 
 PAGE = os.path.join(TOP, "docs", "DEFINITIONS.md")
 HEAD = """# Definitions
@@ -43,15 +43,15 @@ def lines_of(path):
 
 
 def sentence(comment):
-    rows = (re.sub(r"^--   (\S.*?)\s{2,}(.*)$", r"-- `\1`: \2;", it.strip()) for it in comment)
-    text = " ".join(re.sub(r"^--\s?", "", it).strip() for it in rows).strip()
+    rows = (re.sub(r"^--   (\S.*?)\s{2,}(.*)$", r"-- `\1`: \2;", line.strip()) for line in comment)
+    text = " ".join(re.sub(r"^--\s?", "", row).strip() for row in rows).strip()
     text = text.replace("|", "\\|")
     return text[:1].upper() + text[1:] if text else ""
 
 
 def source(head):
     """The section of the manual that a file's head names first, or "own"."""
-    at = [(head.find(it), it) for it in MANUALS if it in head]
+    at = [(head.find(manual), manual) for manual in MANUALS if manual in head]
     if not at:
         return OWN
     place, manual = min(at)
@@ -62,16 +62,18 @@ def source(head):
 
 def words_of(lines):
     """The words of a definition's lines, without their comments."""
-    text = "\n".join(it.split("-- ")[0] for it in lines)
+    text = "\n".join(line.split("-- ")[0] for line in lines)
     return set(re.findall(r"[^\s(){}\[\],;.:=λ→×↔≡¬]+", text))
 
 
 def names_in_reach(path, crate, name):
     """The definitions that a file can name by a bare word: those that it imports."""
     found = {}
-    for of, words in re.findall(r"^(?:unfoldable )?(?:pub )?use Rattle\.(\w+\.specs\.[\w.]+)\.\{([^}]*)\}", "\n".join(lines_of(path)), re.M):
-        for it in words.split(","):
-            found[it.strip().split(" as ")[-1]] = (of, it.strip().split(" as ")[0])
+    text = "\n".join(lines_of(path))
+    uses = r"^(?:unfoldable )?(?:pub )?use Rattle\.(\w+\.specs\.[\w.]+)\.\{([^}]*)\}"
+    for of, words in re.findall(uses, text, re.M):
+        for part in words.split(","):
+            found[part.strip().split(" as ")[-1]] = (of, part.strip().split(" as ")[0])
     return found
 
 
@@ -107,16 +109,16 @@ def exported(crate):
     source = os.path.join(TOP, "crates", crate, "src")
     root = "\n".join(lines_of(os.path.join(source, "lib.rt")))
     found = set()
-    for it in re.findall(r"^pub mod (\w+);", root, re.M):
-        text = "\n".join(lines_of(os.path.join(source, it + ".rt")))
+    for module in re.findall(r"^pub mod (\w+);", root, re.M):
+        text = "\n".join(lines_of(os.path.join(source, module + ".rt")))
         found |= set(re.findall(r"^pub (?:const )?(?:fn|struct|enum|trait) (\w+)", text, re.M))
-    for it in re.findall(r"pub use [\w:]*?(?:::)?(\{[^}]*\}|\w+);", root):
-        found |= set(re.findall(r"\w+", it))
+    for names in re.findall(r"pub use [\w:]*?(?:::)?(\{[^}]*\}|\w+);", root):
+        found |= set(re.findall(r"\w+", names))
     return found
 
 
 def contracts(crate):
-    """The public calls of a crate, each with the definitions of this repository that its contract names."""
+    """The public calls of a crate, each with the definitions that its contract names."""
     found = []
     if not os.path.isfile(os.path.join(TOP, "crates", crate, "src", "lib.rt")):
         return found
@@ -129,12 +131,12 @@ def contracts(crate):
             text = re.split(r"^#\[cfg\(test\)\]\n(?:#.*\n)*mod \w+ \{", text, flags=re.M)[0]
             known = set()
             for path, words in re.findall(r"ghost use Rattle\.(\w+\.specs\.[\w.]+?)\.\{([^}]*)\};", text):
-                known |= {(path, it.strip()) for it in words.split(",")}
+                known |= {(path, word.strip()) for word in words.split(",")}
             short = dict(re.findall(r"ghost use Rattle\.(\w+\.specs\.[\w.]+) as (\w+);", text))
             short = {name: path for path, name in short.items()}
             owner, is_trait = "", False
-            # A contract ends where the body begins: on a line of its own, or, where there is no clause, at the end of
-            # the signature.
+            # A contract ends at the body: on a line of its own, or, if there is no clause, at the
+            # end of the signature.
             forms = r"^impl[^{\n]*|^pub trait (\w+)|^(?: {4})?(?:pub (?:const )?)?fn (\w+)(.*?)(?=^ {0,4}\{|[;{]$)"
             for part in re.finditer(forms, text, re.M | re.S):
                 if part[0].startswith("impl"):
@@ -150,8 +152,8 @@ def contracts(crate):
                     continue
                 words = set(re.findall(r"[^\s(){},;]+", part[3]))
                 cited = {(path, word) for path, word in known if word in words}
-                parts = [it.split(".") for it in words]
-                cited |= {(short[it[0]], it[1]) for it in parts if len(it) > 1 and it[0] in short}
+                parts = [word.split(".") for word in words]
+                cited |= {(short[dotted[0]], dotted[1]) for dotted in parts if len(dotted) > 1 and dotted[0] in short}
                 found.append((f"{owner}::{part[2]}" if is_method else part[2], cited))
     return found
 
@@ -160,10 +162,10 @@ def files_of(crate):
     """The files of a crate's definitions, by name; those of the directory inside/ come last."""
     found = []
     for inside in ("", "inside"):
-        folder = os.path.join(TOP, "crates", crate, "specs", inside)
-        names = sorted(os.listdir(folder)) if os.path.isdir(folder) else []
-        names = [it for it in names if it.endswith(".antt") and it != "Lib.antt"]
-        found += [(f"{inside}.{it[:-5]}".lstrip("."), os.path.join(folder, it)) for it in names]
+        directory = os.path.join(TOP, "crates", crate, "specs", inside)
+        names = sorted(os.listdir(directory)) if os.path.isdir(directory) else []
+        names = [file for file in names if file.endswith(".antt") and file != "Lib.antt"]
+        found += [(f"{inside}.{file[:-5]}".lstrip("."), os.path.join(directory, file)) for file in names]
     return found
 
 
@@ -173,19 +175,20 @@ def homes():
     for crate in read_crates():
         for name, path in files_of(crate):
             text = "\n".join(lines_of(path))
-            for of, words in re.findall(r"^(?:unfoldable )?pub use Rattle\.(\w+\.specs\.[\w.]+)\.\{([^}]*)\}", text, re.M):
-                given.update({(f"{crate}.specs.{name}", it.strip()): (of, it.strip()) for it in words.split(",")})
+            uses = r"^(?:unfoldable )?pub use Rattle\.(\w+\.specs\.[\w.]+)\.\{([^}]*)\}"
+            for of, words in re.findall(uses, text, re.M):
+                given.update({(f"{crate}.specs.{name}", word.strip()): (of, word.strip()) for word in words.split(",")})
     return given
 
 
-def home_of(it, given):
-    while it in given:
-        it = given[it]
-    return it
+def home_of(definition, given):
+    while definition in given:
+        definition = given[definition]
+    return definition
 
 
 def in_order(section):
-    manual = next((i for i, it in enumerate(MANUALS) if section.startswith(it)), len(MANUALS))
+    manual = next((i for i, manual in enumerate(MANUALS) if section.startswith(manual)), len(MANUALS))
     return manual, section
 
 
@@ -194,8 +197,8 @@ def page():
     users, given = {}, homes()
     for crate in order:
         for call, cited in contracts(crate):
-            for it in cited:
-                users.setdefault(home_of(it, given), []).append(f"`{call}`")
+            for definition in cited:
+                users.setdefault(home_of(definition, given), []).append(f"`{call}`")
     files, named, below = {}, set(), {}
     in_records = set()
     for crate in sorted(order):
@@ -206,12 +209,12 @@ def page():
             reach = names_in_reach(path, crate, name)
             reach.update({word: (at, word) for word, _, _ in found})
             for word, _, lines in found:
-                below[at, word] = {home_of(reach[it], given) for it in words_of(lines) if it in reach}
+                below[at, word] = {home_of(reach[used], given) for used in words_of(lines) if used in reach}
                 if (at, word) in users:
                     named |= below[at, word]
                     if lines[0].lstrip().startswith("pub record"):
                         in_records |= below[at, word]
-    named |= {it for of in in_records for it in below.get(of, ())}
+    named |= {definition for of in in_records for definition in below.get(of, ())}
     out, sections, rules = [HEAD], {}, []
     for at, (crate, name, head, found) in files.items():
         rows = [(word, says) for word, says, _ in found if (at, word) in users or (at, word) in named]
@@ -237,7 +240,8 @@ def misplaced():
     """The definitions of inside/ that the contract of a public call names."""
     order = list(read_crates())
     given = homes()
-    found = {(call, home_of(it, given)) for crate in order for call, cited in contracts(crate) for it in cited}
+    calls = [row for crate in order for row in contracts(crate)]
+    found = {(call, home_of(definition, given)) for call, cited in calls for definition in cited}
     return sorted(f"{call} names {at}.{word}" for call, (at, word) in found if ".inside." in at)
 
 
@@ -249,8 +253,8 @@ def main():
         if not is_current:
             print("docs/DEFINITIONS.md is out of date: run docs/definitions.py")
         inside = misplaced()
-        for it in inside:
-            print(f"specs/inside: {it}")
+        for definition in inside:
+            print(f"specs/inside: {definition}")
         is_good = is_current and not inside
         print("docs: 1 passed, 0 failed" if is_good else "docs: 0 passed, 1 failed")
         return 0 if is_good else 1

@@ -17,8 +17,10 @@ import tempfile
 import time
 from xml.sax.saxutils import escape
 
-TOP = os.path.dirname(os.path.dirname(os.path.abspath(__file__)))
-SERVER = os.path.join(TOP, "crates", "ti_lsp", "out", "ti_lsp")
+sys.path.append(os.path.join(os.path.dirname(os.path.dirname(os.path.abspath(__file__))), "build"))
+from repository import TOP, program_of  # noqa: E402
+
+SERVER = program_of("ti_lsp")
 PICTURE = os.path.join(TOP, "docs", "editor.svg")
 COLUMNS, LINES = 100, 15
 SECONDS = 20
@@ -79,7 +81,7 @@ class Pen:
                 self.set(number == 38, colour_of(numbers[at + 1]))
                 at += 2
             elif number in (38, 48) and numbers[at : at + 1] == [2]:
-                self.set(number == 38, "#" + "".join(f"{it:02x}" for it in numbers[at + 1 : at + 4]))
+                self.set(number == 38, "#" + "".join(f"{part:02x}" for part in numbers[at + 1 : at + 4]))
                 at += 4
             else:
                 self.take_plain(number)
@@ -121,7 +123,7 @@ def runs_of(line, pen):
     for part in re.split(r"(\x1b\[[0-9;:]*m)", line):
         sequence = re.fullmatch(r"\x1b\[([0-9;:]*)m", part)
         if sequence:
-            pen.take([int(it or 0) for it in re.split("[;:]", sequence[1])])
+            pen.take([int(number or 0) for number in re.split("[;:]", sequence[1])])
         elif part:
             yield column, part, pen.look()
             column += len(part)

@@ -65,7 +65,9 @@ static uint32_t read_entry(FILE *file, struct ti_entry **entry) {
     return answer;
 }
 
-/* Opens a file. What is no regular file is not opened, since a pipe without a writer never opens. */
+/*
+ * Opens a file. What is no regular file is not opened, since a pipe without a writer never opens.
+ */
 static FILE *open_regular(const char *path) {
     struct stat found;
     if (stat(path, &found) == 0 && !S_ISREG(found.st_mode)) {

@@ -15,9 +15,9 @@
  *   NULL either, also in a `struct ti_text`, which begins as TI_NOTHING.
  * - What a call writes overlaps none of its other arguments.
  * - An entry begins as TI_ENTRY_EMPTY. Its fields are not to be changed, and it may be copied.
- * - An entry that ti_entry_read gave lies in the bytes that it was read from, and so do the texts
- *   that it gives: the bytes must not change while either is used. Those of ti_entry_new and
- *   ti_open lie in memory of the entry's own, until ti_entry_free.
+ * - An entry that ti_entry_read gave points into the bytes that it was read from, and so do its
+ *   texts: the bytes must not change while either is used. An entry of ti_entry_new or ti_open, and
+ *   its texts, are in memory of their own until ti_entry_free.
  * - A `bool` is 0 or 1.
  *
  * No function keeps anything between calls, so threads may call them at once, each with values
@@ -69,7 +69,7 @@ struct ti_place {
 bool ti_capability(const uint8_t *name, size_t size, struct ti_place *found);
 
 /*
- * Gives in *text the name of the capability of a kind at an index; the text lies in the library.
+ * Gives in *text the name of the capability of a kind at an index; the text is in the library.
  * False if there is none, and *text is then as it was.
  */
 bool ti_name(uint32_t kind, uint32_t index, struct ti_text *text);
@@ -90,8 +90,8 @@ struct ti_entry {
     { false, TI_NOTHING, TI_NOTHING, TI_NOTHING, TI_NOTHING, TI_NOTHING, TI_NOTHING }
 
 /*
- * Why bytes are no entry, in the order in which it is looked for. The last three are no refusals
- * of bytes: TI_ENTRY_MEMORY is of ti_entry_new and ti_open, the others only of ti_open.
+ * Why bytes are no entry, in the order of the checks. The last three are no refusals of bytes:
+ * TI_ENTRY_MEMORY is of ti_entry_new and ti_open, the others only of ti_open.
  */
 enum {
     TI_SHORT = 1,     /* fewer bytes than a header */
@@ -108,11 +108,11 @@ enum {
 };
 
 /*
- * Reads a compiled entry, of the legacy storage format or of the extended number format, where its
- * bytes are, in one pass and without memory. 0, or the first of the refusals TI_SHORT to
- * TI_BAD_OFFSET that holds, and *entry is then as it was. Bytes after the string table, as the
- * extended storage format of ncurses has them, are not looked at. The bytes have to stay, and to
- * stay as they are, as long as the entry is used.
+ * Reads a compiled entry, of the legacy storage format or of the extended number format, in place,
+ * in one pass and without memory. 0, or the first of the refusals TI_SHORT to TI_BAD_OFFSET that
+ * holds, and *entry is then as it was. Bytes after the string table, as the extended storage format
+ * of ncurses has them, are not looked at. The bytes have to stay, and to stay as they are, as long
+ * as the entry is used.
  */
 uint32_t ti_entry_read(const uint8_t *bytes, size_t size, struct ti_entry *entry);
 
@@ -123,8 +123,8 @@ uint32_t ti_entry_read(const uint8_t *bytes, size_t size, struct ti_entry *entry
 uint32_t ti_entry_new(const uint8_t *bytes, size_t size, struct ti_entry **entry);
 
 /*
- * What follows reads an entry that ti_entry_read, ti_entry_new or ti_open gave, or
- * TI_ENTRY_EMPTY. A text that it gives lies in the entry's bytes, and is to be used no longer.
+ * What follows reads an entry that ti_entry_read, ti_entry_new or ti_open gave, or TI_ENTRY_EMPTY.
+ * A text that it gives is in the entry's bytes, and may be used no longer than these.
  */
 
 /* Gives in *text the names field, as "xterm|xterm terminal emulator", without its NUL. */
@@ -220,7 +220,7 @@ struct ti_outcome ti_pad(const uint8_t *text, size_t size, uint32_t lines,
  * Gives in *found the directory at an index of the order in which entries are looked for: what
  * TERMINFO is set to, if it is not empty; the parts of TERMINFO_DIRS between colons, if that is
  * set, an empty part being /usr/share/terminfo; and /usr/share/terminfo. False if they are not
- * that many, and *found is then as it was. The text lies in an argument or in the library.
+ * that many, and *found is then as it was. The text is in an argument or in the library.
  */
 bool ti_places(const uint8_t *terminfo, size_t terminfo_size, bool dirs_set, const uint8_t *dirs,
                size_t dirs_size, uint32_t index, struct ti_text *found);
@@ -247,7 +247,7 @@ struct ti_outcome ti_path(const uint8_t *dir, size_t dir_size, const uint8_t *na
  */
 uint32_t ti_open(const char *name, struct ti_entry **entry);
 
-/* Gives back an entry of ti_entry_new or ti_open, and the texts that lie in it. NULL is nothing. */
+/* Gives back an entry of ti_entry_new or ti_open, and the texts in it. NULL is nothing. */
 void ti_entry_free(struct ti_entry *entry);
 
 /*

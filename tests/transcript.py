@@ -3,12 +3,12 @@
 
     transcript.py FILE..      pages in mdoc (FILE.1, FILE.7) or Markdown
 
-In a literal display of a page, or a block of Markdown between lines of three backquotes, a
-line that begins with `$ ` is a command of sh. Lines that belong to it follow as they are where it
-has a here-document, which ends with the line END. The lines up to the next command are what it
-prints on standard output and error together. A block that does not begin with `$ ` is not looked
-at. The commands of a document are run one after the other in the current directory by one shell.
-Prints what differs, and nothing where all is as shown.
+In a literal display of a page, or a block of Markdown between lines of three backquotes, a line
+that begins with `$ ` is a command of sh; if it has a here-document, that follows as it is, and ends
+with the line END. The lines up to the next command are what it prints on standard output and error
+together. A block that does not begin with `$ ` is not looked at. The commands of a document are run
+one after the other in the current directory by one shell. Prints what differs, and nothing if all
+is as shown.
 """
 
 import re
@@ -78,8 +78,8 @@ def differences(path):
 
 def main():
     for path in sys.argv[1:]:
-        for it in differences(path):
-            print(it)
+        for difference in differences(path):
+            print(difference)
 
 
 if __name__ == "__main__":

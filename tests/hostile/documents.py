@@ -1,5 +1,5 @@
-"""Documents edited at random, and messages in any order: what the language server sends must be what
-the model says, and its diagnostics those that `ti tic -c` reports of the same text.
+"""Documents edited at random, and messages in any order: what the language server sends must be
+what the model says, and its diagnostics those that `ti tic -c` reports of the same text.
 """
 
 import copy
@@ -57,7 +57,7 @@ class Editor:
         return copy.deepcopy(self.random.choice(choices))
 
     def text(self):
-        """A text: a source, whose bytes over 127 are letters of Latin-1, with other letters in it."""
+        """A source, with its bytes over 127 as letters of Latin-1, and other letters in it."""
         text = self.source.source().decode("latin-1")
         for _ in range(self.one([0, 0, 1, 3])):
             at = self.random.randint(0, len(text))
@@ -119,7 +119,7 @@ class Editor:
         return body_of(message)
 
     def damage(self, value):
-        """Exchanges or takes out a part of a value, wherever it is."""
+        """Exchanges or takes out a part of a value at any depth."""
         while value:
             keys = list(value) if isinstance(value, dict) else list(range(len(value)))
             key = self.one(keys)
@@ -168,9 +168,9 @@ def report_fault(shown, text):
     """What is wrong with diagnostics, compared with the report of `ti tic -c` of the text."""
     _, out, err = quick(["tic", "-c"], text.encode("utf-8"))
     if err.startswith(b"tic: "):
-        refused = [it[4] in ("BlockTooLong", "TooManyBlocks") for it in shown]
+        refused = [fault[4] in ("BlockTooLong", "TooManyBlocks") for fault in shown]
         return None if refused == [True] else f"{shown}, but {err!r}"
-    lines = "".join(f"{it[0] + 1}: {it[4]} {it[5].split(': ')[0]}\n" for it in shown).encode()
+    lines = "".join(f"{fault[0] + 1}: {fault[4]} {fault[5].split(': ')[0]}\n" for fault in shown).encode()
     return None if (out, err) == (b"", lines) else f"shown are {lines[:200]!r}, but tic reports {err[:200]!r}"
 
 

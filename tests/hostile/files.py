@@ -10,7 +10,7 @@ import tempfile
 
 from limits import PROBE, PROGRAM, ROOM
 from model.base import compile_source
-from model.caps import FLAG, FIND, NAMES_OF, NUMBER, TEXT, name
+from model.caps import FLAG, FIND, NAMES_OF, NUMBER, TEXT
 from model.entry import read, read_file
 from model.listing import compared, listed, relative
 from registry import case
@@ -33,9 +33,9 @@ class Room:
         shutil.rmtree(self.path)
 
     def put(self, name, content):
-        folder = os.path.join(self.path, name[0])
-        os.makedirs(folder, exist_ok=True)
-        with open(os.path.join(folder, name), "wb") as file:
+        directory = os.path.join(self.path, name[0])
+        os.makedirs(directory, exist_ok=True)
+        with open(os.path.join(directory, name), "wb") as file:
             file.write(content)
 
     def places(self):
@@ -83,7 +83,7 @@ def probed(entry, refusal):
 def tput_lines(entry):
     """For each capability a line of `tput -S`, without words; and what they all write."""
     names, values = entry
-    lines = b"".join(it + b"\n" for it in FIND) + b"longname\n"
+    lines = b"".join(name + b"\n" for name in FIND) + b"longname\n"
     out = b""
     for cap in FIND.values():
         value = values.get(cap)
@@ -98,13 +98,13 @@ def tput_lines(entry):
 def changed_bytes_shown(take):
     entries = changed_entries()
     with Room() as room:
-        for it, content in entries.items():
-            room.put(it, content)
-        paths = {it: os.path.join(room.path, it[0], it) for it in entries}
+        for name, content in entries.items():
+            room.put(name, content)
+        paths = {name: os.path.join(room.path, name[0], name) for name in entries}
         for at in range(0, len(entries), AT_ONCE):
             some = list(entries)[at : at + AT_ONCE]
-            done = take(["files", *(paths[it] for it in some)], program=PROBE)
-            wanted = [line for it in some for line in (f"file {paths[it]}", *probed(*read(entries[it])))]
+            done = take(["files", *(paths[name] for name in some)], program=PROBE)
+            wanted = [line for name in some for line in (f"file {paths[name]}", *probed(*read(entries[name])))]
             if done.status != 0 or done.out.decode().splitlines() != wanted:
                 return f"status {done.status}, of {some[0]} to {some[-1]}"
     return None
@@ -112,20 +112,20 @@ def changed_bytes_shown(take):
 
 @case("each byte of an entry, and each two of its header, changed: listed, compared, relative to each other")
 def changed_bytes_listed(take):
-    entries = {it: read(content)[0] for it, content in changed_entries().items()}
+    entries = {name: read(content)[0] for name, content in changed_entries().items()}
     contents = changed_entries()
-    good = [it for it, entry in entries.items() if entry is not None]
-    shapes = {contents[it][:HEADER_LEN]: it for it in good}
+    good = [name for name, entry in entries.items() if entry is not None]
+    shapes = {contents[name][:HEADER_LEN]: name for name in good}
     with Room() as room:
-        for it in contents:
-            room.put(it, contents[it])
+        for name in contents:
+            room.put(name, contents[name])
         for at in range(0, len(good), AT_ONCE):
             some = good[at : at + AT_ONCE]
-            found = [entries[it] for it in some]
+            found = [entries[name] for name in some]
             first, others = found[0], found[1:]
             fault = take.fault(["infocmp", "-I", *room.places(), *some], b"", 0, b"".join(map(listed, found)))
             for mode in "dcn":
-                out = b"".join(compared(first, it, mode) for it in others)
+                out = b"".join(compared(first, other, mode) for other in others)
                 fault = fault or take.fault(["infocmp", "-" + mode, *room.places(), *some], b"", 0, out)
             fault = fault or take.fault(["infocmp", "-u", *room.places(), *some], b"", 0, relative(first, others))
             if fault is not None:
@@ -138,21 +138,21 @@ def changed_bytes_printed(take):
     with Room() as room:
         env = {"TERMINFO": room.path}
         seen = set()
-        for it, content in changed_entries().items():
+        for name, content in changed_entries().items():
             entry, refusal = read(content)
             key = refusal or repr(entry)
             if key in seen:
                 continue
             seen.add(key)
-            room.put(it, content)
+            room.put(name, content)
             if entry is None:
-                err = f'tput: bad entry "{it}" ({refusal})\n'.encode()
-                fault = take.fault(["tput", "-T", it, "cols"], b"", 3, err=err, env=env)
+                err = f'tput: bad entry "{name}" ({refusal})\n'.encode()
+                fault = take.fault(["tput", "-T", name, "cols"], b"", 3, err=err, env=env)
             else:
                 lines, out = tput_lines(entry)
-                fault = take.fault(["tput", "-T", it, "-S"], lines, 0, out, env=env)
+                fault = take.fault(["tput", "-T", name, "-S"], lines, 0, out, env=env)
             if fault is not None:
-                return f"{it}: {fault}"
+                return f"{name}: {fault}"
     return None
 
 
@@ -172,19 +172,19 @@ def odd_files(take):
     }
     wanted = {"ones": "Magic", "counts": "Counts", "long-dumb": "Counts", "long-zero": "Magic", "empty": "Short"}
     with Room() as room:
-        for it, content in contents.items():
+        for name, content in contents.items():
             refusal = refused(content)
-            if wanted.get(it, refusal) != refusal:
-                return f"the model says {refusal} of {it}"
-            room.put(it, content)
+            if wanted.get(name, refusal) != refusal:
+                return f"the model says {refusal} of {name}"
+            room.put(name, content)
             env = {"TERMINFO": room.path}
             if refusal is None:
-                fault = take.fault(["infocmp", it], b"", 0, listed(read(content)[0]), env=env)
+                fault = take.fault(["infocmp", name], b"", 0, listed(read(content)[0]), env=env)
             else:
-                err = f'infocmp: bad entry "{it}" ({refusal})\n'.encode()
-                fault = take.fault(["infocmp", it], b"", 1, err=err, env=env)
+                err = f'infocmp: bad entry "{name}" ({refusal})\n'.encode()
+                fault = take.fault(["infocmp", name], b"", 1, err=err, env=env)
             if fault is not None:
-                return f"{it}: {fault}"
+                return f"{name}: {fault}"
     return None
 
 
@@ -205,14 +205,14 @@ def one_text(take):
     }
     with Room() as room:
         env = {"TERMINFO": room.path}
-        for it, content in shapes.items():
-            room.put(it, content)
-        entries = {it: read(content)[0] for it, content in shapes.items()}
+        for name, content in shapes.items():
+            room.put(name, content)
+        entries = {name: read(content)[0] for name, content in shapes.items()}
         fault = take.fault(["tput", "-T", "same", "box1"], b"", 0, b"A" * 32_000, env=env)
         fault = fault or take.fault(
             ["infocmp", "unended"], b"", 1, err=b'infocmp: bad entry "unended" (BadOffset)\n', env=env)
-        for it in ("same", "apart"):
-            fault = fault or take.fault(["infocmp", it], b"", 0, listed(entries[it]), env=env)
+        for name in ("same", "apart"):
+            fault = fault or take.fault(["infocmp", name], b"", 0, listed(entries[name]), env=env)
         fault = fault or take.fault(
             ["infocmp", "-d", "same", "last"], b"", 0, compared(entries["same"], entries["last"], "d"), env=env)
         return fault or take.fault(
@@ -292,15 +292,15 @@ def hostile_texts(take):
     with Room() as room:
         env = {"TERMINFO": room.path}
         for at, (text, words, status, out) in enumerate(TEXTS):
-            it = f"t{at}"
-            room.put(it, of_one_text(text, [0]))
+            name = f"t{at}"
+            room.put(name, of_one_text(text, [0]))
             err = b'tput: bad string "cbt"\n' if status == 4 else b""
-            fault = take.fault(["tput", "-T", it, "cbt", *words], b"", status, out, err, env=env)
+            fault = take.fault(["tput", "-T", name, "cbt", *words], b"", status, out, err, env=env)
             if fault is not None:
                 return f"{text[:20]!r}..: {fault}"
-            # padded at the highest rate too, where all else is alike but what is too much
+            # padded at the highest rate too, when all else is alike but what is too much
             if text.startswith(b"$<99999"):
-                fault = take.fault(["tput", "-T", it, "--rate", "4294967295", "cbt"], b"", 4,
+                fault = take.fault(["tput", "-T", name, "--rate", "4294967295", "cbt"], b"", 4,
                                    err=b'tput: bad string "cbt"\n', env=env)
                 if fault is not None:
                     return fault

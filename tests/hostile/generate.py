@@ -1,8 +1,8 @@
 """Sources, edits and scripts made at random, from a seed.
 
-Names come from a small set, so that circular uses, second owners, broken owners and missing ones are
-frequent; capabilities too, so that cancels and inherited values meet. A part of the sources is then
-damaged byte by byte.
+Names come from a small set, so that circular uses, second owners, broken owners and missing ones
+are frequent; capabilities too, so that cancels and inherited values meet. A part of the sources is
+then damaged byte by byte.
 """
 
 import random
@@ -135,7 +135,7 @@ def lines_of(edit):
 
 
 def fits_a_session(edit):
-    """Whether a session can be given the edit: its text is lines, none of which is a period alone."""
+    """Whether a session can take the edit: its text is lines, and none is a period alone."""
     if edit[0] not in "ir":
         return True
     text = edit[2]

@@ -36,7 +36,7 @@ class Take:
         return self.fault(["tic", "-c"], b"".join(blocks), int(bad), b"", report)
 
     def session(self, blocks, commands, replies):
-        """What is wrong with a session that puts blocks in at the end, and then has further commands."""
+        """What is wrong with a session that puts blocks in at the end, and then does more."""
         lines = [b"i %d\n%s.\n" % (at, text) for at, text in enumerate(blocks)]
         return self.fault(["session"], b"".join(lines) + commands, 0, b"ok\n" * len(blocks) + replies)
 
@@ -68,7 +68,7 @@ class Case(NamedTuple):
 
 def cases(all_of_them):
     """The inputs, without the long ones unless all are wanted."""
-    return [Case(*it, Take()) for it in CASES if all_of_them or not it[2]]
+    return [Case(*row, Take()) for row in CASES if all_of_them or not row[2]]
 
 
 def numbers(count):
@@ -82,7 +82,7 @@ def chain(count, first):
 
 
 def entry_of(name, cols=1):
-    """The bytes of an entry that has a number of columns alone, in hexadecimal, as `p` writes them."""
+    """The bytes of an entry with a number of columns alone, in hexadecimal, as `p` writes it."""
     names = name + b"\0"
     pad = b"\0" if len(names) % 2 else b""
     found = b"\x1a\x01" + bytes([len(names), 0, 0, 0, 1, 0, 0, 0, 0, 0]) + names + pad + cols.to_bytes(2, "little")
@@ -187,7 +187,7 @@ def one_name_edited(take):
 
 def short_names(count):
     """So many distinct names of up to three bytes."""
-    letters = [bytes([it]) for it in range(0x21, 0x7F) if it not in b"/,|#.\\^"]
+    letters = [bytes([byte]) for byte in range(0x21, 0x7F) if byte not in b"/,|#.\\^"]
     found = letters + [a + b for a in letters for b in letters]
     found += [a + b + c for a in letters for b in letters for c in letters][: max(0, count - len(found))]
     return found[:count]
@@ -196,8 +196,8 @@ def short_names(count):
 @case("a block with 100,000 uses of names that nobody owns")
 def missing_uses(take):
     names = short_names(100_000)
-    return take.tic([b"long," + b",".join(b"use=" + it for it in names) + b",\n"],
-                    b"".join(b"1: E6 MissingUse %s\n" % it for it in names))
+    return take.tic([b"long," + b",".join(b"use=" + name for name in names) + b",\n"],
+                    b"".join(b"1: E6 MissingUse %s\n" % name for name in names))
 
 
 @case("a block with 170,000 uses of one name, which comes, goes and is broken")
@@ -218,7 +218,7 @@ def wide_header(names):
 def wide_headers(take):
     header = wide_header(short_names(250_000))
     return take.tic([header] * 2, b"1: E2 NamesTooLong\n2: E2 NamesTooLong\n" + b"".join(
-        b"2: W4 DuplicateName %s\n" % it for it in short_names(250_000)))
+        b"2: W4 DuplicateName %s\n" % name for name in short_names(250_000)))
 
 
 @case("two blocks of 1,048,576 bytes, each a header of 300,000 names, of which 224,000 differ, compiled")
@@ -231,7 +231,7 @@ def fullest_headers(take):
     if len(header) != BLOCK_MAX:
         return f"a header of {len(header)} bytes was made"
     return take.tic([header] * 2, b"1: E2 NamesTooLong\n2: E2 NamesTooLong\n" + b"".join(
-        b"2: W4 DuplicateName %s\n" % it for it in names))
+        b"2: W4 DuplicateName %s\n" % name for name in names))
 
 
 @case("two headers of a megabyte with one name 300,000 times, compiled")
@@ -242,10 +242,10 @@ def repeated_names(take):
 
 @case("names of 500,000 bytes that differ in their last byte")
 def long_names(take):
-    blocks = [b"n" * 500_000 + bytes([it]) + b",\n" for it in range(0x41, 0x5B)] * 2
+    blocks = [b"n" * 500_000 + bytes([letter]) + b",\n" for letter in range(0x41, 0x5B)] * 2
     report = b"".join(
-        b"%d: E2 NamesTooLong\n" % (at + 1) + (b"%d: W4 DuplicateName %s\n" % (at + 1, it[:-2]) if at >= 26 else b"")
-        for at, it in enumerate(blocks))
+        b"%d: E2 NamesTooLong\n" % (at + 1) + (b"%d: W4 DuplicateName %s\n" % (at + 1, block[:-2]) if at >= 26 else b"")
+        for at, block in enumerate(blocks))
     return take.tic(blocks, report)
 
 
@@ -271,8 +271,8 @@ def wait_for_last(take):
 def thicket(take):
     blocks = [b"b0,cols#1,\n"]
     for at in range(1, BLOCKS_MAX):
-        used = ((at * 2_654_435_761 + it * 40_503) // 128 % at for it in range(10))
-        blocks.append(b"b%d,%s\n" % (at, b"".join(b"use=b%d," % it for it in used)))
+        used = ((at * 2_654_435_761 + number * 40_503) // 128 % at for number in range(10))
+        blocks.append(b"b%d,%s\n" % (at, b"".join(b"use=b%d," % number for number in used)))
     commands = b"r 0\nb0,cols#2,\n.\np 65534\nr 0\nb0,use=b65534,\n.\np 65534\nr 0\nb0,cols#1,\n.\np 65534\n"
     return take.session(
         blocks, commands,
@@ -315,7 +315,7 @@ def long_preface(take):
 def full_chain(count):
     """A chain whose first block has all capabilities, which all others inherit."""
     flags, numbers, texts = (NAMES_OF[kind] for kind in (FLAG, NUMBER, TEXT))
-    items = flags + [it + b"#1" for it in numbers] + [it + b"=A" for it in texts]
+    items = flags + [name + b"#1" for name in numbers] + [name + b"=A" for name in texts]
     return chain(count, b",".join(items))
 
 
@@ -329,15 +329,15 @@ def texts_change(take):
     count = 2_000
 
     def first(value):
-        return b",".join(it + b"=" + value(at) for at, it in enumerate(NAMES_OF[TEXT]))
+        return b",".join(name + b"=" + value(at) for at, name in enumerate(NAMES_OF[TEXT]))
 
     states = [first(lambda at: b"a%d" % (at % 10)), first(lambda at: (b"a%d" % (at % 10), b"bcd")[at % 2]), first(lambda at: b"e")]
     # what a list of the first and the last alone compiles the last to
-    fresh = [take(["session"], b"i 0\nb0,%s,\n.\ni 1\nb%d,use=b0,\n.\np 1\n" % (it, count - 1)).out.split(b"\n")[2] + b"\n" for it in states]
+    fresh = [take(["session"], b"i 0\nb0,%s,\n.\ni 1\nb%d,use=b0,\n.\np 1\n" % (state, count - 1)).out.split(b"\n")[2] + b"\n" for state in states]
     if len(set(fresh)) != len(states):
         return "entries of other texts are the same"
     show = b"p %d\n" % (count - 1)
-    commands = show + b"".join(b"r 0\nb0,%s,\n.\n" % it + show for it in states[1:] + states[:1])
+    commands = show + b"".join(b"r 0\nb0,%s,\n.\n" % state + show for state in states[1:] + states[:1])
     return take.session(chain(count, states[0]), commands, b"ok\n".join(fresh + fresh[:1]))
 
 

@@ -15,9 +15,9 @@ PROGRAM = os.environ.get("TI_PROGRAM") or program_of("ti")
 PROBE = os.environ.get("TI_PROBE") or program_of("ti_probe")
 LSP = os.environ.get("TI_LSP") or program_of("ti_lsp")
 MEMORY_MAX = 2_000_000_000
-# of the processor
+# of CPU time
 SECONDS_MAX = 120
-# where files are kept that are many and short-lived
+# the directory of files that are many and short-lived
 ROOM = "/dev/shm" if os.access("/dev/shm", os.W_OK) else None
 
 
@@ -27,12 +27,12 @@ class Done(NamedTuple):
     status: int
     out: bytes
     err: bytes
-    seconds: float  # of the processor
-    memory: int  # the most bytes that were held at once, or 10 MB where that is more
+    seconds: float  # of CPU time
+    memory: int  # the most bytes that were held at once, or 10 MB if that is more
 
 
 class Helper:
-    """The process that runs and measures programs, started where it is first wanted."""
+    """The process that runs and measures programs, started when it is first wanted."""
 
     process = None
 
@@ -51,7 +51,7 @@ class Helper:
 def run(words, given=b"", program=PROGRAM, env=None):
     """Runs a program, whose standard input holds the bytes given."""
     with tempfile.TemporaryDirectory(prefix="ti-hostile-", dir=ROOM) as room:
-        paths = {it: os.path.join(room, it) for it in ("given", "out", "err")}
+        paths = {name: os.path.join(room, name) for name in ("given", "out", "err")}
         for name, path in paths.items():
             with open(path, "wb") as file:
                 file.write(given if name == "given" else b"")

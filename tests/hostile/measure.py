@@ -1,5 +1,5 @@
-"""Runs programs for `limits.py` and measures them: a small process, since what a child is said to have held
-at most is never less than what its parent held.
+"""Runs programs for `limits.py` and measures them: a small process, since what a child is said to
+have held at most is never less than what its parent held.
 
 Each line of standard input is a program to run, in JSON; each is answered by a line.
 """

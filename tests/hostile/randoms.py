@@ -1,7 +1,8 @@
 """Edits, scripts and sources made at random: what the program answers must be what the model says,
 and what a session says in the end must be what a fresh session of the same list says.
 
-Each has a seed of its own, made of the run's seed and of its number, so that one can be repeated alone.
+Each has a seed of its own, made of the run's seed and its number, so that one alone can be
+repeated.
 """
 
 import os
@@ -41,12 +42,12 @@ def fresh(texts):
 def meant(texts):
     """What `shown` makes a session write of a list."""
     meaning = Meaning(texts)
-    entries = [b"none" if it is None else it.hex().encode() for it in meaning.images]
-    return meaning.report() + b".\n" + b"".join(it + b"\n" for it in entries) + b"refused Position\n"
+    entries = [b"none" if entry is None else entry.hex().encode() for entry in meaning.images]
+    return meaning.report() + b".\n" + b"".join(entry + b"\n" for entry in entries) + b"refused Position\n"
 
 
 def checked(script):
-    """What a session writes for a script, which must be what the model writes; and what is wrong."""
+    """What a session writes for a script, and what of it is not what the model writes."""
     wanted, status, texts = replies(script)
     got = quick(["session"], script)
     if got[:2] != (status, wanted):
@@ -55,7 +56,7 @@ def checked(script):
 
 
 def fresh_fault(texts, last):
-    """What is wrong with the end of a session's replies, compared with those of a new session of its list."""
+    """What is wrong with a session's last replies, compared with a new session of its list."""
     code, got, _ = quick(["session"], fresh(texts))
     wanted = b"ok\n" * len(texts) + last
     return None if (code, got) == (0, wanted) else f"a fresh session differs: {first_difference(got, wanted)}"
@@ -124,9 +125,9 @@ def source(seed):
                 with open(os.path.join(at, name), "rb") as file:
                     found[name] = file.read()
         if found != files:
-            wrong = [it for it in found.keys() | files if found.get(it) != files.get(it)]
+            wrong = [name for name in found.keys() | files if found.get(name) != files.get(name)]
             return f"the files of {sorted(wrong)[:5]} differ"
-        names = [it for it in sorted(files) if not it.startswith(b"-")]
+        names = [name for name in sorted(files) if not name.startswith(b"-")]
         return listing_fault(room, names, files) if names else None
     finally:
         shutil.rmtree(room)
@@ -134,7 +135,7 @@ def source(seed):
 
 def listing_fault(room, names, files):
     """What is wrong with the listings of some entries."""
-    wanted = b"".join(listed(read(files[it])[0]) for it in names)
+    wanted = b"".join(listed(read(files[name])[0]) for name in names)
     code, got, err = quick([b"infocmp", b"-I", b"-A", room.encode(), b"-B", room.encode(), *names])
     return None if (code, got, err) == (0, wanted, b"") else f"listings, status {code}: {first_difference(got, wanted)}"
 

@@ -1,13 +1,13 @@
 #!/usr/bin/env python3
-"""Hostile use of the built program: malicious inputs, and inputs made at random compared with a model.
+"""Hostile use of the built program: malicious inputs, and random ones compared with a model.
 
     run.py [--all] [--seed N] [--only WORD]
 
 Without --all the short part alone: what takes long is run on a smaller scale. Each input is run
-within 2 GB of memory and 120 seconds of the processor; what it took is printed. The inputs made at random are compared
-with a model that is written from the definitions alone (the directory model/); their seed is printed, and
---seed repeats them. With --only, only the parts and inputs whose name begins with the word are run.
-The last line is `hostile: N passed, M failed`.
+within 2 GB of memory and 120 seconds of CPU time; what it took is printed. The inputs made at
+random are compared with a model that is written from the definitions alone (the directory model/);
+their seed is printed, and --seed repeats them. With --only, only the parts and inputs whose name
+begins with the word are run. The last line is `hostile: N passed, M failed`.
 """
 
 import argparse
@@ -24,8 +24,8 @@ import randoms
 import server  # noqa: F401, adds its inputs
 import squares  # noqa: F401, adds its inputs
 
-# how many of each kind are made at random: short, and with --all. A session of `edits` has 20 edits,
-# so these are 2,000; a run of `documents` too.
+# how many of each kind are made at random: short, and with --all. A session of `edits` has 20
+# edits, so these are 2,000; a run of `documents` too.
 COUNTS = {
     "edits": (100, 100), "scripts": (1_000, 12_000), "sources": (600, 8_000), "documents": (100, 1_000),
     "messages": (200, 2_000),
@@ -38,8 +38,8 @@ def run_randoms(kind, seed, count):
     """Whether all of a kind passed; prints those that did not."""
     started = time.monotonic()
     with multiprocessing.Pool(min(os.cpu_count() or 1, 4)) as pool:
-        found = pool.imap_unordered(randoms.one, ((kind, seed, it) for it in range(count)), chunksize=8)
-        faults = [it for it in found if it is not None]
+        found = pool.imap_unordered(randoms.one, ((kind, seed, number) for number in range(count)), chunksize=8)
+        faults = [fault for fault in found if fault is not None]
     for fault in faults[:FAULTS_SHOWN]:
         print(f"FAILED {fault}")
     print(f"{kind}: {count} made at random, {len(faults)} of them wrong, {time.monotonic() - started:.0f} s")
@@ -70,7 +70,7 @@ def main():
             return 1
     seed = random.SystemRandom().randrange(1_000_000_000) if words.seed is None else words.seed
     print(f"seed {seed}")
-    outcomes = [run_input(it) for it in inputs.cases(words.all) if it.name.startswith(words.only)]
+    outcomes = [run_input(one) for one in inputs.cases(words.all) if one.name.startswith(words.only)]
     for kind, (short, long) in COUNTS.items():
         if kind.startswith(words.only):
             outcomes.append(run_randoms(kind, seed, long if words.all else short))

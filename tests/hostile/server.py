@@ -69,7 +69,7 @@ def full_bodies(take):
 
 @case("server: bytes that are no frames")
 def noise(take):
-    noise_bytes = bytes((it * 7 + it // 251) % 256 for it in range(100_000))
+    noise_bytes = bytes((number * 7 + number // 251) % 256 for number in range(100_000))
     return ends(take, noise_bytes) or ends(take, b"\0" * 100_000) or ends(take, b"\r\n" * 50_000)
 
 
@@ -82,7 +82,7 @@ def long_document(_):
         {"range": {"start": first, "end": {"line": 0, "character": 2**31 - 1}}, "text": "\U0001d11e,"},
     ]
     document = {"uri": "u", "version": 1}
-    return run_fault([body_of(it) for it in (
+    return run_fault([body_of(value) for value in (
         INITIALIZE, notification("textDocument/didOpen", {"textDocument": {**document, "text": text}}),
         notification("textDocument/didChange", {"textDocument": document, "contentChanges": change}))])
 
@@ -103,7 +103,8 @@ def over_limits(_):
 
 
 def unwritable(bodies, output):
-    """What is wrong with a run of the server whose output takes nothing: it ends with status 1, and says nothing."""
+    """What is wrong with a run of the server whose output takes nothing: it ends with status 1, and
+    says nothing."""
     done = subprocess.run(
         [LSP], input=b"".join(map(framed, bodies)), stdout=output, stderr=subprocess.PIPE, env={},
         timeout=SECONDS_MAX, check=False,
@@ -113,7 +114,7 @@ def unwritable(bodies, output):
 
 
 def with_data(given, most):
-    """A run of the server that may have so many bytes of memory besides its code."""
+    """A run of the server that may have so many bytes of memory apart from its code."""
     return subprocess.run(
         [LSP], input=given, stdout=subprocess.PIPE, stderr=subprocess.PIPE, env={}, timeout=SECONDS_MAX, check=False,
         preexec_fn=lambda: resource.setrlimit(resource.RLIMIT_DATA, (most, most)),

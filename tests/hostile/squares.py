@@ -1,7 +1,8 @@
-"""Sources whose owners come late, which would take the square of their length were each block put in by itself.
+"""Sources whose owners come late: block by block they would take the square of their length.
 
-`tic` takes the blocks of a source in one go, and finds out about each of them once. An edit of a session rebuilds
-the blocks that depend on it, so a session that puts these blocks in one by one takes that square.
+`tic` takes the blocks of a source in one go, and finds out about each of them once. An edit of a
+session rebuilds the blocks that depend on it, so a session that puts these blocks in one by one
+takes that square.
 """
 
 from registry import case
@@ -13,7 +14,7 @@ def owners_last(count):
 
 
 def late_owners(users, owners):
-    """Blocks that use a name, and then blocks that have it, of which the first owns it; the report."""
+    """Blocks that use a name, then blocks that have it, the first of which owns it; the report."""
     blocks = [b"b%d,use=n,\n" % at for at in range(users)] + [b"n,cols#1,\n"] * owners
     return blocks, b"".join(b"%d: W4 DuplicateName n\n" % (users + at + 1) for at in range(1, owners))
 

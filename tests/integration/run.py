@@ -1,6 +1,6 @@
 #!/usr/bin/env python3
-"""The program together with others: editors that read its report, programs that use its entries in a
-terminal. Each directory below cases/ is one case (tests/cases.py says how).
+"""The program together with others: editors that read its report, programs that use its entries in
+a terminal. Each directory below cases/ is one case (tests/cases.py says how).
 
 With names of cases as arguments only those are run. The last line is
 `integration: N passed, M failed`.

@@ -1,6 +1,9 @@
-/* Refuses one growth of memory. Preloaded into a program, it counts the calls of malloc, calloc, realloc, memalign,
-   aligned_alloc and posix_memalign, has the one whose number the variable REFUSE says answer that no memory is left, and at the end of the program
-   writes the line "growths N refused M" to standard error. It needs no header and no library but the C library. */
+/*
+ * Refuses one growth of memory. Preloaded into a program, it counts the calls of malloc, calloc,
+ * realloc, memalign, aligned_alloc and posix_memalign, has the one whose number the variable REFUSE
+ * says answer that no memory is left, and at the end of the program writes the line "growths N
+ * refused M" to standard error. It needs no header, and no library but the C library.
+ */
 
 typedef __SIZE_TYPE__ size;
 

@@ -2,7 +2,7 @@
 """Has each growth of memory refused in turn to calls of the libraries.
 
 The program `ti_refusals`, which the gate has proved and built, runs scenarios by name.
-Each prints one line, and says `refused` on standard error where a call of the libraries
+Each prints one line, and says `refused` on standard error if a call of the libraries
 answered out of memory. Here every scenario runs once with all the memory it asks for, and
 then once for each growth that it asks for, which is refused, until a run meets no
 refusal. Each of these runs must print the same line and end well; at most one call of it
@@ -36,14 +36,14 @@ from common import TOP, Tally, is_missing, program_of  # noqa: E402
 PROGRAM = program_of("ti_refusals")
 EXPECTED = os.path.join(TOP, "crates", "ti_refusals", "stdout")
 SECONDS = 60
-# nothing is swept that asks for so many growths: it is only there so that a sweep which never ends is seen
+# no scenario asks for so many growths: a sweep that reaches it would never end
 MOST_GROWTHS = 20_000
 MANY = "many-blocks"
 AFTER = 500
 
 
 def compilers():
-    """The clang of the toolchain, where it is found, and the machine's own compiler."""
+    """The clang of the toolchain, if it is found, and the machine's own compiler."""
     page = subprocess.run(["rt", "doc"], stdout=subprocess.PIPE, text=True, check=False).stdout.strip()
     clang = os.path.join(os.path.dirname(page), "toolchain", "bin", "clang")
     if os.access(clang, os.X_OK):
@@ -52,9 +52,9 @@ def compilers():
         yield ["cc"]
 
 
-def build(folder):
+def build(directory):
     """The library that refuses a growth."""
-    library, why = os.path.join(folder, "refuse.so"), "no C compiler was found"
+    library, why = os.path.join(directory, "refuse.so"), "no C compiler was found"
     for words in compilers():
         words = [*words, "-O1", "-shared", "-fPIC", "-nostdlib", "-o", library, os.path.join(HERE, "refuse.c")]
         done = subprocess.run(words, stdout=subprocess.PIPE, stderr=subprocess.STDOUT, text=True, check=False)
@@ -71,7 +71,7 @@ class Runs:
         self.library = library
 
     def run(self, name, number):
-        """What a run printed, how often a call answered out of memory, the growths, and those refused."""
+        """What a run printed; how many calls answered out of memory; the growths; those refused."""
         done = subprocess.run(
             [PROGRAM, name], stdin=subprocess.DEVNULL, stdout=subprocess.PIPE, stderr=subprocess.PIPE,
             env={"LD_PRELOAD": self.library, "REFUSE": str(number)}, timeout=SECONDS, check=False,
@@ -85,26 +85,26 @@ class Runs:
         return done.stdout, len(lines), int(words[1]), int(words[3])
 
     def check(self, name, number, wanted):
-        """Runs a scenario with one growth refused. The number of calls that answered out of memory, and of refusals."""
+        """Runs with one growth refused. How many calls answered out of memory, and the refusals."""
         stdout, answers, _, refusals = self.run(name, number)
         if stdout != wanted:
             raise ValueError(f"with growth {number} refused: {stdout!r}, wanted {wanted!r}")
         if answers > refusals:
-            raise ValueError(f"with growth {number} refused: out of memory where there was none")
+            raise ValueError(f"with growth {number} refused: out of memory though nothing was refused")
         return answers, refusals
 
 
 def expected_lines():
     """The line of each scenario, by its name."""
     with open(EXPECTED, "rb") as file:
-        return {it.split(b":")[0].decode(): it + b"\n" for it in file.read().splitlines()}
+        return {line.split(b":")[0].decode(): line + b"\n" for line in file.read().splitlines()}
 
 
 def sweep(runs, pool, name, wanted, first):
-    """Refuses each growth from the first on, until a run meets no refusal. How many runs there were, and answers."""
+    """Refuses each growth from the first on, until a run meets none. How many runs, and answers."""
     number, count, answers = first, 0, 0
     while count < MOST_GROWTHS:
-        batch = list(pool.map(lambda it: runs.check(name, it, wanted), range(number, number + 64)))
+        batch = list(pool.map(lambda growth: runs.check(name, growth, wanted), range(number, number + 64)))
         for said, refusals in batch:
             if refusals == 0:
                 return count, answers
@@ -135,8 +135,8 @@ def main():
     if is_missing(PROGRAM, "refusals"):
         return 1
     start, lines, tally = time.monotonic(), expected_lines(), Tally("refusals")
-    with tempfile.TemporaryDirectory(prefix="ti-refusals-") as folder, ThreadPoolExecutor(os.cpu_count()) as pool:
-        runs = Runs(build(folder))
+    with tempfile.TemporaryDirectory(prefix="ti-refusals-") as directory, ThreadPoolExecutor(os.cpu_count()) as pool:
+        runs = Runs(build(directory))
         growths = runs.run(MANY, 0)[2]
         for name in sys.argv[1:] or lines:
             try:

@@ -3,8 +3,9 @@
 
 Every file below the system's terminfo directories is read by `ti_probe`, which prints what
 a view shows; Python's curses module asks ncurses for the same entry, each of the 497
-capabilities by its name. A file of neither format must be refused as `Magic`. ncurses opens no hardcopy terminal (`hc`) and no generic one (`gn`), so it is
-asked for a copy of such an entry without that flag.
+capabilities by its name. A file of neither format must be refused as `Magic`. ncurses opens no
+hardcopy terminal (`hc`) and no generic one (`gn`), so it is asked for a copy of such an entry
+without that flag.
 
 The names of the capabilities are compared with the arrays `boolnames`, `numnames` and
 `strnames` of the ncurses library, all of them and in order.
@@ -23,10 +24,9 @@ import sys
 import tempfile
 
 sys.path.insert(0, os.path.dirname(os.path.dirname(os.path.abspath(__file__))))
-from common import TOP, Tally, is_missing, program_of  # noqa: E402
+from common import ENTRY_DIRECTORIES, TOP, Tally, is_missing, program_of  # noqa: E402
 
 PROGRAM = program_of("ti_probe")
-FOLDERS = ("/usr/share/terminfo", "/lib/terminfo", "/etc/terminfo")
 NAMES = os.path.join(TOP, "crates", "ti_caps", "specs", "Names.antt")
 HEADER_LEN = 12
 # the flags of the terminals that ncurses does not open
@@ -49,12 +49,12 @@ def lists_of_names():
 
 
 def ncurses_names():
-    """The arrays of the installed ncurses library, or None where it cannot be read."""
+    """The arrays of the installed ncurses library, or None if it cannot be read."""
     for name in ("tinfo", "tinfow", "ncursesw", "ncurses"):
         path = ctypes.util.find_library(name)
         try:
             library = ctypes.CDLL(path) if path else None
-            return [array_of(library, it) for it in ("boolnames", "numnames", "strnames")]
+            return [array_of(library, name) for name in ("boolnames", "numnames", "strnames")]
         except (OSError, ValueError, AttributeError, TypeError):
             continue
     return None
@@ -90,21 +90,21 @@ def ask(question):
     """What ncurses says of an entry of a directory, as `ti_probe` prints it; or why it does not."""
     import curses
 
-    folder, name, (flags, numbers, texts) = question
-    os.environ["TERMINFO"] = folder
+    directory, name, (flags, numbers, texts) = question
+    os.environ["TERMINFO"] = directory
     os.environ["TERM"] = name
     try:
         curses.setupterm(name, 1)
     except curses.error as error:
         return str(error)
-    lines = [it for it in flags if curses.tigetflag(it) > 0]
-    lines += [f"{it}#{curses.tigetnum(it)}" for it in numbers if curses.tigetnum(it) >= 0]
-    texts = [(it, curses.tigetstr(it)) for it in texts]
-    return lines + [f"{it}={value.hex()}" for it, value in texts if value is not None]
+    lines = [flag for flag in flags if curses.tigetflag(flag) > 0]
+    lines += [f"{number}#{curses.tigetnum(number)}" for number in numbers if curses.tigetnum(number) >= 0]
+    texts = [(text, curses.tigetstr(text)) for text in texts]
+    return lines + [f"{text}={value.hex()}" for text, value in texts if value is not None]
 
 
 def without_refused_flags(path, flags, room):
-    """Copies an entry below a directory without the booleans of `REFUSED_FLAGS`; gives those it had."""
+    """Copies an entry without the booleans of `REFUSED_FLAGS`; gives those that it had."""
     with open(path, "rb") as file:
         content = bytearray(file.read())
     names_len = int.from_bytes(content[2:4], "little")
@@ -128,21 +128,21 @@ def fault(name, path, lines, pool, names, room):
         magic = file.read(2)
     if magic not in (b"\x1a\x01", b"\x1e\x02"):
         return None if lines == ["refused Magic"] else f"magic {magic.hex()}, but {lines[:1]}"
-    if any(it in lines for it in REFUSED_FLAGS):
-        folder, had = room, without_refused_flags(path, names[0], room)
+    if any(flag in lines for flag in REFUSED_FLAGS):
+        directory, had = room, without_refused_flags(path, names[0], room)
     else:
-        folder, had = os.path.dirname(os.path.dirname(path)), []
-    wanted = pool.apply(ask, ((folder, name, names),))
+        directory, had = os.path.dirname(os.path.dirname(path)), []
+    wanted = pool.apply(ask, ((directory, name, names),))
     if isinstance(wanted, str):
         return f"ncurses does not answer: {wanted}"
-    got = [it for it in lines if not it.startswith(("names=", "first name="))]
-    if any(it not in got for it in had):
+    got = [line for line in lines if not line.startswith(("names=", "first name="))]
+    if any(flag not in got for flag in had):
         return f"{had} are not shown"
-    got = [it for it in got if it not in had]
-    # where an entry has no size, ncurses answers its own default
+    got = [line for line in got if line not in had]
+    # if an entry has no size, ncurses answers its own default
     for size in ("cols", "lines"):
-        if not any(it.startswith(f"{size}#") for it in got):
-            wanted = [it for it in wanted if not it.startswith(f"{size}#")]
+        if not any(line.startswith(f"{size}#") for line in got):
+            wanted = [line for line in wanted if not line.startswith(f"{size}#")]
     if got != wanted:
         return f"{sorted(set(got) ^ set(wanted))[:6]} differ, or are in another order"
     return None
@@ -151,8 +151,8 @@ def fault(name, path, lines, pool, names, room):
 def entries():
     """The name and the path of each file below the system's directories."""
     found = []
-    for folder in FOLDERS:
-        for at, _, names in sorted(os.walk(folder)):
+    for directory in ENTRY_DIRECTORIES:
+        for at, _, names in sorted(os.walk(directory)):
             found += [(name, os.path.join(at, name)) for name in sorted(names)]
     return found
 
@@ -164,7 +164,7 @@ def name_fault(names):
         return "absent"
     for ours, theirs in zip(names, wanted):
         if ours != theirs:
-            return f"{[it for it in zip(ours, theirs) if it[0] != it[1]][:6]}, or the counts, differ"
+            return f"{[pair for pair in zip(ours, theirs) if pair[0] != pair[1]][:6]}, or the counts, differ"
     return None
 
 

@@ -21,20 +21,20 @@ class Meaning:
         self.mentions = self.settled()
         self.reached = [self.blocks_reached(at) for at in range(len(self.blocks))]
         self.images = [
-            None if it is None else image(block.field, {cap: v for cap, v in it.items() if v is not CANCEL})
-            for block, it in zip(self.blocks, self.mentions)
+            None if known is None else image(block.field, {cap: v for cap, v in known.items() if v is not CANCEL})
+            for block, known in zip(self.blocks, self.mentions)
         ]
 
     def settled(self):
-        """For each block the leftmost mention of each capability; None where it does not resolve."""
+        """For each block the leftmost mention of each capability; None if it does not resolve."""
         found = [None] * len(self.blocks)
         more = True
         while more:
             more = False
             for at, block in enumerate(self.blocks):
                 if found[at] is None and not block.broken:
-                    used = [None if it is None else found[it] for it in self.used[at]]
-                    if all(it is not None for it in used):
+                    used = [None if use is None else found[use] for use in self.used[at]]
+                    if all(values is not None for values in used):
                         found[at] = merged(block, used)
                         more = True
         return found
@@ -51,7 +51,7 @@ class Meaning:
 
     def names_reached(self, at):
         """The names that a block uses, and those that the owner of a reached name uses."""
-        return {name for it in {at} | self.reached[at] for name in self.blocks[it].uses}
+        return {name for other in {at} | self.reached[at] for name in self.blocks[other].uses}
 
     def use_fault(self, at, name):
         """The code of the fault of a use, or None."""
@@ -66,14 +66,14 @@ class Meaning:
         """The faults of a block, in their order."""
         block = self.blocks[at]
         header = [fault for ordinal, fault in block.faults if ordinal < 0]
-        names = [it for it in dict.fromkeys(block.names) if self.owners[it] < at]
+        names = [name for name in dict.fromkeys(block.names) if self.owners[name] < at]
         items = [(ordinal, fault) for ordinal, fault in block.faults if ordinal >= 0]
         for item in block.items:
             code = self.use_fault(at, item.value) if item.cap is None else None
             if code is not None:
                 items.append((item.ordinal, Fault(item.line, code, item.value)))
-        found = header + [Fault(1, "W4", it) for it in names]
-        found += [fault for _, fault in sorted(items, key=lambda it: it[0])]
+        found = header + [Fault(1, "W4", name) for name in names]
+        found += [fault for _, fault in sorted(items, key=lambda row: row[0])]
         if self.mentions[at] is not None and self.images[at] is None:
             found.append(Fault(1, "E9", block.names[0]))
         return found
@@ -108,16 +108,16 @@ def report_line(first_line, fault):
     line = b"%d: %s %s" % (first_line + fault.line - 1, fault.code.encode(), FAULTS[fault.code].encode())
     if fault.detail is None:
         return line + b"\n"
-    shown = bytes(it if 0x21 <= it <= 0x7E else 0x3F for it in fault.detail)
+    shown = bytes(byte if 0x21 <= byte <= 0x7E else 0x3F for byte in fault.detail)
     return line + b" " + (shown or b"-") + b"\n"
 
 
 class Database:
-    """A list of texts that is edited; edits are ("i", at, text), ("r", at, text), ("d", at), ("m", from, to)."""
+    """A list of texts under edits: ("i", at, text), ("r", at, text), ("d", at), ("m", from, to)."""
 
     def __init__(self):
         self.texts = []
-        self.last = None  # the names that the last accepted edit touched, and where it put a block in
+        self.last = None  # the names that the last accepted edit touched, and the place of its block
         self.known = None
 
     @property
@@ -156,14 +156,14 @@ class Database:
             text, put_in = out, edit[2]
         if text is not None:
             self.texts.insert(put_in, text)
-        touched = {name for it in (out, text) if it is not None for name in read(it).names}
+        touched = {name for block in (out, text) if block is not None for name in read(block).names}
         self.last = touched, put_in
         self.known = None
         return None
 
 
 def compile_source(source):
-    """What `tic` makes of a source: its files by name, the report, the status; or a fault's text."""
+    """What `tic` makes of a source: its files, the report, the status; or a fault's text."""
     if not source.endswith(b"\n"):
         source += b"\n"
     preface, blocks = cut(source)
@@ -179,7 +179,7 @@ def compile_source(source):
     files = {}
     for at, block in enumerate(meaning.blocks):
         if meaning.images[at] is not None:
-            files |= {it: meaning.images[at] for it in block.names if meaning.owners[it] == at}
+            files |= {name: meaning.images[at] for name in block.names if meaning.owners[name] == at}
     report = meaning.report(first_line)
-    bad = any(it.split(b": ", 1)[1].startswith(b"E") for it in report.splitlines())
+    bad = any(line.split(b": ", 1)[1].startswith(b"E") for line in report.splitlines())
     return files, report, int(bad)

@@ -19,7 +19,7 @@ def lists_of_names():
     found = {}
     for kind in KINDS:
         rows = re.search(rf"^{kind}_names =\n(.*?)\[\]", text, re.S | re.M)[1]
-        found[kind] = [it.encode() for it in re.findall(r'"([^"]*)"', rows)]
+        found[kind] = [name.encode() for name in re.findall(r'"([^"]*)"', rows)]
         assert len(found[kind]) == COUNTS[kind], kind
     return found
 

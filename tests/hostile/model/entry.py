@@ -11,7 +11,7 @@ FILE_MAX = 65_536
 
 
 def image(names, values):
-    """The image of the names field and of the values by capability; None where it is too large."""
+    """The image of the names field and of the values by capability; None if it is too large."""
     last = {kind: 0 for kind in COUNTS}
     for kind, at in values:
         last[kind] = max(last[kind], at + 1)
@@ -25,7 +25,7 @@ def image(names, values):
         offsets.append(0xFFFF if text is None else len(table) & 0xFFFF)
         table += b"" if text is None else text + b"\0"
     sizes = (len(names) + 1, last[FLAG], last[NUMBER], last[TEXT], len(table))
-    found = struct.pack("<6H", EXTENDED_MAGIC if extended else PLAIN_MAGIC, *(it & 0xFFFF for it in sizes))
+    found = struct.pack("<6H", EXTENDED_MAGIC if extended else PLAIN_MAGIC, *(number & 0xFFFF for number in sizes))
     found += names + b"\0" + flags
     found += b"\0" if (len(names) + 1 + last[FLAG]) % 2 else b""
     found += struct.pack(f"<{len(numbers)}{'i' if extended else 'H'}", *numbers)
@@ -51,7 +51,7 @@ def read(content):
     sizes = struct.unpack_from("<5h", content, 2)
     names_len, flag_count, number_count, text_count, table_len = sizes
     counts = (flag_count, number_count, text_count)
-    if min(sizes) < 0 or any(it > most for it, most in zip(counts, COUNTS.values())):
+    if min(sizes) < 0 or any(count > most for count, most in zip(counts, COUNTS.values())):
         return None, "Counts"
     number_len = 4 if magic == EXTENDED_MAGIC else 2
     flags_at = 12 + names_len
@@ -64,16 +64,16 @@ def read(content):
     if names_len < 2 or names.find(b"\0") != names_len - 1:
         return None, "BadNames"
     flags = content[flags_at : flags_at + flag_count]
-    if any(it not in (0, 1, 0xFE, 0xFF) for it in flags):
+    if any(byte not in (0, 1, 0xFE, 0xFF) for byte in flags):
         return None, "BadFlag"
     numbers = struct.unpack_from(f"<{number_count}{'i' if number_len == 4 else 'h'}", content, numbers_at)
-    if any(it < -2 for it in numbers):
+    if any(number < -2 for number in numbers):
         return None, "BadNumber"
     table = content[table_at : table_at + table_len]
     offsets = struct.unpack_from(f"<{text_count}h", content, offsets_at)
-    if any(it < -2 or (it >= 0 and (it >= table_len or table.find(b"\0", it) < 0)) for it in offsets):
+    if any(offset < -2 or (offset >= 0 and (offset >= table_len or table.find(b"\0", offset) < 0)) for offset in offsets):
         return None, "BadOffset"
-    values = {(FLAG, at): True for at, it in enumerate(flags) if it == 1}
-    values |= {(NUMBER, at): it for at, it in enumerate(numbers) if it >= 0}
-    values |= {(TEXT, at): table[it : table.find(b"\0", it)] for at, it in enumerate(offsets) if it >= 0}
+    values = {(FLAG, at): True for at, byte in enumerate(flags) if byte == 1}
+    values |= {(NUMBER, at): number for at, number in enumerate(numbers) if number >= 0}
+    values |= {(TEXT, at): table[offset : table.find(b"\0", offset)] for at, offset in enumerate(offsets) if offset >= 0}
     return (names[:-1], values), None

@@ -3,10 +3,10 @@
 import re
 from functools import lru_cache
 
-from .caps import FLAG, KINDS, NAMES_OF, NUMBER, TEXT, name
+from .caps import FLAG, KINDS, NAMES_OF, NUMBER, name
 
 LETTERS = {0x1B: b"\\E", 0x0A: b"\\n", 0x0D: b"\\r", 0x09: b"\\t", 0x08: b"\\b", 0x0C: b"\\f", 0x00: b"\\0"}
-# what may not be written as itself: a space only where it is the first or the last byte
+# what may not be written as itself: a space only if it is the first or the last byte
 SPECIAL = re.compile(rb"[\x00-\x1f\x7f-\xff,\\^]|\A | \Z")
 WIDTH = 60
 
@@ -72,18 +72,18 @@ def relative(entry, others, width=WIDTH, one_per_line=False, by_name=True):
     for kind in KINDS:
         items.append([])
         for cap in caps_of(kind, by_name):
-            theirs = next((it[1][cap] for it in others if cap in it[1]), None)
+            theirs = next((other[1][cap] for other in others if cap in other[1]), None)
             if cap in values and values[cap] != theirs:
                 items[-1].append(item(cap, values[cap]))
             elif cap not in values and theirs is not None:
                 items[-1].append(name(cap) + b"@,")
-    uses = b"".join(b"\tuse=" + it[0].split(b"|")[0] + b",\n" for it in others)
+    uses = b"".join(b"\tuse=" + other[0].split(b"|")[0] + b",\n" for other in others)
     return laid(names, items, width, one_per_line) + uses
 
 
 def compared(first, second, mode, by_name=True):
     """The comparison of two entries; the mode is `d`, `c` or `n`."""
-    names = [it[0].split(b"|")[0] for it in (first, second)]
+    names = [entry[0].split(b"|")[0] for entry in (first, second)]
     out = b"comparing %s to %s.\n" % tuple(names)
     for kind, heading in zip(KINDS, (b"booleans", b"numbers", b"strings")):
         out += b"    comparing %s.\n" % heading

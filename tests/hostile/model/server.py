@@ -1,5 +1,5 @@
-"""What a language server for terminfo source answers, written from the protocol alone: a state of the
-life of the server, and the texts of the open documents as Python strings.
+"""What a language server for terminfo source answers, written from the protocol alone: a state of
+the life of the server, and the texts of the open documents as Python strings.
 """
 
 import json
@@ -26,12 +26,11 @@ def depth_of(value):
     """How deep lists and objects nest in a value, counted without recursion."""
     deepest, todo = 0, [(value, 0)]
     while todo:
-        it, depth = todo.pop()
+        part, depth = todo.pop()
         deepest = max(deepest, depth)
-        if isinstance(it, (list, dict)):
-            inner = it.values() if isinstance(it, dict) else it
+        if isinstance(part, (list, dict)):
             deepest = max(deepest, depth + 1)
-            todo += [(each, depth + 1) for each in inner]
+            todo += [(inner, depth + 1) for inner in (part.values() if isinstance(part, dict) else part)]
     return deepest
 
 
@@ -126,7 +125,7 @@ def shown_detail(detail):
     """A detail as a report shows it, after a space; none if there is none."""
     if detail is None:
         return ""
-    return " " + ("".join(chr(it) if 0x21 <= it <= 0x7E else "?" for it in detail) or "-")
+    return " " + ("".join(chr(byte) if 0x21 <= byte <= 0x7E else "?" for byte in detail) or "-")
 
 
 def mark(lines, line, code, front):
@@ -138,7 +137,8 @@ def mark(lines, line, code, front):
 
 
 def refused_line(preface, blocks):
-    """The line of the block for which a source is refused, counted from 0, and the code; or None."""
+    """The line, counted from 0, of the block for which a source is refused, and the code; or
+    None."""
     line = preface.count(b"\n")
     for at, block in enumerate(blocks):
         if at == BLOCKS_MAX:
@@ -227,7 +227,7 @@ class Server:
         return [{"uri": uri, "version": document["version"], "shown": diagnostics_of(text)}]
 
     def changed(self, uri, changes):
-        """The text of a document after changes, or None if one of them is none, or it is not open."""
+        """The text of a document after changes; None if it is not open or a change is none."""
         text = self.texts.get(uri)
         if not isinstance(changes, list):
             return None
@@ -267,7 +267,7 @@ def seen(answer):
         if answer["method"] != "textDocument/publishDiagnostics" or "id" in answer:
             raise ValueError(f"a notification is {answer}")
         params = answer["params"]
-        shown = [seen_diagnostic(it) for it in params["diagnostics"]]
+        shown = [seen_diagnostic(diagnostic) for diagnostic in params["diagnostics"]]
         return {"uri": params["uri"], "version": params.get("version"), "shown": shown}
     if "error" in answer:
         return refusal(answer["id"], answer["error"]["code"])
@@ -275,7 +275,7 @@ def seen(answer):
 
 
 def agree(got, wanted):
-    """Whether an answer that was sent is the one that is wanted: of a message only the front is known."""
+    """Whether an answer is the one that is wanted: of a message only the front is known."""
     if "shown" not in got or "shown" not in wanted:
         return got == wanted
     if {**got, "shown": None} != {**wanted, "shown": None} or len(got["shown"]) != len(wanted["shown"]):

@@ -29,7 +29,7 @@ class Fault(NamedTuple):
 
 
 class Item(NamedTuple):
-    """An accepted item: a capability with its value, a cancel, or a use, for which `cap` is None."""
+    """An accepted item: a capability with its value or a cancel, or a use, whose `cap` is None."""
 
     ordinal: int
     line: int
@@ -150,7 +150,7 @@ def read_header(field):
 
 
 def read_item(item):
-    """What an item gives, None where it is not accepted; its fault, or None; its name."""
+    """What an item gives, None if it is not accepted; its fault, or None; its name."""
     trimmed = item.rstrip(WHITE)
     marks = [at for at in (trimmed.find(b"#"), trimmed.find(b"=")) if at >= 0]
     if marks:

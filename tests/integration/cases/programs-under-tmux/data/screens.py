@@ -51,8 +51,8 @@ class Screen:
 
 
 def screens(command, keys, places, term, quiet):
-    folder = tempfile.mkdtemp(prefix="ti-tmux-")
-    screen = Screen(os.path.join(folder, "socket"), command, places, term)
+    directory = tempfile.mkdtemp(prefix="ti-tmux-")
+    screen = Screen(os.path.join(directory, "socket"), command, places, term)
     try:
         found = [screen.settled(quiet)]
         for key in keys:
@@ -61,12 +61,12 @@ def screens(command, keys, places, term, quiet):
         return found
     finally:
         screen.close()
-        shutil.rmtree(folder)
+        shutil.rmtree(directory)
 
 
 def faults(name, term, keys, ours, theirs):
     """What is wrong with the screens of a program."""
-    if len({*ours}) < 3 or any(b"ended" in it for it in ours[:-1]):
+    if len({*ours}) < 3 or any(b"ended" in screen for screen in ours[:-1]):
         yield f"{name} on {term} shows too little: {ours}"
     for key, one, other in zip(["at first", *keys], ours, theirs):
         if one != other:
@@ -74,11 +74,11 @@ def faults(name, term, keys, ours, theirs):
 
 
 def compare(name, command, keys, term):
-    """How many screens are equal. A busy machine may be slow to show a key, so more time is given then."""
-    places = [os.path.abspath(it) for it in ("ours", "theirs")]
+    """How many screens are equal. If some are not, more time is given: the machine may be busy."""
+    places = [os.path.abspath(name) for name in ("ours", "theirs")]
     for quiet in (0.3, 1, 3):
         with ThreadPoolExecutor() as both:
-            ours, theirs = both.map(lambda it: screens(command, keys, it, term, quiet), places)
+            ours, theirs = both.map(lambda place: screens(command, keys, place, term, quiet), places)
         wrong = list(faults(name, term, keys, ours, theirs))
         if not wrong:
             return len(ours)
@@ -89,7 +89,7 @@ def compare(name, command, keys, term):
 def main():
     compared = 0
     with open("lines.txt", "w", encoding="utf-8") as file:
-        file.write("".join(f"line {it}, \u00e9 \t tab\n" for it in range(1, 100)))
+        file.write("".join(f"line {number}, \u00e9 \t tab\n" for number in range(1, 100)))
     for term in ENTRIES:
         for name, command, keys in PROGRAMS:
             compared += compare(name, command, keys, term)
