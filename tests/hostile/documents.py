@@ -8,7 +8,7 @@ import random
 
 from generate import Source
 from limits import LSP, quick
-from model.server import Server, agree, frames_in, seen
+from model.server import QUESTIONS, Server, agree, frames_in, seen
 
 EDITS_A_RUN = 20
 LETTERS = [
@@ -16,7 +16,7 @@ LETTERS = [
 ]
 URIS = ["file:///a.ti", "file:///b%20c.ti", "u\U0001d11e"]
 METHODS = [
-    "initialize", "shutdown", "exit", "initialized", "textDocument/hover", "$/cancelRequest", "textDocument/didOpen",
+    "initialize", "shutdown", "exit", "initialized", "textDocument/rename", "$/cancelRequest", "textDocument/didOpen",
     "textDocument/didChange", "textDocument/didClose", "textDocument/didSave", "", "textDocument/didOpen\0", "Initialize",
 ]
 ODD_VALUES = [
@@ -51,7 +51,7 @@ class Editor:
 
     def __init__(self, seed):
         self.random, self.source = random.Random(seed), Source(seed)
-        self.texts, self.version = {}, 0
+        self.texts, self.version, self.number = {}, 0, 0
 
     def one(self, choices):
         return copy.deepcopy(self.random.choice(choices))
@@ -105,13 +105,22 @@ class Editor:
         changes = [self.change(self.texts[uri]) for _ in range(self.one([1, 1, 1, 2, 3, 0]))]
         return notification("textDocument/didChange", {"textDocument": document, "contentChanges": changes})
 
+    def question(self):
+        """A request about a document that is open, or about another."""
+        uri, method = self.one(URIS), self.one(list(QUESTIONS))
+        self.number += 1
+        params = {"textDocument": {"uri": uri}, "position": self.place(self.texts.get(uri, "a,b"))}
+        if method == "textDocument/references":
+            params["context"] = {"includeDeclaration": self.one([True, False])}
+        return {"jsonrpc": "2.0", "id": self.number, "method": method, "params": params}
+
     def oddity(self):
         """A body of no sense, or a message with parts that are not what they should be."""
         if self.random.random() < 0.3:
             return self.one(ODD_BODIES)
         message = {"method": self.one(METHODS), "params": self.one(ODD_VALUES)}
         if self.random.random() < 0.5:
-            message = self.edit()
+            message = self.one([self.edit, self.question])()
         if self.random.random() < 0.6:
             message["id"] = self.one(ODD_VALUES)
         for _ in range(self.one([0, 1, 2])):
@@ -177,7 +186,10 @@ def report_fault(shown, text):
 def edited(seed):
     """A run of an editor with some documents."""
     editor = Editor(seed)
-    return run_fault([body_of(INITIALIZE)] + [body_of(editor.edit()) for _ in range(EDITS_A_RUN)])
+    bodies = [body_of(INITIALIZE)]
+    for _ in range(EDITS_A_RUN):
+        bodies += [body_of(editor.edit())] + [body_of(editor.question()) for _ in range(editor.one([0, 1, 2]))]
+    return run_fault(bodies)
 
 
 def disordered(seed):
@@ -189,7 +201,7 @@ def disordered(seed):
         if odd < 0.5:
             bodies.append(editor.oddity())
         else:
-            bodies.append(body_of(editor.edit()))
+            bodies.append(body_of(editor.one([editor.edit, editor.edit, editor.question])()))
         if editor.random.random() < 0.02:
             bodies.append(body_of({"id": 1, "method": "shutdown"}))
     return run_fault(bodies)

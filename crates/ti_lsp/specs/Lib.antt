@@ -1,4 +1,5 @@
 -- The definitions that the contracts of this program cite.
+pub mod Answers
 pub mod Command
 pub mod Floats
 pub mod Shown

@@ -7,8 +7,8 @@ ghost use Rattle.ti_lsp.specs.Shown.{shown_data};
 use serde_json::Value;
 use std::alloc::{AllocError, Global};
 use ti_document::{Diagnostic, Document, offset_of};
-use ti_messages::Position;
 use ti_messages::writing::diagnostic_value;
+use ti_messages::{Position, Question};
 use ti_server::Source;
 
 /// A terminfo source.
@@ -39,16 +39,16 @@ fn values_of(alloc: Global, all: &[Diagnostic]) -> Result<Vec<Value>, AllocError
 
 impl Source for Terminfo {
     ghost use Rattle.ti_document.specs.Position.{offset_of as place_of};
-    ghost use Rattle.ti_lsp.specs.Floats.{shown_have_no_floats};
-    ghost use Rattle.ti_lsp.specs.Shown.{shown_of};
+    ghost use Rattle.ti_lsp.specs.Answers.{sayings};
+    ghost use Rattle.ti_lsp.specs.Floats.{sayings_have_no_floats};
 
     ghost text_of = { λ source. source.document };
 
     ghost place_in = { place_of };
 
-    ghost diagnostics_of = { shown_of };
+    ghost says = { sayings };
 
-    ghost no_floats = { λ text. shown_have_no_floats text };
+    ghost no_floats = { sayings_have_no_floats };
 
     fn open(alloc: Global, text: Vec<u8>) -> Result<Terminfo, AllocError> {
         let document = Document::open(alloc, text)?;
@@ -71,5 +71,9 @@ impl Source for Terminfo {
     fn diagnostics(&self, alloc: Global) -> Result<Vec<Value>, AllocError> {
         let all = self.document.diagnostics(alloc)?;
         values_of(alloc, all.as_slice())
+    }
+
+    fn answer(&self, _alloc: Global, _uri: &str, _question: Question) -> Result<Value, AllocError> {
+        Ok(Value::Null)
     }
 }

@@ -2,7 +2,11 @@
 use Rattle.std.specs.Prelude.{ℕ, ◌^◌, ◌||◌, List, [], ◌∷◌, Bool, true, false, not, Option, None, Some, codes, is_some, option_and_then, option_map, unwrap_or, nat_lt, if◌then◌else◌}
 use Rattle.std.specs.Str.{bytes_eq}
 use Rattle.serde_json.specs.Data.{Num, Data, null, boolean, number, unsigned, negative, float, string, array, object, Items, no_items, item}
-use Rattle.serde_json.specs.Find.{as_array, as_number, as_str, get, is_float}
+use Rattle.serde_json.specs.Find.{as_array, as_bool, as_number, as_str, get, is_float}
+use Rattle.ti_messages.specs.declared.asking.Topic.{Topic}
+use Rattle.ti_messages.specs.declared.asking.Topic.TheVariants as asks
+use Rattle.ti_messages.specs.declared.messages.Question.{Question}
+use Rattle.ti_messages.specs.declared.messages.Question.TheVariants.{Completion, Hover, Definition, References, Symbols}
 use Rattle.ti_messages.specs.declared.places.Position.{Position}
 use Rattle.ti_messages.specs.declared.places.Range.{Range}
 
@@ -11,10 +15,13 @@ pub record Edit : Type 0 where
   pub range : Option Range
   pub text : List ℕ
 
--- a request: a known method, or parameters that are not those of its method, or an unknown one
+-- a request: of a document its URI and what is asked about it; `unreadable` are those whose
+-- parameters are not those of the method
 pub data Asked : Type 0 where
   initialize : Asked
   shutdown : Asked
+  about : List ℕ → Question → Asked
+  unreadable : Asked
   unknown : Asked
 
 -- a notification: of a document its URI, its version, and its text or the edits; `nothing` are
@@ -110,12 +117,57 @@ closed_of params = do
   uri ← text_at (codes "uri") document
   Some (closed uri)
 
+-- ---- questions about a document
+
+-- the methods that ask about a document
+abbrev pub topic_of : List ℕ → Option Topic
+topic_of method =
+    if bytes_eq method (codes "textDocument/completion") then Some asks.Completion
+    else (if bytes_eq method (codes "textDocument/hover") then Some asks.Hover
+    else (if bytes_eq method (codes "textDocument/definition") then Some asks.Definition
+    else (if bytes_eq method (codes "textDocument/references") then Some asks.References
+    else (if bytes_eq method (codes "textDocument/documentSymbol") then Some asks.Symbols else None))))
+
+-- "TextDocumentPositionParams"
+abbrev pub asked_place : Data → Option Position
+asked_place params = option_and_then position_of (get (codes "position") params)
+
+-- "ReferenceParams"
+abbrev pub references_of : Data → Option Question
+references_of params = do
+  place ← asked_place params
+  context ← get (codes "context") params
+  with_declaration ← option_and_then as_bool (get (codes "includeDeclaration") context)
+  Some (References place with_declaration)
+
+-- "CompletionParams", "HoverParams", "DefinitionParams", "DocumentSymbolParams"
+abbrev pub question_of : Topic → Data → Option Question
+question_of asks.Completion params = option_map Completion (asked_place params)
+question_of asks.Hover params = option_map Hover (asked_place params)
+question_of asks.Definition params = option_map Definition (asked_place params)
+question_of asks.References params = references_of params
+question_of asks.Symbols params = Some Symbols
+
+abbrev pub about_of : Topic → Data → Option Asked
+about_of topic params = do
+  document ← get (codes "textDocument") params
+  uri ← text_at (codes "uri") document
+  question ← question_of topic params
+  Some (about uri question)
+
+abbrev pub about_document : Topic → Data → Asked
+about_document topic d = unwrap_or (option_and_then (about_of topic) (get (codes "params") d)) unreadable
+
 -- ---- methods
 
-abbrev pub asked_of : List ℕ → Asked
-asked_of method =
+abbrev pub asked_about : Option Topic → Data → Asked
+asked_about None d = unknown
+asked_about (Some topic) d = about_document topic d
+
+abbrev pub asked_of : List ℕ → Data → Asked
+asked_of method d =
     if bytes_eq method (codes "initialize") then initialize
-    else (if bytes_eq method (codes "shutdown") then shutdown else unknown)
+    else (if bytes_eq method (codes "shutdown") then shutdown else asked_about (topic_of method) d)
 
 -- what parameters tell, if they are those of the method
 abbrev pub told_by : List ℕ → Data → Option Told
@@ -146,14 +198,14 @@ abbrev pub id_in : Data → Option Data
 id_in d = option_and_then id_of (get (codes "id") d)
 
 -- a request, if its id is an id
-abbrev pub request_of : List ℕ → Option Data → Meaning
-request_of method None = faulty None
-request_of method (Some id) = request id (asked_of method)
+abbrev pub request_of : List ℕ → Data → Option Data → Meaning
+request_of method d None = faulty None
+request_of method d (Some id) = request id (asked_of method d)
 
 -- a message with a method is a notification if no id is there
 abbrev pub called_of : List ℕ → Data → Meaning
 called_of method d =
-    if is_some (get (codes "id") d) then request_of method (id_in d) else notification (told_of method d)
+    if is_some (get (codes "id") d) then request_of method d (id_in d) else notification (told_of method d)
 
 -- the method is a string
 abbrev pub method_meaning : Data → Option (List ℕ) → Meaning

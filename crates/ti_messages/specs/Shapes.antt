@@ -1,8 +1,10 @@
 -- The values that a language server sends (LSP 3.17; the section is named at each). Members are in
 -- the order of their keys.
-use Rattle.std.specs.Prelude.{ℕ, List, codes, true, Option, None, Some, unwrap_or}
+use Rattle.std.specs.Prelude.{ℕ, List, codes, true, false, Option, None, Some, unwrap_or}
 use Rattle.serde_json.specs.Data.{Data, null, boolean, number, negative, unsigned, string, array, object, Items, no_members, member}
 use Rattle.ti_messages.specs.Failures.{code_of, sentence_of}
+use Rattle.ti_messages.specs.declared.answers.ItemKind.{ItemKind}
+use Rattle.ti_messages.specs.declared.answers.ItemKind.TheVariants.{Capability, Entry}
 use Rattle.ti_messages.specs.declared.failures.Failure.{Failure}
 use Rattle.ti_messages.specs.declared.places.Position.{Position}
 use Rattle.ti_messages.specs.declared.places.Range.{Range}
@@ -73,6 +75,59 @@ refusal_data id failure =
     object (member (codes "error") (failure_data failure)
     (member (codes "id") (unwrap_or id null)
     (member (codes "jsonrpc") (string (codes "2.0")) no_members)))
+
+-- ---- answers to questions about a document
+
+-- "Location"
+abbrev pub location_data : List ℕ → Range → Data
+location_data uri range = object (member (codes "range") (range_data range) (member (codes "uri") (string uri) no_members))
+
+-- "DocumentSymbol"; the kind 23 is a struct ("SymbolKind")
+abbrev pub symbol_data : List ℕ → Range → Range → Data
+symbol_data name range selection =
+    object (member (codes "kind") (natural 23)
+    (member (codes "name") (string name)
+    (member (codes "range") (range_data range)
+    (member (codes "selectionRange") (range_data selection) no_members))))
+
+-- "MarkupContent"
+abbrev pub plain_data : List ℕ → Data
+plain_data text = object (member (codes "kind") (string (codes "plaintext")) (member (codes "value") (string text) no_members))
+
+-- "Hover"
+abbrev pub hover_data : List ℕ → Range → Data
+hover_data text range = object (member (codes "contents") (plain_data text) (member (codes "range") (range_data range) no_members))
+
+-- "TextEdit"
+abbrev pub text_edit_data : List ℕ → Range → Data
+text_edit_data text range = object (member (codes "newText") (string text) (member (codes "range") (range_data range) no_members))
+
+-- "CompletionItemKind": a field, a struct
+abbrev pub item_number : ItemKind → ℕ
+item_number Capability = 5
+item_number Entry = 22
+
+-- "CompletionItem"; its label is what it is found by, and what is put in place of the range
+abbrev pub item_data : ItemKind → List ℕ → List ℕ → Option (List ℕ) → Range → Data
+item_data kind label detail None range =
+    object (member (codes "detail") (string detail)
+    (member (codes "filterText") (string label)
+    (member (codes "kind") (natural (item_number kind))
+    (member (codes "label") (string label)
+    (member (codes "textEdit") (text_edit_data label range) no_members)))))
+item_data kind label detail (Some documentation) range =
+    object (member (codes "detail") (string detail)
+    (member (codes "documentation") (string documentation)
+    (member (codes "filterText") (string label)
+    (member (codes "kind") (natural (item_number kind))
+    (member (codes "label") (string label)
+    (member (codes "textEdit") (text_edit_data label range) no_members))))))
+
+-- "CompletionList"
+abbrev pub list_data : Items → Data
+list_data items = object (member (codes "isIncomplete") (boolean false) (member (codes "items") (array items) no_members))
+
+-- ---- what the server can do
 
 -- "TextDocumentSyncOptions": documents are opened and closed, and 2 says that changes are parts of
 -- the text

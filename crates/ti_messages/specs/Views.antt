@@ -5,7 +5,7 @@ use Rattle.ti_messages.specs.Messages as means
 use Rattle.ti_messages.specs.Messages.{Asked, Edit, Meaning, Told}
 use Rattle.ti_messages.specs.declared.messages.Change.{Change}
 use Rattle.ti_messages.specs.declared.messages.Call.{Call}
-use Rattle.ti_messages.specs.declared.messages.Call.TheVariants.{Initialize, Shutdown, Unknown}
+use Rattle.ti_messages.specs.declared.messages.Call.TheVariants as call
 use Rattle.ti_messages.specs.declared.messages.Notice.{Notice}
 use Rattle.ti_messages.specs.declared.messages.Notice.TheVariants.{Exited, Opened, Changed, Closed, Nothing}
 use Rattle.ti_messages.specs.declared.messages.Message.{Message}
@@ -15,9 +15,11 @@ abbrev pub edit_view : Change → Edit
 edit_view change = record { range = change.range; text = change.text.now }
 
 abbrev pub asked_view : Call → Asked
-asked_view Initialize = means.initialize
-asked_view Shutdown = means.shutdown
-asked_view Unknown = means.unknown
+asked_view call.Initialize = means.initialize
+asked_view call.Shutdown = means.shutdown
+asked_view (call.Asked uri question) = means.about uri.now question
+asked_view call.Faulty = means.unreadable
+asked_view call.Unknown = means.unknown
 
 abbrev pub told_view : Notice → Told
 told_view Exited = means.exited
@@ -27,7 +29,7 @@ told_view (Closed uri) = means.closed uri.now
 told_view Nothing = means.nothing
 
 abbrev pub message_view : Message → Meaning
-message_view (Request id call) = means.request (view id.now) (asked_view call)
+message_view (Request id asked) = means.request (view id.now) (asked_view asked)
 message_view (Notification notice) = means.notification (told_view notice)
 message_view Response = means.response
 message_view (Faulty id) = means.faulty (option_map (λ d. view d.now) id)

@@ -2,13 +2,18 @@
 //!
 //! - `places`: positions and ranges in a text
 //! - `failures`: why a request is refused
-//! - `writing`: the values that a server sends
-//! - `messages`: what a client asks for or tells; `reading` reads it from values
+//! - `writing`: the values that a server sends; `answers` has those that answer questions about a
+//!   document
+//! - `messages`: what a client asks for or tells; `reading` reads it from values, with `members`
+//!   and `asking`
 //! - `frames`: a value's text after a header, read and written
 #![tactic(auto)]
 
+pub mod answers;
+mod asking;
 pub mod failures;
 pub mod frames;
+mod members;
 pub mod messages;
 pub mod places;
 pub mod reading;
@@ -16,6 +21,6 @@ pub mod writing;
 
 pub use failures::Failure;
 pub use frames::{Frame, FrameFault, read_frame, write_frame};
-pub use messages::{Call, Change, Message, Notice};
+pub use messages::{Call, Change, Message, Notice, Question};
 pub use places::{Position, Range};
 pub use reading::{parse, read_message};

@@ -1,5 +1,5 @@
 //! What a client asks for or tells. The strings are those of the value that was read.
-use crate::places::Range;
+use crate::places::{Position, Range};
 use serde_json::Value;
 
 /// A new text of a part of a document ("TextDocumentContentChangeEvent").
@@ -11,13 +11,42 @@ pub struct Change<'a> {
     pub text: &'a str,
 }
 
+/// What is asked about a document.
+#[derive(Clone, Copy, Debug, PartialEq, Eq, Drop)]
+pub enum Question {
+    /// What may be written at a place ("Completion Request").
+    Completion(Position),
+    /// What is at a place ("Hover Request").
+    Hover(Position),
+    /// Where the name at a place is defined ("Goto Definition Request").
+    Definition(Position),
+    /// Where the name at a place is used ("Find References Request").
+    References {
+        /// The place.
+        place: Position,
+        /// Whether the definition is asked for too.
+        with_declaration: bool,
+    },
+    /// What the document defines ("Document Symbols Request").
+    Symbols,
+}
+
 /// What a request asks for.
 #[derive(Drop)]
-pub enum Call {
+pub enum Call<'a> {
     /// What the server can do.
     Initialize,
     /// That the server gets ready to end.
     Shutdown,
+    /// Something about a document.
+    Asked {
+        /// The document's URI.
+        uri: &'a str,
+        /// What is asked.
+        question: Question,
+    },
+    /// Something about a document, but the parameters are not those of the method.
+    Faulty,
     /// The server has no such method.
     Unknown,
 }
@@ -62,7 +91,7 @@ pub enum Message<'a> {
         /// The id of the request, a string or an integer.
         id: &'a Value,
         /// What the request asks for.
-        call: Call,
+        call: Call<'a>,
     },
     /// A notification.
     Notification(Notice<'a>),

@@ -4,60 +4,15 @@ ghost use Rattle.serde_json.specs.Find.{get};
 ghost use Rattle.serde_json.specs.Read.{read};
 ghost use Rattle.serde_json.specs.View.{items_view, view};
 ghost use Rattle.std.specs.Str.{IsUtf8};
-ghost use Rattle.ti_messages.specs.Messages.{asked_of, called_of, changed, changed_of, closed_of, edit_of, edits_of, id_in, is_id, message_of, number_at, opened_of, optional_range, position_of, range_of, response_or_fault, text_at, told_by, told_of};
+ghost use Rattle.ti_messages.specs.Messages.{asked_of, called_of, changed, changed_of, closed_of, edit_of, edits_of, id_in, is_id, message_of, opened_of, optional_range, response_or_fault, told_by, told_of};
 ghost use Rattle.ti_messages.specs.Views.{asked_view, edit_view, message_view, told_view};
 
+use crate::asking::{read_asked, topic_of};
+use crate::members::{number_at, read_range, text_at};
 use crate::messages::{Call, Change, Message, Notice};
-use crate::places::{Position, Range};
+use crate::places::Range;
 use serde_json::Value;
 use std::alloc::{AllocError, Global};
-
-// A member that is a string.
-fn text_at<'a>(value: &'a Value, key: &str) -> Option<&'a str>
-    ensures { option_map (λ text. text.now) result ≡ text_at key.now (view value.now) }
-{
-    value.get(key)?.as_str()
-}
-
-// A member that is a number below 2^31.
-fn number_at(value: &Value, key: &str) -> Option<u32>
-    ensures { result ≡ number_at key.now (view value.now) }
-{
-    let number = value.get(key)?.as_u64()?;
-    if number < 0x8000_0000 {
-        Some(number as u32)
-    } else {
-        None
-    }
-}
-
-// A position ("Position").
-fn read_position(value: &Value) -> Option<Position>
-    ensures { result ≡ position_of (view value.now) }
-{
-    let line = number_at(value, "line")?;
-    let column = number_at(value, "character")?;
-    Some(Position {
-        line: line as usize,
-        column: column as usize,
-    })
-}
-
-// A member that is a position.
-fn position_at(value: &Value, key: &str) -> Option<Position>
-    ensures { result ≡ option_and_then position_of (get key.now (view value.now)) }
-{
-    read_position(value.get(key)?)
-}
-
-// A range ("Range").
-fn read_range(value: &Value) -> Option<Range>
-    ensures { result ≡ range_of (view value.now) }
-{
-    let start = position_at(value, "start")?;
-    let end = position_at(value, "end")?;
-    Some(Range { start, end })
-}
 
 // The range of a change, which may be left out.
 fn optional_range(change: &Value) -> Option<Option<Range>>
@@ -181,15 +136,18 @@ fn read_notice<'a>(alloc: Global, method: &str, value: &'a Value) -> Result<Noti
 }
 
 // What a request asks for.
-fn read_call(method: &str) -> Call
-    ensures { asked_view result ≡ asked_of method.now }
+fn read_call<'a>(method: &str, value: &'a Value) -> Call<'a>
+    ensures { asked_view result ≡ asked_of method.now (view value.now) }
 {
     if method == "initialize" {
         Call::Initialize
     } else if method == "shutdown" {
         Call::Shutdown
     } else {
-        Call::Unknown
+        match topic_of(method) {
+            None => Call::Unknown,
+            Some(topic) => read_asked(topic, value),
+        }
     }
 }
 
@@ -230,7 +188,7 @@ fn read_called<'a>(alloc: Global, method: &str, value: &'a Value) -> Result<Mess
         None => Ok(Message::Faulty(None)),
         Some(id) => Ok(Message::Request {
             id,
-            call: read_call(method),
+            call: read_call(method, value),
         }),
     }
 }

@@ -81,3 +81,9 @@ close_none ds uri p = subst (λ (o : Option ℕ). IsClosed (without uri ds) (ope
 
 pub close_found : (ds : List Open) (uri : List ℕ) (at : ℕ) → Some at ≡ place_of uri ds → (d : Open) × (open_at uri ds ≡ Some d)
 close_found ds uri at p = subst (λ (o : Option ℕ). IsClosed (without uri ds) (open_at uri ds) ds o) (sym p) (closed_at_place uri ds)
+
+pub open_none : (ds : List Open) (uri : List ℕ) → None ≡ place_of uri ds → open_at uri ds ≡ None
+open_none ds uri p = (change_none (λ d. d) ds uri p).1
+
+pub open_found : (ds : List Open) (uri : List ℕ) (at : ℕ) → Some at ≡ place_of uri ds → (x : Open) → x ≡ get_or ds at x → open_at uri ds ≡ Some x
+open_found ds uri at p x e = (change_found (λ d. d) ds uri at p x e).1

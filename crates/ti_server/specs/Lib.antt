@@ -1,4 +1,5 @@
 -- The definitions that the contracts of this crate cite.
+pub mod Sayings
 pub mod Steps
 pub mod Answers
 pub mod Runs

@@ -3,11 +3,12 @@ use Rattle.std.specs.Prelude.{ℕ, ◌≡◌, ◌≤◌, List, [], ◌∷◌, �
 use Rattle.std.specs.Io.KnownBytes.{Appends, Consumes}
 use Rattle.std.specs.Option.{option_to_list}
 use Rattle.std.specs.Str.{IsUtf8}
-use Rattle.serde_json.specs.Data.{Data, Items}
+use Rattle.serde_json.specs.Data.{Data}
 use Rattle.serde_json.specs.Read.{read}
 use Rattle.serde_json.specs.Written.{compact_text}
 use Rattle.ti_messages.specs.Frames.{IsHeader, body_bytes_max, framed}
 use Rattle.ti_server.specs.Answers.{answer_data}
+use Rattle.ti_server.specs.Sayings.{Sayings}
 use Rattle.ti_server.specs.Runs.{last_shown}
 use Rattle.ti_server.specs.States.{status_of}
 use Rattle.ti_server.specs.Steps.{Answer, Places, State, at_start, open_at, replied}
@@ -53,16 +54,16 @@ EndsBy places state (value ∷ values) status = (status_of state ≡ None) × En
 -- ---- what is written
 
 -- each answer is written as the frame of its text
-abbrev pub answers_text : (List ℕ → Items) → List Answer → List ℕ
-answers_text diagnostics answers = flat_map (λ answer. framed (compact_text (answer_data diagnostics answer))) answers
+abbrev pub answers_text : Sayings → List Answer → List ℕ
+answers_text says answers = flat_map (λ answer. framed (compact_text (answer_data says answer))) answers
 
 -- frames were read until one ended the server, and the frames of the answers to them were written
-pub record Serves (places : Places) (diagnostics : List ℕ → Items) (given left before after : Option (List ℕ)) (start end : State) (status : ℕ) : Type 0 where
+pub record Serves (places : Places) (says : Sayings) (given left before after : Option (List ℕ)) (start end : State) (status : ℕ) : Type 0 where
   pub values : List (Option Data)
   pub bytes : List ℕ
   pub frames : AreFrames bytes values
   pub read : Consumes given left bytes
-  pub written : Appends before after (answers_text diagnostics (replies_to places start values))
+  pub written : Appends before after (answers_text says (replies_to places start values))
   pub end_is : end ≡ served_state places start values
   pub ended : EndsBy places start values status
 

@@ -1,10 +1,10 @@
 -- The state that a server is in.
 use Rattle.std.specs.Prelude.{ℕ, ◌≡◌, List, Option, None, Some, map, option_map}
 use Rattle.std.specs.String.{string_bytes}
-use Rattle.serde_json.specs.Data.{Items}
 use Rattle.serde_json.specs.View.{view}
 use Rattle.serde_json.specs.declared.value.Value.{Value}
 use Rattle.ti_server.specs.Answers.{answer_data}
+use Rattle.ti_server.specs.Sayings.{Sayings}
 use Rattle.ti_server.specs.Steps.{Answer, Open, State}
 use Rattle.ti_server.specs.declared.documents.Opened.{Opened}
 use Rattle.ti_server.specs.declared.phase.Phase.{Phase}
@@ -32,6 +32,6 @@ abbrev pub status_of : State → Option ℕ
 status_of state = phase_status state.phase
 
 -- the state and the value are those that were wanted
-abbrev pub Answers : {D : Type 0} → (D → List ℕ) → (List ℕ → Items) → Server D → Option Value → State × Option Answer → Type 0
-Answers text_of diagnostics server value wanted =
-    (state_of text_of server ≡ wanted.0) × (option_map view value ≡ option_map (answer_data diagnostics) wanted.1)
+abbrev pub Answers : {D : Type 0} → (D → List ℕ) → Sayings → Server D → Option Value → State × Option Answer → Type 0
+Answers text_of says server value wanted =
+    (state_of text_of server ≡ wanted.0) × (option_map view value ≡ option_map (answer_data says) wanted.1)

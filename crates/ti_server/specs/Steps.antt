@@ -4,9 +4,10 @@ use Rattle.std.specs.Prelude.{ℕ, ◌++◌, List, [], ◌∷◌, not, Option, N
 use Rattle.std.specs.List.{filter}
 use Rattle.std.specs.Str.{bytes_eq}
 use Rattle.serde_json.specs.Data.{Data}
-use Rattle.ti_messages.specs.Messages.{Asked, initialize, shutdown, unknown, Edit, Meaning, message_of, request, notification, response, faulty, Told, exited, opened, changed, closed, nothing}
+use Rattle.ti_messages.specs.Messages.{Asked, initialize, shutdown, about, unreadable, unknown, Edit, Meaning, message_of, request, notification, response, faulty, Told, exited, opened, changed, closed, nothing}
 use Rattle.ti_messages.specs.declared.failures.Failure.{Failure}
-use Rattle.ti_messages.specs.declared.failures.Failure.TheVariants.{NoJson, NoMethod, NoRequest, NotInitialized}
+use Rattle.ti_messages.specs.declared.failures.Failure.TheVariants.{BadParameters, NoJson, NoMethod, NoRequest, NotInitialized}
+use Rattle.ti_messages.specs.declared.messages.Question.{Question}
 use Rattle.ti_messages.specs.declared.places.Position.{Position}
 use Rattle.ti_messages.specs.declared.places.Range.{Range}
 use Rattle.ti_server.specs.declared.phase.Phase.{Phase}
@@ -22,36 +23,51 @@ pub record State : Type 0 where
   pub phase : Phase
   pub documents : List Open
 
--- what is sent: that the server is ready, or will end, or why a request is refused; the diagnostics
--- of a document, or none of one that was closed
+-- what is sent: that the server is ready, or will end, or why a request is refused; the answer to a
+-- question about a document; the diagnostics of a document, or none of one that was closed
 pub data Answer : Type 0 where
   ready : Data → Answer
   done : Data → Answer
   refused : Option Data → Failure → Answer
+  answered : Data → Open → Question → Answer
   shown : Open → Answer
   cleared : List ℕ → Answer
 
 abbrev pub at_start : State
 at_start = record { phase = Fresh; documents = [] }
 
+-- the document of that URI
+abbrev pub open_at : List ℕ → List Open → Option Open
+open_at uri [] = None
+open_at uri (document ∷ documents) = if bytes_eq document.uri uri then Some document else open_at uri documents
+
 -- ---- requests
 
 abbrev pub requested_fresh : Data → Asked → Phase × Answer
 requested_fresh id initialize = (Running, ready id)
 requested_fresh id shutdown = (Fresh, refused (Some id) NotInitialized)
+requested_fresh id (about uri question) = (Fresh, refused (Some id) NotInitialized)
+requested_fresh id unreadable = (Fresh, refused (Some id) NotInitialized)
 requested_fresh id unknown = (Fresh, refused (Some id) NotInitialized)
 
-abbrev pub requested_running : Data → Asked → Phase × Answer
-requested_running id initialize = (Running, refused (Some id) NoRequest)
-requested_running id shutdown = (Finished, done id)
-requested_running id unknown = (Running, refused (Some id) NoMethod)
+-- a question about a document is answered if it is open
+abbrev pub answered_of : Data → Question → Option Open → Answer
+answered_of id question None = refused (Some id) BadParameters
+answered_of id question (Some document) = answered id document question
+
+abbrev pub requested_running : List Open → Data → Asked → Phase × Answer
+requested_running documents id initialize = (Running, refused (Some id) NoRequest)
+requested_running documents id shutdown = (Finished, done id)
+requested_running documents id (about uri question) = (Running, answered_of id question (open_at uri documents))
+requested_running documents id unreadable = (Running, refused (Some id) BadParameters)
+requested_running documents id unknown = (Running, refused (Some id) NoMethod)
 
 -- what becomes of the phase, and the answer
-abbrev pub requested : Phase → Data → Asked → Phase × Answer
-requested Fresh id asked = requested_fresh id asked
-requested Running id asked = requested_running id asked
-requested Finished id asked = (Finished, refused (Some id) NoRequest)
-requested (Ended status) id asked = (Ended status, refused (Some id) NoRequest)
+abbrev pub requested : List Open → Phase → Data → Asked → Phase × Answer
+requested documents Fresh id asked = requested_fresh id asked
+requested documents Running id asked = requested_running documents id asked
+requested documents Finished id asked = (Finished, refused (Some id) NoRequest)
+requested documents (Ended status) id asked = (Ended status, refused (Some id) NoRequest)
 
 -- ---- the text of a document
 
@@ -74,11 +90,6 @@ edited places text [] = text
 edited places text (edit ∷ edits) = edited places (with_range places text edit.range edit.text) edits
 
 -- ---- the documents
-
--- the document of that URI
-abbrev pub open_at : List ℕ → List Open → Option Open
-open_at uri [] = None
-open_at uri (document ∷ documents) = if bytes_eq document.uri uri then Some document else open_at uri documents
 
 -- the documents, the one of that URI changed
 abbrev pub with_change : List ℕ → (Open → Open) → List Open → List Open
@@ -146,8 +157,10 @@ told_in places (Ended status) notice documents = (documents, None)
 
 -- the state after a message, and what is sent
 abbrev pub step : Places → State → Meaning → State × Option Answer
-step places state (request id asked) =
-    (record { phase = (requested state.phase id asked).0; documents = state.documents }, Some ((requested state.phase id asked).1))
+step places state (request id asked) = (
+  record { phase = (requested state.documents state.phase id asked).0; documents = state.documents },
+  Some ((requested state.documents state.phase id asked).1),
+)
 step places state (notification notice) = (
   record { phase = phase_told state.phase notice; documents = (told_in places state.phase notice state.documents).0 },
   (told_in places state.phase notice state.documents).1,

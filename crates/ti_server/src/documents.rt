@@ -1,19 +1,19 @@
 //! The documents that are open.
-ghost use Rattle.std.specs.Prelude.{◌≡◌, ◌<◌, IfOk, IfSome, OnOk, Some, length, map};
+ghost use Rattle.std.specs.Prelude.{◌≡◌, ◌<◌, IfOk, IfSome, OnOk, Some, length, map, option_map};
 ghost use Rattle.serde_json.specs.View.{view};
 ghost use Rattle.ti_messages.specs.Shapes.{publish_data};
 ghost use Rattle.ti_messages.specs.Views.{edit_view};
 ghost use Rattle.ti_server.specs.Answers.{answer_data};
 ghost use Rattle.ti_server.specs.States.{documents_view, open_view};
-ghost use Rattle.ti_server.specs.Steps.{changed_at, closed_at, shown, with_document, with_edits, without};
+ghost use Rattle.ti_server.specs.Steps.{changed_at, closed_at, open_at, shown, with_document, with_edits, without};
 ghost use Rattle.ti_server.specs.inside.Views.{Tells, place_of};
 
 use crate::editing::edited;
 use crate::source::Source;
 use serde_json::Value;
 use std::alloc::{AllocError, Global};
-use ti_messages::Change;
 use ti_messages::writing::publish_value;
+use ti_messages::{Change, Question};
 
 /// An open document.
 #[derive(Drop)]
@@ -55,7 +55,7 @@ fn put<D: Source + Drop>(documents: &mut Vec<Opened<D>>, new: Opened<D>) -> Resu
 
 // What is published of a text.
 fn show<D: Source>(alloc: Global, uri: &str, version: u32, source: &D) -> Result<Value, AllocError>
-    ensures { IfOk result (λ v. view v ≡ publish_data uri.now (Some version) (D.diagnostics_of (D.text_of source.now))) }
+    ensures { IfOk result (λ v. view v ≡ publish_data uri.now (Some version) (D.says.diagnostics (D.text_of source.now))) }
 {
     let diagnostics = source.diagnostics(alloc)?;
     publish_value(alloc, uri, Some(version), diagnostics)
@@ -74,7 +74,7 @@ pub fn open<D: Source + Drop>(
 ) -> Result<Value, AllocError>
     ensures documents { OnOk result (documents_view D.text_of documents.new.items
         ≡ with_document (record { uri = uri.now; version = version; text = text.now }) (documents_view D.text_of documents.old.items)) }
-    ensures shown { IfOk result (λ v. view v ≡ answer_data D.diagnostics_of (shown (record { uri = uri.now; version = version; text = text.now }))) }
+    ensures shown { IfOk result (λ v. view v ≡ answer_data D.says (shown (record { uri = uri.now; version = version; text = text.now }))) }
 {
     let source = D::open(alloc, Vec::from_slice(alloc, text.as_bytes())?)?;
     let shown = show(alloc, uri, version, &source)?;
@@ -99,7 +99,7 @@ fn change_one<D: Source>(
 ) -> Result<Value, AllocError>
     ensures document { OnOk result (open_view D.text_of document.new
         ≡ with_edits D.place_in version (map edit_view changes.now) (open_view D.text_of document.old)) }
-    ensures shown { IfOk result (λ v. view v ≡ answer_data D.diagnostics_of
+    ensures shown { IfOk result (λ v. view v ≡ answer_data D.says
         (shown (with_edits D.place_in version (map edit_view changes.now) (open_view D.text_of document.old)))) }
 {
     let text = edited::<D>(alloc, document.source.text(), changes)?;
@@ -120,7 +120,7 @@ pub fn change<D: Source>(
     version: u32,
     changes: &[Change<'_>],
 ) -> Result<Option<Value>, AllocError>
-    ensures { IfOk result (λ answer. Tells D.text_of D.diagnostics_of documents.new.items answer
+    ensures { IfOk result (λ answer. Tells D.text_of D.says documents.new.items answer
         (changed_at D.place_in uri.now version (map edit_view changes.now) (documents_view D.text_of documents.old.items))) }
 {
     match find(documents, uri) {
@@ -149,7 +149,7 @@ pub fn close<D: Source + Drop>(
     documents: &mut Vec<Opened<D>>,
     uri: &str,
 ) -> Result<Option<Value>, AllocError>
-    ensures { IfOk result (λ answer. Tells D.text_of D.diagnostics_of documents.new.items answer
+    ensures { IfOk result (λ answer. Tells D.text_of D.says documents.new.items answer
         (closed_at uri.now (documents_view D.text_of documents.old.items))) }
 {
     match find(documents, uri) {
@@ -157,6 +157,31 @@ pub fn close<D: Source + Drop>(
         Some(_) => {
             remove(documents, uri);
             Ok(Some(publish_value(alloc, uri, None, Vec::new(alloc))?))
+        }
+    }
+}
+
+/// The answer to a question about a document, or `None` if it is not open.
+///
+/// # Errors
+/// Out of memory.
+pub fn ask<D: Source>(
+    alloc: Global,
+    documents: &[Opened<D>],
+    uri: &str,
+    question: Question,
+) -> Result<Option<Value>, AllocError>
+    ensures { IfOk result (λ answer. option_map view answer ≡ option_map
+        (λ document. D.says.answers document.text document.uri question) (open_at uri.now (documents_view D.text_of documents.now))) }
+{
+    match find(documents, uri) {
+        None => Ok(None),
+        Some(at) => {
+            let document = &documents[at];
+            let answer = document
+                .source
+                .answer(alloc, document.uri.as_str(), question)?;
+            Ok(Some(answer))
         }
     }
 }

@@ -1,32 +1,35 @@
 //! Requests, answered by how far the server has come.
-ghost use Rattle.std.specs.Prelude.{◌≡◌, ℕ, IfOk, List};
-ghost use Rattle.serde_json.specs.Data.{Items};
+ghost use Rattle.std.specs.Prelude.{◌≡◌, IfOk};
 ghost use Rattle.serde_json.specs.View.{view};
 ghost use Rattle.ti_messages.specs.Views.{asked_view};
 ghost use Rattle.ti_server.specs.Answers.{answer_data};
+ghost use Rattle.ti_server.specs.Sayings.{Sayings};
+ghost use Rattle.ti_server.specs.States.{documents_view};
+ghost use Rattle.ti_server.specs.Steps.{answered_of, open_at, ready, requested, requested_fresh, requested_running};
 ghost use Rattle.ti_server.specs.inside.Views.{IsAnswer};
-ghost use Rattle.ti_server.specs.Steps.{ready, requested, requested_fresh, requested_running};
 
+use crate::documents::{self, Opened};
 use crate::phase::Phase;
+use crate::source::Source;
 use serde_json::Value;
 use std::alloc::{AllocError, Global};
 use ti_messages::writing::{initialized_value, refusal_value, response_value};
-use ti_messages::{Call, Failure};
+use ti_messages::{Call, Failure, Question};
 
 /// The version of the server.
 pub const VERSION: &str = "1.0.0";
 
 // That the server is ready.
 fn ready_value(alloc: Global, id: &Value) -> Result<Value, AllocError>
-    ensures { IfOk result (λ v. (diagnostics : List ℕ → Items) → view v ≡ answer_data diagnostics (ready (view id.now))) }
+    ensures { IfOk result (λ v. (says : Sayings) → view v ≡ answer_data says (ready (view id.now))) }
 {
     let answer = initialized_value(alloc, VERSION)?;
     response_value(alloc, id, answer)
 }
 
 // What becomes of the phase, and the answer, before `initialize`.
-fn answer_fresh(alloc: Global, id: &Value, call: &Call) -> Result<(Phase, Value), AllocError>
-    ensures { IfOk result (λ r. IsAnswer r (requested_fresh (view id.now) (asked_view call.now))) }
+fn answer_fresh(alloc: Global, id: &Value, call: &Call<'_>) -> Result<(Phase, Value), AllocError>
+    ensures { IfOk result (λ r. (says : Sayings) → IsAnswer says r (requested_fresh (view id.now) (asked_view call.now))) }
 {
     match call {
         Call::Initialize => Ok((Phase::Running, ready_value(alloc, id)?)),
@@ -37,9 +40,32 @@ fn answer_fresh(alloc: Global, id: &Value, call: &Call) -> Result<(Phase, Value)
     }
 }
 
+// The answer to a question about a document.
+fn answer_about<D: Source>(
+    alloc: Global,
+    documents: &[Opened<D>],
+    id: &Value,
+    uri: &str,
+    question: Question,
+) -> Result<Value, AllocError>
+    ensures { IfOk result (λ v. view v ≡ answer_data D.says
+        (answered_of (view id.now) question (open_at uri.now (documents_view D.text_of documents.now)))) }
+{
+    match documents::ask(alloc, documents, uri, question)? {
+        None => refusal_value(alloc, Some(id), Failure::BadParameters),
+        Some(answer) => response_value(alloc, id, answer),
+    }
+}
+
 // What becomes of the phase, and the answer, between `initialize` and `shutdown`.
-fn answer_running(alloc: Global, id: &Value, call: &Call) -> Result<(Phase, Value), AllocError>
-    ensures { IfOk result (λ r. IsAnswer r (requested_running (view id.now) (asked_view call.now))) }
+fn answer_running<D: Source>(
+    alloc: Global,
+    documents: &[Opened<D>],
+    id: &Value,
+    call: &Call<'_>,
+) -> Result<(Phase, Value), AllocError>
+    ensures { IfOk result (λ r. IsAnswer D.says r
+        (requested_running (documents_view D.text_of documents.now) (view id.now) (asked_view call.now))) }
 {
     match call {
         Call::Initialize => Ok((
@@ -47,6 +73,14 @@ fn answer_running(alloc: Global, id: &Value, call: &Call) -> Result<(Phase, Valu
             refusal_value(alloc, Some(id), Failure::NoRequest)?,
         )),
         Call::Shutdown => Ok((Phase::Finished, response_value(alloc, id, Value::Null)?)),
+        Call::Asked { uri, question } => Ok((
+            Phase::Running,
+            answer_about(alloc, documents, id, uri, *question)?,
+        )),
+        Call::Faulty => Ok((
+            Phase::Running,
+            refusal_value(alloc, Some(id), Failure::BadParameters)?,
+        )),
         Call::Unknown => Ok((
             Phase::Running,
             refusal_value(alloc, Some(id), Failure::NoMethod)?,
@@ -58,17 +92,19 @@ fn answer_running(alloc: Global, id: &Value, call: &Call) -> Result<(Phase, Valu
 ///
 /// # Errors
 /// Out of memory.
-pub fn answer(
+pub fn answer<D: Source>(
     alloc: Global,
+    documents: &[Opened<D>],
     phase: Phase,
     id: &Value,
-    call: &Call,
+    call: &Call<'_>,
 ) -> Result<(Phase, Value), AllocError>
-    ensures { IfOk result (λ r. IsAnswer r (requested phase (view id.now) (asked_view call.now))) }
+    ensures { IfOk result (λ r. IsAnswer D.says r
+        (requested (documents_view D.text_of documents.now) phase (view id.now) (asked_view call.now))) }
 {
     match phase {
         Phase::Fresh => answer_fresh(alloc, id, call),
-        Phase::Running => answer_running(alloc, id, call),
+        Phase::Running => answer_running(alloc, documents, id, call),
         Phase::Finished | Phase::Ended(_) => {
             Ok((phase, refusal_value(alloc, Some(id), Failure::NoRequest)?))
         }

@@ -51,7 +51,7 @@ fn tell<D: Source + Drop>(
     documents: &mut Vec<Opened<D>>,
     notice: &Notice<'_>,
 ) -> Result<Option<Value>, AllocError>
-    ensures { IfOk result (λ answer. Tells D.text_of D.diagnostics_of documents.new.items answer
+    ensures { IfOk result (λ answer. Tells D.text_of D.says documents.new.items answer
         (told D.place_in (told_view notice.now) (documents_view D.text_of documents.old.items))) }
 {
     match notice {
@@ -76,7 +76,7 @@ fn tell_in<D: Source + Drop>(
     documents: &mut Vec<Opened<D>>,
     notice: &Notice<'_>,
 ) -> Result<Option<Value>, AllocError>
-    ensures { IfOk result (λ answer. Tells D.text_of D.diagnostics_of documents.new.items answer
+    ensures { IfOk result (λ answer. Tells D.text_of D.says documents.new.items answer
         (told_in D.place_in phase (told_view notice.now) (documents_view D.text_of documents.old.items))) }
 {
     match phase {
@@ -112,12 +112,18 @@ impl<D: Source + Drop> Server<D> {
     /// # Errors
     /// Out of memory. Nothing is known of the server after that.
     pub fn answer(&mut self, message: &Message<'_>) -> Result<Option<Value>, AllocError>
-        ensures { IfOk result (λ answer. Answers D.text_of D.diagnostics_of self.new answer
+        ensures { IfOk result (λ answer. Answers D.text_of D.says self.new answer
             (step D.place_in (state_of D.text_of self.old) (message_view message.now))) }
     {
         match message {
             Message::Request { id, call } => {
-                let (phase, answer) = requests::answer(self.alloc, self.phase, id, call)?;
+                let (phase, answer) = requests::answer(
+                    self.alloc,
+                    &self.documents,
+                    self.phase,
+                    id,
+                    call,
+                )?;
                 self.phase = phase;
                 Ok(Some(answer))
             }
@@ -137,7 +143,7 @@ impl<D: Source + Drop> Server<D> {
     /// # Errors
     /// Out of memory. Nothing is known of the server after that.
     pub fn reply(&mut self, value: Option<&Value>) -> Result<Option<Value>, AllocError>
-        ensures { IfOk result (λ answer. Answers D.text_of D.diagnostics_of self.new answer
+        ensures { IfOk result (λ answer. Answers D.text_of D.says self.new answer
             (replied D.place_in (state_of D.text_of self.old) (option_map (λ d. view d.now) value.entry))) }
     {
         match value {

@@ -48,7 +48,7 @@ fn serve_frame<D: Source + Drop, R: Read, W: Write>(
     reader: &mut R,
     writer: &mut W,
 ) -> Result<(), FrameFault>
-    ensures { OnOk result (Turn D.place_in D.diagnostics_of (R.remaining reader.old) (R.remaining reader.new)
+    ensures { OnOk result (Turn D.place_in D.says (R.remaining reader.old) (R.remaining reader.new)
         (W.contents writer.old) (W.contents writer.new) (state_of D.text_of server.old) (state_of D.text_of server.new)) }
 {
     let frame = read_frame(alloc, reader)?;
@@ -69,7 +69,7 @@ pub fn serve<D: Source + Drop, R: Read, W: Write>(
     reader: &mut R,
     writer: &mut W,
 ) -> Result<u8, FrameFault>
-    ensures { IfOk result (Serves D.place_in D.diagnostics_of (R.remaining reader.old) (R.remaining reader.new)
+    ensures { IfOk result (Serves D.place_in D.says (R.remaining reader.old) (R.remaining reader.new)
         (W.contents writer.old) (W.contents writer.new) (state_of D.text_of server.old) (state_of D.text_of server.new)) }
 {
     for _ in 0..u64::MAX {

@@ -1,15 +1,14 @@
 //! What a text has to offer that is open in an editor.
 use serde_json::Value;
 use std::alloc::{AllocError, Global};
-use ti_messages::Position;
+use ti_messages::{Position, Question};
 
-/// A text with what is wrong with it.
+/// A text with what is wrong with it, and with answers to questions about it.
 pub trait Source {
-    ghost use Rattle.std.specs.Prelude.{◌≡◌, ◌≤◌, ℕ, List, IfOk, OnOk, false, length};
-    ghost use Rattle.serde_json.specs.Data.{Items};
-    ghost use Rattle.serde_json.specs.View.{items_view};
-    ghost use Rattle.serde_json.specs.Written.{items_have_float};
+    ghost use Rattle.std.specs.Prelude.{◌≡◌, ◌≤◌, ℕ, List, IfOk, OnOk, length};
+    ghost use Rattle.serde_json.specs.View.{items_view, view};
     ghost use Rattle.ti_messages.specs.declared.places.Position.{Position};
+    ghost use Rattle.ti_server.specs.Sayings.{HasNoFloats, Sayings};
 
     // The text.
     ghost text_of: { Self → List ℕ };
@@ -17,8 +16,8 @@ pub trait Source {
     // Where a place is in a text.
     ghost place_in: { List ℕ → Position → ℕ };
 
-    // The diagnostics of a text.
-    ghost diagnostics_of: { List ℕ → Items };
+    // What is said of a text.
+    ghost says: { Sayings };
 
     /// Holds a text.
     ///
@@ -50,8 +49,15 @@ pub trait Source {
     /// # Errors
     /// Out of memory.
     fn diagnostics(&self, alloc: Global) -> Result<Vec<Value>, AllocError>
-        ensures { IfOk result (λ values. items_view values.items ≡ diagnostics_of (text_of self.now)) };
+        ensures { IfOk result (λ values. items_view values.items ≡ says.diagnostics (text_of self.now)) };
 
-    // A law: no diagnostic has a float, whose text would not be known.
-    ghost no_floats: { (text : List ℕ) → items_have_float (diagnostics_of text) ≡ false };
+    /// The answer to a question about it, which may have its URI in it, as a value of the protocol.
+    ///
+    /// # Errors
+    /// Out of memory.
+    fn answer(&self, alloc: Global, uri: &str, question: Question) -> Result<Value, AllocError>
+        ensures { IfOk result (λ v. view v ≡ says.answers (text_of self.now) uri.now question) };
+
+    // A law: nothing that is said has a float, whose text would not be known.
+    ghost no_floats: { HasNoFloats says };
 }

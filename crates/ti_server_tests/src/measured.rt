@@ -1,7 +1,11 @@
-//! A source for tests: its one diagnostic is the length of its text, and lines do not count.
+//! A source for tests: its one diagnostic is the length of its text, and lines do not count. The
+//! answer to a question about it has the URI, the text, and what was asked.
+ghost use Rattle.std.specs.Prelude.{◌≡◌};
+ghost use Rattle.ti_server_tests.specs.Measured.{flag_of, place_of, word_of};
+
 use serde_json::{Value, json};
 use std::alloc::{AllocError, Global};
-use ti_messages::Position;
+use ti_messages::{Position, Question};
 use ti_server::Source;
 
 /// A text.
@@ -10,17 +14,36 @@ pub struct Measured {
     pub text: Vec<u8>,
 }
 
+// What is asked, as a word, its place, and whether the definition is asked for too.
+fn parts_of(question: Question) -> (&'static str, Position, bool)
+    ensures word { result.0.now ≡ word_of question }
+    ensures place { result.1 ≡ place_of question }
+    ensures flag { result.2 ≡ flag_of question }
+{
+    let start = Position { line: 0, column: 0 };
+    match question {
+        Question::Completion(place) => ("completion", place, false),
+        Question::Hover(place) => ("hover", place, false),
+        Question::Definition(place) => ("definition", place, false),
+        Question::References {
+            place,
+            with_declaration,
+        } => ("references", place, with_declaration),
+        Question::Symbols => ("symbols", start, false),
+    }
+}
+
 impl Source for Measured {
-    ghost use Rattle.std.specs.Prelude.{ℕ, List, length, min, refl};
-    ghost use Rattle.serde_json.specs.Data.{item, no_items, number, unsigned};
+    ghost use Rattle.std.specs.Prelude.{ℕ, List, length, min};
+    ghost use Rattle.ti_server_tests.specs.Measured.{sayings, sayings_have_no_floats};
 
     ghost text_of = { λ source. source.text.items };
 
     ghost place_in = { λ text place. min place.column (length text) };
 
-    ghost diagnostics_of = { λ text. item (number (unsigned (length text))) no_items };
+    ghost says = { sayings };
 
-    ghost no_floats = { λ text. refl };
+    ghost no_floats = { sayings_have_no_floats };
 
     fn open(_alloc: Global, text: Vec<u8>) -> Result<Measured, AllocError> {
         Ok(Measured { text })
@@ -44,5 +67,11 @@ impl Source for Measured {
         let len = self.text.len();
         values.push(json!(in alloc; len)?)?;
         Ok(values)
+    }
+
+    fn answer(&self, alloc: Global, uri: &str, question: Question) -> Result<Value, AllocError> {
+        let (word, place, flag) = parts_of(question);
+        let len = self.text.len();
+        json!(in alloc; [uri, len, word, place.line, place.column, flag])
     }
 }

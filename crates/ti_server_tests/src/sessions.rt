@@ -40,6 +40,14 @@ const CLOSE: &str =
 const CLOSED: &str =
     r#"{"jsonrpc":"2.0","method":"textDocument/publishDiagnostics","params":{"diagnostics":[],"uri":"u"}}"#;
 
+const HOVER: &str =
+    r#"{"jsonrpc":"2.0","id":3,"method":"textDocument/hover","params":{"textDocument":{"uri":"u"},"position":{"line":4,"character":5}}}"#;
+
+const HOVERED: &str = r#"{"id":3,"jsonrpc":"2.0","result":["u",3,"hover",4,5,false]}"#;
+
+const NOT_ANSWERED: &str =
+    r#"{"error":{"code":-32602,"message":"the parameters are not those of the method"},"id":3,"jsonrpc":"2.0"}"#;
+
 const NO_JSON: &str =
     r#"{"error":{"code":-32700,"message":"the body is no JSON or is too long"},"id":null,"jsonrpc":"2.0"}"#;
 
@@ -130,6 +138,7 @@ const LIVES: [Session; 7] = [
         sent: &[
             r#"{"jsonrpc":"2.0","id":"a","method":"shutdown"}"#,
             r#"{"jsonrpc":"2.0","id":-7,"method":"textDocument/hover"}"#,
+            r#"{"jsonrpc":"2.0","id":-8,"method":"textDocument/documentSymbol","params":{"textDocument":{"uri":"u"}}}"#,
             OPEN,
             INITIALIZE,
             CLOSE,
@@ -138,6 +147,7 @@ const LIVES: [Session; 7] = [
         answers: &[
             r#"{"error":{"code":-32002,"message":"the server is not initialized"},"id":"a","jsonrpc":"2.0"}"#,
             r#"{"error":{"code":-32002,"message":"the server is not initialized"},"id":-7,"jsonrpc":"2.0"}"#,
+            r#"{"error":{"code":-32002,"message":"the server is not initialized"},"id":-8,"jsonrpc":"2.0"}"#,
             READY,
         ],
         end: Ok(1),
@@ -153,12 +163,16 @@ const LIVES: [Session; 7] = [
     },
     Session {
         name: "after shutdown",
-        sent: &[INITIALIZE, SHUTDOWN, OPEN, INITIALIZE, SHUTDOWN, EXIT],
+        sent: &[
+            INITIALIZE, OPEN, SHUTDOWN, OPEN, INITIALIZE, SHUTDOWN, HOVER, EXIT,
+        ],
         answers: &[
             READY,
+            OPENED,
             DONE,
             r#"{"error":{"code":-32600,"message":"no request is expected here"},"id":1,"jsonrpc":"2.0"}"#,
             r#"{"error":{"code":-32600,"message":"no request is expected here"},"id":2,"jsonrpc":"2.0"}"#,
+            r#"{"error":{"code":-32600,"message":"no request is expected here"},"id":3,"jsonrpc":"2.0"}"#,
         ],
         end: Ok(0),
     },
@@ -174,7 +188,7 @@ const REQUESTS: [Session; 4] = [
         name: "unknown methods",
         sent: &[
             INITIALIZE,
-            r#"{"jsonrpc":"2.0","id":3,"method":"textDocument/hover","params":{}}"#,
+            r#"{"jsonrpc":"2.0","id":3,"method":"textDocument/declaration","params":{}}"#,
             r#"{"jsonrpc":"2.0","id":4,"method":"$/anything"}"#,
             r#"{"jsonrpc":"2.0","id":5,"method":"textDocument/didOpen"}"#,
             r#"{"jsonrpc":"2.0","method":"$/cancelRequest","params":{"id":4}}"#,
@@ -247,6 +261,94 @@ const REQUESTS: [Session; 4] = [
 #[test]
 fn requests_that_are_refused(rt: HostRuntime) -> Result<(), Fail> {
     expect_all(&rt, rt.alloc(), &REQUESTS)
+}
+
+const QUESTIONS: [Session; 3] = [
+    Session {
+        name: "questions about two documents",
+        sent: &[
+            INITIALIZE,
+            OPEN,
+            r#"{"method":"textDocument/didOpen","params":{"textDocument":{"uri":"v","version":4,"text":"ab"}}}"#,
+            HOVER,
+            r#"{"id":"a","method":"textDocument/completion","params":{"context":{"triggerKind":1},"position":{"character":2,"line":1},"textDocument":{"uri":"v"}}}"#,
+            r#"{"id":-1,"method":"textDocument/definition","params":{"position":{"character":0,"line":2147483647},"textDocument":{"uri":"u"}}}"#,
+            r#"{"id":0,"method":"textDocument/references","params":{"context":{"includeDeclaration":true},"position":{"character":8,"line":9},"textDocument":{"uri":"v"}}}"#,
+            r#"{"id":1,"method":"textDocument/references","params":{"context":{"includeDeclaration":false},"position":{"character":8,"line":9},"textDocument":{"uri":"u"}}}"#,
+            r#"{"id":2,"method":"textDocument/documentSymbol","params":{"textDocument":{"uri":"v"}}}"#,
+        ],
+        answers: &[
+            READY,
+            OPENED,
+            r#"{"jsonrpc":"2.0","method":"textDocument/publishDiagnostics","params":{"diagnostics":[2],"uri":"v","version":4}}"#,
+            HOVERED,
+            r#"{"id":"a","jsonrpc":"2.0","result":["v",2,"completion",1,2,false]}"#,
+            r#"{"id":-1,"jsonrpc":"2.0","result":["u",3,"definition",2147483647,0,false]}"#,
+            r#"{"id":0,"jsonrpc":"2.0","result":["v",2,"references",9,8,true]}"#,
+            r#"{"id":1,"jsonrpc":"2.0","result":["u",3,"references",9,8,false]}"#,
+            r#"{"id":2,"jsonrpc":"2.0","result":["v",2,"symbols",0,0,false]}"#,
+        ],
+        end: Err(FrameFault::Broken),
+    },
+    Session {
+        name: "a question after a change, and after the document was closed",
+        sent: &[
+            INITIALIZE,
+            HOVER,
+            OPEN,
+            r#"{"method":"textDocument/didChange","params":{"textDocument":{"uri":"u","version":2},"contentChanges":[{"text":"12345"}]}}"#,
+            HOVER,
+            CLOSE,
+            HOVER,
+        ],
+        answers: &[
+            READY,
+            NOT_ANSWERED,
+            OPENED,
+            r#"{"jsonrpc":"2.0","method":"textDocument/publishDiagnostics","params":{"diagnostics":[5],"uri":"u","version":2}}"#,
+            r#"{"id":3,"jsonrpc":"2.0","result":["u",5,"hover",4,5,false]}"#,
+            CLOSED,
+            NOT_ANSWERED,
+        ],
+        end: Err(FrameFault::Broken),
+    },
+    Session {
+        name: "parameters that are not those of the method",
+        sent: &[
+            INITIALIZE,
+            OPEN,
+            r#"{"id":3,"method":"textDocument/hover"}"#,
+            r#"{"id":3,"method":"textDocument/hover","params":[]}"#,
+            r#"{"id":3,"method":"textDocument/hover","params":{"textDocument":{"uri":"u"}}}"#,
+            r#"{"id":3,"method":"textDocument/completion","params":{"position":{"line":0,"character":0}}}"#,
+            r#"{"id":3,"method":"textDocument/completion","params":{"textDocument":{"uri":7},"position":{"line":0,"character":0}}}"#,
+            r#"{"id":3,"method":"textDocument/definition","params":{"textDocument":{"uri":"u"},"position":{"line":-1,"character":0}}}"#,
+            r#"{"id":3,"method":"textDocument/definition","params":{"textDocument":{"uri":"u"},"position":{"line":0,"character":2147483648}}}"#,
+            r#"{"id":3,"method":"textDocument/references","params":{"textDocument":{"uri":"u"},"position":{"line":0,"character":0}}}"#,
+            r#"{"id":3,"method":"textDocument/references","params":{"textDocument":{"uri":"u"},"position":{"line":0,"character":0},"context":{"includeDeclaration":1}}}"#,
+            r#"{"id":3,"method":"textDocument/documentSymbol","params":{"textDocument":"u"}}"#,
+        ],
+        answers: &[
+            READY,
+            OPENED,
+            NOT_ANSWERED,
+            NOT_ANSWERED,
+            NOT_ANSWERED,
+            NOT_ANSWERED,
+            NOT_ANSWERED,
+            NOT_ANSWERED,
+            NOT_ANSWERED,
+            NOT_ANSWERED,
+            NOT_ANSWERED,
+            NOT_ANSWERED,
+        ],
+        end: Err(FrameFault::Broken),
+    },
+];
+
+#[test]
+fn questions_about_documents(rt: HostRuntime) -> Result<(), Fail> {
+    expect_all(&rt, rt.alloc(), &QUESTIONS)
 }
 
 const DROPPED: [Session; 2] = [

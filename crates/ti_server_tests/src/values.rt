@@ -2,6 +2,9 @@
 use serde_json::Value;
 use std::process::Abort;
 use std::test::Fail;
+use ti_messages::answers::{
+    ItemKind, hover_value, item_value, list_value, location_value, symbol_value,
+};
 use ti_messages::writing::{
     Severity, diagnostic_value, initialized_value, position_value, publish_value, range_value,
     refusal_value, response_value,
@@ -34,6 +37,52 @@ fn places_and_diagnostics(rt: HostRuntime) -> Result<(), Fail> {
     assert!(rt; error.to_string(alloc)?.as_str() == DIAGNOSTIC_TEXT);
     let warning = diagnostic_value(alloc, RANGE, Severity::Warning, "W1", "")?;
     assert!(rt; warning.to_string(alloc)?.as_str() == WARNING_TEXT);
+    Ok(())
+}
+
+const ITEM_TEXT: &str =
+    r#"{"detail":"d","filterText":"am","kind":5,"label":"am","textEdit":{"newText":"am","range":{"end":{"character":0,"line":3},"start":{"character":1,"line":2}}}}"#;
+
+const DESCRIBED_ITEM_TEXT: &str =
+    r#"{"detail":"","documentation":"D","filterText":"vt","kind":22,"label":"vt","textEdit":{"newText":"vt","range":{"end":{"character":0,"line":3},"start":{"character":1,"line":2}}}}"#;
+
+const LIST_TEXT: &str = r#"{"isIncomplete":false,"items":[null]}"#;
+
+#[test]
+fn completions(rt: HostRuntime) -> Result<(), Fail> {
+    let alloc = rt.alloc();
+    let item = item_value(alloc, ItemKind::Capability, "am", "d", None, RANGE)?;
+    assert!(rt; item.to_string(alloc)?.as_str() == ITEM_TEXT);
+    let item = item_value(alloc, ItemKind::Entry, "vt", "", Some("D"), RANGE)?;
+    assert!(rt; item.to_string(alloc)?.as_str() == DESCRIBED_ITEM_TEXT);
+    let items = Vec::from_array(alloc, [Value::Null])?;
+    let list = list_value(alloc, items)?;
+    assert!(rt; list.to_string(alloc)?.as_str() == LIST_TEXT);
+    Ok(())
+}
+
+const SYMBOL_TEXT: &str =
+    r#"{"kind":23,"name":"vt","range":{"end":{"character":0,"line":3},"start":{"character":1,"line":2}},"selectionRange":{"end":{"character":1,"line":2},"start":{"character":1,"line":2}}}"#;
+
+const LOCATION_TEXT: &str =
+    r#"{"range":{"end":{"character":0,"line":3},"start":{"character":1,"line":2}},"uri":"file:///a"}"#;
+
+const HOVER_TEXT: &str =
+    r#"{"contents":{"kind":"plaintext","value":"am\nflag"},"range":{"end":{"character":0,"line":3},"start":{"character":1,"line":2}}}"#;
+
+#[test]
+fn symbols_and_hovers(rt: HostRuntime) -> Result<(), Fail> {
+    let alloc = rt.alloc();
+    let selection = Range {
+        start: RANGE.start,
+        end: RANGE.start,
+    };
+    let symbol = symbol_value(alloc, "vt", RANGE, selection)?;
+    assert!(rt; symbol.to_string(alloc)?.as_str() == SYMBOL_TEXT);
+    let location = location_value(alloc, "file:///a", RANGE)?;
+    assert!(rt; location.to_string(alloc)?.as_str() == LOCATION_TEXT);
+    let hover = hover_value(alloc, "am\nflag", RANGE)?;
+    assert!(rt; hover.to_string(alloc)?.as_str() == HOVER_TEXT);
     Ok(())
 }
 

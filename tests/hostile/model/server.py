@@ -11,7 +11,12 @@ from .source import FAULTS, cut
 SMALL = 2**31
 BODY_MAX = 67_108_864
 DEPTH_MAX = 127
-NO_JSON, NO_REQUEST, NO_METHOD, FRESH = -32700, -32600, -32601, -32002
+NO_JSON, NO_REQUEST, NO_METHOD, BAD_PARAMETERS, FRESH = -32700, -32600, -32601, -32602, -32002
+# the methods that ask about a document, and whether about a place in it
+QUESTIONS = {
+    "textDocument/completion": True, "textDocument/hover": True, "textDocument/definition": True,
+    "textDocument/references": True, "textDocument/documentSymbol": False,
+}
 
 
 class NoJson(Exception):
@@ -166,6 +171,29 @@ def diagnostics_of(text):
     return found
 
 
+def member(value, key):
+    """A member of an object, or None."""
+    return value.get(key) if isinstance(value, dict) else None
+
+
+def question_of(method, params):
+    """What is asked of which document: its URI, the place or None, and whether the definition is asked
+    for too; None if the parameters are not those of the method."""
+    uri, place = member(member(params, "textDocument"), "uri"), place_of(member(params, "position"))
+    declared = member(member(params, "context"), "includeDeclaration")
+    if not isinstance(uri, str) or (QUESTIONS[method] and place is None):
+        return None
+    if method == "textDocument/references" and not isinstance(declared, bool):
+        return None
+    return uri, place, declared
+
+
+def answer_of(method, text, uri, place, declared):
+    """The answer to a question about a text."""
+    del method, text, uri, place, declared
+    return None
+
+
 class Server:
     """The life of a server, and its open documents."""
 
@@ -188,9 +216,9 @@ class Server:
             return self.tell(method, message.get("params"))
         if id_of(message) is None:
             return [refusal(None, NO_REQUEST)]
-        return [self.ask(id_of(message), method)]
+        return [self.ask(id_of(message), method, message.get("params"))]
 
-    def ask(self, number, method):
+    def ask(self, number, method, params):
         """The answer to a request."""
         if self.phase == "fresh" and method != "initialize":
             return refusal(number, FRESH)
@@ -199,10 +227,19 @@ class Server:
             return {"id": number, "ready": True}
         if self.phase == "running" and method == "shutdown":
             self.phase = "finished"
-            return {"id": number, "done": True}
+            return {"id": number, "result": None}
+        if self.phase == "running" and method in QUESTIONS:
+            return self.answered(number, method, params)
         if self.phase == "running" and method != "initialize":
             return refusal(number, NO_METHOD)
         return refusal(number, NO_REQUEST)
+
+    def answered(self, number, method, params):
+        """The answer to a question about a document."""
+        asked = question_of(method, params)
+        if asked is None or asked[0] not in self.texts:
+            return refusal(number, BAD_PARAMETERS)
+        return {"id": number, "result": answer_of(method, self.texts[asked[0]], *asked)}
 
     def tell(self, method, params):
         """What is published by a notification."""
@@ -271,7 +308,10 @@ def seen(answer):
         return {"uri": params["uri"], "version": params.get("version"), "shown": shown}
     if "error" in answer:
         return refusal(answer["id"], answer["error"]["code"])
-    return {"id": answer["id"], "done" if answer["result"] is None else "ready": True}
+    result = answer["result"]
+    if isinstance(result, dict) and "capabilities" in result:
+        return {"id": answer["id"], "ready": True}
+    return {"id": answer["id"], "result": result}
 
 
 def agree(got, wanted):

@@ -2,13 +2,14 @@
 use Rattle.std.specs.Prelude.{ℕ, ◌≡◌, List, [], Bool, false, Option, None, Some, option_map}
 use Rattle.std.specs.Io.KnownBytes.{Appends, Consumes}
 use Rattle.std.specs.Str.{IsUtf8}
-use Rattle.serde_json.specs.Data.{Data, Items}
+use Rattle.serde_json.specs.Data.{Data}
 use Rattle.serde_json.specs.Read.{read}
 use Rattle.serde_json.specs.Written.{compact_text, has_float}
 use Rattle.ti_messages.specs.Frames.{framed}
 use Rattle.ti_messages.specs.declared.frames.Frame.{Frame}
 use Rattle.ti_messages.specs.declared.frames.Frame.TheVariants.{Body, TooLong}
 use Rattle.ti_server.specs.Answers.{answer_data}
+use Rattle.ti_server.specs.Sayings.{Sayings}
 use Rattle.ti_server.specs.Serving.{IsFrame}
 use Rattle.ti_server.specs.Steps.{Answer, Places, State, replied}
 
@@ -30,10 +31,10 @@ HasNoFloat None = Unit {0}
 HasNoFloat (Some value) = has_float value ≡ false
 
 -- a frame was read and answered
-pub record Turn (places : Places) (diagnostics : List ℕ → Items) (given left before after : Option (List ℕ)) (start end : State) : Type 0 where
+pub record Turn (places : Places) (says : Sayings) (given left before after : Option (List ℕ)) (start end : State) : Type 0 where
   pub value : Option Data
   pub bytes : List ℕ
   pub frame : IsFrame bytes value
   pub read : Consumes given left bytes
-  pub written : Appends before after (frame_text (option_map (answer_data diagnostics) (replied places start value).1))
+  pub written : Appends before after (frame_text (option_map (answer_data says) (replied places start value).1))
   pub end_is : end ≡ (replied places start value).0

@@ -1,18 +1,18 @@
 -- What the server holds in memory, as plain data.
 use Rattle.std.specs.Prelude.{ℕ, suc, ◌≡◌, List, [], ◌∷◌, Option, None, Some, option_map, if◌then◌else◌}
 use Rattle.std.specs.Str.{bytes_eq}
-use Rattle.serde_json.specs.Data.{Items}
 use Rattle.serde_json.specs.View.{view}
 use Rattle.serde_json.specs.declared.value.Value.{Value}
 use Rattle.ti_server.specs.Answers.{answer_data}
+use Rattle.ti_server.specs.Sayings.{Sayings}
 use Rattle.ti_server.specs.States.{documents_view}
 use Rattle.ti_server.specs.Steps.{Answer, Open}
 use Rattle.ti_server.specs.declared.documents.Opened.{Opened}
 use Rattle.ti_server.specs.declared.phase.Phase.{Phase}
 
--- a phase and a value that are those that were wanted, whatever diagnostics are
-abbrev pub IsAnswer : Phase × Value → Phase × Answer → Type 0
-IsAnswer made wanted = (made.0 ≡ wanted.0) × ((diagnostics : List ℕ → Items) → view made.1 ≡ answer_data diagnostics wanted.1)
+-- a phase and a value that are those that were wanted
+abbrev pub IsAnswer : Sayings → Phase × Value → Phase × Answer → Type 0
+IsAnswer says made wanted = (made.0 ≡ wanted.0) × (view made.1 ≡ answer_data says wanted.1)
 
 -- where the document of that URI is
 abbrev pub place_of : List ℕ → List Open → Option ℕ
@@ -20,6 +20,6 @@ place_of uri [] = None
 place_of uri (document ∷ documents) = if bytes_eq document.uri uri then Some 0 else option_map suc (place_of uri documents)
 
 -- the documents and the value are those that were wanted
-abbrev pub Tells : {D : Type 0} → (D → List ℕ) → (List ℕ → Items) → List (Opened D) → Option Value → List Open × Option Answer → Type 0
-Tells text_of diagnostics documents value wanted =
-    (documents_view text_of documents ≡ wanted.0) × (option_map view value ≡ option_map (answer_data diagnostics) wanted.1)
+abbrev pub Tells : {D : Type 0} → (D → List ℕ) → Sayings → List (Opened D) → Option Value → List Open × Option Answer → Type 0
+Tells text_of says documents value wanted =
+    (documents_view text_of documents ≡ wanted.0) × (option_map view value ≡ option_map (answer_data says) wanted.1)

@@ -8,10 +8,10 @@ use Rattle.ti_server.proofs.serving.serve.Given as goal
 abbrev pub invariant-loop : goal.invariant-loop
 invariant-loop g l =
     let places = g.D.Source.place_in in
-    let diagnostics = g.D.Source.diagnostics_of in
+    let says = g.D.Source.says in
     let remaining = g.R.Read.remaining in
     let contents = g.W.Write.contents in
     let state = state_of g.D.Source.text_of in
     (left after : Option (List ℕ)) (end : State) (status : ℕ)
-    → Serves places diagnostics (remaining l.reader) left (contents l.writer) after (state l.server) end status
-    → Serves places diagnostics (remaining l.fn.reader) left (contents l.fn.writer) after (state l.fn.server) end status
+    → Serves places says (remaining l.reader) left (contents l.writer) after (state l.server) end status
+    → Serves places says (remaining l.fn.reader) left (contents l.fn.writer) after (state l.fn.server) end status

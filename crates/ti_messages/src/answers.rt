@@ -1,0 +1,124 @@
+//! The values that answer questions about a document. Each call writes one object of the protocol.
+ghost use Rattle.std.specs.Prelude.{◌≡◌, IfOk, option_map};
+ghost use Rattle.serde_json.specs.View.{items_view, view};
+ghost use Rattle.ti_messages.specs.Shapes.{hover_data, item_data, item_number, list_data, location_data, plain_data, symbol_data, text_edit_data};
+
+use crate::places::Range;
+use crate::writing::range_value;
+use serde_json::{Value, json};
+use std::alloc::{AllocError, Global};
+
+/// What an item of a completion stands for ("CompletionItemKind").
+#[derive(Clone, Copy, Debug, PartialEq, Eq)]
+pub enum ItemKind {
+    /// A capability: a field.
+    Capability,
+    /// The name of an entry: a struct.
+    Entry,
+}
+
+impl ItemKind {
+    // The number of the kind in the protocol.
+    fn number(self) -> u32
+        ensures { result ≡ item_number self }
+    {
+        match self {
+            ItemKind::Capability => 5,
+            ItemKind::Entry => 22,
+        }
+    }
+}
+
+/// A place in a document ("Location").
+///
+/// # Errors
+/// `AllocError` if memory ran out.
+pub fn location_value(alloc: Global, uri: &str, range: Range) -> Result<Value, AllocError>
+    ensures { IfOk result (λ v. view v ≡ location_data uri.now range) }
+{
+    let range = range_value(alloc, range)?;
+    json!(in alloc; {"range": range, "uri": uri})
+}
+
+/// An entry that a document defines ("DocumentSymbol"), as a struct: its name, its range, and that
+/// of its names in it.
+///
+/// # Errors
+/// `AllocError` if memory ran out.
+pub fn symbol_value(
+    alloc: Global,
+    name: &str,
+    range: Range,
+    selection: Range,
+) -> Result<Value, AllocError>
+    ensures { IfOk result (λ v. view v ≡ symbol_data name.now range selection) }
+{
+    let range = range_value(alloc, range)?;
+    let selection = range_value(alloc, selection)?;
+    json!(in alloc; {"kind": 23_u32, "name": name, "range": range, "selectionRange": selection})
+}
+
+// A text without markup ("MarkupContent").
+fn plain_value(alloc: Global, text: &str) -> Result<Value, AllocError>
+    ensures { IfOk result (λ v. view v ≡ plain_data text.now) }
+{
+    json!(in alloc; {"kind": "plaintext", "value": text})
+}
+
+/// What is said of a part of a document ("Hover"), in plain text.
+///
+/// # Errors
+/// `AllocError` if memory ran out.
+pub fn hover_value(alloc: Global, text: &str, range: Range) -> Result<Value, AllocError>
+    ensures { IfOk result (λ v. view v ≡ hover_data text.now range) }
+{
+    let contents = plain_value(alloc, text)?;
+    let range = range_value(alloc, range)?;
+    json!(in alloc; {"contents": contents, "range": range})
+}
+
+// A text in place of a part of a document ("TextEdit").
+fn text_edit_value(alloc: Global, text: &str, range: Range) -> Result<Value, AllocError>
+    ensures { IfOk result (λ v. view v ≡ text_edit_data text.now range) }
+{
+    let range = range_value(alloc, range)?;
+    json!(in alloc; {"newText": text, "range": range})
+}
+
+/// An item of a completion ("CompletionItem"): its label is the text that it puts in place of the
+/// range.
+///
+/// # Errors
+/// `AllocError` if memory ran out.
+pub fn item_value(
+    alloc: Global,
+    kind: ItemKind,
+    label: &str,
+    detail: &str,
+    documentation: Option<&str>,
+    range: Range,
+) -> Result<Value, AllocError>
+    ensures { IfOk result (λ v. view v ≡ item_data kind label.now detail.now (option_map (λ text. text.now) documentation.entry) range) }
+{
+    let edit = text_edit_value(alloc, label, range)?;
+    let kind = kind.number();
+    match documentation {
+        None => {
+            json!(in alloc; {"detail": detail, "filterText": label, "kind": kind, "label": label, "textEdit": edit})
+        }
+        Some(text) => {
+            json!(in alloc; {"detail": detail, "documentation": text, "filterText": label, "kind": kind, "label": label, "textEdit": edit})
+        }
+    }
+}
+
+/// The items of a completion ("CompletionList"), which are all that there are.
+///
+/// # Errors
+/// `AllocError` if memory ran out.
+pub fn list_value(alloc: Global, items: Vec<Value>) -> Result<Value, AllocError>
+    ensures { IfOk result (λ v. view v ≡ list_data (items_view items.items)) }
+{
+    let items = Value::Array(items);
+    json!(in alloc; {"isIncomplete": false, "items": items})
+}
