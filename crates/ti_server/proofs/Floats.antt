@@ -1,10 +1,10 @@
 -- No answer of the server has a float, so its text is known.
 use Rattle.std.proofs.Common.{ℕ, ◌≡◌, List, Bool, true, false, cond, Option, None, Some, option_map, is_some, ◌||◌, refl}
-use Rattle.serde_json.specs.Data.{Num, unsigned, negative, float, Data, null, boolean, number, string, array, object, Items}
+use Rattle.serde_json.specs.Data.{Num, unsigned, negative, float, Data, null, boolean, number, string, array, object}
 use Rattle.serde_json.specs.Find.{as_str, get}
 use Rattle.serde_json.specs.Written.{has_float}
 use Rattle.std.specs.Prelude.{codes, option_and_then}
-use Rattle.ti_messages.specs.Messages.{Asked, initialize, shutdown, about, unreadable, unknown, Meaning, request, notification, response, faulty, Told, exited, opened, changed, closed, nothing, asked_of, called_of, id_in, id_of, message_of, meaning_by, method_meaning, request_of, response_or_fault, told_of}
+use Rattle.ti_messages.specs.Messages.{Asked, initialize, shutdown, about, unreadable, unknown, Meaning, request, notification, response, faulty, Told, exited, opened, changed, closed, nothing, id_in, id_of, message_of, meaning_by, method_meaning, request_of, told_of}
 use Rattle.ti_messages.specs.Shapes.{refusal_data}
 use Rattle.ti_messages.specs.declared.messages.Question.{Question}
 use Rattle.ti_messages.specs.declared.failures.Failure.{Failure}

@@ -1,11 +1,10 @@
 -- One turn more, before the others, and the end of a run.
-use Rattle.std.proofs.Common.{ℕ, ◌≡◌, ◌≤◌, ◌<◌, List, [], ◌∷◌, ◌++◌, Option, None, Some, option_map, length, flat_map, refl, sym, ap, subst, ◌∙◌, append_assoc, append-nil, arith}
+use Rattle.std.proofs.Common.{ℕ, ◌≡◌, List, [], ◌∷◌, ◌++◌, Option, None, Some, option_map, refl, sym, subst, arith}
 use Rattle.std.proofs.KnownBytes.{Appends-nil, Appends-trans, Consumes-nil, Consumes-trans}
 use Rattle.std.specs.Io.KnownBytes.{Appends, Consumes}
 use Rattle.std.specs.Option.{option_to_list}
 use Rattle.serde_json.specs.Data.{Data}
-use Rattle.serde_json.specs.Written.{compact_text}
-use Rattle.ti_messages.specs.Frames.{Reads, framed}
+use Rattle.ti_messages.specs.Frames.{Reads}
 use Rattle.ti_messages.specs.declared.frames.Frame.{Frame}
 use Rattle.ti_messages.specs.declared.frames.Frame.TheVariants.{Body, TooLong}
 use Rattle.ti_server.specs.Answers.{answer_data}

@@ -1,5 +1,5 @@
 -- One turn of the server: a frame is read, and the answer to it is written.
-use Rattle.std.specs.Prelude.{ℕ, ◌≡◌, List, [], Bool, false, Option, None, Some, option_map}
+use Rattle.std.specs.Prelude.{ℕ, ◌≡◌, List, [], false, Option, None, Some, option_map}
 use Rattle.std.specs.Io.KnownBytes.{Appends, Consumes}
 use Rattle.std.specs.Str.{IsUtf8}
 use Rattle.serde_json.specs.Data.{Data}
@@ -11,7 +11,7 @@ use Rattle.ti_messages.specs.declared.frames.Frame.TheVariants.{Body, TooLong}
 use Rattle.ti_server.specs.Answers.{answer_data}
 use Rattle.ti_server.specs.Sayings.{Sayings}
 use Rattle.ti_server.specs.Serving.{IsFrame}
-use Rattle.ti_server.specs.Steps.{Answer, Places, State, replied}
+use Rattle.ti_server.specs.Steps.{Places, State, replied}
 
 -- what came in a frame is this value, or none
 abbrev pub IsValue : Frame → Option Data → Type 0

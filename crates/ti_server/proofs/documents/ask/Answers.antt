@@ -1,9 +1,8 @@
-use Rattle.std.proofs.Common.{◌≡◌, Option, Some, get_or, map, option_map, refl, sym, ap, ◌∙◌}
+use Rattle.std.proofs.Common.{◌≡◌, Some, get_or, refl, sym, ap, ◌∙◌}
 use Rattle.std.proofs.Math.ListN.{get_or-map}
 use Rattle.serde_json.specs.Data.{Data}
 use Rattle.ti_server.proofs.Places.{open_found, open_none}
 use Rattle.ti_server.specs.States.{documents_view, open_view}
-use Rattle.ti_server.specs.Steps.{Open}
 use Rattle.ti_server.proofs.documents.ask.Goals as goal
 
 pub returns-in-None : goal.returns-in-None

@@ -1,5 +1,4 @@
 use Rattle.std.proofs.Common.{◌≡◌, Bor, None, Option, Some, ap, option_map, refl, ◌∙◌}
-use Rattle.serde_json.specs.Data.{Data}
 use Rattle.serde_json.specs.View.{view}
 use Rattle.serde_json.specs.declared.value.Value.{Value}
 use Rattle.std.specs.Option.{option_copied}
