@@ -92,26 +92,24 @@ def clock(room, words, given):
         return time.perf_counter() - begun
 
 
-def hyperfine_command(words, given, following):
-    """A command as hyperfine runs it: by sh if it reads a file, or takes its directory from one."""
-    if OUT not in words and given == os.devnull:
-        return shlex.join(words)
+def in_new_directory(words, following):
+    """A command for sh that takes its directory from a file, since each run has another one."""
     command = " ".join('"$out"' if word == OUT else shlex.quote(word) for word in words)
-    return f"read -r out <{shlex.quote(following)}; exec {command} <{shlex.quote(given)}"
+    return shlex.join(["sh", "-c", f"read -r out <{shlex.quote(following)}; exec {command}"])
 
 
 def hyperfine(room, work):
     """The median wall-clock seconds of both commands, by hyperfine."""
     report, following = os.path.join(room.path, "hyperfine.json"), os.path.join(room.path, "following")
-    words = ["hyperfine", "--style", "none", "--ignore-failure", "--warmup", "1", "--runs", str(work.runs())]
-    if not work.writes_files() and work.given == os.devnull:
-        words += ["--shell", "none"]
-    else:
-        # before each run: the name of a directory that is not there
-        words += ["--prepare", f"mktemp -u {shlex.quote(room.new())}-XXXXXXXXXX >{shlex.quote(following)}"]
-    words += ["--export-json", report]
-    words += [hyperfine_command(command, work.given, following) for command in (work.ours, work.theirs)]
-    done = subprocess.run(words, stdout=subprocess.PIPE, stderr=subprocess.STDOUT, text=True, check=False)
+    # a shell of its own would be started and its time guessed, which on a busy machine goes wrong
+    words = ["hyperfine", "--shell", "none", "--style", "none", "--ignore-failure", "--warmup", "1"]
+    words += ["--runs", str(work.runs()), "--export-json", report]
+    commands = [shlex.join(command) for command in (work.ours, work.theirs)]
+    if work.writes_files():
+        commands = [in_new_directory(command, following) for command in (work.ours, work.theirs)]
+        name = f"mktemp -u {shlex.quote(room.new())}-XXXXXXXXXX >{shlex.quote(following)}"
+        words += ["--prepare", shlex.join(["sh", "-c", name])]
+    done = subprocess.run([*words, *commands], stdout=subprocess.PIPE, stderr=subprocess.STDOUT, text=True, check=False)
     if done.returncode:
         raise OSError(f"hyperfine: {done.stdout}")
     with open(report, encoding="utf-8") as file:
@@ -119,12 +117,11 @@ def hyperfine(room, work):
 
 
 def wall_clock(room, work):
-    """The median wall-clock seconds of both commands: by hyperfine, if installed, else in turn."""
-    if shutil.which("hyperfine"):
+    """The median wall-clock seconds of both commands: by hyperfine, if it is installed and they
+    have no input, which it gives to no command; else in turn."""
+    if shutil.which("hyperfine") and work.given == os.devnull:
         return hyperfine(room, work)
-    pairs = [
-        (clock(room, work.ours, work.given), clock(room, work.theirs, work.given)) for _ in range(work.runs())
-    ]
+    pairs = [(clock(room, work.ours, work.given), clock(room, work.theirs, work.given)) for _ in range(work.runs())]
     return tuple(statistics.median(taken) for taken in zip(*pairs))
 
 

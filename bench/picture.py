@@ -1,9 +1,16 @@
-"""README's table of speed, and docs/speed.svg, which is drawn from it."""
+#!/usr/bin/env python3
+"""README's table of speed as a picture.
+
+    bench/picture.py --write    draws it into docs/speed.svg
+    bench/picture.py --check    fails unless docs/speed.svg is drawn from README's table as it is
+"""
 
 import os
+import sys
 from xml.sax.saxutils import escape
 
-from repository import TOP, text_of
+sys.path.append(os.path.join(os.path.dirname(os.path.dirname(os.path.abspath(__file__))), "build"))
+from repository import TOP, text_of  # noqa: E402
 
 PICTURE = os.path.join(TOP, "docs", "speed.svg")
 HEAD = """| Work | `ti`, ms | ncurses, ms | Ratio | Ratio of instructions |
@@ -45,8 +52,8 @@ def bar(y, ratio, colour):
     yield text(LEFT + FULL * ratio + 6, y + HIGH - 4, f"{ratio:.2f}")
 
 
-def draw(rows):
-    """Writes the picture: for each work a bar of time and one of instructions."""
+def drawn(rows):
+    """The picture: for each work a bar of time and one of instructions."""
     y, lines = 40, [text(LEFT, 20, "0"), text(LEFT + FULL, 20, "as much as ncurses", "middle")]
     for work, *ratios in rows:
         lines.append(text(LEFT - 10, y + HIGH - 4, work.replace("`", ""), "end"))
@@ -62,5 +69,27 @@ def draw(rows):
     size = f'width="{width}" height="{height}" viewBox="0 0 {width} {height}"'
     head = f'<svg xmlns="http://www.w3.org/2000/svg" {size} font-family="sans-serif" font-size="12">'
     paper = '<rect width="100%" height="100%" fill="white"/>'
+    return "\n".join([head, paper, *lines, "</svg>"]) + "\n"
+
+
+def draw(rows):
+    """Writes the picture."""
     with open(PICTURE, "w", encoding="utf-8") as file:
-        file.write("\n".join([head, paper, *lines, "</svg>"]) + "\n")
+        file.write(drawn(rows))
+
+
+def main():
+    if sys.argv[1:] not in (["--write"], ["--check"]):
+        print(__doc__, file=sys.stderr)
+        return 2
+    if sys.argv[1] == "--check":
+        if text_of("docs", "speed.svg") == drawn(rows_of_readme()):
+            return 0
+        print("docs/speed.svg is not drawn from README's table: run bench/picture.py --write")
+        return 1
+    draw(rows_of_readme())
+    return 0
+
+
+if __name__ == "__main__":
+    sys.exit(main())

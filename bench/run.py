@@ -1,10 +1,9 @@
 #!/usr/bin/env python3
 """Speed, compared with ncurses's tools on the same work.
 
-    bench/run.py [PART..]      the parts named, or all but `readme` and `picture`
+    bench/run.py [PART..]      the parts named, or all but `readme`
 
-readme    the rows of README's table alone, some three minutes; then that table, and docs/speed.svg
-          drawn anew
+readme    the rows of README's table alone, some three minutes
 entries   sources of many entries, compiled into files: 1,800 of 1.1 KB each that all say the same;
           1,800 of which no two have a string in common; 1,800 of which 1,500 have a use; 2,000
           small ones; and 1,000 of which all but the first use one before them
@@ -18,8 +17,8 @@ editor    the CPU time of `ti-lsp` for opening a source and for a key in it, and
 rates     MB/s (10^6 bytes a second) of `ti tic -c` on one-block sources of 64 KiB, 256 KiB and
           1 MiB, and of ncurses's `tic -c` on the last: the best of several runs
 machine   what `ti_bench` prints of the libraries alone
-picture   draws docs/speed.svg from the table of README.md, and measures nothing
 
+If each row of README's table was measured, that table is printed and docs/speed.svg is drawn anew.
 ncurses's own source is misc/terminfo.src of ncurses; the variable MASTER names the file, and
 without it what is about that source is left out.
 
@@ -62,8 +61,8 @@ EDITS_HEAD = """| Blocks | Edit | Microseconds | MB at most |
 |---:|---|---:|---:|"""
 EDITOR_HEAD = """| Source | Opening, ms of CPU time | A key | ncurses's `tic -c` |
 |---|---:|---:|---:|"""
-# what is said after the tables, and what differs that must not
-NOTES, FAULTS = [], []
+# what was measured, by name; what is said after the tables; what differs that must not
+MEASURED, NOTES, FAULTS = {}, [], []
 
 
 def tic_work(room, name, source):
@@ -148,20 +147,19 @@ def check(room, work):
 
 
 def compare(room, work):
-    """Prints a row that compares both commands. Gives what was measured, or None."""
+    """Prints a row that compares both commands, and adds it to what was measured."""
     if not shutil.which(work.theirs[0]):
         NOTES.append(f"{work.name}: left out, since {work.theirs[0]} of ncurses is not installed")
-        return None
+        return
     if not check(room, work):
-        return None
-    taken = measure(room, work)
+        return
+    taken = MEASURED[work.name] = measure(room, work)
     milliseconds = " | ".join(f"{seconds * 1000:.1f}" for seconds in taken.seconds)
     counted = "not counted | | "
     if taken.ratio(taken.instructions) is not None:
         counts = " | ".join(f"{count:,}" for count in taken.instructions)
         counted = f"{counts} | {taken.ratio(taken.instructions):.2f}"
     print(f"| {work.name} | {milliseconds} | {taken.ratio(taken.seconds):.2f} | {counted} |", flush=True)
-    return taken
 
 
 def compare_all(works, room):
@@ -171,16 +169,17 @@ def compare_all(works, room):
 
 
 def readme(room):
-    """Compares the rows of README's table, prints that table and draws its picture."""
+    """Compares the rows of README's table."""
     makers = dict((*entries(room), *system(room), *tools(room)))
-    taken = []
     for name, *_ in picture.rows_of_readme():
-        if name not in makers:
-            FAULTS.append(f"{name}: not measured")
-            return
-        taken.append(compare(room, makers[name]()))
+        if name in makers:
+            compare(room, makers[name]())
+
+
+def show_readme():
+    """If each row of README's table was measured, prints that table and draws its picture."""
+    taken = [MEASURED.get(name) for name, *_ in picture.rows_of_readme()]
     if any(one is None or one.ratio(one.instructions) is None for one in taken):
-        FAULTS.append("README's table is not complete: it needs ncurses's tools and valgrind")
         return
     print(f"\nREADME's table, drawn into docs/speed.svg:\n\n{picture.HEAD}")
     print("\n".join(picture.row(one) for one in taken))
@@ -252,9 +251,8 @@ def rates(room):
 PARTS = {
     "entries": lambda room: compare_all(entries, room), "system": lambda room: compare_all(system, room),
     "tools": lambda room: compare_all(tools, room), "edits": edits, "editor": editor, "rates": rates,
-    "machine": machine, "readme": readme, "picture": lambda room: picture.draw(picture.rows_of_readme()),
+    "machine": machine, "readme": readme,
 }
-NOT_BY_DEFAULT = ("readme", "picture")
 HEADS = {
     "readme": TOOLS_HEAD, "entries": TOOLS_HEAD, "system": TOOLS_HEAD, "tools": TOOLS_HEAD,
     "edits": EDITS_HEAD, "editor": EDITOR_HEAD,
@@ -262,7 +260,7 @@ HEADS = {
 
 
 def main():
-    wanted, begun = sys.argv[1:] or [name for name in PARTS if name not in NOT_BY_DEFAULT], ""
+    wanted, begun = sys.argv[1:] or [name for name in PARTS if name != "readme"], ""
     for name in wanted:
         if name not in PARTS:
             print(f"no such part: {name}; the parts are {', '.join(PARTS)}")
@@ -276,6 +274,7 @@ def main():
                 print(("\n" if begun else "") + head, flush=True)
             begun = head
             PARTS[name](room)
+    show_readme()
     print("".join(f"\n{note}" for note in NOTES), end="\n" if NOTES else "")
     for fault in FAULTS:
         print(f"FAILED: {fault}")

@@ -1,15 +1,50 @@
-"""How ./ti builds."""
+"""How ./ti builds, and what the tarball of `make dist` holds."""
 
 import contextlib
 import os
 import shutil
 import subprocess
+import tarfile
 import tempfile
 
-from installing import unpacked
-from shared import TOP, need
+from shared import TOP, Skipped, need, output
 
 from crates import all_below, read_crates  # of build/, which shared has put on the path
+
+
+def unpacked(directory):
+    """Makes the tarball and unpacks it; gives the directory that it holds."""
+    need("git")
+    copy = os.path.join(directory, "copy")
+    if subprocess.run(["git", "clone", "-q", "--no-hardlinks", TOP, copy], stderr=subprocess.DEVNULL).returncode:
+        raise Skipped("this is no repository of git")
+    name = output(["make", "-s", "dist"], cwd=copy).strip()
+    with tarfile.open(os.path.join(copy, name)) as packed:
+        packed.extractall(directory)
+    return os.path.join(directory, name[: -len(".tar.gz")]), copy
+
+
+def check_tarball():
+    """Whether the tarball of `make dist` has every file of the commit."""
+    with tempfile.TemporaryDirectory(prefix="ti-package-") as directory:
+        made, copy = unpacked(directory)
+        tracked = output(["git", "ls-files"], cwd=copy).split("\n")[:-1]
+        packed = sorted(name for name in tracked if os.path.lexists(os.path.join(made, name)))
+        if sorted(tracked) != packed:
+            yield f"the tarball lacks {sorted(set(tracked) - set(packed))[:5]}"
+        if not os.access(os.path.join(made, "ti"), os.X_OK):
+            yield "the tarball's ti cannot be run"
+
+
+def check_tarball_builds():
+    """Whether README's first command works in the unpacked tarball."""
+    need("rt")
+    with tempfile.TemporaryDirectory(prefix="ti-package-") as directory:
+        made, _ = unpacked(directory)
+        subprocess.run(["./ti", "tic", "-o", "out", "examples/dumb.ti"], cwd=made, check=True)
+        size = os.path.getsize(os.path.join(made, "out", "d", "dumb"))
+        if size != 308:
+            yield f"out/d/dumb has {size} bytes"
 
 
 # What takes the place of the toolchain if only the order of a build is tried: its prover needs what

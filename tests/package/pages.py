@@ -84,16 +84,17 @@ def line_faults(path, is_free):
 
 def check_markdown():
     """Whether pages have the links that they need, which lead to files; lines keep to the width,
-    but for rows of tables; words are plain; README is short; the picture is that of crates.txt."""
+    but for rows of tables; words are plain; README is short; the pictures are drawn from what they show."""
     for page in markdown_pages():
         yield from link_faults(page)
         if page != GENERATED:
             yield from line_faults(page, lambda line: line.startswith("|"))
     if len(text_of("README.md").encode()) > BYTES_OF_README:
         yield f"README.md has more than {BYTES_OF_README} bytes"
-    said = output([sys.executable, os.path.join(TOP, "build", "crates_picture.py"), "--check"])
-    if said:
-        yield said.strip()
+    for script in ("build/crates_picture.py", "bench/picture.py"):
+        said = output([sys.executable, os.path.join(TOP, script), "--check"])
+        if said:
+            yield said.strip()
 
 
 def check_scripts():

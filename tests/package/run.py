@@ -10,7 +10,8 @@ bash, fish, zsh
              the shell gives the candidates that are wanted
 pages        the pages are clean under `mandoc -T lint`, and each says what a page is to say
 markdown     pages link to the pages that they name, links lead to files, lines keep to the width,
-             words are plain, and the picture of the crates is that of crates.txt
+             words are plain, and the pictures of crates and of speed are those of crates.txt and of
+             README's table
 scripts      comments of scripts, of the header and of examples keep to the width, in plain words
 readme       the first command of README writes what README says of it, and the
              second is what CI runs
@@ -37,7 +38,6 @@ import sys
 
 import building
 import completions
-import installing
 import packages
 import pages
 import shared  # noqa: F401, puts the directory of `common` on the path
@@ -53,13 +53,13 @@ CHECKS = {
     "markdown": pages.check_markdown,
     "scripts": pages.check_scripts,
     "readme": pages.check_readme,
-    "install": installing.check_install,
+    "install": packages.check_install,
     "version": packages.check_version,
     "deb": packages.check_deb,
     "deb-in-chroot": packages.check_deb_in_chroot,
     "release": packages.check_release,
-    "tarball": installing.check_tarball,
-    "tarball-builds": installing.check_tarball_builds,
+    "tarball": building.check_tarball,
+    "tarball-builds": building.check_tarball_builds,
     "build": building.check_build,
     "small-build": building.check_small_build,
 }
