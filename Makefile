@@ -9,7 +9,7 @@
 #   make wrong-bodies   the further wrong bodies, which the prover must refuse too
 #   make library    builds the C library: libti.a, libti.so.1 and ti.pc
 #   make lsp        builds the language server, ti-lsp
-#   make bench      compares counts and times of the tools with ncurses's, and edits of long lists
+#   make bench      times and counts the tools and ncurses's on the same work, and edits of lists
 #   make install    puts the program, its pages, completions and examples below
 #                   DESTDIR and PREFIX (which is /usr/local); with TOOLS=1 also
 #                   ti-tic, ti-infocmp and ti-tput; the C library and the language server

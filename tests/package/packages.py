@@ -38,7 +38,7 @@ def version():
 
 
 def check_version():
-    """Whether help, pages, changes and the library's header have the version in VERSION."""
+    """Whether help, pages, changes, the header and the extension have the version in VERSION."""
     if f" {version()}" not in ti("--help").split("\n", 1)[0]:
         yield f"the first line of help is {ti('--help').split(chr(10), 1)[0]!r}"
     for page in sorted(os.listdir(os.path.join(TOP, "man"))):
@@ -47,9 +47,9 @@ def check_version():
     newest = re.search(r"^## \[?(\d[\w.]*)", text_of("CHANGELOG.md"), re.M)
     if not newest or newest[1] != version():
         yield f"the newest version of CHANGELOG.md is {newest and newest[1]}"
-    header = os.path.join(TOP, "include", "ti.h")
-    if os.path.exists(header) and f'"{version()}"' not in text_of("include", "ti.h"):
-        yield f'include/ti.h does not have "{version()}"'
+    for path in ("include/ti.h", "editors/vscode/package.json"):
+        if f'"{version()}"' not in text_of(path):
+            yield f'{path} does not have "{version()}"'
 
 
 def check_install():

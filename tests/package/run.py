@@ -17,7 +17,7 @@ readme       the first command of README writes what README says of it, and the
              second is what CI runs
 install      what `make install` puts into a directory runs from there, and `make uninstall`
              takes all of it away
-version      help, pages, changes and the library's header have the version of the file VERSION
+version      help, pages, changes, the header and the extension have the version of VERSION
 deb          the Debian packages are the same each time, run unpacked, and please lintian
 deb-in-chroot
              the package installs, runs, is removed and purged in a system made by debootstrap
