@@ -9,7 +9,7 @@ import subprocess
 import tempfile
 import time
 
-from shared import HERE, PROGRAM, TOOLS, TOP, need, output, text_of, ti
+from shared import HERE, PROGRAM, TOOLS, TOP, help_of, need, output, text_of
 
 SHELLS = ["ti.bash", "_ti", "ti.fish"]
 # what a person types, and a candidate that must come, and one that must not
@@ -28,9 +28,27 @@ CANDIDATES = [
     ("ti infocmp -A out -B more lantern3 lantern", "lantern-color", "lantern2"),
 ]
 
-
-def help_of(tool):
-    return ti("help", tool) if tool else ti("--help")
+# the keys and the compadd by which zsh is asked
+ZSHRC = """asked=@ASKED@ PS1=
+fpath=(@TOP@/completions $fpath)
+autoload -U compinit; compinit -u -D
+zle -N ask
+ask() { zle complete-word; print -rl -- ${${(z)BUFFER}[-1]} done. >>$asked }
+bindkey '^I' ask
+compadd() {
+  local -a hits
+  [[ ${@[1,(i)(-|--)]} == *-[OAD]\\ * ]] || {
+    builtin compadd -A hits "$@"
+    print -rl -- $hits >>$asked
+  }
+  builtin compadd "$@"
+}
+print done. >>$asked
+"""
+# where a completion has its list of capabilities
+CAPABILITIES = re.compile(
+    r"_ti_capabilities(?:='|=\(|\n    string split ' ' -- \\\n)(.*?)(?:'\n\n|\)\n|\nend)", re.S
+)
 
 
 def options_of_help(tool):
@@ -79,17 +97,13 @@ def fish_candidates(lines, directory=None):
 
 
 class Zsh:
-    """An interactive zsh, asked for candidates by the key Tab; a compadd of ours writes each into a
-    file, and the key what the last word has become."""
+    """An interactive zsh, asked for candidates by the key Tab: the compadd of ZSHRC writes each into
+    a file, and the key what the last word has become."""
 
     def __init__(self, directory):
         self.asked = os.path.join(directory, "asked")
         with open(os.path.join(directory, ".zshrc"), "w", encoding="utf-8") as file:
-            file.write(f"asked={self.asked} PS1=\nfpath=({TOP}/completions $fpath)\nautoload -U compinit; compinit -u -D\n")
-            file.write("zle -N ask; ask() { zle complete-word; print -rl -- ${${(z)BUFFER}[-1]} done. >>$asked }; bindkey '^I' ask\n")
-            file.write("compadd() {\n  local -a hits\n  [[ ${@[1,(i)(-|--)]} == *-[OAD]\\ * ]] || {\n")
-            file.write("    builtin compadd -A hits \"$@\"\n    print -rl -- $hits >>$asked\n  }\n  builtin compadd \"$@\"\n}\n")
-            file.write("print done. >>$asked\n")
+            file.write(ZSHRC.replace("@ASKED@", self.asked).replace("@TOP@", TOP))
         self.pid, self.terminal = pty.fork()
         if self.pid == 0:
             os.chdir(directory)
@@ -166,26 +180,38 @@ def check_zsh():
     yield from check_shell("zsh", zsh_candidates)
 
 
+def options_of_zsh(tool):
+    completion = text_of("completions", "_ti")
+    if tool:
+        part = completion.split(f"        {tool})\n")[1].split(";;")[0]
+    else:
+        part = completion.split("\n_ti() {")[1]
+    plain = re.findall(r"'(?:\([^)]*\))?(--?[\w-]+)\[", part)
+    return {*plain, *re.findall(r"(?<=[{,])--?[\w-]+(?=[},])", part)}
+
+
+def option_sets(tool):
+    """The options of a tool, or of the program, in each place that has them, by its name."""
+    name = f"ti {tool}".strip()
+    yield "page", options_of_page(tool)
+    # the synopsis of the program has the options of its tools
+    if tool:
+        yield "synopsis", options_of_synopsis(tool) | {"-h", "--help"}
+    if shutil.which("bash"):
+        yield "completion in bash", set(bash_candidates([f"{name} -"])[f"{name} -"])
+    if shutil.which("fish"):
+        found = fish_candidates([f"{name} -", f"{name} --"])
+        yield "completion in fish", {word for words in found.values() for word in words}
+    yield "completion in zsh", options_of_zsh(tool)
+
+
 def check_options():
+    """Whether options, commands and capabilities are one set in help, pages and completions."""
     for tool in ["", *TOOLS]:
-        name = f"ti {tool}".strip()
         helped = options_of_help(tool)
-        for where, got in (("page", options_of_page(tool)), ("synopsis", options_of_synopsis(tool) | {"-h", "--help"})):
-            if got != helped and not (tool == "" and where == "synopsis"):
-                yield f"{name}: the {where} has {sorted(got)}, the help {sorted(helped)}"
-        if shutil.which("bash"):
-            got = set(bash_candidates([f"{name} -"])[f"{name} -"])
+        for place, got in option_sets(tool):
             if got != helped:
-                yield f"{name}: completion in bash has {sorted(got)}, the help {sorted(helped)}"
-        if shutil.which("fish"):
-            got = {word for found in fish_candidates([f"{name} -", f"{name} --"]).values() for word in found}
-            if got != helped:
-                yield f"{name}: completion in fish has {sorted(got)}, the help {sorted(helped)}"
-        zsh = text_of("completions", "_ti")
-        part = zsh.split("\n_ti() {")[1] if tool == "" else zsh.split(f"        {tool})\n")[1].split(";;")[0]
-        got = set(re.findall(r"'(?:\([^)]*\))?(--?[\w-]+)\[", part)) | set(re.findall(r"(?<=[{,])--?[\w-]+(?=[},])", part))
-        if got != helped:
-            yield f"{name}: completion in zsh has {sorted(got)}, the help {sorted(helped)}"
+                yield f"ti {tool}: the {place} has {sorted(got)}, the help {sorted(helped)}"
     commands = set(re.findall(r"^  (\w+)  ", help_of("").split("Commands:\n")[1].split("\n\n")[0], re.M))
     if commands != {*TOOLS, "help"}:
         yield f"the tools are {sorted(commands)}"
@@ -197,11 +223,12 @@ def check_options():
 
 
 def capability_faults():
+    """Completions whose capabilities are not those of the program."""
     with tempfile.TemporaryDirectory(prefix="ti-package-") as directory:
         output([PROGRAM, "tic", "-o", directory], "empty|no capability,\n")
-        absent = output([PROGRAM, "infocmp", "-n", "-s", "d", "-A", directory, "-B", directory, "empty", "empty"])
+        places = ["-A", directory, "-B", directory]
+        absent = output([PROGRAM, "infocmp", "-n", "-s", "d", *places, "empty", "empty"])
     known = re.findall(r"^\t!(\w+)\.$", absent, re.M)
     for name in SHELLS:
-        part = re.search(r"_ti_capabilities(?:='|=\(|\n    string split ' ' -- \\\n)(.*?)(?:'\n\n|\)\n|\nend)", text_of("completions", name), re.S)
-        if re.findall(r"\w+", part[1]) != known:
+        if re.findall(r"\w+", CAPABILITIES.search(text_of("completions", name))[1]) != known:
             yield f"{name}: its capabilities are not the {len(known)} of the program"
