@@ -12,7 +12,7 @@ from typing import NamedTuple
 
 from repository import files_below
 
-# runs of what writes files, and of the rest, which is short
+# how often a command is timed that writes files, and one that does not, which is short
 FILE_RUNS, SHORT_RUNS = 10, 100
 SECONDS = 600
 # what takes longer is timed alone, since callgrind takes some fifty times as long
@@ -49,7 +49,7 @@ class Measure(NamedTuple):
 
 
 class Room:
-    """A directory for what runs read and write; no directory in it is written to by two runs."""
+    """A directory for what runs read and write; each run writes into a new directory in it."""
 
     def __init__(self, path):
         self.path, self.count = path, 0
@@ -101,7 +101,7 @@ def in_new_directory(words, following):
 def hyperfine(room, work):
     """The median wall-clock seconds of both commands, by hyperfine."""
     report, following = os.path.join(room.path, "hyperfine.json"), os.path.join(room.path, "following")
-    # a shell of its own would be started and its time guessed, which on a busy machine goes wrong
+    # hyperfine would take off a guess of its own shell's time, which is wrong on a busy machine
     words = ["hyperfine", "--shell", "none", "--style", "none", "--ignore-failure", "--warmup", "1"]
     words += ["--runs", str(work.runs()), "--export-json", report]
     commands = [shlex.join(command) for command in (work.ours, work.theirs)]
@@ -117,8 +117,8 @@ def hyperfine(room, work):
 
 
 def wall_clock(room, work):
-    """The median wall-clock seconds of both commands: by hyperfine, if it is installed and they
-    have no input, which it gives to no command; else in turn."""
+    """The median wall-clock seconds of both commands: by hyperfine, if it is installed, but for
+    commands with input, which its version 1.15 cannot give; else in turn."""
     if shutil.which("hyperfine") and work.given == os.devnull:
         return hyperfine(room, work)
     pairs = [(clock(room, work.ours, work.given), clock(room, work.theirs, work.given)) for _ in range(work.runs())]

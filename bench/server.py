@@ -27,7 +27,7 @@ def opened(text):
 
 
 def keys(text, count):
-    """The messages of so many keys, each in a line in the middle of the text."""
+    """The messages of `count` keys, each in a line in the middle of the text."""
     lines = text.split("\n")
     line = next(at for at in range(len(lines) // 2, len(lines)) if lines[at].startswith("\t"))
     messages = b""

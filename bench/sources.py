@@ -27,13 +27,13 @@ NAMES_FIELD_BYTES = 127
 
 
 def large_entries(count):
-    """So many entries of 1.1 KB each, none of which uses another."""
+    """`count` entries of 1.1 KB each, none of which uses another."""
     items = ITEMS + "".join(KEY_LINES)
     return "".join(f"e{i}|a large entry,\n{items}" for i in range(count)).encode()
 
 
 def differing_entries(count):
-    """So many entries of 1.1 KB each, of which no two have a string in common."""
+    """`count` entries of 1.1 KB each, of which no two have a string in common."""
     items, text = ITEMS + "".join(KEY_LINES[:4]), re.compile(r"(?<=[a-z0-9])=([^,]*)")
     return "".join(
         text.sub(lambda found, number=i: f"={found[1]}{number:03x}", f"d{i}|a large entry,\n{items}")
@@ -42,7 +42,7 @@ def differing_entries(count):
 
 
 def entries_with_uses(roots, users):
-    """So many entries that use none, and so many that each use one of these."""
+    """`roots` entries that use none, and `users` entries that each use one of these."""
     first = "".join(f"r{i}|a root,\n{ITEMS}" for i in range(roots))
     rest = "".join(
         f"v{i}|a variant,\n\tcols#{i % 200 + 1}, kf1=\\EO{i}, use=r{i % roots},\n" for i in range(users)
@@ -51,18 +51,18 @@ def entries_with_uses(roots, users):
 
 
 def small_entries(count):
-    """So many entries that say little, none of which uses another."""
+    """`count` entries with few capabilities, none of which uses another."""
     return "".join(f"e{i}|a small entry,\n{SMALL}" for i in range(count)).encode()
 
 
 def chained_entries(count):
-    """So many entries, each but the first with a use of one before it."""
+    """`count` entries, each but the first with a use of one before it."""
     rest = "".join(f"e{i}|a variant,\n\tcols#{i + 1}, use=e{i // 2},\n" for i in range(1, count))
     return (f"e0|the root,\n{SMALL}" + rest).encode()
 
 
 def one_block(size):
-    """A source of one block that has so many bytes."""
+    """A source of one block, of `size` bytes."""
     text = "bench|a made-up terminal for timing,\n"
     text += ITEMS * ((size - len(text)) // len(ITEMS))
     return (text + "#" * (size - len(text) - 1) + "\n").encode()

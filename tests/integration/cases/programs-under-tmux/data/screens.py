@@ -32,7 +32,7 @@ class Screen:
         return got + subprocess.run([*self.tmux, *where], stdout=subprocess.PIPE, check=True).stdout
 
     def settled(self, quiet):
-        """The screen once it has stood still for so many seconds."""
+        """The screen once it has not changed for `quiet` seconds."""
         end, last, since = time.monotonic() + 10, b"", time.monotonic()
         while time.monotonic() < end:
             got = self.capture()
