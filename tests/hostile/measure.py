@@ -16,7 +16,7 @@ WAIT_FACTOR = 8
 
 
 def answer(asked):
-    """Runs a program; its status, the seconds of the processor that it took, and its memory."""
+    """Runs a program; its status, its CPU time in seconds, and its memory."""
     child = os.fork()
     if child == 0:
         try:
