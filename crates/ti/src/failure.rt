@@ -11,7 +11,7 @@ pub enum Failure {
     Tool(ToolError),
     /// What the environment gives is not UTF-8: the command line, or a variable that is read. It is
     /// an error of usage. A variable that nothing asks for may hold any bytes.
-    #[error("{0} is not text")]
+    #[error("bad usage: {0} is not text")]
     NotText(&'static str),
 }
 

@@ -12,9 +12,9 @@ pub fn end_job<R: Eprint>(rt: &R, job: &Job, name: &str, failure: Failure, found
             let _ = message(job, name, Some(&error), &mut stream);
             status(job, &error, found)
         }
-        Failure::NotText(what) => {
+        Failure::NotText(_) => {
             let tool = job.tool_name();
-            let _ = eprintln!(rt; "{tool}: {what} is not text");
+            let _ = eprintln!(rt; "{tool}: {failure}");
             status(job, &ToolError::Usage, found)
         }
     }

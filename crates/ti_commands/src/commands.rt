@@ -114,7 +114,7 @@ Exit status:
   1    the boolean or the string is absent
   2    bad usage, or no terminal is named
   3    the terminal is unknown, or its entry is bad or cannot be read
-  4    the capability is unknown, or its string is bad
+  4    the capability is unknown, or its string cannot be expanded or padded
   255  something failed after the entry was read
 With -S: 0, or 4 and the number of bad lines, at most 255.
 

@@ -95,7 +95,7 @@ unless -A or -B names a directory.
 Exit status:
   0  all entries were read, and the text was written
   1  an entry is not there or is bad, or a file or a stream failed
-  2  bad usage
+  2  bad usage, or no terminal is named
 
 Examples:
   export TERMINFO_DIRS=/lib/terminfo:    # on Debian

@@ -2,4 +2,3 @@ pub mod Filing
 pub mod Printing
 pub mod Parts
 pub mod Reporting
-pub mod Refusals

@@ -8,7 +8,7 @@ use Rattle.ti_meaning.specs.Report.{report}
 use Rattle.ti_tools.specs.EntryFiles.{source_files}
 use Rattle.ti_devices.specs.Placing.{entries}
 use Rattle.ti_sources.specs.Sources.{AreTaken, first_line, source_texts}
-use Rattle.ti_tools.specs.Sources.{IsSourceRefusal}
+use Rattle.ti_tools.specs.Sources.{IsToldRefusal}
 use Rattle.ti_devices.specs.Tree.{FileAt}
 use Rattle.ti_tools.specs.declared.outcome.TicOutcome.{TicOutcome}
 use Rattle.ti_devices.specs.declared.tool_error.ToolError.{ToolError}
@@ -49,4 +49,4 @@ IsCompiled source check dir outcome =
 -- refused
 abbrev pub IsTicAnswer : List ℕ → Bool → List ℕ → Result TicOutcome ToolError → Type 0
 IsTicAnswer source check dir (Ok outcome) = IsCompiled source check dir outcome
-IsTicAnswer source check dir (Err error) = IsSourceRefusal source error ⊎ ((error ≡ Memory) × AreTaken (source_texts source))
+IsTicAnswer source check dir (Err error) = IsToldRefusal source error ⊎ ((error ≡ Memory) × AreTaken (source_texts source))

@@ -24,7 +24,6 @@ mod stopping;
 pub use compiling::tic;
 pub use listings::{InfocmpOptions, infocmp};
 pub use outcome::{TicOptions, TicOutcome};
-pub use sources::sources_have_one_refusal;
 pub use stopping::{message, status};
 pub use ti_commands::{InfocmpMode, Job, Refusal, UsageError, job, job_or_refusal};
 pub use ti_devices::{
@@ -33,4 +32,5 @@ pub use ti_devices::{
 };
 pub use ti_list::{Layout, Order};
 pub use ti_session::session;
+pub use ti_sources::sources_have_one_refusal;
 pub use ti_tput::{TputOutcome, tput, tput_lines};

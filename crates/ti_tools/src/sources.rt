@@ -2,27 +2,18 @@
 ghost use Rattle.std.specs.Prelude.{◌≡◌, ◌⊎◌};
 ghost use Rattle.ti_sources.specs.Sources.{AreTaken, source_texts};
 ghost use Rattle.ti_devices.specs.declared.tool_error.ToolError.TheVariants.{Memory};
-ghost use Rattle.ti_tools.specs.Sources.{IsSourceRefusal, SourcesHaveOneRefusal, TakenSourcesAreNotRefused};
+ghost use Rattle.ti_tools.specs.Sources.{IsToldRefusal};
 
 use ti_devices::ToolError;
 use ti_sources::{SourceError, check};
 
 /// Why a source of which nothing could be made is refused; `Memory` if it is not.
 pub(crate) fn refusal(source: &[u8]) -> ToolError
-    ensures { IsSourceRefusal source.now result ⊎ ((result ≡ Memory) × AreTaken (source_texts source.now)) }
+    ensures { IsToldRefusal source.now result ⊎ ((result ≡ Memory) × AreTaken (source_texts source.now)) }
 {
     match check(source) {
         Ok(()) => ToolError::Memory,
         Err(SourceError::BlockTooLong { line }) => ToolError::BlockTooLong(line),
         Err(SourceError::TooManyBlocks { .. }) => ToolError::TooManyBlocks,
     }
-}
-
-/// A law, with no code: a source is refused for one cause alone, that of its first block that is
-/// refused; if each block is taken, it is not refused.
-pub fn sources_have_one_refusal()
-    ensures one { SourcesHaveOneRefusal }
-    ensures taken { TakenSourcesAreNotRefused }
-{
-    ti_sources::sources_have_one_refusal();
 }
