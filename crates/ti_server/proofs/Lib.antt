@@ -1,3 +1,4 @@
+pub mod Capabilities
 pub mod Floats
 pub mod Places
 pub mod Serves

@@ -1,4 +1,6 @@
 -- The definitions that the contracts of this crate cite.
+pub mod Descriptions
+pub mod Offers
 pub mod Sayings
 pub mod Steps
 pub mod Answers

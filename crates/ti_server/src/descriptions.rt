@@ -4,9 +4,10 @@
 //! The rows have the order of the compiled entry, as terminfo(5) gives it: a capability is
 //! described by the row of its kind at its index. Those of the texts are in six parts, since the
 //! proof of a function grows faster than the table that it reads.
-ghost use Rattle.std.specs.Prelude.{◌<◌};
+ghost use Rattle.std.specs.Prelude.{◌≡◌, ◌<◌, Some, length, map, slice_get};
 ghost use Rattle.ti_caps.specs.Tables.{count_of};
-ghost use Rattle.ti_caps.specs.declared.capability.Kind.TheVariants.{Flag, Number, Text};
+ghost use Rattle.ti_caps.specs.declared.capability.Kind.TheVariants.{Text};
+ghost use Rattle.ti_server.specs.Descriptions.{described, description_seen, rows, told};
 
 use ti_caps::{Cap, FLAG_COUNT, Kind, NUMBER_COUNT, TEXT_COUNT};
 
@@ -22,102 +23,61 @@ pub struct Description {
     pub parameters: &'static str,
 }
 
+// A row: the variable, the sentence and the parameters.
+type Row = (&'static str, &'static str, &'static str);
+
 // How many rows a part of the texts has.
 const PART: usize = TEXT_COUNT / 6;
 
 // The rows of a list: each has the variable, the sentence and, if it takes any, the parameters.
 macro_rules! descriptions {
     ($($variable:literal, $sentence:literal $(, $parameters:literal)?;)*) => {
-        [$(Description {
-            variable: $variable,
-            sentence: $sentence,
-            parameters: concat!("" $(, $parameters)?),
-        }),*]
+        [$(($variable, $sentence, concat!("" $(, $parameters)?))),*]
     };
 }
 
 /// What is said of a capability: the row of its kind at its index.
-pub fn description_of(cap: Cap) -> &'static Description {
+pub fn description_of(cap: Cap) -> Description
+    ensures { description_seen result ≡ described cap }
+{
     match cap.kind() {
-        Kind::Flag => flag_row(cap.index()),
-        Kind::Number => number_row(cap.index()),
+        Kind::Flag => row_at(&FLAGS, cap.index()),
+        Kind::Number => row_at(&NUMBERS, cap.index()),
         Kind::Text => text_row(cap.index()),
     }
 }
 
-// The row of a flag.
-fn flag_row(index: usize) -> &'static Description
-    requires { index < count_of Flag }
+// What the row at a place of a list says.
+fn row_at(rows: &'static [Row], place: usize) -> Description
+    requires { place < length rows.now }
+    ensures { slice_get (map (λ r. told r.0.now r.1.now r.2.now) rows.now) place ≡ Some (description_seen result) }
 {
-    &FLAGS[index]
-}
-
-// The row of a number.
-fn number_row(index: usize) -> &'static Description
-    requires { index < count_of Number }
-{
-    &NUMBERS[index]
-}
-
-// The row of a text.
-fn text_row(index: usize) -> &'static Description
-    requires { index < count_of Text }
-{
-    let place = index % PART;
-    match index / PART {
-        0 => row_of_part_1(place),
-        1 => row_of_part_2(place),
-        2 => row_of_part_3(place),
-        3 => row_of_part_4(place),
-        4 => row_of_part_5(place),
-        _ => row_of_part_6(place),
+    let (variable, sentence, parameters) = rows[place];
+    Description {
+        variable,
+        sentence,
+        parameters,
     }
 }
 
-// The row of a text of the first part.
-fn row_of_part_1(place: usize) -> &'static Description
-    requires { place < 69 }
+// What the row of a text says.
+fn text_row(index: usize) -> Description
+    requires { index < count_of Text }
+    ensures { slice_get (rows Text) index ≡ Some (description_seen result) }
 {
-    &PART_1[place]
-}
-
-// The row of a text of the second part.
-fn row_of_part_2(place: usize) -> &'static Description
-    requires { place < 69 }
-{
-    &PART_2[place]
-}
-
-// The row of a text of the third part.
-fn row_of_part_3(place: usize) -> &'static Description
-    requires { place < 69 }
-{
-    &PART_3[place]
-}
-
-// The row of a text of the fourth part.
-fn row_of_part_4(place: usize) -> &'static Description
-    requires { place < 69 }
-{
-    &PART_4[place]
-}
-
-// The row of a text of the fifth part.
-fn row_of_part_5(place: usize) -> &'static Description
-    requires { place < 69 }
-{
-    &PART_5[place]
-}
-
-// The row of a text of the sixth part.
-fn row_of_part_6(place: usize) -> &'static Description
-    requires { place < 69 }
-{
-    &PART_6[place]
+    let place = index % PART;
+    match index / PART {
+        0 => row_at(&PART_1, place),
+        1 => row_at(&PART_2, place),
+        2 => row_at(&PART_3, place),
+        3 => row_at(&PART_4, place),
+        4 => row_at(&PART_5, place),
+        _ => row_at(&PART_6, place),
+    }
 }
 
 // The descriptions of the flags, by index.
-static FLAGS: [Description; FLAG_COUNT] = descriptions! {
+static FLAGS: [Row; FLAG_COUNT] = descriptions! {
     "auto_left_margin", "Moving left from the first column leads to the end of the line above";
     "auto_right_margin", "Lines wrap at the right margin";
     "no_esc_ctlc", "Function keys F1 and F2 serve as Escape and Ctrl-C (Beehive)";
@@ -165,7 +125,7 @@ static FLAGS: [Description; FLAG_COUNT] = descriptions! {
 };
 
 // The descriptions of the numbers, by index.
-static NUMBERS: [Description; NUMBER_COUNT] = descriptions! {
+static NUMBERS: [Row; NUMBER_COUNT] = descriptions! {
     "columns", "Columns on the screen";
     "init_tabs", "Columns between tab stops when the terminal is switched on";
     "lines", "Lines on the screen or page";
@@ -209,7 +169,7 @@ static NUMBERS: [Description; NUMBER_COUNT] = descriptions! {
 };
 
 // The descriptions of the texts from `cbt` to `kf2`.
-static PART_1: [Description; PART] = descriptions! {
+static PART_1: [Row; PART] = descriptions! {
     "back_tab", "Move the cursor back to the tab stop before it";
     "bell", "Ring the bell";
     "carriage_return", "Move the cursor to the first column of its line";
@@ -283,7 +243,7 @@ static PART_1: [Description; PART] = descriptions! {
 };
 
 // The descriptions of the texts from `kf3` to `hu`.
-static PART_2: [Description; PART] = descriptions! {
+static PART_2: [Row; PART] = descriptions! {
     "key_f3", "The sequence that function key F3 sends";
     "key_f4", "The sequence that function key F4 sends";
     "key_f5", "The sequence that function key F5 sends";
@@ -358,7 +318,7 @@ static PART_2: [Description; PART] = descriptions! {
 };
 
 // The descriptions of the texts from `iprog` to `kPRV`.
-static PART_3: [Description; PART] = descriptions! {
+static PART_3: [Row; PART] = descriptions! {
     "init_prog", "Name a program that is run to set the terminal up";
     "key_a1", "The sequence that the upper left key of the keypad sends";
     "key_a3", "The sequence that the upper right key of the keypad sends";
@@ -431,7 +391,7 @@ static PART_3: [Description; PART] = descriptions! {
 };
 
 // The descriptions of the texts from `kPRT` to `dclk`.
-static PART_4: [Description; PART] = descriptions! {
+static PART_4: [Row; PART] = descriptions! {
     "key_sprint", "The sequence that Shift with the Print key sends";
     "key_sredo", "The sequence that Shift with the Redo key sends";
     "key_sreplace", "The sequence that Shift with the Replace key sends";
@@ -504,7 +464,7 @@ static PART_4: [Description; PART] = descriptions! {
 };
 
 // The descriptions of the texts from `rmclk` to `smgt`.
-static PART_5: [Description; PART] = descriptions! {
+static PART_5: [Row; PART] = descriptions! {
     "remove_clock", "Hide the clock";
     "create_window", "Define a window by two of its corners",
         "window, first row, first column, last row, last column";
@@ -580,7 +540,7 @@ static PART_5: [Description; PART] = descriptions! {
 };
 
 // The descriptions of the texts from `smgtp` to `box1`.
-static PART_6: [Description; PART] = descriptions! {
+static PART_6: [Row; PART] = descriptions! {
     "set_top_margin_parm", "Put the top margin at a line", "row";
     "start_bit_image", "Begin to print a bit image", "width in dots";
     "start_char_set_def", "Begin the definition of a character set", "set, count";

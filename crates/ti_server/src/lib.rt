@@ -6,12 +6,14 @@
 //! - `documents`: the documents that are open; `editing` changes the text of one
 //! - `server`: the state, changed by a message; `serving` answers frames by it; `runs` has the law
 //!   on whole runs
-//! - `descriptions`: what each capability is, in a sentence
+//! - `descriptions`: what each capability is, in a sentence; `offers` makes items of completions of
+//!   them
 #![tactic(auto)]
 
 mod descriptions;
 mod documents;
 mod editing;
+pub mod offers;
 pub mod phase;
 mod requests;
 mod runs;

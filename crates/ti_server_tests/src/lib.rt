@@ -1,7 +1,8 @@
 //! The language server's frames, messages and descriptions as tests, with bytes by hand from the
 //! protocol; no code of the product.
 //!
-//! - `descriptions`: each capability has one, and some are these
+//! - `descriptions`: each capability has one, and some are these; `offers`: what a completion has of
+//!   them
 //! - `frames`: headers and bodies, read and written
 //! - `values`: the values that are sent
 //! - `measured`: a source for tests; `sessions` has runs of frames over it, with what is written
@@ -13,6 +14,8 @@ mod descriptions;
 mod frames;
 #[cfg(test)]
 mod measured;
+#[cfg(test)]
+mod offers;
 #[cfg(test)]
 mod sessions;
 #[cfg(test)]
