@@ -5,8 +5,10 @@ the life of the server, and the texts of the open documents as Python strings.
 import json
 import re
 
-from .base import BLOCK_MAX, BLOCKS_MAX, Meaning
-from .source import FAULTS, cut
+from .answers import symbols_of
+from .base import Meaning
+from .source import FAULTS
+from .texts import blocks_of, lines_of, offset_of, refused_line, width
 
 SMALL = 2**31
 BODY_MAX = 67_108_864
@@ -73,37 +75,6 @@ def refusal(number, code):
     return {"id": number, "error": code}
 
 
-def units(character):
-    return 2 if ord(character) > 0xFFFF else 1
-
-
-def width(text):
-    return sum(map(units, text))
-
-
-def lines_of(text):
-    """The lines of a text: where each begins, and its characters without its end."""
-    found, start = [], 0
-    for piece in text.split("\n"):
-        last = start + len(piece) == len(text)
-        found.append((start, piece[:-1] if piece.endswith("\r") and not last else piece))
-        start += len(piece) + 1
-    return found
-
-
-def offset_of(text, line, column):
-    """The place in a string of a place in the protocol."""
-    lines = lines_of(text)
-    if line >= len(lines):
-        return len(text)
-    start, characters = lines[line]
-    for at, character in enumerate(characters):
-        if column < units(character):
-            return start + at
-        column -= units(character)
-    return start + len(characters)
-
-
 def place_of(value):
     """A place of the protocol, or None."""
     if isinstance(value, dict) and is_small(value.get("line")) and is_small(value.get("character")):
@@ -141,23 +112,9 @@ def mark(lines, line, code, front):
     return line, indent, width(characters), 1 if code[0] != "W" else 2, code, front
 
 
-def refused_line(preface, blocks):
-    """The line, counted from 0, of the block for which a source is refused, and the code; or
-    None."""
-    line = preface.count(b"\n")
-    for at, block in enumerate(blocks):
-        if at == BLOCKS_MAX:
-            return line, "TooManyBlocks"
-        if len(block) > BLOCK_MAX:
-            return line, "BlockTooLong"
-        line += block.count(b"\n")
-    return None
-
-
 def diagnostics_of(text):
     """The diagnostics of a text."""
-    source = text.encode("utf-8")
-    preface, blocks = cut(source if source.endswith(b"\n") else source + b"\n")
+    preface, blocks = blocks_of(text)
     lines = lines_of(text if text.endswith("\n") else text + "\n")
     refused = refused_line(preface, blocks)
     if refused is not None:
@@ -190,8 +147,8 @@ def question_of(method, params):
 
 def answer_of(method, text, uri, place, declared):
     """The answer to a question about a text."""
-    del method, text, uri, place, declared
-    return None
+    del uri, place, declared
+    return symbols_of(text) if method == "textDocument/documentSymbol" else None
 
 
 class Server:
