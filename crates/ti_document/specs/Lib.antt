@@ -6,4 +6,6 @@ pub mod Exchanges
 pub mod Documents
 pub mod Advice
 pub mod Diagnostics
+pub mod Spots
+pub mod Symbols
 pub mod inside

@@ -7,10 +7,12 @@ ghost use Rattle.ti_sources.specs.Sources.{AreTaken, source_refusal, source_text
 ghost use Rattle.ti_document.specs.Documents.{held};
 ghost use Rattle.ti_document.specs.Exchanges.{AtBack, AtFront, Exchanged};
 ghost use Rattle.ti_document.specs.Diagnostics.{diagnostic_seen, diagnostics_of};
+ghost use Rattle.ti_document.specs.Symbols.{symbol_seen, symbols_of};
 
 use crate::cut::{common_back, common_front};
 use crate::diagnostics::{Diagnostic, source_diagnostics};
 use crate::exchanging::exchange;
+use crate::symbols::{Symbol, source_symbols};
 use std::alloc::{AllocError, Global};
 use std::marker::Model;
 use ti_base::{Database, EditError};
@@ -230,5 +232,15 @@ impl Document {
         ensures { IfOk result (λ all. map diagnostic_seen all.items ≡ diagnostics_of self.now) }
     {
         source_diagnostics(alloc, self.text.as_slice(), &self.database)
+    }
+
+    /// Its blocks in order, as an outline shows them; none if the source is refused.
+    ///
+    /// # Errors
+    /// Out of memory.
+    pub fn symbols(&self, alloc: Global) -> Result<Vec<Symbol>, AllocError>
+        ensures { IfOk result (λ all. map symbol_seen all.items ≡ symbols_of self.now) }
+    {
+        source_symbols(alloc, self.text.as_slice(), &self.database)
     }
 }

@@ -9,6 +9,8 @@
 //! - `document`: a text with a database of its blocks
 //! - `advice`: what each fault means, and what to do about it
 //! - `diagnostics`: the faults of a document, with their places
+//! - `spots`: where the blocks of a document are, and which one a place is in
+//! - `symbols`: the blocks of a document as its outline
 #![tactic(auto)]
 
 mod advice;
@@ -19,9 +21,12 @@ mod exchanging;
 mod lines;
 mod position;
 mod splicing;
+mod spots;
+mod symbols;
 
 pub use diagnostics::{Diagnostic, Problem};
 pub use document::Document;
 pub use exchanging::one_change_is_one_edit;
 pub use position::{offset_of, position_of, positions_are_inverse};
 pub use splicing::spliced;
+pub use symbols::Symbol;

@@ -106,7 +106,8 @@ fn step_over(text: &[u8], at: usize, place: Position) -> Position
 
 /// The place of an offset of a text, that of its end past the end.
 pub fn position_of(text: &[u8], offset: usize) -> Position
-    ensures { result ≡ spec.position_of text.now offset }
+    ensures place { result ≡ spec.position_of text.now offset }
+    ensures line { result.line ≤ length text.now }
 {
     let mut place = Position { line: 0, column: 0 };
     for at in 0..offset.min(text.len()) {

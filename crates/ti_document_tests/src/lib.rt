@@ -4,12 +4,15 @@
 //! - `places`: offsets and places, and parts of a text exchanged
 //! - `documents`: a text that is exchanged, and how many edits that takes
 //! - `diagnostics`: what is wrong with a text, and where
+//! - `outlines`: the blocks of documents as their outlines show them
 #![tactic(auto)]
 
 #[cfg(test)]
 mod diagnostics;
 #[cfg(test)]
 mod documents;
+#[cfg(test)]
+mod outlines;
 #[cfg(test)]
 mod places;
 #[cfg(test)]

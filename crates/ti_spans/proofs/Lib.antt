@@ -1,6 +1,9 @@
+pub mod Computing
+pub mod Itemizing
 pub mod Joining
 pub mod Laws
 pub mod Lines
 pub mod Naming
 pub mod Parting
+pub mod Seeing
 pub mod Spanning

@@ -92,7 +92,7 @@ parts_go_on text from parts start at size before d order some so goes item items
     (sym (append_assoc (slice_range text start at) (take size (drop at text)) item) ∙ ap (λ (t : List PlacedByte). t ++ item) (sym (longer text start at size order))) made
 
 -- one more item
-more_parts : (text : List PlacedByte) (parts : List Part) (part : Part) (rest : List (List PlacedByte)) → map (part_of text) parts ++ (part_of text part ++ []) ∷ rest ≡ map (part_of text) (parts ++ part ∷ []) ++ rest
+pub more_parts : (text : List PlacedByte) (parts : List Part) (part : Part) (rest : List (List PlacedByte)) → map (part_of text) parts ++ (part_of text part ++ []) ∷ rest ≡ map (part_of text) (parts ++ part ∷ []) ++ rest
 more_parts text parts part rest =
     ap (λ (t : List PlacedByte). map (part_of text) parts ++ t ∷ rest) (append-nil (part_of text part))
     ∙ sym (append_assoc (map (part_of text) parts) (part_of text part ∷ []) rest)

@@ -1,4 +1,5 @@
 -- The definitions that the contracts of this crate cite.
 pub mod Folding
 pub mod Parts
+pub mod Subjects
 pub mod inside

@@ -1,7 +1,7 @@
 //! The text of a block without its comments and line breaks, each byte with its offset.
 ghost use Rattle.std.specs.Prelude.{◌≡◌, ◌^◌, All, ◌<◌, ◌≤◌, ◌++◌, IfOk, OnOk, length, if◌then◌else◌};
 ghost use Rattle.ti_source.specs.Folding.{Joins, is_blank, is_comment};
-ghost use Rattle.ti_spans.specs.Folding.{FoldsAt, OffsetsLead, OneFoldingAt};
+ghost use Rattle.ti_spans.specs.Folding.{FoldedIsComputed, FoldsAt, OffsetsLead, OneFoldingAt, folded_of};
 ghost use Rattle.ti_spans.specs.inside.Lines.{IsLineAt, IsRunAt, KeepsLines, range_at};
 
 use memchr::memchr;
@@ -111,6 +111,7 @@ fn joined(alloc: Global, text: &[(u8, usize)]) -> Result<Vec<(u8, usize)>, Alloc
 pub fn folded(alloc: Global, block: &[u8]) -> Result<Vec<(u8, usize)>, AllocError>
     ensures text { IfOk result (λ text. FoldsAt block.now text.items) }
     ensures offsets { IfOk result (λ text. All (λ x. x.1 < 2 ^ 63) text.items) }
+    ensures computed { IfOk result (λ text. text.items ≡ folded_of block.now) }
 {
     let kept = kept_lines(alloc, block)?;
     joined(alloc, &kept)
@@ -121,4 +122,5 @@ pub fn folded(alloc: Global, block: &[u8]) -> Result<Vec<(u8, usize)>, AllocErro
 pub fn one_folding_at()
     ensures one { OneFoldingAt }
     ensures offsets { OffsetsLead }
+    ensures computed { FoldedIsComputed }
 {}

@@ -1,11 +1,20 @@
 //! The parts of a block with the bytes at which they are: what a cursor in an editor is on.
 //!
-//! - `folding`: the text of a block without its comments and line breaks, each byte with its offset
+//! - `folding`: the text of a block without its comments and line breaks
 //! - `parts`: the names field with its names and the items, as parts of that text
+//! - `heads`: where the names field of a block is
+//! - `items`: the items as they are seen, and the names that they use
+//! - `subjects`: what an offset of a block is on
 #![tactic(auto)]
 
 mod folding;
+mod heads;
+mod items;
 mod parts;
+mod subjects;
 
 pub use folding::{folded, one_folding_at};
-pub use parts::{Part, field_len, item_parts, name_parts, span_of};
+pub use heads::{Head, head_of};
+pub use items::{Use, uses_of};
+pub use parts::{Part, field_len, item_parts, name_parts, parts_are_computed, span_of};
+pub use subjects::{Subject, Touched, subject_at};

@@ -1,9 +1,10 @@
 //! The names field and the items, as parts of a folded text.
-ghost use Rattle.std.specs.Prelude.{◌≡◌, ◌^◌, ◌+◌, ◌<◌, ◌≤◌, All, IfOk, drop, length, map, take};
+ghost use Rattle.std.specs.Prelude.{◌≡◌, ◌^◌, ◌+◌, ◌++◌, ◌<◌, ◌≤◌, All, IfOk, OnOk, drop, length, map, take};
 ghost use Rattle.ti_text.specs.Ascii as ascii;
 ghost use Rattle.ti_source.specs.Header.{PartsOf};
 ghost use Rattle.ti_source.specs.Items.{AreItems, Begins, bytes, takes};
-ghost use Rattle.ti_spans.specs.Parts.{IsWithin, part_of, spanned, text_of};
+ghost use Rattle.ti_spans.specs.Parts as spec;
+ghost use Rattle.ti_spans.specs.Parts.{IsWithin, field_of, items_after, names_of, part_of, rest_of, spanned, text_of};
 ghost use Rattle.ti_spans.specs.inside.Steps.{EndsHere, GoesOn};
 
 use std::alloc::{AllocError, Global};
@@ -19,7 +20,9 @@ pub struct Part {
 
 /// How many bytes the names field has: those before the first comma, or all.
 pub fn field_len(text: &[(u8, usize)]) -> usize
-    ensures field { Begins text.now (take result text.now) (drop (result + 1) text.now) }
+    ensures begins { Begins text.now (take result text.now) (drop (result + 1) text.now) }
+    ensures field { take result text.now ≡ field_of text.now }
+    ensures rest { drop (result + 1) text.now ≡ rest_of text.now }
     ensures within { result ≤ length text.now }
 {
     for at in 0..text.len() {
@@ -63,6 +66,7 @@ fn step_len(text: &[(u8, usize)], before: u8) -> usize
 pub fn name_parts(alloc: Global, text: &[(u8, usize)], len: usize) -> Result<Vec<Part>, AllocError>
     requires { len ≤ length text.now }
     ensures names { IfOk result (λ parts. PartsOf (bytes (take len text.now)) (map (text_of text.now) parts.items)) }
+    ensures computed { IfOk result (λ parts. map (part_of text.now) parts.items ≡ names_of (take len text.now)) }
     ensures within { IfOk result (λ parts. All (IsWithin text.now) parts.items) }
 {
     let mut parts = Vec::new(alloc);
@@ -88,6 +92,7 @@ pub fn name_parts(alloc: Global, text: &[(u8, usize)], len: usize) -> Result<Vec
 pub fn item_parts(alloc: Global, text: &[(u8, usize)], from: usize) -> Result<Vec<Part>, AllocError>
     requires { from ≤ length text.now }
     ensures items { IfOk result (λ parts. AreItems ascii.comma (drop from text.now) (map (part_of text.now) parts.items)) }
+    ensures computed { IfOk result (λ parts. map (part_of text.now) parts.items ≡ items_after ascii.comma (drop from text.now)) }
     ensures within { IfOk result (λ parts. All (IsWithin text.now) parts.items) }
 {
     let mut parts = Vec::new(alloc);
@@ -113,6 +118,21 @@ pub fn item_parts(alloc: Global, text: &[(u8, usize)], from: usize) -> Result<Ve
     Ok(parts)
 }
 
+/// Appends the bytes of a part of a folded text.
+pub(crate) fn push_bytes(
+    bytes: &mut Vec<u8>,
+    text: &[(u8, usize)],
+    part: Part,
+) -> Result<(), AllocError>
+    requires { IsWithin text.now part }
+    ensures { OnOk result (bytes.new.items ≡ bytes.old.items ++ text_of text.now part) }
+{
+    for at in part.start..part.end {
+        bytes.push(text[at].0)?;
+    }
+    Ok(())
+}
+
 /// Where a part of a folded text is in its block: from the offset of its first byte to after that
 /// of its last; `None` if it has no bytes. Comments and line breaks between them are spanned too.
 pub fn span_of(text: &[(u8, usize)], part: Part) -> Option<Part>
@@ -128,3 +148,11 @@ pub fn span_of(text: &[(u8, usize)], part: Part) -> Option<Part>
         end: text[part.end - 1].1 + 1,
     })
 }
+
+/// A law, with no code: the field, the names and the items that are computed are those of the
+/// format.
+pub fn parts_are_computed()
+    ensures fields { spec.FieldsAreComputed }
+    ensures names { spec.NamesAreComputed }
+    ensures items { spec.ItemsAreComputed }
+{}

@@ -20,7 +20,7 @@ loop-at-preserved c =
       column = omega (arith, c.step_over-place.ensures.column);
     }
 
-pub returns : goal.returns
-returns c =
+pub returns-clause-place : goal.returns-clause-place
+returns-clause-place c =
     let past : min c.args.offset (length c.args.text.now) ≤ c.loop-at.at = omega arith in
     sym (place_end c.args.text.now c.loop-at.place c.loop-at.at c.args.offset past) ∙ c.loop-at.invariant.leads

@@ -1,3 +1,4 @@
+use Rattle.ti_spans.proofs.Computing.{folded_computed}
 use Rattle.ti_spans.proofs.Laws.{offsets_lead, one_folding}
 use Rattle.ti_spans.proofs.folding.one_folding_at.Goals as goal
 
@@ -6,3 +7,6 @@ returns-clause-one c = one_folding
 
 pub returns-clause-offsets : goal.returns-clause-offsets
 returns-clause-offsets c = offsets_lead
+
+pub returns-clause-computed : goal.returns-clause-computed
+returns-clause-computed c = folded_computed

@@ -1,4 +1,4 @@
-use Rattle.std.proofs.Common.{◌≡◌, ◌+◌, ◌<◌, All, List, drop, length, map, ap, subst, sym, arith}
+use Rattle.std.proofs.Common.{◌≡◌, ◌+◌, ◌++◌, ◌∷◌, [], ◌<◌, All, List, drop, length, map, ap, subst, sym, ◌∙◌, arith}
 use Rattle.std.proofs.lemmas.List.{length-drop, take_rest}
 use Rattle.std.proofs.lemmas.List.Elements.{All-push}
 use Rattle.ti_source.specs.Folding.{PlacedByte}
@@ -6,6 +6,7 @@ use Rattle.ti_source.specs.Items.{AreItems}
 use Rattle.ti_spans.specs.Parts.{IsWithin, part_of}
 use Rattle.ti_spans.specs.declared.parts.Part.{Part}
 use Rattle.ti_spans.specs.inside.Steps.{EndsHere, GoesOn}
+use Rattle.ti_spans.proofs.Itemizing.{items_are}
 use Rattle.ti_spans.proofs.Parting.{PartsTo, ends_at, parts_end, parts_go_on, parts_last}
 use Rattle.ti_spans.proofs.parts.item_parts.Goals as goal
 
@@ -47,3 +48,11 @@ returns-clause-items c =
     let all : l.at ≡ length text = (let within = l.invariant.within in omega arith) in
     subst (λ (parts : List Part). AreItems 44 (drop c.args.from text) (map (part_of text) parts)) (sym c.in_ok-push-2.ensures.items)
     (parts_last text c.args.from l.parts.items l.start l.at l.before all l.invariant.so)
+
+pub returns-clause-computed : goal.returns-clause-computed
+returns-clause-computed c =
+    let text = c.args.text.now in
+    let l = c.loop-at in
+    let all : l.at ≡ length text = (let within = l.invariant.within in omega arith) in
+    ap (map (part_of text)) c.in_ok-push-2.ensures.items
+    ∙ items_are 44 (drop c.args.from text) (map (part_of text) (l.parts.items ++ record { start = l.start; end = length text } ∷ [])) (parts_last text c.args.from l.parts.items l.start l.at l.before all l.invariant.so)

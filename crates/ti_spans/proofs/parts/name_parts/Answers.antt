@@ -1,11 +1,11 @@
-use Rattle.std.proofs.Common.{◌≡◌, ◌+◌, All, List, get_or, map, take, subst, sym, arith}
+use Rattle.std.proofs.Common.{◌≡◌, ◌+◌, ◌++◌, ◌∷◌, [], All, List, ap, get_or, map, take, subst, sym, ◌∙◌, arith}
 use Rattle.std.proofs.lemmas.Bool.{ne_eqb}
 use Rattle.std.proofs.lemmas.List.Elements.{All-push}
 use Rattle.ti_source.specs.Header.{PartsOf}
 use Rattle.ti_source.specs.Items.{bytes}
-use Rattle.ti_spans.specs.Parts.{IsWithin, text_of}
+use Rattle.ti_spans.specs.Parts.{IsWithin, part_of, text_of}
 use Rattle.ti_spans.specs.declared.parts.Part.{Part}
-use Rattle.ti_spans.proofs.Naming.{NamesTo, names_end, names_go_on, names_last}
+use Rattle.ti_spans.proofs.Naming.{NamesTo, names_end, names_go_on, names_last, parts_named}
 use Rattle.ti_spans.proofs.parts.name_parts.Goals as goal
 
 pub loop-at-preserved-then-text-at-eq124 : goal.loop-at-preserved-then-text-at-eq124
@@ -35,10 +35,17 @@ loop-at-preserved c =
       parts = l.invariant.parts;
     }
 
+pub returns-clause-computed : goal.returns-clause-computed
+returns-clause-computed c =
+    let text = c.args.text.now in
+    let l = c.loop-at in
+    let all : l.at ≡ c.args.len = (let within = l.invariant.within in omega arith) in
+    ap (map (part_of text)) c.in_ok-push-2.ensures.items ∙ names_last text c.args.len l.parts.items l.start l.at all l.invariant.so
+
 pub returns-clause-names : goal.returns-clause-names
 returns-clause-names c =
     let text = c.args.text.now in
     let l = c.loop-at in
     let all : l.at ≡ c.args.len = (let within = l.invariant.within in omega arith) in
     subst (λ (parts : List Part). PartsOf (bytes (take c.args.len text)) (map (text_of text) parts)) (sym c.in_ok-push-2.ensures.items)
-    (names_last text c.args.len l.parts.items l.start l.at all l.invariant.so)
+    (parts_named text c.args.len (l.parts.items ++ record { start = l.start; end = c.args.len } ∷ []) (names_last text c.args.len l.parts.items l.start l.at all l.invariant.so))

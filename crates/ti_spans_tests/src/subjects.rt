@@ -1,0 +1,107 @@
+//! What offsets of blocks are on, and the names that blocks use.
+use std::alloc::{AllocError, Global};
+use std::process::Abort;
+use ti_spans::{Subject, Touched, head_of, subject_at, uses_of};
+
+/// A block with comments, broken lines and white space around a name.
+const BLOCK: &[u8] =
+    b"x|y z|long one,\n\tam, use= a\n b \t,\n# use=no,\n use=,\n\tbel=use=q, use=c,\n";
+
+/// A block, where its names field is, and the bytes of that.
+#[rattlefmt::skip]
+const HEADS: [(&[u8], (usize, usize), &[u8]); 5] = [
+    (BLOCK, (0, 14), b"x|y z|long one"),
+    (b"xterm\n", (0, 5), b"xterm"),
+    // A break within the field is spanned, and not of it.
+    (b"ab|c\n#d\n  e,f,\n", (0, 11), b"ab|ce"),
+    // A block whose field has no bytes.
+    (b",am,\n", (0, 0), b""),
+    (b"", (0, 0), b""),
+];
+
+#[test]
+fn heads(rt: HostRuntime) -> Result<(), AllocError> {
+    for (block, (start, end), text) in HEADS {
+        let head = head_of(rt.alloc(), block)?;
+        assert!(rt; head.span.start == start && head.span.end == end);
+        assert!(rt; head.text.as_slice() == text);
+    }
+    Ok(())
+}
+
+/// A block, and where the names are that it uses, with these names.
+#[rattlefmt::skip]
+const USES: [(&[u8], &[(usize, usize, &[u8])]); 4] = [
+    // The break within the name is spanned, the white space around it is not; a `use=` without a
+    // name is none, nor is one in a comment or in a string.
+    (BLOCK, &[(26, 30, b"ab"), (67, 68, b"c")]),
+    (b"a,use=b,use=b,\n", &[(6, 7, b"b"), (12, 13, b"b")]),
+    (b"a,use@,use#1,.use=b,us,\n", &[]),
+    (b"use=b,\n", &[]),
+];
+
+#[test]
+fn uses(rt: HostRuntime) -> Result<(), AllocError> {
+    for (block, names) in USES {
+        let uses = uses_of(rt.alloc(), block)?;
+        assert!(rt; uses.len() == names.len());
+        for (found, (start, end, name)) in uses.iter().zip(names) {
+            assert!(rt; found.span.start == *start && found.span.end == *end);
+            assert!(rt; found.name.as_slice() == *name);
+        }
+    }
+    Ok(())
+}
+
+/// What an offset is wanted to be on.
+#[derive(Clone, Copy)]
+enum Wanted {
+    Own(&'static [u8]),
+    Used(&'static [u8]),
+}
+
+/// A block, an offset of it, and where what the offset is on is, with its name.
+#[rattlefmt::skip]
+const SUBJECTS: [(&[u8], usize, (usize, usize), Wanted); 8] = [
+    (BLOCK, 0, (0, 1), Wanted::Own(b"x")),
+    // After the last byte of a name.
+    (BLOCK, 1, (0, 1), Wanted::Own(b"x")),
+    (BLOCK, 5, (2, 5), Wanted::Own(b"y z")),
+    (b"alone,\n", 5, (0, 5), Wanted::Own(b"alone")),
+    // Anywhere in the item, from its first byte that is no white space.
+    (BLOCK, 21, (21, 32), Wanted::Used(b"ab")),
+    (BLOCK, 30, (21, 32), Wanted::Used(b"ab")),
+    (BLOCK, 68, (63, 68), Wanted::Used(b"c")),
+    (b"a,use=,", 6, (2, 6), Wanted::Used(b"")),
+];
+
+/// Whether that is touched which is wanted.
+fn is_touched(found: &Touched, start: usize, end: usize, wanted: Wanted) -> bool {
+    let same = match (&found.subject, wanted) {
+        (Subject::OwnName(name), Wanted::Own(other)) => name.as_slice() == other,
+        (Subject::Used(name), Wanted::Used(other)) => name.as_slice() == other,
+        _ => false,
+    };
+    same && found.span.start == start && found.span.end == end
+}
+
+#[test]
+fn subjects(rt: HostRuntime) -> Result<(), AllocError> {
+    for (block, offset, (start, end), wanted) in SUBJECTS {
+        let found = subject_at(rt.alloc(), block, offset)?;
+        assert!(rt; found.is_some_and(|found| is_touched(&found, start, end, wanted)));
+    }
+    Ok(())
+}
+
+/// Offsets that are on no name and no use: in the description, on an item of another kind, in a
+/// comment, between items, after the end.
+const NOWHERE: [usize; 7] = [8, 17, 38, 15, 20, 55, 1000];
+
+#[test]
+fn nowhere(rt: HostRuntime) -> Result<(), AllocError> {
+    for offset in NOWHERE {
+        assert!(rt; subject_at(rt.alloc(), BLOCK, offset)?.is_none());
+    }
+    Ok(())
+}
