@@ -1,13 +1,29 @@
 -- The answers to questions about a terminfo source, as values of the protocol (LSP 3.17).
-use Rattle.std.specs.Prelude.{ℕ, List}
-use Rattle.serde_json.specs.Data.{Data, null}
+use Rattle.std.specs.Prelude.{ℕ, List, map}
+use Rattle.serde_json.specs.Data.{Data, array, null}
+use Rattle.serde_json.specs.View.{items_of}
+use Rattle.ti_messages.specs.Shapes.{symbol_data}
 use Rattle.ti_messages.specs.declared.messages.Question.{Question}
+use Rattle.ti_messages.specs.declared.messages.Question.TheVariants.{Completion, Hover, Definition, References, Symbols}
+use Rattle.ti_document.specs.Symbols.{SymbolSeen, symbols_of}
 use Rattle.ti_server.specs.Sayings.{Sayings}
 use Rattle.ti_lsp.specs.Shown.{shown_of}
 
--- the answer to a question about a text, under the URI of its document
+-- a block in the outline
+abbrev pub symbol_shown : SymbolSeen → Data
+symbol_shown symbol = symbol_data symbol.name symbol.range symbol.selection
+
+-- the outline of a source ("DocumentSymbol")
+abbrev pub outline_data : List SymbolSeen → Data
+outline_data all = array (items_of (map symbol_shown all))
+
+-- the answer to a question about a text, under the URI of its document; nothing is known of a place
 abbrev pub answer_of : List ℕ → List ℕ → Question → Data
-answer_of text uri question = null
+answer_of text uri (Completion place) = null
+answer_of text uri (Hover place) = null
+answer_of text uri (Definition place) = null
+answer_of text uri (References place with_declaration) = null
+answer_of text uri Symbols = outline_data (symbols_of text)
 
 abbrev pub sayings : Sayings
 sayings = record { diagnostics = shown_of; answers = answer_of }

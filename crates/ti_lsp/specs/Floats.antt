@@ -1,10 +1,13 @@
 -- No diagnostic and no answer has a float.
 use Rattle.std.specs.Prelude.{ℕ, ◌≡◌, List, [], ◌∷◌, false, map, refl}
 use Rattle.serde_json.specs.View.{items_of}
-use Rattle.serde_json.specs.Written.{items_have_float}
+use Rattle.serde_json.specs.Written.{has_float, items_have_float}
 use Rattle.ti_document.specs.Diagnostics.{Shown, diagnostics_of}
+use Rattle.ti_document.specs.Symbols.{SymbolSeen, symbols_of}
+use Rattle.ti_messages.specs.declared.messages.Question.{Question}
+use Rattle.ti_messages.specs.declared.messages.Question.TheVariants.{Completion, Hover, Definition, References, Symbols}
 use Rattle.ti_server.specs.Sayings.{HasNoFloats}
-use Rattle.ti_lsp.specs.Answers.{sayings}
+use Rattle.ti_lsp.specs.Answers.{answer_of, sayings, symbol_shown}
 use Rattle.ti_lsp.specs.Shown.{shown_data, shown_of}
 
 none_in : (all : List Shown) → items_have_float (items_of (map shown_data all)) ≡ false
@@ -14,5 +17,16 @@ none_in (shown ∷ all) = none_in all
 shown_have_no_floats : (text : List ℕ) → items_have_float (shown_of text) ≡ false
 shown_have_no_floats text = none_in (diagnostics_of text)
 
+none_in_outline : (all : List SymbolSeen) → items_have_float (items_of (map symbol_shown all)) ≡ false
+none_in_outline [] = refl
+none_in_outline (symbol ∷ all) = none_in_outline all
+
+answers_have_no_floats : (text uri : List ℕ) (question : Question) → has_float (answer_of text uri question) ≡ false
+answers_have_no_floats text uri (Completion place) = refl
+answers_have_no_floats text uri (Hover place) = refl
+answers_have_no_floats text uri (Definition place) = refl
+answers_have_no_floats text uri (References place with_declaration) = refl
+answers_have_no_floats text uri Symbols = none_in_outline (symbols_of text)
+
 pub sayings_have_no_floats : HasNoFloats sayings
-sayings_have_no_floats = record { diagnostics = shown_have_no_floats; answers = λ text uri question. refl }
+sayings_have_no_floats = record { diagnostics = shown_have_no_floats; answers = answers_have_no_floats }

@@ -1,9 +1,10 @@
 //! The program `ti-lsp`: a language server for terminfo source, over standard input and output.
 //!
 //! - `command`: what the words of the command line ask for
-//! - `terminfo`: a source as the server holds and shows it
+//! - `terminfo`: a source as the server holds and shows it; `answering` answers questions about it
 #![tactic(auto)]
 
+mod answering;
 mod command;
 mod terminfo;
 

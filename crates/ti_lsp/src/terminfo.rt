@@ -4,6 +4,7 @@ ghost use Rattle.serde_json.specs.View.{view};
 ghost use Rattle.ti_document.specs.Diagnostics.{diagnostic_seen};
 ghost use Rattle.ti_lsp.specs.Shown.{shown_data};
 
+use crate::answering::outline;
 use serde_json::Value;
 use std::alloc::{AllocError, Global};
 use ti_document::{Diagnostic, Document, offset_of};
@@ -73,7 +74,10 @@ impl Source for Terminfo {
         values_of(alloc, all.as_slice())
     }
 
-    fn answer(&self, _alloc: Global, _uri: &str, _question: Question) -> Result<Value, AllocError> {
-        Ok(Value::Null)
+    fn answer(&self, alloc: Global, _uri: &str, question: Question) -> Result<Value, AllocError> {
+        match question {
+            Question::Symbols => outline(alloc, &self.document),
+            _ => Ok(Value::Null),
+        }
     }
 }

@@ -137,8 +137,9 @@ sync_data = object (member (codes "change") (natural 2) (member (codes "openClos
 -- "ServerCapabilities"
 abbrev pub capabilities_data : Data
 capabilities_data =
-    object (member (codes "positionEncoding") (string (codes "utf-16"))
-    (member (codes "textDocumentSync") sync_data no_members))
+    object (member (codes "documentSymbolProvider") (boolean true)
+    (member (codes "positionEncoding") (string (codes "utf-16"))
+    (member (codes "textDocumentSync") sync_data no_members)))
 
 -- "InitializeResult"
 abbrev pub server_data : List ℕ → Data
