@@ -1,7 +1,6 @@
 -- An edit made as an exchange of slots: the list after it, what planning asks, and what is rebuilt.
 use Rattle.std.proofs.Common.{◌≡◌, ◌↔◌, inl, inr, ℕ, zero, suc, ◌<◌, ◌≤◌, Bool, true, false, ◌||◌, List, [], ◌∷◌, ◌++◌, length, set, map, Option, Some, None, option_map, slice_get, refl, sym, ◌∙◌, ap, subst, arith}
 use Rattle.std.specs.Prelude.{IfSome}
-use Rattle.std.specs.Option.{option_flatten}
 use Rattle.std.specs.List.{insert, remove}
 use Rattle.std.proofs.lemmas.List.{length-map, length-set, map-set}
 use Rattle.std.proofs.lemmas.List.Edits.{length-insert, length-remove}
@@ -18,48 +17,46 @@ use Rattle.ti_meaning.proofs.Exchanging.{list_any-append}
 use Rattle.ti_meaning.proofs.Placing.{get-insert, get-insert_at, split-insert}
 use Rattle.ti_slots.specs.declared.slots.Slot.{Slot}
 use Rattle.ti_slots.specs.declared.slots.Slots.{Slots}
-use Rattle.ti_slots.specs.Slots.{blocks_of, slot_texts}
-use Rattle.ti_slots.specs.Settled.{IsSettled}
+use Rattle.ti_slots.specs.Slots.{blocks_of, slot_texts, slots_of}
+use Rattle.ti_slots.proofs.Owners.{length_slots, length_texts}
+use Rattle.ti_text.proofs.Lists.{item_at}
 use Rattle.ti_dependents.specs.Dependents.{IsExchangeOf}
 use Rattle.ti_plan.specs.Plans.{OthersAreSettled}
-use Rattle.ti_base.specs.inside.Database.{AreRead, SlotsAreSettled, SlotsAreSound, IsSoundSlot, PlacedSlot, slots_of, reading_seen, text_seen, with_slot, block_seen, exchange_with}
+use Rattle.ti_base.specs.inside.Database.{AreRead, SlotsAreSettled, SlotsAreSound, IsSoundSlot, PlacedSlot, reading_seen, text_seen, with_slot, block_seen, exchange_with}
 use Rattle.ti_base.specs.inside.Texts.{IsBlockText}
 use Rattle.ti_base.specs.inside.Exchanges.{out_position, put_position, new_text, IsNewOf, names_seen, without, slot_out, slot_put, spare_after, placed, placed_put, with_exchange, IsOfSlots, CanExchange, IsMade, IsUndone, IsEdited}
-use Rattle.ti_base.proofs.SlotLists.{AreFilled, are_filled, blocks_seen, texts_seen, length_slots, length_texts, slot_there, blocks_read, readings_with}
-use Rattle.ti_base.proofs.Untouched.{others_settled, settled_in}
+use Rattle.ti_base.proofs.SlotLists.{blocks_read, readings_with}
+use Rattle.ti_base.proofs.Untouched.{others_settled, settled_as}
 use Rattle.ti_base.proofs.SlotExchanges.{gone, fits_slots, exchanged_back}
 
 -- ---- sound slots
 
-sound_without : (xs : List (Option Slot)) (out : Option ℕ) → SlotsAreSound xs → SlotsAreSound (without xs out)
+sound_without : (xs : List Slot) (out : Option ℕ) → SlotsAreSound xs → SlotsAreSound (without xs out)
 sound_without xs None h = h
-sound_without xs (Some at) h = λ k slot e. let j = gone xs at k (Some slot) e in h j.0 slot j.2
+sound_without xs (Some at) h = λ k slot e. let j = gone xs at k slot e in h j.0 slot j.2
 
-sound_with : (rest : List (Option Slot)) (at : ℕ) (new : Slot) → at ≤ length rest → IsSoundSlot new → SlotsAreSound rest → SlotsAreSound (insert rest at (Some new))
+sound_with : (rest : List Slot) (at : ℕ) (new : Slot) → at ≤ length rest → IsSoundSlot new → SlotsAreSound rest → SlotsAreSound (insert rest at new)
 sound_with rest at new l s h k slot e =
     elim (split-insert at k) [
-      | inl here ↦ subst IsSoundSlot (same_Some new slot (same_Some (Some new) (Some slot) (sym (get-insert_at rest at (Some new) l) ∙ (ap (slice_get (insert rest at (Some new))) here ∙ e)))) s
-      | inr there ↦ h there.0 slot (sym (get-insert rest at (Some new) there.0 l) ∙ (ap (slice_get (insert rest at (Some new))) there.1 ∙ e))
+      | inl here ↦ subst IsSoundSlot (same_Some new slot (sym (get-insert_at rest at new l) ∙ (ap (slice_get (insert rest at new)) here ∙ e))) s
+      | inr there ↦ h there.0 slot (sym (get-insert rest at new there.0 l) ∙ (ap (slice_get (insert rest at new)) there.1 ∙ e))
     ]
 
-sound_out : (xs : List (Option Slot)) (out : Option ℕ) (slot : Slot) → SlotsAreSound xs → slot_out xs out ≡ Some slot → IsSoundSlot slot
+sound_out : (xs : List Slot) (out : Option ℕ) (slot : Slot) → SlotsAreSound xs → slot_out xs out ≡ Some slot → IsSoundSlot slot
 sound_out xs None slot h e = absurd (none-some slot e)
-sound_out xs (Some at) slot h e = h at slot (flat (slice_get xs at) e) where
-  flat : (o : Option (Option Slot)) → option_flatten o ≡ Some slot → o ≡ Some (Some slot)
-  flat None e = absurd (none-some slot e)
-  flat (Some o) e = ap (λ x. Some x) e
+sound_out xs (Some at) slot h e = h at slot e
 
 sound_put : (out spare : Option Slot) → ((slot : Slot) → out ≡ Some slot → IsSoundSlot slot) → IfSome spare IsSoundSlot → IfSome (slot_put out spare) IsSoundSlot
 sound_put None None h k = tt
 sound_put (Some slot) None h k = h slot refl
 sound_put out (Some new) h k = k
 
-sound_placed : (rest : List (Option Slot)) (put : Option ℕ) (slot : Option Slot) → IfSome put (λ to. to ≤ length rest) → IfSome slot IsSoundSlot → SlotsAreSound rest → SlotsAreSound (with_slot rest (placed put slot))
+sound_placed : (rest : List Slot) (put : Option ℕ) (slot : Option Slot) → IfSome put (λ to. to ≤ length rest) → IfSome slot IsSoundSlot → SlotsAreSound rest → SlotsAreSound (with_slot rest (placed put slot))
 sound_placed rest None slot l k h = h
 sound_placed rest (Some to) None l k h = h
 sound_placed rest (Some to) (Some slot) l k h = sound_with rest to slot l k h
 
-sound_exchanged : (xs : List (Option Slot)) (out put : Option ℕ) (spare : Option Slot) → IfSome put (λ to. to ≤ length (without xs out)) → SlotsAreSound xs → IfSome spare IsSoundSlot → SlotsAreSound (with_exchange xs out put spare)
+sound_exchanged : (xs : List Slot) (out put : Option ℕ) (spare : Option Slot) → IfSome put (λ to. to ≤ length (without xs out)) → SlotsAreSound xs → IfSome spare IsSoundSlot → SlotsAreSound (with_exchange xs out put spare)
 sound_exchanged xs out put spare l h k =
     sound_placed (without xs out) put (slot_put (slot_out xs out) spare) l (sound_put (slot_out xs out) spare (λ slot e. sound_out xs out slot h e) k) (sound_without xs out h)
 
@@ -68,28 +65,25 @@ sound_exchanged xs out put spare l h k =
 pub can_edit : (slots : Slots) (change : Change) (spare : Option Slot) → AreRead slots → IsInPlace (slot_texts slots) change → IsNewOf slots change spare → CanExchange slots (out_position change) (put_position change) spare
 can_edit slots (insertion at text) None h l n = absurd (none-some text n.text)
 can_edit slots (insertion at text) (Some new) h l n = record {
-  indexed = h.indexed;
   from = tt;
-  into = (let k : at ≤ length (slot_texts slots) = l in let m : at ≤ length slots.order.listed = omega (arith, length_texts slots) in m);
+  into = (let k : at ≤ length (slot_texts slots) = l in let m : at ≤ length slots.placed = omega (arith, length_texts slots) in m);
   other = refl;
   room = n.room;
 }
 can_edit slots (replacement at text) None h l n = absurd (none-some text n.text)
 can_edit slots (replacement at text) (Some new) h l n =
     let k : at < length (slot_texts slots) = l in
-    let m : at < length slots.order.listed = omega (arith, length_texts slots) in
-    let left = length-remove slots.order.listed at m in
+    let m : at < length slots.placed = omega (arith, length_texts slots) in
+    let left = length-remove slots.placed at m in
     record {
-      indexed = h.indexed;
       from = m;
-      into = (let k : at ≤ length (remove slots.order.listed at) = omega arith in k);
+      into = (let k : at ≤ length (remove slots.placed at) = omega arith in k);
       other = tt;
       room = λ rest taken t. t.rooms (reading_of new.block) n.room;
     }
 can_edit slots (removal at) (Some new) h l n = absurd (none-some new.text.items (sym n.text))
 can_edit slots (removal at) None h l n = record {
-  indexed = h.indexed;
-  from = (let k : at < length (slot_texts slots) = l in let m : at < length slots.order.listed = omega (arith, length_texts slots) in m);
+  from = (let k : at < length (slot_texts slots) = l in let m : at < length slots.placed = omega (arith, length_texts slots) in m);
   into = tt;
   other = refl;
   room = tt;
@@ -98,12 +92,11 @@ can_edit slots (relocation from to) (Some new) h l n = absurd (none-some new.tex
 can_edit slots (relocation from to) None h l n =
     let f : from < length (slot_texts slots) = l.0 in
     let t : to < length (slot_texts slots) = l.1 in
-    let m : from < length slots.order.listed = omega (arith, length_texts slots) in
-    let left = length-remove slots.order.listed from m in
+    let m : from < length slots.placed = omega (arith, length_texts slots) in
+    let left = length-remove slots.placed from m in
     record {
-      indexed = h.indexed;
       from = m;
-      into = (let k : to ≤ length (remove slots.order.listed from) = omega (arith, length_texts slots) in k);
+      into = (let k : to ≤ length (remove slots.placed from) = omega (arith, length_texts slots) in k);
       other = tt;
       room = tt;
     }
@@ -121,23 +114,22 @@ insert-set (y ∷ ys) zero x l = refl
 insert-set (y ∷ ys) (suc at) x l = ap (λ zs. y ∷ zs) (insert-set ys at x (omega arith))
 
 -- the texts after it
-texts_after : (xs : List (Option Slot)) (change : Change) (spare : Option Slot) → AreFilled xs → IsInPlace (map text_seen xs) change → option_map (λ slot. slot.text.items) spare ≡ new_text change → map text_seen (with_exchange xs (out_position change) (put_position change) spare) ≡ list_after (map text_seen xs) change
-texts_after xs (insertion at text) None f l e = absurd (none-some text e)
-texts_after xs (insertion at text) (Some new) f l e = map-insert text_seen xs at (Some new) ∙ ap (insert (map text_seen xs) at) (same_Some new.text.items text e)
-texts_after xs (replacement at text) None f l e = absurd (none-some text e)
-texts_after xs (replacement at text) (Some new) f l e =
+texts_after : (xs : List Slot) (change : Change) (spare : Option Slot) → IsInPlace (map text_seen xs) change → option_map (λ slot. slot.text.items) spare ≡ new_text change → map text_seen (with_exchange xs (out_position change) (put_position change) spare) ≡ list_after (map text_seen xs) change
+texts_after xs (insertion at text) None l e = absurd (none-some text e)
+texts_after xs (insertion at text) (Some new) l e = map-insert text_seen xs at new ∙ ap (insert (map text_seen xs) at) (same_Some new.text.items text e)
+texts_after xs (replacement at text) None l e = absurd (none-some text e)
+texts_after xs (replacement at text) (Some new) l e =
     let k : at < length (map text_seen xs) = l in
     let m : at < length xs = omega (arith, length-map xs text_seen) in
-    let put : Option Slot = Some new in
-    ap (map text_seen) (insert-set xs at put m) ∙ (map-set text_seen xs at put ∙ ap (set (map text_seen xs) at) (same_Some new.text.items text e))
-texts_after xs (removal at) (Some new) f l e = absurd (none-some new.text.items (sym e))
-texts_after xs (removal at) None f l e = map-remove text_seen xs at
-texts_after xs (relocation from to) (Some new) f l e = absurd (none-some new.text.items (sym e))
-texts_after xs (relocation from to) None f l e =
+    ap (map text_seen) (insert-set xs at new m) ∙ (map-set text_seen xs at new ∙ ap (set (map text_seen xs) at) (same_Some new.text.items text e))
+texts_after xs (removal at) (Some new) l e = absurd (none-some new.text.items (sym e))
+texts_after xs (removal at) None l e = map-remove text_seen xs at
+texts_after xs (relocation from to) (Some new) l e = absurd (none-some new.text.items (sym e))
+texts_after xs (relocation from to) None l e =
     let k : from < length (map text_seen xs) = l.0 in
     let m : from < length xs = omega (arith, length-map xs text_seen) in
-    let there = f from m in
-    rw (slice_get-map text_seen xs from, there.1) (map-insert text_seen (remove xs from) to (Some there.0) ∙ ap (λ ts. insert ts to there.0.text.items) (map-remove text_seen xs from))
+    let there = item_at xs from m in
+    rw (slice_get-map text_seen xs from, there.1) (map-insert text_seen (remove xs from) to there.0 ∙ ap (λ ts. insert ts to there.0.text.items) (map-remove text_seen xs from))
 
 few_after : (texts : List (List ℕ)) (change : Change) → IsSoundEdit texts change → length texts ≤ blocks_max → length (list_after texts change) ≤ blocks_max
 few_after texts (insertion at text) h l = (let n = length-insert texts at text h.in_place in let k : length texts < blocks_max = h.room in let m : length (insert texts at text) ≤ blocks_max = omega arith in m)
@@ -146,13 +138,13 @@ few_after texts (removal at) h l = (let n = length-remove texts at h.in_place in
 few_after texts (relocation from to) h l = (let n = length-relocated texts from to h.in_place.0 h.in_place.1 in let m : length (with_item_moved texts from to) ≤ blocks_max = omega arith in m)
 
 readings_seen : (slots : Slots) → AreRead slots → readings (slot_texts slots) ≡ map reading_seen (slots_of slots)
-readings_seen slots h = sym (blocks_read slots h) ∙ blocks_seen slots
+readings_seen slots h = sym (blocks_read slots h)
 
 -- an exchange is given by its parts
-exchange_same : (e : Exchange) (rest : List (Option Slot)) (out put : Option PlacedSlot) → e.rest ≡ map reading_seen rest → e.out ≡ option_map block_seen out → e.put ≡ option_map block_seen put → e ≡ exchange_with rest out put
+exchange_same : (e : Exchange) (rest : List Slot) (out put : Option PlacedSlot) → e.rest ≡ map reading_seen rest → e.out ≡ option_map block_seen out → e.put ≡ option_map block_seen put → e ≡ exchange_with rest out put
 exchange_same e rest out put r o p = rw (← r, ← o, ← p) refl
 
-block_there : (bs : List Reading) (slots : List (Option Slot)) (from to : ℕ) (slot : Slot) → bs ≡ map reading_seen slots → slice_get slots from ≡ Some (Some slot) → block_from bs from to ≡ Some (block_seen (record { at = to; slot = slot }))
+block_there : (bs : List Reading) (slots : List Slot) (from to : ℕ) (slot : Slot) → bs ≡ map reading_seen slots → slice_get slots from ≡ Some slot → block_from bs from to ≡ Some (block_seen (record { at = to; slot = slot }))
 block_there bs slots from to slot e s =
     let here : slice_get bs from ≡ Some (reading_of slot.block) = ap (λ xs. slice_get xs from) e ∙ (rw (slice_get-map reading_seen slots from, s) refl) in
     rw here refl
@@ -166,8 +158,8 @@ seen_by old change spare =
     exchange_of (slot_texts old) change
     ≡ exchange_with (without (slots_of old) (out_position change)) (placed (out_position change) (slot_out (slots_of old) (out_position change))) (placed_put (slots_of old) (out_position change) (put_position change) spare)
 
-there_in : (old : Slots) (at : ℕ) → AreRead old → at < length (slot_texts old) → (slot : Slot) × (slice_get (slots_of old) at ≡ Some (Some slot))
-there_in old at h l = are_filled old h.indexed at (let m : at < length (slots_of old) = omega (arith, length_texts old, length_slots old) in m)
+there_in : (old : Slots) (at : ℕ) → AreRead old → at < length (slot_texts old) → (slot : Slot) × (slice_get (slots_of old) at ≡ Some slot)
+there_in old at h l = item_at (slots_of old) at (let m : at < length (slots_of old) = omega (arith, length_texts old, length_slots old) in m)
 
 left_in : (old : Slots) (at : ℕ) → AreRead old → remove (readings (slot_texts old)) at ≡ map reading_seen (remove (slots_of old) at)
 left_in old at h = ap (λ bs. remove bs at) (readings_seen old h) ∙ sym (map-remove reading_seen (slots_of old) at)
@@ -200,7 +192,7 @@ among_twice n names = list_any-append n names names ∙ or_same (is_among n name
   or_same true = refl
   or_same false = refl
 
-dependent_moved : (rest : List (Option Slot)) (from to : ℕ) (slot : Slot) (at : ℕ) → IsDependent (exchange_with rest (Some (record { at = from; slot = slot })) (Some (record { at = to; slot = slot }))) at ↔ IsDependent (exchange_with rest None (Some (record { at = to; slot = slot }))) at
+dependent_moved : (rest : List Slot) (from to : ℕ) (slot : Slot) (at : ℕ) → IsDependent (exchange_with rest (Some (record { at = from; slot = slot })) (Some (record { at = to; slot = slot }))) at ↔ IsDependent (exchange_with rest None (Some (record { at = to; slot = slot }))) at
 dependent_moved rest from to slot at =
     let names = (reading_of slot.block).names in (
       λ d. (d.0, d.1, elim d.2 [ inl put ↦ inl put | inr r ↦ inr (r.0, sym (among_twice r.0 names) ∙ r.1, r.2) ]),
@@ -209,25 +201,25 @@ dependent_moved rest from to slot at =
 
 -- so those that depend on the edit are told by the block that is spare after it: a moved block is
 -- not, since it is put in
-same_dependents : (xs : List (Option Slot)) (out put : Option ℕ) (spare : Option Slot) → AreFilled xs → IfSome out (λ at. at < length xs) → (n : ℕ)
+same_dependents : (xs : List Slot) (out put : Option ℕ) (spare : Option Slot) → IfSome out (λ at. at < length xs) → (n : ℕ)
     → IsDependent (exchange_with (without xs out) (placed out (slot_out xs out)) (placed_put xs out put spare)) n ↔ IsDependent (exchange_with (without xs out) (placed out (spare_after put (slot_out xs out) spare)) (placed_put xs out put spare)) n
-same_dependents xs None put spare f l n = (λ d. d, λ d. d)
-same_dependents xs (Some at) None spare f l n = (λ d. d, λ d. d)
-same_dependents xs (Some at) (Some to) None f l n = let there = f at l in rw there.1 (dependent_moved (remove xs at) at to there.0 n)
-same_dependents xs (Some at) (Some to) (Some new) f l n = let there = f at l in rw there.1 (λ d. d, λ d. d)
+same_dependents xs None put spare l n = (λ d. d, λ d. d)
+same_dependents xs (Some at) None spare l n = (λ d. d, λ d. d)
+same_dependents xs (Some at) (Some to) None l n = let there = item_at xs at l in rw there.1 (dependent_moved (remove xs at) at to there.0 n)
+same_dependents xs (Some at) (Some to) (Some new) l n = let there = item_at xs at l in rw there.1 (λ d. d, λ d. d)
 
 -- ---- what planning asks, and what is rebuilt
 
-old_slots : (xs : List (Option Slot)) (out : Option ℕ) → AreFilled xs → IfSome out (λ at. at < length xs) → xs ≡ with_slot (without xs out) (placed out (slot_out xs out))
-old_slots xs None f l = refl
-old_slots xs (Some at) f l = let there = f at l in rw there.1 (sym (insert-remove xs at (Some there.0) there.1))
+old_slots : (xs : List Slot) (out : Option ℕ) → IfSome out (λ at. at < length xs) → xs ≡ with_slot (without xs out) (placed out (slot_out xs out))
+old_slots xs None l = refl
+old_slots xs (Some at) l = let there = item_at xs at l in rw there.1 (sym (insert-remove xs at there.0 there.1))
 
-placed_fits : (rest : List (Option Slot)) (at : Option ℕ) (slot : Option Slot) → IfSome at (λ k. k ≤ length rest) → HasPlace (map reading_seen rest) (option_map block_seen (placed at slot))
+placed_fits : (rest : List Slot) (at : Option ℕ) (slot : Option Slot) → IfSome at (λ k. k ≤ length rest) → HasPlace (map reading_seen rest) (option_map block_seen (placed at slot))
 placed_fits rest None slot l = tt
 placed_fits rest (Some at) None l = tt
 placed_fits rest (Some at) (Some slot) l = (let k : at ≤ length rest = l in let m : at ≤ length (map reading_seen rest) = omega (arith, length-map rest reading_seen) in m)
 
-out_fits : (xs : List (Option Slot)) (out : Option ℕ) → IfSome out (λ at. at < length xs) → IfSome out (λ at. at ≤ length (without xs out))
+out_fits : (xs : List Slot) (out : Option ℕ) → IfSome out (λ at. at < length xs) → IfSome out (λ at. at ≤ length (without xs out))
 out_fits xs None l = tt
 out_fits xs (Some at) l = (let k : at < length xs = l in let n = length-remove xs at k in let m : at ≤ length (remove xs at) = omega arith in m)
 
@@ -237,12 +229,11 @@ names_out None (Some to) after h = rw h refl
 names_out (Some at) put None h = refl
 names_out (Some at) put (Some slot) h = refl
 
-others_ready : (new : Slots) (rest : List (Option Slot)) (out put : Option PlacedSlot) → IsExchange (exchange_with rest out put) → SlotsAreSettled (with_slot rest out) → slots_of new ≡ with_slot rest put → OthersAreSettled new (exchange_with rest out put)
-others_ready new rest out put fits before is at other stands free slot e =
-    let there : slice_get (with_slot rest put) at ≡ Some (Some slot) = ap (λ xs. slice_get xs at) (sym is) ∙ slot_there new at other slot stands e in
+others_ready : (new : Slots) (rest : List Slot) (out put : Option PlacedSlot) → IsExchange (exchange_with rest out put) → SlotsAreSettled (with_slot rest out) → slots_of new ≡ with_slot rest put → OthersAreSettled new (exchange_with rest out put)
+others_ready new rest out put fits before is at free slot e =
+    let there : slice_get (with_slot rest put) at ≡ Some slot = ap (λ xs. slice_get xs at) (sym is) ∙ e in
     let now = others_settled rest out put fits before at slot there free in
-    let blocks : map reading_seen (with_slot rest put) ≡ blocks_of new = ap (map reading_seen) (sym is) ∙ sym (blocks_seen new) in
-    subst (λ r. IsSettled (blocks_of new) at r slot.settled) (sym (ap reading_seen e)) (settled_in (map reading_seen (with_slot rest put)) (blocks_of new) at (reading_of slot.block) slot.settled blocks now)
+    settled_as (map reading_seen (with_slot rest put)) (blocks_of new) at (reading_of slot.block) slot.settled (ap (map reading_seen) (sym is)) now
 
 pub edited : (old new : Slots) (change : Change) (spare after : Option Slot) (id : Option ℕ) → AreRead old → IsSoundEdit (slot_texts old) change → IsNewOf old change spare → IsMade old new change spare after id → IsEdited old new change id (names_seen after)
 edited old new change spare after id h sound n x =
@@ -253,34 +244,32 @@ edited old new change spare after id h sound n x =
     let come = placed_put xs out put spare in
     let was = placed out (slot_out xs out) in
     let half = placed out after in
-    let filled = are_filled old h.indexed in
     let can = can_edit old change spare h sound.in_place n in
     let within = within_slots out can.from in
     let fits = fits_slots old out put can.into in
     let texts : slot_texts new ≡ list_after (slot_texts old) change =
-    texts_seen new ∙ (ap (map text_seen) x.slots ∙ (texts_after xs change spare filled (subst (λ ts. IsInPlace ts change) (texts_seen old) sound.in_place) n.text ∙ ap (λ ts. list_after ts change) (sym (texts_seen old)))) in
+    ap (map text_seen) x.slots ∙ texts_after xs change spare sound.in_place n.text in
     let read : AreRead new = record {
-      indexed = x.back.indexed;
       few = (let k = few_after (slot_texts old) change sound (let n = h.few in omega (arith, length_texts old)) in let n : length (slot_texts new) ≡ length (list_after (slot_texts old) change) = ap (λ ts. length ts) texts in omega (arith, length_texts new));
       sound = subst SlotsAreSound (sym x.slots) (sound_exchanged xs out put spare fits h.sound n.sound);
     } in
     let put_fits : HasPlace (map reading_seen rest) (option_map block_seen come) = placed_fits rest put (slot_put (slot_out xs out) spare) fits in
     let is : IsExchangeOf new id (names_seen after) (exchange_with rest half come) = record {
       fits = record { out = placed_fits rest out after (out_fits xs out within); put = put_fits };
-      new = sym (readings_with rest come) ∙ (ap (map reading_seen) (sym x.slots) ∙ sym (blocks_seen new));
+      new = sym (readings_with rest come) ∙ ap (map reading_seen) (sym x.slots);
       out_names = names_out out put after x.back.other;
       put_id = x.has_id;
     } in
     let same : (k : ℕ) → IsDependent (exchange_with rest was come) k ↔ IsDependent (exchange_with rest half come) k =
-    λ k. subst (λ s. IsDependent (exchange_with rest was come) k ↔ IsDependent (exchange_with rest (placed out s) come) k) (sym x.spare) (same_dependents xs out put spare filled within k) in
+    λ k. subst (λ s. IsDependent (exchange_with rest was come) k ↔ IsDependent (exchange_with rest (placed out s) come) k) (sym x.spare) (same_dependents xs out put spare within k) in
     record {
       read = read;
       texts = texts;
       ready = λ settled. (
         exchange_with rest half come,
         is,
-        λ at other stands free. others_ready new rest was come (record { out = placed_fits rest out (slot_out xs out) (out_fits xs out within); put = put_fits })
-            (subst SlotsAreSettled (old_slots xs out filled within) settled) x.slots at other stands (λ d. free ((same at).0 d)),
+        λ at free. others_ready new rest was come (record { out = placed_fits rest out (slot_out xs out) (out_fits xs out within); put = put_fits })
+            (subst SlotsAreSettled (old_slots xs out within) settled) x.slots at (λ d. free ((same at).0 d)),
       );
       rebuilds = λ places steps dependents steps_are.
           let d = dependents (exchange_with rest half come) is in
@@ -294,14 +283,14 @@ edited old new change spare after id h sound n x =
           };
     }
   where
-    within_slots : (out : Option ℕ) → IfSome out (λ at. at < length old.order.listed) → IfSome out (λ at. at < length (slots_of old))
+    within_slots : (out : Option ℕ) → IfSome out (λ at. at < length old.placed) → IfSome out (λ at. at < length (slots_of old))
     within_slots None l = tt
-    within_slots (Some at) l = (let k : at < length old.order.listed = l in let m : at < length (slots_of old) = omega (arith, length_slots old) in m)
+    within_slots (Some at) l = (let k : at < length old.placed = l in let m : at < length (slots_of old) = omega (arith, length_slots old) in m)
 
 -- ---- the way back
 
 pub edit_undone : (old new tried back : Slots) (change : Change) (spare after : Option Slot) (id : Option ℕ) → AreRead old → IsSoundEdit (slot_texts old) change → IsNewOf old change spare → IsMade old new change spare after id → tried ≡ new → IsUndone tried back change after → slots_of back ≡ slots_of old
 edit_undone old new tried back change spare after id h sound n made same undone =
-    undone.1
+    undone
     ∙ (ap (λ s. with_exchange (slots_of s) (put_position change) (out_position change) after) same
     ∙ exchanged_back old new (out_position change) (put_position change) spare after id (can_edit old change spare h sound.in_place n) made)

@@ -10,11 +10,11 @@ use Rattle.ti_slots.specs.declared.slots.Slot.{Slot}
 use Rattle.ti_slots.specs.declared.slots.Slots.{Slots}
 use Rattle.ti_slots.specs.declared.slots.State.{State}
 use Rattle.ti_slots.specs.declared.slots.State.TheVariants as s
-use Rattle.ti_slots.specs.Slots.{slot_texts}
+use Rattle.ti_slots.specs.Slots.{slot_texts, slots_of}
 use Rattle.ti_slots.specs.Settled.{state_seen}
-use Rattle.ti_base.specs.inside.Database.{AreKept, slots_of, text_seen}
-use Rattle.ti_base.proofs.SlotLists.{blocks_seen, texts_seen, blocks_read}
-use Rattle.ti_base.proofs.SlotFaults.{block_of_slot}
+use Rattle.ti_base.specs.inside.Database.{AreKept, text_seen}
+use Rattle.ti_slots.proofs.Owners.{block_of_slot}
+use Rattle.ti_base.proofs.SlotLists.{blocks_read}
 
 -- the bytes that a state has
 abbrev pub shown_entry : EntryState → Option (List ℕ)
@@ -30,15 +30,15 @@ shown_with : (b : Reading) (o : Option (List Mention)) → shown_entry (state_wi
 shown_with b None = refl
 shown_with b (Some ms) = shown_if (is_too_large b ms) (image_of b ms)
 
-pub text_of_slot : (slots : Slots) (at : ℕ) (slot : Slot) → slice_get (slots_of slots) at ≡ Some (Some slot) → slice_get (slot_texts slots) at ≡ Some slot.text.items
-text_of_slot slots at slot e = ap (λ ts. slice_get ts at) (texts_seen slots) ∙ (rw (slice_get-map text_seen (slots_of slots) at, e) refl)
+pub text_of_slot : (slots : Slots) (at : ℕ) (slot : Slot) → slice_get (slots_of slots) at ≡ Some slot → slice_get (slot_texts slots) at ≡ Some slot.text.items
+text_of_slot slots at slot e = rw (slice_get-map text_seen (slots_of slots) at, e) refl
 
 -- the entry that a slot holds is the compiled one
-pub entry_of_slot : (slots : Slots) (at : ℕ) (slot : Slot) → AreKept slots → slice_get (slots_of slots) at ≡ Some (Some slot) → shown_entry (state_seen slot.settled.state) ≡ compiled (slot_texts slots) at
+pub entry_of_slot : (slots : Slots) (at : ℕ) (slot : Slot) → AreKept slots → slice_get (slots_of slots) at ≡ Some slot → shown_entry (state_seen slot.settled.state) ≡ compiled (slot_texts slots) at
 entry_of_slot slots at slot h e =
     let block = reading_of slot.block in
     let read : slice_get (readings (slot_texts slots)) at ≡ Some block = ap (λ bs. slice_get bs at) (sym (blocks_read slots h.read)) ∙ block_of_slot slots at slot e in
-    let state : state_seen slot.settled.state ≡ state_of (readings (slot_texts slots)) block = (h.settled at slot e).state ∙ ap (λ bs. state_of bs block) (sym (blocks_seen slots) ∙ blocks_read slots h.read) in
+    let state : state_seen slot.settled.state ≡ state_of (readings (slot_texts slots)) block = (h.settled at slot e).state ∙ ap (λ bs. state_of bs block) (blocks_read slots h.read) in
     let there : compiled (slot_texts slots) at ≡ entry (readings (slot_texts slots)) block = rw read refl in
     ap shown_entry state ∙ (shown_with block (expansion (readings (slot_texts slots)) block) ∙ sym there)
 

@@ -2,7 +2,6 @@
 -- so.
 use Rattle.std.proofs.Common.{◌≡◌, ◌≢◌, inl, inr, ℕ, zero, suc, ◌+◌, ◌<◌, ◌≤◌, List, [], ◌∷◌, length, map, Option, Some, None, slice_get, refl, sym, ◌∙◌, ap, subst, arith}
 use Rattle.std.specs.Prelude.{IfSome, IsSome}
-use Rattle.std.specs.Option.{option_flatten}
 use Rattle.std.specs.List.{insert, remove}
 use Rattle.std.proofs.lemmas.Bool.{false≢true}
 use Rattle.std.proofs.lemmas.List.{length-map}
@@ -11,38 +10,42 @@ use Rattle.std.proofs.lemmas.Option.{same_Some, none-some}
 use Rattle.ti_source.specs.Reading.{Reading, reading_of}
 use Rattle.ti_meaning.proofs.EditedLists.{map-insert, map-remove, insert-remove, remove-insert}
 use Rattle.ti_meaning.proofs.Placing.{get-insert, get-insert_at, split-insert}
-use Rattle.ti_text.specs.Lists.{AreDistinct}
+use Rattle.ti_text.proofs.Lists.{item_at}
+use Rattle.ti_slots.specs.Listing.{Placed}
 use Rattle.ti_slots.specs.declared.slots.Slot.{Slot}
 use Rattle.ti_slots.specs.declared.slots.Slots.{Slots}
-use Rattle.ti_slots.specs.Slots.{IsIndexed, StandsAt, slot_at, slot_texts}
-use Rattle.ti_slots.specs.Changes.{HasRoomFor, PutsIn, TakesOut, ChangesAreUndone}
-use Rattle.ti_base.specs.inside.Database.{AreKept, AreRead, SlotsAreSettled, SlotsAreSound, slots_of, text_seen, with_slot, HasId}
+use Rattle.ti_slots.specs.Slots.{StandsAt, ids_of, slots_of, slot_texts}
+use Rattle.ti_slots.specs.Changes.{HasRoomFor, PutsIn, TakesOut}
+use Rattle.ti_slots.proofs.Owners.{length_ids, length_slots, slot_there}
+use Rattle.ti_slots.proofs.Undoing.{fits_again}
+use Rattle.ti_base.specs.inside.Database.{AreKept, AreRead, SlotsAreSettled, SlotsAreSound, text_seen, with_slot, HasId}
 use Rattle.ti_base.specs.inside.Exchanges.{without, slot_out, slot_put, slot_left, spare_after, placed, placed_put, with_exchange, IsOfSlots, HasRoomThen, CanExchange, IsOut, IsExchanged}
-use Rattle.ti_base.proofs.SlotLists.{AreFilled, are_filled, texts_seen, length_slots, slot_there}
 
 -- ---- a slot is put in or taken out
 
-map-agree : {Y : Type 0} (f g : ℕ → Y) (xs : List ℕ) → ((i x : ℕ) → slice_get xs i ≡ Some x → f x ≡ g x) → map f xs ≡ map g xs
-map-agree f g [] h = refl
-map-agree f g (x ∷ xs) h = rw (h 0 x refl, map-agree f g xs (λ i y e. h (suc i) y e)) refl
+slots_put : (old new : Slots) (at id : ℕ) (slot : Slot) → PutsIn old new at slot id → slots_of new ≡ insert (slots_of old) at slot
+slots_put old new at id slot h = ap (map (λ (p : Placed). p.slot)) h.placed ∙ map-insert (λ (p : Placed). p.slot) old.placed at (record { id = id; slot = slot })
 
-slots_put : (old new : Slots) (at id : ℕ) (slot : Slot) → at ≤ length old.order.listed → PutsIn old new at slot id → slots_of new ≡ insert (slots_of old) at (Some slot)
-slots_put old new at id slot l h =
-    let f = slot_at new.slots.items in
-    let same : map f old.order.listed ≡ slots_of old = map-agree f (slot_at old.slots.items) old.order.listed (λ i x e. h.others x (λ same. h.fresh (i, e ∙ ap (λ n. Some n) same))) in
-    ap (map f) h.listed ∙ (map-insert f old.order.listed at id ∙ (ap (λ xs. insert xs at (f id)) same ∙ ap (insert (slots_of old) at) h.here))
+ids_put : (old new : Slots) (at id : ℕ) (slot : Slot) → PutsIn old new at slot id → ids_of new ≡ insert (ids_of old) at id
+ids_put old new at id slot h = ap (map (λ (p : Placed). p.id)) h.placed ∙ map-insert (λ (p : Placed). p.id) old.placed at (record { id = id; slot = slot })
 
-id_put : (old new : Slots) (at id : ℕ) (slot : Slot) → at ≤ length old.order.listed → PutsIn old new at slot id → HasId new (Some (record { at = at; slot = slot })) (Some id)
-id_put old new at id slot l h = λ k other stands. (
-  (λ e. sym (get-insert_at old.order.listed at id l) ∙ (ap (slice_get (insert old.order.listed at id)) e ∙ (ap (λ xs. slice_get xs k) (sym h.listed) ∙ stands))),
-  (λ e. elim (split-insert at k) [
-    | inl same ↦ same
-    | inr behind ↦ absurd (h.fresh (behind.0, sym (get-insert old.order.listed at id behind.0 l) ∙ (ap (slice_get (insert old.order.listed at id)) behind.1 ∙ (ap (λ xs. slice_get xs k) (sym h.listed) ∙ (stands ∙ sym e)))))
-  ]),
-)
+id_put : (old new : Slots) (at id : ℕ) (slot : Slot) → at ≤ length old.placed → PutsIn old new at slot id → HasId new (Some (record { at = at; slot = slot })) (Some id)
+id_put old new at id slot l h =
+    let ids = ids_of old in
+    let listed = ids_put old new at id slot h in
+    let within : at ≤ length ids = omega (arith, length_ids old) in
+    λ k other stands. (
+      (λ e. sym (get-insert_at ids at id within) ∙ (ap (slice_get (insert ids at id)) e ∙ (ap (λ xs. slice_get xs k) (sym listed) ∙ stands))),
+      (λ e. elim (split-insert at k) [
+        | inl same ↦ same
+        | inr behind ↦ absurd (h.fresh (behind.0, sym (get-insert ids at id behind.0 within) ∙ (ap (slice_get (insert ids at id)) behind.1 ∙ (ap (λ xs. slice_get xs k) (sym listed) ∙ (stands ∙ sym e)))))
+      ]),
+    )
 
-stands_put : (old new : Slots) (at id : ℕ) (slot : Slot) → at ≤ length old.order.listed → PutsIn old new at slot id → StandsAt new at id
-stands_put old new at id slot l h = ap (λ xs. slice_get xs at) h.listed ∙ get-insert_at old.order.listed at id l
+stands_put : (old new : Slots) (at id : ℕ) (slot : Slot) → at ≤ length old.placed → PutsIn old new at slot id → StandsAt new at id
+stands_put old new at id slot l h =
+    let within : at ≤ length (ids_of old) = omega (arith, length_ids old) in
+    ap (λ xs. slice_get xs at) (ids_put old new at id slot h) ∙ get-insert_at (ids_of old) at id within
 
 -- the position of an item in a list without the one at a position
 pub gone : {X : Type 0} (xs : List X) (at k : ℕ) (x : X) → slice_get (remove xs at) k ≡ Some x → (j : ℕ) × (j ≢ at) × (slice_get xs j ≡ Some x)
@@ -52,31 +55,24 @@ gone (y ∷ ys) zero k x e = (suc k, (λ z. omega arith), e)
 gone (y ∷ ys) (suc at) zero x e = (0, (λ z. omega arith), e)
 gone (y ∷ ys) (suc at) (suc k) x e = let r = gone ys at k x e in (suc r.0, (λ z. r.1 (omega arith)), r.2)
 
-slots_taken : (old new : Slots) (at : ℕ) (slot : Slot) → AreDistinct old.order.listed → TakesOut old new at slot → slots_of new ≡ remove (slots_of old) at
-slots_taken old new at slot once h =
-    let f = slot_at new.slots.items in
-    let g = slot_at old.slots.items in
-    let apart : (i x : ℕ) → slice_get (remove old.order.listed at) i ≡ Some x → f x ≡ g x = λ i x e.
-    let j = gone old.order.listed at i x e in
-    h.others x (λ same. j.1 (once j.0 at h.id (j.2 ∙ ap (λ n. Some n) same) h.stood)) in
-    ap (map f) h.listed ∙ (map-agree f g (remove old.order.listed at) apart ∙ map-remove g old.order.listed at)
+slots_taken : (old new : Slots) (at : ℕ) (slot : Slot) → TakesOut old new at slot → slots_of new ≡ remove (slots_of old) at
+slots_taken old new at slot h = ap (map (λ (p : Placed). p.slot)) h.placed ∙ map-remove (λ (p : Placed). p.slot) old.placed at
 
-slot_taken : (old new : Slots) (at : ℕ) (slot : Slot) → TakesOut old new at slot → slice_get (slots_of old) at ≡ Some (Some slot)
-slot_taken old new at slot h = slot_there old at h.id slot h.stood h.was
+slot_taken : (old new : Slots) (at : ℕ) (slot : Slot) → TakesOut old new at slot → slice_get (slots_of old) at ≡ Some slot
+slot_taken old new at slot h = slot_there old at (record { id = h.id; slot = slot }) h.was
 
 -- the list has the same slots
-pub slots_same : (old new : Slots) → new.order.listed ≡ old.order.listed → ((id : ℕ) → slot_at new.slots.items id ≡ slot_at old.slots.items id) → slots_of new ≡ slots_of old
-slots_same old new l h = ap (map (slot_at new.slots.items)) l ∙ map-agree (slot_at new.slots.items) (slot_at old.slots.items) old.order.listed (λ i x e. h x)
+pub slots_same : (old new : Slots) → new.placed ≡ old.placed → slots_of new ≡ slots_of old
+slots_same old new e = ap (map (λ (p : Placed). p.slot)) e
 
 -- ---- the slots that stay the same
 
 pub texts_back : (old new : Slots) → slots_of new ≡ slots_of old → slot_texts new ≡ slot_texts old
-texts_back old new e = texts_seen new ∙ (ap (map text_seen) e ∙ sym (texts_seen old))
+texts_back old new e = ap (map text_seen) e
 
 -- what was read stays so if the list has the same slots
-pub read_same : (old new : Slots) → AreRead old → IsIndexed new → slots_of new ≡ slots_of old → AreRead new
-read_same old new h indexed e = record {
-  indexed = indexed;
+pub read_same : (old new : Slots) → AreRead old → slots_of new ≡ slots_of old → AreRead new
+read_same old new h e = record {
   few = (let n : length (slots_of new) ≡ length (slots_of old) = ap (λ xs. length xs) e in let k = h.few in omega (arith, length_slots new, length_slots old));
   sound = subst SlotsAreSound (sym e) h.sound;
 }
@@ -85,29 +81,26 @@ pub kept_same : (old new : Slots) → AreKept old → AreRead new → slots_of n
 kept_same old new h read e = record { read = read; settled = subst SlotsAreSettled (sym e) h.settled }
 
 -- no slot is read from its text
-pub read_none : (slots : Slots) → slots.order.listed ≡ [] → IsIndexed slots → AreRead slots
-read_none slots none indexed = record {
-  indexed = indexed;
+pub read_none : (slots : Slots) → slots.placed ≡ [] → AreRead slots
+read_none slots none = record {
   few = rw none (omega arith);
-  sound = λ at slot e. absurd (none-some (Some slot) (ap (λ ids. slice_get (map (slot_at slots.slots.items) ids) at) (sym none) ∙ e));
+  sound = λ at slot e. absurd (none-some slot (ap (λ ps. slice_get (map (λ (p : Placed). p.slot) ps) at) (sym none) ∙ e));
 }
 
 -- ---- an exchange
 
--- the list, the slot and the ids once a block was taken out, if one was
+-- the list and the slot once a block was taken out, if one was
 pub record IsLeft (old rest : Slots) (out : Option ℕ) (taken : Option Slot) : Type 0 where
-  pub indexed : IsIndexed rest
   pub slots : slots_of rest ≡ without (slots_of old) out
   pub slot : taken ≡ slot_out (slots_of old) out
-  pub listed : rest.order.listed ≡ without old.order.listed out
+  pub placed : rest.placed ≡ without old.placed out
 
-pub is_left : (old rest : Slots) (out : Option ℕ) (taken : Option Slot) → IsIndexed old → IsOut old rest out taken → IsLeft old rest out taken
-is_left old rest None taken h is = record { indexed = subst IsIndexed (sym is.0) h; slots = ap slots_of is.0; slot = is.1; listed = ap (λ (s : Slots). s.order.listed) is.0 }
-is_left old rest (Some at) taken h is = record {
-  indexed = is.2.indexed;
-  slots = slots_taken old rest at is.0 is.3 is.2;
-  slot = is.1 ∙ sym (ap option_flatten (slot_taken old rest at is.0 is.2));
-  listed = is.2.listed;
+pub is_left : (old rest : Slots) (out : Option ℕ) (taken : Option Slot) → IsOut old rest out taken → IsLeft old rest out taken
+is_left old rest None taken is = record { slots = ap slots_of is.0; slot = is.1; placed = ap (λ (s : Slots). s.placed) is.0 }
+is_left old rest (Some at) taken is = record {
+  slots = slots_taken old rest at is.0 is.2;
+  slot = is.1 ∙ sym (slot_taken old rest at is.0 is.2);
+  placed = is.2.placed;
 }
 
 no_id : (slots : Slots) → HasId slots None None
@@ -117,25 +110,24 @@ no_id slots = λ at other stands. ((λ h. absurd h), (λ e. absurd (none-some ot
 pub exchanged_out : (old rest : Slots) (out : Option ℕ) (spare taken : Option Slot) → CanExchange old out None spare → IsOut old rest out taken → IsExchanged old rest out None spare taken None
 exchanged_out old rest None spare taken can is = absurd can.other
 exchanged_out old rest (Some at) spare taken can is =
-    let left = is_left old rest (Some at) taken can.indexed is in
-    let n = length-remove old.order.listed at can.from in
+    let left = is_left old rest (Some at) taken is in
+    let n = length-remove old.placed at can.from in
     record {
       slots = left.slots;
       spare = left.slot;
       has_id = no_id rest;
       listed = λ n e. absurd (none-some n e);
       back = record {
-        indexed = left.indexed;
         from = tt;
-        into = (let m : length rest.order.listed ≡ length (remove old.order.listed at) = ap (λ xs. length xs) left.listed in let l : at < length old.order.listed = can.from in let k : at ≤ length rest.order.listed = omega arith in k);
+        into = (let m : length rest.placed ≡ length (remove old.placed at) = ap (λ xs. length xs) left.placed in let l : at < length old.placed = can.from in let k : at ≤ length rest.placed = omega arith in k);
         other = rw is.1 refl;
         room = rw is.1 is.2.room;
       };
     }
 
 -- a block is put in: it is there, it fits, and there is room for it
-pub put_fits : (old rest : Slots) (out : Option ℕ) (to : ℕ) (spare taken : Option Slot) → CanExchange old out (Some to) spare → IsOut old rest out taken → to ≤ length rest.order.listed
-put_fits old rest out to spare taken can is = rw (is_left old rest out taken can.indexed is).listed can.into
+pub put_fits : (old rest : Slots) (out : Option ℕ) (to : ℕ) (spare taken : Option Slot) → CanExchange old out (Some to) spare → IsOut old rest out taken → to ≤ length rest.placed
+put_fits old rest out to spare taken can is = rw (is_left old rest out taken is).placed can.into
 
 pub put_there : (old rest : Slots) (out : Option ℕ) (to : ℕ) (spare taken : Option Slot) → CanExchange old out (Some to) spare → IsOut old rest out taken → IsSome (slot_put taken spare)
 put_there old rest out to (Some new) taken can is = refl
@@ -153,42 +145,42 @@ put_room old rest None to None taken slot can is e = absurd (false≢true can.ot
 put_room old rest (Some at) to None taken slot can is e = subst (λ (s : Slot). HasRoomFor rest (reading_of s.block)) (sym (same_Some slot is.0 (e ∙ is.1))) is.2.room
 
 -- once it is taken out again, there is room for the one that was taken out before
-room_back : ChangesAreUndone → (old rest new : Slots) (out : Option ℕ) (to id : ℕ) (spare taken : Option Slot) (slot : Slot) → IsIndexed rest → to ≤ length rest.order.listed → IsOut old rest out taken → PutsIn rest new to slot id → IfSome (slot_left taken spare) (λ s. HasRoomThen new (Some to) (reading_of s.block))
-room_back law old rest new out to id None taken slot indexed fits is put = tt
-room_back law old rest new out to id (Some one) None slot indexed fits is put = tt
-room_back law old rest new None to id (Some one) (Some gone) slot indexed fits is put = absurd (none-some gone (sym is.1))
-room_back law old rest new (Some at) to id (Some one) (Some gone) slot indexed fits is put =
+room_back : (old rest new : Slots) (out : Option ℕ) (to id : ℕ) (spare taken : Option Slot) (slot : Slot) → to ≤ length rest.placed → IsOut old rest out taken → PutsIn rest new to slot id → IfSome (slot_left taken spare) (λ s. HasRoomThen new (Some to) (reading_of s.block))
+room_back old rest new out to id None taken slot fits is put = tt
+room_back old rest new out to id (Some one) None slot fits is put = tt
+room_back old rest new None to id (Some one) (Some gone) slot fits is put = absurd (none-some gone (sym is.1))
+room_back old rest new (Some at) to id (Some one) (Some gone) slot fits is put =
     let room = subst (λ (s : Slot). HasRoomFor rest (reading_of s.block)) (sym (same_Some gone is.0 is.1)) is.2.room in
-    λ back again taken. law.rooms rest back indexed taken.indexed (law.put rest new back to slot again id fits put taken).1 (reading_of gone.block) room
+    λ back again taken. fits_again rest new back to slot again id fits put taken (reading_of gone.block) room
 
-pub exchanged_put : ChangesAreUndone → (old rest new : Slots) (out : Option ℕ) (to id : ℕ) (spare taken after : Option Slot) (slot : Slot) → CanExchange old out (Some to) spare → IsOut old rest out taken → PutsIn rest new to slot id → Some slot ≡ slot_put taken spare → after ≡ slot_left taken spare → IsExchanged old new out (Some to) spare after (Some id)
-exchanged_put law old rest new out to id spare taken after slot can is put e f =
-    let left = is_left old rest out taken can.indexed is in
+pub exchanged_put : (old rest new : Slots) (out : Option ℕ) (to id : ℕ) (spare taken after : Option Slot) (slot : Slot) → CanExchange old out (Some to) spare → IsOut old rest out taken → PutsIn rest new to slot id → Some slot ≡ slot_put taken spare → after ≡ slot_left taken spare → IsExchanged old new out (Some to) spare after (Some id)
+exchanged_put old rest new out to id spare taken after slot can is put e f =
+    let left = is_left old rest out taken is in
     let fits = put_fits old rest out to spare taken can is in
     let come : Some (record { at = to; slot = slot }) ≡ placed_put (slots_of old) out (Some to) spare = ap (placed (Some to)) (e ∙ ap (λ t. slot_put t spare) left.slot) in
-    let again : remove new.order.listed to ≡ rest.order.listed = ap (λ xs. remove xs to) put.listed ∙ remove-insert rest.order.listed to id fits in
-    let n : length new.order.listed ≡ length rest.order.listed + 1 = ap (λ xs. length xs) put.listed ∙ length-insert rest.order.listed to id fits in
+    let one : Placed = record { id = id; slot = slot } in
+    let again : remove new.placed to ≡ rest.placed = ap (λ xs. remove xs to) put.placed ∙ remove-insert rest.placed to one fits in
+    let n : length new.placed ≡ length rest.placed + 1 = ap (λ xs. length xs) put.placed ∙ length-insert rest.placed to one fits in
     record {
-      slots = slots_put rest new to id slot fits put ∙ (ap (λ xs. insert xs to (Some slot)) left.slots ∙ ap (with_slot (without (slots_of old) out)) come);
+      slots = slots_put rest new to id slot put ∙ (ap (λ xs. insert xs to slot) left.slots ∙ ap (with_slot (without (slots_of old) out)) come);
       spare = f ∙ ap (λ t. slot_left t spare) left.slot;
       has_id = subst (λ o. HasId new o (Some id)) come (id_put rest new to id slot fits put);
       listed = λ k e. (to, stands_put rest new to id slot fits put ∙ e);
       back = record {
-        indexed = put.indexed;
-        from = (let l : to < length new.order.listed = omega arith in l);
-        into = out_fits out can.from (again ∙ left.listed);
+        from = (let l : to < length new.placed = omega arith in l);
+        into = out_fits out can.from (again ∙ left.placed);
         other = of_slots out spare taken after is f;
-        room = subst (λ o. IfSome o (λ s. HasRoomThen new (Some to) (reading_of s.block))) (sym f) (room_back law old rest new out to id spare taken slot left.indexed fits is put);
+        room = subst (λ o. IfSome o (λ s. HasRoomThen new (Some to) (reading_of s.block))) (sym f) (room_back old rest new out to id spare taken slot fits is put);
       };
     }
   where
-    out_fits : (out : Option ℕ) → IfSome out (λ at. at < length old.order.listed) → remove new.order.listed to ≡ without old.order.listed out → IfSome out (λ at. at ≤ length (remove new.order.listed to))
+    out_fits : (out : Option ℕ) → IfSome out (λ at. at < length old.placed) → remove new.placed to ≡ without old.placed out → IfSome out (λ at. at ≤ length (remove new.placed to))
     out_fits None l e = tt
     out_fits (Some at) l e =
-        let n = length-remove old.order.listed at l in
-        let m : length (remove new.order.listed to) ≡ length (remove old.order.listed at) = ap (λ xs. length xs) e in
-        let k : at < length old.order.listed = l in
-        let fits : at ≤ length (remove new.order.listed to) = omega arith in
+        let n = length-remove old.placed at l in
+        let m : length (remove new.placed to) ≡ length (remove old.placed at) = ap (λ xs. length xs) e in
+        let k : at < length old.placed = l in
+        let fits : at ≤ length (remove new.placed to) = omega arith in
         fits
 
     of_slots : (out : Option ℕ) (spare taken after : Option Slot) → IsOut old rest out taken → after ≡ slot_left taken spare → IsOfSlots (Some to) out after
@@ -198,45 +190,44 @@ exchanged_put law old rest new out to id spare taken after slot can is put e f =
 
 -- ---- the way back
 
-pub fits_slots : (slots : Slots) (out put : Option ℕ) → IfSome put (λ to. to ≤ length (without slots.order.listed out)) → IfSome put (λ to. to ≤ length (without (slots_of slots) out))
+pub fits_slots : (slots : Slots) (out put : Option ℕ) → IfSome put (λ to. to ≤ length (without slots.placed out)) → IfSome put (λ to. to ≤ length (without (slots_of slots) out))
 fits_slots slots out None l = tt
-fits_slots slots None (Some to) l = (let k : to ≤ length slots.order.listed = l in let m : to ≤ length (slots_of slots) = omega (arith, length_slots slots) in m)
+fits_slots slots None (Some to) l = (let k : to ≤ length slots.placed = l in let m : to ≤ length (slots_of slots) = omega (arith, length_slots slots) in m)
 fits_slots slots (Some at) (Some to) l =
-    let f = slot_at slots.slots.items in
-    let n : length (remove (slots_of slots) at) ≡ length (remove slots.order.listed at) = ap (λ xs. length xs) (sym (map-remove f slots.order.listed at)) ∙ length-map (remove slots.order.listed at) f in
-    let k : to ≤ length (remove slots.order.listed at) = l in
+    let f : Placed → Slot = λ p. p.slot in
+    let n : length (remove (slots_of slots) at) ≡ length (remove slots.placed at) = ap (λ xs. length xs) (sym (map-remove f slots.placed at)) ∙ length-map (remove slots.placed at) f in
+    let k : to ≤ length (remove slots.placed at) = l in
     let m : to ≤ length (remove (slots_of slots) at) = omega arith in
     m
 
-back_at : (rest : List (Option Slot)) (to : ℕ) (x : Option Slot) → to ≤ length rest → (remove (insert rest to x) to ≡ rest) × (slot_out (insert rest to x) (Some to) ≡ x)
-back_at rest to x l = (remove-insert rest to x l, ap option_flatten (get-insert_at rest to x l))
+back_at : (rest : List Slot) (to : ℕ) (x : Slot) → to ≤ length rest → (remove (insert rest to x) to ≡ rest) × (slot_out (insert rest to x) (Some to) ≡ Some x)
+back_at rest to x l = (remove-insert rest to x l, get-insert_at rest to x l)
 
 -- what is exchanged and exchanged back leaves the slots
-undone : (xs : List (Option Slot)) (out put : Option ℕ) (spare : Option Slot) → AreFilled xs → IsOfSlots out put spare → IfSome out (λ at. at < length xs) → IfSome put (λ to. to ≤ length (without xs out)) → with_exchange (with_exchange xs out put spare) put out (spare_after put (slot_out xs out) spare) ≡ xs
-undone xs None None spare f s l m = absurd s
-undone xs None (Some to) None f s l m = absurd (false≢true s)
-undone xs None (Some to) (Some new) f s l m = remove-insert xs to (Some new) m
-undone xs (Some at) None spare f s l m = let there = f at l in rw there.1 (insert-remove xs at (Some there.0) there.1)
-undone xs (Some at) (Some to) None f s l m =
-    let there = f at l in
+undone : (xs : List Slot) (out put : Option ℕ) (spare : Option Slot) → IsOfSlots out put spare → IfSome out (λ at. at < length xs) → IfSome put (λ to. to ≤ length (without xs out)) → with_exchange (with_exchange xs out put spare) put out (spare_after put (slot_out xs out) spare) ≡ xs
+undone xs None None spare s l m = absurd s
+undone xs None (Some to) None s l m = absurd (false≢true s)
+undone xs None (Some to) (Some new) s l m = remove-insert xs to new m
+undone xs (Some at) None spare s l m = let there = item_at xs at l in rw there.1 (insert-remove xs at there.0 there.1)
+undone xs (Some at) (Some to) None s l m =
+    let there = item_at xs at l in
     let rest = remove xs at in
-    let put : Option Slot = Some there.0 in
+    let put : Slot = there.0 in
     let b = back_at rest to put m in
     rw there.1 (ap (λ o. with_slot (remove (insert rest to put) to) (placed (Some at) (slot_put o None))) b.1 ∙ (ap (λ ys. insert ys at put) b.0 ∙ insert-remove xs at put there.1))
-undone xs (Some at) (Some to) (Some new) f s l m =
-    let there = f at l in
+undone xs (Some at) (Some to) (Some new) s l m =
+    let there = item_at xs at l in
     let rest = remove xs at in
-    let put : Option Slot = Some new in
-    let b = back_at rest to put m in
-    rw there.1 (ap (λ o. with_slot (remove (insert rest to put) to) (placed (Some at) (slot_put o (Some there.0)))) b.1
-    ∙ (ap (λ ys. insert ys at (Some there.0)) b.0 ∙ insert-remove xs at (Some there.0) there.1))
+    let b = back_at rest to new m in
+    rw there.1 (ap (λ o. with_slot (remove (insert rest to new) to) (placed (Some at) (slot_put o (Some there.0)))) b.1
+    ∙ (ap (λ ys. insert ys at there.0) b.0 ∙ insert-remove xs at there.0 there.1))
 
 pub exchanged_back : (old new : Slots) (out put : Option ℕ) (spare after : Option Slot) (id : Option ℕ) → CanExchange old out put spare → IsExchanged old new out put spare after id → with_exchange (slots_of new) put out after ≡ slots_of old
 exchanged_back old new out put spare after id can x =
     ap (λ a. with_exchange (slots_of new) put out a) x.spare
     ∙ (ap (λ xs. with_exchange xs put out (spare_after put (slot_out (slots_of old) out) spare)) x.slots
-    ∙ undone (slots_of old) out put spare (are_filled old can.indexed) can.other (out_within out can.from) (fits_slots old out put can.into))
+    ∙ undone (slots_of old) out put spare can.other (out_within out can.from) (fits_slots old out put can.into))
   where
-    out_within : (out : Option ℕ) → IfSome out (λ at. at < length old.order.listed) → IfSome out (λ at. at < length (slots_of old))
+    out_within : (out : Option ℕ) → IfSome out (λ at. at < length old.placed) → IfSome out (λ at. at < length (slots_of old))
     out_within None l = tt
-    out_within (Some at) l = (let k : at < length old.order.listed = l in let m : at < length (slots_of old) = omega (arith, length_slots old) in m)
+    out_within (Some at) l = (let k : at < length old.placed = l in let m : at < length (slots_of old) = omega (arith, length_slots old) in m)

@@ -35,11 +35,11 @@ settled_moved bs cs p q b settled e s f h = record {
 }
 
 -- what is settled in one list is in a list that is the same
-pub settled_in : (bs cs : List Reading) (at : ℕ) (b : Reading) (settled : Settled) → bs ≡ cs → IsSettled bs at b settled → IsSettled cs at b settled
-settled_in bs cs at b settled e h = subst (λ xs. IsSettled xs at b settled) e h
+pub settled_as : (bs cs : List Reading) (at : ℕ) (b : Reading) (settled : Settled) → bs ≡ cs → IsSettled bs at b settled → IsSettled cs at b settled
+settled_as bs cs at b settled e h = subst (λ xs. IsSettled xs at b settled) e h
 
-pub others_settled : (rest : List (Option Slot)) (out put : Option PlacedSlot) → IsExchange (exchange_with rest out put) → SlotsAreSettled (with_slot rest out)
-    → (at : ℕ) (slot : Slot) → slice_get (with_slot rest put) at ≡ Some (Some slot) → (IsDependent (exchange_with rest out put) at → ⊥)
+pub others_settled : (rest : List Slot) (out put : Option PlacedSlot) → IsExchange (exchange_with rest out put) → SlotsAreSettled (with_slot rest out)
+    → (at : ℕ) (slot : Slot) → slice_get (with_slot rest put) at ≡ Some slot → (IsDependent (exchange_with rest out put) at → ⊥)
     → IsSettled (map reading_seen (with_slot rest put)) at (reading_of slot.block) slot.settled
 others_settled rest out put fits settled at slot s other =
     let e = exchange_with rest out put in
@@ -50,12 +50,12 @@ others_settled rest out put fits settled at slot s other =
       | inl there ↦ absurd (other (reading_of slot.block, here, inl there))
       | inr stays ↦
           let k = stays.0 in
-          let stands : slice_get rest k ≡ Some (Some slot) = sym (get-with_slot rest put k fits.put) ∙ (ap (λ n. slice_get (with_slot rest put) n) stays.1 ∙ s) in
+          let stands : slice_get rest k ≡ Some slot = sym (get-with_slot rest put k fits.put) ∙ (ap (λ n. slice_get (with_slot rest put) n) stays.1 ∙ s) in
           let before = settled (shifted_position e.out k) slot (get-with_slot rest out k fits.out ∙ stands) in
           let in_rest : slice_get (map reading_seen rest) k ≡ Some (reading_of slot.block) = rw (slice_get-map reading_seen rest k, stands) refl in
           let kept = kept_block e k (reading_of slot.block) fits in_rest (λ r. other (reading_of slot.block, here, inr ((touched_in_both e (reading_of slot.block) fits).0 r))) in
           let moved = settled_moved (old_list e) (new_list e) (shifted_position e.put k) (shifted_position e.out k) (reading_of slot.block) slot.settled kept.mentions kept.state kept.faults
-          (settled_in (map reading_seen (with_slot rest out)) (old_list e) (shifted_position e.out k) (reading_of slot.block) slot.settled old before) in
-          settled_in (new_list e) (map reading_seen (with_slot rest put)) at (reading_of slot.block) slot.settled new
+          (settled_as (map reading_seen (with_slot rest out)) (old_list e) (shifted_position e.out k) (reading_of slot.block) slot.settled old before) in
+          settled_as (new_list e) (map reading_seen (with_slot rest put)) at (reading_of slot.block) slot.settled new
           (subst (λ n. IsSettled (new_list e) n (reading_of slot.block) slot.settled) stays.1 moved)
     ]

@@ -62,7 +62,7 @@ impl Database {
     pub fn len(&self) -> usize
         ensures { result ≡ length self.now }
     {
-        self.slots.order.ids().len()
+        self.slots.len()
     }
 
     /// The text of a block.

@@ -4,16 +4,16 @@ ghost use Rattle.std.specs.Prelude.{◌≡◌, ◌<◌, IfOk, IfSome, OnErr, OnO
 ghost use Rattle.std.specs.Rc.{rc_slice_items};
 ghost use Rattle.ti_source.specs.Reading.{reading_of};
 ghost use Rattle.ti_meaning.specs.Edits.{IsSoundEdit, change_of};
-ghost use Rattle.ti_slots.specs.Slots.{IsIndexed, slot_texts};
+ghost use Rattle.ti_slots.specs.Slots.{slot_texts, slots_of};
 ghost use Rattle.ti_slots.specs.Changes.{HasForgotten, HasRoomFor};
-ghost use Rattle.ti_base.specs.inside.Database.{AreRead, slots_of};
+ghost use Rattle.ti_base.specs.inside.Database.{AreRead};
 ghost use Rattle.ti_base.specs.inside.Exchanges.{CanExchange, CanUndo, IsEdited, IsExchanged, IsMade, IsNewOf, IsOut, IsUndone, names_seen, new_text, out_position, put_position, slot_left, slot_put};
 
 use crate::texts::read_slot;
 use std::alloc::{AllocError, Global};
 use std::rc::RcSlice;
 use ti_meaning::Edit;
-use ti_slots::{BlockEntry, Slot, Slots, changes_are_undone};
+use ti_slots::{BlockEntry, Slot, Slots};
 use ti_source::{Parsed, SharedTexts};
 
 // The position from which an edit takes a block out, and the one at which it puts one in.
@@ -85,11 +85,9 @@ pub(crate) fn read_new(
 
 // Takes a block out of the list, if a position is given.
 fn take_out(slots: &mut Slots, out: Option<usize>) -> Option<Slot>
-    requires indexed { IsIndexed slots.old }
-    requires within { IfSome out (λ at. at < length slots.old.order.listed) }
+    requires { IfSome out (λ at. at < length slots.old.placed) }
     ensures { IsOut slots.old slots.new out result }
 {
-    let _distinct = slots.order.ids();
     match out {
         Some(at) => Some(slots.take_out(at)),
         None => None,
@@ -124,7 +122,6 @@ fn exchange(
     requires { CanExchange slots.old out put spare.old }
     ensures { IsExchanged slots.old slots.new out put spare.old spare.new result }
 {
-    changes_are_undone();
     let taken = take_out(slots, out);
     match put {
         Some(at) => {

@@ -4,7 +4,7 @@ ghost use Rattle.std.specs.List.{list_any};
 ghost use Rattle.std.specs.Rc.{rc_slice_items};
 ghost use Rattle.ti_source.specs.Reading.{Reading, fault_of};
 ghost use Rattle.ti_meaning.specs.Faults.{block_faults, fault_seen, faults, is_kept, is_owned_before, name_fault, name_faults};
-ghost use Rattle.ti_slots.specs.Slots.{IsIndexed, blocks_of};
+ghost use Rattle.ti_slots.specs.Slots.{blocks_of};
 ghost use Rattle.ti_slots.specs.Settled.{fault_at};
 ghost use Rattle.ti_base.specs.inside.Database.{AreKept};
 
@@ -46,7 +46,6 @@ fn add_kept(at: usize, kept: &[KeptFault], faults: &mut Vec<Fault>) -> Result<()
 
 // Whether an earlier block owns one of the names.
 fn has_duplicate(slots: &Slots, at: usize, names: &[RcSlice<u8>]) -> bool
-    requires { IsIndexed slots.now }
     ensures { result ≡ list_any (is_owned_before (blocks_of slots.now) at) (map rc_slice_items names.now) }
 {
     for name in names {
@@ -64,7 +63,6 @@ fn add_name_fault(
     name: &RcSlice<u8>,
     faults: &mut Vec<Fault>,
 ) -> Result<(), AllocError>
-    requires { IsIndexed slots.now }
     ensures { OnOk result (map fault_seen faults.new.items ≡ map fault_seen faults.old.items
         ++ map (name_fault at) (filter (is_owned_before (blocks_of slots.now) at) (rc_slice_items name.now ∷ []))) }
 {
@@ -87,7 +85,6 @@ fn add_name_faults(
     names: &[RcSlice<u8>],
     faults: &mut Vec<Fault>,
 ) -> Result<(), AllocError>
-    requires { IsIndexed slots.now }
     ensures { OnOk result (map fault_seen faults.new.items ≡ map fault_seen faults.old.items
         ++ name_faults (blocks_of slots.now) at (map rc_slice_items names.now)) }
 {
@@ -110,7 +107,7 @@ fn add_block_faults(
     faults: &mut Vec<Fault>,
 ) -> Result<(), AllocError>
     requires kept { AreKept slots.now }
-    requires within { at < length slots.now.order.listed }
+    requires within { at < length slots.now.placed }
     ensures { OnOk result ((b : Reading) → slice_get (blocks_of slots.now) at ≡ Some b
         → map fault_seen faults.new.items ≡ map fault_seen faults.old.items ++ block_faults (blocks_of slots.now) at b) }
 {
@@ -129,7 +126,7 @@ pub(crate) fn source_faults(alloc: Global, slots: &Slots) -> Result<Vec<Fault>, 
     ensures { IfOk result (λ all. map fault_seen all.items ≡ faults (blocks_of slots.now)) }
 {
     let mut faults = Vec::new(alloc);
-    for at in 0..slots.order.ids().len() {
+    for at in 0..slots.len() {
         add_block_faults(alloc, slots, at, &mut faults)?;
     }
     Ok(faults)

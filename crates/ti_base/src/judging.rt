@@ -14,7 +14,7 @@ pub(crate) fn judge(slots: &Slots, edit: &Edit<'_>) -> Result<(), EditError>
     ensures ok { OnOk result (IsSoundEdit (slot_texts slots.now) (change_of edit.now)) }
     ensures err { IfErr result (IsRefusal (slot_texts slots.now) (change_of edit.now)) }
 {
-    let count = slots.order.ids().len();
+    let count = slots.len();
     match *edit {
         Edit::Insert { at, text } => {
             if at > count {

@@ -1,43 +1,31 @@
 //! What an edit rebuilds, or a list that is made in one go: the plan of it, and what the plan found
 //! out put into the slots.
-ghost use Rattle.std.specs.Prelude.{◌≡◌, ℕ, Option, Some, All, IsSome, length, IfOk, OnOk, OnErr};
+ghost use Rattle.std.specs.Prelude.{◌≡◌, ℕ, Option, Some, All, length, IfOk, OnOk, OnErr};
 ghost use Rattle.ti_meaning.specs.Exchange.{Exchange};
 ghost use Rattle.ti_meaning.specs.Dependents.{AreDependents, work};
-ghost use Rattle.ti_slots.specs.Slots.{StandsAt, slot_at, blocks_of, slot_texts};
+ghost use Rattle.ti_text.specs.Lists.{Has};
+ghost use Rattle.ti_slots.specs.Slots.{StandsAt, ids_of, blocks_of, slot_texts};
 ghost use Rattle.ti_dependents.specs.Dependents.{IsExchangeOf};
 ghost use Rattle.ti_plan.specs.Plans.{IsReady};
-ghost use Rattle.ti_base.specs.inside.Database.{AreKept, AreRead, settled_at, settled_all};
+ghost use Rattle.ti_base.specs.inside.Database.{AreKept, AreRead, settled_all};
 ghost use Rattle.ti_base.specs.inside.Exchanges.{names_seen};
 
 use crate::exchange::{entry_of, names_of};
 use std::alloc::{AllocError, Global};
-use std::mem;
 use ti_meaning::Edited;
 use ti_plan::{Plan, plan, plan_all};
-use ti_slots::{Settled, Slot, Slots};
-
-// Exchanges what was found out about a block.
-fn settle(slots: &mut Vec<Option<Slot>>, id: u32, settled: &mut Settled)
-    requires { IsSome (slot_at slots.old.items id) }
-    ensures { slots.new.items ≡ settled_at slots.old.items id settled.old }
-{
-    if let Some(slot) = &mut slots[id as usize] {
-        mem::swap(&mut slot.settled, settled);
-    }
-}
+use ti_slots::{Slot, Slots};
 
 // Puts what a plan found out into the slots. It takes no memory.
 fn install(slots: &mut Slots, mut plan: Plan) -> Edited
     requires as_many { length plan.settled.items ≡ length plan.ids.items }
-    requires stand { All (λ id. IsSome (slot_at slots.old.slots.items id)) plan.ids.items }
-    ensures order { slots.new.order ≡ slots.old.order }
-    ensures names { slots.new.names ≡ slots.old.names }
-    ensures slots { slots.new.slots.items ≡ settled_all slots.old.slots.items plan.ids.items plan.settled.items }
+    requires stand { All (Has (ids_of slots.old)) plan.ids.items }
+    ensures slots { slots.new ≡ settled_all slots.old plan.ids.items plan.settled.items }
     ensures rebuilt { result.rebuilt ≡ plan.rebuilt }
     ensures work { result.work ≡ plan.work }
 {
     for index in 0..plan.ids.len() {
-        settle(&mut slots.slots, plan.ids[index], &mut plan.settled[index]);
+        slots.settle(plan.ids[index], &mut plan.settled[index]);
     }
     Edited {
         rebuilt: plan.rebuilt,

@@ -83,7 +83,7 @@ pub(crate) fn line_starts(alloc: Global, slots: &Slots) -> Result<Vec<u64>, Allo
         ≡ map (lines_before (slot_texts slots.now)) (range_with_len 0 (length (slot_texts slots.now)))) }
     ensures small { IfOk result (λ starts. All (λ start. start ≤ 68719476736) starts.items) }
 {
-    let count = slots.order.ids().len();
+    let count = slots.len();
     let mut starts = Vec::with_capacity(alloc, count)?;
     let mut lines: u64 = 0;
     for at in 0..count {

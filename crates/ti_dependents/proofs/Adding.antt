@@ -4,10 +4,9 @@ use Rattle.std.specs.List.{list_any}
 use Rattle.std.proofs.lemmas.Bool.{cases_Bool}
 use Rattle.std.proofs.lemmas.List.{take_all}
 use Rattle.ti_text.specs.Lists.{Has}
-use Rattle.ti_index.specs.Names.{users_at}
 use Rattle.ti_text.proofs.Lists.{get_front, push_cases, get_last, Has_front, Has_last, Has_split, Has_one, Has_none, Has_from_any}
 use Rattle.ti_slots.specs.declared.slots.Slots.{Slots}
-use Rattle.ti_slots.specs.Slots.{reading_at, IsOwnerId}
+use Rattle.ti_slots.specs.Slots.{users_of, reading_at, IsOwnerId}
 use Rattle.ti_dependents.specs.inside.Search.{AddsPassing, IsUserOf, IsUserOfOne, IsUserOfOwned, IsPutOrUser}
 
 pub adds_none : (A : ℕ → Type 0) (xs : List ℕ) → ((id : ℕ) → A id → ⊥) → AddsPassing A xs xs
@@ -70,7 +69,7 @@ adds_item users user xs ys zs h e =
     (λ id a. elim (Has_split users (user ∷ []) id a) [ inl before ↦ inl before | inr here ↦ inr (Has_one user id here) ])
 
 -- all of them
-pub adds_all : (slots : Slots) (name users : List ℕ) (k : ℕ) (xs ys : List ℕ) → users ≡ users_at slots.names name → length users ≤ k → AddsPassing (Has (take k users)) xs ys → AddsPassing (IsUserOf slots name) xs ys
+pub adds_all : (slots : Slots) (name users : List ℕ) (k : ℕ) (xs ys : List ℕ) → users ≡ users_of slots name → length users ≤ k → AddsPassing (Has (take k users)) xs ys → AddsPassing (IsUserOf slots name) xs ys
 adds_all slots name users k xs ys e l h =
     let P : List ℕ → Type 0 = λ us. AddsPassing (Has us) xs ys in subst P (take_all k users l ∙ e) h
 
@@ -131,7 +130,7 @@ adds_not_owned_of slots holder names name one xs ys h same other =
 
 -- ---- a block and the users of its names
 
-pub adds_with_users : (slots : Slots) (put : ℕ) (names : List (List ℕ)) (xs ys zs : List ℕ) → ys ≡ cond (list_any (nat_eq put) xs) xs (xs ++ put ∷ []) → AddsPassing (IsUserOfOne slots names) ys zs → names ≡ (reading_at slots.slots.items put).names → AddsPassing (IsPutOrUser slots put) xs zs
+pub adds_with_users : (slots : Slots) (put : ℕ) (names : List (List ℕ)) (xs ys zs : List ℕ) → ys ≡ cond (list_any (nat_eq put) xs) xs (xs ++ put ∷ []) → AddsPassing (IsUserOfOne slots names) ys zs → names ≡ (reading_at slots put).names → AddsPassing (IsPutOrUser slots put) xs zs
 adds_with_users slots put names xs ys zs e h same =
     adds_more (λ id. id ≡ put) (IsUserOfOne slots names) (IsPutOrUser slots put) xs ys zs (adds_one xs ys put e) h
     (λ id one. inl one)

@@ -9,7 +9,7 @@ use Rattle.ti_source.specs.Reading.{Reading}
 use Rattle.ti_meaning.specs.Owner.{is_among}
 use Rattle.ti_meaning.specs.Reaching.{Uses}
 use Rattle.ti_meaning.specs.Exchange.{PlacedBlock, Exchange, with_block, HasPlace, new_list}
-use Rattle.ti_meaning.specs.Dependents.{lookup_names_of, touched_names, IsPutAt, AreClosed}
+use Rattle.ti_meaning.specs.Dependents.{lookup_names_of, touched_names, IsPutAt, IsDependent, AreClosed}
 use Rattle.ti_meaning.specs.UseLaws.{UsesBlock, AreFound}
 use Rattle.ti_meaning.proofs.Exchanging.{list_any-append}
 use Rattle.ti_meaning.proofs.ExchangeLaws.{found_dependents}
@@ -18,11 +18,12 @@ use Rattle.ti_meaning.proofs.Placing.{get-with_put}
 use Rattle.ti_text.specs.Lists.{Has, AreDistinct}
 use Rattle.ti_text.proofs.Lists.{item_at}
 use Rattle.ti_slots.specs.declared.slots.Slots.{Slots}
-use Rattle.ti_slots.specs.Slots.{blocks_of, reading_at, StandsAt, IsIndexed}
+use Rattle.ti_slots.specs.Slots.{ids_of, blocks_of, reading_at, StandsAt}
 use Rattle.ti_slots.proofs.Owners.{uses_user}
 use Rattle.ti_dependents.specs.Dependents.{IsExchangeOf, AreDependentIds}
 use Rattle.ti_dependents.specs.inside.Search.{IsPutOrUser, IsPutOrUserIn, IsSearch}
-use Rattle.ti_dependents.specs.inside.Uses.{ArePlaced, ArePositions}
+use Rattle.ti_slots.specs.Positions.{ArePositions}
+use Rattle.ti_dependents.specs.inside.Uses.{ArePlaced}
 use Rattle.ti_dependents.proofs.Lists.{once}
 use Rattle.ti_dependents.proofs.Owners.{HasId, id_at}
 
@@ -58,11 +59,10 @@ at_contained xs x c = (c.0, slice_get-get_or xs c.0 x c.1 ∙ ap (λ y. Some y) 
 
 -- what was found at the end, with the positions of the blocks
 pub record IsEnded (s : Slots) (put : Option ℕ) (out : List (List ℕ)) (ids positions : List ℕ) : Type 0 where
-  pub indexed : IsIndexed s
-  pub distinct : AreDistinct s.order.listed
+  pub distinct : AreDistinct (ids_of s)
   pub unique : IsDistinct nat_eq ids
   pub ended : IsSearch s put out ids (length ids)
-  pub positions_are : ArePositions s.order.listed ids positions
+  pub positions_are : ArePositions (ids_of s) ids positions
 
 module _ (s : Slots) (put : Option ℕ) (out : List (List ℕ)) (ids positions : List ℕ) (h : IsEnded s put out ids positions) where
   -- a block that was found has its place
@@ -87,21 +87,21 @@ module _ (s : Slots) (put : Option ℕ) (out : List (List ℕ)) (ids positions :
   users_found i at user e u =
       let f = found_at i at e in
       let own = first_owners.some (blocks_of s) u.2.0 at u.2.2 in
-      let me = id_at s at own.block own.stands in
+      let me = id_at s at own.block h.distinct own.stands in
       let same : me.id ≡ f.0 = same_Some me.id f.0 (sym me.stands ∙ f.2) in
       let name = among_place own.block.names u.2.0 own.has in
-      let named : slice_get (reading_at s.slots.items f.0).names name.0 ≡ Some u.2.0 =
-      ap (λ k. slice_get (reading_at s.slots.items k).names name.0) (sym same) ∙ (ap (λ b. slice_get b.names name.0) me.is ∙ name.1) in
-      let who = id_at s user u.0 u.1 in
-      let uses = uses_user s u.2.0 user who.id h.indexed who.stands (subst (λ (b : Reading). Uses b.items u.2.0) (sym who.is) u.2.1) in
+      let named : slice_get (reading_at s f.0).names name.0 ≡ Some u.2.0 =
+      ap (λ k. slice_get (reading_at s k).names name.0) (sym same) ∙ (ap (λ b. slice_get b.names name.0) me.is ∙ name.1) in
+      let who = id_at s user u.0 h.distinct u.1 in
+      let uses = uses_user s u.2.0 user who.id u.0 who.stands u.1 u.2.1 in
       place_of user who.id who.stands (h.ended.closed i f.0 (slice_get_within ids i f.0 f.1) f.1 who.id (name.0, u.2.0, named, (at, u.2.2, f.2), uses))
 
   module _ (e : Exchange) (x : IsExchangeOf s put out e) where
     new_id : (at : ℕ) (block : Reading) → slice_get (new_list e) at ≡ Some block → HasId s at block
-    new_id at block f = id_at s at block (ap (λ bs. slice_get bs at) (sym x.new) ∙ f)
+    new_id at block f = id_at s at block h.distinct (ap (λ bs. slice_get bs at) (sym x.new) ∙ f)
 
     -- the block put in has the id, and its names are those that the edit touches
-    put_found : (at : ℕ) → IsPutAt e.put at → (id : ℕ) × StandsAt s at id × (put ≡ Some id) × (lookup_names_of e.put ≡ (reading_at s.slots.items id).names)
+    put_found : (at : ℕ) → IsPutAt e.put at → (id : ℕ) × StandsAt s at id × (put ≡ Some id) × (lookup_names_of e.put ≡ (reading_at s id).names)
     put_found at p =
         let w = put_within e.rest e.put at x.fits.put p in
         let me = new_id at w.0 w.1 in
@@ -114,14 +114,14 @@ module _ (s : Slots) (put : Option ℕ) (out : List (List ℕ)) (ids positions :
     user_found : (user : ℕ) (block : Reading) (name : List ℕ) → slice_get (new_list e) user ≡ Some block → Uses block.items name → is_among name (touched_names e) ≡ true → Has positions user
     user_found user block name f u t =
         let me = new_id user block f in
-        let uses = uses_user s name user me.id h.indexed me.stands (subst (λ (b : Reading). Uses b.items name) (sym me.is) u) in
+        let uses = uses_user s name user me.id block me.stands (ap (λ bs. slice_get bs user) (sym x.new) ∙ f) u in
         place_of user me.id me.stands
         (elim (or_cases (is_among name (lookup_names_of e.out)) (is_among name (lookup_names_of e.put)) (sym (list_any-append name (lookup_names_of e.out) (lookup_names_of e.put)) ∙ t)) [
           | inl old ↦ (let w = among_place out name (ap (is_among name) (sym x.out_names) ∙ old) in h.ended.has_out me.id (w.0, name, w.1, uses))
           | inr new ↦
               let where_put = put_somewhere e.put name new in
               let p = put_found where_put.0 where_put.1 in
-              let w = among_place (reading_at s.slots.items p.0).names name (ap (is_among name) (sym p.3) ∙ new) in
+              let w = among_place (reading_at s p.0).names name (ap (is_among name) (sym p.3) ∙ new) in
               has_put p.0 me.id p.2 (inr (w.0, name, w.1, uses))
         ])
 
@@ -143,7 +143,11 @@ module _ (s : Slots) (put : Option ℕ) (out : List (List ℕ)) (ids positions :
     stands = h.positions_are.stands;
     once = λ i j id e f. once ids i j id h.unique e f;
     dependents = λ e x at. (
-      (λ c. let w = at_contained positions at c in let f = found_at w.0 at w.1 in h.ended.sound f.0 (w.0, f.1) e x at f.2),
+      (λ c.
+          (let w = at_contained positions at c in
+          let f = found_at w.0 at w.1 in
+          let d = h.ended.sound f.0 (w.0, f.1) e x in
+          subst (λ (k : ℕ). IsDependent e k) (h.distinct d.0 at f.0 d.1 f.2) d.2)),
       λ d. found_dependents e positions (all_closed e x) at d,
     );
     closed = users_found;
@@ -151,7 +155,7 @@ module _ (s : Slots) (put : Option ℕ) (out : List (List ℕ)) (ids positions :
 
 -- ---- the answer, in lists that were copied
 
-pub copied_ids : (s : Slots) (put : Option ℕ) (out : List (List ℕ)) (found ids positions : List ℕ) → IsIndexed s → IsSearch s put out found (length found) → ArePlaced s.order.listed found ids positions → AreDependentIds s put out ids positions
-copied_ids s put out found ids positions x ended h =
+pub copied_ids : (s : Slots) (put : Option ℕ) (out : List (List ℕ)) (found ids positions : List ℕ) → IsSearch s put out found (length found) → ArePlaced (ids_of s) found ids positions → AreDependentIds s put out ids positions
+copied_ids s put out found ids positions ended h =
     let P : List ℕ → Type 0 = λ xs. AreDependentIds s put out xs positions in
-    subst P (sym h.ids_found) (dependent_ids s put out found positions (record { indexed = x; distinct = h.listed_once; unique = h.found_once; ended = ended; positions_are = h.are_positions }))
+    subst P (sym h.ids_found) (dependent_ids s put out found positions (record { distinct = h.listed_once; unique = h.found_once; ended = ended; positions_are = h.are_positions }))

@@ -13,11 +13,11 @@ use Rattle.ti_meaning.proofs.Exchanging.{list_any-append}
 use Rattle.ti_meaning.proofs.ExchangeLaws.{users_depend}
 use Rattle.ti_meaning.proofs.Placing.{get-with_put}
 use Rattle.ti_slots.specs.declared.slots.Slots.{Slots}
-use Rattle.ti_slots.specs.Slots.{reading_at, StandsAt, IsIndexed}
-use Rattle.ti_slots.proofs.Owners.{user_uses}
+use Rattle.ti_text.specs.Lists.{Has, AreDistinct}
+use Rattle.ti_slots.specs.Slots.{ids_of, blocks_of, reading_at, StandsAt}
+use Rattle.ti_slots.proofs.Owners.{user_uses, block_somewhere}
 use Rattle.ti_dependents.specs.Dependents.{IsExchangeOf}
 use Rattle.ti_dependents.specs.inside.Search.{IsUserOfOne, IsUserOfOwned, IsUserOf, Depends}
-use Rattle.ti_dependents.proofs.Owners.{block_at}
 
 -- ---- names among names
 
@@ -39,43 +39,53 @@ names_put rest (Some placed) at block l put e =
 
 -- ---- one exchange
 
+-- a block with the id depends on it
+abbrev pub DependsOn : Slots → Exchange → ℕ → Type 0
+DependsOn s e id = (at : ℕ) × StandsAt s at id × IsDependent e at
+
 module _ (s : Slots) (put : Option ℕ) (out : List (List ℕ)) (e : Exchange) (h : IsExchangeOf s put out e) where
-  pub new_block : (at id : ℕ) → StandsAt s at id → slice_get (new_list e) at ≡ Some (reading_at s.slots.items id)
-  new_block at id st = ap (λ bs. slice_get bs at) h.new ∙ block_at s at id st
+  new_block : (at : ℕ) (block : Reading) → slice_get (blocks_of s) at ≡ Some block → slice_get (new_list e) at ≡ Some block
+  new_block at block f = ap (λ bs. slice_get bs at) h.new ∙ f
 
   -- a user of a touched name depends
-  touched_user : (at id : ℕ) (name : List ℕ) → IsIndexed s → StandsAt s at id → IsUserOf s name id → is_among name (touched_names e) ≡ true → IsDependent e at
-  touched_user at id name x st u t =
-      let w = user_uses s name u.0 id x u.1 in
-      (reading_at s.slots.items id, new_block at id st, inr (name, t, (name, [], w.2, refl)))
+  touched_user : (id : ℕ) (name : List ℕ) → IsUserOf s name id → is_among name (touched_names e) ≡ true → DependsOn s e id
+  touched_user id name u t =
+      let w = user_uses s name u.0 id u.1 in
+      (w.0, w.2, (w.1, new_block w.0 w.1 w.3, inr (name, t, (name, [], w.4, refl))))
 
-  out_user : (at id : ℕ) → IsIndexed s → StandsAt s at id → IsUserOfOne s out id → IsDependent e at
-  out_user at id x st u =
+  out_user : (id : ℕ) → IsUserOfOne s out id → DependsOn s e id
+  out_user id u =
       let there : is_among u.1 (lookup_names_of e.out) ≡ true = ap (is_among u.1) h.out_names ∙ among_at out u.0 u.1 u.2 in
-      touched_user at id u.1 x st u.3 (among_front u.1 (lookup_names_of e.out) (lookup_names_of e.put) there)
+      touched_user id u.1 u.3 (among_front u.1 (lookup_names_of e.out) (lookup_names_of e.put) there)
 
-  put_user : (at id p place : ℕ) → IsIndexed s → StandsAt s at id → put ≡ Some p → StandsAt s place p → IsUserOfOne s (reading_at s.slots.items p).names id → IsDependent e at
-  put_user at id p place x st is ps u =
-      let same = names_put e.rest e.put place (reading_at s.slots.items p) h.fits.put ((h.put_id place p ps).1 is) (new_block place p ps) in
-      let there : is_among u.1 (lookup_names_of e.put) ≡ true = ap (is_among u.1) same ∙ among_at (reading_at s.slots.items p).names u.0 u.1 u.2 in
-      touched_user at id u.1 x st u.3 (among_behind u.1 (lookup_names_of e.out) (lookup_names_of e.put) there)
+  put_user : (id p place : ℕ) (block : Reading) → put ≡ Some p → StandsAt s place p → slice_get (blocks_of s) place ≡ Some block → IsUserOfOne s block.names id → DependsOn s e id
+  put_user id p place block is ps b u =
+      let same = names_put e.rest e.put place block h.fits.put ((h.put_id place p ps).1 is) (new_block place block b) in
+      let there : is_among u.1 (lookup_names_of e.put) ≡ true = ap (is_among u.1) same ∙ among_at block.names u.0 u.1 u.2 in
+      touched_user id u.1 u.3 (among_behind u.1 (lookup_names_of e.out) (lookup_names_of e.put) there)
 
-  owned_user : (at id p : ℕ) → IsIndexed s → StandsAt s at id → ((place : ℕ) → StandsAt s place p → IsDependent e place) → IsUserOfOwned s p (reading_at s.slots.items p).names id → IsDependent e at
-  owned_user at id p x st d u =
-      let w = user_uses s u.1 u.4.0 id x u.4.1 in
+  owned_user : (id p : ℕ) (names : List (List ℕ)) → AreDistinct (ids_of s) → DependsOn s e p → IsUserOfOwned s p names id → DependsOn s e id
+  owned_user id p names once d u =
+      let w = user_uses s u.1 u.4.0 id u.4.1 in
+      let same : d.0 ≡ u.3.0 = once d.0 u.3.0 p d.1 u.3.2 in
       let own : owner (new_list e) u.1 ≡ Some u.3.0 = ap (λ bs. owner bs u.1) h.new ∙ u.3.1 in
-      users_depend e u.3.0 at (reading_at s.slots.items id) u.1 h.fits (d u.3.0 u.3.2) own (new_block at id st) w.2
+      (w.0, w.2, users_depend e u.3.0 w.0 w.1 u.1 h.fits (subst (λ (k : ℕ). IsDependent e k) same d.2) own (new_block w.0 w.1 w.3) w.4)
+
+  put_itself : (id : ℕ) → put ≡ Some id → Has (ids_of s) id → DependsOn s e id
+  put_itself id is there =
+      let w = block_somewhere s id there in
+      (w.0, w.1, (reading_at s id, new_block w.0 (reading_at s id) w.2, inl ((h.put_id w.0 id w.1).1 is)))
 
 -- ---- whatever the exchange was
 
-pub put_depends : (s : Slots) (put : Option ℕ) (out : List (List ℕ)) (id : ℕ) → put ≡ Some id → Depends s put out id
-put_depends s put out id is = λ e h at st. (reading_at s.slots.items id, new_block s put out e h at id st, inl ((h.put_id at id st).1 is))
+pub put_depends : (s : Slots) (put : Option ℕ) (out : List (List ℕ)) (id : ℕ) → put ≡ Some id → Has (ids_of s) id → Depends s put out id
+put_depends s put out id is there = λ e h. put_itself s put out e h id is there
 
-pub out_depends : (s : Slots) (put : Option ℕ) (out : List (List ℕ)) (id : ℕ) → IsIndexed s → IsUserOfOne s out id → Depends s put out id
-out_depends s put out id x u = λ e h at st. out_user s put out e h at id x st u
+pub out_depends : (s : Slots) (put : Option ℕ) (out : List (List ℕ)) (id : ℕ) → IsUserOfOne s out id → Depends s put out id
+out_depends s put out id u = λ e h. out_user s put out e h id u
 
-pub names_depend : (s : Slots) (put : Option ℕ) (out : List (List ℕ)) (p place id : ℕ) → IsIndexed s → put ≡ Some p → StandsAt s place p → IsUserOfOne s (reading_at s.slots.items p).names id → Depends s put out id
-names_depend s put out p place id x is ps u = λ e h at st. put_user s put out e h at id p place x st is ps u
+pub names_depend : (s : Slots) (put : Option ℕ) (out : List (List ℕ)) (p id : ℕ) → put ≡ Some p → Has (ids_of s) p → IsUserOfOne s (reading_at s p).names id → Depends s put out id
+names_depend s put out p id is there u = λ e h. let w = block_somewhere s p there in put_user s put out e h id p w.0 (reading_at s p) is w.1 w.2 u
 
-pub owned_depends : (s : Slots) (put : Option ℕ) (out : List (List ℕ)) (p id : ℕ) → IsIndexed s → Depends s put out p → IsUserOfOwned s p (reading_at s.slots.items p).names id → Depends s put out id
-owned_depends s put out p id x d u = λ e h at st. owned_user s put out e h at id p x st (d e h) u
+pub owned_depends : (s : Slots) (put : Option ℕ) (out : List (List ℕ)) (p id : ℕ) (names : List (List ℕ)) → AreDistinct (ids_of s) → Depends s put out p → IsUserOfOwned s p names id → Depends s put out id
+owned_depends s put out p id names once d u = λ e h. owned_user s put out e h id p names once (d e h) u

@@ -67,7 +67,7 @@ rows_begun s ids graph e = record {
   rows = λ i id row f. absurd (none-some id f);
 }
 
-pub rows_more : (s : Slots) (ids done : List ℕ) (id : ℕ) (items : List ReadItem) (old new : Rows) → AreRowsOf s ids done old → items ≡ (reading_at s.slots.items id).items → AddsRow s ids items old new → AreRowsOf s ids (done ++ id ∷ []) new
+pub rows_more : (s : Slots) (ids done : List ℕ) (id : ℕ) (items : List ReadItem) (old new : Rows) → AreRowsOf s ids done old → items ≡ (reading_at s id).items → AddsRow s ids items old new → AreRowsOf s ids (done ++ id ∷ []) new
 rows_more s ids done id items old new h same adds = rw adds.behind (record {
   as_many = (let n = h.as_many in omega (arith, length-append old (adds.row ∷ []), length-append done (id ∷ [])));
   rows = λ at x row f g.
@@ -98,7 +98,7 @@ uses_whole s ids graph h from to edge =
     let row = h.rows from id.0 edge.row id.1 edge.stands in
     let m = row.as_many in
     let k = slice_get_within edge.row edge.place (Some to) edge.leads in
-    let item = item_at (reading_at s.slots.items id.0).items edge.place (omega arith) in
+    let item = item_at (reading_at s id.0).items edge.place (omega arith) in
     let w = (row.edges edge.place item.0 (Some to) item.1 edge.leads to).0 refl in
     let r = slice_get_within ids to w.1 w.4 in
     omega arith

@@ -1,41 +1,42 @@
 -- What holds of a search from its beginning on, and what it has found at its end.
-use Rattle.std.proofs.Common.{◌≡◌, ℕ, zero, suc, ◌+◌, ◌<◌, ◌≤◌, ◌⊎◌, inl, inr, List, [], ◌∷◌, ◌++◌, length, nat_eq, Option, Some, None, IsSome, is_some, option_and_then, slice_get, refl, sym, ◌∙◌, ap, subst, arith}
+use Rattle.std.proofs.Common.{◌≡◌, ℕ, zero, suc, ◌+◌, ◌<◌, ◌≤◌, ◌⊎◌, inl, inr, List, [], ◌∷◌, ◌++◌, length, nat_eq, Option, Some, None, slice_get, refl, sym, ◌∙◌, ap, subst, arith}
+use Rattle.std.specs.Cmp.{nat_eq_equiv}
 use Rattle.std.specs.List.{IsDistinct}
-use Rattle.std.proofs.lemmas.Bool.{cases_lt, false≢true}
-use Rattle.std.proofs.lemmas.Map.Steps.{length-le_from_distinct_below}
-use Rattle.std.proofs.lemmas.Option.{same_Some, none-some, slice_get_cases}
-use Rattle.ti_text.specs.Lists.{Has}
-use Rattle.ti_slots.specs.declared.slots.Slot.{Slot}
+use Rattle.std.proofs.lemmas.Bool.{cases_lt, eq-eqb}
+use Rattle.std.proofs.lemmas.Map.Keys.{any_passes_from_place}
+use Rattle.std.proofs.lemmas.Map.Made.{length-le_from_is_member}
+use Rattle.std.proofs.lemmas.Option.{same_Some, none-some}
+use Rattle.ti_text.specs.Lists.{Has, AreDistinct}
 use Rattle.ti_slots.specs.declared.slots.Slots.{Slots}
-use Rattle.ti_slots.specs.Slots.{slot_at, reading_at, StandsAt, IsIndexed}
+use Rattle.ti_slots.specs.Slots.{ids_of, reading_at, StandsAt}
 use Rattle.ti_slots.proofs.Owners.{user_uses}
 use Rattle.ti_dependents.specs.inside.Search.{AddsPassing, IsUserOf, IsUserOfOne, IsUserOfOwned, IsPutOrUser, IsPutOrUserIn, Depends, IsSearch}
 use Rattle.ti_dependents.proofs.Adding.{adds_none}
 use Rattle.ti_text.proofs.Lists.{Has_front, Has_split, Has_none, Has_from_any}
 use Rattle.ti_dependents.proofs.Dependence.{put_depends, out_depends, names_depend, owned_depends}
 
-user_stands : (s : Slots) (name : List ℕ) (id : ℕ) → IsIndexed s → IsUserOf s name id → Has s.order.listed id
-user_stands s name id x u = let w = user_uses s name u.0 id x u.1 in (w.0, w.1)
+user_stands : (s : Slots) (name : List ℕ) (id : ℕ) → IsUserOf s name id → Has (ids_of s) id
+user_stands s name id u = let w = user_uses s name u.0 id u.1 in (w.0, w.2)
 
 -- the block put in is in the list, if there is one
 abbrev pub StandsPut : Slots → Option ℕ → Type 0
 StandsPut s put = (id : ℕ) → put ≡ Some id → (at : ℕ) × StandsAt s at id
 
-put_stands : (s : Slots) (put : Option ℕ) (id : ℕ) → IsIndexed s → StandsPut s put → IsPutOrUserIn s put id → Has s.order.listed id
-put_stands s None id x there a = absurd a
-put_stands s (Some p) id x there (inl same) = let w = there p refl in rw same (w.0, w.1)
-put_stands s (Some p) id x there (inr u) = user_stands s u.1 id x u.3
+put_stands : (s : Slots) (put : Option ℕ) (id : ℕ) → StandsPut s put → IsPutOrUserIn s put id → Has (ids_of s) id
+put_stands s None id there a = absurd a
+put_stands s (Some p) id there (inl same) = let w = there p refl in rw same (w.0, w.1)
+put_stands s (Some p) id there (inr u) = user_stands s u.1 id u.3
 
-put_sound : (s : Slots) (put : Option ℕ) (out : List (List ℕ)) (id : ℕ) → IsIndexed s → StandsPut s put → IsPutOrUserIn s put id → Depends s put out id
-put_sound s None out id x there a = absurd a
-put_sound s (Some p) out id x there (inl same) = put_depends s (Some p) out id (ap (λ n. Some n) (sym same))
-put_sound s (Some p) out id x there (inr u) = let w = there p refl in names_depend s (Some p) out p w.0 id x refl w.1 u
+put_sound : (s : Slots) (put : Option ℕ) (out : List (List ℕ)) (id : ℕ) → StandsPut s put → IsPutOrUserIn s put id → Depends s put out id
+put_sound s None out id there a = absurd a
+put_sound s (Some p) out id there (inl same) = let w = there p refl in put_depends s (Some p) out id (ap (λ n. Some n) (sym same)) (rw same (w.0, w.1))
+put_sound s (Some p) out id there (inr u) = let w = there p refl in names_depend s (Some p) out p id refl (w.0, w.1) u
 
 -- the block put in and the users of touched names were added to nothing
-pub search_begun : (s : Slots) (put : Option ℕ) (out : List (List ℕ)) (first found : List ℕ) → IsIndexed s → StandsPut s put → AddsPassing (IsPutOrUserIn s put) [] first → AddsPassing (IsUserOfOne s out) first found → IsSearch s put out found 0
-search_begun s put out first found x there h k = record {
-  within = λ id f. elim (origin id f) [ inl a ↦ put_stands s put id x there a | inr u ↦ user_stands s u.1 id x u.3 ];
-  sound = λ id f. elim (origin id f) [ inl a ↦ put_sound s put out id x there a | inr u ↦ out_depends s put out id x u ];
+pub search_begun : (s : Slots) (put : Option ℕ) (out : List (List ℕ)) (first found : List ℕ) → StandsPut s put → AddsPassing (IsPutOrUserIn s put) [] first → AddsPassing (IsUserOfOne s out) first found → IsSearch s put out found 0
+search_begun s put out first found there h k = record {
+  within = λ id f. elim (origin id f) [ inl a ↦ put_stands s put id there a | inr u ↦ user_stands s u.1 id u.3 ];
+  sound = λ id f. elim (origin id f) [ inl a ↦ put_sound s put out id there a | inr u ↦ out_depends s put out id u ];
   has_put = λ id a. rw k.behind (Has_front first k.added id (h.all id a));
   has_out = λ id u. k.all id u;
   closed = λ i p l. absurd (omega arith);
@@ -57,15 +58,15 @@ get_old (z ∷ zs) ys (suc i) zero x y l e f = absurd (omega arith)
 get_old (z ∷ zs) ys (suc i) (suc k) x y l e f = get_old zs ys i k x y (omega arith) e f
 
 -- the users of the names of one more block were added
-pub search_more : (s : Slots) (put : Option ℕ) (out : List (List ℕ)) (found new : List ℕ) (next p : ℕ) → IsIndexed s → IsSearch s put out found next → slice_get found next ≡ Some p → AddsPassing (IsUserOfOwned s p (reading_at s.slots.items p).names) found new → IsSearch s put out new (next + 1)
+pub search_more : (s : Slots) (put : Option ℕ) (out : List (List ℕ)) (found new : List ℕ) (next p : ℕ) → AreDistinct (ids_of s) → IsSearch s put out found next → slice_get found next ≡ Some p → AddsPassing (IsUserOfOwned s p (reading_at s p).names) found new → IsSearch s put out new (next + 1)
 search_more s put out found new next p x h here adds = rw adds.behind (record {
   within = λ id f. elim (Has_split found adds.added id f) [
     | inl before ↦ h.within id before
-    | inr later ↦ let u = adds.only id later in user_stands s u.1 id x u.4
+    | inr later ↦ let u = adds.only id later in user_stands s u.1 id u.4
   ];
   sound = λ id f. elim (Has_split found adds.added id f) [
     | inl before ↦ h.sound id before
-    | inr later ↦ owned_depends s put out p id x (h.sound p (next, here)) (adds.only id later)
+    | inr later ↦ owned_depends s put out p id (reading_at s p).names x (h.sound p (next, here)) (adds.only id later)
   ];
   has_put = λ id a. Has_front found adds.added id (h.has_put id a);
   has_out = λ id u. Has_front found adds.added id (h.has_out id u);
@@ -98,21 +99,11 @@ first_none s put none empty is =
 
 -- ---- on the way, and at the end
 
-pub found_filled : (s : Slots) (put : Option ℕ) (out : List (List ℕ)) (found : List ℕ) (next i id : ℕ) → IsIndexed s → IsSearch s put out found next → slice_get found i ≡ Some id → IsSome (slot_at s.slots.items id)
-found_filled s put out found next i id x h e = let w = h.within id (i, e) in x.filled w.0 id w.1
-
-filled_below : (slots : List (Option Slot)) (id : ℕ) → IsSome (slot_at slots id) → id < length slots
-filled_below slots id e =
-    elim (slice_get_cases slots id).1 [
-      | inl there ↦ there.1
-      | inr past ↦ (let some : IsSome (slot_at slots id) = e in let none : slot_at slots id ≡ None = ap (option_and_then (λ (slot : Option Slot). slot)) past.1 in absurd (false≢true (ap is_some (sym none) ∙ some)))
-    ]
-
--- no more blocks are found than there are slots
-pub found_few : (s : Slots) (put : Option ℕ) (out : List (List ℕ)) (found : List ℕ) (next : ℕ) → IsIndexed s → IsSearch s put out found next → IsDistinct nat_eq found → length found ≤ length s.slots.items
-found_few s put out found next x h d =
-    length-le_from_distinct_below found (length s.slots.items) d
-    (λ q e. let f = Has_from_any found q e in filled_below s.slots.items q (found_filled s put out found next f.0 q x h f.1))
+-- no more blocks are found than there are
+pub found_few : (s : Slots) (put : Option ℕ) (out : List (List ℕ)) (found : List ℕ) (next : ℕ) → IsSearch s put out found next → IsDistinct nat_eq found → length found ≤ length (ids_of s)
+found_few s put out found next h d =
+    length-le_from_is_member nat_eq_equiv found (ids_of s) d
+    (λ q e. let f = Has_from_any found q e in let w = h.within q (f.0, f.1) in any_passes_from_place (nat_eq q) (ids_of s) w.0 q w.1 (eq-eqb q q refl))
 
 pub search_ended : (s : Slots) (put : Option ℕ) (out : List (List ℕ)) (found : List ℕ) (next : ℕ) → IsSearch s put out found next → length found ≤ next → IsSearch s put out found (length found)
 search_ended s put out found next h l = record {
@@ -124,8 +115,8 @@ search_ended s put out found next h l = record {
 }
 
 -- the names in memory are those of the block
-pub search_step : (s : Slots) (put : Option ℕ) (out : List (List ℕ)) (found new : List ℕ) (next p : ℕ) (names : List (List ℕ)) → IsIndexed s
-    → IsSearch s put out found next → slice_get found next ≡ Some p → names ≡ (reading_at s.slots.items p).names
+pub search_step : (s : Slots) (put : Option ℕ) (out : List (List ℕ)) (found new : List ℕ) (next p : ℕ) (names : List (List ℕ)) → AreDistinct (ids_of s)
+    → IsSearch s put out found next → slice_get found next ≡ Some p → names ≡ (reading_at s p).names
     → AddsPassing (IsUserOfOwned s p names) found new → IsSearch s put out new (next + 1)
 search_step s put out found new next p names x h here same adds =
     let P : List (List ℕ) → Type 0 = λ ns. AddsPassing (IsUserOfOwned s p ns) found new in

@@ -8,7 +8,7 @@ use Rattle.ti_meaning.specs.Dependents.{lookup_names_of, IsPutAt, IsDependent}
 use Rattle.ti_meaning.specs.UseLaws.{AreFound}
 use Rattle.ti_components.specs.Graph.{Rows}
 use Rattle.ti_slots.specs.declared.slots.Slots.{Slots}
-use Rattle.ti_slots.specs.Slots.{blocks_of, reading_at, StandsAt}
+use Rattle.ti_slots.specs.Slots.{ids_of, blocks_of, reading_at, StandsAt}
 pub use Rattle.ti_slots.specs.Slots.{IsOwnerId}
 
 -- the exchange by which the list came about: the block put in has the id `put`, the block taken out
@@ -30,7 +30,7 @@ pub record AreDependentIds (slots : Slots) (put : Option ℕ) (out : List (List 
 
 -- these are all blocks of the list, by their ids and their positions, in its order
 pub record AreAllIds (slots : Slots) (ids positions : List ℕ) : Type 0 where
-  pub listed : ids ≡ slots.order.listed
+  pub listed : ids ≡ (ids_of slots)
   pub as_many : length positions ≡ length ids
   pub placed : (i : ℕ) → i < length ids → slice_get positions i ≡ Some i
 
@@ -50,4 +50,4 @@ pub record IsEdgeRowOf (slots : Slots) (ids : List ℕ) (items : List ReadItem) 
 pub record IsGraphOfUses (slots : Slots) (ids : List ℕ) (graph : Rows) : Type 0 where
   pub as_many : length graph ≡ length ids
   pub rows : (i id : ℕ) (row : List (Option ℕ)) → slice_get ids i ≡ Some id → slice_get graph i ≡ Some row
-      → IsEdgeRowOf slots ids (reading_at slots.slots.items id).items row
+      → IsEdgeRowOf slots ids (reading_at slots id).items row

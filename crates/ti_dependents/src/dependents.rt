@@ -3,13 +3,13 @@ ghost use Rattle.std.specs.Prelude.{◌≡◌, ℕ, Some, map, slice_get, IfOk};
 ghost use Rattle.std.specs.Rc.{rc_slice_items};
 ghost use Rattle.ti_text.specs.Lists.{Has, AreDistinct};
 ghost use Rattle.ti_components.specs.Graph.{IsGraph};
-ghost use Rattle.ti_slots.specs.Slots.{IsIndexed, StandsAt};
+ghost use Rattle.ti_slots.specs.Slots.{ids_of, StandsAt};
 ghost use Rattle.ti_dependents.specs.Dependents.{AreAllIds, AreDependentIds, IsGraphOfUses};
 ghost use Rattle.ti_dependents.specs.inside.Uses.{ArePlaced};
 
 use crate::listing::{listed_ids, positions};
 use crate::search::search;
-use crate::uses::{graph_of_uses, positions_of};
+use crate::uses::graph_of_uses;
 use indexmap::IndexSet;
 use std::alloc::{AllocError, Global};
 use std::rc::RcSlice;
@@ -41,9 +41,8 @@ pub fn find_dependents(
     put: Option<u32>,
     out: &[RcSlice<u8>],
 ) -> Result<Dependents, AllocError>
-    requires indexed { IsIndexed slots.now }
     requires put { (id : ℕ) → put ≡ Some id → (at : ℕ) × StandsAt slots.now at id }
-    ensures distinct { IfOk result (λ d. AreDistinct slots.now.order.listed) }
+    ensures distinct { IfOk result (λ d. AreDistinct (ids_of slots.now)) }
     ensures found { IfOk result (λ d. AreDependentIds slots.now put (map rc_slice_items out.now) d.ids.items d.positions.items) }
     ensures uses { IfOk result (λ d. IsGraphOfUses slots.now d.ids.items d.uses) }
     ensures graph { IfOk result (λ d. IsGraph d.uses) }
@@ -59,14 +58,13 @@ fn blocks_found(
     slots: &Slots,
     found: &IndexSet<u32>,
 ) -> Result<Dependents, AllocError>
-    requires indexed { IsIndexed slots.now }
-    requires listed { (i id : ℕ) → slice_get found.now.keys i ≡ Some id → Has slots.now.order.listed id }
-    ensures placed { IfOk result (λ d. ArePlaced slots.now.order.listed found.now.keys d.ids.items d.positions.items) }
+    requires { (i id : ℕ) → slice_get found.now.keys i ≡ Some id → Has (ids_of slots.now) id }
+    ensures placed { IfOk result (λ d. ArePlaced (ids_of slots.now) found.now.keys d.ids.items d.positions.items) }
     ensures uses { IfOk result (λ d. IsGraphOfUses slots.now d.ids.items d.uses) }
     ensures graph { IfOk result (λ d. IsGraph d.uses) }
 {
     let ids = Vec::from_slice(alloc, found.as_slice())?;
-    let positions = positions_of(alloc, &slots.order, &ids)?;
+    let positions = slots.positions(alloc, &ids)?;
     let uses = graph_of_uses(alloc, slots, found)?;
     Ok(Dependents {
         ids,
@@ -81,13 +79,12 @@ fn blocks_found(
 /// # Errors
 /// Out of memory.
 pub fn find_all(alloc: Global, slots: &Slots) -> Result<Dependents, AllocError>
-    requires indexed { IsIndexed slots.now }
-    ensures distinct { IfOk result (λ d. AreDistinct slots.now.order.listed) }
+    ensures distinct { IfOk result (λ d. AreDistinct (ids_of slots.now)) }
     ensures all { IfOk result (λ d. AreAllIds slots.now d.ids.items d.positions.items) }
     ensures uses { IfOk result (λ d. IsGraphOfUses slots.now d.ids.items d.uses) }
     ensures graph { IfOk result (λ d. IsGraph d.uses) }
 {
-    let listed = listed_ids(alloc, &slots.order)?;
+    let listed = listed_ids(alloc, slots)?;
     blocks_listed(alloc, slots, &listed)
 }
 
@@ -97,8 +94,7 @@ fn blocks_listed(
     slots: &Slots,
     listed: &IndexSet<u32>,
 ) -> Result<Dependents, AllocError>
-    requires indexed { IsIndexed slots.now }
-    requires listed { listed.now.keys ≡ slots.now.order.listed }
+    requires { listed.now.keys ≡ ids_of slots.now }
     ensures all { IfOk result (λ d. AreAllIds slots.now d.ids.items d.positions.items) }
     ensures uses { IfOk result (λ d. IsGraphOfUses slots.now d.ids.items d.uses) }
     ensures graph { IfOk result (λ d. IsGraph d.uses) }

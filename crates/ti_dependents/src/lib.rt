@@ -6,7 +6,7 @@
 //! - `dependents`: the blocks, and their uses of each other
 //! - `listing`: all blocks of a list
 //! - `search`: the search for them
-//! - `uses`: their positions, and which of them use each other
+//! - `uses`: which of them use each other
 #![tactic(auto)]
 
 mod blocks;

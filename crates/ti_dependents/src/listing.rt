@@ -1,17 +1,18 @@
 //! All blocks of a list, in its order.
 ghost use Rattle.std.specs.Prelude.{◌≡◌, ◌<◌, ℕ, Some, length, slice_get, IfOk};
 ghost use Rattle.ti_text.specs.Lists.{AreDistinct};
+ghost use Rattle.ti_slots.specs.Slots.{ids_of};
 
 use indexmap::IndexSet;
 use std::alloc::{AllocError, Global};
-use ti_index::Order;
+use ti_slots::Slots;
 
 /// The ids of a list, in its order. None is there twice.
-pub(crate) fn listed_ids(alloc: Global, order: &Order) -> Result<IndexSet<u32>, AllocError>
-    ensures ids { IfOk result (λ found. found.keys ≡ order.now.listed) }
-    ensures distinct { AreDistinct order.now.listed }
+pub(crate) fn listed_ids(alloc: Global, slots: &Slots) -> Result<IndexSet<u32>, AllocError>
+    ensures ids { IfOk result (λ found. found.keys ≡ ids_of slots.now) }
+    ensures distinct { AreDistinct (ids_of slots.now) }
 {
-    let ids = order.ids();
+    let ids = slots.ids();
     let mut found = IndexSet::with_capacity(alloc, ids.len())?;
     for id in ids {
         found.insert(*id)?;

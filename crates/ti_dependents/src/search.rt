@@ -1,7 +1,8 @@
 //! The search: the block put in and the users of touched names, then the users of each block found.
-ghost use Rattle.std.specs.Prelude.{◌≡◌, ◌↔◌, ℕ, Some, IsSome, IsTrue, [], length, map, OnOk};
+ghost use Rattle.std.specs.Prelude.{◌≡◌, ◌↔◌, ℕ, Some, IsTrue, [], length, map, OnOk};
 ghost use Rattle.std.specs.Rc.{rc_slice_items};
-ghost use Rattle.ti_slots.specs.Slots.{slot_at, IsIndexed, IsOwnerId, StandsAt};
+ghost use Rattle.ti_text.specs.Lists.{Has};
+ghost use Rattle.ti_slots.specs.Slots.{ids_of, IsOwnerId, StandsAt};
 ghost use Rattle.ti_dependents.specs.inside.Search.{AddsPassing, IsUserOf, IsUserOfOne, IsUserOfOwned, IsPutOrUser, IsSearch};
 
 use crate::blocks::block_of;
@@ -14,7 +15,7 @@ use ti_slots::Slots;
 fn add_users(slots: &Slots, name: &[u8], found: &mut IndexSet<u32>) -> Result<(), AllocError>
     ensures { OnOk result (AddsPassing (IsUserOf slots.now name.now) found.old.keys found.new.keys) }
 {
-    for id in slots.names.users(name) {
+    for id in slots.users(name) {
         found.insert(*id)?;
     }
     Ok(())
@@ -36,7 +37,6 @@ fn add_users_of_names(
 
 // Whether a name belongs to the block with an id.
 fn owns(slots: &Slots, name: &[u8], id: u32) -> bool
-    requires { IsIndexed slots.now }
     ensures { IsTrue result ↔ IsOwnerId slots.now name.now id }
 {
     slots.owner(name) == Some(id)
@@ -49,7 +49,6 @@ fn add_users_of_owned(
     names: &[RcSlice<u8>],
     found: &mut IndexSet<u32>,
 ) -> Result<(), AllocError>
-    requires { IsIndexed slots.now }
     ensures { OnOk result (AddsPassing (IsUserOfOwned slots.now id (map rc_slice_items names.now)) found.old.keys found.new.keys) }
 {
     for name in names {
@@ -62,7 +61,7 @@ fn add_users_of_owned(
 
 // Adds a block and the users of its names.
 fn add_with_users(slots: &Slots, id: u32, found: &mut IndexSet<u32>) -> Result<(), AllocError>
-    requires { IsSome (slot_at slots.now.slots.items id) }
+    requires { Has (ids_of slots.now) id }
     ensures { OnOk result (AddsPassing (IsPutOrUser slots.now id) found.old.keys found.new.keys) }
 {
     found.insert(id)?;
@@ -77,7 +76,6 @@ fn add_first(
     out: &[RcSlice<u8>],
     found: &mut IndexSet<u32>,
 ) -> Result<(), AllocError>
-    requires indexed { IsIndexed slots.now }
     requires put { (id : ℕ) → put ≡ Some id → (at : ℕ) × StandsAt slots.now at id }
     requires empty { found.old.keys ≡ [] }
     ensures { OnOk result (IsSearch slots.now put (map rc_slice_items out.now) found.new.keys 0) }
@@ -95,7 +93,6 @@ pub(crate) fn search(
     out: &[RcSlice<u8>],
     found: &mut IndexSet<u32>,
 ) -> Result<(), AllocError>
-    requires indexed { IsIndexed slots.now }
     requires put { (id : ℕ) → put ≡ Some id → (at : ℕ) × StandsAt slots.now at id }
     requires empty { found.old.keys ≡ [] }
     ensures { OnOk result (IsSearch slots.now put (map rc_slice_items out.now) found.new.keys (length found.new.keys)) }

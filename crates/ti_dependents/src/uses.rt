@@ -1,44 +1,23 @@
-//! The positions of the blocks found, and which of them use each other.
-ghost use Rattle.std.specs.Prelude.{◌≡◌, ◌<◌, ℕ, Some, IsSome, map, nat_eq, slice_get, OnOk, IfOk};
+//! Which of the blocks found use each other.
+ghost use Rattle.std.specs.Prelude.{◌≡◌, ℕ, Some, map, nat_eq, slice_get, OnOk, IfOk};
 ghost use Rattle.ti_source.specs.Reading.{item_of};
 ghost use Rattle.std.specs.List.{IsDistinct};
-ghost use Rattle.ti_text.specs.Lists.{Has, AreDistinct};
-ghost use Rattle.ti_slots.specs.Slots.{slot_at, IsIndexed};
+ghost use Rattle.ti_text.specs.Lists.{Has};
+ghost use Rattle.ti_slots.specs.Slots.{ids_of};
 ghost use Rattle.ti_components.specs.Graph.{IsGraph};
 ghost use Rattle.ti_dependents.specs.Dependents.{IsEdgeOf, IsGraphOfUses};
-ghost use Rattle.ti_dependents.specs.inside.Uses.{AddsRow, ArePositions};
+ghost use Rattle.ti_dependents.specs.inside.Uses.{AddsRow};
 
 use crate::blocks::block_of;
 use indexmap::IndexSet;
 use std::alloc::{AllocError, Global};
 use ti_components::Graph;
-use ti_index::Order;
 use ti_slots::Slots;
 use ti_source::{Item, What};
 
-/// The position of each of the ids in the list, in which no id is twice.
-pub(crate) fn positions_of(
-    alloc: Global,
-    order: &Order,
-    ids: &[u32],
-) -> Result<Vec<usize>, AllocError>
-    requires { (i id : ℕ) → slice_get ids.now i ≡ Some id → Has order.now.listed id }
-    ensures positions { IfOk result (λ positions. ArePositions order.now.listed ids.now positions.items) }
-    ensures distinct { AreDistinct order.now.listed }
-{
-    // The call is made for its clause `distinct` alone.
-    let _listed = order.ids();
-    let mut positions = Vec::with_capacity(alloc, ids.len())?;
-    for id in ids {
-        positions.push(order.position(*id))?;
-    }
-    Ok(positions)
-}
-
 // The place among the blocks found of the owner of the name that an item uses.
 fn edge_of(slots: &Slots, item: &Item, found: &IndexSet<u32>) -> Option<usize>
-    requires indexed { IsIndexed slots.now }
-    requires unique { IsDistinct nat_eq found.now.keys }
+    requires { IsDistinct nat_eq found.now.keys }
     ensures { IsEdgeOf slots.now found.now.keys (item_of item.now) result }
 {
     let What::Import(name) = &item.what else {
@@ -55,8 +34,7 @@ fn add_row(
     found: &IndexSet<u32>,
     uses: &mut Graph,
 ) -> Result<(), AllocError>
-    requires indexed { IsIndexed slots.now }
-    requires unique { IsDistinct nat_eq found.now.keys }
+    requires { IsDistinct nat_eq found.now.keys }
     ensures { OnOk result (AddsRow slots.now found.now.keys (map item_of items.now) uses.old uses.new) }
 {
     uses.add_node()?;
@@ -72,8 +50,7 @@ pub(crate) fn graph_of_uses(
     slots: &Slots,
     found: &IndexSet<u32>,
 ) -> Result<Graph, AllocError>
-    requires indexed { IsIndexed slots.now }
-    requires filled { (i id : ℕ) → slice_get found.now.keys i ≡ Some id → IsSome (slot_at slots.now.slots.items id) }
+    requires { (i id : ℕ) → slice_get found.now.keys i ≡ Some id → Has (ids_of slots.now) id }
     ensures uses { IfOk result (λ graph. IsGraphOfUses slots.now found.now.keys graph) }
     ensures graph { IfOk result IsGraph }
 {

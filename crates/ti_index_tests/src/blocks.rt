@@ -1,6 +1,4 @@
 //! Lists of blocks by hand, for the rows of slots and dependents.
-ghost use Rattle.std.specs.Prelude.{IfOk};
-ghost use Rattle.ti_slots.specs.Slots.{IsIndexed};
 
 use std::alloc::{AllocError, Global};
 use std::rc::RcSlice;
@@ -61,11 +59,8 @@ fn slot_of(alloc: Global, block: &Block<'_>) -> Result<Slot, AllocError> {
 }
 
 // Puts a block in at the front.
-fn put(alloc: Global, slots: &mut Slots, block: &Block<'_>) -> Result<(), Fail>
-    requires { IsIndexed slots.old }
-    ensures { IsIndexed slots.new }
-{
-    if slots.order.ids().len() >= 100 {
+fn put(alloc: Global, slots: &mut Slots, block: &Block<'_>) -> Result<(), Fail> {
+    if slots.len() >= 100 {
         return Err(Fail::new("too many blocks"));
     }
     let slot = slot_of(alloc, block)?;
@@ -76,9 +71,7 @@ fn put(alloc: Global, slots: &mut Slots, block: &Block<'_>) -> Result<(), Fail>
 
 /// A list of these blocks, each put in before those that were there: the last of them is first. The
 /// id of each is its number among them.
-pub fn list_of(alloc: Global, blocks: &[Block<'_>]) -> Result<Slots, Fail>
-    ensures { IfOk result IsIndexed }
-{
+pub fn list_of(alloc: Global, blocks: &[Block<'_>]) -> Result<Slots, Fail> {
     let mut slots = Slots::new(alloc);
     for block in blocks {
         put(alloc, &mut slots, block)?;

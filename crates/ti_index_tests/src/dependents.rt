@@ -1,5 +1,4 @@
 //! The dependents of small lists, by what it means to depend on an edit.
-ghost use Rattle.ti_slots.specs.Slots.{IsIndexed};
 
 use super::blocks::{Block, list_of};
 use std::alloc::{AllocError, Global};
@@ -71,10 +70,8 @@ fn expect_found(rt: &impl Abort, found: &Dependents, want: &Wanted<'_>) {
 }
 
 // What depends on the block that was put in last.
-fn dependents_of_first(alloc: Global, slots: &Slots) -> Result<Dependents, Fail>
-    requires { IsIndexed slots.now }
-{
-    match slots.order.ids().first() {
+fn dependents_of_first(alloc: Global, slots: &Slots) -> Result<Dependents, Fail> {
+    match slots.ids().first() {
         Some(id) => Ok(find_dependents(alloc, slots, Some(*id), &[])?),
         None => Err(Fail::new("no block")),
     }
@@ -178,9 +175,7 @@ fn a_name_that_two_blocks_have(rt: HostRuntime) -> Result<(), Fail> {
 }
 
 // What depends on a block with this name that was taken out.
-fn dependents_of_name(alloc: Global, slots: &Slots, name: &[u8]) -> Result<Dependents, AllocError>
-    requires { IsIndexed slots.now }
-{
+fn dependents_of_name(alloc: Global, slots: &Slots, name: &[u8]) -> Result<Dependents, AllocError> {
     let out = [RcSlice::from_slice(alloc, name)?];
     find_dependents(alloc, slots, None, &out)
 }

@@ -1,5 +1,4 @@
 //! Blocks come and go at run time: what the index then has, and the way back.
-ghost use Rattle.ti_slots.specs.Slots.{IsIndexed};
 
 use super::blocks::{Block, list_of};
 use std::rc::RcSlice;
@@ -8,11 +7,8 @@ use ti_slots::{Slots, copy_detail};
 
 // Takes the slot at a position out, and puts it back without memory. Answers how many names it
 // has.
-fn exchange(slots: &mut Slots, at: usize) -> Option<usize>
-    requires { IsIndexed slots.old }
-    ensures { IsIndexed slots.new }
-{
-    if at >= slots.order.ids().len() {
+fn exchange(slots: &mut Slots, at: usize) -> Option<usize> {
+    if at >= slots.len() {
         return None;
     }
     let slot = slots.take_out(at);
@@ -21,11 +17,8 @@ fn exchange(slots: &mut Slots, at: usize) -> Option<usize>
 }
 
 // Takes the slot at a position out for good.
-fn take(slots: &mut Slots, at: usize)
-    requires { IsIndexed slots.old }
-    ensures { IsIndexed slots.new }
-{
-    if at < slots.order.ids().len() {
+fn take(slots: &mut Slots, at: usize) {
+    if at < slots.len() {
         let slot = slots.take_out(at);
         slots.forget_unused(&slot.block);
     }
@@ -42,13 +35,11 @@ struct Shown<'a> {
 }
 
 // Whether a list shows this.
-fn shows(slots: &Slots, want: &Shown<'_>) -> bool
-    requires { IsIndexed slots.now }
-{
-    slots.order.ids() == want.ids
-        && slots.names.holders(b"n") == want.holders_of_n
-        && slots.names.users(b"m") == want.users_of_m
-        && slots.names.users(b"x") == want.users_of_x
+fn shows(slots: &Slots, want: &Shown<'_>) -> bool {
+    slots.ids() == want.ids
+        && slots.holders(b"n") == want.holders_of_n
+        && slots.users(b"m") == want.users_of_m
+        && slots.users(b"x") == want.users_of_x
         && slots.owner(b"n") == want.owner_of_n
         && slots.owner(b"m") == want.owner_of_m
 }

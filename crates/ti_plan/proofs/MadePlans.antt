@@ -8,7 +8,7 @@ use Rattle.ti_meaning.specs.Dependents.{work, work_of}
 use Rattle.ti_components.specs.Components.{IsClosingOrder}
 use Rattle.ti_text.proofs.Lists.{item_at}
 use Rattle.ti_slots.specs.declared.slots.Slots.{Slots}
-use Rattle.ti_slots.specs.Slots.{blocks_of, IsIndexed}
+use Rattle.ti_slots.specs.Slots.{ids_of, blocks_of}
 use Rattle.ti_text.specs.Lists.{AreDistinct}
 use Rattle.ti_components.specs.Graph.{IsGraph}
 use Rattle.ti_meaning.specs.Usable.{IsUsable}
@@ -17,7 +17,7 @@ use Rattle.ti_plan.specs.Plans.{IsPlan, IsReady}
 use Rattle.ti_dependents.specs.declared.dependents.Dependents.{Dependents}
 use Rattle.ti_plan.specs.declared.plans.Plan.{Plan}
 use Rattle.ti_plan.specs.inside.Settling.{AreFoundIn, AreAllSettled, IsPlanOf, node_position}
-use Rattle.ti_plan.proofs.Places.{block_of, block_at, node_of_place, node_of_id, one_node}
+use Rattle.ti_plan.proofs.Places.{node_of_place, node_of_id, one_node}
 use Rattle.ti_plan.proofs.Following.{place_stands}
 use Rattle.ti_plan.proofs.Rising.{same_numbers, sorted_rises}
 
@@ -75,10 +75,9 @@ module _ (slots : Slots) (d : Dependents) (component_of order : List ℕ) (found
 
 -- ---- the blocks found are those that depend on the edit
 
-pub found_in : (slots : Slots) (put : Option ℕ) (out : List (List ℕ)) (d : Dependents) → IsIndexed slots → All IsUsable (blocks_of slots) → IsReady slots put out → AreDistinct slots.order.listed
+pub found_in : (slots : Slots) (put : Option ℕ) (out : List (List ℕ)) (d : Dependents) → All IsUsable (blocks_of slots) → IsReady slots put out → AreDistinct (ids_of slots)
     → AreDependentIds slots put out d.ids.items d.positions.items → IsGraphOfUses slots d.ids.items d.uses → IsGraph d.uses → AreFoundIn slots d
-found_in slots put out d indexed usable ready distinct h graph whole = record {
-  indexed = indexed;
+found_in slots put out d usable ready distinct h graph whole = record {
   usable = usable;
   distinct = distinct;
   as_many = h.as_many;
@@ -87,7 +86,7 @@ found_in slots put out d indexed usable ready distinct h graph whole = record {
   closed = h.closed;
   graph = graph;
   whole = whole;
-  others = λ at id s absent. ready.2 at id s (λ dependent. absent ((h.dependents ready.0 ready.1 at).1 dependent));
+  others = λ at absent. ready.2 at (λ dependent. absent ((h.dependents ready.0 ready.1 at).1 dependent));
 }
 
 pub plan_is : (slots : Slots) (put : Option ℕ) (out : List (List ℕ)) (d : Dependents) (plan : Plan) → AreFoundIn slots d → AreDependentIds slots put out d.ids.items d.positions.items → IsPlanOf slots d plan → IsPlan slots put out plan
@@ -107,10 +106,10 @@ plan_is slots put out d plan found h p =
             let same : n.0 ≡ at = found.distinct n.0 at id n.1.stands s in
             (p.members at).1 (at_contains d.positions.items w.0 at (n.1.at_is ∙ ap (λ k. Some k) same))),
       );
-      settled = λ i at id one e f s.
+      settled = λ i at id block one e f s b.
           (let n = node_of_id slots d found i id (id_in i id e) in
           let same : n.0 ≡ at = found.distinct n.0 at id n.1.stands s in
-          p.settled i at (block_of slots id) one f (n.1.at_is ∙ ap (λ k. Some k) same) (block_at slots at id s));
+          p.settled i at block one f (n.1.at_is ∙ ap (λ k. Some k) same) b);
       dependents = λ exchange x. record {
         rising = p.rising;
         dependents = λ at. (

@@ -1,7 +1,7 @@
 -- Blocks by their positions and nodes, and the graph of their uses as the laws speak of it.
-use Rattle.std.proofs.Common.{◌≡◌, ℕ, suc, ◌<◌, option_map, subst, inl, inr, List, [], ◌∷◌, length, get_or, Option, Some, None, IsSome, slice_get, refl, sym, ◌∙◌, ap, arith}
-use Rattle.std.proofs.lemmas.Option.{same_Some, none-some, slice_get_within, slice_get-map, get_or_from_slice_get}
-use Rattle.ti_source.specs.Reading.{Reading, ReadItem, reading_of}
+use Rattle.std.proofs.Common.{◌≡◌, ℕ, suc, ◌<◌, subst, inl, inr, List, [], ◌∷◌, length, get_or, Option, Some, slice_get, refl, sym, ◌∙◌, ap, arith}
+use Rattle.std.proofs.lemmas.Option.{same_Some, slice_get_within, get_or_from_slice_get}
+use Rattle.ti_source.specs.Reading.{Reading, ReadItem}
 use Rattle.ti_meaning.specs.Reaching.{used_name, Uses}
 use Rattle.ti_meaning.specs.UseLaws as laws
 use Rattle.ti_meaning.specs.UseLaws.{UsesBlock, IsGraphOf, HaveOneNumber}
@@ -11,10 +11,9 @@ use Rattle.ti_components.specs.Graph.{Rows}
 use Rattle.ti_components.specs.Leading.{IsWay}
 use Rattle.ti_components.specs.Components.{AreComponents}
 use Rattle.ti_text.proofs.Lists.{item_at}
-use Rattle.std.specs.Option.{option_map_or}
-use Rattle.ti_slots.specs.declared.slots.Slot.{Slot}
 use Rattle.ti_slots.specs.declared.slots.Slots.{Slots}
-use Rattle.ti_slots.specs.Slots.{blocks_of, reading_at, slot_at, empty_reading, StandsAt, IsOwnerId}
+use Rattle.ti_slots.specs.Slots.{blocks_of, reading_at, StandsAt, IsOwnerId}
+use Rattle.ti_slots.proofs.Owners.{block_at}
 use Rattle.ti_dependents.specs.declared.dependents.Dependents.{Dependents}
 use Rattle.ti_plan.specs.inside.Settling.{AreFoundIn, IsUseAt, IsEdgeTo}
 
@@ -22,17 +21,7 @@ use Rattle.ti_plan.specs.inside.Settling.{AreFoundIn, IsUseAt, IsEdgeTo}
 
 -- the block with the id, as it is read
 abbrev pub block_of : Slots → ℕ → Reading
-block_of slots id = reading_at slots.slots.items id
-
-pub block_at : (slots : Slots) (at id : ℕ) → StandsAt slots at id → slice_get (blocks_of slots) at ≡ Some (block_of slots id)
-block_at slots at id s = rw (slice_get-map (reading_at slots.slots.items) slots.order.listed at, s) refl
-
--- a position has an id if it has a block
-pub id_at : (slots : Slots) (at : ℕ) (block : Reading) → slice_get (blocks_of slots) at ≡ Some block → (id : ℕ) × StandsAt slots at id × (block_of slots id ≡ block)
-id_at slots at block e = there slots at block (slice_get slots.order.listed at) refl (sym (slice_get-map (reading_at slots.slots.items) slots.order.listed at) ∙ e) where
-  there : (slots : Slots) (at : ℕ) (block : Reading) (o : Option ℕ) → slice_get slots.order.listed at ≡ o → option_map (block_of slots) o ≡ Some block → (id : ℕ) × StandsAt slots at id × (block_of slots id ≡ block)
-  there slots at block None s e = absurd (none-some block e)
-  there slots at block (Some id) s e = (id, s, same_Some (block_of slots id) block e)
+block_of slots id = reading_at slots id
 
 pub usable_at : (slots : Slots) (d : Dependents) → AreFoundIn slots d → (at : ℕ) (block : Reading) → slice_get (blocks_of slots) at ≡ Some block → IsUsable block
 usable_at slots d h at block s =
@@ -51,13 +40,13 @@ pub node_of_place : (slots : Slots) (d : Dependents) → AreFoundIn slots d → 
 node_of_place slots d h node at e =
     let id = item_at d.ids.items node (omega (arith, slice_get_within d.positions.items node at e, h.as_many)) in
     let stands = h.stands node id.0 at id.1 e in
-    (id.0, record { id_is = id.1; at_is = e; stands = stands; block = block_at slots at id.0 stands })
+    (id.0, record { id_is = id.1; at_is = e; stands = stands; block = block_at slots at id.0 h.distinct stands })
 
 pub node_of_id : (slots : Slots) (d : Dependents) → AreFoundIn slots d → (node id : ℕ) → slice_get d.ids.items node ≡ Some id → (at : ℕ) × IsNode slots d node at id
 node_of_id slots d h node id e =
     let at = item_at d.positions.items node (omega (arith, slice_get_within d.ids.items node id e, h.as_many)) in
     let stands = h.stands node id at.0 e at.1 in
-    (at.0, record { id_is = e; at_is = at.1; stands = stands; block = block_at slots at.0 id stands })
+    (at.0, record { id_is = e; at_is = at.1; stands = stands; block = block_at slots at.0 id h.distinct stands })
 
 -- a position is that of one node
 pub one_node : (slots : Slots) (d : Dependents) → AreFoundIn slots d → (node other at : ℕ) → slice_get d.positions.items node ≡ Some at → slice_get d.positions.items other ≡ Some at → node ≡ other
@@ -161,9 +150,3 @@ node_read slots d h node at id p e =
     let n = node_of_place slots d h node at p in
     let same : n.0 ≡ id = sym (e ∙ get_or_from_slice_get d.ids.items node n.0 id n.1.id_is) in
     subst (λ k. IsNode slots d node at k) same n.1
-
-pub slot_there : (slots : Slots) (d : Dependents) → AreFoundIn slots d → (node at id : ℕ) → IsNode slots d node at id → IsSome (slot_at slots.slots.items id)
-slot_there slots d h node at id n = h.indexed.filled at id n.stands
-
-pub slot_read : (slots : Slots) (d : Dependents) (node at id : ℕ) (slot : Slot) → IsNode slots d node at id → slot_at slots.slots.items id ≡ Some slot → slice_get (blocks_of slots) at ≡ Some (reading_of slot.block)
-slot_read slots d node at id slot n e = n.block ∙ ap (λ o. Some (option_map_or (λ (s : Slot). reading_of s.block) o empty_reading)) e

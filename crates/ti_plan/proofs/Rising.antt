@@ -1,5 +1,5 @@
 -- Positions in ascending order, each once.
-use Rattle.std.proofs.Common.{◌≡◌, ℕ, zero, suc, ◌<◌, inl, inr, false, List, [], ◌∷◌, length, get_or, remove, Some, AllPairs, refl, sym, ◌∙◌, ap, arith}
+use Rattle.std.proofs.Common.{◌≡◌, ◌≢◌, ℕ, zero, suc, ◌<◌, inl, inr, false, List, [], ◌∷◌, length, get_or, remove, Some, slice_get, AllPairs, refl, sym, ◌∙◌, ap, arith}
 use Rattle.std.specs.List.{AllByRecursion}
 use Rattle.std.specs.List.Sorted.{IsPermutation, IsNonDecreasing}
 use Rattle.std.proofs.lemmas.List.Kept.{AllPairs-from_increasing}
@@ -9,7 +9,7 @@ use Rattle.std.proofs.lemmas.Option.{none-some, same_Some, slice_get_within, sli
 use Rattle.ti_text.specs.Lists.{Has, AreDistinct}
 use Rattle.ti_source.specs.Sound.{IsRising}
 use Rattle.ti_index.proofs.Keeping.{remove_cases}
-use Rattle.ti_slots.proofs.Listings.{left_before, stays_listed}
+use Rattle.ti_slots.proofs.Listings.{left_before}
 use lib.Dec.{eqb}
 
 all_later : (n : ℕ) (ys : List ℕ) → ((j d : ℕ) → j < length ys → n < get_or ys j d) → AllByRecursion (λ m. n < m) ys
@@ -33,6 +33,14 @@ sorted_rises xs ys h p up =
     let distinct = IsDistinct-from_apart eqb xs (λ i j d l m. apart (get_or xs i d) (get_or xs j d) (differ i j d l m)) in
     let kept = IsDistinct-IsPermutation eqb flips xs ys p distinct in
     rising_of ys (AllPairs-from_increasing ys (IsStrictlyIncreasing-from_distinct ys up kept))
+
+-- a number that is not the one taken out is left
+stays_listed : (xs : List ℕ) (at id pos x : ℕ) → slice_get xs at ≡ Some id → slice_get xs pos ≡ Some x → x ≢ id → Has (remove xs at) x
+stays_listed [] at id pos x e f apart = absurd (none-some id e)
+stays_listed (z ∷ xs) zero id zero x e f apart = absurd (apart (sym (same_Some z x f) ∙ same_Some z id e))
+stays_listed (z ∷ xs) zero id (suc pos) x e f apart = (pos, f)
+stays_listed (z ∷ xs) (suc at) id zero x e f apart = (0, f)
+stays_listed (z ∷ xs) (suc at) id (suc pos) x e f apart = let w = stays_listed xs at id pos x e f apart in (suc w.0, w.1)
 
 -- ---- lists of the same numbers, each once, in two orders
 

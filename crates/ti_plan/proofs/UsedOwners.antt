@@ -4,7 +4,7 @@ use Rattle.std.proofs.lemmas.Bool.{cases_Bool}
 use Rattle.std.proofs.lemmas.Option.{same_Some, none-some, slice_get_within, get_or_from_slice_get, slice_get-get_or}
 use Rattle.ti_source.specs.declared.code.Code.{Code}
 use Rattle.ti_source.specs.declared.code.Code.TheVariants.{Circular}
-use Rattle.ti_source.specs.Reading.{Reading}
+use Rattle.ti_source.specs.Reading.{Reading, reading_of}
 use Rattle.ti_layout.specs.Values.{contents}
 use Rattle.ti_meaning.specs.Owner.{owner}
 use Rattle.ti_meaning.specs.Reaching.{LeadsTo, leads_to}
@@ -19,11 +19,12 @@ use Rattle.ti_components.specs.Graph.{HasEdge}
 use Rattle.ti_slots.specs.declared.slots.Slots.{Slots}
 use Rattle.ti_slots.specs.declared.slots.Slot.{Slot}
 use Rattle.ti_slots.specs.declared.slots.Settled.{Settled}
-use Rattle.ti_slots.specs.Slots.{blocks_of, slot_at, IsOwnerId}
+use Rattle.ti_slots.specs.Slots.{blocks_of, slots_of, IsOwnerId, StandsAt}
+use Rattle.ti_slots.proofs.Owners.{block_of_slot}
 use Rattle.ti_slots.specs.Settled.{table_of}
 use Rattle.ti_dependents.specs.declared.dependents.Dependents.{Dependents}
 use Rattle.ti_plan.specs.inside.Settling.{IsKnown, IsUseAt, IsEdgeTo, IsOwnerState, IsSettledNode, HasSettledOwners}
-use Rattle.ti_plan.proofs.Places.{block_of, block_at, node_of_place, node_of_id, use_of_place, edge_is, row_at, graph_of, components_of}
+use Rattle.ti_plan.proofs.Places.{block_of, node_of_place, node_of_id, use_of_place, edge_is, row_at, graph_of, components_of}
 
 -- a use among the blocks found
 pub record IsFoundUse (slots : Slots) (d : Dependents) (component_of : List ℕ) (settled : List Settled) (node at index : ℕ) (name : List ℕ) (edge : Option ℕ) : Type 0 where
@@ -94,17 +95,18 @@ module _ (slots : Slots) (d : Dependents) (component_of : List ℕ) (settled : L
       }
 
   -- the state of an owner that was not
-  pub state_outside : (id : ℕ) (slot : Slot) → IsFoundUse slots d component_of settled node at index name None → IsOwnerId slots name id → slot_at slots.slots.items id ≡ Some slot → IsOwnerState (blocks_of slots) at name slot.settled.state
+  pub state_outside : (id : ℕ) (slot : Slot) → IsFoundUse slots d component_of settled node at index name None → IsOwnerId slots name id → ((place : ℕ) → StandsAt slots place id → slice_get (slots_of slots) place ≡ Some slot) → IsOwnerState (blocks_of slots) at name slot.settled.state
   state_outside id slot u own s =
       let found = u.known.found in
       let b = owner_is (blocks_of slots) name own.0 own.1 in
-      let same : block_of slots id ≡ b.0 = same_Some (block_of slots id) b.0 (sym (block_at slots own.0 id own.2) ∙ b.2) in
+      let here = s own.0 own.2 in
+      let same : reading_of slot.block ≡ b.0 = same_Some (reading_of slot.block) b.0 (sym (block_of_slot slots own.0 slot here) ∙ b.2) in
       let P : Reading → Type 0 = λ c. HasTable contents (blocks_of slots) c (table_of slot.settled.state) in
       record {
         block = b.0;
         is = b.1;
         off = off_outside u;
-        table = subst P same (found.others own.0 id own.2 (lacks u own) slot s).table;
+        table = subst P same (found.others own.0 (lacks u own) slot here).table;
       }
     where
       lacks : IsFoundUse slots d component_of settled node at index name None → (own : IsOwnerId slots name id) → Contains d.positions.items own.0 → ⊥

@@ -4,7 +4,7 @@ ghost use Rattle.ti_components.specs.Components.{AreComponents, IsClosingOrder};
 ghost use Rattle.ti_meaning.specs.Dependents.{work};
 ghost use Rattle.std.specs.Rc.{rc_slice_items};
 ghost use Rattle.ti_meaning.specs.Usable.{IsUsable};
-ghost use Rattle.ti_slots.specs.Slots.{blocks_of, IsIndexed, StandsAt};
+ghost use Rattle.ti_slots.specs.Slots.{blocks_of, StandsAt};
 ghost use Rattle.ti_plan.specs.Plans.{IsPlan, IsPlanOfAll, IsReady};
 ghost use Rattle.ti_plan.specs.inside.Settling.{AreAllSettled, AreFoundIn, IsPlanOf, node_position};
 
@@ -109,7 +109,6 @@ pub fn plan(
     out: &[RcSlice<u8>],
     entry_out: Option<&BlockEntry>,
 ) -> Result<Plan, AllocError>
-    requires indexed { IsIndexed slots.now }
     requires usable { All IsUsable (blocks_of slots.now) }
     requires put { (id : ℕ) → put ≡ Some id → (at : ℕ) × StandsAt slots.now at id }
     requires ready { IsReady slots.now put (map rc_slice_items out.now) }
@@ -127,8 +126,7 @@ pub fn plan(
 /// # Errors
 /// Out of memory.
 pub fn plan_all(alloc: Global, slots: &Slots) -> Result<Plan, AllocError>
-    requires indexed { IsIndexed slots.now }
-    requires usable { All IsUsable (blocks_of slots.now) }
+    requires { All IsUsable (blocks_of slots.now) }
     ensures { IfOk result (λ plan. IsPlanOfAll slots.now plan) }
 {
     let all = find_all(alloc, slots)?;

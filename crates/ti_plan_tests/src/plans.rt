@@ -4,7 +4,7 @@ ghost use Rattle.std.specs.Prelude.{ℕ, [], ◌<◌, Some, All, Contains, IfOk,
 ghost use Rattle.ti_meaning.specs.Exchange.{Exchange};
 ghost use Rattle.ti_meaning.specs.Usable.{IsUsable};
 ghost use Rattle.ti_source.specs.Reading.{reading_of};
-ghost use Rattle.ti_slots.specs.Slots.{blocks_of, IsIndexed, StandsAt};
+ghost use Rattle.ti_slots.specs.Slots.{blocks_of, StandsAt};
 ghost use Rattle.ti_dependents.specs.Dependents.{IsExchangeOf};
 
 use std::alloc::Global;
@@ -37,21 +37,17 @@ fn slot_of(alloc: Global, text: &[u8]) -> Result<Slot, Fail>
 
 // Puts a block in at the front, and gives its id.
 fn put(alloc: Global, slots: &mut Slots, text: &[u8]) -> Result<u32, Fail>
-    requires indexed { IsIndexed slots.old }
-    requires usable { All IsUsable (blocks_of slots.old) }
-    ensures indexed { IsIndexed slots.new }
+    requires { All IsUsable (blocks_of slots.old) }
     ensures usable { All IsUsable (blocks_of slots.new) }
     ensures stands { IfOk result (λ id. StandsAt slots.new 0 id) }
     ensures put { IfOk result (λ id. (exchange : Exchange) × IsExchangeOf slots.new (Some id) [] exchange) }
 {
-    if slots.order.ids().len() >= 100 {
+    if slots.len() >= 100 {
         return Err(Fail::new("too many blocks"));
     }
     let slot = slot_of(alloc, text)?;
     slots.make_room(&slot.block)?;
     let id = slots.put_in(0, slot);
-    // Whether no id is there twice.
-    let _listed = slots.order.ids();
     Ok(id)
 }
 
@@ -69,13 +65,12 @@ fn are_all(count: usize, places: &[usize]) -> bool
 
 // The plan of putting the first block in, on which every block depends.
 fn plan_all(alloc: Global, slots: &Slots, id: u32) -> Result<Plan, Fail>
-    requires indexed { IsIndexed slots.now }
     requires usable { All IsUsable (blocks_of slots.now) }
     requires stands { StandsAt slots.now 0 id }
     requires put { (exchange : Exchange) × IsExchangeOf slots.now (Some id) [] exchange }
 {
     let found = find_dependents(alloc, slots, Some(id), &[])?;
-    if !are_all(slots.order.ids().len(), &found.positions) {
+    if !are_all(slots.len(), &found.positions) {
         return Err(Fail::new("a block that does not depend"));
     }
     Ok(plan(alloc, slots, Some(id), &[], None)?)
@@ -162,14 +157,12 @@ fn expect_put(
     text: &[u8],
     want: &Wanted<'_>,
 ) -> Result<(), Fail>
-    requires indexed { IsIndexed slots.old }
-    requires usable { All IsUsable (blocks_of slots.old) }
-    ensures indexed { IsIndexed slots.new }
-    ensures usable { All IsUsable (blocks_of slots.new) }
+    requires { All IsUsable (blocks_of slots.old) }
+    ensures { All IsUsable (blocks_of slots.new) }
 {
     let id = put(alloc, slots, text)?;
     let plan = plan_all(alloc, slots, id)?;
-    expect_plan(rt, slots.order.ids(), &plan, want);
+    expect_plan(rt, slots.ids(), &plan, want);
     Ok(())
 }
 
@@ -205,8 +198,7 @@ const PLAN_OF_R: Wanted<'static> = Wanted {
 
 // Among no blocks, each block put in is used by the one before it.
 fn expect_chain(rt: &impl Abort, alloc: Global, slots: &mut Slots) -> Result<(), Fail>
-    requires indexed { IsIndexed slots.old }
-    requires usable { All IsUsable (blocks_of slots.old) }
+    requires { All IsUsable (blocks_of slots.old) }
 {
     expect_put(rt, alloc, slots, b"p,use=q,\n", &PLAN_OF_P)?;
     expect_put(rt, alloc, slots, b"q,use=r,\n", &PLAN_OF_Q)?;
@@ -245,10 +237,8 @@ fn broken_block_is_circular(rt: HostRuntime) -> Result<(), Fail> {
 
 // Puts in the blocks `d`, `c`, `b` and `a`, and gives the ids of the list.
 fn put_four(alloc: Global, slots: &mut Slots) -> Result<[u32; 4], Fail>
-    requires indexed { IsIndexed slots.old }
-    requires usable { All IsUsable (blocks_of slots.old) }
-    ensures indexed { IsIndexed slots.new }
-    ensures usable { All IsUsable (blocks_of slots.new) }
+    requires { All IsUsable (blocks_of slots.old) }
+    ensures { All IsUsable (blocks_of slots.new) }
 {
     let d = put(alloc, slots, b"d,use=d,\n")?;
     let c = put(alloc, slots, b"c,cols#1,\n")?;

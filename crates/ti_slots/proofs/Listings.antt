@@ -1,5 +1,5 @@
 -- Lists of the ids that pass a test, and of what is under ids, as an id comes or goes.
-use Rattle.std.proofs.Common.{◌≡◌, ◌≢◌, ◌<◌, ◌≤◌, ℕ, suc, zero, inl, inr, List, [], ◌∷◌, map, length, set, Bool, true, false, not, nat_eq, ◌&&◌, ◌||◌, Some, slice_get, filter, insert, remove, refl, sym, ◌∙◌, ap, arith, eq-eqb}
+use Rattle.std.proofs.Common.{◌≡◌, ◌≢◌, ◌<◌, ◌≤◌, ℕ, suc, zero, inl, inr, List, [], ◌∷◌, length, set, Bool, true, false, not, nat_eq, ◌&&◌, ◌||◌, Some, slice_get, filter, insert, remove, refl, sym, ◌∙◌, ap, arith, eq-eqb}
 use Rattle.std.proofs.lemmas.Bool.{cases_Bool, cases_eq, eqb-true, false≢true}
 use Rattle.std.proofs.lemmas.Option.{same_Some, none-some}
 use Rattle.ti_text.specs.Lists.{Has, AreDistinct}
@@ -92,33 +92,6 @@ and_right false b e = absurd (false≢true e)
 -- ---- what is under the ids
 
 module _ {X : Type 0} where
-  same_map : (f g : ℕ → X) (xs : List ℕ) → ((i x : ℕ) → slice_get xs i ≡ Some x → f x ≡ g x) → map f xs ≡ map g xs
-  same_map f g [] same = refl
-  same_map f g (x ∷ xs) same =
-      let here : f x ≡ g x = same 0 x refl in
-      let rest = same_map f g xs (λ i y e. same (suc i) y e) in rw (here, rest) refl
-
-  pub map_same : (f g : ℕ → X) (xs ys : List ℕ) → ys ≡ xs → ((i x : ℕ) → slice_get xs i ≡ Some x → f x ≡ g x) → map f ys ≡ map g xs
-  map_same f g xs ys e same = ap (map f) e ∙ same_map f g xs same
-
-  map-insert_at : (f : ℕ → X) (xs : List ℕ) (at x : ℕ) → map f (insert xs at x) ≡ insert (map f xs) at (f x)
-  map-insert_at f xs zero x = refl
-  map-insert_at f [] (suc at) x = refl
-  map-insert_at f (y ∷ xs) (suc at) x = ap (λ ys. f y ∷ ys) (map-insert_at f xs at x)
-
-  map-remove_at : (f : ℕ → X) (xs : List ℕ) (at : ℕ) → map f (remove xs at) ≡ remove (map f xs) at
-  map-remove_at f [] zero = refl
-  map-remove_at f [] (suc at) = refl
-  map-remove_at f (y ∷ xs) zero = refl
-  map-remove_at f (y ∷ xs) (suc at) = ap (λ ys. f y ∷ ys) (map-remove_at f xs at)
-
-  pub map_put : (f g : ℕ → X) (xs : List ℕ) (at id : ℕ) (y : X) → ((i x : ℕ) → slice_get xs i ≡ Some x → f x ≡ g x) → f id ≡ y → map f (insert xs at id) ≡ insert (map g xs) at y
-  map_put f g xs at id y same here =
-      map-insert_at f xs at id ∙ (ap (λ ys. insert ys at (f id)) (same_map f g xs same) ∙ ap (insert (map g xs) at) here)
-
-  pub map_taken : (f g : ℕ → X) (xs : List ℕ) (at : ℕ) → ((i x : ℕ) → slice_get (remove xs at) i ≡ Some x → f x ≡ g x) → map f (remove xs at) ≡ remove (map g xs) at
-  map_taken f g xs at same = same_map f g (remove xs at) same ∙ map-remove_at g xs at
-
   pub get_set : (xs : List X) (i : ℕ) (y : X) → i < length xs → slice_get (set xs i y) i ≡ Some y
   get_set [] i y l = absurd (omega arith)
   get_set (z ∷ zs) zero y l = refl
@@ -145,14 +118,6 @@ left_before xs at id pos x distinct stood e = elim (remove_cases xs at pos x e) 
   | inr behind ↦ ((suc pos, behind.1), λ same. (let one = distinct (suc pos) at id (rw same at behind.1) stood in let l = behind.0 in omega arith))
 ]
 
--- an id that is not the one taken out is left
-pub stays_listed : (xs : List ℕ) (at id pos x : ℕ) → slice_get xs at ≡ Some id → slice_get xs pos ≡ Some x → x ≢ id → Has (remove xs at) x
-stays_listed [] at id pos x e f apart = absurd (none-some id e)
-stays_listed (z ∷ xs) zero id zero x e f apart = absurd (apart (sym (same_Some z x f) ∙ same_Some z id e))
-stays_listed (z ∷ xs) zero id (suc pos) x e f apart = (pos, f)
-stays_listed (z ∷ xs) (suc at) id zero x e f apart = (0, f)
-stays_listed (z ∷ xs) (suc at) id (suc pos) x e f apart = let w = stays_listed xs at id pos x e f apart in (suc w.0, w.1)
-
 pub length-put : (xs : List ℕ) (at x : ℕ) → length (insert xs at x) ≡ suc (length xs)
 length-put xs zero x = refl
 length-put [] (suc at) x = refl
@@ -163,18 +128,49 @@ length-taken [] at x e = absurd (none-some x e)
 length-taken (z ∷ xs) zero x e = refl
 length-taken (z ∷ xs) (suc at) x e = ap suc (length-taken xs at x e)
 
--- back where it was
-pub insert-removed : (xs : List ℕ) (at x : ℕ) → slice_get xs at ≡ Some x → insert (remove xs at) at x ≡ xs
-insert-removed [] at x e = absurd (none-some x e)
-insert-removed (z ∷ xs) zero x e = ap (λ y. y ∷ xs) (sym (same_Some z x e))
-insert-removed (z ∷ xs) (suc at) x e = ap (λ ys. z ∷ ys) (insert-removed xs at x e)
-
-pub remove-inserted : (xs : List ℕ) (at x : ℕ) → at ≤ length xs → remove (insert xs at x) at ≡ xs
-remove-inserted xs zero x l = refl
-remove-inserted [] (suc at) x l = absurd (omega arith)
-remove-inserted (z ∷ xs) (suc at) x l = ap (λ ys. z ∷ ys) (remove-inserted xs at x (omega arith))
-
 pub get-inserted : (xs : List ℕ) (at x : ℕ) → at ≤ length xs → slice_get (insert xs at x) at ≡ Some x
 get-inserted xs zero x l = refl
 get-inserted [] (suc at) x l = absurd (omega arith)
 get-inserted (z ∷ xs) (suc at) x l = get-inserted xs at x (omega arith)
+
+-- no id is twice then
+pub distinct_put : (xs : List ℕ) (at id : ℕ) → AreDistinct xs → at ≤ length xs → (Has xs id → ⊥) → AreDistinct (insert xs at id)
+distinct_put xs at id once within fresh i j x e f =
+    elim (insert_cases xs at id i x within e) [
+      | inl one ↦ elim (insert_cases xs at id j x within f) [
+        | inl two ↦ once i j x one.1 two.1
+        | inr late ↦ elim late [
+          | inl here ↦ absurd (fresh (i, rw here.1 at one.1))
+          | inr two ↦ (let same = once i two.0 x one.1 two.3 in let l = one.0 in let m = two.2 in absurd (omega arith))
+        ]
+      ]
+      | inr late ↦ elim late [
+        | inl one ↦ elim (insert_cases xs at id j x within f) [
+          | inl two ↦ absurd (fresh (j, rw one.1 at two.1))
+          | inr other ↦ elim other [
+            | inl two ↦ one.0 ∙ sym two.0
+            | inr two ↦ absurd (fresh (two.0, rw one.1 at two.3))
+          ]
+        ]
+        | inr one ↦ elim (insert_cases xs at id j x within f) [
+          | inl two ↦ (let same = once one.0 j x one.3 two.1 in let l = two.0 in let m = one.2 in absurd (omega arith))
+          | inr other ↦ elim other [
+            | inl two ↦ absurd (fresh (one.0, rw two.1 at one.3))
+            | inr two ↦ one.1 ∙ (ap suc (once one.0 two.0 x one.3 two.3) ∙ sym two.1)
+          ]
+        ]
+      ]
+    ]
+
+pub distinct_taken : (xs : List ℕ) (at : ℕ) → AreDistinct xs → AreDistinct (remove xs at)
+distinct_taken xs at once i j x e f =
+    elim (remove_cases xs at i x e) [
+      | inl one ↦ elim (remove_cases xs at j x f) [
+        | inl two ↦ once i j x one.1 two.1
+        | inr two ↦ (let same = once i (suc j) x one.1 two.1 in let l = one.0 in let m = two.0 in absurd (omega arith))
+      ]
+      | inr one ↦ elim (remove_cases xs at j x f) [
+        | inl two ↦ (let same = once (suc i) j x one.1 two.1 in let l = two.0 in let m = one.0 in absurd (omega arith))
+        | inr two ↦ (let same = once (suc i) (suc j) x one.1 two.1 in omega arith)
+      ]
+    ]

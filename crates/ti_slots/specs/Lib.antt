@@ -1,4 +1,6 @@
+pub mod Listing
 pub mod Slots
+pub mod Positions
 pub mod Settled
 pub mod inside
 pub mod Changes

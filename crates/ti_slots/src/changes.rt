@@ -1,8 +1,7 @@
 //! Blocks come to the list and leave it. Room is made first, and then no change takes memory.
 ghost use Rattle.std.specs.Prelude.{◌≡◌, ◌<◌, ◌≤◌, ◌+◌, ◌^◌, ℕ, length, OnOk};
 ghost use Rattle.ti_source.specs.Reading.{reading_of};
-ghost use Rattle.ti_slots.specs.Changes.{HasForgotten, HasRoomFor, KeepsCapacities, KeepsRooms, PutsIn, ShowsSame, TakesOut};
-ghost use Rattle.ti_slots.specs.Slots.{slot_at, IsIndexed};
+ghost use Rattle.ti_slots.specs.inside.Fields.{slot_stored};
 
 use crate::indexing::{add, forget, remove, reserve};
 use crate::slots::{Slot, Slots};
@@ -17,7 +16,7 @@ fn make_place(order: &mut Order, slots: &mut Vec<Option<Slot>>) -> Result<(), Al
     ensures listed { order.new.listed ≡ order.old.listed }
     ensures kept { 0 < length order.old.free → 0 < length order.new.free }
     ensures places { length order.new.listed + length order.new.free ≤ length slots.new.items }
-    ensures slots { (id : ℕ) → slot_at slots.new.items id ≡ slot_at slots.old.items id }
+    ensures slots { (id : ℕ) → slot_stored slots.new.items id ≡ slot_stored slots.old.items id }
     ensures free { OnOk result (0 < length order.new.free) }
 {
     if slots.len() == order.count() {
@@ -27,16 +26,16 @@ fn make_place(order: &mut Order, slots: &mut Vec<Option<Slot>>) -> Result<(), Al
 }
 
 impl Slots {
-    /// Makes room for one more block that says this, so that it can be put in without memory. No
-    /// look-up shows a difference, also if it fails, and room made before stays.
+    ghost use Rattle.ti_slots.specs.Changes.{HasForgotten, HasRoomFor, KeepsCapacities, KeepsRooms, PutsIn, TakesOut};
+
+    /// Makes room for one more block that says this, so that it can be put in without memory. The
+    /// list stays as it is, also if it fails, and room made before stays.
     ///
     /// # Errors
     /// Out of memory.
     pub fn make_room(&mut self, block: &Parsed) -> Result<(), AllocError>
-        requires indexed { IsIndexed self.old }
-        requires few { length self.old.order.listed < 2 ^ 31 }
-        ensures indexed { IsIndexed self.new }
-        ensures same { ShowsSame self.old self.new }
+        requires { length self.old.placed < 2 ^ 31 }
+        ensures placed { self.new.placed ≡ self.old.placed }
         ensures capacity { KeepsCapacities self.old self.new }
         ensures rooms { KeepsRooms self.old self.new }
         ensures room { OnOk result (HasRoomFor self.new (reading_of block.now)) }
@@ -48,8 +47,7 @@ impl Slots {
     /// Puts a block in at a position of the list, under the id that was freed last, and gives the
     /// id. Takes no memory.
     pub fn put_in(&mut self, at: usize, slot: Slot) -> u32
-        requires within { at ≤ length self.old.order.listed }
-        requires indexed { IsIndexed self.old }
+        requires within { at ≤ length self.old.placed }
         requires room { HasRoomFor self.old (reading_of slot.block) }
         ensures { PutsIn self.old self.new at slot result }
     {
@@ -62,8 +60,7 @@ impl Slots {
     /// Takes the block at a position out of the list, and gives its slot. Its id is free from then
     /// on. Takes no memory, and the room that the block had stays.
     pub fn take_out(&mut self, at: usize) -> Slot
-        requires within { at < length self.old.order.listed }
-        requires indexed { IsIndexed self.old }
+        requires { at < length self.old.placed }
         ensures { TakesOut self.old self.new at result }
     {
         let id = self.order.ids()[at];
@@ -73,13 +70,12 @@ impl Slots {
         slot
     }
 
-    /// Drops what the index keeps of those names of a block that no block has or uses any more. No
-    /// look-up shows a difference; room made before may go.
+    /// Drops what the index keeps of those names of a block that no block has or uses any more. The
+    /// list stays as it is; room made before may go.
     pub fn forget_unused(&mut self, block: &Parsed)
-        requires { IsIndexed self.old }
+        ensures placed { self.new.placed ≡ self.old.placed }
+        ensures free { self.new.free ≡ self.old.free }
         ensures forgotten { HasForgotten self.new (reading_of block.now) }
-        ensures indexed { IsIndexed self.new }
-        ensures same { ShowsSame self.old self.new }
     {
         forget(&mut self.names, block);
     }

@@ -5,16 +5,15 @@
 //! - `changes`: blocks come to the list and leave it
 //! - `entries`: the entry of a block, with the values that it has
 //! - `indexing`: the index of names as a block comes or goes
-//! - `laws`: what undoes a change
+//! - `positions`: positions of ids
 //! - `slots`: the blocks, and what each slot holds
 #![tactic(auto)]
 
 mod changes;
 mod entries;
 mod indexing;
-mod laws;
+mod positions;
 mod slots;
 
 pub use entries::BlockEntry;
-pub use laws::changes_are_undone;
 pub use slots::{KeptFault, Settled, Slot, Slots, State, copy_detail};

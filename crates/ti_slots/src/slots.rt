@@ -1,11 +1,12 @@
 //! The blocks of a source, each in a slot under an id that stays with it.
-ghost use Rattle.std.specs.Prelude.{◌≡◌, ℕ, [], None, Some, IsSome, IfOk, option_map};
+ghost use Rattle.std.specs.Prelude.{◌≡◌, ℕ, [], None, Some, IfOk, option_map};
 ghost use Rattle.std.specs.Rc.{rc_slice_items};
-ghost use Rattle.ti_meaning.specs.Owner.{owner};
-ghost use Rattle.ti_slots.specs.Slots.{blocks_of, slot_at, IsIndexed, IsOwnerId};
 
 use crate::entries::BlockEntry;
+use crate::positions::positions_of;
 use std::alloc::{AllocError, Global};
+use std::marker::Model;
+use std::mem;
 use std::rc::RcSlice;
 use ti_compiled::Table;
 use ti_index::{NameIndex, Order};
@@ -81,22 +82,41 @@ pub struct Slot {
     pub settled: Settled,
 }
 
-/// The blocks of a source. An id remains with its block while others come and go.
+/// The blocks of a source, in the order of their list, each under an id that remains with it while
+/// others come and go.
 #[derive(Drop)]
 pub struct Slots {
-    /// The ids in the order of the list.
-    pub order: Order,
-    /// The blocks that have a name, and those that use it.
-    pub names: NameIndex,
-    /// The slot of each id of the list.
-    pub slots: Vec<Option<Slot>>,
+    // The ids in the order of the list.
+    pub(crate) order: Order,
+    // The blocks that have a name, and those that use it.
+    pub(crate) names: NameIndex,
+    // The slot of each id of the list.
+    pub(crate) slots: Vec<Option<Slot>>,
+}
+
+impl Model for Slots {
+    ghost use Rattle.ti_slots.specs.Listing.{Listing};
+
+    ghost Value = { Listing };
+
+    ghost use Rattle.ti_slots.specs.inside.Fields.{listing_of, IsIndexed};
+
+    ghost view = { listing_of };
+
+    ghost invariant = { IsIndexed };
 }
 
 impl Slots {
+    ghost use Rattle.std.specs.Prelude.{◌<◌, length, slice_get, IfOk};
+    ghost use Rattle.ti_meaning.specs.Owner.{owner};
+    ghost use Rattle.ti_text.specs.Lists.{AreDistinct, Has};
+    ghost use Rattle.ti_slots.specs.Positions.{ArePositions};
+    ghost use Rattle.ti_slots.specs.Slots.{blocks_of, holders_of, ids_of, settled_in, slots_of, users_of, IsOwnerId, StandsAt};
+
     /// No blocks. Takes no memory.
     pub fn new(alloc: Global) -> Slots
-        ensures listed { result.order.listed ≡ [] }
-        ensures indexed { IsIndexed result }
+        ensures placed { result.placed ≡ [] }
+        ensures free { result.free ≡ [] }
     {
         Slots {
             order: Order::new(alloc),
@@ -105,20 +125,79 @@ impl Slots {
         }
     }
 
+    /// How many blocks there are.
+    pub fn len(&self) -> usize
+        ensures { result ≡ length self.now.placed }
+    {
+        self.ids().len()
+    }
+
+    /// The ids in the order of the list. None is there twice.
+    pub fn ids(&self) -> &[u32]
+        ensures ids { result.now ≡ ids_of self.now }
+        ensures distinct { AreDistinct (ids_of self.now) }
+    {
+        self.order.ids()
+    }
+
+    /// The position of a block, in time logarithmic in the list's length.
+    pub fn position(&self, id: u32) -> usize
+        requires { Has (ids_of self.now) id }
+        ensures position { StandsAt self.now result id }
+        ensures distinct { AreDistinct (ids_of self.now) }
+    {
+        self.order.position(id)
+    }
+
+    /// The position of each of these blocks.
+    ///
+    /// # Errors
+    /// Out of memory.
+    pub fn positions(&self, alloc: Global, ids: &[u32]) -> Result<Vec<usize>, AllocError>
+        requires { (i id : ℕ) → slice_get ids.now i ≡ Some id → Has (ids_of self.now) id }
+        ensures positions { IfOk result (λ positions. ArePositions (ids_of self.now) ids.now positions.items) }
+        ensures distinct { AreDistinct (ids_of self.now) }
+    {
+        positions_of(alloc, &self.order, ids)
+    }
+
     /// The slot of a block.
     pub fn slot(&self, id: u32) -> &Slot
-        requires { IsSome (slot_at self.now.slots.items id) }
-        ensures { slot_at self.now.slots.items id ≡ Some result.now }
+        requires { Has (ids_of self.now) id }
+        ensures slot { (at : ℕ) → StandsAt self.now at id → slice_get (slots_of self.now) at ≡ Some result.now }
+        ensures distinct { AreDistinct (ids_of self.now) }
     {
         self.slots[id as usize].as_ref().unwrap()
     }
 
     /// The id of the block that a name belongs to: the first in the list that has it.
     pub fn owner(&self, name: &[u8]) -> Option<u32>
-        requires { IsIndexed self.now }
         ensures some { (id : ℕ) → result ≡ Some id → IsOwnerId self.now name.now id }
         ensures none { result ≡ None → owner (blocks_of self.now) name.now ≡ None }
     {
-        self.names.holders(name).first().copied()
+        self.holders(name).first().copied()
+    }
+
+    /// The ids of the blocks that have a name, in the order of the list.
+    pub fn holders(&self, name: &[u8]) -> &[u32]
+        ensures { result.now ≡ holders_of self.now name.now }
+    {
+        self.names.holders(name)
+    }
+
+    /// The ids of the blocks that use a name, in the order of the list.
+    pub fn users(&self, name: &[u8]) -> &[u32]
+        ensures { result.now ≡ users_of self.now name.now }
+    {
+        self.names.users(name)
+    }
+
+    /// Exchanges what was found out about a block.
+    pub fn settle(&mut self, id: u32, settled: &mut Settled)
+        requires { Has (ids_of self.old) id }
+        ensures { self.new ≡ settled_in self.old id settled.old }
+    {
+        let slot = self.slots[id as usize].as_mut().unwrap();
+        mem::swap(&mut slot.settled, settled);
     }
 }

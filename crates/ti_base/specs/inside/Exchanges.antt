@@ -1,18 +1,16 @@
 -- What an exchange makes of a list of slots (own).
 use Rattle.std.specs.Prelude.{ℕ, ◌≡◌, ◌<◌, ◌≤◌, ⊤, List, [], length, remove, Option, Some, None, option_map, slice_get, IfSome, IsSome}
-use Rattle.std.specs.Option.{option_flatten}
 use Rattle.ti_source.specs.Reading.{Reading, reading_of}
 use Rattle.ti_meaning.specs.Edits.{Change, insertion, replacement, removal, relocation, list_after}
 use Rattle.ti_meaning.specs.Exchange.{Exchange}
 use Rattle.ti_meaning.specs.Dependents.{AreDependents, Rebuilds, work}
-use Rattle.ti_text.specs.Lists.{AreDistinct}
 use Rattle.ti_slots.specs.declared.slots.Slot.{Slot}
 use Rattle.ti_slots.specs.declared.slots.Slots.{Slots}
-use Rattle.ti_slots.specs.Slots.{IsIndexed, StandsAt, blocks_of, slot_texts}
+use Rattle.ti_slots.specs.Slots.{StandsAt, blocks_of, slot_texts, slots_of}
 use Rattle.ti_slots.specs.Changes.{HasRoomFor, TakesOut}
 use Rattle.ti_dependents.specs.Dependents.{IsExchangeOf}
 use Rattle.ti_plan.specs.Plans.{IsReady}
-use Rattle.ti_base.specs.inside.Database.{AreRead, SlotsAreSettled, IsSoundSlot, PlacedSlot, HasId, slots_of, with_slot}
+use Rattle.ti_base.specs.inside.Database.{AreRead, SlotsAreSettled, IsSoundSlot, PlacedSlot, HasId, with_slot}
 
 -- ---- an edit in its parts
 
@@ -56,9 +54,9 @@ without xs None = xs
 without xs (Some at) = remove xs at
 
 -- the slot there
-abbrev pub slot_out : List (Option Slot) → Option ℕ → Option Slot
+abbrev pub slot_out : List Slot → Option ℕ → Option Slot
 slot_out listed None = None
-slot_out listed (Some at) = option_flatten (slice_get listed at)
+slot_out listed (Some at) = slice_get listed at
 
 -- the slot put in: the spare one, or the one taken out if there is none
 abbrev pub slot_put : Option Slot → Option Slot → Option Slot
@@ -82,10 +80,10 @@ placed (Some at) None = None
 placed (Some at) (Some slot) = Some (record { at = at; slot = slot })
 
 -- the slot put in with its position, and the list with it
-abbrev pub placed_put : List (Option Slot) → Option ℕ → Option ℕ → Option Slot → Option PlacedSlot
+abbrev pub placed_put : List Slot → Option ℕ → Option ℕ → Option Slot → Option PlacedSlot
 placed_put listed out put spare = placed put (slot_put (slot_out listed out) spare)
 
-abbrev pub with_exchange : List (Option Slot) → Option ℕ → Option ℕ → Option Slot → List (Option Slot)
+abbrev pub with_exchange : List Slot → Option ℕ → Option ℕ → Option Slot → List Slot
 with_exchange listed out put spare = with_slot (without listed out) (placed_put listed out put spare)
 
 -- ---- when slots are exchanged
@@ -104,16 +102,15 @@ HasRoomThen slots (Some at) block = (rest : Slots) (taken : Slot) → TakesOut s
 
 -- the positions are there, and there is a slot to be put in, and room for it
 pub record CanExchange (slots : Slots) (out put : Option ℕ) (spare : Option Slot) : Type 0 where
-  pub indexed : IsIndexed slots
-  pub from : IfSome out (λ at. at < length slots.order.listed)
-  pub into : IfSome put (λ to. to ≤ length (without slots.order.listed out))
+  pub from : IfSome out (λ at. at < length slots.placed)
+  pub into : IfSome put (λ to. to ≤ length (without slots.placed out))
   pub other : IsOfSlots out put spare
   pub room : IfSome spare (λ slot. HasRoomThen slots out (reading_of slot.block))
 
 -- the slot at a position, if one is given, was taken out
 abbrev pub IsOut : Slots → Slots → Option ℕ → Option Slot → Type 0
 IsOut old new None taken = (new ≡ old) × (taken ≡ None)
-IsOut old new (Some at) taken = (slot : Slot) × (taken ≡ Some slot) × TakesOut old new at slot × AreDistinct old.order.listed
+IsOut old new (Some at) taken = (slot : Slot) × (taken ≡ Some slot) × TakesOut old new at slot
 
 -- slots were exchanged, and the block put in has the id; the same with the positions exchanged can
 -- follow
@@ -132,7 +129,7 @@ abbrev pub CanUndo : Slots → Change → Option Slot → Type 0
 CanUndo slots change spare = CanExchange slots (put_position change) (out_position change) spare
 
 abbrev pub IsUndone : Slots → Slots → Change → Option Slot → Type 0
-IsUndone old new change spare = IsIndexed new × (slots_of new ≡ with_exchange (slots_of old) (put_position change) (out_position change) spare)
+IsUndone old new change spare = slots_of new ≡ with_exchange (slots_of old) (put_position change) (out_position change) spare
 
 -- the list after an edit; what planning asks of it, given the id of the block put in and the names
 -- of one that is spare; and what is rebuilt

@@ -6,12 +6,8 @@ use Rattle.ti_source.specs.Reading.{ReadItem}
 use Rattle.ti_components.specs.Graph.{Rows}
 use Rattle.ti_slots.specs.declared.slots.Slots.{Slots}
 use Rattle.ti_slots.specs.Slots.{reading_at}
+use Rattle.ti_slots.specs.Positions.{ArePositions}
 use Rattle.ti_dependents.specs.Dependents.{IsEdgeRowOf}
-
--- the position of each of the ids in the list
-pub record ArePositions (listed ids positions : List ℕ) : Type 0 where
-  pub as_many : length positions ≡ length ids
-  pub stands : (i id at : ℕ) → slice_get ids i ≡ Some id → slice_get positions i ≡ Some at → slice_get listed at ≡ Some id
 
 -- these are the ids found and their positions; none was found twice, and none is twice in the list
 pub record ArePlaced (listed found ids positions : List ℕ) : Type 0 where
@@ -30,4 +26,4 @@ pub record AddsRow (slots : Slots) (ids : List ℕ) (items : List ReadItem) (old
 pub record AreRowsOf (slots : Slots) (ids done : List ℕ) (graph : Rows) : Type 0 where
   pub as_many : length graph ≡ length done
   pub rows : (i id : ℕ) (row : List (Option ℕ)) → slice_get done i ≡ Some id → slice_get graph i ≡ Some row
-      → IsEdgeRowOf slots ids (reading_at slots.slots.items id).items row
+      → IsEdgeRowOf slots ids (reading_at slots id).items row

@@ -17,7 +17,7 @@ use Rattle.ti_text.specs.Lists.{AreDistinct}
 use Rattle.ti_slots.specs.declared.slots.Slots.{Slots}
 use Rattle.ti_slots.specs.declared.slots.Settled.{Settled}
 use Rattle.ti_slots.specs.declared.slots.State.{State}
-use Rattle.ti_slots.specs.Slots.{blocks_of, StandsAt, IsOwnerId, IsIndexed}
+use Rattle.ti_slots.specs.Slots.{ids_of, blocks_of, StandsAt, IsOwnerId}
 use Rattle.ti_slots.specs.Settled.{IsSettled, table_of}
 use Rattle.ti_dependents.specs.declared.dependents.Dependents.{Dependents}
 use Rattle.ti_dependents.specs.Dependents.{IsGraphOfUses}
@@ -28,16 +28,15 @@ use Rattle.ti_plan.specs.Plans.{HoldsSettled}
 -- blocks of a list with all that use them, and their uses of each other; what the slots hold of all
 -- other blocks is right
 pub record AreFoundIn (slots : Slots) (dependents : Dependents) : Type 0 where
-  pub indexed : IsIndexed slots
   pub usable : All IsUsable (blocks_of slots)
-  pub distinct : AreDistinct slots.order.listed
+  pub distinct : AreDistinct (ids_of slots)
   pub as_many : length dependents.positions.items ≡ length dependents.ids.items
   pub stands : (i id at : ℕ) → slice_get dependents.ids.items i ≡ Some id → slice_get dependents.positions.items i ≡ Some at → StandsAt slots at id
   pub once : AreDistinct dependents.ids.items
   pub closed : AreFound (blocks_of slots) dependents.positions.items
   pub graph : IsGraphOfUses slots dependents.ids.items dependents.uses
   pub whole : IsGraph dependents.uses
-  pub others : (at id : ℕ) → StandsAt slots at id → (Contains dependents.positions.items at → ⊥) → HoldsSettled slots at id
+  pub others : (at : ℕ) → (Contains dependents.positions.items at → ⊥) → HoldsSettled slots at
 
 -- the position of a node's block
 abbrev pub node_position : Dependents → ℕ → ℕ

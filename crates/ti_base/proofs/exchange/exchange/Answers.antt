@@ -1,6 +1,6 @@
 use Rattle.std.proofs.Common.{subst, sym, ◌∙◌}
 use Rattle.ti_base.specs.inside.Exchanges.{CanExchange}
-use Rattle.ti_base.proofs.SlotExchanges.{exchanged_out, exchanged_put, is_left, put_fits, put_there, put_room}
+use Rattle.ti_base.proofs.SlotExchanges.{exchanged_out, exchanged_put, put_fits, put_there, put_room}
 use Rattle.ti_base.proofs.exchange.exchange.Goals as goal
 
 pub unwrap-slot-requires : goal.unwrap-slot-requires
@@ -13,9 +13,6 @@ put_in-requires-clause-within c =
     let can = subst (λ p. CanExchange c.args.slots.now c.args.out p c.args.spare.now) c.in-Some.is c.requires in
     put_fits c.args.slots.now c.take_out-taken.new.slots c.args.out c.in-Some.at c.args.spare.now c.take_out-taken.result can c.take_out-taken.ensures
 
-pub put_in-requires-clause-indexed : goal.put_in-requires-clause-indexed
-put_in-requires-clause-indexed c = (is_left c.args.slots.now c.take_out-taken.new.slots c.args.out c.take_out-taken.result c.requires.indexed c.take_out-taken.ensures).indexed
-
 pub put_in-requires-clause-room : goal.put_in-requires-clause-room
 put_in-requires-clause-room c =
     let can = subst (λ p. CanExchange c.args.slots.now c.args.out p c.args.spare.now) c.in-Some.is c.requires in
@@ -25,7 +22,7 @@ put_in-requires-clause-room c =
 pub returns-in-Some : goal.returns-in-Some
 returns-in-Some c =
     let can = subst (λ p. CanExchange c.args.slots.now c.args.out p c.args.spare.now) c.in-Some.is c.requires in
-    rw c.in-Some.is (exchanged_put c.changes_are_undone.ensures c.args.slots.now c.take_out-taken.new.slots c.put_in.new.self c.args.out c.in-Some.at c.put_in.result c.args.spare.now c.take_out-taken.result c.trade.new.spare c.unwrap-slot.result can c.take_out-taken.ensures
+    rw c.in-Some.is (exchanged_put c.args.slots.now c.take_out-taken.new.slots c.put_in.new.self c.args.out c.in-Some.at c.put_in.result c.args.spare.now c.take_out-taken.result c.trade.new.spare c.unwrap-slot.result can c.take_out-taken.ensures
     c.put_in.ensures (sym c.unwrap-slot.ensures ∙ c.trade.ensures.put) c.trade.ensures.left)
 
 pub returns-in-None : goal.returns-in-None

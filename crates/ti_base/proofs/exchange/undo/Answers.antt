@@ -4,4 +4,4 @@ pub exchange-requires : goal.exchange-requires
 exchange-requires c = rw (c.positions-out.ensures.out, c.positions-out.ensures.put) c.requires
 
 pub returns : goal.returns
-returns c = rw (← c.positions-out.ensures.out, ← c.positions-out.ensures.put) (c.exchange.ensures.back.indexed, c.exchange.ensures.slots)
+returns c = rw (← c.positions-out.ensures.out, ← c.positions-out.ensures.put) c.exchange.ensures.slots

@@ -6,7 +6,8 @@ use Rattle.ti_meaning.specs.Faults.{fault_seen, is_kept, local_faults, name_faul
 use Rattle.ti_slots.specs.Slots.{blocks_of}
 use Rattle.ti_slots.specs.Settled.{fault_at}
 use Rattle.ti_base.proofs.KeptFaults.{after_names, header_within, kept_header, kept_rest, three_added}
-use Rattle.ti_base.proofs.SlotFaults.{block_of_slot, kept_of_slot}
+use Rattle.ti_slots.proofs.Owners.{block_of_slot}
+use Rattle.ti_base.proofs.SlotFaults.{kept_of_slot}
 use Rattle.ti_base.proofs.faults.add_block_faults.Goals as goal
 
 pub split_at-requires : goal.split_at-requires

@@ -1,7 +1,8 @@
 use Rattle.std.proofs.Common.{◌≡◌, suc, ◌+◌, ◌<◌, ◌++◌, length, map, refl, sym, ap, ◌∙◌, arith}
-use Rattle.std.proofs.lemmas.List.{length-map, append-nil, drop_all}
+use Rattle.std.proofs.lemmas.List.{append-nil, drop_all}
 use Rattle.ti_meaning.specs.Faults.{fault_seen, faults, faults_after}
-use Rattle.ti_slots.specs.Slots.{blocks_of, reading_at}
+use Rattle.ti_slots.specs.Slots.{blocks_of}
+use Rattle.ti_slots.proofs.Owners.{length_blocks}
 use Rattle.ti_text.proofs.Lists.{item_at}
 use Rattle.ti_base.proofs.KeptFaults.{one_more_block}
 use Rattle.ti_base.proofs.faults.source_faults.Goals as goal
@@ -10,8 +11,8 @@ pub loop-at-preserved : goal.loop-at-preserved
 loop-at-preserved c =
     let slots = c.args.slots.now in
     let blocks = blocks_of slots in
-    let n = length-map slots.order.listed (reading_at slots.slots.items) in
-    let count : length c.ids-at-end.result.now ≡ length slots.order.listed = ap (λ xs. length xs) c.ids-at-end.ensures.ids in
+    let n = length_blocks slots in
+    let count = c.len-at-end.ensures in
     let within : c.loop-at.at < length blocks = omega arith in
     let block = item_at blocks c.loop-at.at within in
     let next : suc c.loop-at.at ≡ c.loop-at.at + 1 = omega arith in
@@ -25,8 +26,8 @@ pub returns : goal.returns
 returns c =
     let slots = c.args.slots.now in
     let blocks = blocks_of slots in
-    let n = length-map slots.order.listed (reading_at slots.slots.items) in
-    let count : length c.ids-at-end.result.now ≡ length slots.order.listed = ap (λ xs. length xs) c.ids-at-end.ensures.ids in
+    let n = length_blocks slots in
+    let count = c.len-at-end.ensures in
     let none = drop_all c.loop-at.at blocks (omega arith) in
     let all = map fault_seen c.loop-at.faults.items in
     sym (append-nil all) ∙ (ap (λ rest. all ++ faults_after blocks c.loop-at.at rest) (sym none) ∙ c.loop-at.invariant)

@@ -11,16 +11,13 @@ plan-requires-clause-ready c = rw c.names_of.ensures c.requires.ready
 pub install-requires-clause-stand : goal.install-requires-clause-stand
 install-requires-clause-stand c =
     let is = rw c.names_of.ensures at c.in_ok-plan.ensures in
-    all_stand c.args.slots.now c.args.put (names_seen c.args.out.now) c.in_ok-plan.plan c.requires.read.indexed is
+    all_stand c.args.slots.now c.args.put (names_seen c.args.out.now) c.in_ok-plan.plan is
 
 pub returns-clause-kept : goal.returns-clause-kept
 returns-clause-kept c =
     let is = rw c.names_of.ensures at c.in_ok-plan.ensures in
-    let e = c.install.ensures in
-    kept_installed c.args.slots.now c.install.new.slots c.args.put (names_seen c.args.out.now) c.in_ok-plan.plan c.requires.read c.requires.ready is
-    (record { order = e.order; names = e.names; slots = e.slots })
+    kept_installed c.args.slots.now c.install.new.slots c.args.put (names_seen c.args.out.now) c.in_ok-plan.plan c.requires.read c.requires.ready is c.install.ensures.slots
 
 pub returns-clause-texts : goal.returns-clause-texts
 returns-clause-texts c =
-    let e = c.install.ensures in
-    texts_stay c.args.slots.now c.install.new.slots c.in_ok-plan.plan.ids.items c.in_ok-plan.plan.settled.items (record { order = e.order; names = e.names; slots = e.slots })
+    texts_stay c.args.slots.now c.install.new.slots c.in_ok-plan.plan.ids.items c.in_ok-plan.plan.settled.items c.install.ensures.slots

@@ -1,18 +1,16 @@
 use Rattle.ti_base.proofs.Installing.{all_listed_stand, all_usable, kept_once, texts_stay}
 use Rattle.ti_base.proofs.rebuilding.rebuild_all.Goals as goal
 
-pub plan_all-requires-clause-usable : goal.plan_all-requires-clause-usable
-plan_all-requires-clause-usable c = all_usable c.args.slots.now c.requires
+pub plan_all-requires : goal.plan_all-requires
+plan_all-requires c = all_usable c.args.slots.now c.requires
 
 pub install-requires-clause-stand : goal.install-requires-clause-stand
-install-requires-clause-stand c = all_listed_stand c.args.slots.now c.in_ok-plan.plan c.requires.indexed c.in_ok-plan.ensures
+install-requires-clause-stand c = all_listed_stand c.args.slots.now c.in_ok-plan.plan c.in_ok-plan.ensures
 
 pub returns-clause-kept : goal.returns-clause-kept
 returns-clause-kept c =
-    let e = c.install.ensures in
-    kept_once c.args.slots.now c.install.new.slots c.in_ok-plan.plan c.requires c.in_ok-plan.ensures (record { order = e.order; names = e.names; slots = e.slots })
+    kept_once c.args.slots.now c.install.new.slots c.in_ok-plan.plan c.requires c.in_ok-plan.ensures c.install.ensures.slots
 
 pub returns-clause-texts : goal.returns-clause-texts
 returns-clause-texts c =
-    let e = c.install.ensures in
-    texts_stay c.args.slots.now c.install.new.slots c.in_ok-plan.plan.ids.items c.in_ok-plan.plan.settled.items (record { order = e.order; names = e.names; slots = e.slots })
+    texts_stay c.args.slots.now c.install.new.slots c.in_ok-plan.plan.ids.items c.in_ok-plan.plan.settled.items c.install.ensures.slots

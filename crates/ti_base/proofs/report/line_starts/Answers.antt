@@ -5,7 +5,7 @@ use Rattle.ti_text.specs.Lines.{line_count}
 use Rattle.ti_meaning.specs.Report.{lines_before}
 use Rattle.ti_slots.specs.Slots.{slot_texts}
 use Rattle.ti_base.proofs.Counting.{lines_more, starts_more}
-use Rattle.ti_base.proofs.SlotLists.{length_texts}
+use Rattle.ti_slots.proofs.Owners.{length_texts}
 use Rattle.ti_base.proofs.SlotEntries.{text_of_slot}
 use Rattle.ti_base.proofs.report.line_starts.Goals as goal
 
@@ -17,7 +17,7 @@ loop-at-preserved c =
     let slot = c.slot_of.result.now in
     let here = text_of_slot slots at slot c.slot_of.ensures in
     let short : length slot.text.items ≤ 1048576 = (c.requires.read.sound at slot c.slot_of.ensures).text.short in
-    let count : length c.ids-count.result.now ≡ length slots.order.listed = ap (λ xs. length xs) c.ids-count.ensures.ids in
+    let count = c.len-count.ensures in
     let more = lines_more texts at slot.text.items here in
     let lines : c.count_lines.result ≡ line_count slot.text.items = rw c.deref.ensures.value at c.count_lines.ensures.lines in
     let few : c.count_lines.result ≤ length slot.text.items = rw c.deref.ensures.value at c.count_lines.ensures.within in
@@ -32,6 +32,6 @@ loop-at-preserved c =
 pub returns-clause-starts : goal.returns-clause-starts
 returns-clause-starts c =
     let slots = c.args.slots.now in
-    let count : length c.ids-count.result.now ≡ length slots.order.listed = ap (λ xs. length xs) c.ids-count.ensures.ids in
+    let count = c.len-count.ensures in
     let end : c.loop-at.at ≡ length (slot_texts slots) = omega (arith, count, length_texts slots) in
     c.loop-at.invariant.0 ∙ ap (λ n. map (lines_before (slot_texts slots)) (range_with_len 0 n)) end

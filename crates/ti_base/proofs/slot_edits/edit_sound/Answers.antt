@@ -37,7 +37,7 @@ undo-requires c = subst (λ slots. CanUndo slots (change_of c.args.edit.now) c.m
 pub forget-requires-in-Err : goal.forget-requires-in-Err
 forget-requires-in-Err c =
     let sound = subst (λ texts. IsSoundEdit texts (change_of c.args.edit.now)) (sym c.read_new.ensures.texts) c.requires.sound in
-    read_same c.read_new.new.slots c.undo.new.slots c.read_new.ensures.read c.undo.ensures.0
+    read_same c.read_new.new.slots c.undo.new.slots c.read_new.ensures.read
     (edit_undone c.read_new.new.slots c.make-id.new.slots c.rebuild.new.slots c.undo.new.slots (change_of c.args.edit.now) c.in_ok-spare.spare c.make-id.new.spare c.make-id.result c.read_new.ensures.read sound c.in_ok-spare.ensures.new c.make-id.ensures.made c.in-Err.ensures.err c.undo.ensures)
 
 pub returns-clause-kept : goal.returns-clause-kept

@@ -1,5 +1,6 @@
 use Rattle.std.proofs.Common.{◌-◌, length, map}
 use Rattle.std.specs.Rc.{rc_slice_items}
+use Rattle.ti_slots.specs.Slots.{ids_of}
 use Rattle.ti_dependents.specs.inside.Search.{IsSearch}
 use Rattle.ti_dependents.proofs.search.search.Given as goal
 
@@ -7,4 +8,4 @@ abbrev pub invariant-loop-next : goal.invariant-loop-next
 invariant-loop-next l = IsSearch l.slots l.fn.put (map rc_slice_items l.out) l.found.keys l.next
 
 abbrev pub decreases-loop-next : goal.decreases-loop-next
-decreases-loop-next l = length l.slots.slots.items - l.next
+decreases-loop-next l = length (ids_of l.slots) - l.next

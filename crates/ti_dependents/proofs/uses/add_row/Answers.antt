@@ -16,12 +16,6 @@ loop-item-preserved c =
 pub loop-item-init : goal.loop-item-init
 loop-item-init c = row_begun c.args.slots.now c.args.found.now.keys c.args.uses.now c.add_node.new.self c.in_ok-add_node.ensures.ok
 
-pub edge_of-requires-clause-indexed : goal.edge_of-requires-clause-indexed
-edge_of-requires-clause-indexed c = c.requires.indexed
-
-pub edge_of-requires-clause-unique : goal.edge_of-requires-clause-unique
-edge_of-requires-clause-unique c = c.requires.unique
-
 pub add_edge-requires : goal.add_edge-requires
 add_edge-requires c = omega (arith, ap length c.loop-item.invariant.behind, length-append c.args.uses.now (c.loop-item.invariant.row ∷ []))
 

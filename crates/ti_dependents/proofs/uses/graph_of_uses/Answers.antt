@@ -12,7 +12,7 @@ loop-id-preserved c =
     let within : at < length ids = omega arith in
     rw (take_more ids at 0 within)
     (rows_more c.args.slots.now c.args.found.now.keys (take at ids) (get_or ids at 0) (map item_of c.deref.result.now) c.loop-id.uses c.add_row.new.uses c.loop-id.invariant
-    (ap (map item_of) c.deref.ensures.value ∙ ap (λ r. r.items) c.block_of.ensures) c.in_ok-add_row.ensures)
+    (ap (map item_of) c.deref.ensures.value ∙ ap (λ r. r.items) c.block_of.ensures.block) c.in_ok-add_row.ensures)
 
 pub returns-clause-uses : goal.returns-clause-uses
 returns-clause-uses c =
@@ -29,10 +29,7 @@ block_of-requires c =
     let ids = c.as_slice-id-items.result.now in
     let at = c.loop-id.id-index in
     let within : at < length ids = omega arith in
-    c.requires.filled at (get_or ids at 0) (ap (λ xs. slice_get xs at) (sym c.as_slice-id-items.ensures.keys) ∙ slice_get-get_or ids at 0 within)
+    c.requires at (get_or ids at 0) (ap (λ xs. slice_get xs at) (sym c.as_slice-id-items.ensures.keys) ∙ slice_get-get_or ids at 0 within)
 
-pub add_row-requires-clause-indexed : goal.add_row-requires-clause-indexed
-add_row-requires-clause-indexed c = c.requires.indexed
-
-pub add_row-requires-clause-unique : goal.add_row-requires-clause-unique
-add_row-requires-clause-unique c = c.as_slice-id-items.ensures.unique
+pub add_row-requires : goal.add_row-requires
+add_row-requires c = c.as_slice-id-items.ensures.unique

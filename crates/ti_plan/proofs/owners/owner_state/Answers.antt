@@ -62,7 +62,10 @@ pub returns-in-Some-owner-clause-owner : goal.returns-in-Some-owner-clause-owner
 returns-in-Some-owner-clause-owner g c =
     let k = c.args.known.now in
     let u = read_use k.slots.now k.dependents.now k.component_of.now k.settled.now c.args.node g.at c.args.index c.args.name.now c.row.result.now c.requires.0.known c.requires.0.stands c.requires.1 c.row.ensures None c.in-None.is in
-    state_outside k.slots.now k.dependents.now k.component_of.now k.settled.now c.args.node g.at c.args.index c.args.name.now c.in-Some-owner.id c.slot.result.now u (c.owner.ensures.some c.in-Some-owner.id c.in-Some-owner.is) c.slot.ensures
+    state_outside k.slots.now k.dependents.now k.component_of.now k.settled.now c.args.node g.at c.args.index c.args.name.now c.in-Some-owner.id c.slot.result.now u (c.owner.ensures.some c.in-Some-owner.id c.in-Some-owner.is) c.slot.ensures.slot
+
+pub slot-requires : goal.slot-requires
+slot-requires g c = let own = c.owner.ensures.some c.in-Some-owner.id c.in-Some-owner.is in (own.0, own.2)
 
 pub returns-in-None-owner-clause-fault : goal.returns-in-None-owner-clause-fault
 returns-in-None-owner-clause-fault g c =

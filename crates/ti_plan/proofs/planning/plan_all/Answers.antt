@@ -5,7 +5,7 @@ use Rattle.ti_plan.proofs.planning.plan_all.Goals as goal
 pub make_plan-requires : goal.make_plan-requires
 make_plan-requires c =
     let found = c.in_ok-all.ensures in
-    all_found c.args.slots.now c.in_ok-all.all found.all c.requires.indexed c.requires.usable c.in_ok-all.ensures.distinct found.uses found.graph
+    all_found c.args.slots.now c.in_ok-all.all found.all c.requires c.in_ok-all.ensures.distinct found.uses found.graph
 
 pub returns : goal.returns
 returns c =

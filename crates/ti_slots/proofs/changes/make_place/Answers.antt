@@ -1,5 +1,5 @@
 use Rattle.std.proofs.Common.{ap, refl}
-use Rattle.ti_slots.specs.Slots.{slot_at}
+use Rattle.ti_slots.specs.inside.Fields.{slot_stored}
 use Rattle.ti_slots.proofs.changes.make_place.Goals as goal
 
 pub returns-in_err-push-clause-listed : goal.returns-in_err-push-clause-listed
@@ -12,7 +12,7 @@ pub returns-in_err-push-clause-places : goal.returns-in_err-push-clause-places
 returns-in_err-push-clause-places c = rw c.in_err-push.ensures.items c.requires.places
 
 pub returns-in_err-push-clause-slots : goal.returns-in_err-push-clause-slots
-returns-in_err-push-clause-slots c = λ id. ap (λ slots. slot_at slots id) c.in_err-push.ensures.items
+returns-in_err-push-clause-slots c = λ id. ap (λ slots. slot_stored slots id) c.in_err-push.ensures.items
 
 pub reserve-requires : goal.reserve-requires
 reserve-requires c = c.requires.few

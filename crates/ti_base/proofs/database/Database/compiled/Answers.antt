@@ -15,5 +15,5 @@ returns-in_default c =
     let kept = entry_of_slot c.self.inside.slots c.args.at c.slot_of.result.now c.self.invariant c.slot_of.ensures in
     shown_other c.slot_of.result.now.settled.state (λ entry e. c.in_default.not-Compiled entry e) ∙ (kept ∙ ap (λ texts. compiled texts c.args.at) c.self.view_is)
 
-pub slot_of-requires-clause-within : goal.slot_of-requires-clause-within
-slot_of-requires-clause-within c = within_list c.self.inside.slots c.args.self.now c.args.at (length c.args.self.now) c.self.view_is refl c.requires
+pub slot_of-requires : goal.slot_of-requires
+slot_of-requires c = within_list c.self.inside.slots c.args.self.now c.args.at (length c.args.self.now) c.self.view_is refl c.requires

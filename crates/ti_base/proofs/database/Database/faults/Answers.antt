@@ -4,7 +4,8 @@ use Rattle.ti_meaning.specs.Usable.{IsPlaced}
 use Rattle.ti_meaning.specs.Faults.{SourceFault, fault_seen, faults}
 use Rattle.ti_meaning.proofs.Bounding.{faults_placed}
 use Rattle.ti_slots.specs.Slots.{blocks_of}
-use Rattle.ti_base.proofs.SlotLists.{blocks_read, length_blocks, length_texts}
+use Rattle.ti_slots.proofs.Owners.{length_blocks, length_texts}
+use Rattle.ti_base.proofs.SlotLists.{blocks_read}
 use Rattle.ti_base.proofs.Installing.{all_usable}
 use Rattle.ti_base.proofs.database.Database.faults.Goals as goal
 

@@ -2,7 +2,7 @@ use Rattle.std.proofs.Common.{length, refl, List, Some, map, option_map, slice_g
 use Rattle.std.specs.Rc.{rc_slice_items}
 use Rattle.ti_source.specs.Reading.{Reading}
 use Rattle.ti_meaning.specs.Owner.{readings}
-use Rattle.ti_base.proofs.SlotFaults.{block_of_slot}
+use Rattle.ti_slots.proofs.Owners.{block_of_slot}
 use Rattle.ti_base.proofs.SlotLists.{within_list, blocks_read}
 use Rattle.ti_base.proofs.database.Database.names.Goals as goal
 
@@ -14,5 +14,5 @@ returns c =
     ap (λ (bs : List Reading). option_map (λ (b : Reading). b.names) (slice_get bs c.args.at)) (sym read)
     ∙ (ap (λ o. option_map (λ (b : Reading). b.names) o) here ∙ ap (λ names. Some (map rc_slice_items names)) (sym c.deref.ensures.value))
 
-pub slot_of-requires-clause-within : goal.slot_of-requires-clause-within
-slot_of-requires-clause-within c = within_list c.self.inside.slots c.args.self.now c.args.at (length c.args.self.now) c.self.view_is refl c.requires
+pub slot_of-requires : goal.slot_of-requires
+slot_of-requires c = within_list c.self.inside.slots c.args.self.now c.args.at (length c.args.self.now) c.self.view_is refl c.requires

@@ -8,5 +8,5 @@ returns c =
     ap (λ texts. slice_get texts c.args.at) (sym c.self.view_is)
     ∙ (text_of_slot c.self.inside.slots c.args.at c.slot_of.result.now c.slot_of.ensures ∙ ap (λ text. Some text) (sym c.deref.ensures.value))
 
-pub slot_of-requires-clause-within : goal.slot_of-requires-clause-within
-slot_of-requires-clause-within c = within_list c.self.inside.slots c.args.self.now c.args.at (length c.args.self.now) c.self.view_is refl c.requires
+pub slot_of-requires : goal.slot_of-requires
+slot_of-requires c = within_list c.self.inside.slots c.args.self.now c.args.at (length c.args.self.now) c.self.view_is refl c.requires

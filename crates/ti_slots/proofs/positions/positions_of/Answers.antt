@@ -2,8 +2,8 @@ use Rattle.std.proofs.Common.{◌≡◌, ℕ, inl, inr, List, [], ◌∷◌, ◌
 use Rattle.std.proofs.lemmas.List.{length-append, take_all, take_more}
 use Rattle.std.proofs.lemmas.Option.{slice_get_within, slice_get-get_or}
 use Rattle.ti_text.proofs.Lists.{push_cases}
-use Rattle.ti_dependents.specs.inside.Uses.{ArePositions}
-use Rattle.ti_dependents.proofs.uses.positions_of.Goals as goal
+use Rattle.ti_slots.specs.Positions.{ArePositions}
+use Rattle.ti_slots.proofs.positions.positions_of.Goals as goal
 
 -- one more id is there
 one_position_more : (listed ids positions : List ℕ) (id at : ℕ) → ArePositions listed ids positions → slice_get listed at ≡ Some id → ArePositions listed (ids ++ id ∷ []) (positions ++ at ∷ [])
@@ -32,5 +32,5 @@ loop-id-preserved c =
 pub position-requires : goal.position-requires
 position-requires c = c.requires c.loop-id.id-index (get_or c.args.ids.now c.loop-id.id-index 0) (slice_get-get_or c.args.ids.now c.loop-id.id-index 0 c.loop-id-test.true)
 
-pub returns-clause-positions : goal.returns-clause-positions
-returns-clause-positions c = subst (λ done. ArePositions c.args.order.now.listed done c.loop-id.positions.items) (take_all c.loop-id.id-index c.args.ids.now c.loop-id-test.false) c.loop-id.invariant
+pub returns : goal.returns
+returns c = subst (λ done. ArePositions c.args.order.now.listed done c.loop-id.positions.items) (take_all c.loop-id.id-index c.args.ids.now c.loop-id-test.false) c.loop-id.invariant
