@@ -7,4 +7,5 @@ pub mod PartsExchanged
 pub mod Places
 pub mod ShownDetails
 pub mod SmallExchanges
+pub mod Spotting
 pub mod TextLists

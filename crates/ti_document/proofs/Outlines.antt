@@ -24,7 +24,7 @@ use Rattle.ti_document.specs.inside.Fitting.{CanCount}
 pub text_is : (blocks : List (List ℕ)) (at : ℕ) (text : List ℕ) → slice_get blocks at ≡ Some text → text_at blocks at ≡ text
 text_is blocks at text e = ap (λ o. option_map_or (λ (t : List ℕ). t) o []) e
 
-text_got : (blocks : List (List ℕ)) (at : ℕ) → at < length blocks → text_at blocks at ≡ get_or blocks at []
+pub text_got : (blocks : List (List ℕ)) (at : ℕ) → at < length blocks → text_at blocks at ≡ get_or blocks at []
 text_got blocks at within = text_is blocks at (get_or blocks at []) (slice_get-get_or blocks at [] within)
 
 pub blocks_more : (blocks : List (List ℕ)) (at : ℕ) → at < length blocks → drop at blocks ≡ text_at blocks at ∷ drop (at + 1) blocks

@@ -8,4 +8,5 @@ pub mod Advice
 pub mod Diagnostics
 pub mod Spots
 pub mod Symbols
+pub mod Names
 pub mod inside

@@ -7,15 +7,18 @@ ghost use Rattle.ti_sources.specs.Sources.{AreTaken, source_refusal, source_text
 ghost use Rattle.ti_document.specs.Documents.{held};
 ghost use Rattle.ti_document.specs.Exchanges.{AtBack, AtFront, Exchanged};
 ghost use Rattle.ti_document.specs.Diagnostics.{diagnostic_seen, diagnostics_of};
+ghost use Rattle.ti_document.specs.Names.{definition_of, references_of};
 ghost use Rattle.ti_document.specs.Symbols.{symbol_seen, symbols_of};
 
 use crate::cut::{common_back, common_front};
 use crate::diagnostics::{Diagnostic, source_diagnostics};
 use crate::exchanging::exchange;
+use crate::names::{source_definition, source_references};
 use crate::symbols::{Symbol, source_symbols};
 use std::alloc::{AllocError, Global};
 use std::marker::Model;
 use ti_base::{Database, EditError};
+use ti_messages::{Position, Range};
 use ti_source::blocks;
 use ti_sources::{check, database_of, ended_texts_end, is_ended, sources_have_one_refusal};
 
@@ -242,5 +245,33 @@ impl Document {
         ensures { IfOk result (λ all. map symbol_seen all.items ≡ symbols_of self.now) }
     {
         source_symbols(alloc, self.text.as_slice(), &self.database)
+    }
+
+    /// The names field of the block that owns the name that a place is on, in a head or in an item
+    /// `use=`; `None` if the place is on no name, or no block has the name.
+    ///
+    /// # Errors
+    /// Out of memory.
+    pub fn definition(&self, alloc: Global, place: Position) -> Result<Option<Range>, AllocError>
+        ensures { IfOk result (λ found. found ≡ definition_of self.now place) }
+    {
+        source_definition(alloc, self.text.as_slice(), &self.database, place)
+    }
+
+    /// The names in items `use=` that belong to the owner of the name that a place is on, after
+    /// the owner's names field if that is asked for; none if no block owns the name.
+    ///
+    /// # Errors
+    /// Out of memory.
+    pub fn references(
+        &self,
+        alloc: Global,
+        place: Position,
+        with_declaration: bool,
+    ) -> Result<Vec<Range>, AllocError>
+        ensures { IfOk result (λ all. all.items ≡ references_of self.now place with_declaration) }
+    {
+        let text = self.text.as_slice();
+        source_references(alloc, text, &self.database, place, with_declaration)
     }
 }

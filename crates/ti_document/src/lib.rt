@@ -10,6 +10,7 @@
 //! - `advice`: what each fault means, and what to do about it
 //! - `diagnostics`: the faults of a document, with their places
 //! - `spots`: where the blocks of a document are, and which one a place is in
+//! - `names`: where the names of a document lead
 //! - `symbols`: the blocks of a document as its outline
 #![tactic(auto)]
 
@@ -19,6 +20,7 @@ mod diagnostics;
 mod document;
 mod exchanging;
 mod lines;
+mod names;
 mod position;
 mod splicing;
 mod spots;

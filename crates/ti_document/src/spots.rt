@@ -1,5 +1,6 @@
 //! Where the blocks of a document are, and which one a place is in.
-ghost use Rattle.std.specs.Prelude.{◌≡◌, ◌≤◌, ◌<◌, ◌+◌, ◌^◌, [], MatchOption, length};
+ghost use Rattle.std.specs.Prelude.{◌≡◌, ◌≤◌, ◌<◌, ◌+◌, ◌^◌, [], IfSome, MatchOption, length};
+ghost use Rattle.ti_meaning.specs.Report.{lines_before};
 ghost use Rattle.ti_spans.specs.declared.parts.Part.{Part};
 ghost use Rattle.ti_document.specs.Diagnostics.{text_at};
 ghost use Rattle.ti_document.specs.Documents.{held};
@@ -7,7 +8,7 @@ ghost use Rattle.ti_document.specs.Spots as spec;
 ghost use Rattle.ti_document.specs.Spots.{head_line, spot_from};
 ghost use Rattle.ti_document.specs.inside.Fitting.{CanCount};
 
-use crate::position::position_of;
+use crate::position::{offset_of, position_of};
 use ti_base::Database;
 use ti_messages::{Position, Range};
 use ti_sources::{check, first_line, sources_have_one_refusal};
@@ -55,4 +56,60 @@ pub(crate) fn range_in(line: usize, block: &[u8], part: Part) -> Range
         start: place_in(line, block, part.start),
         end: place_in(line, block, part.end),
     }
+}
+
+/// The block that a line is in, if it is in one; the first block begins on the line `first`.
+pub(crate) fn spot_from(database: &Database, first: usize, line: usize) -> Option<Spot>
+    requires { CanCount first database.now }
+    ensures spot { result ≡ spot_from 0 first line database.now }
+    ensures within { IfSome result (λ spot. spot.at < length database.now) }
+    ensures room { IfSome result (λ spot. spot.line + length (text_at database.now spot.at) < 2 ^ 64) }
+{
+    let mut start = first;
+    for at in 0..database.len() {
+        if line < start {
+            return None;
+        }
+        let next = start + count_lines(database.text(at));
+        if line < next {
+            return Some(Spot { at, line: start });
+        }
+        start = next;
+    }
+    None
+}
+
+/// A place as it is taken: past the end of a line it is the line's end, past the last line that of
+/// the text.
+pub(crate) fn settled(text: &[u8], place: Position) -> Position
+    ensures { result ≡ spec.settled text.now place }
+{
+    position_of(text, offset_of(text, place))
+}
+
+/// The offset of a place in a block that begins on that line.
+pub(crate) fn offset_in(line: usize, block: &[u8], place: Position) -> usize
+    ensures { result ≡ spec.offset_in line block.now place }
+{
+    offset_of(
+        block,
+        Position {
+            line: place.line.saturating_sub(line),
+            column: place.column,
+        },
+    )
+}
+
+/// The line on which a block begins, if the first begins on the line `first`.
+pub(crate) fn block_line(database: &Database, first: usize, at: usize) -> usize
+    requires count { CanCount first database.now }
+    requires within { at < length database.now }
+    ensures line { result ≡ first + lines_before database.now at }
+    ensures room { result + length (text_at database.now at) < 2 ^ 64 }
+{
+    let mut line = first;
+    for before in 0..at {
+        line += count_lines(database.text(before));
+    }
+    line
 }

@@ -4,6 +4,7 @@
 //! - `places`: offsets and places, and parts of a text exchanged
 //! - `documents`: a text that is exchanged, and how many edits that takes
 //! - `diagnostics`: what is wrong with a text, and where
+//! - `names`: where the names of documents lead
 //! - `outlines`: the blocks of documents as their outlines show them
 #![tactic(auto)]
 
@@ -11,6 +12,8 @@
 mod diagnostics;
 #[cfg(test)]
 mod documents;
+#[cfg(test)]
+mod names;
 #[cfg(test)]
 mod outlines;
 #[cfg(test)]
