@@ -1,10 +1,12 @@
 -- The answers to questions about a terminfo source, as values of the protocol (LSP 3.17).
-use Rattle.std.specs.Prelude.{ℕ, List, map}
+use Rattle.std.specs.Prelude.{ℕ, List, Option, None, Some, map}
 use Rattle.serde_json.specs.Data.{Data, array, null}
 use Rattle.serde_json.specs.View.{items_of}
-use Rattle.ti_messages.specs.Shapes.{symbol_data}
+use Rattle.ti_messages.specs.Shapes.{location_data, symbol_data}
 use Rattle.ti_messages.specs.declared.messages.Question.{Question}
 use Rattle.ti_messages.specs.declared.messages.Question.TheVariants.{Completion, Hover, Definition, References, Symbols}
+use Rattle.ti_messages.specs.declared.places.Range.{Range}
+use Rattle.ti_document.specs.Names.{definition_of, references_of}
 use Rattle.ti_document.specs.Symbols.{SymbolSeen, symbols_of}
 use Rattle.ti_server.specs.Sayings.{Sayings}
 use Rattle.ti_lsp.specs.Shown.{shown_of}
@@ -17,12 +19,21 @@ symbol_shown symbol = symbol_data symbol.name symbol.range symbol.selection
 abbrev pub outline_data : List SymbolSeen → Data
 outline_data all = array (items_of (map symbol_shown all))
 
--- the answer to a question about a text, under the URI of its document; nothing is known of a place
+-- where a name is defined ("Location"), or null if nowhere
+abbrev pub definition_data : List ℕ → Option Range → Data
+definition_data uri None = null
+definition_data uri (Some range) = location_data uri range
+
+-- where names are used
+abbrev pub references_data : List ℕ → List Range → Data
+references_data uri ranges = array (items_of (map (location_data uri) ranges))
+
+-- the answer to a question about a text, under the URI of its document
 abbrev pub answer_of : List ℕ → List ℕ → Question → Data
 answer_of text uri (Completion place) = null
 answer_of text uri (Hover place) = null
-answer_of text uri (Definition place) = null
-answer_of text uri (References place with_declaration) = null
+answer_of text uri (Definition place) = definition_data uri (definition_of text place)
+answer_of text uri (References place with_declaration) = references_data uri (references_of text place with_declaration)
 answer_of text uri Symbols = outline_data (symbols_of text)
 
 abbrev pub sayings : Sayings

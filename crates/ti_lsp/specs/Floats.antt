@@ -1,13 +1,16 @@
 -- No diagnostic and no answer has a float.
-use Rattle.std.specs.Prelude.{ℕ, ◌≡◌, List, [], ◌∷◌, false, map, refl}
+use Rattle.std.specs.Prelude.{ℕ, ◌≡◌, List, [], ◌∷◌, false, Option, None, Some, map, refl}
 use Rattle.serde_json.specs.View.{items_of}
 use Rattle.serde_json.specs.Written.{has_float, items_have_float}
 use Rattle.ti_document.specs.Diagnostics.{Shown, diagnostics_of}
+use Rattle.ti_document.specs.Names.{definition_of, references_of}
 use Rattle.ti_document.specs.Symbols.{SymbolSeen, symbols_of}
+use Rattle.ti_messages.specs.Shapes.{location_data}
 use Rattle.ti_messages.specs.declared.messages.Question.{Question}
 use Rattle.ti_messages.specs.declared.messages.Question.TheVariants.{Completion, Hover, Definition, References, Symbols}
+use Rattle.ti_messages.specs.declared.places.Range.{Range}
 use Rattle.ti_server.specs.Sayings.{HasNoFloats}
-use Rattle.ti_lsp.specs.Answers.{answer_of, sayings, symbol_shown}
+use Rattle.ti_lsp.specs.Answers.{answer_of, definition_data, sayings, symbol_shown}
 use Rattle.ti_lsp.specs.Shown.{shown_data, shown_of}
 
 none_in : (all : List Shown) → items_have_float (items_of (map shown_data all)) ≡ false
@@ -21,11 +24,19 @@ none_in_outline : (all : List SymbolSeen) → items_have_float (items_of (map sy
 none_in_outline [] = refl
 none_in_outline (symbol ∷ all) = none_in_outline all
 
+none_in_definition : (uri : List ℕ) (found : Option Range) → has_float (definition_data uri found) ≡ false
+none_in_definition uri None = refl
+none_in_definition uri (Some range) = refl
+
+none_in_references : (uri : List ℕ) (ranges : List Range) → items_have_float (items_of (map (location_data uri) ranges)) ≡ false
+none_in_references uri [] = refl
+none_in_references uri (range ∷ ranges) = none_in_references uri ranges
+
 answers_have_no_floats : (text uri : List ℕ) (question : Question) → has_float (answer_of text uri question) ≡ false
 answers_have_no_floats text uri (Completion place) = refl
 answers_have_no_floats text uri (Hover place) = refl
-answers_have_no_floats text uri (Definition place) = refl
-answers_have_no_floats text uri (References place with_declaration) = refl
+answers_have_no_floats text uri (Definition place) = none_in_definition uri (definition_of text place)
+answers_have_no_floats text uri (References place with_declaration) = none_in_references uri (references_of text place with_declaration)
 answers_have_no_floats text uri Symbols = none_in_outline (symbols_of text)
 
 pub sayings_have_no_floats : HasNoFloats sayings

@@ -1,13 +1,16 @@
 //! Answers to questions about a terminfo source, as values of the protocol.
 ghost use Rattle.std.specs.Prelude.{◌≡◌, IfOk, map};
 ghost use Rattle.serde_json.specs.View.{view};
+ghost use Rattle.ti_document.specs.Names.{definition_of, references_of};
 ghost use Rattle.ti_document.specs.Symbols.{symbol_seen, symbols_of};
-ghost use Rattle.ti_lsp.specs.Answers.{outline_data, symbol_shown};
+ghost use Rattle.ti_lsp.specs.Answers.{definition_data, outline_data, references_data, symbol_shown};
+ghost use Rattle.ti_messages.specs.Shapes.{location_data};
 
 use serde_json::Value;
 use std::alloc::{AllocError, Global};
 use ti_document::{Document, Symbol};
-use ti_messages::answers::symbol_value;
+use ti_messages::answers::{location_value, symbol_value};
+use ti_messages::{Position, Range};
 
 // A block in the outline.
 fn symbol_of(alloc: Global, symbol: &Symbol) -> Result<Value, AllocError>
@@ -44,4 +47,65 @@ pub fn outline(alloc: Global, document: &Document) -> Result<Value, AllocError>
 {
     let blocks = blocks_of(alloc, document)?;
     Ok(Value::Array(blocks))
+}
+
+/// Where the name at a place is defined.
+///
+/// # Errors
+/// Out of memory.
+pub fn definition(
+    alloc: Global,
+    document: &Document,
+    uri: &str,
+    place: Position,
+) -> Result<Value, AllocError>
+    ensures { IfOk result (λ v. view v ≡ definition_data uri.now (definition_of document.now place)) }
+{
+    match document.definition(alloc, place)? {
+        None => Ok(Value::Null),
+        Some(range) => location_value(alloc, uri, range),
+    }
+}
+
+// Parts of a document.
+fn location_values(alloc: Global, uri: &str, ranges: &[Range]) -> Result<Vec<Value>, AllocError>
+    ensures { IfOk result (λ values. map view values.items ≡ map (location_data uri.now) ranges.now) }
+{
+    let mut values = Vec::new(alloc);
+    for range in ranges {
+        values.push(location_value(alloc, uri, *range)?)?;
+    }
+    Ok(values)
+}
+
+// Where the names are used that belong to the owner of the name at a place.
+fn uses_of(
+    alloc: Global,
+    document: &Document,
+    uri: &str,
+    place: Position,
+    with_declaration: bool,
+) -> Result<Vec<Value>, AllocError>
+    ensures { IfOk result (λ values. map view values.items ≡ map (location_data uri.now) (references_of document.now place with_declaration)) }
+{
+    let ranges = document.references(alloc, place, with_declaration)?;
+    location_values(alloc, uri, ranges.as_slice())
+}
+
+/// Where the names are used that belong to the owner of the name at a place, and where that owner
+/// is defined if it is asked for.
+///
+/// # Errors
+/// Out of memory.
+pub fn references(
+    alloc: Global,
+    document: &Document,
+    uri: &str,
+    place: Position,
+    with_declaration: bool,
+) -> Result<Value, AllocError>
+    ensures { IfOk result (λ v. view v ≡ references_data uri.now (references_of document.now place with_declaration)) }
+{
+    let uses = uses_of(alloc, document, uri, place, with_declaration)?;
+    Ok(Value::Array(uses))
 }

@@ -4,7 +4,7 @@ ghost use Rattle.serde_json.specs.View.{view};
 ghost use Rattle.ti_document.specs.Diagnostics.{diagnostic_seen};
 ghost use Rattle.ti_lsp.specs.Shown.{shown_data};
 
-use crate::answering::outline;
+use crate::answering::{definition, outline, references};
 use serde_json::Value;
 use std::alloc::{AllocError, Global};
 use ti_document::{Diagnostic, Document, offset_of};
@@ -74,8 +74,13 @@ impl Source for Terminfo {
         values_of(alloc, all.as_slice())
     }
 
-    fn answer(&self, alloc: Global, _uri: &str, question: Question) -> Result<Value, AllocError> {
+    fn answer(&self, alloc: Global, uri: &str, question: Question) -> Result<Value, AllocError> {
         match question {
+            Question::Definition(place) => definition(alloc, &self.document, uri, place),
+            Question::References {
+                place,
+                with_declaration,
+            } => references(alloc, &self.document, uri, place, with_declaration),
             Question::Symbols => outline(alloc, &self.document),
             _ => Ok(Value::Null),
         }

@@ -137,9 +137,11 @@ sync_data = object (member (codes "change") (natural 2) (member (codes "openClos
 -- "ServerCapabilities"
 abbrev pub capabilities_data : Data
 capabilities_data =
-    object (member (codes "documentSymbolProvider") (boolean true)
+    object (member (codes "definitionProvider") (boolean true)
+    (member (codes "documentSymbolProvider") (boolean true)
     (member (codes "positionEncoding") (string (codes "utf-16"))
-    (member (codes "textDocumentSync") sync_data no_members)))
+    (member (codes "referencesProvider") (boolean true)
+    (member (codes "textDocumentSync") sync_data no_members)))))
 
 -- "InitializeResult"
 abbrev pub server_data : List ℕ → Data

@@ -169,7 +169,7 @@ fn capabilities_value(alloc: Global) -> Result<Value, AllocError>
     ensures { IfOk result (λ v. view v ≡ capabilities_data) }
 {
     let sync = sync_value(alloc)?;
-    json!(in alloc; {"documentSymbolProvider": true, "positionEncoding": "utf-16", "textDocumentSync": sync})
+    json!(in alloc; {"definitionProvider": true, "documentSymbolProvider": true, "positionEncoding": "utf-16", "referencesProvider": true, "textDocumentSync": sync})
 }
 
 // What the server is.

@@ -1,7 +1,8 @@
 """What a language server for terminfo source answers to questions about a text."""
 
-from .source import WHITE, read
-from .texts import blocks_of, refused_line, width
+from .base import Meaning
+from .source import WHITE, ends_of_items, read
+from .texts import blocks_of, offset_of, refused_line, width
 
 STRUCT = 23  # of "SymbolKind"
 
@@ -61,3 +62,108 @@ def symbols_of(text):
         found.append(symbol_of(block, line))
         line += block.count(b"\n")
     return found
+
+
+def span_of(where, start, end):
+    """Where a part of a folded text is in its block, or None if it is empty."""
+    return (where[start], where[end - 1] + 1) if start < end else None
+
+
+def names_in(folded):
+    """The parts of a folded text that are the names of its block."""
+    parts, start = [], 0
+    for name in folded.partition(b",")[0].split(b"|"):
+        parts.append((start, start + len(name)))
+        start += len(name) + 1
+    return parts if len(parts) == 1 else parts[:-1]
+
+
+def items_in(folded):
+    """The parts of a folded text that are the items of its block, without white space before them."""
+    parts, start = [], folded.find(b",") + 1
+    if start == 0:
+        return []
+    for end in ends_of_items(folded, start):
+        parts.append((end - len(folded[start:end].lstrip(WHITE)), end))
+        start = end + 1
+    return parts
+
+
+def use_in(folded, start, end):
+    """The part of an item that is the name which it uses, or None."""
+    if not folded[start:end].startswith(b"use="):
+        return None
+    name = folded[start + 4 : end].lstrip(WHITE)
+    front = end - len(name)
+    return front, front + len(name.rstrip(WHITE))
+
+
+def is_on(offset, span):
+    return span is not None and span[0] <= offset <= span[1]
+
+
+def name_at(block, offset):
+    """The name that an offset of a block is on, of the block or one that it uses, or None."""
+    folded, where = fold_at(block)
+    for start, end in names_in(folded):
+        if is_on(offset, span_of(where, start, end)):
+            return folded[start:end]
+    for start, end in items_in(folded):
+        if is_on(offset, span_of(where, start, end)):
+            name = use_in(folded, start, end)
+            return None if name is None else folded[slice(*name)]
+    return None
+
+
+def blocks_with_lines(text):
+    """The blocks of a text, each with the line and the offset at which it begins; none if refused."""
+    preface, blocks = blocks_of(text)
+    if refused_line(preface, blocks) is not None:
+        return []
+    found, line, start = [], preface.count(b"\n"), len(preface)
+    for block in blocks:
+        found.append((block, line, start))
+        line, start = line + block.count(b"\n"), start + len(block)
+    return found
+
+
+def owner_at(text, held, place):
+    """The position of the block that owns the name at a place, or None."""
+    offset = len(text[: offset_of(text, *place)].encode("utf-8"))
+    owners = Meaning([block for block, _, _ in held]).owners
+    for block, _, start in held:
+        if start <= offset < start + len(block):
+            return owners.get(name_at(block, offset - start))
+    return None
+
+
+def head_range(held, at):
+    """The names field of a block."""
+    block, line, _ = held[at]
+    folded, where = fold_at(block)
+    span = span_of(where, 0, len(folded.partition(b",")[0]))
+    return range_in(block, line, *(span or (0, 0)))
+
+
+def definition_of(text, uri, place):
+    """Where the name at a place is defined, or None."""
+    held = blocks_with_lines(text)
+    at = owner_at(text, held, place)
+    return None if at is None else {"range": head_range(held, at), "uri": uri}
+
+
+def references_of(text, uri, place, declared):
+    """Where the names are used that belong to the owner of the name at a place."""
+    held = blocks_with_lines(text)
+    at = owner_at(text, held, place)
+    if at is None:
+        return []
+    owners = Meaning([block for block, _, _ in held]).owners
+    found = [head_range(held, at)] if declared else []
+    for block, line, _ in held:
+        folded, where = fold_at(block)
+        for start, end in items_in(folded):
+            name = use_in(folded, start, end)
+            if name is not None and name[0] < name[1] and owners.get(folded[slice(*name)]) == at:
+                found.append(range_in(block, line, *span_of(where, *name)))
+    return [{"range": each, "uri": uri} for each in found]
