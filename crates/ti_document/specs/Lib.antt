@@ -9,4 +9,5 @@ pub mod Diagnostics
 pub mod Spots
 pub mod Symbols
 pub mod Names
+pub mod Completions
 pub mod inside

@@ -1,5 +1,5 @@
 //! A text with a database of its blocks.
-ghost use Rattle.std.specs.Prelude.{◌≡◌, [], None, map, IfErr, IfOk, OnOk, OnErr};
+ghost use Rattle.std.specs.Prelude.{◌≡◌, [], None, map, option_map, IfErr, IfOk, OnOk, OnErr};
 ghost use Rattle.ti_text.specs.Ascii as ascii;
 ghost use Rattle.ti_source.specs.Cutting.{last_byte};
 ghost use Rattle.ti_meaning.specs.declared.edits.EditError.TheVariants.{Memory};
@@ -7,9 +7,11 @@ ghost use Rattle.ti_sources.specs.Sources.{AreTaken, source_refusal, source_text
 ghost use Rattle.ti_document.specs.Documents.{held};
 ghost use Rattle.ti_document.specs.Exchanges.{AtBack, AtFront, Exchanged};
 ghost use Rattle.ti_document.specs.Diagnostics.{diagnostic_seen, diagnostics_of};
+ghost use Rattle.ti_document.specs.Completions.{completion_of, completion_seen};
 ghost use Rattle.ti_document.specs.Names.{definition_of, references_of};
 ghost use Rattle.ti_document.specs.Symbols.{symbol_seen, symbols_of};
 
+use crate::completions::{Completion, source_completion};
 use crate::cut::{common_back, common_front};
 use crate::diagnostics::{Diagnostic, source_diagnostics};
 use crate::exchanging::exchange;
@@ -273,5 +275,20 @@ impl Document {
     {
         let text = self.text.as_slice();
         source_references(alloc, text, &self.database, place, with_declaration)
+    }
+
+    /// What completes the word before a place: the name of an item, or the name that an item
+    /// `use=` gives; `None` in a comment, a names field and a value.
+    ///
+    /// # Errors
+    /// Out of memory.
+    pub fn completion(
+        &self,
+        alloc: Global,
+        place: Position,
+    ) -> Result<Option<Completion>, AllocError>
+        ensures { IfOk result (λ found. option_map completion_seen found ≡ completion_of self.now place) }
+    {
+        source_completion(alloc, self.text.as_slice(), &self.database, place)
     }
 }

@@ -11,10 +11,12 @@
 //! - `diagnostics`: the faults of a document, with their places
 //! - `spots`: where the blocks of a document are, and which one a place is in
 //! - `names`: where the names of a document lead
+//! - `completions`: what an editor offers to complete a word with
 //! - `symbols`: the blocks of a document as its outline
 #![tactic(auto)]
 
 mod advice;
+mod completions;
 mod cut;
 mod diagnostics;
 mod document;
@@ -26,6 +28,7 @@ mod splicing;
 mod spots;
 mod symbols;
 
+pub use completions::{Completion, Offers};
 pub use diagnostics::{Diagnostic, Problem};
 pub use document::Document;
 pub use exchanging::one_change_is_one_edit;

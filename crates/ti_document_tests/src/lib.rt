@@ -4,10 +4,13 @@
 //! - `places`: offsets and places, and parts of a text exchanged
 //! - `documents`: a text that is exchanged, and how many edits that takes
 //! - `diagnostics`: what is wrong with a text, and where
+//! - `completions`: what completes the words of documents
 //! - `names`: where the names of documents lead
 //! - `outlines`: the blocks of documents as their outlines show them
 #![tactic(auto)]
 
+#[cfg(test)]
+mod completions;
 #[cfg(test)]
 mod diagnostics;
 #[cfg(test)]

@@ -2,13 +2,16 @@
 use Rattle.std.proofs.Common.{◌≡◌, ℕ, suc, ◌+◌, ◌-◌, ◌<◌, ◌≤◌, ◌==◌, ◌&&◌, Bool, true, false, cond, List, [], ◌∷◌, ◌++◌, drop, get_or, Some, None, length, map, take, refl, sym, ap, ap₂, ◌∙◌, arith}
 use Rattle.std.specs.Prelude.{codes}
 use Rattle.std.specs.List.{list_all, slice_range}
-use Rattle.std.proofs.lemmas.List.{drop_all, drop_more, drop-drop, drop-take, length-map, map-append, take-map}
+use Rattle.std.proofs.lemmas.Bool.{and_parts}
+use Rattle.std.proofs.lemmas.List.{drop_all, drop_more, drop-drop, drop-take, length-map, length-take, map-append, take-map}
 use Rattle.std.proofs.lemmas.List.Folds.{list_all-append}
+use Rattle.std.proofs.Math.Nat.{min-le_left}
 use Rattle.ti_text.specs.WhiteSpace.{is_white_space}
 use Rattle.ti_source.specs.Folding.{PlacedByte}
 use Rattle.ti_source.specs.Items.{bytes, without_front}
 use Rattle.ti_spans.specs.Parts.{names_of, part_of}
 use Rattle.ti_spans.specs.Subjects.{begins_with, lookup_parts, used_name, without_end}
+use Rattle.ti_spans.specs.Words.{last_of}
 use Rattle.ti_spans.specs.declared.parts.Part.{Part}
 use Rattle.ti_spans.proofs.Parting.{longer}
 
@@ -126,15 +129,35 @@ names_looked_up text parts n count field e all looked =
 
 -- ---- the name that is used
 
-pub used_is : (text : List PlacedByte) (item : Part) → 4 ≤ item.end - item.start → begins_with (codes "use=") (part_of text item) ≡ true
-    → used_name (part_of text item) ≡ Some (without_end (without_front (part_of text (record { start = item.start + 4; end = item.end }))))
-used_is text item long e =
+-- what is after the first bytes of an item
+pub value_is : (text : List PlacedByte) (item : Part) → 4 ≤ item.end - item.start → part_of text (record { start = item.start + 4; end = item.end }) ≡ drop 4 (part_of text item)
+value_is text item long =
     let m = item.end - (item.start + 4) in
     let size : item.end - item.start ≡ 4 + m = omega (arith, long) in
-    let place : item.start + 4 ≡ 4 + item.start = omega arith in
-    let value : drop 4 (part_of text item) ≡ take m (drop (item.start + 4) text) =
-    ap (λ (n : ℕ). drop 4 (take n (drop item.start text))) size ∙ drop-take 4 m (drop item.start text) ∙ ap (take m) (drop-drop 4 item.start text) in
-    rw e (ap (λ (t : List PlacedByte). Some (without_end (without_front t))) value)
+    sym (ap (λ (n : ℕ). drop 4 (take n (drop item.start text))) size ∙ drop-take 4 m (drop item.start text) ∙ ap (take m) (drop-drop 4 item.start text))
+
+-- an item that begins with four bytes is as long
+begins_long : (word : List ℕ) (text : List PlacedByte) → begins_with word text ≡ true → length word ≤ length text
+begins_long [] text e = omega arith
+begins_long (byte ∷ bytes) [] e = cc
+begins_long (byte ∷ bytes) (x ∷ xs) e = omega (arith, begins_long bytes xs (and_parts (x.0 == byte) (begins_with bytes xs) e).1)
+
+pub use_long : (text : List PlacedByte) (item : Part) → begins_with (codes "use=") (part_of text item) ≡ true → 4 ≤ item.end - item.start
+use_long text item e =
+    let long = begins_long (codes "use=") (part_of text item) e in
+    omega (arith, long, length-take (item.end - item.start) (drop item.start text), min-le_left (item.end - item.start) (length (drop item.start text)))
+
+pub used_is : (item : List PlacedByte) → begins_with (codes "use=") item ≡ true → used_name item ≡ Some (without_end (without_front (drop 4 item)))
+used_is item e = rw e
 
 pub used_not : (item : List PlacedByte) → begins_with (codes "use=") item ≡ false → used_name item ≡ None
 used_not item e = rw e
+
+-- ---- the last of some parts
+
+pub last_mapped : (text : List PlacedByte) (parts : List Part) (d : Part) → 0 < length parts → part_of text (get_or parts (length parts - 1) d) ≡ last_of (map (part_of text) parts)
+last_mapped text [] d some = absurd (omega (arith, some))
+last_mapped text (part ∷ []) d some = refl
+last_mapped text (part ∷ other ∷ parts) d some =
+    let size : length (part ∷ other ∷ parts) - 1 ≡ suc (length (other ∷ parts) - 1) = omega arith in
+    ap (λ (n : ℕ). part_of text (get_or (part ∷ other ∷ parts) n d)) size ∙ last_mapped text (other ∷ parts) d (omega arith)

@@ -2,4 +2,5 @@
 pub mod Folding
 pub mod Parts
 pub mod Subjects
+pub mod Words
 pub mod inside

@@ -1,5 +1,5 @@
 //! The items of a block as they are seen, and the names that they use.
-ghost use Rattle.std.specs.Prelude.{◌≡◌, ◌^◌, ◌+◌, ◌++◌, ◌<◌, ◌≤◌, All, IfOk, IfSome, OnOk, codes, length, map, true};
+ghost use Rattle.std.specs.Prelude.{◌≡◌, ◌^◌, ◌+◌, ◌++◌, ◌<◌, ◌≤◌, All, IfOk, IfSome, OnOk, codes, drop, length, map, true};
 ghost use Rattle.std.specs.Option.{option_map};
 ghost use Rattle.ti_source.specs.Items as source;
 ghost use Rattle.ti_spans.specs.Parts.{IsWithin, part_of};
@@ -71,8 +71,8 @@ pub(crate) fn visible_items(alloc: Global, text: &[(u8, usize)]) -> Result<Vec<P
     Ok(items)
 }
 
-// Whether a text begins with these bytes.
-fn begins_with(text: &[(u8, usize)], word: &[u8]) -> bool
+/// Whether a text begins with these bytes.
+pub(crate) fn begins_with(text: &[(u8, usize)], word: &[u8]) -> bool
     ensures begins { result ≡ begins_with word.now text.now }
     ensures long { result ≡ true → length word.now ≤ length text.now }
 {
@@ -87,6 +87,20 @@ fn begins_with(text: &[(u8, usize)], word: &[u8]) -> bool
     true
 }
 
+/// What is after `use=` in an item, without the white space at its front.
+pub(crate) fn value_part(text: &[(u8, usize)], item: Part) -> Part
+    requires within { IsWithin text.now item }
+    requires begins { begins_with (codes "use=") (part_of text.now item) ≡ true }
+    ensures part { part_of text.now result ≡ source.without_front (drop 4 (part_of text.now item)) }
+    ensures within { IsWithin text.now result }
+{
+    let value = Part {
+        start: item.start + 4,
+        end: item.end,
+    };
+    without_front(text, value)
+}
+
 /// The name that an item uses, if it is a use.
 pub(crate) fn used_part(text: &[(u8, usize)], item: Part) -> Option<Part>
     requires { IsWithin text.now item }
@@ -96,11 +110,7 @@ pub(crate) fn used_part(text: &[(u8, usize)], item: Part) -> Option<Part>
     if !begins_with(&text[item.start..item.end], b"use=") {
         return None;
     }
-    let value = Part {
-        start: item.start + 4,
-        end: item.end,
-    };
-    Some(without_end(text, without_front(text, value)))
+    Some(without_end(text, value_part(text, item)))
 }
 
 // Adds the use that an item is, if it has a name.

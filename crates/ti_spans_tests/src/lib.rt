@@ -2,9 +2,12 @@
 //!
 //! - `parts`: the parts of blocks and where they are
 //! - `subjects`: what offsets of blocks are on, and the names that blocks use
+//! - `words`: the words that an editor completes
 #![tactic(auto)]
 
 #[cfg(test)]
 mod parts;
 #[cfg(test)]
 mod subjects;
+#[cfg(test)]
+mod words;
