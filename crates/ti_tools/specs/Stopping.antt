@@ -51,31 +51,36 @@ refusal_name BadFlag = codes "BadFlag"
 refusal_name BadNumber = codes "BadNumber"
 refusal_name BadOffset = codes "BadOffset"
 
+-- what a fault without a name or number is called
+abbrev pub plain_text : ToolError → List ℕ
+plain_text Usage = codes "no terminal named"
+plain_text NoTerminal = codes "unknown terminal"
+plain_text (BadEntry why) = codes "bad entry"
+plain_text ReadFault = codes "read fault"
+plain_text WriteFault = codes "write fault"
+plain_text LineTooLong = codes "line too long"
+plain_text (BlockTooLong line) = codes "block too long"
+plain_text TooManyBlocks = codes "too many blocks"
+plain_text Memory = codes "out of memory"
+
 -- whether `tput` knows the name, so that its string is bad
 abbrev pub is_known : List ℕ → Bool
 is_known name = is_some (capability_named name) || bytes_eq name (codes "init") || bytes_eq name (codes "reset")
 
--- the parts of a line that says no more than this
-abbrev pub plain_parts : List ℕ → List ℕ → List (List ℕ)
-plain_parts tool fault = tool ∷ codes ": " ∷ fault ∷ codes "\n" ∷ []
+-- the parts of a line: the name of the tool, the bytes before a name, the name, the bytes after it,
+-- a detail, and the end
+abbrev pub line_parts : List ℕ → List ℕ → List ℕ → List ℕ → List ℕ → List ℕ → List (List ℕ)
+line_parts tool head subject link detail end = tool ∷ head ∷ subject ∷ link ∷ detail ∷ end ∷ []
 
--- the parts of a line that says this of a name
-abbrev pub named_parts : List ℕ → List ℕ → List ℕ → List (List ℕ)
-named_parts tool fault name = tool ∷ codes ": " ∷ fault ∷ codes " \"" ∷ name ∷ codes "\"\n" ∷ []
-
--- the line of a tool on a fault, in parts; if there is none, the capability of that name is unknown
--- or its string is bad
+-- The line, in parts: the name of the tool, and the fault; if there is none, the capability of that
+-- name is unknown or its string is bad.
 abbrev pub message_parts : List ℕ → List ℕ → Option ToolError → List (List ℕ)
-message_parts tool name None = named_parts tool (if is_known name then codes "bad string" else codes "unknown terminfo capability") name
-message_parts tool name (Some Usage) = plain_parts tool (codes "no terminal named")
-message_parts tool name (Some NoTerminal) = named_parts tool (codes "unknown terminal") name
-message_parts tool name (Some (BadEntry why)) = tool ∷ codes ": bad entry \"" ∷ name ∷ codes "\" (" ∷ refusal_name why ∷ codes ")\n" ∷ []
-message_parts tool name (Some ReadFault) = plain_parts tool (codes "read fault")
-message_parts tool name (Some WriteFault) = plain_parts tool (codes "write fault")
-message_parts tool name (Some LineTooLong) = plain_parts tool (codes "line too long")
-message_parts tool name (Some (BlockTooLong line)) = tool ∷ codes ": block too long at line " ∷ decimal line ∷ codes "\n" ∷ []
-message_parts tool name (Some TooManyBlocks) = plain_parts tool (codes "too many blocks")
-message_parts tool name (Some Memory) = plain_parts tool (codes "out of memory")
+message_parts tool name None =
+    line_parts tool (if is_known name then codes ": bad string \"" else codes ": unknown terminfo capability \"") name [] [] (codes "\"\n")
+message_parts tool name (Some NoTerminal) = line_parts tool (codes ": unknown terminal \"") name [] [] (codes "\"\n")
+message_parts tool name (Some (BadEntry why)) = line_parts tool (codes ": bad entry \"") name (codes "\" (") (refusal_name why) (codes ")\n")
+message_parts tool name (Some (BlockTooLong line)) = line_parts tool (codes ": ") [] (codes "block too long at line ") (decimal line) (codes "\n")
+message_parts tool name (Some error) = line_parts tool (codes ": ") [] [] (plain_text error) (codes "\n")
 
 -- the line with its newline
 abbrev pub message_text : Job → List ℕ → Option ToolError → List ℕ

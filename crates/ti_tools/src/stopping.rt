@@ -1,12 +1,11 @@
 //! How a tool that stops ends: its exit status, and the line on standard error.
-ghost use Rattle.std.specs.Prelude.{◌≡◌, ℕ, List, None, Some, map, option_map};
+ghost use Rattle.std.specs.Prelude.{◌≡◌, [], None, Some, codes, decimal, map, option_map};
 ghost use Rattle.std.specs.List.{concat};
 ghost use Rattle.ti_devices.specs.Counted.{observation};
 ghost use Rattle.ti_devices.specs.Writing.{Wrote};
-ghost use Rattle.ti_devices.specs.declared.tool_error.ToolError.TheVariants.{BadEntry, BlockTooLong};
 ghost use Rattle.ti_commands.specs.Jobs.{tool_name};
 ghost use Rattle.ti_tools.specs.Stopping.{plain_status, status_of, tput_status};
-ghost use Rattle.ti_tools.specs.Stopping.{is_known, message_parts, message_text, named_parts, plain_parts, refusal_name};
+ghost use Rattle.ti_tools.specs.Stopping.{is_known, line_parts, message_parts, message_text, plain_text, refusal_name};
 
 use itoa::Buffer;
 use std::io::Write;
@@ -72,6 +71,23 @@ fn refusal_name(error: ReadError) -> &'static [u8]
     }
 }
 
+// What a fault is called that has no name or number.
+fn plain_text(error: &ToolError) -> &'static [u8]
+    ensures { result.now ≡ plain_text error.now }
+{
+    match error {
+        ToolError::Usage => b"no terminal named",
+        ToolError::NoTerminal => b"unknown terminal",
+        ToolError::BadEntry(_) => b"bad entry",
+        ToolError::ReadFault => b"read fault",
+        ToolError::WriteFault => b"write fault",
+        ToolError::LineTooLong => b"line too long",
+        ToolError::BlockTooLong(_) => b"block too long",
+        ToolError::TooManyBlocks => b"too many blocks",
+        ToolError::Memory => b"out of memory",
+    }
+}
+
 // Whether `tput` knows a name, so that its string is bad.
 fn is_known(name: &[u8]) -> bool
     ensures { result ≡ is_known name.now }
@@ -89,29 +105,79 @@ fn write_parts<W: Write>(writer: &mut Counted<W>, parts: &[&[u8]]) -> Result<(),
     Ok(())
 }
 
-// The line on a fault that says no more than this.
+// A line that begins with the name of a tool.
+#[derive(Clone, Copy)]
+struct Line<'a> {
+    tool: &'a [u8],
+    head: &'a [u8],
+    subject: &'a [u8],
+    link: &'a [u8],
+    detail: &'a [u8],
+    end: &'a [u8],
+}
+
+// Writes a line.
+fn write_line<W: Write>(writer: &mut Counted<W>, line: Line<'_>) -> Result<(), ToolError>
+    ensures { Wrote (observation W.contents writer.old) (observation W.contents writer.new)
+        (concat (line_parts line.entry.tool.now line.entry.head.now line.entry.subject.now
+        line.entry.link.now line.entry.detail.now line.entry.end.now)) result }
+{
+    write_parts(
+        writer,
+        &[
+            line.tool,
+            line.head,
+            line.subject,
+            line.link,
+            line.detail,
+            line.end,
+        ],
+    )
+}
+
+// The line of a fault that has no name or number.
 fn write_plain<W: Write>(
     writer: &mut Counted<W>,
     tool: &[u8],
-    fault: &[u8],
+    error: &ToolError,
 ) -> Result<(), ToolError>
     ensures { Wrote (observation W.contents writer.old) (observation W.contents writer.new)
-        (concat (plain_parts tool.now fault.now)) result }
+        (concat (line_parts tool.now (codes ": ") [] [] (plain_text error.now) (codes "\n"))) result }
 {
-    write_parts(writer, &[tool, b": ", fault, b"\n"])
+    write_line(
+        writer,
+        Line {
+            tool,
+            head: b": ",
+            subject: b"",
+            link: b"",
+            detail: plain_text(error),
+            end: b"\n",
+        },
+    )
 }
 
 // The line on a name.
 fn write_named<W: Write>(
     writer: &mut Counted<W>,
     tool: &[u8],
-    fault: &[u8],
+    head: &[u8],
     name: &[u8],
 ) -> Result<(), ToolError>
     ensures { Wrote (observation W.contents writer.old) (observation W.contents writer.new)
-        (concat (named_parts tool.now fault.now name.now)) result }
+        (concat (line_parts tool.now head.now name.now [] [] (codes "\"\n"))) result }
 {
-    write_parts(writer, &[tool, b": ", fault, b" \"", name, b"\"\n"])
+    write_line(
+        writer,
+        Line {
+            tool,
+            head,
+            subject: name,
+            link: b"",
+            detail: b"",
+            end: b"\"\n",
+        },
+    )
 }
 
 // The line on a bad entry.
@@ -122,12 +188,18 @@ fn write_refusal<W: Write>(
     why: ReadError,
 ) -> Result<(), ToolError>
     ensures { Wrote (observation W.contents writer.old) (observation W.contents writer.new)
-        (concat (message_parts tool.now name.now (Some (BadEntry why)))) result }
+        (concat (line_parts tool.now (codes ": bad entry \"") name.now (codes "\" (") (refusal_name why) (codes ")\n"))) result }
 {
-    let why = refusal_name(why);
-    write_parts(
+    write_line(
         writer,
-        &[tool, b": bad entry \"", name, b"\" (", why, b")\n"],
+        Line {
+            tool,
+            head: b": bad entry \"",
+            subject: name,
+            link: b"\" (",
+            detail: refusal_name(why),
+            end: b")\n",
+        },
     )
 }
 
@@ -137,12 +209,22 @@ fn write_block<W: Write>(
     tool: &[u8],
     number: usize,
 ) -> Result<(), ToolError>
-    ensures { (name : List ℕ) → Wrote (observation W.contents writer.old) (observation W.contents writer.new)
-        (concat (message_parts tool.now name (Some (BlockTooLong number)))) result }
+    ensures { Wrote (observation W.contents writer.old) (observation W.contents writer.new)
+        (concat (line_parts tool.now (codes ": ") [] (codes "block too long at line ") (decimal number) (codes "\n"))) result }
 {
     let mut buffer = Buffer::new();
-    let line = buffer.format(number).as_bytes();
-    write_parts(writer, &[tool, b": block too long at line ", line, b"\n"])
+    let detail = buffer.format(number).as_bytes();
+    write_line(
+        writer,
+        Line {
+            tool,
+            head: b": ",
+            subject: b"",
+            link: b"block too long at line ",
+            detail,
+            end: b"\n",
+        },
+    )
 }
 
 // The line on a fault.
@@ -156,15 +238,15 @@ fn write_fault<W: Write>(
         (concat (message_parts tool.now name.now (Some error.now))) result }
 {
     match error {
-        ToolError::Usage => write_plain(writer, tool, b"no terminal named"),
-        ToolError::NoTerminal => write_named(writer, tool, b"unknown terminal", name),
+        ToolError::NoTerminal => write_named(writer, tool, b": unknown terminal \"", name),
         ToolError::BadEntry(why) => write_refusal(writer, tool, name, *why),
-        ToolError::ReadFault => write_plain(writer, tool, b"read fault"),
-        ToolError::WriteFault => write_plain(writer, tool, b"write fault"),
-        ToolError::LineTooLong => write_plain(writer, tool, b"line too long"),
         ToolError::BlockTooLong(number) => write_block(writer, tool, *number),
-        ToolError::TooManyBlocks => write_plain(writer, tool, b"too many blocks"),
-        ToolError::Memory => write_plain(writer, tool, b"out of memory"),
+        ToolError::Usage
+        | ToolError::ReadFault
+        | ToolError::WriteFault
+        | ToolError::LineTooLong
+        | ToolError::TooManyBlocks
+        | ToolError::Memory => write_plain(writer, tool, error),
     }
 }
 
@@ -178,9 +260,9 @@ fn write_capability<W: Write>(
         (concat (message_parts tool.now name.now None)) result }
 {
     if is_known(name) {
-        return write_named(writer, tool, b"bad string", name);
+        return write_named(writer, tool, b": bad string \"", name);
     }
-    write_named(writer, tool, b"unknown terminfo capability", name)
+    write_named(writer, tool, b": unknown terminfo capability \"", name)
 }
 
 /// Writes the line for standard error on which a tool that stops says why: the name of the tool,
