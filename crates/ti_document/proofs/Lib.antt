@@ -2,6 +2,7 @@ pub mod FaultLines
 pub mod Fitting
 pub mod HeldTexts
 pub mod ListEdits
+pub mod Naming
 pub mod Outlines
 pub mod PartsExchanged
 pub mod Places

@@ -1,17 +1,15 @@
 -- The blocks of a document, one after the other.
-use Rattle.std.proofs.Common.{◌≡◌, ℕ, ◌+◌, ◌^◌, ◌<◌, ◌≤◌, List, [], ◌∷◌, ◌++◌, Global, None, Some, drop, flat_map, get_or, length, map, slice_get, refl, sym, take, ap, subst, ◌∙◌}
+use Rattle.std.proofs.Common.{◌≡◌, ℕ, ◌+◌, ◌^◌, ◌<◌, ◌≤◌, List, [], ◌∷◌, ◌++◌, Global, None, Some, drop, get_or, length, map, slice_get, refl, sym, ap, subst, ◌∙◌}
 use Rattle.std.specs.Option.{option_map, option_map_or}
 use Rattle.std.specs.Rc.{rc_slice_items}
 use Rattle.std.specs.declared.rc.RcSlice.{RcSlice}
-use Rattle.std.proofs.lemmas.List.{append-nil, append_assoc, drop_more, map-append, take_more}
-use Rattle.std.proofs.lemmas.Grind.{flat_map-append}
+use Rattle.std.proofs.lemmas.List.{append_assoc, drop_more, map-append}
 use Rattle.std.proofs.lemmas.Option.{same_Some, slice_get-get_or, slice_get-map}
 use Rattle.ti_text.specs.Lines.{line_count}
 use Rattle.ti_source.specs.Parsing.{reading_of_text}
 use Rattle.ti_source.specs.Reading.{Reading}
 use Rattle.ti_meaning.specs.Owner.{readings}
 use Rattle.ti_meaning.specs.Report.{shown_detail}
-use Rattle.ti_document.specs.Completions.{names_shown}
 use Rattle.ti_document.specs.Diagnostics.{text_at}
 use Rattle.ti_document.specs.Symbols.{SymbolSeen, shown_name, symbol_at, symbol_seen, symbols_from}
 use Rattle.ti_document.specs.declared.symbols.Symbol.{Symbol}
@@ -78,14 +76,3 @@ first_shown (other ∷ names) name field e = ap (λ (n : RcSlice ℕ Global). sh
 pub field_shown : (names : List (RcSlice ℕ Global)) (field : List ℕ) → None ≡ slice_get names 0 → shown_name (map rc_slice_items names) field ≡ shown_detail field
 field_shown [] field e = refl
 field_shown (other ∷ names) field e = cc
-
--- the lookup names of one more block
-pub names_more : (blocks : List (List ℕ)) (at : ℕ) → at < length blocks
-    → flat_map names_shown (readings (take (at + 1) blocks)) ≡ flat_map names_shown (readings (take at blocks)) ++ names_shown (reading_of_text (text_at blocks at))
-names_more blocks at within =
-    let block = reading_of_text (get_or blocks at []) in
-    ap (λ (t : List (List ℕ)). flat_map names_shown (readings t)) (take_more blocks at [] within)
-    ∙ ap (flat_map names_shown) (map-append reading_of_text (take at blocks) (get_or blocks at [] ∷ []))
-    ∙ flat_map-append names_shown (readings (take at blocks)) (block ∷ [])
-    ∙ ap (λ (t : List (List ℕ)). flat_map names_shown (readings (take at blocks)) ++ t) (append-nil (names_shown block))
-    ∙ ap (λ (t : List ℕ). flat_map names_shown (readings (take at blocks)) ++ names_shown (reading_of_text t)) (sym (text_got blocks at within))

@@ -1,9 +1,10 @@
 -- What an editor offers to complete a word with (own; Language Server Protocol 3.17, "Completion
 -- Request").
-use Rattle.std.specs.Prelude.{ℕ, List, flat_map, map, Option, option_and_then, option_map, if◌then◌else◌}
+use Rattle.std.specs.Prelude.{ℕ, suc, List, [], ◌∷◌, ◌++◌, filter, map, Option, option_and_then, option_map, if◌then◌else◌}
 use Rattle.std.specs.String.{string_bytes}
-use Rattle.ti_source.specs.Reading.{Reading}
-use Rattle.ti_meaning.specs.Owner.{readings}
+use Rattle.ti_source.specs.Parsing.{reading_of_text}
+use Rattle.ti_meaning.specs.Faults.{distinct}
+use Rattle.ti_meaning.specs.Owner.{is_owner, readings}
 use Rattle.ti_meaning.specs.Report.{shown_detail}
 use Rattle.ti_spans.specs.Words.{word_before}
 use Rattle.ti_spans.specs.declared.words.Word.{Word}
@@ -36,17 +37,22 @@ offers_seen (offers.Names names) = offers_names (map string_bytes names.items)
 abbrev pub completion_seen : Completion → CompletionSeen
 completion_seen completion = record { range = completion.range; offers = offers_seen completion.offers }
 
--- the lookup names of a block, as a report shows them
-abbrev pub names_shown : Reading → List (List ℕ)
-names_shown block = map shown_detail block.names
+-- the lookup names that the block at that position owns, each once
+abbrev pub own_names : List (List ℕ) → ℕ → List ℕ → List (List ℕ)
+own_names blocks at block = filter (λ name. is_owner (readings blocks) name at) (distinct (reading_of_text block).names)
 
--- the lookup names of all blocks
+-- those of these blocks, the first of which is at that position
+abbrev pub names_from : List (List ℕ) → ℕ → List (List ℕ) → List (List ℕ)
+names_from blocks at [] = []
+names_from blocks at (block ∷ rest) = own_names blocks at block ++ names_from blocks (suc at) rest
+
+-- the lookup names of all blocks, each once: where its owner is
 abbrev pub all_names : List (List ℕ) → List (List ℕ)
-all_names blocks = flat_map names_shown (readings blocks)
+all_names blocks = names_from blocks 0 blocks
 
--- what is offered for a word
+-- what is offered for a word: names as a report shows them
 abbrev pub offers_for : List (List ℕ) → Word → OffersSeen
-offers_for blocks word = if word.used then offers_names (all_names blocks) else offers_capabilities
+offers_for blocks word = if word.used then offers_names (map shown_detail (all_names blocks)) else offers_capabilities
 
 -- what is offered for a word of a block that begins on that line, which ends at that offset
 abbrev pub completion_for : List (List ℕ) → ℕ → List ℕ → ℕ → Word → CompletionSeen

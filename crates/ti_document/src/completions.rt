@@ -1,16 +1,17 @@
 //! What an editor offers to complete a word with.
 ghost use Rattle.std.specs.Prelude.{◌≡◌, ◌<◌, ◌≤◌, ◌+◌, ◌++◌, ◌^◌, IfOk, OnOk, length, map, option_map};
 ghost use Rattle.std.specs.String.{string_bytes};
-ghost use Rattle.ti_source.specs.Parsing.{reading_of_text};
+ghost use Rattle.ti_meaning.specs.Report.{shown_detail};
 ghost use Rattle.ti_document.specs.Completions as spec;
-ghost use Rattle.ti_document.specs.Completions.{all_names, completion_at, completion_seen, names_shown, offers_for, offers_seen};
+ghost use Rattle.ti_document.specs.Completions.{all_names, completion_at, completion_seen, offers_for, offers_seen, own_names};
 ghost use Rattle.ti_document.specs.Diagnostics.{text_at};
 ghost use Rattle.ti_document.specs.Documents.{held};
 
 use crate::diagnostics::shown_detail;
+use crate::names::is_owner;
 use crate::spots::{head_line, offset_in, range_in, settled, spot_from};
 use std::alloc::{AllocError, Global};
-use ti_base::Database;
+use ti_base::{Database, distinct_names};
 use ti_messages::{Position, Range};
 use ti_spans::{Part, Word, word_before};
 
@@ -19,7 +20,7 @@ use ti_spans::{Part, Word, word_before};
 pub enum Offers {
     /// The names of capabilities.
     Capabilities,
-    /// These names, in ASCII: the lookup names of all blocks in order.
+    /// These names, in ASCII: the lookup names of all blocks, each once, where its owner is.
     Names(Vec<String>),
 }
 
@@ -32,7 +33,7 @@ pub struct Completion {
     pub offers: Offers,
 }
 
-// Adds the lookup names of a block.
+// Adds the lookup names that a block owns, each once.
 fn push_names(
     alloc: Global,
     names: &mut Vec<String>,
@@ -40,17 +41,22 @@ fn push_names(
     at: usize,
 ) -> Result<(), AllocError>
     requires { at < length database.now }
-    ensures { OnOk result (map string_bytes names.new.items ≡ map string_bytes names.old.items ++ names_shown (reading_of_text (text_at database.now at))) }
+    ensures { OnOk result (map string_bytes names.new.items
+        ≡ map string_bytes names.old.items ++ map shown_detail (own_names database.now at (text_at database.now at))) }
 {
-    for name in database.names(at) {
-        names.push(shown_detail(alloc, name.as_slice())?)?;
+    let once = distinct_names(alloc, database.names(at))?;
+    for name in &once {
+        let name = name.as_slice();
+        if is_owner(database, name, at) {
+            names.push(shown_detail(alloc, name)?)?;
+        }
     }
     Ok(())
 }
 
-// The lookup names of all blocks.
+// The lookup names of all blocks, each once.
 fn all_names(alloc: Global, database: &Database) -> Result<Vec<String>, AllocError>
-    ensures { IfOk result (λ names. map string_bytes names.items ≡ all_names database.now) }
+    ensures { IfOk result (λ names. map string_bytes names.items ≡ map shown_detail (all_names database.now)) }
 {
     let mut names = Vec::new(alloc);
     for at in 0..database.len() {

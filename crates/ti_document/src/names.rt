@@ -104,8 +104,8 @@ pub(crate) fn source_definition(
     }
 }
 
-// Whether a name belongs to the block at that position.
-fn is_owner(database: &Database, name: &[u8], at: usize) -> bool
+/// Whether a name belongs to the block at that position.
+pub(crate) fn is_owner(database: &Database, name: &[u8], at: usize) -> bool
     ensures { result ≡ meaning.is_owner (readings database.now) name.now at }
 {
     match database.owner(name) {

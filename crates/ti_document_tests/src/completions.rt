@@ -11,11 +11,12 @@ fn document_of(alloc: Global, bytes: &[u8]) -> Result<Document, AllocError> {
     Document::open(alloc, text)
 }
 
-/// A source of three blocks after a preface, one of them with a bad head.
+/// A source of three blocks after a preface, one of them with a bad head, and one that has a name of
+/// the first and a name twice.
 const SOURCE: &[u8] =
-    b"# c\na|b|one,\n\tam, use=a\n/,\n# use=\n\tbel=\xF0\x9F\x98\x80, co\nc,\n\tuse= x";
+    b"# c\na|b|one,\n\tam, use=a\n/,\n# use=\n\tbel=\xF0\x9F\x98\x80, co\nc|a|c|d,\n\tuse= x";
 
-/// The lookup names of its blocks.
+/// The lookup names of its blocks, each once.
 const NAMES: [&str; 3] = ["a", "b", "c"];
 
 /// Places, by line and column, the column at which the word before each begins, and whether names

@@ -1,13 +1,16 @@
 -- The answers to questions about a terminfo source, as values of the protocol (LSP 3.17).
-use Rattle.std.specs.Prelude.{ℕ, List, Option, None, Some, map}
+use Rattle.std.specs.Prelude.{ℕ, List, [], Option, None, Some, codes, map}
 use Rattle.serde_json.specs.Data.{Data, array, null}
 use Rattle.serde_json.specs.View.{items_of}
-use Rattle.ti_messages.specs.Shapes.{location_data, symbol_data}
+use Rattle.ti_messages.specs.Shapes.{item_data, list_data, location_data, symbol_data}
+use Rattle.ti_messages.specs.declared.answers.ItemKind.TheVariants as items
 use Rattle.ti_messages.specs.declared.messages.Question.{Question}
 use Rattle.ti_messages.specs.declared.messages.Question.TheVariants.{Completion, Hover, Definition, References, Symbols}
 use Rattle.ti_messages.specs.declared.places.Range.{Range}
+use Rattle.ti_document.specs.Completions.{CompletionSeen, OffersSeen, completion_of, offers_capabilities, offers_names}
 use Rattle.ti_document.specs.Names.{definition_of, references_of}
 use Rattle.ti_document.specs.Symbols.{SymbolSeen, symbols_of}
+use Rattle.ti_server.specs.Offers.{all_capabilities, capability_item}
 use Rattle.ti_server.specs.Sayings.{Sayings}
 use Rattle.ti_lsp.specs.Shown.{shown_of}
 
@@ -28,9 +31,23 @@ definition_data uri (Some range) = location_data uri range
 abbrev pub references_data : List ℕ → List Range → Data
 references_data uri ranges = array (items_of (map (location_data uri) ranges))
 
+-- the item of the name of an entry, put in place of a range
+abbrev pub entry_item : Range → List ℕ → Data
+entry_item range name = item_data items.Entry name (codes "entry") None range
+
+-- the items of what is offered, each put in place of a range
+abbrev pub offered_items : Range → OffersSeen → List Data
+offered_items range offers_capabilities = map (capability_item range) all_capabilities
+offered_items range (offers_names names) = map (entry_item range) names
+
+-- what completes a word; no items where no word is completed
+abbrev pub completion_data : Option CompletionSeen → Data
+completion_data None = list_data (items_of [])
+completion_data (Some found) = list_data (items_of (offered_items found.range found.offers))
+
 -- the answer to a question about a text, under the URI of its document
 abbrev pub answer_of : List ℕ → List ℕ → Question → Data
-answer_of text uri (Completion place) = null
+answer_of text uri (Completion place) = completion_data (completion_of text place)
 answer_of text uri (Hover place) = null
 answer_of text uri (Definition place) = definition_data uri (definition_of text place)
 answer_of text uri (References place with_declaration) = references_data uri (references_of text place with_declaration)

@@ -2,15 +2,18 @@
 use Rattle.std.specs.Prelude.{ℕ, ◌≡◌, List, [], ◌∷◌, false, Option, None, Some, map, refl}
 use Rattle.serde_json.specs.View.{items_of}
 use Rattle.serde_json.specs.Written.{has_float, items_have_float}
+use Rattle.ti_caps.specs.Tables.{Capability}
 use Rattle.ti_document.specs.Diagnostics.{Shown, diagnostics_of}
+use Rattle.ti_document.specs.Completions.{CompletionSeen, OffersSeen, completion_of, offers_capabilities, offers_names}
 use Rattle.ti_document.specs.Names.{definition_of, references_of}
 use Rattle.ti_document.specs.Symbols.{SymbolSeen, symbols_of}
 use Rattle.ti_messages.specs.Shapes.{location_data}
 use Rattle.ti_messages.specs.declared.messages.Question.{Question}
 use Rattle.ti_messages.specs.declared.messages.Question.TheVariants.{Completion, Hover, Definition, References, Symbols}
 use Rattle.ti_messages.specs.declared.places.Range.{Range}
+use Rattle.ti_server.specs.Offers.{all_capabilities, capability_item}
 use Rattle.ti_server.specs.Sayings.{HasNoFloats}
-use Rattle.ti_lsp.specs.Answers.{answer_of, definition_data, sayings, symbol_shown}
+use Rattle.ti_lsp.specs.Answers.{answer_of, completion_data, definition_data, entry_item, offered_items, sayings, symbol_shown}
 use Rattle.ti_lsp.specs.Shown.{shown_data, shown_of}
 
 none_in : (all : List Shown) → items_have_float (items_of (map shown_data all)) ≡ false
@@ -32,8 +35,24 @@ none_in_references : (uri : List ℕ) (ranges : List Range) → items_have_float
 none_in_references uri [] = refl
 none_in_references uri (range ∷ ranges) = none_in_references uri ranges
 
+none_in_capabilities : (range : Range) (caps : List Capability) → items_have_float (items_of (map (capability_item range) caps)) ≡ false
+none_in_capabilities range [] = refl
+none_in_capabilities range (cap ∷ caps) = none_in_capabilities range caps
+
+none_in_names : (range : Range) (names : List (List ℕ)) → items_have_float (items_of (map (entry_item range) names)) ≡ false
+none_in_names range [] = refl
+none_in_names range (name ∷ names) = none_in_names range names
+
+none_in_offers : (range : Range) (offers : OffersSeen) → items_have_float (items_of (offered_items range offers)) ≡ false
+none_in_offers range offers_capabilities = none_in_capabilities range all_capabilities
+none_in_offers range (offers_names names) = none_in_names range names
+
+none_in_completion : (found : Option CompletionSeen) → has_float (completion_data found) ≡ false
+none_in_completion None = refl
+none_in_completion (Some found) = rw (none_in_offers found.range found.offers) refl
+
 answers_have_no_floats : (text uri : List ℕ) (question : Question) → has_float (answer_of text uri question) ≡ false
-answers_have_no_floats text uri (Completion place) = refl
+answers_have_no_floats text uri (Completion place) = none_in_completion (completion_of text place)
 answers_have_no_floats text uri (Hover place) = refl
 answers_have_no_floats text uri (Definition place) = none_in_definition uri (definition_of text place)
 answers_have_no_floats text uri (References place with_declaration) = none_in_references uri (references_of text place with_declaration)

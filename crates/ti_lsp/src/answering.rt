@@ -1,16 +1,19 @@
 //! Answers to questions about a terminfo source, as values of the protocol.
 ghost use Rattle.std.specs.Prelude.{◌≡◌, IfOk, map};
+ghost use Rattle.std.specs.String.{string_bytes};
 ghost use Rattle.serde_json.specs.View.{view};
+ghost use Rattle.ti_document.specs.Completions.{completion_of, offers_seen};
 ghost use Rattle.ti_document.specs.Names.{definition_of, references_of};
 ghost use Rattle.ti_document.specs.Symbols.{symbol_seen, symbols_of};
-ghost use Rattle.ti_lsp.specs.Answers.{definition_data, outline_data, references_data, symbol_shown};
+ghost use Rattle.ti_lsp.specs.Answers.{completion_data, definition_data, entry_item, offered_items, outline_data, references_data, symbol_shown};
 ghost use Rattle.ti_messages.specs.Shapes.{location_data};
 
 use serde_json::Value;
 use std::alloc::{AllocError, Global};
-use ti_document::{Document, Symbol};
-use ti_messages::answers::{location_value, symbol_value};
+use ti_document::{Document, Offers, Symbol};
+use ti_messages::answers::{ItemKind, item_value, list_value, location_value, symbol_value};
 use ti_messages::{Position, Range};
+use ti_server::offers::capability_items;
 
 // A block in the outline.
 fn symbol_of(alloc: Global, symbol: &Symbol) -> Result<Value, AllocError>
@@ -108,4 +111,38 @@ pub fn references(
 {
     let uses = uses_of(alloc, document, uri, place, with_declaration)?;
     Ok(Value::Array(uses))
+}
+
+// The items of names of entries, each put in place of a range.
+fn name_items(alloc: Global, names: &[String], range: Range) -> Result<Vec<Value>, AllocError>
+    ensures { IfOk result (λ items. map view items.items ≡ map (entry_item range) (map string_bytes names.now)) }
+{
+    let mut items = Vec::new(alloc);
+    for name in names {
+        items.push(item_value(alloc, ItemKind::Entry, name.as_str(), "entry", None, range)?)?;
+    }
+    Ok(items)
+}
+
+// The items of what is offered, each put in place of a range.
+fn offered_items(alloc: Global, offers: &Offers, range: Range) -> Result<Vec<Value>, AllocError>
+    ensures { IfOk result (λ items. map view items.items ≡ offered_items range (offers_seen offers.now)) }
+{
+    match offers {
+        Offers::Capabilities => capability_items(alloc, range),
+        Offers::Names(names) => name_items(alloc, names, range),
+    }
+}
+
+/// What completes the word before a place: nothing where no word is completed.
+///
+/// # Errors
+/// Out of memory.
+pub fn completion(alloc: Global, document: &Document, place: Position) -> Result<Value, AllocError>
+    ensures { IfOk result (λ v. view v ≡ completion_data (completion_of document.now place)) }
+{
+    match document.completion(alloc, place)? {
+        None => list_value(alloc, Vec::new(alloc)),
+        Some(found) => list_value(alloc, offered_items(alloc, &found.offers, found.range)?),
+    }
 }

@@ -4,7 +4,7 @@ ghost use Rattle.serde_json.specs.View.{view};
 ghost use Rattle.ti_document.specs.Diagnostics.{diagnostic_seen};
 ghost use Rattle.ti_lsp.specs.Shown.{shown_data};
 
-use crate::answering::{definition, outline, references};
+use crate::answering::{completion, definition, outline, references};
 use serde_json::Value;
 use std::alloc::{AllocError, Global};
 use ti_document::{Diagnostic, Document, offset_of};
@@ -76,6 +76,7 @@ impl Source for Terminfo {
 
     fn answer(&self, alloc: Global, uri: &str, question: Question) -> Result<Value, AllocError> {
         match question {
+            Question::Completion(place) => completion(alloc, &self.document, place),
             Question::Definition(place) => definition(alloc, &self.document, uri, place),
             Question::References {
                 place,

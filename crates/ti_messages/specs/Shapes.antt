@@ -1,7 +1,7 @@
 -- The values that a language server sends (LSP 3.17; the section is named at each). Members are in
 -- the order of their keys.
 use Rattle.std.specs.Prelude.{ℕ, List, codes, true, false, Option, None, Some, unwrap_or}
-use Rattle.serde_json.specs.Data.{Data, null, boolean, number, negative, unsigned, string, array, object, Items, no_members, member}
+use Rattle.serde_json.specs.Data.{Data, null, boolean, number, negative, unsigned, string, array, object, Items, item, no_items, no_members, member}
 use Rattle.ti_messages.specs.Failures.{code_of, sentence_of}
 use Rattle.ti_messages.specs.declared.answers.ItemKind.{ItemKind}
 use Rattle.ti_messages.specs.declared.answers.ItemKind.TheVariants.{Capability, Entry}
@@ -134,14 +134,20 @@ list_data items = object (member (codes "isIncomplete") (boolean false) (member 
 abbrev pub sync_data : Data
 sync_data = object (member (codes "change") (natural 2) (member (codes "openClose") (boolean true) no_members))
 
+-- "CompletionOptions": besides letters, an equals sign and a comma have the client ask
+abbrev pub completion_options_data : Data
+completion_options_data =
+    object (member (codes "triggerCharacters") (array (item (string (codes "=")) (item (string (codes ",")) no_items))) no_members)
+
 -- "ServerCapabilities"
 abbrev pub capabilities_data : Data
 capabilities_data =
-    object (member (codes "definitionProvider") (boolean true)
+    object (member (codes "completionProvider") completion_options_data
+    (member (codes "definitionProvider") (boolean true)
     (member (codes "documentSymbolProvider") (boolean true)
     (member (codes "positionEncoding") (string (codes "utf-16"))
     (member (codes "referencesProvider") (boolean true)
-    (member (codes "textDocumentSync") sync_data no_members)))))
+    (member (codes "textDocumentSync") sync_data no_members))))))
 
 -- "InitializeResult"
 abbrev pub server_data : List ℕ → Data

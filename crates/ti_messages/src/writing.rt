@@ -2,7 +2,7 @@
 ghost use Rattle.std.specs.Prelude.{◌≡◌, IfOk, option_map, unwrap_or};
 ghost use Rattle.serde_json.specs.Data.{null};
 ghost use Rattle.serde_json.specs.View.{items_view, view};
-ghost use Rattle.ti_messages.specs.Shapes.{capabilities_data, diagnostic_data, failure_data, initialized_data, notification_data, position_data, publish_data, published_data, range_data, refusal_data, response_data, server_data, severity_number, sync_data};
+ghost use Rattle.ti_messages.specs.Shapes.{capabilities_data, completion_options_data, diagnostic_data, failure_data, initialized_data, notification_data, position_data, publish_data, published_data, range_data, refusal_data, response_data, server_data, severity_number, sync_data};
 
 use crate::failures::Failure;
 use crate::places::{Position, Range};
@@ -164,12 +164,20 @@ fn sync_value(alloc: Global) -> Result<Value, AllocError>
     json!(in alloc; {"change": 2_u32, "openClose": true})
 }
 
+// When completions are asked for ("CompletionOptions").
+fn completion_options_value(alloc: Global) -> Result<Value, AllocError>
+    ensures { IfOk result (λ v. view v ≡ completion_options_data) }
+{
+    json!(in alloc; {"triggerCharacters": ["=", ","]})
+}
+
 // What the server can do ("ServerCapabilities").
 fn capabilities_value(alloc: Global) -> Result<Value, AllocError>
     ensures { IfOk result (λ v. view v ≡ capabilities_data) }
 {
+    let completions = completion_options_value(alloc)?;
     let sync = sync_value(alloc)?;
-    json!(in alloc; {"definitionProvider": true, "documentSymbolProvider": true, "positionEncoding": "utf-16", "referencesProvider": true, "textDocumentSync": sync})
+    json!(in alloc; {"completionProvider": completions, "definitionProvider": true, "documentSymbolProvider": true, "positionEncoding": "utf-16", "referencesProvider": true, "textDocumentSync": sync})
 }
 
 // What the server is.

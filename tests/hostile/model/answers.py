@@ -1,10 +1,13 @@
 """What a language server for terminfo source answers to questions about a text."""
 
 from .base import Meaning
+from .caps import FLAG, KINDS, NAMES_OF, NUMBER, TEXT, described
 from .source import WHITE, ends_of_items, read
 from .texts import blocks_of, offset_of, refused_line, width
 
 STRUCT = 23  # of "SymbolKind"
+FIELD_ITEM, STRUCT_ITEM = 5, 22  # of "CompletionItemKind"
+WORDS = {FLAG: "boolean", NUMBER: "number", TEXT: "string"}
 
 
 def fold_at(block):
@@ -167,3 +170,60 @@ def references_of(text, uri, place, declared):
             if name is not None and name[0] < name[1] and owners.get(folded[slice(*name)]) == at:
                 found.append(range_in(block, line, *span_of(where, *name)))
     return [{"range": each, "uri": uri} for each in found]
+
+
+def word_at(block, offset):
+    """Where the word before an offset of a block begins, and whether it is a name that is used; None
+    where no word is completed."""
+    text = block[:offset]
+    line = text.rpartition(b"\n")[2]
+    if line == b"" or line.startswith(b"#"):
+        return None
+    folded, where = fold_at(text + b"\n")
+    items = items_in(folded)
+    if not items:
+        return None
+    start, end = items[-1]
+    is_used = folded[start:end].startswith(b"use=")
+    if is_used:
+        start = end - len(folded[start + 4 : end].lstrip(WHITE))
+    elif b"#" in folded[start:end] or b"=" in folded[start:end]:
+        return None
+    return where[start] if start < end else offset, is_used
+
+
+def item(kind, name, detail, documentation=None):
+    """An item of a completion, without its edit."""
+    found = {"detail": detail, "filterText": name, "kind": kind, "label": name}
+    return found if documentation is None else found | {"documentation": documentation}
+
+
+def capability_items():
+    """The items of the capabilities: by kind, and then by the bytes of the name."""
+    found = []
+    for kind in KINDS:
+        for name in sorted(NAMES_OF[kind]):
+            variable, sentence, parameters = described(kind, name)
+            more = f"\nParameters: {parameters}." if parameters else ""
+            found.append(item(FIELD_ITEM, name.decode(), f"{WORDS[kind]}, {variable}", f"{sentence}.{more}"))
+    return found
+
+
+CAPABILITY_ITEMS = capability_items()
+
+
+def name_items(held):
+    """The items of the lookup names, each once, where its owner is."""
+    meaning = Meaning([block for block, _, _ in held])
+    return [item(STRUCT_ITEM, shown(name), "entry") for name in meaning.owners]
+
+
+def completion_of(text, place):
+    """What completes the word before a place."""
+    offset, held, items = len(text[: offset_of(text, *place)].encode("utf-8")), blocks_with_lines(text), []
+    for block, line, start in held:
+        if start <= offset < start + len(block) and (word := word_at(block, offset - start)) is not None:
+            part = range_in(block, line, word[0], offset - start)
+            offered = name_items(held) if word[1] else CAPABILITY_ITEMS
+            items = [{**each, "textEdit": {"newText": each["label"], "range": part}} for each in offered]
+    return {"isIncomplete": False, "items": items}

@@ -5,7 +5,7 @@ the life of the server, and the texts of the open documents as Python strings.
 import json
 import re
 
-from .answers import definition_of, references_of, symbols_of
+from .answers import completion_of, definition_of, references_of, symbols_of
 from .base import Meaning
 from .source import FAULTS
 from .texts import blocks_of, lines_of, offset_of, refused_line, width
@@ -147,6 +147,8 @@ def question_of(method, params):
 
 def answer_of(method, text, uri, place, declared):
     """The answer to a question about a text."""
+    if method == "textDocument/completion":
+        return completion_of(text, place)
     if method == "textDocument/definition":
         return definition_of(text, uri, place)
     if method == "textDocument/references":
