@@ -6,6 +6,7 @@ pub mod Naming
 pub mod Outlines
 pub mod PartsExchanged
 pub mod Places
+pub mod Selections
 pub mod ShownDetails
 pub mod SmallExchanges
 pub mod Spotting

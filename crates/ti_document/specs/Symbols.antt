@@ -1,10 +1,11 @@
 -- The blocks of a document as its outline (own; Language Server Protocol 3.17, "DocumentSymbol").
-use Rattle.std.specs.Prelude.{ℕ, ◌+◌, ◌-◌, List, [], ◌∷◌, length}
+use Rattle.std.specs.Prelude.{ℕ, ◌≡◌, ◌<◌, ◌≤◌, ◌⊎◌, ◌+◌, ◌-◌, All, List, [], ◌∷◌, length}
 use Rattle.std.specs.String.{string_bytes}
 use Rattle.ti_text.specs.Lines.{line_count}
 use Rattle.ti_source.specs.Parsing.{reading_of_text}
 use Rattle.ti_meaning.specs.Report.{shown_detail}
 use Rattle.ti_spans.specs.Subjects.{head_span, head_text}
+use Rattle.ti_messages.specs.declared.places.Position.{Position}
 use Rattle.ti_messages.specs.declared.places.Range.{Range}
 use Rattle.ti_document.specs.Documents.{held}
 use Rattle.ti_document.specs.Spots.{head_line, range_in}
@@ -42,3 +43,17 @@ symbols_from line (block ∷ blocks) = symbol_at line block ∷ symbols_from (li
 -- the symbols of a document
 abbrev pub symbols_of : List ℕ → List SymbolSeen
 symbols_of text = symbols_from (head_line text) (held text)
+
+-- ---- what is selected of a block
+
+-- a place is not after another
+abbrev pub IsUpTo : Position → Position → Type 0
+IsUpTo one other = (one.line < other.line) ⊎ ((one.line ≡ other.line) × (one.column ≤ other.column))
+
+-- a part of a text is in another
+abbrev pub IsInside : Range → Range → Type 0
+IsInside part whole = IsUpTo whole.start part.start × IsUpTo part.end whole.end
+
+-- the names field of each block is in the block, as the protocol asks
+abbrev pub SelectionsAreInside : Type 0
+SelectionsAreInside = (text : List ℕ) → All (λ (symbol : SymbolSeen). IsInside symbol.selection symbol.range) (symbols_of text)

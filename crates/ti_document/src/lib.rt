@@ -34,4 +34,4 @@ pub use document::Document;
 pub use exchanging::one_change_is_one_edit;
 pub use position::{offset_of, position_of, positions_are_inverse};
 pub use splicing::spliced;
-pub use symbols::Symbol;
+pub use symbols::{Symbol, selections_are_inside};

@@ -13,6 +13,8 @@ use crate::spots::{head_line, range_in};
 use std::alloc::{AllocError, Global};
 use ti_base::Database;
 use ti_messages::Range;
+use ti_source::{blocks_are_single, each_has_cut};
+use ti_sources::ended_texts_end;
 use ti_spans::{Part, head_of};
 use ti_text::count_lines;
 
@@ -95,4 +97,13 @@ pub(crate) fn source_symbols(
         Some(line) => symbols_from(alloc, database, line),
         None => Ok(Vec::new(alloc)),
     }
+}
+
+/// A law, with no code: what is selected of a block is in the block, as the protocol asks.
+pub fn selections_are_inside()
+    ensures { spec.SelectionsAreInside }
+{
+    each_has_cut();
+    blocks_are_single();
+    ended_texts_end();
 }
