@@ -13,7 +13,8 @@ tools     `ti tput` and `ti infocmp` on the system's own entry, if it is there; 
 edits     edits of a database of 1,000 and of 65,535 blocks, a chain of uses, circular ones, and
           lists of edits in one call: medians of five runs in microseconds, and MB
 editor    the CPU time of `ti-lsp` for opening a source and for a key in it, and that of ncurses's
-          `tic -c` of the whole: ncurses's own source, and 1,000 entries of 1.1 KB each
+          `tic -c` of the whole: ncurses's own source, and 1,000 entries of 1.1 KB each; and for
+          answers about 2,800 entries, of which 900 have a use
 rates     MB/s (10^6 bytes a second) of `ti tic -c` on one-block sources of 64 KiB, 256 KiB and
           1 MiB, and of ncurses's `tic -c` on the last: the best of several runs
 machine   what `ti_bench` prints of the libraries alone
@@ -225,6 +226,7 @@ def editor(room):
     if MASTER:
         print(server.measured(room, "ncurses's own source", read_master()))
     print(server.measured(room, "1,000 entries", sources.large_entries(1000)))
+    print(*server.answered(room, "2,800 entries", sources.entries_with_uses(1900, 900)), sep="\n")
 
 
 def fastest(room, words):

@@ -1,5 +1,6 @@
-"""How much CPU time the language server takes to open a source, and for a key in the middle of it,
-compared with the time in which ncurses's `tic -c` reads the whole source.
+"""How much CPU time the language server takes to open a source, for a key in the middle of it, and to
+answer questions about a place there, compared with the time in which ncurses's `tic -c` reads the
+whole source.
 """
 
 import json
@@ -12,6 +13,15 @@ from repository import program_of
 SERVER = program_of("ti_lsp")
 RUNS = 5
 KEYS = 40
+ASKED = 20
+# what is timed: the method, and what is before the place that it is about, in a line in the middle
+QUESTIONS = {
+    "complete a capability": ("completion", "\t"),
+    "complete a name": ("completion", "use="),
+    "definition": ("definition", "use="),
+    "references": ("references", "use="),
+    "outline": ("documentSymbol", ""),
+}
 SECONDS = 600
 
 
@@ -39,6 +49,15 @@ def keys(text, count):
     return messages
 
 
+def questions(text, count, method, before):
+    """The messages of `count` equal questions about a line in the middle of the text that has a use."""
+    lines = text.split("\n")
+    line = next(at for at in range(len(lines) // 2, len(lines)) if "use=" in lines[at])
+    place = {"line": line, "character": lines[line].index(before) + len(before)}
+    params = {"textDocument": {"uri": "file:///bench.ti"}, "position": place, "context": {"includeDeclaration": True}}
+    return b"".join(framed(f"textDocument/{method}", params, id=number) for number in range(count))
+
+
 def cpu_time(words, path):
     """The least CPU time of several runs, in milliseconds, with a file on standard input."""
     least = None
@@ -62,3 +81,13 @@ def measured(room, what, source):
     if shutil.which("tic"):
         checked = f"{cpu_time(['tic', '-c', room.write('source.ti', source)], nothing):.0f}"
     return f"| {what}, {len(source):,} bytes | {opening - start:.1f} | {(editing - opening) / KEYS:.2f} | {checked} |"
+
+
+def answered(room, what, source):
+    """Rows: what was opened; what is asked of it, and the milliseconds of CPU time for an answer."""
+    text = source.decode("utf-8")
+    opening, rows = cpu_time([SERVER], room.write("opened", opened(text))), []
+    for name, question in QUESTIONS.items():
+        asking = cpu_time([SERVER], room.write("asked", opened(text) + questions(text, ASKED, *question)))
+        rows.append(f"| {what}, {len(source):,} bytes | {name} | {(asking - opening) / ASKED:.2f} |")
+    return rows

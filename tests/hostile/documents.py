@@ -5,6 +5,7 @@ what the model says, and its diagnostics those that `ti tic -c` reports of the s
 import copy
 import json
 import random
+import re
 
 from generate import Source
 from limits import LSP, quick
@@ -78,6 +79,14 @@ class Editor:
             line, column = self.one([line, len(lines), 2**31 - 1]), self.one([column, 2**31 - 1, 0])
         return {"line": line, "character": column}
 
+    def place_in_use(self, text):
+        """A place behind a `use=` of a text, or any other."""
+        ends = [found.end() for found in re.finditer("use=", text)]
+        if not ends:
+            return self.place(text)
+        front = text[: self.one(ends) + self.one([0, 0, 1, 2])]
+        return {"line": front.count("\n"), "character": len(front.rpartition("\n")[2])}
+
     def change(self, text):
         if self.random.random() < 0.1:
             return {"text": self.text()}
@@ -109,7 +118,8 @@ class Editor:
         """A request about a document that is open, or about another."""
         uri, method = self.one(URIS), self.one(list(QUESTIONS))
         self.number += 1
-        params = {"textDocument": {"uri": uri}, "position": self.place(self.texts.get(uri, "a,b"))}
+        place = self.place if self.random.random() < 0.7 else self.place_in_use
+        params = {"textDocument": {"uri": uri}, "position": place(self.texts.get(uri, "a,b"))}
         if method == "textDocument/references":
             params["context"] = {"includeDeclaration": self.one([True, False])}
         return {"jsonrpc": "2.0", "id": self.number, "method": method, "params": params}
