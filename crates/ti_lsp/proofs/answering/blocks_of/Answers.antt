@@ -1,16 +1,13 @@
-use Rattle.std.proofs.Common.{◌≡◌, List, [], ◌∷◌, ap, map, refl, ◌∙◌}
+use Rattle.std.proofs.Common.{List, ap, map, sym, ◌∙◌}
 use Rattle.std.proofs.lemmas.Result.{IfOk-weaker}
-use Rattle.serde_json.specs.Data.{Data}
+use Rattle.std.proofs.lemmas.Simd.{map-map}
 use Rattle.ti_document.specs.Symbols.{symbol_seen}
 use Rattle.ti_document.specs.declared.symbols.Symbol.{Symbol}
 use Rattle.ti_lsp.specs.Answers.{symbol_shown}
 use Rattle.ti_lsp.proofs.answering.blocks_of.Goals as goal
 
-seen_first : (all : List Symbol) → map (λ s. symbol_shown (symbol_seen s)) all ≡ map symbol_shown (map symbol_seen all)
-seen_first [] = refl
-seen_first (s ∷ ss) = ap (λ (rest : List Data). symbol_shown (symbol_seen s) ∷ rest) (seen_first ss)
-
 pub returns : goal.returns
 returns c =
-    let same = seen_first c.as_slice.result.now ∙ (ap (λ (all : List Symbol). map symbol_shown (map symbol_seen all)) c.as_slice.ensures.value ∙ ap (map symbol_shown) c.in_ok-all.ensures) in
+    let same = sym (map-map symbol_shown symbol_seen c.as_slice.result.now)
+        ∙ (ap (λ (all : List Symbol). map symbol_shown (map symbol_seen all)) c.as_slice.ensures.value ∙ ap (map symbol_shown) c.in_ok-all.ensures) in
     IfOk-weaker c.symbol_values.result _ _ (λ values h. h ∙ same) c.symbol_values.ensures
