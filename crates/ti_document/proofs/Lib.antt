@@ -1,3 +1,6 @@
+pub mod EntriesHeld
+pub mod EntriesRead
+pub mod EntryParts
 pub mod FaultLines
 pub mod Fitting
 pub mod HeldTexts

@@ -8,6 +8,7 @@ ghost use Rattle.ti_document.specs.Documents.{held};
 ghost use Rattle.ti_document.specs.Exchanges.{AtBack, AtFront, Exchanged};
 ghost use Rattle.ti_document.specs.Diagnostics.{diagnostic_seen, diagnostics_of};
 ghost use Rattle.ti_document.specs.Completions.{completion_of, completion_seen};
+ghost use Rattle.ti_document.specs.Hovers.{hover_of, hover_seen};
 ghost use Rattle.ti_document.specs.Names.{definition_of, references_of};
 ghost use Rattle.ti_document.specs.Symbols.{symbol_seen, symbols_of};
 
@@ -15,6 +16,7 @@ use crate::completions::{Completion, source_completion};
 use crate::cut::{common_back, common_front};
 use crate::diagnostics::{Diagnostic, source_diagnostics};
 use crate::exchanging::exchange;
+use crate::hovers::{Hover, source_hover};
 use crate::names::{source_definition, source_references};
 use crate::symbols::{Symbol, source_symbols};
 use std::alloc::{AllocError, Global};
@@ -290,5 +292,16 @@ impl Document {
         ensures { IfOk result (λ found. option_map completion_seen found ≡ completion_of self.now place) }
     {
         source_completion(alloc, self.text.as_slice(), &self.database, place)
+    }
+
+    /// What is told of what a place is on: an item whose name is that of a capability, a name in
+    /// a head, or a name that an item `use=` gives; `None` if it is on nothing of these.
+    ///
+    /// # Errors
+    /// Out of memory.
+    pub fn hover(&self, alloc: Global, place: Position) -> Result<Option<Hover>, AllocError>
+        ensures { IfOk result (λ told. option_map hover_seen told ≡ hover_of self.now place) }
+    {
+        source_hover(alloc, self.text.as_slice(), &self.database, place)
     }
 }

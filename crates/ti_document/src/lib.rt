@@ -11,6 +11,8 @@
 //! - `diagnostics`: the faults of a document, with their places
 //! - `spots`: where the blocks of a document are, and which one a place is in
 //! - `names`: where the names of a document lead
+//! - `holdings`: what the entry of a block holds
+//! - `hovers`: what an editor tells of what a place is on
 //! - `completions`: what an editor offers to complete a word with
 //! - `symbols`: the blocks of a document as its outline
 #![tactic(auto)]
@@ -21,6 +23,8 @@ mod cut;
 mod diagnostics;
 mod document;
 mod exchanging;
+mod holdings;
+mod hovers;
 mod lines;
 mod names;
 mod position;
@@ -32,6 +36,8 @@ pub use completions::{Completion, Offers};
 pub use diagnostics::{Diagnostic, Problem};
 pub use document::Document;
 pub use exchanging::one_change_is_one_edit;
+pub use holdings::{Entry, Holding};
+pub use hovers::{About, Hover};
 pub use position::{offset_of, position_of, positions_are_inverse};
 pub use splicing::spliced;
 pub use symbols::{Symbol, selections_are_inside};

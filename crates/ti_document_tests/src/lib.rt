@@ -5,6 +5,7 @@
 //! - `documents`: a text that is exchanged, and how many edits that takes
 //! - `diagnostics`: what is wrong with a text, and where
 //! - `completions`: what completes the words of documents
+//! - `hovers`: what is told of what places of documents are on
 //! - `names`: where the names of documents lead
 //! - `outlines`: the blocks of documents as their outlines show them
 #![tactic(auto)]
@@ -15,6 +16,8 @@ mod completions;
 mod diagnostics;
 #[cfg(test)]
 mod documents;
+#[cfg(test)]
+mod hovers;
 #[cfg(test)]
 mod names;
 #[cfg(test)]

@@ -3,6 +3,7 @@ pub mod Itemizing
 pub mod Joining
 pub mod Laws
 pub mod Lines
+pub mod Marking
 pub mod Naming
 pub mod Parting
 pub mod Seeing

@@ -2,5 +2,6 @@
 pub mod Folding
 pub mod Parts
 pub mod Subjects
+pub mod Touching
 pub mod Words
 pub mod inside

@@ -40,8 +40,8 @@ fn without_front(text: &[(u8, usize)], part: Part) -> Part
     }
 }
 
-// A part without the white space at its end.
-fn without_end(text: &[(u8, usize)], part: Part) -> Part
+/// A part without the white space at its end.
+pub(crate) fn without_end(text: &[(u8, usize)], part: Part) -> Part
     requires { IsWithin text.now part }
     ensures part { part_of text.now result ≡ spec.without_end (part_of text.now part) }
     ensures within { IsWithin text.now result }

@@ -5,6 +5,7 @@
 //! - `heads`: where the names field of a block is
 //! - `items`: the items as they are seen, and the names that they use
 //! - `subjects`: what an offset of a block is on
+//! - `touching`: the item that an offset of a block is on, as it is written
 //! - `words`: the word that an editor completes
 #![tactic(auto)]
 
@@ -13,6 +14,7 @@ mod heads;
 mod items;
 mod parts;
 mod subjects;
+mod touching;
 mod words;
 
 pub use folding::{folded, one_folding_at};
@@ -20,4 +22,5 @@ pub use heads::{Head, head_of};
 pub use items::{Use, uses_of};
 pub use parts::{Part, field_len, item_parts, name_parts, parts_are_computed, span_of};
 pub use subjects::{Subject, Touched, subject_at};
+pub use touching::{Item, item_at};
 pub use words::{Word, word_before};

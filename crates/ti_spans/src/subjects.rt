@@ -80,8 +80,12 @@ fn name_on(alloc: Global, text: &[(u8, usize)], offset: usize) -> Result<Option<
     Ok(part_on(text, &names[..count], offset))
 }
 
-// The item that an offset is on.
-fn item_on(alloc: Global, text: &[(u8, usize)], offset: usize) -> Result<Option<Part>, AllocError>
+/// The item that an offset is on.
+pub(crate) fn item_on(
+    alloc: Global,
+    text: &[(u8, usize)],
+    offset: usize,
+) -> Result<Option<Part>, AllocError>
     requires { All (λ x. x.1 < 2 ^ 63) text.now }
     ensures part { IfOk result (λ part. option_map (part_of text.now) part ≡ spec.part_on offset (spec.items_of text.now)) }
     ensures within { IfOk result (λ part. IfSome part (IsWithin text.now)) }

@@ -2,6 +2,7 @@
 //!
 //! - `parts`: the parts of blocks and where they are
 //! - `subjects`: what offsets of blocks are on, and the names that blocks use
+//! - `touching`: the items that offsets of blocks are on, as they are written
 //! - `words`: the words that an editor completes
 #![tactic(auto)]
 
@@ -9,5 +10,7 @@
 mod parts;
 #[cfg(test)]
 mod subjects;
+#[cfg(test)]
+mod touching;
 #[cfg(test)]
 mod words;
