@@ -1,5 +1,5 @@
+pub mod Answering
 pub mod CutLines
-pub mod Empty
 pub mod LineSteps
 pub mod Placed
 pub mod Searches

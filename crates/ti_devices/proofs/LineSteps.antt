@@ -1,5 +1,6 @@
 -- Bytes without a newline, and lines cut from the bytes ahead.
-use Rattle.std.proofs.Common.{◌≡◌, ◌≢◌, ℕ, zero, suc, ◌+◌, ◌-◌, ◌<◌, ◌≤◌, ◌⊎◌, Option, Some, None, Ok, Err, true, false, List, [], ◌∷◌, ◌++◌, length, get_or, take, drop, refl, sym, ap, ◌∙◌, append_assoc, append-nil, subst, arith, add-one, length-append}
+use Rattle.std.proofs.Common.{◌≡◌, ◌≢◌, ℕ, zero, suc, ◌+◌, ◌-◌, ◌<◌, ◌≤◌, ◌⊎◌, Option, Some, None, Ok, Err, true, false, List, [], ◌∷◌, ◌++◌, length}
+use Rattle.std.proofs.Common.{get_or, take, drop, refl, sym, ap, ◌∙◌, append_assoc, append-nil, subst, arith, add-one, length-append}
 use Rattle.std.proofs.Math.Seq.{drop-cons}
 use Rattle.std.proofs.lemmas.Bool.{eq-eqb, eqb-true}
 use Rattle.std.proofs.lemmas.List.{drop-drop, drop-take, length-take, take-append-drop}
@@ -9,8 +10,7 @@ use Rattle.std.specs.List.{AllByRecursion}
 use Rattle.ti_devices.specs.Counted.{Observed}
 use Rattle.std.specs.Io.KnownBytes.{IsAtEnd}
 use Rattle.ti_devices.proofs.Written.{Consumes-then, Gives-then}
-use Rattle.ti_devices.specs.inside.LineReader.{Refills, TakesLine}
-use Rattle.ti_devices.specs.LineReader.{ReadsLine, SpendsReads, ahead_of, bytes_left, line_limit_of, last_line_of, reads_left_of}
+use Rattle.ti_devices.specs.inside.LineReader.{Refills, TakesLine, ReadsLine, SpendsReads, ahead_of, bytes_left, line_limit_of, last_line_of, reads_left_of}
 use Rattle.ti_devices.specs.Lines.{IsOneLine, IsWithin, with_newline}
 use Rattle.ti_devices.specs.Reading.{Gives}
 use Rattle.ti_devices.specs.declared.line_reader.LineReader.{LineReader}
@@ -135,7 +135,8 @@ module _ (before mid : LineReader) (given left : Observed) (f : Filled before mi
         let spends : reads_left_of now + later.reads ≡ reads_left_of next + left.reads = s.reads in
         let low : length (last_line_of mid) + bytes_left mid ≤ bytes_left before = f.fewer in
         let none : length (ahead_of next) ≡ 0 = ap length t.1 in
-        let long : length (last_line_of next) ≡ length (last_line_of mid) + length (ahead_of mid) = ap length t.2 ∙ length-append (last_line_of mid) (ahead_of mid) in
+        let long : length (last_line_of next) ≡ length (last_line_of mid) + length (ahead_of mid) = ap length t.2
+        ∙ length-append (last_line_of mid) (ahead_of mid) in
         let fewer : bytes_left now ≤ bytes_left next = r.2 in record {
           taken = f.taken ++ ahead_of now;
           gives = Gives-then given left later f.taken (ahead_of now) f.gives r.0;

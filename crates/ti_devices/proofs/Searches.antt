@@ -17,7 +17,8 @@ at_none count None later r e is = is
 at_none count (Some x) later r e is = absurd (cc)
 
 -- a directory that has the file
-pub Finds-here : (count : ℕ) (files : Option Files) (name directory : List ℕ) (directories : List (List ℕ)) (b : List ℕ) → FindsFile (path_of directory name) count files (Some b)
+pub Finds-here : (count : ℕ) (files : Option Files) (name directory : List ℕ) (directories : List (List ℕ)) (b : List ℕ)
+    → FindsFile (path_of directory name) count files (Some b)
     → Finds count files name (directory ∷ directories) (Some b)
 unfolding first_file
 Finds-here count None name directory directories b e = tt

@@ -1,8 +1,8 @@
 -- The definitions that the contracts of this crate cite.
 pub mod inside
+pub mod Answering
 pub mod Buffer
 pub mod Counted
-pub mod LineReader
 pub mod Lines
 pub mod MemoryTree
 pub mod Paths

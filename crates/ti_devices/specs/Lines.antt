@@ -22,6 +22,12 @@ pub record Splits (bytes : List ℕ) (lines : List (List ℕ)) (rest : List ℕ)
   pub each : AllByRecursion IsOneLine lines
   pub partial : IsOneLine rest
 
+-- of the bytes these lines are complete, each within the limit, and this is the front of a further
+-- line
+pub record HasLines (limit : ℕ) (taken : List ℕ) (lines : List (List ℕ)) (line : List ℕ) : Type 0 where
+  pub split : Splits taken lines line
+  pub short : AllByRecursion (IsWithin limit) lines
+
 -- a last line without newline counts, unless it is empty
 abbrev pub with_last : List (List ℕ) → List ℕ → List (List ℕ)
 with_last lines [] = lines

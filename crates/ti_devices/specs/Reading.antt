@@ -1,13 +1,13 @@
 -- Bytes read from a device (own).
-use Rattle.std.specs.Prelude.{◌≡◌, ℕ, ◌+◌, ◌≤◌, List, length, take, Result, Ok, Err}
+use Rattle.std.specs.Prelude.{◌≡◌, ℕ, ◌+◌, ◌≤◌, List, length, take, Result, Ok, Err, ◌⊎◌}
 use Rattle.std.specs.Io.KnownBytes.{Consumes, IsAtEnd, Keeps}
 use Rattle.ti_devices.specs.Counted.{Observed}
 use Rattle.ti_devices.specs.declared.tool_error.ToolError.{ToolError}
 use Rattle.ti_devices.specs.declared.tool_error.ToolError.TheVariants.{ReadFault}
 
--- the most bytes that are asked for at a time
-abbrev pub read_bytes_max : ℕ
-read_bytes_max = 4096
+-- the greatest number of reads of a run over lines
+abbrev pub reads_max : ℕ
+reads_max = 4294967296
 
 -- the reader gave these bytes, and did not fail
 pub record Gives (given left : Observed) (taken : List ℕ) : Type 0 where
@@ -18,6 +18,11 @@ pub record Gives (given left : Observed) (taken : List ℕ) : Type 0 where
 pub record FailsOnce (given left : Observed) : Type 0 where
   pub bytes : Keeps given.bytes left.bytes
   pub failures : left.failures ≡ given.failures + 1
+
+-- the reader failed once, or it did not and has been read from as often as it may be
+abbrev pub CannotReadOn : Observed → Observed → Type 0
+CannotReadOn given left =
+    (left.failures ≡ given.failures + 1) ⊎ ((left.failures ≡ given.failures) × (left.reads ≡ given.reads + reads_max))
 
 -- One read gave the front of a piece, and no byte only at the end; or it failed.
 abbrev pub ReadsOnce : Observed → Observed → List ℕ → Result ℕ ToolError → Type 0

@@ -6,9 +6,9 @@
 //!   such a count, which only contracts see
 //! - `reading` and `writing`: bytes read as they come, and bytes written to their end
 //! - `buffer`: bytes with a limit, for which the room was made at the start
-//! - `line_reader`: lines read one at a time, with a limit on their length and on the reads;
-//!   `read_ahead` holds what was read and not used yet. `laws`: bytes are cut into lines in only
-//!   one way
+//! - `interpreter`: the lines of an input answered one after another. `line_reader` reads them, with
+//!   a limit on their length and on the reads; `read_ahead` holds what was read and not used yet.
+//!   `laws`: bytes are cut into lines in only one way
 //! - `paths`: the paths of entries below a directory; `searching`: the directories in which an
 //!   entry is looked for, its file, and the entry in it
 //! - `tree`: what a tree of files is; `memory_tree` is one in memory, and `placing` writes files
@@ -17,6 +17,7 @@
 
 mod buffer;
 mod counted;
+mod interpreter;
 mod laws;
 mod line_reader;
 mod memory_tree;
@@ -32,12 +33,12 @@ mod writing;
 
 pub use buffer::Buffer;
 pub use counted::Counted;
+pub use interpreter::{Interpreter, answer_lines};
 pub use laws::one_split;
-pub use line_reader::{LineReader, Next, READS_MAX};
+pub use line_reader::READS_MAX;
 pub use memory_tree::MemTree;
 pub use paths::entry_path;
 pub use placing::{File, place};
-pub use reading::read_piece;
 pub use searching::{SYSTEM_DIRECTORY, entry, locate, places};
 pub use tally::Tally;
 pub use tool_error::ToolError;

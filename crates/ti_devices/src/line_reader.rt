@@ -60,8 +60,9 @@ fn extend(line: &mut Buffer, more: &[u8]) -> Result<(), ToolError>
 }
 
 impl LineReader {
-    ghost use Rattle.ti_devices.specs.inside.LineReader.{Refills, TakesLine};
-    ghost use Rattle.ti_devices.specs.LineReader.{Advances, ReadsLine, SpendsReads, ahead_of, line_limit_of, last_line_of, reads_left_of, reads_max};
+    ghost use Rattle.ti_devices.specs.inside.LineReader.{Refills, TakesLine, Advances, ReadsLine, SpendsReads, ahead_of};
+    ghost use Rattle.ti_devices.specs.inside.LineReader.{line_limit_of, last_line_of, reads_left_of};
+    ghost use Rattle.ti_devices.specs.Reading.{reads_max};
 
     /// A reader of lines of at most `limit` bytes, counted without their newline. Nothing is read
     /// yet.

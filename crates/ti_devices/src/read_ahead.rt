@@ -1,8 +1,7 @@
 //! Bytes that were read at once and are used one after another.
 ghost use Rattle.std.specs.Prelude.{◌≡◌, ◌+◌, ◌-◌, ◌≤◌, [], ℕ, List, drop, length, take};
 ghost use Rattle.ti_devices.specs.Counted.{observation, reads_of};
-ghost use Rattle.ti_devices.specs.Reading.{read_bytes_max};
-ghost use Rattle.ti_devices.specs.inside.Reading.{Refill};
+ghost use Rattle.ti_devices.specs.inside.Reading.{Refill, read_bytes_max};
 
 use crate::counted::Counted;
 use crate::reading::read_piece;
@@ -23,7 +22,7 @@ pub struct ReadAhead {
 
 impl Model for ReadAhead {
     ghost use Rattle.std.specs.Prelude.{◌-◌, ◌≤◌, ℕ, List, drop, take};
-    ghost use Rattle.ti_devices.specs.Reading.{read_bytes_max};
+    ghost use Rattle.ti_devices.specs.inside.Reading.{read_bytes_max};
 
     ghost Value = { List ℕ };
 

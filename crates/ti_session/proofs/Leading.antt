@@ -1,5 +1,6 @@
 -- What a dialogue holds before and after a line, and what the line leads to.
-use Rattle.std.proofs.Common.{◌≡◌, ℕ, zero, suc, ◌<◌, List, [], ◌∷◌, ◌++◌, length, take, Option, Some, None, Result, Ok, Bool, true, false, refl, sym, ap, ◌∙◌, subst, arith, codes, inl, inr}
+use Rattle.std.proofs.Common.{◌≡◌, ℕ, zero, suc, ◌<◌, List, [], ◌∷◌, ◌++◌, length, take, Option, Some, None, Result, Ok}
+use Rattle.std.proofs.Common.{Bool, true, false, refl, sym, ap, ◌∙◌, subst, arith, codes, inl, inr}
 use Rattle.std.specs.Prelude.{bytes_eq, if◌then◌else◌}
 use Rattle.std.proofs.lemmas.List.{length-take-le, take_all, append_assoc}
 use native.Mathlib.Decide.{dec_le}
@@ -22,7 +23,8 @@ use Rattle.ti_devices.specs.Lines.{with_newline}
 use Rattle.ti_devices.specs.Writing.{Wrote}
 use Rattle.ti_session.specs.inside.Replies.{CarriesOut, WroteReport}
 use Rattle.ti_session.specs.inside.Requests.{mode_of, opened_change, opened_mode}
-use Rattle.ti_session.specs.Script.{AnswersCommand, Command, EditsSource, LineLeads, Meaning, ScriptMode, Shows, Source, SessionState, meaning_outside, asks, edits, goes_on, meaning_in, outcome_text, outside, print_reply, prints, rebuilds, reports, source, state}
+use Rattle.ti_session.specs.Script.{AnswersCommand, Command, EditsSource, LineLeads, Meaning, ScriptMode, Shows, Source, SessionState, meaning_outside, asks}
+use Rattle.ti_session.specs.Script.{edits, goes_on, meaning_in, outcome_text, outside, print_reply, prints, rebuilds, reports, source, state}
 use Rattle.ti_devices.proofs.Written.{TakesAll-none}
 
 -- ---- a block of which only the front is held
@@ -207,6 +209,7 @@ pub CarriesOut-of_front : (opened : Opened) (text : List ℕ) (limit : ℕ) (sou
 CarriesOut-of_front opened text limit source change next before now result room is carried =
     record {
       outcome = carried.outcome;
-      edited = EditsSource-of_front opened source next text limit carried.outcome room (subst (λ (x : Change). EditsSource source x carried.outcome next) is carried.edited);
+      edited = EditsSource-of_front opened source next text limit carried.outcome room
+          (subst (λ (x : Change). EditsSource source x carried.outcome next) is carried.edited);
       wrote = carried.wrote;
     }

@@ -1,5 +1,4 @@
 pub mod Ending
 pub mod Leading
-pub mod Running
 pub mod Printed
 pub mod OneOutput

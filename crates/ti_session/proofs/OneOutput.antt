@@ -7,7 +7,8 @@ use Rattle.ti_meaning.specs.declared.edits.Outcome.TheVariants.{Accepted, Refuse
 use Rattle.ti_session.specs.ScriptLaws.{OneAnswer, OneOutput, DifferAtMemory, SaysMemory}
 use Rattle.ti_devices.proofs.CutLines.{one_split-law}
 use Rattle.ti_devices.specs.Lines.{with_last}
-use Rattle.ti_session.specs.Script.{AnswersCommand, ScriptMode, Runs, Shows, Source, SessionState, asks, closing_reply, edits, goes_on, meaning_in, outcome_text, outside, prints, rebuilds, refused_text, reports, source, session_start, state, nothing_known}
+use Rattle.ti_session.specs.Script.{AnswersCommand, ScriptMode, Runs, Shows, Source, SessionState, asks, closing_reply, edits, goes_on, meaning_in}
+use Rattle.ti_session.specs.Script.{outcome_text, outside, prints, rebuilds, refused_text, reports, source, session_start, state, nothing_known}
 use Rattle.ti_meaning.proofs.ExchangeLaws.{one_rebuilt}
 
 -- ---- answers
@@ -69,8 +70,10 @@ edits-one source after other reply answer change a b x y =
       | inl memory ↦ inl (x.2 ∙ ap outcome_text memory)
       | inr (inl memory) ↦ inr (inl (y.2 ∙ ap outcome_text memory))
       | inr (inr same) ↦
-          let shows : Shows source.texts change y.0 source.rebuilt after.source.rebuilt = subst (λ (o : Outcome). Shows source.texts change o source.rebuilt after.source.rebuilt) same.0 x.1.shows in
-          let rebuilt : after.source.rebuilt ≡ other.source.rebuilt = Shows-one source.texts change y.0 source.rebuilt after.source.rebuilt other.source.rebuilt shows y.1.shows in
+          let shows : Shows source.texts change y.0 source.rebuilt after.source.rebuilt = subst
+          (λ (o : Outcome). Shows source.texts change o source.rebuilt after.source.rebuilt) same.0 x.1.shows in
+          let rebuilt : after.source.rebuilt ≡ other.source.rebuilt = Shows-one source.texts change y.0 source.rebuilt after.source.rebuilt
+          other.source.rebuilt shows y.1.shows in
           inr (inr (Leads-same after other a b (Source-same after.source other.source same.1 rebuilt), x.2 ∙ ap outcome_text same.0 ∙ sym y.2))
     ]
 

@@ -31,7 +31,8 @@ hex_of-parts front piece later bytes is =
 
 -- ---- positions
 
-pub places_text-some : (places others : List ℕ) (first : ℕ) → places ≡ first ∷ others → places_text places ≡ decimal first ++ (flat_map next_place others ++ 10 ∷ [])
+pub places_text-some : (places others : List ℕ) (first : ℕ) → places ≡ first ∷ others
+    → places_text places ≡ decimal first ++ (flat_map next_place others ++ 10 ∷ [])
 places_text-some places others first is = ap places_text is ∙ append_assoc (decimal first) (flat_map next_place others) (10 ∷ [])
 
 -- the positions before one, and all of them

@@ -12,6 +12,7 @@ use Rattle.ti_meaning.specs.declared.edits.EditError.{EditError}
 use Rattle.ti_meaning.specs.declared.edits.EditError.TheVariants.{Position, TooLong, NotOneBlock, TooMany, Memory}
 use Rattle.ti_meaning.specs.declared.edits.Outcome.{Outcome}
 use Rattle.ti_meaning.specs.declared.edits.Outcome.TheVariants.{Accepted, Refused}
+use Rattle.ti_devices.specs.Answering.{LinesLead}
 use Rattle.ti_devices.specs.Lines.{IsWithin, Splits, with_last, with_newline}
 use Rattle.ti_session.specs.Replies.{places_text}
 
@@ -189,12 +190,13 @@ abbrev pub LineLeads : Meaning → SessionState → SessionState → List ℕ �
 LineLeads (goes_on mode) before after reply = (after ≡ state before.source mode) × (reply ≡ [])
 LineLeads (asks command) before after reply = (after.mode ≡ outside) × AnswersCommand before.source command after.source reply
 
+-- a line leads from one state to another, with its reply
+abbrev pub line_leads : SessionState → List ℕ → SessionState → List ℕ → Type 0
+line_leads before line after reply = LineLeads (meaning_in before.mode line) before after reply
+
 -- lines lead from one state to another, with their replies in order
 abbrev pub Runs : List (List ℕ) → SessionState → SessionState → List ℕ → Type 0
-Runs [] before after output = (after ≡ before) × (output ≡ [])
-Runs (line ∷ lines) before after output =
-    (next : SessionState) × (reply : List ℕ) × (later : List ℕ)
-    × LineLeads (meaning_in before.mode line) before next reply × Runs lines next after later × (output ≡ reply ++ later)
+Runs lines before after output = LinesLead line_leads lines before after output
 
 -- the answer to a script that ends inside a block
 abbrev pub closing_reply : ScriptMode → List ℕ

@@ -12,7 +12,7 @@ use crate::requests::{Opened, Request, read_request};
 use std::alloc::{AllocError, Global};
 use std::io::Write;
 use ti_base::{Database, Edit, EditError};
-use ti_devices::{Buffer, Counted, ToolError, write_out};
+use ti_devices::{Buffer, Counted, Interpreter, ToolError, write_out};
 use ti_text::limits::BLOCK_BYTES_MAX;
 
 // How many bytes of a block are held: one more than a block may have.
@@ -85,7 +85,7 @@ fn report<W: Write>(database: &Database, writer: &mut Counted<W>) -> Result<(), 
 
 impl Editor {
     ghost use Rattle.ti_session.specs.inside.Editor.{HasState, ActsOn};
-    ghost use Rattle.ti_session.specs.Script.{SessionState, meaning_outside, closing_reply, meaning_in, outside, session_start};
+    ghost use Rattle.ti_session.specs.Script.{SessionState, meaning_outside, closing_reply, outside, session_start};
 
     /// A source without blocks, with room for a block.
     ///
@@ -165,31 +165,6 @@ impl Editor {
         carry_out(&mut self.database, &mut self.rebuilt, &edit, writer)
     }
 
-    /// Takes a line, and writes its reply.
-    ///
-    /// # Errors
-    /// `WriteFault` if the writer fails.
-    pub fn take_line<W: Write>(
-        &mut self,
-        line: &[u8],
-        writer: &mut Counted<W>,
-    ) -> Result<(), ToolError>
-        ensures { (state : SessionState) → HasState self.old state
-            → ActsOn (meaning_in state.mode line.now) state self.new
-            (observation W.contents writer.old)
-            (observation W.contents writer.new) result }
-    {
-        let Some(opened) = self.opened else {
-            return self.take_request(line, writer);
-        };
-        if line == b".".as_slice() {
-            return self.end_block(opened, writer);
-        }
-        self.block.add(line);
-        self.block.add(b"\n");
-        Ok(())
-    }
-
     /// Writes the answer to a script that ends here.
     ///
     /// # Errors
@@ -204,5 +179,34 @@ impl Editor {
             return Ok(());
         }
         write_out(writer, b"unfinished\n")
+    }
+}
+
+impl Interpreter for Editor {
+    ghost use Rattle.ti_session.specs.inside.Editor.{HasState};
+    ghost use Rattle.ti_session.specs.Script.{SessionState, line_leads};
+
+    ghost State = { SessionState };
+
+    ghost holds = { HasState };
+
+    ghost leads = { line_leads };
+
+    ghost may_run_out = { ⊥ };
+
+    fn take_line<W: Write>(
+        &mut self,
+        line: &[u8],
+        writer: &mut Counted<W>,
+    ) -> Result<(), ToolError> {
+        let Some(opened) = self.opened else {
+            return self.take_request(line, writer);
+        };
+        if line == b".".as_slice() {
+            return self.end_block(opened, writer);
+        }
+        self.block.add(line);
+        self.block.add(b"\n");
+        Ok(())
     }
 }

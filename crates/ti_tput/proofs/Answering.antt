@@ -1,10 +1,12 @@
 -- What is computed of a command is what the relations say of it, and nothing else.
-use Rattle.std.proofs.Common.{◌≡◌, ℕ, Bool, true, false, List, [], ◌∷◌, length, Option, Some, None, Result, Ok, Err, refl, sym, ap, subst, ◌∙◌, cond, bytes_eq, ltb, arith}
+use Rattle.std.proofs.Common.{◌≡◌, ℕ, Bool, true, false, List, [], ◌∷◌, length, Option, Some, None, Result, Ok}
+use Rattle.std.proofs.Common.{Err, refl, sym, ap, subst, ◌∙◌, cond, bytes_eq, ltb, arith}
 use Rattle.std.specs.Prelude.{codes, ℤ}
 use Rattle.std.proofs.lemmas.Bool.{lt-ltb, ltb-true, ltb-false}
 use Rattle.ti_text.specs.Lists.{both_lists}
 use Rattle.ti_devices.specs.declared.tool_error.ToolError.{ToolError}
-use Rattle.ti_devices.specs.declared.tool_error.ToolError.TheVariants.{Usage, NoTerminal, BadEntry, ReadFault, WriteFault, LineTooLong, BlockTooLong, TooManyBlocks, Memory}
+use Rattle.ti_devices.specs.declared.tool_error.ToolError.TheVariants.{Usage, NoTerminal, BadEntry, ReadFault, WriteFault}
+use Rattle.ti_devices.specs.declared.tool_error.ToolError.TheVariants.{LineTooLong, BlockTooLong, TooManyBlocks, Memory}
 use Rattle.ti_layout.specs.View.{Entry}
 use Rattle.ti_param.specs.Expansion.{Expands, Overflows}
 use Rattle.ti_param.specs.Formats.{IsStuck}
@@ -19,13 +21,14 @@ use Rattle.ti_printing.proofs.Cuts.{padded_is, too_much_computed}
 use Rattle.ti_tput.specs.Commands.{AnswersCommand}
 use Rattle.ti_tput.specs.Entries.{Holding, flag_held, number_held, text_held, holding_of, line_at_rate}
 use Rattle.ti_tput.specs.Parameters.{parameters}
-use Rattle.ti_tput.specs.Results.{Reply, reply, init_strings, long_name, reset_strings, IsSent, Sends, sent, refused, AnswersString, as_it_stands, by_expansion, by_fault, by_overflow}
+use Rattle.ti_tput.specs.Results.{Reply, reply, init_strings, long_name, reset_strings, IsSent, Sends, sent, refused}
+use Rattle.ti_tput.specs.Results.{AnswersString, as_it_stands, by_expansion, by_fault, by_overflow}
 use Rattle.ti_tput.specs.Results.{AreSent, no_string, absent, present, OneAsksForTooMuch, at_first, later, SendsAll, all_sent, one_refused, AnswersHolding}
 use Rattle.ti_tput.specs.Results.{AnswersName, of_longname, of_init, of_reset, of_capability, Answers, no_word, too_many, answered, HasOneAnswer}
-use Rattle.ti_tput.specs.Runs.{RunState, TakesWords, no_words, of_command, TakesLines, no_lines, then_lines, words_of, BadCommandsChangeNothing}
+use Rattle.ti_tput.specs.Runs.{RunState, TakesWords, no_words, of_command, BadCommandsChangeNothing}
 use Rattle.ti_tput.specs.inside.Commands.{AnswersWords}
 use Rattle.ti_tput.specs.inside.Results.{padded_text, sent_reply, expansion_reply, string_reply, padded_texts, holding_reply, named_reply, tput_result}
-use Rattle.ti_tput.specs.inside.Runs.{command_step, line_step, steps}
+use Rattle.ti_tput.specs.inside.Runs.{command_step}
 use Rattle.ti_tput.specs.declared.replies.TputOutcome.{TputOutcome}
 use Rattle.ti_tput.proofs.Expanded.{expands_computed, overflows_computed, stuck_computed}
 use Rattle.ti_tput.proofs.Padded.{padded_text-some, padded_text-none}
@@ -39,7 +42,8 @@ PaddedSo line text (Some bytes) = IsSent line text bytes
 
 padded_so : (line : Line) (text : List ℕ) → PaddedSo line text (padded_text line text)
 padded_so line text =
-    elim (ltb 65536 (padding_of text 1 line)) as (λ b. ltb 65536 (padding_of text 1 line) ≡ b → PaddedSo line text (cond b None (Some (with_pad_bytes text 1 line)))) [
+    elim (ltb 65536 (padding_of text 1 line)) as (λ b. ltb 65536 (padding_of text 1 line) ≡ b
+    → PaddedSo line text (cond b None (Some (with_pad_bytes text 1 line)))) [
       | true ↦ λ e. (too_much_computed text 1 line).1 (ltb-true _ _ e)
       | false ↦ λ e. record {
         padded = padded_is text 1 line _ refl;
@@ -47,7 +51,8 @@ padded_so line text =
       }
     ] refl
 
-sends : (line : Line) (text : List ℕ) (before after : List ℤ) (o : Option (List ℕ)) → PaddedSo line text o → Sends line text before after (sent_reply o before after)
+sends : (line : Line) (text : List ℕ) (before after : List ℤ) (o : Option (List ℕ)) → PaddedSo line text o
+    → Sends line text before after (sent_reply o before after)
 sends line text before after None asks = refused asks
 sends line text before after (Some bytes) is = sent is
 
@@ -63,11 +68,13 @@ ExpansionSo text arguments statics (expanded output after) = Expands text argume
 ExpansionSo text arguments statics (bad_format place) = IsStuck text place
 ExpansionSo text arguments statics (stack_full place) = Overflows text arguments statics place
 
-expansion_so : (text : List ℕ) (arguments : List FormatArgument) (statics : List ℤ) → ExpansionSo text arguments statics (format_expansion text arguments statics)
+expansion_so : (text : List ℕ) (arguments : List FormatArgument) (statics : List ℤ)
+    → ExpansionSo text arguments statics (format_expansion text arguments statics)
 unfolding format_expansion
 expansion_so text arguments statics = by_stuck (stuck_place text) refl
   where
-    ran : stuck_place text ≡ None → (o : MachineOutcome) → meaning (tree_of text) (start arguments statics) ≡ o → ExpansionSo text arguments statics (expansion_by o)
+    ran : stuck_place text ≡ None → (o : MachineOutcome) → meaning (tree_of text) (start arguments statics) ≡ o
+        → ExpansionSo text arguments statics (expansion_by o)
     ran none (Ok final) is = record {
       tree = tree_of text;
       is_tree = ((is_computed text).tree (tree_of text)).1 (none, refl);
@@ -88,7 +95,8 @@ string_so line cap [] statics text = as_it_stands (sends line text statics stati
 string_so line cap (word ∷ words) statics text =
     of_expansion (format_expansion text (parameters cap (word ∷ words)) statics) (expansion_so text (parameters cap (word ∷ words)) statics)
   where
-    of_expansion : (e : Expansion) → ExpansionSo text (parameters cap (word ∷ words)) statics e → AnswersString line cap (word ∷ words) statics text (expansion_reply line statics e)
+    of_expansion : (e : Expansion) → ExpansionSo text (parameters cap (word ∷ words)) statics e
+        → AnswersString line cap (word ∷ words) statics text (expansion_reply line statics e)
     of_expansion (expanded output after) h = by_expansion h (sends line output statics after (padded_text line output) (padded_so line output))
     of_expansion (bad_format place) h = by_fault h
     of_expansion (stack_full place) h = by_overflow h
@@ -141,7 +149,8 @@ one_computed line _ (at_first {text} {texts} asks) = ap (λ o. both_lists o (pad
 one_computed line (None ∷ texts) (later one) = one_computed line texts one
 one_computed line (Some text ∷ texts) (later one) = both_none (padded_text line text) ∙ ap (both_lists (padded_text line text)) (one_computed line texts one)
 
-sends_all : (line : Line) (texts : List (Option (List ℕ))) (statics : List ℤ) (o : Option (List ℕ)) → TextsSo line texts o → SendsAll line texts statics (sent_reply o statics statics)
+sends_all : (line : Line) (texts : List (Option (List ℕ))) (statics : List ℤ) (o : Option (List ℕ)) → TextsSo line texts o
+    → SendsAll line texts statics (sent_reply o statics statics)
 sends_all line texts statics None one = one_refused one
 sends_all line texts statics (Some bytes) all = all_sent all
 
@@ -155,7 +164,8 @@ all_computed line texts statics _ (one_refused one) = ap (λ o. sent_reply o sta
 
 -- ---- a capability, a name, a command
 
-holding_so : (line : Line) (cap : List ℕ) (words : List (List ℕ)) (statics : List ℤ) (h : Option Holding) → AnswersHolding line cap words statics h (holding_reply line cap words statics h)
+holding_so : (line : Line) (cap : List ℕ) (words : List (List ℕ)) (statics : List ℤ) (h : Option Holding)
+    → AnswersHolding line cap words statics h (holding_reply line cap words statics h)
 holding_so line cap words statics None = refl
 holding_so line cap words statics (Some (flag_held set)) = refl
 holding_so line cap words statics (Some (number_held n)) = refl
@@ -183,12 +193,14 @@ module _ (entry : Entry) (rate : ℕ) (cap : List ℕ) (words : List (List ℕ))
   reset_so false long init reset = of_capability long init reset (holding_so (line_at_rate entry rate) cap words statics (holding_of entry cap))
 
   init_so : (b : Bool) → bytes_eq cap (codes "longname") ≡ false → bytes_eq cap (codes "init") ≡ b →
-      AnswersName entry rate cap words statics (cond b (of_strings (init_strings entry)) (cond (bytes_eq cap (codes "reset")) (of_strings (reset_strings entry)) of_cap))
+      AnswersName entry rate cap words statics (cond b (of_strings (init_strings entry))
+      (cond (bytes_eq cap (codes "reset")) (of_strings (reset_strings entry)) of_cap))
   init_so true long init = of_init long init (all_so (line_at_rate entry rate) (init_strings entry) statics)
   init_so false long init = reset_so (bytes_eq cap (codes "reset")) long init refl
 
   long_so : (b : Bool) → bytes_eq cap (codes "longname") ≡ b →
-      AnswersName entry rate cap words statics (cond b (reply (long_name entry.names) 0 statics) (cond (bytes_eq cap (codes "init")) (of_strings (init_strings entry))
+      AnswersName entry rate cap words statics (cond b (reply (long_name entry.names) 0 statics)
+      (cond (bytes_eq cap (codes "init")) (of_strings (init_strings entry))
       (cond (bytes_eq cap (codes "reset")) (of_strings (reset_strings entry)) of_cap)))
   long_so true long = of_longname long
   long_so false long = init_so (bytes_eq cap (codes "init")) long refl
@@ -209,7 +221,8 @@ pub result_so : (entry : Entry) (rate : ℕ) (statics : List ℤ) (words : List 
 unfolding tput_result
 result_so entry rate statics [] = no_word
 result_so entry rate statics (cap ∷ words) =
-    elim (ltb 9 (length words)) as (λ b. ltb 9 (length words) ≡ b → Answers entry rate statics (cap ∷ words) (cond b None (Some (named_reply entry rate cap words statics)))) [
+    elim (ltb 9 (length words)) as (λ b. ltb 9 (length words) ≡ b
+    → Answers entry rate statics (cap ∷ words) (cond b None (Some (named_reply entry rate cap words statics)))) [
       | true ↦ λ e. too_many (ltb-true _ _ e)
       | false ↦ λ e. answered (ltb-false _ _ e) (name_so entry rate cap words statics)
     ] refl
@@ -234,7 +247,8 @@ one_answer entry rate statics words = record {
 }
 
 pub bad_commands : BadCommandsChangeNothing
-bad_commands entry words rate statics answer is four = bad-leaves entry words rate statics answer (sym (result_computed entry rate statics words (Some answer) is)) four
+bad_commands entry words rate statics answer is four = bad-leaves entry words rate statics answer
+    (sym (result_computed entry rate statics words (Some answer) is)) four
 
 -- ---- the answer to a command, and what comes of lines
 
@@ -244,7 +258,8 @@ command_answered entry rate statics after words (Ok outcome) is = (after, subst 
 command_answered entry rate statics after words (Err Usage) is = subst (Answers entry rate statics words) is (result_so entry rate statics words)
 command_answered entry rate statics after words (Err Memory) is = some (tput_result entry words rate statics) refl is
   where
-    some : (o : Option Reply) → tput_result entry words rate statics ≡ o → AnswersWords (Err Memory) after o → (answer : Reply) × Answers entry rate statics words (Some answer)
+    some : (o : Option Reply) → tput_result entry words rate statics ≡ o → AnswersWords (Err Memory) after o
+        → (answer : Reply) × Answers entry rate statics words (Some answer)
     some None e h = absurd (cc h)
     some (Some answer) e h = (answer, subst (Answers entry rate statics words) e (result_so entry rate statics words))
 command_answered entry rate statics after words (Err NoTerminal) is = absurd is
@@ -255,12 +270,7 @@ command_answered entry rate statics after words (Err LineTooLong) is = absurd is
 command_answered entry rate statics after words (Err (BlockTooLong n)) is = absurd is
 command_answered entry rate statics after words (Err TooManyBlocks) is = absurd is
 
-words_taken : (entry : Entry) (rate : ℕ) (state : RunState) (words : List (List ℕ)) → TakesWords entry rate state words (command_step entry rate state words)
+pub words_taken : (entry : Entry) (rate : ℕ) (state : RunState) (words : List (List ℕ))
+    → TakesWords entry rate state words (command_step entry rate state words)
 words_taken entry rate state [] = no_words
 words_taken entry rate state (word ∷ words) = of_command (result_so entry rate state.statics (word ∷ words))
-
-pub steps_taken : (entry : Entry) (rate : ℕ) (state : RunState) (lines : List (List ℕ)) → TakesLines entry rate state lines (steps entry rate state lines)
-unfolding steps
-steps_taken entry rate state [] = no_lines
-steps_taken entry rate state (line ∷ lines) =
-    then_lines (words_taken entry rate state (words_of line)) (steps_taken entry rate (line_step entry rate state line).after lines)

@@ -7,5 +7,6 @@ use Rattle.ti_tput.specs.Results.{init_strings}
 use Rattle.ti_tput.specs.inside.Results.{named_reply, padded_texts, sent_reply}
 
 pub named_reply-init : (entry : Entry) (rate : ℕ) (cap : List ℕ) (words : List (List ℕ)) (statics : List ℤ) → bytes_eq cap (codes "longname") ≡ false
-    → bytes_eq cap (codes "init") ≡ true → named_reply entry rate cap words statics ≡ sent_reply (padded_texts (line_at_rate entry rate) (init_strings entry)) statics statics
+    → bytes_eq cap (codes "init") ≡ true → named_reply entry rate cap words statics ≡ sent_reply
+    (padded_texts (line_at_rate entry rate) (init_strings entry)) statics statics
 named_reply-init entry rate cap words statics a b = rw (a, b)

@@ -1,5 +1,6 @@
 -- What `parse` of a signed number reads, in the words of a command's numbers.
-use Rattle.std.proofs.Common.{◌≡◌, ◌≢◌, ℕ, ◌^◌, ◌<◌, ◌≤◌, Bool, true, false, subst, cond, ◌&&◌, List, [], ◌∷◌, length, Option, Some, None, Result, Ok, Err, refl, sym, ap, eqb, ltb, leb, get_or, arith, rules}
+use Rattle.std.proofs.Common.{◌≡◌, ◌≢◌, ℕ, ◌^◌, ◌<◌, ◌≤◌, Bool, true, false, subst, cond, ◌&&◌, List, [], ◌∷◌, length, Option}
+use Rattle.std.proofs.Common.{Some, None, Result, Ok, Err, refl, sym, ap, eqb, ltb, leb, get_or, arith, rules}
 use Rattle.std.specs.Prelude.{ℤ, pos, neg_ℤ}
 use Rattle.std.specs.Bool.{Decides}
 use Rattle.std.specs.Int.{w32}
@@ -42,8 +43,10 @@ spelled-parse [] (Ok x) h plus = absurd (omega (arith, h.0.0))
 spelled-parse [] (Err e) h plus = refl
 spelled-parse (byte ∷ rest) r h plus =
     elim (eqb byte 45) as (λ b. eqb byte 45 ≡ b → result_ok r ≡ cond b (negative_number rest) (positive_number (byte ∷ rest))) [
-      | true ↦ λ e. ok_when r _ _ _ (fits rest _ _ (Decides-leb (digits_value 10 rest) (2 ^ 31))) (parse_signed_minus own w32 (byte ∷ rest) r h (eqb-true _ _ e))
-      | false ↦ λ e. ok_when r _ _ _ (fits (byte ∷ rest) _ _ (Decides-ltb (digits_value 10 (byte ∷ rest)) (2 ^ 31))) (parse_signed_plain own w32 (byte ∷ rest) r h plus (eqb-false _ _ e))
+      | true ↦ λ e. ok_when r _ _ _ (fits rest _ _ (Decides-leb (digits_value 10 rest) (2 ^ 31)))
+          (parse_signed_minus own w32 (byte ∷ rest) r h (eqb-true _ _ e))
+      | false ↦ λ e. ok_when r _ _ _ (fits (byte ∷ rest) _ _ (Decides-ltb (digits_value 10 (byte ∷ rest)) (2 ^ 31)))
+          (parse_signed_plain own w32 (byte ∷ rest) r h plus (eqb-false _ _ e))
     ] refl
 
 none_by : (b : Bool) (x : Option ℤ) → (b ≡ true → ⊥) → cond b x None ≡ None

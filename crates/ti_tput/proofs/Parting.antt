@@ -1,5 +1,6 @@
 -- The words of a text, from the left.
-use Rattle.std.proofs.Common.{◌≡◌, ℕ, suc, ◌+◌, ◌-◌, ◌<◌, ◌≤◌, Bool, true, false, not, cond, List, [], ◌∷◌, ◌++◌, length, take, drop, get_or, map, Some, None, refl, sym, subst, ap, ◌∙◌, ltb, arith, add-zero}
+use Rattle.std.proofs.Common.{◌≡◌, ℕ, suc, ◌+◌, ◌-◌, ◌<◌, ◌≤◌, Bool, true, false, not, cond, List, [], ◌∷◌, ◌++◌, length, take}
+use Rattle.std.proofs.Common.{drop, get_or, map, Some, None, refl, sym, subst, ap, ◌∙◌, ltb, arith, add-zero}
 use Rattle.std.specs.Prelude.{filter, position}
 use Rattle.std.specs.List.{onto_first, position_or_len, slice_split}
 use Rattle.std.proofs.lemmas.Bool.{lt-ltb, not-true, ltb-true, ltb-false}
@@ -120,8 +121,11 @@ module _ (t rest : List ℕ) (n : ℕ) (start : position (λ byte. not (is_white
       → (words_of t ≡ take k rest ∷ words_of (drop k rest)) × (length (drop k rest) < length t)
   words_of-some k e =
       let h = position-some is_white_space rest k e in
-      let long : 0 < length (take (position_or_len is_white_space rest) rest) = front in
-      (rw (← h.0) words, shorter k (let at : position_or_len is_white_space rest ≡ k = h.0 in omega (arith, length-take (position_or_len is_white_space rest) rest)))
+      let long : 0 < length (take (position_or_len is_white_space rest) rest) = front in (
+        rw (← h.0) words,
+        shorter k (let at : position_or_len is_white_space rest ≡ k = h.0 in
+            omega (arith, length-take (position_or_len is_white_space rest) rest)),
+      )
 
   pub words_of-last : position is_white_space rest ≡ None → (words_of t ≡ rest ∷ words_of []) × (0 < length t)
   words_of-last e =

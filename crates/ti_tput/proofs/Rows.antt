@@ -9,7 +9,7 @@ use Rattle.ti_param.specs.Meaning.{number, text}
 use Rattle.ti_layout.specs.View.{Entry}
 use Rattle.ti_tput.specs.Entries.{holding_of}
 use Rattle.ti_tput.specs.Parameters.{word_number, parameters}
-use Rattle.ti_tput.specs.Results.{reply}
+use Rattle.ti_tput.specs.Results.{bad_reply, reply}
 use Rattle.ti_tput.specs.inside.Results.{tput_result}
 
 pub row-number : word_number (codes "23") ≡ Some (pos 23)
@@ -56,7 +56,7 @@ row-longname : tput_result dumb (codes "longname" ∷ []) 0 (replicate 26 (pos 0
 unfolding tput_result dumb
 row-longname = refl
 
-row-zz : tput_result dumb (codes "zz" ∷ []) 0 (replicate 26 (pos 0)) ≡ Some (reply [] 4 (replicate 26 (pos 0)))
+row-zz : tput_result dumb (codes "zz" ∷ []) 0 (replicate 26 (pos 0)) ≡ Some (bad_reply (replicate 26 (pos 0)))
 unfolding tput_result dumb holding_of capability_named names flag_names number_names text_names
 row-zz = refl
 

@@ -4,7 +4,7 @@ use Rattle.std.specs.Prelude.{min, ℤ}
 use Rattle.ti_layout.specs.View.{Entry, shown_entry}
 use Rattle.ti_tput.specs.Entries.{line_at_rate}
 use Rattle.ti_tput.specs.Replies.{reply_of}
-use Rattle.ti_tput.specs.Results.{Reply}
+use Rattle.ti_tput.specs.Results.{Reply, bad_status}
 use Rattle.ti_tput.specs.inside.Results.{tput_result}
 use Rattle.ti_tput.specs.Runs.{RunState, LineStep, words_of}
 use Rattle.ti_tput.specs.inside.Runs.{line_step, words_seen}
@@ -44,7 +44,7 @@ module _ (entry : Entry) (rate : ℕ) (state : RunState) (t u : Terminal) (holds
 
   module _ (outcome : TputOutcome) (replied : tput_result (shown_entry t.view) words rate t.statics ≡ Some (reply_of outcome u.statics)) where
     -- a line whose capability is unknown, or its string bad
-    pub HasRunState-bad : outcome.status ≡ 4 → u.bad ≡ min (t.bad + 1) 255
+    pub HasRunState-bad : outcome.status ≡ bad_status → u.bad ≡ min (t.bad + 1) 255
         → HasRunState entry rate u (line_step entry rate state line).after × (outcome.bytes.items ≡ (line_step entry rate state line).bytes)
     HasRunState-bad four more =
         let is = step-bad entry rate state line words front some (reply_of outcome u.statics) (of_course _ replied) four in (
@@ -53,7 +53,7 @@ module _ (entry : Entry) (rate : ℕ) (state : RunState) (t u : Terminal) (holds
         )
 
     -- any other line
-    pub HasRunState-good : outcome.status ≢ 4 → u.bad ≡ t.bad
+    pub HasRunState-good : outcome.status ≢ bad_status → u.bad ≡ t.bad
         → HasRunState entry rate u (line_step entry rate state line).after × (outcome.bytes.items ≡ (line_step entry rate state line).bytes)
     HasRunState-good other same =
         let is = step-good entry rate state line words front some (reply_of outcome u.statics) (of_course _ replied) other in (

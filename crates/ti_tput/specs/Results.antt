@@ -23,6 +23,14 @@ pub record Reply : Type 0 where
 abbrev pub reply : List ℕ → ℕ → List ℤ → Reply
 reply bytes status statics = record { bytes = bytes; status = status; statics = statics }
 
+-- the exit status of a bad command: its capability is unknown, or its string is bad
+abbrev pub bad_status : ℕ
+bad_status = 4
+
+-- the reply to a bad command: nothing is written, and the variables are as before
+abbrev pub bad_reply : List ℤ → Reply
+bad_reply statics = reply [] bad_status statics
+
 -- ---- strings
 
 -- the bytes are the string padded for one line, and its padding is not too much
@@ -31,10 +39,10 @@ pub record IsSent (line : Line) (text bytes : List ℕ) : Type 0 where
   pub few : AsksForTooMuch text 1 line → ⊥
 
 -- A string is written, and the variables are then those after it. A string with too much padding is
--- refused: nothing is written, the status is 4, and the variables are as before.
+-- bad.
 pub data Sends (line : Line) (text : List ℕ) (before after : List ℤ) : Reply → Type 0 where
   sent : {bytes : List ℕ} → IsSent line text bytes → Sends line text before after (reply bytes 0 after)
-  refused : AsksForTooMuch text 1 line → Sends line text before after (reply [] 4 before)
+  refused : AsksForTooMuch text 1 line → Sends line text before after (bad_reply before)
 
 -- a string as it is written if there is no word, else expanded with the words; a fault of the
 -- format is refused as too much padding is
@@ -44,9 +52,9 @@ pub data AnswersString (line : Line) (cap : List ℕ) : List (List ℕ) → (sta
       Expands text (parameters cap (word ∷ words)) statics output after → Sends line output statics after answer →
       AnswersString line cap (word ∷ words) statics text answer
   by_fault : {word : List ℕ} {words : List (List ℕ)} {statics : List ℤ} {text : List ℕ} {place : ℕ} → IsStuck text place →
-      AnswersString line cap (word ∷ words) statics text (reply [] 4 statics)
+      AnswersString line cap (word ∷ words) statics text (bad_reply statics)
   by_overflow : {word : List ℕ} {words : List (List ℕ)} {statics : List ℤ} {text : List ℕ} {place : ℕ} →
-      Overflows text (parameters cap (word ∷ words)) statics place → AnswersString line cap (word ∷ words) statics text (reply [] 4 statics)
+      Overflows text (parameters cap (word ∷ words)) statics place → AnswersString line cap (word ∷ words) statics text (bad_reply statics)
 
 -- the bytes are those of the strings that are present, each padded by itself, in order
 pub data AreSent (line : Line) : List (Option (List ℕ)) → List ℕ → Type 0 where
@@ -63,7 +71,7 @@ pub data OneAsksForTooMuch (line : Line) : List (Option (List ℕ)) → Type 0 w
 -- strings are written, or all are refused if one has too much padding
 pub data SendsAll (line : Line) (texts : List (Option (List ℕ))) (statics : List ℤ) : Reply → Type 0 where
   all_sent : {bytes : List ℕ} → AreSent line texts bytes → SendsAll line texts statics (reply bytes 0 statics)
-  one_refused : OneAsksForTooMuch line texts → SendsAll line texts statics (reply [] 4 statics)
+  one_refused : OneAsksForTooMuch line texts → SendsAll line texts statics (bad_reply statics)
 
 -- the strings that initialize a terminal
 abbrev pub init_strings : Entry → List (Option (List ℕ))
@@ -99,7 +107,7 @@ number_text (Some n) = decimal n ++ ascii.newline ∷ []
 -- what is answered of a capability: nothing is written of a boolean or of a string that is absent,
 -- and the status is then 1
 abbrev pub AnswersHolding : Line → List ℕ → List (List ℕ) → List ℤ → Option Holding → Reply → Type 0
-AnswersHolding line cap words statics None answer = answer ≡ reply [] 4 statics
+AnswersHolding line cap words statics None answer = answer ≡ bad_reply statics
 AnswersHolding line cap words statics (Some (flag_held set)) answer = answer ≡ reply [] (if set then 0 else 1) statics
 AnswersHolding line cap words statics (Some (number_held n)) answer = answer ≡ reply (number_text n) 0 statics
 AnswersHolding line cap words statics (Some (text_held None)) answer = answer ≡ reply [] 1 statics

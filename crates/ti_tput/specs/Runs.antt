@@ -6,7 +6,7 @@ use Rattle.std.specs.List.{slice_split}
 use Rattle.ti_text.specs.WhiteSpace.{is_white_space}
 use Rattle.ti_layout.specs.View.{Entry}
 use Rattle.ti_param.specs.Meaning.{no_variables}
-use Rattle.ti_tput.specs.Results.{Reply, Answers}
+use Rattle.ti_tput.specs.Results.{Reply, Answers, bad_status}
 
 -- ---- words
 
@@ -38,7 +38,7 @@ bad_step state = record { after = record { bad = suc state.bad; statics = state.
 abbrev pub reply_step : RunState → Option Reply → LineStep
 reply_step state None = bad_step state
 reply_step state (Some reply) =
-    if reply.status == 4 then bad_step state
+    if reply.status == bad_status then bad_step state
     else record { after = record { bad = state.bad; statics = reply.statics }; bytes = reply.bytes }
 
 -- what comes of the words of a line: nothing if there is none
@@ -65,11 +65,11 @@ lines_start = record { bad = 0; statics = no_variables }
 -- 0 if no line was bad, else 4 and the count of bad lines, at most 255
 abbrev pub run_status : ℕ → ℕ
 run_status zero = 0
-run_status (suc bad) = min 255 (4 + suc bad)
+run_status (suc bad) = min 255 (bad_status + suc bad)
 
 -- ---- laws
 
 -- a command that would end with status 4 writes nothing, and leaves the variables as they were
 abbrev pub BadCommandsChangeNothing : Type 0
 BadCommandsChangeNothing = (entry : Entry) (words : List (List ℕ)) (rate : ℕ) (statics : List ℤ) (reply : Reply)
-    → Answers entry rate statics words (Some reply) → reply.status ≡ 4 → (reply.bytes ≡ []) × (reply.statics ≡ statics)
+    → Answers entry rate statics words (Some reply) → reply.status ≡ bad_status → (reply.bytes ≡ []) × (reply.statics ≡ statics)

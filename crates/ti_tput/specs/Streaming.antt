@@ -1,11 +1,10 @@
 -- How a run of `tput -S` over devices ends (own): what it has read, and what it has written.
-use Rattle.std.specs.Prelude.{◌≡◌, ℕ, ◌<◌, List, [], ◌++◌, length, Result, Ok, Err, ◌⊎◌}
-use Rattle.std.specs.List.{AllByRecursion}
+use Rattle.std.specs.Prelude.{◌≡◌, ℕ, ◌<◌, List, ◌++◌, length, Result, Ok, Err}
 use Rattle.std.specs.Io.KnownBytes.{Consumes, IsAtEnd}
+use Rattle.ti_devices.specs.Answering.{AreBegun}
 use Rattle.ti_devices.specs.Counted.{Observed}
-use Rattle.ti_devices.specs.LineReader.{CannotReadOn}
-use Rattle.ti_devices.specs.Lines.{IsWithin, Splits, with_last}
-use Rattle.ti_devices.specs.Reading.{Gives}
+use Rattle.ti_devices.specs.Reading.{CannotReadOn, Gives}
+use Rattle.ti_devices.specs.Lines.{HasLines, IsWithin, with_last}
 use Rattle.ti_devices.specs.Writing.{TakesAll, TakesFront}
 use Rattle.ti_devices.specs.declared.tool_error.ToolError.{ToolError}
 use Rattle.ti_devices.specs.declared.tool_error.ToolError.TheVariants.{ReadFault, WriteFault, LineTooLong, Memory}
@@ -20,12 +19,6 @@ command_line_max = 4096
 abbrev pub IsShortCommandLine : List ℕ → Type 0
 IsShortCommandLine line = IsWithin command_line_max line
 
--- of the bytes these lines are complete, each within the limit, and this is the front of a further
--- line
-pub record HasLines (taken : List ℕ) (lines : List (List ℕ)) (line : List ℕ) : Type 0 where
-  pub split : Splits taken lines line
-  pub short : AllByRecursion IsShortCommandLine lines
-
 -- the input was read to its end, all that its lines write was written, and the status is that of
 -- its lines
 pub record CommandsComplete (entry : Entry) (rate : ℕ) (given left before now : Observed) (status : ℕ) : Type 0 where
@@ -34,7 +27,7 @@ pub record CommandsComplete (entry : Entry) (rate : ℕ) (given left before now 
   pub line : List ℕ
   pub gives : Gives given left input
   pub at_end : IsAtEnd left.bytes
-  pub has_lines : HasLines input lines line
+  pub has_lines : HasLines command_line_max input lines line
   pub short : IsShortCommandLine line
   pub step : LineStep
   pub takes : TakesLines entry rate lines_start (with_last lines line) step
@@ -47,7 +40,7 @@ pub record CommandsStopReading (entry : Entry) (rate : ℕ) (given left before n
   pub lines : List (List ℕ)
   pub line : List ℕ
   pub gives : Consumes given.bytes left.bytes taken
-  pub has_lines : HasLines taken lines line
+  pub has_lines : HasLines command_line_max taken lines line
   pub short : IsShortCommandLine line
   pub step : LineStep
   pub takes : TakesLines entry rate lines_start lines step
@@ -62,7 +55,7 @@ pub record CommandsFindLongLine (entry : Entry) (rate : ℕ) (given left before 
   pub lines : List (List ℕ)
   pub line : List ℕ
   pub gives : Gives given left (taken ++ rest)
-  pub has_lines : HasLines taken lines line
+  pub has_lines : HasLines command_line_max taken lines line
   pub long : command_line_max < length line
   pub step : LineStep
   pub takes : TakesLines entry rate lines_start lines step
@@ -76,18 +69,11 @@ pub record WantsMemory (entry : Entry) (rate : ℕ) (given left before now : Obs
   pub lines : List (List ℕ)
   pub line : List ℕ
   pub gives : Gives given left (taken ++ rest)
-  pub has_lines : HasLines taken lines line
+  pub has_lines : HasLines command_line_max taken lines line
   pub short : IsShortCommandLine line
   pub step : LineStep
   pub takes : TakesLines entry rate lines_start lines step
   pub written : TakesAll before now step.bytes
-
--- the lines of which a run has begun to write: those that are complete, or, if the input has ended,
--- all
-abbrev pub AreBegun : List ℕ → List ℕ → Observed → List (List ℕ) → Type 0
-AreBegun taken rest left begun =
-    ((line : List ℕ) × HasLines taken begun line)
-    ⊎ ((lines : List (List ℕ)) × (line : List ℕ) × HasLines taken lines line × (rest ≡ []) × IsAtEnd left.bytes × (begun ≡ with_last lines line))
 
 -- the writer failed: what these lines write was written up to some byte, and some bytes more were
 -- read
@@ -96,7 +82,7 @@ pub record CommandsStopWriting (entry : Entry) (rate : ℕ) (given left before n
   pub rest : List ℕ
   pub lines : List (List ℕ)
   pub gives : Gives given left (taken ++ rest)
-  pub are_begun : AreBegun taken rest left lines
+  pub are_begun : AreBegun command_line_max taken rest left lines
   pub step : LineStep
   pub takes : TakesLines entry rate lines_start lines step
   pub written : TakesFront before now step.bytes

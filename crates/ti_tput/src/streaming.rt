@@ -1,14 +1,14 @@
 //! The command `tput -S`: reads commands line by line, and writes their output as it comes.
 ghost use Rattle.std.specs.Prelude.{◌+◌, ◌≤◌};
 ghost use Rattle.ti_devices.specs.Counted.{observation, reads_of};
-ghost use Rattle.ti_devices.specs.LineReader.{reads_max};
+ghost use Rattle.ti_devices.specs.Reading.{reads_max};
 ghost use Rattle.ti_layout.specs.View.{shown_entry};
 ghost use Rattle.ti_tput.specs.Streaming.{CommandsEnd};
 
 use crate::terminal::Terminal;
 use std::alloc::Global;
 use std::io::{Read, Write};
-use ti_devices::{Counted, LineReader, Next, ToolError};
+use ti_devices::{Counted, ToolError, answer_lines};
 use ti_layout::View;
 
 // The greatest length of a line, without its newline.
@@ -37,16 +37,7 @@ pub fn tput_lines<R: Read, W: Write>(
         (observation W.contents writer.old) (observation W.contents writer.new) result }
     ensures reads { reads_of reader.new ≤ reads_of reader.old + reads_max }
 {
-    let mut lines = LineReader::new(alloc, LINE_MAX)?;
     let mut terminal = Terminal::new(alloc, view, rate);
-    loop {
-        match lines.read_line(reader)? {
-            Next::Line => terminal.take_line(lines.line(), writer)?,
-            Next::LastLine => {
-                terminal.take_line(lines.line(), writer)?;
-                return Ok(terminal.status());
-            }
-            Next::End => return Ok(terminal.status()),
-        }
-    }
+    answer_lines(alloc, LINE_MAX, &mut terminal, reader, writer)?;
+    Ok(terminal.status())
 }

@@ -1,7 +1,7 @@
 //! A terminal that takes commands line by line, and writes their output.
 ghost use Rattle.std.specs.Prelude.{◌≡◌, ◌==◌, ℕ, IfOk};
-ghost use Rattle.ti_devices.specs.Counted.{observation};
 ghost use Rattle.ti_layout.specs.View.{Entry, shown_entry};
+ghost use Rattle.ti_tput.specs.Results.{bad_status};
 ghost use Rattle.ti_tput.specs.Runs.{RunState, run_status, lines_start};
 ghost use Rattle.ti_tput.specs.inside.Runs.{line_step};
 
@@ -11,7 +11,7 @@ use crate::replies::BAD_COMMAND;
 use crate::words::split_words;
 use std::alloc::{AllocError, Global};
 use std::io::Write;
-use ti_devices::{Counted, ToolError, write_out};
+use ti_devices::{Counted, Interpreter, ToolError, write_out};
 use ti_layout::View;
 use ti_param::{Line, Statics};
 
@@ -28,13 +28,13 @@ pub struct Terminal<'a> {
 
 // Whether a command of that status counts as bad. A command whose capability is absent is not bad.
 fn is_bad(status: u8) -> bool
-    ensures { result ≡ (status == 4) }
+    ensures { result ≡ (status == bad_status) }
 {
     status == BAD_COMMAND
 }
 
 impl<'a> Terminal<'a> {
-    ghost use Rattle.ti_tput.specs.inside.Terminal.{HasRunState, TakesStep};
+    ghost use Rattle.ti_tput.specs.inside.Terminal.{HasRunState};
 
     /// The terminal of an entry at a rate, before any command.
     pub fn new(alloc: Global, view: &View<'a>, rate: u32) -> Terminal<'a>
@@ -80,23 +80,6 @@ impl<'a> Terminal<'a> {
         }
     }
 
-    /// Takes a line, and writes what it writes.
-    ///
-    /// # Errors
-    /// `Memory`, with nothing written; then `WriteFault`.
-    pub fn take_line<W: Write>(
-        &mut self,
-        line: &[u8],
-        writer: &mut Counted<W>,
-    ) -> Result<(), ToolError>
-        ensures { (entry : Entry) (rate : ℕ) (state : RunState) → HasRunState entry rate self.old state
-            → TakesStep entry rate (line_step entry rate state line.now) self.new
-            (observation W.contents writer.old) (observation W.contents writer.new) result }
-    {
-        let bytes = self.bytes_of(line)?;
-        write_out(writer, bytes.as_slice())
-    }
-
     /// The exit status after these commands: 0 if none was bad, else 4 and the number of bad ones,
     /// at most 255.
     pub fn status(&self) -> u8
@@ -105,6 +88,27 @@ impl<'a> Terminal<'a> {
         if self.bad == 0 {
             return 0;
         }
-        self.bad.saturating_add(4)
+        self.bad.saturating_add(BAD_COMMAND)
+    }
+}
+
+impl<'a> Interpreter for Terminal<'a> {
+    ghost use Rattle.ti_tput.specs.inside.Terminal.{IsInState, TerminalState, line_leads};
+
+    ghost State = { TerminalState };
+
+    ghost holds = { IsInState };
+
+    ghost leads = { line_leads };
+
+    ghost may_run_out = { Unit {0} };
+
+    fn take_line<W: Write>(
+        &mut self,
+        line: &[u8],
+        writer: &mut Counted<W>,
+    ) -> Result<(), ToolError> {
+        let bytes = self.bytes_of(line)?;
+        write_out(writer, bytes.as_slice())
     }
 }

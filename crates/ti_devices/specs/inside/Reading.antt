@@ -6,6 +6,10 @@ use Rattle.ti_devices.specs.declared.tool_error.ToolError.{ToolError}
 use Rattle.ti_devices.specs.declared.tool_error.ToolError.TheVariants.{ReadFault}
 use Rattle.ti_devices.specs.Reading.{Gives, FailsOnce}
 
+-- the most bytes that are asked for at a time
+abbrev pub read_bytes_max : ℕ
+read_bytes_max = 4096
+
 -- One read gave these bytes, and none only at the end; or it failed, and gave none.
 abbrev pub Refill : Observed → Observed → List ℕ → Result Unit ToolError → Type 0
 Refill given left came (Ok _) = Gives given left came × (came ≡ [] → IsAtEnd left.bytes)

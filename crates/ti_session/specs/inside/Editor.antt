@@ -3,8 +3,8 @@ use Rattle.std.specs.Prelude.{◌≡◌, ℕ, ◌<◌, List, take, Result}
 use Rattle.ti_text.specs.Limits.{block_bytes_max}
 use Rattle.ti_session.specs.declared.editor.Editor.{Editor}
 use Rattle.ti_devices.specs.declared.tool_error.ToolError.{ToolError}
+use Rattle.ti_devices.specs.Answering.{Answered}
 use Rattle.ti_devices.specs.Counted.{Observed}
-use Rattle.ti_devices.specs.Writing.{Wrote}
 use Rattle.ti_session.specs.inside.Requests.{mode_of}
 use Rattle.ti_session.specs.Script.{LineLeads, Meaning, Source, SessionState, source}
 
@@ -22,9 +22,5 @@ pub record HasState (editor : Editor) (state : SessionState) : Type 0 where
   pub room : block_bytes_max < editor.block.limit
 
 -- what a line of that meaning leads to is held, and its reply was written
-pub record ActsOn (meaning : Meaning) (state : SessionState) (editor : Editor) (before now : Observed) (result : Result Unit ToolError) : Type 0 where
-  pub next : SessionState
-  pub reply : List ℕ
-  pub leads : LineLeads meaning state next reply
-  pub holds : HasState editor next
-  pub wrote : Wrote before now reply result
+abbrev pub ActsOn : Meaning → SessionState → Editor → Observed → Observed → Result Unit ToolError → Type 0
+ActsOn meaning state editor before now result = Answered (HasState editor) (LineLeads meaning state) before now result

@@ -10,7 +10,7 @@ use Rattle.ti_printing.specs.inside.Padding.{with_pad_bytes, padding_of}
 use Rattle.ti_layout.specs.View.{Entry}
 use Rattle.ti_tput.specs.Entries.{Holding, flag_held, number_held, text_held, holding_of, line_at_rate}
 use Rattle.ti_tput.specs.Parameters.{parameters}
-use Rattle.ti_tput.specs.Results.{Reply, reply, init_strings, long_name, number_text, reset_strings}
+use Rattle.ti_tput.specs.Results.{Reply, bad_reply, reply, init_strings, long_name, number_text, reset_strings}
 
 -- ---- strings
 
@@ -19,16 +19,16 @@ abbrev pub padded_text : Line → List ℕ → Option (List ℕ)
 padded_text line text = if nat_lt pad_bytes_max (padding_of text 1 line) then None else Some (with_pad_bytes text 1 line)
 
 -- A string that was padded is written, and the variables are then those after it. A string with too
--- much padding is refused: nothing is written, the status is 4, and the variables are as before.
+-- much padding is bad.
 abbrev pub sent_reply : Option (List ℕ) → (before after : List ℤ) → Reply
-sent_reply None before after = reply [] 4 before
+sent_reply None before after = bad_reply before
 sent_reply (Some bytes) before after = reply bytes 0 after
 
--- the string that an expansion gives; a fault of the format is refused in the same way
+-- the string that an expansion gives; one with a fault is bad
 abbrev pub expansion_reply : Line → List ℤ → Expansion → Reply
 expansion_reply line before (expanded output after) = sent_reply (padded_text line output) before after
-expansion_reply line before (bad_format place) = reply [] 4 before
-expansion_reply line before (stack_full place) = reply [] 4 before
+expansion_reply line before (bad_format place) = bad_reply before
+expansion_reply line before (stack_full place) = bad_reply before
 
 -- a string as it is written if there is no word, else expanded with the words
 abbrev pub string_reply : Line → List ℕ → List (List ℕ) → List ℤ → List ℕ → Reply
@@ -46,7 +46,7 @@ padded_texts line (Some text ∷ texts) = both_lists (padded_text line text) (pa
 -- what is answered of a capability: nothing is written of a boolean or of a string that is absent,
 -- and the status is then 1
 abbrev pub holding_reply : Line → List ℕ → List (List ℕ) → List ℤ → Option Holding → Reply
-holding_reply line cap words statics None = reply [] 4 statics
+holding_reply line cap words statics None = bad_reply statics
 holding_reply line cap words statics (Some (flag_held set)) = reply [] (if set then 0 else 1) statics
 holding_reply line cap words statics (Some (number_held n)) = reply (number_text n) 0 statics
 holding_reply line cap words statics (Some (text_held None)) = reply [] 1 statics

@@ -1,12 +1,8 @@
--- A terminal that takes commands line by line: what it holds, and what comes of a line (own).
-use Rattle.std.specs.Prelude.{◌≡◌, ℕ, min, Result, Ok, Err}
-use Rattle.ti_devices.specs.Counted.{Observed}
-use Rattle.ti_devices.specs.Writing.{TakesAll, TakesFront}
-use Rattle.ti_devices.specs.declared.tool_error.ToolError.{ToolError}
-use Rattle.ti_devices.specs.declared.tool_error.ToolError.TheVariants.{WriteFault, Memory}
+-- A terminal that takes commands line by line: what it holds, and what a line leads to (own).
+use Rattle.std.specs.Prelude.{◌≡◌, ℕ, List, min}
 use Rattle.ti_layout.specs.View.{Entry, shown_entry}
 use Rattle.ti_tput.specs.Entries.{line_at_rate}
-use Rattle.ti_tput.specs.Runs.{RunState, LineStep}
+use Rattle.ti_tput.specs.Runs.{LineStep, RunState, TakesLine}
 use Rattle.ti_tput.specs.declared.terminal.Terminal.{Terminal}
 
 -- the terminal is that of the entry at the rate, and has what is between two lines; it counts no
@@ -17,10 +13,21 @@ pub record HasRunState (entry : Entry) (rate : ℕ) (terminal : Terminal) (state
   pub statics : terminal.statics ≡ state.statics
   pub bad : terminal.bad ≡ min 255 state.bad
 
--- what came of a line: what it writes was written, or, if a write failed, up to some byte, or there
--- was no memory before
-abbrev pub TakesStep : Entry → ℕ → LineStep → Terminal → Observed → Observed → Result Unit ToolError → Type 0
-TakesStep entry rate step terminal before now (Ok _) = HasRunState entry rate terminal step.after × TakesAll before now step.bytes
-TakesStep entry rate step terminal before now (Err WriteFault) = TakesFront before now step.bytes
-TakesStep entry rate step terminal before now (Err Memory) = now ≡ before
-TakesStep entry rate step terminal before now (Err _) = ⊥
+-- what is between two lines of a run of that entry at that rate
+pub record TerminalState : Type 0 where
+  pub entry : Entry
+  pub rate : ℕ
+  pub run : RunState
+
+abbrev pub state_at : Entry → ℕ → RunState → TerminalState
+state_at entry rate run = record { entry = entry; rate = rate; run = run }
+
+-- the terminal is in that state
+abbrev pub IsInState : Terminal → TerminalState → Type 0
+IsInState terminal state = HasRunState state.entry state.rate terminal state.run
+
+-- a line leads from one state to another, with what it writes
+abbrev pub line_leads : TerminalState → List ℕ → TerminalState → List ℕ → Type 0
+line_leads before line after bytes =
+    (step : LineStep) × TakesLine before.entry before.rate before.run line step × (after ≡ state_at before.entry before.rate step.after)
+    × (bytes ≡ step.bytes)

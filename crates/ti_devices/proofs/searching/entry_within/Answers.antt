@@ -9,10 +9,12 @@ use Rattle.ti_devices.specs.Searching.{IsTooLong}
 use Rattle.ti_devices.proofs.searching.entry_within.Goals as goal
 
 -- the first bytes of a file that is too long are refused, or are an entry
-refused_front : (limit : ℕ) (bytes : List ℕ) (error : ReadError) → limit < length bytes → FailsToRead (take (limit + 1) bytes) error → IsTooLong limit bytes error
+refused_front : (limit : ℕ) (bytes : List ℕ) (error : ReadError) → limit < length bytes → FailsToRead (take (limit + 1) bytes) error
+    → IsTooLong limit bytes error
 refused_front limit bytes error past refused = (past, inl (subst (λ (n : ℕ). FailsToRead (take n bytes) error) (add-one limit) refused))
 
-read_front : (limit : ℕ) (bytes names : List ℕ) (contents : Contents) → limit < length bytes → Reads (take (limit + 1) bytes) names contents → IsTooLong limit bytes Counts
+read_front : (limit : ℕ) (bytes names : List ℕ) (contents : Contents) → limit < length bytes → Reads (take (limit + 1) bytes) names contents
+    → IsTooLong limit bytes Counts
 read_front limit bytes names contents past reads =
     (past, inr (refl, names, contents, subst (λ (n : ℕ). Reads (take n bytes) names contents) (add-one limit) reads))
 

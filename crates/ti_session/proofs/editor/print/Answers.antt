@@ -13,4 +13,5 @@ returns-in_err-write_hex-in-Some g c =
 pub returns-in_ok-write_hex-in-Some : goal.returns-in_ok-write_hex-in-Some
 returns-in_ok-write_hex-in-Some g c =
     let low : c.args.at < length c.args.database.now = omega arith in
-    Wrote-whole _ _ _ _ _ _ c.write_out-in-Some.result c.in_ok-write_hex-in-Some.ensures c.write_out-in-Some.ensures (print_reply-some c.args.database.now c.args.at _ low c.in-Some.ensures)
+    Wrote-whole _ _ _ _ _ _ c.write_out-in-Some.result c.in_ok-write_hex-in-Some.ensures c.write_out-in-Some.ensures
+    (print_reply-some c.args.database.now c.args.at _ low c.in-Some.ensures)

@@ -10,4 +10,5 @@ returns-in_err-write_out-in-Ok g c =
 
 pub returns-in_ok-write_out-in-Ok : goal.returns-in_ok-write_out-in-Ok
 returns-in_ok-write_out-in-Ok g c =
-    inl (Wrote-whole _ _ _ _ _ _ c.write_out-in-Ok.result (rw (c.as_slice.ensures.value, c.in-Ok.ensures) at c.in_ok-write_out-in-Ok.ensures) c.write_out-in-Ok.ensures refl)
+    inl (Wrote-whole _ _ _ _ _ _ c.write_out-in-Ok.result (rw (c.as_slice.ensures.value, c.in-Ok.ensures) at c.in_ok-write_out-in-Ok.ensures)
+    c.write_out-in-Ok.ensures refl)

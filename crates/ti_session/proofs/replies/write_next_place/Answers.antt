@@ -11,4 +11,5 @@ returns-in_err-write_out g c =
 
 pub returns : goal.returns
 returns g c =
-    Wrote-whole _ _ _ _ (decimal c.args.place) _ c.write_out-2.result c.in_ok-write_out.ensures (rw (c.as_bytes.ensures.value, c.format.ensures.text) at c.write_out-2.ensures) refl
+    Wrote-whole _ _ _ _ (decimal c.args.place) _ c.write_out-2.result c.in_ok-write_out.ensures
+    (rw (c.as_bytes.ensures.value, c.format.ensures.text) at c.write_out-2.ensures) refl

@@ -8,4 +8,5 @@ pub returns-in_err-write_next_place : goal.returns-in_err-write_next_place
 returns-in_err-write_next_place g c =
     let p = err_from_is_err_and c.from_residual.result c.from_residual.ensures.1 in
     let low : c.loop-place.place-index < length c.args.places.now = omega arith in
-    rw (p.1, p.2) (Wrote-over _ _ _ _ _ _ _ _ c.loop-place.invariant c.in_err-write_next_place.ensures (next_places-front c.args.places.now c.loop-place.place-index low))
+    rw (p.1, p.2) (Wrote-over _ _ _ _ _ _ _ _ c.loop-place.invariant c.in_err-write_next_place.ensures
+    (next_places-front c.args.places.now c.loop-place.place-index low))

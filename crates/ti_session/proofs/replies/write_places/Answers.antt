@@ -18,7 +18,8 @@ returns-in_err-write_next_places g c =
     let p = err_from_is_err_and c.from_residual-in_err-write_next_places.result c.from_residual-in_err-write_next_places.ensures.1 in
     let whole = places_text-some c.args.places.now c.in-Some.others.now c.in-Some.first.now c.in-Some.ensures.cases.0
     ∙ sym (append_assoc (decimal c.in-Some.first.now) (flat_map next_place c.in-Some.others.now) (10 ∷ [])) in
-    rw (p.1, p.2) (Wrote-over _ _ _ _ _ _ _ _ (rw (c.as_bytes.ensures.value, c.format.ensures.text) at c.in_ok-write_out.ensures) c.in_err-write_next_places.ensures whole)
+    rw (p.1, p.2) (Wrote-over _ _ _ _ _ _ _ _ (rw (c.as_bytes.ensures.value, c.format.ensures.text) at c.in_ok-write_out.ensures)
+    c.in_err-write_next_places.ensures whole)
 
 pub returns : goal.returns
 returns g c =

@@ -23,7 +23,8 @@ returns-in_err-refill-clause-next g c =
     let f = Filled-same c.args.self.now _ c.loop-self.self (observation g.R.Read.remaining c.args.reader.now)
     (observation g.R.Read.remaining c.loop-self.reader) refl refl c.clear.ensures.limit c.loop-self.invariant in
     rw (p.1, p.2) (Filled-fault _ _ _ _ f c.take_line.new.self (rw c.if-branch.false at c.in_ok-take_line.ensures.taken)
-    c.in_ok-take_line.ensures.limit c.in_ok-take_line.ensures.reads c.refill.new.self (observation g.R.Read.remaining c.refill.new.reader) _ c.in_err-refill.ensures.came)
+    c.in_ok-take_line.ensures.limit c.in_ok-take_line.ensures.reads c.refill.new.self
+    (observation g.R.Read.remaining c.refill.new.reader) _ c.in_err-refill.ensures.came)
 
 pub loop-self-smaller : goal.loop-self-smaller
 loop-self-smaller g c =

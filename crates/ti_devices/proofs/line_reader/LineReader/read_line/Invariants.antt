@@ -1,5 +1,5 @@
 use Rattle.ti_devices.specs.Counted.{observation}
-use Rattle.ti_devices.specs.LineReader.{reads_left_of}
+use Rattle.ti_devices.specs.inside.LineReader.{reads_left_of}
 use Rattle.ti_devices.proofs.LineSteps.{Filled}
 use Rattle.ti_devices.proofs.line_reader.LineReader.read_line.Given as goal
 

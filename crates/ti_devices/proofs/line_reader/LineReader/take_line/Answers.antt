@@ -23,5 +23,11 @@ returns-in_ok-extend-in-Some-clause-taken c =
 
 pub returns-in_ok-extend-in-None-clause-taken : goal.returns-in_ok-extend-in-None-clause-taken
 returns-in_ok-extend-in-None-clause-taken c =
-    let is = c.as_slice-ahead.ensures.bytes in
-    (rw is at c.in-None.ensures, c.skip-in-None.ensures ∙ rw is (drop_all (length c.args.self.now.ahead) c.args.self.now.ahead (omega arith)), rw is at c.in_ok-extend-in-None.ensures.bytes, c.in_ok-extend-in-None.ensures.within)
+    let is = c.as_slice-ahead.ensures.bytes in (
+      rw is at c.in-None.ensures,
+      c.skip-in-None.ensures ∙ rw is
+          (drop_all (length c.args.self.now.ahead) c.args.self.now.ahead (omega arith)),
+      rw is at
+          c.in_ok-extend-in-None.ensures.bytes,
+      c.in_ok-extend-in-None.ensures.within,
+    )

@@ -16,7 +16,8 @@ returns-in-Err-Usage c = λ entry rate state holds.
     let some : 0 < length words = omega (arith, length-map c.as_slice.result.now (λ (word : Bor (List ℕ)). word.now)) in
     let front : words ≡ take words_seen (words_of c.args.line.now) = rw c.as_slice.ensures.value c.split_words-words.ensures in
     HasRunState-usage entry rate state c.args.self.now _ holds c.args.line.now words front some refl refl
-    c.new-in-Err-Usage.result.items (rw c.in-Err-Usage.field-0-is at (c.in-Err-Usage.ensures.answer rate (of_rate entry rate _ state holds))) c.in-Err-Usage.ensures.err
+    c.new-in-Err-Usage.result.items (rw c.in-Err-Usage.field-0-is at (c.in-Err-Usage.ensures.answer rate (of_rate entry rate _ state holds)))
+    c.in-Err-Usage.ensures.err
     (search rules) c.new-in-Err-Usage.ensures.items
 
 pub returns-after-is_bad : goal.returns-after-is_bad
@@ -30,7 +31,9 @@ returns-after-is_bad c = λ entry rate state holds.
     × (c.in-Ok.outcome.bytes.items ≡ (line_step entry rate state c.args.line.now).bytes) in
     elim c.if-is_bad.branch [
       | then-is_bad w ↦ subst P (sym w.self-is)
-          (HasRunState-bad entry rate state c.args.self.now _ holds c.args.line.now words front some refl refl c.in-Ok.outcome replied (eqb-true _ _ (sym c.is_bad.ensures ∙ w.if-is_bad.true)) w.saturating_add-self.ensures)
+          (HasRunState-bad entry rate state c.args.self.now _ holds c.args.line.now words front some refl refl c.in-Ok.outcome replied
+          (eqb-true _ _ (sym c.is_bad.ensures ∙ w.if-is_bad.true)) w.saturating_add-self.ensures)
       | else-is_bad w ↦ subst P (sym w.self-is)
-          (HasRunState-good entry rate state c.args.self.now _ holds c.args.line.now words front some refl refl c.in-Ok.outcome replied (eqb-false _ _ (sym c.is_bad.ensures ∙ w.if-is_bad.false)) refl)
+          (HasRunState-good entry rate state c.args.self.now _ holds c.args.line.now words front some refl refl c.in-Ok.outcome replied
+          (eqb-false _ _ (sym c.is_bad.ensures ∙ w.if-is_bad.false)) refl)
     ]
