@@ -1,5 +1,6 @@
 -- The command of one tool alone reads the words after its name as the command of the program does.
-use Rattle.std.proofs.Common.{◌≡◌, ◌∙◌, Bool, Result, Ok, Err, IfSome, true, false, codes, refl, sym, ap, ap₂, subst, List, [], ◌∷◌, length, map, get_or, nat_lt, Option, Some, None, fold, find, drop, take, ◌-◌, arith, is_some, if◌then◌else◌}
+use Rattle.std.proofs.Common.{◌≡◌, ◌∙◌, Bool, Result, Ok, Err, IfSome, true, false, codes, refl, sym, ap, ap₂, subst, List, [], ◌∷◌, length, map}
+use Rattle.std.proofs.Common.{get_or, nat_lt, Option, Some, None, fold, find, drop, take, ◌-◌, arith, is_some, if◌then◌else◌}
 use Rattle.std.specs.Prelude.{slice_get, option_map, unwrap_or}
 use Rattle.std.specs.Option.{option_map_or}
 use Rattle.std.specs.Result.{result_ok}
@@ -7,7 +8,8 @@ use Rattle.std.specs.Str.{bytes_eq}
 use Rattle.std.proofs.Math.Seq.{take-length}
 use Rattle.std.proofs.lemmas.Bool.{true≢false}
 use Rattle.std.proofs.lemmas.Slice.Eq.{bytes_eq-Decides}
-use Rattle.clap.specs.Faults.{built_fault, check_fault, defaults_fault, entered_fault, fault_of, is_simple_and_free, level_fault, settle_fault, turn_fault, walk_fault}
+use Rattle.clap.specs.Faults.{built_fault, check_fault, defaults_fault, entered_fault, fault_of}
+use Rattle.clap.specs.Faults.{is_simple_and_free, level_fault, settle_fault, turn_fault, walk_fault}
 use Rattle.clap.specs.Kinds.{FailsBy, Kinds, or_else}
 use Rattle.clap.specs.Simple.{App, HasMatchesOf, Shape, argument_words, built, entered, is_simple, label_of, matches_of, names_of, rows_at, subcommand_of}
 use Rattle.clap.specs.Walk.{Names, Row, Text, Walk, answers_to, finished, nothing_held, rows_after, settled, stop_after, walk, walk_from, walked}
@@ -45,7 +47,8 @@ own_faults b entered_one =
 -- the faults of a built command that found this subcommand
 abbrev faults_found : App → List Text → Option Shape → Kinds
 faults_found b rest found =
-    or_else (option_map_or (λ (s : Shape). level_fault s [] nothing_held rest false []) found []) (own_faults b (is_some (option_map (λ (s : Shape). rows_at s rest) found)))
+    or_else (option_map_or (λ (s : Shape). level_fault s [] nothing_held rest false []) found [])
+    (own_faults b (is_some (option_map (λ (s : Shape). rows_at s rest) found)))
 
 -- the tool is what the program enters at this name, and nothing else of the program has a fault
 -- there
@@ -61,74 +64,52 @@ record IsTool (program : App) (name : Text) (tool : App) : Type 0 where
   pub leaf : (built tool).subs ≡ []
   pub no_own_fault : own_faults (built program) true ≡ []
 
+is_tool_at : (program : App) (name : Text) (tool : App) → is_simple tool ≡ true → is_simple_and_free tool ≡ true
+    → ((words : List Text) → argument_words program words ≡ drop 1 words) → ((words : List Text) → argument_words tool words ≡ drop 1 words)
+    → walked (built program).top.rules (names_of (built program)) (walk_from nothing_held) name ≡ at_name name []
+    → turn_fault (built program).top (names_of (built program)) (walk_from nothing_held) name ≡ []
+    → find (λ (s : Shape). answers_to name (label_of s)) (built program).subs ≡ Some (built tool).top → (built tool).top.name ≡ name
+    → (built tool).subs ≡ [] → own_faults (built program) true ≡ [] → IsTool program name tool
+is_tool_at program name tool simple free program_words tool_words enters passes finds named leaf no_own_fault = record {
+  simple = simple;
+  free = free;
+  program_words = program_words;
+  tool_words = tool_words;
+  enters = enters;
+  passes = passes;
+  finds = finds;
+  named = named;
+  leaf = leaf;
+  no_own_fault = no_own_fault;
+}
+
 is_tic : (orders : Choices) → IsTool (ti_app orders) (codes "tic") tic_app
 unfolding ti_app walked defaults_fault
-is_tic orders = record {
-  simple = refl;
-  free = refl;
-  program_words = λ words. refl;
-  tool_words = λ words. refl;
-  enters = refl;
-  passes = refl;
-  finds = refl;
-  named = refl;
-  leaf = refl;
-  no_own_fault = refl;
-}
+is_tic orders = is_tool_at (ti_app orders) (codes "tic") tic_app refl refl (λ words. refl) (λ words. refl) refl refl refl refl refl refl
 
 is_tput : (orders : Choices) → IsTool (ti_app orders) (codes "tput") tput_app
 unfolding ti_app walked defaults_fault
-is_tput orders = record {
-  simple = refl;
-  free = refl;
-  program_words = λ words. refl;
-  tool_words = λ words. refl;
-  enters = refl;
-  passes = refl;
-  finds = refl;
-  named = refl;
-  leaf = refl;
-  no_own_fault = refl;
-}
+is_tput orders = is_tool_at (ti_app orders) (codes "tput") tput_app refl refl (λ words. refl) (λ words. refl) refl refl refl refl refl refl
 
 is_session : (orders : Choices) → IsTool (ti_app orders) (codes "session") session_app
 unfolding ti_app walked defaults_fault
-is_session orders = record {
-  simple = refl;
-  free = refl;
-  program_words = λ words. refl;
-  tool_words = λ words. refl;
-  enters = refl;
-  passes = refl;
-  finds = refl;
-  named = refl;
-  leaf = refl;
-  no_own_fault = refl;
-}
+is_session orders = is_tool_at (ti_app orders) (codes "session") session_app refl refl (λ words. refl) (λ words. refl) refl refl refl refl refl refl
 
 is_infocmp : (orders : Choices) → IsTool (ti_app orders) (codes "infocmp") (infocmp_app orders)
 unfolding ti_app walked defaults_fault
-is_infocmp orders = record {
-  simple = refl;
-  free = refl;
-  program_words = λ words. refl;
-  tool_words = λ words. refl;
-  enters = refl;
-  passes = refl;
-  finds = refl;
-  named = refl;
-  leaf = refl;
-  no_own_fault = refl;
-}
+is_infocmp orders = is_tool_at (ti_app orders) (codes "infocmp") (infocmp_app orders) refl refl (λ words. refl) (λ words. refl) refl refl refl refl refl refl
 
-same_tool : (orders : Choices) (name known : Text) (tool app : App) → bytes_eq name known ≡ true → Some tool ≡ Some app → IsTool (ti_app orders) known tool → IsTool (ti_app orders) name app
+same_tool : (orders : Choices) (name known : Text) (tool app : App) → bytes_eq name known ≡ true → Some tool ≡ Some app
+    → IsTool (ti_app orders) known tool → IsTool (ti_app orders) name app
 same_tool orders name known tool app eq is t =
     subst (λ (n : Text). IsTool (ti_app orders) n app) (sym ((bytes_eq-Decides name known).0 eq))
     (subst (λ (a : App). IsTool (ti_app orders) known a) (ap (λ (o : Option App). unwrap_or o tool) is) t)
 
-tool_of : (orders : Choices) (name : Text) (app : App) (tic tput session infocmp : Bool) → bytes_eq name (codes "tic") ≡ tic → bytes_eq name (codes "tput") ≡ tput
+tool_of : (orders : Choices) (name : Text) (app : App) (tic tput session infocmp : Bool) → bytes_eq name (codes "tic") ≡ tic
+    → bytes_eq name (codes "tput") ≡ tput
     → bytes_eq name (codes "session") ≡ session → bytes_eq name (codes "infocmp") ≡ infocmp
-    → (if tic then Some tic_app else if tput then Some tput_app else if session then Some session_app else if infocmp then Some (infocmp_app orders) else None) ≡ Some app
+    → (if tic then Some tic_app else if tput then Some tput_app else if session then Some session_app
+    else if infocmp then Some (infocmp_app orders) else None) ≡ Some app
     → IsTool (ti_app orders) name app
 tool_of orders name app true b2 b3 b4 e1 e2 e3 e4 is = same_tool orders name _ tic_app app e1 is (is_tic orders)
 tool_of orders name app false true b3 b4 e1 e2 e3 e4 is = same_tool orders name _ tput_app app e2 is (is_tput orders)
@@ -150,7 +131,8 @@ walk_passes : (program : App) (name : Text) (tool : App) (rest : List Text) → 
 unfolding walk_fault
 walk_passes program name tool rest is =
     let b = built program in
-    ap₂ or_else is.passes (ap (λ (w : Walk). walk_fault b.top (names_of b) w rest) is.enters ∙ stopped_fault b.top (names_of b) (walk_from nothing_held) (name, []) rest)
+    ap₂ or_else is.passes (ap (λ (w : Walk). walk_fault b.top (names_of b) w rest) is.enters
+    ∙ stopped_fault b.top (names_of b) (walk_from nothing_held) (name, []) rest)
 
 subcommand_is : (program : App) (name : Text) (tool : App) (first : Text) (rest : List Text) → IsTool program name tool
     → subcommand_of program (first ∷ name ∷ rest) ≡ Some (name, matches_of tool (name ∷ rest))
@@ -160,14 +142,16 @@ subcommand_is program name tool first rest is =
     ∙ ap (λ (w : Walk). entered b w.stopped) (walk_is program name tool rest is)
     ∙ ap (λ (found : Option Shape). option_map (λ (s : Shape). rows_at s rest) found) is.finds
     ∙ ap₂ (λ (n : Text) (rows : List Row). Some (n, rows)) is.named
-    (ap₂ (λ (names : Names) (words : List Text). rows_after (built tool).top.rules names words) (ap (λ (subs : List Shape). map label_of subs) (sym is.leaf)) (sym (is.tool_words (name ∷ rest))))
+    (ap₂ (λ (names : Names) (words : List Text). rows_after (built tool).top.rules names words)
+    (ap (λ (subs : List Shape). map label_of subs) (sym is.leaf)) (sym (is.tool_words (name ∷ rest))))
 
 no_fault : (program : App) (name : Text) (tool : App) (first : Text) (rest : List Text) → IsTool program name tool
     → fault_of tool (name ∷ rest) ≡ [] → fault_of program (first ∷ name ∷ rest) ≡ []
 no_fault program name tool first rest is none =
     let b = built program in
     let below : level_fault (built tool).top [] nothing_held rest false [] ≡ [] =
-    sym (leaf_fault (built tool) nothing_held rest is.leaf) ∙ ap (λ (words : List Text). built_fault (built tool) nothing_held words) (sym (is.tool_words (name ∷ rest))) ∙ none in
+    sym (leaf_fault (built tool) nothing_held rest is.leaf) ∙ ap (λ (words : List Text). built_fault (built tool) nothing_held words)
+    (sym (is.tool_words (name ∷ rest))) ∙ none in
     ap (λ (words : List Text). built_fault b nothing_held words) (is.program_words (first ∷ name ∷ rest))
     ∙ ap₂ (faults_at b) (walk_is program name tool rest is) (walk_passes program name tool rest is)
     ∙ ap (faults_found b rest) is.finds

@@ -15,5 +15,6 @@ by_test : (least greatest : ℕ) (text : List ℕ) (b : Bool) → is_unsigned_in
 by_test least greatest text true e none = let a = accepts-Accepts false (Unsigned least greatest) text e in absurd (none (a.0, a.1))
 by_test least greatest text false e none = refl
 
-pub no_number : (least greatest : ℕ) (text : List ℕ) → (IsNumeral 10 (without_leading_plus text) × (digits_value 10 (without_leading_plus text) < 2 ^ 64) → ⊥) → is_unsigned_in least greatest text ≡ false
+pub no_number : (least greatest : ℕ) (text : List ℕ) → (IsNumeral 10 (without_leading_plus text)
+    × (digits_value 10 (without_leading_plus text) < 2 ^ 64) → ⊥) → is_unsigned_in least greatest text ≡ false
 no_number least greatest text none = by_test least greatest text (is_unsigned_in least greatest text) refl none

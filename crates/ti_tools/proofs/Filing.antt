@@ -1,5 +1,6 @@
 -- The files of entries, name by name and block by block.
-use Rattle.std.proofs.Common.{◌≡◌, ℕ, suc, ◌+◌, ◌<◌, ◌≤◌, option_map, slice_get, Bool, true, false, cond, List, [], ◌∷◌, ◌++◌, length, map, drop, get_or, All, Option, Some, None, refl, sym, ap, append-nil, ◌∙◌, subst, arith}
+use Rattle.std.proofs.Common.{◌≡◌, ℕ, suc, ◌+◌, ◌<◌, ◌≤◌, option_map, slice_get, Bool, true, false, cond, List, [], ◌∷◌, ◌++◌, length}
+use Rattle.std.proofs.Common.{map, drop, get_or, All, Option, Some, None, refl, sym, ap, append-nil, ◌∙◌, subst, arith}
 use Rattle.std.proofs.lemmas.List.{append_assoc, drop_all, get_or-map, length-map}
 use Rattle.std.proofs.lemmas.Option.{same_Some, slice_get-get_or, slice_get-map}
 use Rattle.std.proofs.lemmas.List.Elements.{All-cons, All-get_or, All-head, All-nil, All-tail, All-weaker}
@@ -88,9 +89,11 @@ pub names_ascii : (texts names : List (List ℕ)) (at : ℕ) → HasReading → 
     → option_map (λ (block : Reading). block.names) (slice_get (readings texts) at) ≡ Some names → All IsAsciiName names
 names_ascii texts names at read within named =
     let text = get_or texts at [] in
-    subst (All IsAsciiName) (sym (names_of_text texts names at text (slice_get-get_or texts at [] within) named)) (names_parsed text (reading_of_text text) (read text))
+    subst (All IsAsciiName) (sym (names_of_text texts names at text (slice_get-get_or texts at [] within) named))
+    (names_parsed text (reading_of_text text) (read text))
 
 -- past the last block, all files are there
-pub filed_to_end : (dir : List ℕ) (texts : List (List ℕ)) (files : List FileAt) (at : ℕ) → length texts ≤ at → IsFiledTo dir texts files at → files ≡ source_files dir texts
+pub filed_to_end : (dir : List ℕ) (texts : List (List ℕ)) (files : List FileAt) (at : ℕ) → length texts ≤ at → IsFiledTo dir texts files at
+    → files ≡ source_files dir texts
 filed_to_end dir texts files at past filed =
     sym (append-nil files) ∙ ap (λ (rest : List (List ℕ)). files ++ files_from dir texts at rest) (sym (drop_all at texts past)) ∙ filed

@@ -1,5 +1,6 @@
 -- What is printed of entries in turn, and in each mode.
-use Rattle.std.proofs.Common.{◌≡◌, ◌≢◌, Some, None, ℕ, ◌+◌, ◌<◌, ◌≤◌, List, [], ◌∷◌, ◌++◌, length, map, drop, get_or, refl, sym, ◌∙◌, ap, append_assoc, append-nil, add-one}
+use Rattle.std.proofs.Common.{◌≡◌, ◌≢◌, Some, None, ℕ, ◌+◌, ◌<◌, ◌≤◌, List, [], ◌∷◌, ◌++◌, length, map, drop}
+use Rattle.std.proofs.Common.{get_or, refl, sym, ◌∙◌, ap, append_assoc, append-nil, add-one}
 use Rattle.std.proofs.Math.Seq.{drop-cons}
 use Rattle.std.proofs.lemmas.List.{drop_all}
 use Rattle.std.specs.List.{flat_map}
@@ -17,7 +18,8 @@ use Rattle.ti_tools.specs.Listings.{infocmp_result, listings_text, printed_listi
 use Rattle.ti_tools.specs.inside.Listings.{comparison_mode}
 
 -- after the text of one was written, what is still to come is as it was
-pub in_turn : {X : Type 0} → {Y : Type 0} → (shown : X → Y) (text_of : Y → List ℕ) (xs : List X) (place : ℕ) (x : X) (before piece after all : List ℕ) → place < length xs
+pub in_turn : {X : Type 0} → {Y : Type 0} → (shown : X → Y) (text_of : Y → List ℕ) (xs : List X) (place : ℕ) (x : X) (before piece after all : List ℕ)
+    → place < length xs
     → x ≡ get_or xs place x → piece ≡ text_of (shown x) → after ≡ before ++ piece
     → before ++ flat_map text_of (map shown (drop place xs)) ≡ all
     → after ++ flat_map text_of (map shown (drop (place + 1) xs)) ≡ all
@@ -52,7 +54,8 @@ printed-related mode.Neither first others layout not is = absurd (cc)
 printed-related mode.Relative first others layout not is = refl
 
 -- what infocmp prints: a listing of any entries
-pub listing_printed : (entries : List Entry) (options : InfocmpOptions) → options.mode ≡ mode.List → infocmp_result entries options ≡ Some (listings_text entries options.layout)
+pub listing_printed : (entries : List Entry) (options : InfocmpOptions) → options.mode ≡ mode.List
+    → infocmp_result entries options ≡ Some (listings_text entries options.layout)
 listing_printed [] options is = rw is refl
 listing_printed (first ∷ []) options is = rw is refl
 listing_printed (first ∷ other ∷ others) options is = rw is refl

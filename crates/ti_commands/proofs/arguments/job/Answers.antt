@@ -10,4 +10,5 @@ returns-in-Err-clause-answered c = λ task takes. c.cause.ensures ∙ ap cause_o
 
 pub returns-in-Err-clause-refused : goal.returns-in-Err-clause-refused
 returns-in-Err-clause-refused c =
-    subst (IsUsageRefusal (word_texts c.args.words.now)) (sym c.cause.ensures) (cause-refusal (word_texts c.args.words.now) c.in-Err.refused c.in-Err.ensures.refused)
+    subst (IsUsageRefusal (word_texts c.args.words.now)) (sym c.cause.ensures)
+    (cause-refusal (word_texts c.args.words.now) c.in-Err.refused c.in-Err.ensures.refused)

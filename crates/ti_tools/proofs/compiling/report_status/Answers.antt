@@ -11,5 +11,6 @@ returns-then-has_error c =
 
 pub returns-else-has_error : goal.returns-else-has_error
 returns-else-has_error c =
-    let none = sym (list_any-map (λ (fault : SourceFault). is_error fault.code) fault_seen c.args.faults.now) ∙ sym c.has_error.ensures ∙ c.if-has_error.false in
+    let none = sym (list_any-map (λ (fault : SourceFault). is_error fault.code) fault_seen c.args.faults.now) ∙ sym c.has_error.ensures
+    ∙ c.if-has_error.false in
     rw none

@@ -8,5 +8,6 @@ use Rattle.ti_tools.proofs.entry_files.add_files.Given as goal
 -- the files so far, and those of the names that are left, are those that are wanted
 abbrev pub invariant-loop-name : goal.invariant-loop-name
 invariant-loop-name l =
-    entries l.files.items ++ files_for l.dir l.image (filter (λ (name : List ℕ). is_owner (readings l.database) name l.at) (map (λ name. rc_slice_items name.now) (drop l.name-index l.name-items)))
+    entries l.files.items ++ files_for l.dir l.image (filter (λ (name : List ℕ). is_owner (readings l.database) name l.at)
+    (map (λ name. rc_slice_items name.now) (drop l.name-index l.name-items)))
     ≡ entries l.fn.files.items ++ files_for l.dir l.image (own_names (readings l.database) l.at (map rc_slice_items l.names))

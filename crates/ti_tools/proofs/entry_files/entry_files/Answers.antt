@@ -9,7 +9,8 @@ loop-at-init c = rw c.new-files.ensures.items (filed_to_start c.args.dir.now c.a
 pub loop-at-preserved : goal.loop-at-preserved
 loop-at-preserved c =
     let within : c.loop-at.at < length c.args.database.now = omega arith in
-    filed_to_next c.args.dir.now c.args.database.now (entries c.loop-at.files.items) (entries c.add_block.new.files.items) c.loop-at.at within c.in_ok-add_block.ensures c.loop-at.invariant
+    filed_to_next c.args.dir.now c.args.database.now (entries c.loop-at.files.items)
+    (entries c.add_block.new.files.items) c.loop-at.at within c.in_ok-add_block.ensures c.loop-at.invariant
 
 pub returns : goal.returns
 returns c =

@@ -4,4 +4,5 @@ use Rattle.ti_tools.specs.Listings.{listings_text}
 use Rattle.ti_tools.proofs.listings.listings_text.Given as goal
 
 abbrev pub invariant-loop-view : goal.invariant-loop-view
-invariant-loop-view l = l.text.items ++ listings_text (map (λ view. shown_entry view) (drop l.view-index l.others)) l.layout ≡ listings_text (map (λ view. shown_entry view) l.views) l.layout
+invariant-loop-view l = l.text.items ++ listings_text (map (λ view. shown_entry view) (drop l.view-index l.others)) l.layout
+    ≡ listings_text (map (λ view. shown_entry view) l.views) l.layout

@@ -10,7 +10,8 @@ returns-in-None g c = rw (c.in-None.is, ← c.tool_name-tool.ensures, ← c.as_b
 
 pub returns-in-Some : goal.returns-in-Some
 returns-in-Some g c =
-    let P : List ℕ → List ℕ → Type 0 = λ tool name. Wrote (observation g.W.Write.contents c.args.writer.now) (observation g.W.Write.contents c.write_fault.new.writer)
+    let P : List ℕ → List ℕ → Type 0 = λ tool name. Wrote (observation g.W.Write.contents c.args.writer.now)
+    (observation g.W.Write.contents c.write_fault.new.writer)
     (concat (message_parts tool name (Some c.in-Some.error.now))) c.write_fault.result in
     rw c.in-Some.is
     (subst (λ (tool : List ℕ). P tool c.args.name.now) c.tool_name-tool.ensures
