@@ -6,9 +6,9 @@
 //!   such a count, which only contracts see
 //! - `reading` and `writing`: bytes read as they come, and bytes written to their end
 //! - `buffer`: bytes with a limit, for which the room was made at the start
-//! - `interpreter`: the lines of an input answered one after another. `line_reader` reads them, with
-//!   a limit on their length and on the reads; `read_ahead` holds what was read and not used yet.
-//!   `laws`: bytes are cut into lines in only one way
+//! - `interpreter`: the lines of an input answered one after another. `line_reader` reads them,
+//!   with a limit on their length and on the reads; `read_ahead` holds what was read and not used
+//!   yet. `laws`: bytes are cut into lines in only one way
 //! - `paths`: the paths of entries below a directory; `searching`: the directories in which an
 //!   entry is looked for, its file, and the entry in it
 //! - `tree`: what a tree of files is; `memory_tree` is one in memory, and `placing` writes files

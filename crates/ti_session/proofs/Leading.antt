@@ -17,7 +17,7 @@ use Rattle.ti_session.specs.declared.requests.Opened.{Opened}
 use Rattle.ti_session.specs.declared.requests.Opened.TheVariants.{Insert, Replace}
 use Rattle.ti_devices.specs.declared.tool_error.ToolError.{ToolError}
 use Rattle.ti_session.specs.inside.Editor.{HasState, ActsOn, source_of}
-use Rattle.ti_session.specs.Replies.{places_text}
+use Rattle.ti_session.specs.Replies.{positions_text}
 use Rattle.ti_devices.specs.Counted.{Observed}
 use Rattle.ti_devices.specs.Lines.{with_newline}
 use Rattle.ti_devices.specs.Writing.{Wrote}
@@ -197,11 +197,11 @@ ActsOn-prints meaning s d before now result at source is same kept wrote held =
     (kept ∙ same, ap (λ (x : Source). print_reply x.texts at) same) held wrote
 
 pub ActsOn-rebuilds : (meaning : Meaning) (s : SessionState) (d : Editor) (before now : Observed) (result : Result Unit ToolError)
-    (source : Source) → meaning ≡ asks rebuilds → source ≡ s.source → source_of d ≡ source → Wrote before now (places_text source.rebuilt) result
+    (source : Source) → meaning ≡ asks rebuilds → source ≡ s.source → source_of d ≡ source → Wrote before now (positions_text source.rebuilt) result
     → HasState d (state (source_of d) outside) → ActsOn meaning s d before now result
 ActsOn-rebuilds meaning s d before now result source is same kept wrote held =
-    ActsOn-asks meaning s d before now result rebuilds (places_text source.rebuilt) is
-    (kept ∙ same, ap (λ (x : Source). places_text x.rebuilt) same) held wrote
+    ActsOn-asks meaning s d before now result rebuilds (positions_text source.rebuilt) is
+    (kept ∙ same, ap (λ (x : Source). positions_text x.rebuilt) same) held wrote
 
 pub CarriesOut-of_front : (opened : Opened) (text : List ℕ) (limit : ℕ) (source : Source) (change : Change) (next : Source)
     (before now : Observed) (result : Result Unit ToolError) → block_bytes_max < limit → change ≡ opened_change opened (take limit text)

@@ -8,7 +8,7 @@ use Rattle.std.proofs.lemmas.List.{take-append-drop, take_more}
 use Rattle.std.proofs.lemmas.Grind.{flat_map-append}
 use Rattle.ti_meaning.specs.Compiled.{compiled}
 use Rattle.ti_meaning.specs.declared.edits.EditError.TheVariants.{Position}
-use Rattle.ti_session.specs.Replies.{next_place, places_text}
+use Rattle.ti_session.specs.Replies.{next_position, positions_text}
 use Rattle.ti_session.specs.Script.{entry_text, hex_of, print_reply, refused_text}
 
 pub print_reply-some : (texts : List (List ℕ)) (at : ℕ) (bytes : List ℕ) → at < length texts → Some bytes ≡ compiled texts at
@@ -31,15 +31,15 @@ hex_of-parts front piece later bytes is =
 
 -- ---- positions
 
-pub places_text-some : (places others : List ℕ) (first : ℕ) → places ≡ first ∷ others
-    → places_text places ≡ decimal first ++ (flat_map next_place others ++ 10 ∷ [])
-places_text-some places others first is = ap places_text is ∙ append_assoc (decimal first) (flat_map next_place others) (10 ∷ [])
+pub positions_text-some : (positions others : List ℕ) (first : ℕ) → positions ≡ first ∷ others
+    → positions_text positions ≡ decimal first ++ (flat_map next_position others ++ 10 ∷ [])
+positions_text-some positions others first is = ap positions_text is ∙ append_assoc (decimal first) (flat_map next_position others) (10 ∷ [])
 
 -- the positions before one, and all of them
-pub next_places-front : (places : List ℕ) (i : ℕ) → i < length places
-    → flat_map next_place places ≡ (flat_map next_place (take i places) ++ next_place (get_or places i 0)) ++ flat_map next_place (drop (i + 1) places)
-next_places-front places i low =
-    ap (flat_map next_place) (sym (take-append-drop (i + 1) places)) ∙ flat_map-append next_place (take (i + 1) places) (drop (i + 1) places)
-    ∙ ap (λ (t : List ℕ). t ++ flat_map next_place (drop (i + 1) places)) (ap (flat_map next_place) (take_more places i 0 low)
-    ∙ flat_map-append next_place (take i places) (get_or places i 0 ∷ [])
-    ∙ ap (λ (t : List ℕ). flat_map next_place (take i places) ++ t) (append-nil (next_place (get_or places i 0))))
+pub next_positions-front : (positions : List ℕ) (i : ℕ) → i < length positions
+    → flat_map next_position positions ≡ (flat_map next_position (take i positions) ++ next_position (get_or positions i 0)) ++ flat_map next_position (drop (i + 1) positions)
+next_positions-front positions i low =
+    ap (flat_map next_position) (sym (take-append-drop (i + 1) positions)) ∙ flat_map-append next_position (take (i + 1) positions) (drop (i + 1) positions)
+    ∙ ap (λ (t : List ℕ). t ++ flat_map next_position (drop (i + 1) positions)) (ap (flat_map next_position) (take_more positions i 0 low)
+    ∙ flat_map-append next_position (take i positions) (get_or positions i 0 ∷ [])
+    ∙ ap (λ (t : List ℕ). flat_map next_position (take i positions) ++ t) (append-nil (next_position (get_or positions i 0))))

@@ -7,10 +7,10 @@ use Rattle.ti_text.specs.Ascii as ascii
 use Rattle.ti_devices.specs.Lines.{with_newline}
 
 -- a space and a position
-abbrev pub next_place : ℕ → List ℕ
-next_place place = ascii.space ∷ decimal place
+abbrev pub next_position : ℕ → List ℕ
+next_position position = ascii.space ∷ decimal position
 
 -- the reply that shows positions
-abbrev pub places_text : List ℕ → List ℕ
-places_text [] = with_newline (codes "-")
-places_text (place ∷ places) = with_newline (decimal place ++ flat_map next_place places)
+abbrev pub positions_text : List ℕ → List ℕ
+positions_text [] = with_newline (codes "-")
+positions_text (position ∷ positions) = with_newline (decimal position ++ flat_map next_position positions)

@@ -14,7 +14,7 @@ use Rattle.ti_meaning.specs.declared.edits.Outcome.{Outcome}
 use Rattle.ti_meaning.specs.declared.edits.Outcome.TheVariants.{Accepted, Refused}
 use Rattle.ti_devices.specs.Answering.{LinesLead}
 use Rattle.ti_devices.specs.Lines.{IsWithin, Splits, with_last, with_newline}
-use Rattle.ti_session.specs.Replies.{places_text}
+use Rattle.ti_session.specs.Replies.{positions_text}
 
 -- ---- lines
 
@@ -74,10 +74,10 @@ abbrev pub both_numbers : Option ℕ → Option ℕ → Option (ℕ × ℕ)
 both_numbers (Some one) (Some other) = Some (one, other)
 both_numbers _ _ = None
 
--- the numbers before a place of the text and after it
+-- the numbers before an offset of the text and after it
 abbrev pub numbers_around : List ℕ → Option ℕ → Option (ℕ × ℕ)
 numbers_around text None = None
-numbers_around text (Some place) = both_numbers (script_number (take place text)) (script_number (drop (place + 1) text))
+numbers_around text (Some offset) = both_numbers (script_number (take offset text)) (script_number (drop (offset + 1) text))
 
 -- two numbers with one space between them
 abbrev pub two_numbers : List ℕ → Option (ℕ × ℕ)
@@ -86,7 +86,7 @@ two_numbers text = numbers_around text (position (λ byte. byte == ascii.space) 
 -- the letter of a move with its two numbers: `m F T`
 abbrev pub moves : Option (ℕ × ℕ) → Meaning
 moves None = asks nothing_known
-moves (Some places) = asks (edits (relocation places.0 places.1))
+moves (Some positions) = asks (edits (relocation positions.0 positions.1))
 
 -- a letter alone: `f`, `w`
 abbrev pub meaning_alone : ℕ → Meaning
@@ -173,7 +173,7 @@ abbrev pub AnswersCommand : Source → Command → Source → List ℕ → Type 
 AnswersCommand source (edits change) next reply = (outcome : Outcome) × EditsSource source change outcome next × (reply ≡ outcome_text outcome)
 AnswersCommand source (prints at) next reply = (next ≡ source) × (reply ≡ print_reply source.texts at)
 AnswersCommand source reports next reply = (next ≡ source) × ((reply ≡ report source.texts 1 ++ with_newline (codes ".")) ⊎ (reply ≡ refused_text Memory))
-AnswersCommand source rebuilds next reply = (next ≡ source) × (reply ≡ places_text source.rebuilt)
+AnswersCommand source rebuilds next reply = (next ≡ source) × (reply ≡ positions_text source.rebuilt)
 AnswersCommand source nothing_known next reply = (next ≡ source) × (reply ≡ with_newline (codes "unknown"))
 
 -- between two lines: the source and the mode

@@ -14,7 +14,7 @@ OneAnswer = (meaning : Meaning) (before after other : SessionState) (reply answe
 abbrev pub SaysMemory : List ℕ → Type 0
 SaysMemory replies = (later : List ℕ) × (replies ≡ refused_text Memory ++ later)
 
--- two outputs are equal up to a place from which one of them goes on with the answer of out of
+-- two outputs are equal up to a byte from which one of them goes on with the answer of out of
 -- memory
 pub record DifferAtMemory (output other : List ℕ) : Type 0 where
   pub front : List ℕ
@@ -24,7 +24,7 @@ pub record DifferAtMemory (output other : List ℕ) : Type 0 where
   pub other_is : other ≡ front ++ other_rest
   pub wants : SaysMemory rest ⊎ SaysMemory other_rest
 
--- two outputs of one input are equal, or equal up to a place from which one goes on with the answer
+-- two outputs of one input are equal, or equal up to a byte from which one goes on with the answer
 -- of out of memory
 abbrev pub OneOutput : Type 0
 OneOutput = (input output other : List ℕ) → Session input output → Session input other → (output ≡ other) ⊎ DifferAtMemory output other

@@ -7,7 +7,7 @@ ghost use Rattle.ti_session.specs.inside.Replies.{CarriesOut, WroteReport};
 ghost use Rattle.ti_session.specs.inside.Requests.{opened_change};
 ghost use Rattle.ti_session.specs.Script.{asks, edits, print_reply, source};
 
-use crate::replies::{write_hex, write_places, write_refusal};
+use crate::replies::{write_hex, write_positions, write_refusal};
 use crate::requests::{Opened, Request, read_request};
 use std::alloc::{AllocError, Global};
 use std::io::Write;
@@ -139,7 +139,7 @@ impl Editor {
             },
             Request::Print { at } => print(&self.database, at, writer),
             Request::Report => report(&self.database, writer),
-            Request::Rebuilt => write_places(writer, &self.rebuilt),
+            Request::Rebuilt => write_positions(writer, &self.rebuilt),
             Request::Unknown => write_out(writer, b"unknown\n"),
         }
     }

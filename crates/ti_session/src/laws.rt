@@ -6,7 +6,7 @@ pub fn one_answer()
     ensures { OneAnswer }
 {}
 
-/// Two outputs of one script are equal, or equal up to a place from which one goes on with the
+/// Two outputs of one script are equal, or equal up to a byte from which one goes on with the
 /// answer of out of memory.
 pub fn one_output()
     ensures { OneOutput }

@@ -3,7 +3,7 @@ ghost use Rattle.std.specs.Prelude.{◌≡◌, ◌<◌, ◌≤◌, length};
 ghost use Rattle.std.specs.List.{flat_map};
 ghost use Rattle.ti_devices.specs.Counted.{observation};
 ghost use Rattle.ti_devices.specs.Writing.{Wrote};
-ghost use Rattle.ti_session.specs.Replies.{next_place, places_text};
+ghost use Rattle.ti_session.specs.Replies.{next_position, positions_text};
 ghost use Rattle.ti_session.specs.Script.{hex_digit, hex_of, refused_text};
 
 use arrayvec::ArrayVec;
@@ -44,39 +44,45 @@ pub fn write_refusal<W: Write>(writer: &mut Counted<W>, error: EditError) -> Res
 ///
 /// # Errors
 /// `WriteFault` if the writer fails.
-pub fn write_places<W: Write>(writer: &mut Counted<W>, places: &[usize]) -> Result<(), ToolError>
+pub fn write_positions<W: Write>(
+    writer: &mut Counted<W>,
+    positions: &[usize],
+) -> Result<(), ToolError>
     ensures { Wrote (observation W.contents writer.old)
         (observation W.contents writer.new)
-        (places_text places.now) result }
+        (positions_text positions.now) result }
 {
-    let Some((first, others)) = places.split_first() else {
+    let Some((first, others)) = positions.split_first() else {
         return write_out(writer, b"-\n");
     };
     let mut digits = Buffer::new();
     write_out(writer, digits.format(*first).as_bytes())?;
-    write_next_places(writer, others)?;
+    write_next_positions(writer, others)?;
     write_out(writer, b"\n")
 }
 
 // Writes a position after a space.
-fn write_next_place<W: Write>(writer: &mut Counted<W>, place: usize) -> Result<(), ToolError>
+fn write_next_position<W: Write>(writer: &mut Counted<W>, position: usize) -> Result<(), ToolError>
     ensures { Wrote (observation W.contents writer.old)
         (observation W.contents writer.new)
-        (next_place place) result }
+        (next_position position) result }
 {
     let mut digits = Buffer::new();
     write_out(writer, b" ")?;
-    write_out(writer, digits.format(place).as_bytes())
+    write_out(writer, digits.format(position).as_bytes())
 }
 
 // Writes each of the positions after a space.
-fn write_next_places<W: Write>(writer: &mut Counted<W>, places: &[usize]) -> Result<(), ToolError>
+fn write_next_positions<W: Write>(
+    writer: &mut Counted<W>,
+    positions: &[usize],
+) -> Result<(), ToolError>
     ensures { Wrote (observation W.contents writer.old)
         (observation W.contents writer.new)
-        (flat_map next_place places.now) result }
+        (flat_map next_position positions.now) result }
 {
-    for place in places {
-        write_next_place(writer, *place)?;
+    for position in positions {
+        write_next_position(writer, *position)?;
     }
     Ok(())
 }

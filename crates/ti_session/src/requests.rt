@@ -68,10 +68,10 @@ fn script_number(text: &[u8]) -> Option<usize>
     Some(value)
 }
 
-// The place of the first space.
+// The offset of the first space.
 fn first_space(text: &[u8]) -> Option<usize>
-    ensures place { result ≡ position (λ byte. byte == ascii.space) text.now }
-    ensures within { IfSome result (λ place. place < length text.now) }
+    ensures offset { result ≡ position (λ byte. byte == ascii.space) text.now }
+    ensures within { IfSome result (λ offset. offset < length text.now) }
 {
     text.iter().position(|byte| *byte == b' ')
 }

@@ -29,29 +29,29 @@ word_number (byte ∷ rest) = if byte == ascii.minus then negative_number rest e
 
 -- ---- parameters
 
--- The places of the words that are strings, whatever they spell: the second of pfkey, pfloc, pfx
--- and pln, and the second and third of pfxl.
-abbrev pub is_text_place : List ℕ → ℕ → Bool
-is_text_place cap zero = false
-is_text_place cap (suc zero) =
+-- Whether the word at an index after a capability's name is a string, whatever it spells: the
+-- second of pfkey, pfloc, pfx and pln, and the second and third of pfxl.
+abbrev pub is_text_parameter : List ℕ → ℕ → Bool
+is_text_parameter cap zero = false
+is_text_parameter cap (suc zero) =
     bytes_eq cap (codes "pfkey") || bytes_eq cap (codes "pfloc") || bytes_eq cap (codes "pfx") || bytes_eq cap (codes "pln")
     || bytes_eq cap (codes "pfxl")
-is_text_place cap (suc (suc zero)) = bytes_eq cap (codes "pfxl")
-is_text_place cap (suc (suc (suc place))) = false
+is_text_parameter cap (suc (suc zero)) = bytes_eq cap (codes "pfxl")
+is_text_parameter cap (suc (suc (suc index))) = false
 
 -- a word that spells a number is a number, any other is a string
 abbrev pub spelled_argument : List ℕ → Option ℤ → FormatArgument
 spelled_argument word None = text word
 spelled_argument word (Some n) = number n
 
--- the word at a place as a parameter of the capability; a word that is not given is the number 0
+-- the word at an index as a parameter of the capability; a word that is not given is the number 0
 abbrev pub parameter : List ℕ → ℕ → Option (List ℕ) → FormatArgument
-parameter cap place None = number (pos 0)
-parameter cap place (Some word) = if is_text_place cap place then text word else spelled_argument word (word_number word)
+parameter cap index None = number (pos 0)
+parameter cap index (Some word) = if is_text_parameter cap index then text word else spelled_argument word (word_number word)
 
--- the parameter at a place
+-- the parameter at an index
 abbrev pub parameter_at : List ℕ → List (List ℕ) → ℕ → FormatArgument
-parameter_at cap words place = parameter cap place (slice_get words place)
+parameter_at cap words index = parameter cap index (slice_get words index)
 
 -- the nine parameters that the words after a capability's name are
 unfoldable pub parameters : List ℕ → List (List ℕ) → List FormatArgument

@@ -1,7 +1,7 @@
 //! The words of a command as the parameters of a string.
 ghost use Rattle.std.specs.Prelude.{◌≡◌, map};
 ghost use Rattle.ti_param.specs.Meaning.{argument_of};
-ghost use Rattle.ti_tput.specs.Parameters.{is_text_place, parameter_at, parameters, word_number};
+ghost use Rattle.ti_tput.specs.Parameters.{is_text_parameter, parameter_at, parameters, word_number};
 
 use std::str::from_utf8;
 use ti_param::Value;
@@ -21,25 +21,25 @@ fn spelled_number(word: &[u8]) -> Option<i32>
     }
 }
 
-// Whether the word at a place after a capability's name is a string, whatever it spells.
-fn is_text_place(cap: &[u8], place: usize) -> bool
-    ensures { result ≡ is_text_place cap.now place }
+// Whether the word at an index after a capability's name is a string, whatever it spells.
+fn is_text_parameter(cap: &[u8], index: usize) -> bool
+    ensures { result ≡ is_text_parameter cap.now index }
 {
-    match place {
+    match index {
         1 => matches!(cap, b"pfkey" | b"pfloc" | b"pfx" | b"pln" | b"pfxl"),
         2 => cap == b"pfxl".as_slice(),
         _ => false,
     }
 }
 
-// The word at a place as a parameter of the capability; a word that is not given is the number 0.
-fn parameter_at<'a>(cap: &[u8], words: &[&'a [u8]], place: usize) -> Value<'a>
-    ensures { argument_of result ≡ parameter_at cap.now (map (λ word. word.now) words.now) place }
+// The word at an index as a parameter of the capability; a word that is not given is the number 0.
+fn parameter_at<'a>(cap: &[u8], words: &[&'a [u8]], index: usize) -> Value<'a>
+    ensures { argument_of result ≡ parameter_at cap.now (map (λ word. word.now) words.now) index }
 {
-    let Some(word) = words.get(place) else {
+    let Some(word) = words.get(index) else {
         return Value::Number(0);
     };
-    if is_text_place(cap, place) {
+    if is_text_parameter(cap, index) {
         return Value::Text(word);
     }
     match spelled_number(word) {

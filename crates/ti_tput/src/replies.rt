@@ -148,7 +148,7 @@ fn long_name(names: &[u8]) -> &[u8]
     ensures { result.now ≡ long_name names.now }
 {
     match memrchr(b'|', names) {
-        Some(place) => &names[place + 1..],
+        Some(bar) => &names[bar + 1..],
         None => names,
     }
 }
@@ -190,7 +190,7 @@ fn answer_value(
     }
 }
 
-// Those of three strings that are present, in order.
+// The answer of three strings: those that are present, in order.
 fn answer_strings(
     alloc: Global,
     texts: &[Option<&[u8]>],

@@ -8,16 +8,16 @@ use arrayvec::ArrayVec;
 use ti_text::is_white_space;
 
 // One word more than a command may have: a line with this number of words has too many.
-const MOST_WORDS: usize = 11;
+const WORDS_SEEN: usize = 11;
 
-// The place where the first word of a text begins.
+// The offset at which the first word of a text begins.
 fn word_start(text: &[u8]) -> Option<usize>
     ensures { result ≡ position (λ byte. not (is_white_space byte)) text.now }
 {
     text.iter().position(|byte| !is_white_space(*byte))
 }
 
-// The place where the word at the front of a text ends.
+// The offset at which the word at the front of a text ends.
 fn word_end(text: &[u8]) -> Option<usize>
     ensures { result ≡ position is_white_space text.now }
 {
@@ -37,7 +37,7 @@ fn next_word(text: &[u8]) -> Option<(&[u8], &[u8])>
 }
 
 /// The words of a line, up to the eleventh.
-pub fn split_words(line: &[u8]) -> ArrayVec<&[u8], MOST_WORDS>
+pub fn split_words(line: &[u8]) -> ArrayVec<&[u8], WORDS_SEEN>
     ensures { map (λ word. word.now) result.items ≡ take words_seen (words_of line.now) }
 {
     let mut words = ArrayVec::new();

@@ -1,4 +1,5 @@
--- `count_of` makes the struct without fields, with the count that its clause names. Assumes `Logic`.
+-- `count_of` makes the struct without fields, with the count that its clause names. Assumes
+-- `Logic`.
 use Rattle.std.proofs.Common.{List, [], ◌∷◌, refl}
 use seplogic.Ra.Ura.{Ura}
 use mir.MapTy.{inst_fn}

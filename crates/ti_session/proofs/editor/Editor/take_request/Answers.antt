@@ -34,5 +34,5 @@ returns-in-Relocate g c = λ s outside held.
 
 pub returns-in-Rebuilt : goal.returns-in-Rebuilt
 returns-in-Rebuilt g c = λ s outside held.
-    ActsOn-rebuilds _ s _ _ _ c.write_places.result _ (sym c.in-Rebuilt.ensures) held.source refl (rw c.deref.ensures.value at c.write_places.ensures)
+    ActsOn-rebuilds _ s _ _ _ c.write_positions.result _ (sym c.in-Rebuilt.ensures) held.source refl (rw c.deref.ensures.value at c.write_positions.ensures)
     (HasState-outside c.args.self.now _ s outside held refl refl)
