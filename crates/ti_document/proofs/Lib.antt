@@ -6,6 +6,7 @@ pub mod Fitting
 pub mod HeldTexts
 pub mod ListEdits
 pub mod Naming
+pub mod OnceNamed
 pub mod Outlines
 pub mod PartsExchanged
 pub mod Places

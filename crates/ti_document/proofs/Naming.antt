@@ -1,5 +1,5 @@
 -- The lookup names of a document, block by block.
-use Rattle.std.proofs.Common.{◌≡◌, ℕ, suc, ◌+◌, ◌<◌, List, ◌++◌, drop, length, map, sym, ap, ◌∙◌, add-one}
+use Rattle.std.proofs.Common.{◌≡◌, ℕ, ◌+◌, ◌<◌, List, ◌++◌, drop, length, map, sym, ap, ◌∙◌, add-one}
 use Rattle.std.proofs.lemmas.List.{append_assoc, map-append}
 use Rattle.ti_meaning.specs.Report.{shown_detail}
 use Rattle.ti_document.specs.Completions.{names_from, own_names}

@@ -1,9 +1,11 @@
 -- What an editor offers to complete a word with (own; Language Server Protocol 3.17, "Completion
 -- Request").
-use Rattle.std.specs.Prelude.{ℕ, suc, List, [], ◌∷◌, ◌++◌, filter, map, Option, option_and_then, option_map, if◌then◌else◌}
+use Rattle.std.specs.Prelude.{ℕ, suc, List, [], ◌∷◌, ◌++◌, filter, flat_map, map, Option, option_and_then, option_map, if◌then◌else◌}
 use Rattle.std.specs.String.{string_bytes}
 use Rattle.ti_source.specs.Parsing.{reading_of_text}
+use Rattle.ti_source.specs.Reading.{Reading}
 use Rattle.ti_meaning.specs.Faults.{distinct}
+use Rattle.ti_meaning.specs.ItemLaws.{IsDistinctOf}
 use Rattle.ti_meaning.specs.Owner.{is_owner, readings}
 use Rattle.ti_meaning.specs.Report.{shown_detail}
 use Rattle.ti_spans.specs.Words.{word_before}
@@ -49,6 +51,14 @@ names_from blocks at (block ∷ rest) = own_names blocks at block ++ names_from 
 -- the lookup names of all blocks, each once: where its owner is
 abbrev pub all_names : List (List ℕ) → List (List ℕ)
 all_names blocks = names_from blocks 0 blocks
+
+-- the lookup names of all blocks, one block after the other
+abbrev pub lookup_names : List (List ℕ) → List (List ℕ)
+lookup_names blocks = flat_map (λ (block : Reading). block.names) (readings blocks)
+
+-- they are offered each once, in the order of their first places
+abbrev pub NamesAreOfferedOnce : Type 0
+NamesAreOfferedOnce = (blocks : List (List ℕ)) → IsDistinctOf (lookup_names blocks) (all_names blocks)
 
 -- what is offered for a word: names as a report shows them
 abbrev pub offers_for : List (List ℕ) → Word → OffersSeen

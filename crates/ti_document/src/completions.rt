@@ -12,6 +12,7 @@ use crate::names::is_owner;
 use crate::spots::{head_line, offset_in, range_in, settled, spot_from};
 use std::alloc::{AllocError, Global};
 use ti_base::{Database, distinct_names};
+use ti_meaning::names_are_distinct;
 use ti_messages::{Position, Range};
 use ti_spans::{Part, Word, word_before};
 
@@ -120,4 +121,12 @@ pub(crate) fn source_completion(
     let block = database.text(spot.at);
     let offset = offset_in(spot.line, block, place);
     completion_at(alloc, database, spot.line, block, offset)
+}
+
+/// A law, with no code: the names that are offered are the lookup names of all blocks, each once,
+/// in the order of their first places.
+pub fn names_are_offered_once()
+    ensures { spec.NamesAreOfferedOnce }
+{
+    names_are_distinct();
 }

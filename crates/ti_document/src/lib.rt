@@ -32,7 +32,7 @@ mod splicing;
 mod spots;
 mod symbols;
 
-pub use completions::{Completion, Offers};
+pub use completions::{Completion, Offers, names_are_offered_once};
 pub use diagnostics::{Diagnostic, Problem};
 pub use document::Document;
 pub use exchanging::one_change_is_one_edit;
