@@ -8,10 +8,12 @@ use Rattle.ti_messages.specs.declared.messages.Question.{Question}
 use Rattle.ti_messages.specs.declared.messages.Question.TheVariants.{Completion, Hover, Definition, References, Symbols}
 use Rattle.ti_messages.specs.declared.places.Range.{Range}
 use Rattle.ti_document.specs.Completions.{CompletionSeen, OffersSeen, completion_of, offers_capabilities, offers_names}
+use Rattle.ti_document.specs.Hovers.{hover_of}
 use Rattle.ti_document.specs.Names.{definition_of, references_of}
 use Rattle.ti_document.specs.Symbols.{SymbolSeen, symbols_of}
 use Rattle.ti_server.specs.Offers.{all_capabilities, capability_item}
 use Rattle.ti_server.specs.Sayings.{Sayings}
+use Rattle.ti_lsp.specs.Hovers.{hover_shown}
 use Rattle.ti_lsp.specs.Shown.{shown_of}
 
 -- a block in the outline
@@ -48,7 +50,7 @@ completion_data (Some found) = list_data (items_of (offered_items found.range fo
 -- the answer to a question about a text, under the URI of its document
 abbrev pub answer_of : List ℕ → List ℕ → Question → Data
 answer_of text uri (Completion place) = completion_data (completion_of text place)
-answer_of text uri (Hover place) = null
+answer_of text uri (Hover place) = hover_shown (hover_of text place)
 answer_of text uri (Definition place) = definition_data uri (definition_of text place)
 answer_of text uri (References place with_declaration) = references_data uri (references_of text place with_declaration)
 answer_of text uri Symbols = outline_data (symbols_of text)

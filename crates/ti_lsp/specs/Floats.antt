@@ -5,6 +5,7 @@ use Rattle.serde_json.specs.Written.{has_float, items_have_float}
 use Rattle.ti_caps.specs.Tables.{Capability}
 use Rattle.ti_document.specs.Diagnostics.{Shown, diagnostics_of}
 use Rattle.ti_document.specs.Completions.{CompletionSeen, OffersSeen, completion_of, offers_capabilities, offers_names}
+use Rattle.ti_document.specs.Hovers.{HoverSeen, hover_of}
 use Rattle.ti_document.specs.Names.{definition_of, references_of}
 use Rattle.ti_document.specs.Symbols.{SymbolSeen, symbols_of}
 use Rattle.ti_messages.specs.Shapes.{location_data}
@@ -14,6 +15,7 @@ use Rattle.ti_messages.specs.declared.places.Range.{Range}
 use Rattle.ti_server.specs.Offers.{all_capabilities, capability_item}
 use Rattle.ti_server.specs.Sayings.{HasNoFloats}
 use Rattle.ti_lsp.specs.Answers.{answer_of, completion_data, definition_data, entry_item, offered_items, sayings, symbol_shown}
+use Rattle.ti_lsp.specs.Hovers.{hover_shown}
 use Rattle.ti_lsp.specs.Shown.{shown_data, shown_of}
 
 none_in : (all : List Shown) → items_have_float (items_of (map shown_data all)) ≡ false
@@ -51,9 +53,13 @@ none_in_completion : (found : Option CompletionSeen) → has_float (completion_d
 none_in_completion None = refl
 none_in_completion (Some found) = rw (none_in_offers found.range found.offers) refl
 
+none_in_hover : (told : Option HoverSeen) → has_float (hover_shown told) ≡ false
+none_in_hover None = refl
+none_in_hover (Some told) = refl
+
 answers_have_no_floats : (text uri : List ℕ) (question : Question) → has_float (answer_of text uri question) ≡ false
 answers_have_no_floats text uri (Completion place) = none_in_completion (completion_of text place)
-answers_have_no_floats text uri (Hover place) = refl
+answers_have_no_floats text uri (Hover place) = none_in_hover (hover_of text place)
 answers_have_no_floats text uri (Definition place) = none_in_definition uri (definition_of text place)
 answers_have_no_floats text uri (References place with_declaration) = none_in_references uri (references_of text place with_declaration)
 answers_have_no_floats text uri Symbols = none_in_outline (symbols_of text)

@@ -2,4 +2,5 @@
 pub mod Answers
 pub mod Command
 pub mod Floats
+pub mod Hovers
 pub mod Shown

@@ -1,11 +1,13 @@
 //! The program `ti-lsp`: a language server for terminfo source, over standard input and output.
 //!
 //! - `command`: what the words of the command line ask for
-//! - `terminfo`: a source as the server holds and shows it; `answering` answers questions about it
+//! - `terminfo`: a source as the server holds and shows it; `answering` answers questions about it,
+//!   and `hovering` tells what a place is on
 #![tactic(auto)]
 
 mod answering;
 mod command;
+mod hovering;
 mod terminfo;
 
 use crate::command::{Task, asked};

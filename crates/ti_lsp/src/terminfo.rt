@@ -5,6 +5,7 @@ ghost use Rattle.ti_document.specs.Diagnostics.{diagnostic_seen};
 ghost use Rattle.ti_lsp.specs.Shown.{shown_data};
 
 use crate::answering::{completion, definition, outline, references};
+use crate::hovering::hover;
 use serde_json::Value;
 use std::alloc::{AllocError, Global};
 use ti_document::{Diagnostic, Document, offset_of};
@@ -82,8 +83,8 @@ impl Source for Terminfo {
                 place,
                 with_declaration,
             } => references(alloc, &self.document, uri, place, with_declaration),
+            Question::Hover(place) => hover(alloc, &self.document, place),
             Question::Symbols => outline(alloc, &self.document),
-            _ => Ok(Value::Null),
         }
     }
 }

@@ -145,9 +145,10 @@ capabilities_data =
     object (member (codes "completionProvider") completion_options_data
     (member (codes "definitionProvider") (boolean true)
     (member (codes "documentSymbolProvider") (boolean true)
+    (member (codes "hoverProvider") (boolean true)
     (member (codes "positionEncoding") (string (codes "utf-16"))
     (member (codes "referencesProvider") (boolean true)
-    (member (codes "textDocumentSync") sync_data no_members))))))
+    (member (codes "textDocumentSync") sync_data no_members)))))))
 
 -- "InitializeResult"
 abbrev pub server_data : List ℕ → Data

@@ -177,7 +177,7 @@ fn capabilities_value(alloc: Global) -> Result<Value, AllocError>
 {
     let completions = completion_options_value(alloc)?;
     let sync = sync_value(alloc)?;
-    json!(in alloc; {"completionProvider": completions, "definitionProvider": true, "documentSymbolProvider": true, "positionEncoding": "utf-16", "referencesProvider": true, "textDocumentSync": sync})
+    json!(in alloc; {"completionProvider": completions, "definitionProvider": true, "documentSymbolProvider": true, "hoverProvider": true, "positionEncoding": "utf-16", "referencesProvider": true, "textDocumentSync": sync})
 }
 
 // What the server is.

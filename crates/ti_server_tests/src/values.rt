@@ -95,7 +95,7 @@ const REFUSAL: &str =
     r#"{"error":{"code":-32602,"message":"the parameters are not those of the method"},"id":true,"jsonrpc":"2.0"}"#;
 
 const READY: &str =
-    r#"{"capabilities":{"completionProvider":{"triggerCharacters":["=",","]},"definitionProvider":true,"documentSymbolProvider":true,"positionEncoding":"utf-16","referencesProvider":true,"textDocumentSync":{"change":2,"openClose":true}},"serverInfo":{"name":"ti-lsp","version":"9"}}"#;
+    r#"{"capabilities":{"completionProvider":{"triggerCharacters":["=",","]},"definitionProvider":true,"documentSymbolProvider":true,"hoverProvider":true,"positionEncoding":"utf-16","referencesProvider":true,"textDocumentSync":{"change":2,"openClose":true}},"serverInfo":{"name":"ti-lsp","version":"9"}}"#;
 
 #[test]
 fn messages(rt: HostRuntime) -> Result<(), Fail> {

@@ -1,8 +1,10 @@
 """What a language server for terminfo source answers to questions about a text."""
 
+import re
+
 from .base import Meaning
-from .caps import FLAG, KINDS, NAMES_OF, NUMBER, TEXT, described
-from .source import WHITE, ends_of_items, read
+from .caps import FIND, FLAG, KINDS, NAMES_OF, NUMBER, TEXT, described
+from .source import CANCEL, WHITE, ends_of_items, read
 from .texts import blocks_of, offset_of, refused_line, width
 
 STRUCT = 23  # of "SymbolKind"
@@ -198,14 +200,19 @@ def item(kind, name, detail, documentation=None):
     return found if documentation is None else found | {"documentation": documentation}
 
 
+def documented(kind, name):
+    """What is said of a capability, with its parameters if it takes any."""
+    _, sentence, parameters = described(kind, name)
+    return f"{sentence}." + (f"\nParameters: {parameters}." if parameters else "")
+
+
 def capability_items():
     """The items of the capabilities: by kind, and then by the bytes of the name."""
     found = []
     for kind in KINDS:
         for name in sorted(NAMES_OF[kind]):
-            variable, sentence, parameters = described(kind, name)
-            more = f"\nParameters: {parameters}." if parameters else ""
-            found.append(item(FIELD_ITEM, name.decode(), f"{WORDS[kind]}, {variable}", f"{sentence}.{more}"))
+            detail = f"{WORDS[kind]}, {described(kind, name)[0]}"
+            found.append(item(FIELD_ITEM, name.decode(), detail, documented(kind, name)))
     return found
 
 
@@ -227,3 +234,56 @@ def completion_of(text, place):
             offered = name_items(held) if word[1] else CAPABILITY_ITEMS
             items = [{**each, "textEdit": {"newText": each["label"], "range": part}} for each in offered]
     return {"isIncomplete": False, "items": items}
+
+
+def name_told(meaning, name):
+    """What is told of a name."""
+    owner = meaning.owners.get(name)
+    if owner is None:
+        return shown(name) + ": no block has this name"
+    image, mentions = meaning.images[owner], meaning.mentions[owner]
+    if image is None:
+        return shown(name) + ": its block has an error, or uses one that has"
+    held = [cap[0] for cap, value in mentions.items() if value is not CANCEL]
+    flags, numbers, texts = (held.count(kind) for kind in KINDS)
+    counts = f"Booleans: {flags}, numbers: {numbers}, strings: {texts}"
+    return f"{shown(name)}: an entry of {len(image)} bytes\n{counts}"
+
+
+def item_told(text):
+    """What is told of an item, or None if no capability has its name."""
+    text = text.rstrip(WHITE)
+    marked = re.match(rb"[^#=]*(?=[#=])", text, re.S)
+    name = text.removesuffix(b"@") if marked is None else marked[0]
+    cap = FIND.get(name)
+    if cap is None:
+        return None
+    variable = described(cap[0], name)[0]
+    return f"{name.decode()}: {WORDS[cap[0]]}, {variable}\n{documented(cap[0], name)}\nWritten: {shown(text)}"
+
+
+def told_at(meaning, block, offset):
+    """What is told at an offset of a block, and where that is; or None."""
+    folded, where = fold_at(block)
+    for part in names_in(folded):
+        span = span_of(where, *part)
+        if is_on(offset, span):
+            return name_told(meaning, folded[slice(*part)]), span
+    for part in items_in(folded):
+        span, name = span_of(where, *part), use_in(folded, *part)
+        if is_on(offset, span):
+            words = item_told(folded[slice(*part)]) if name is None else name_told(meaning, folded[slice(*name)])
+            return None if words is None else (words, span)
+    return None
+
+
+def hover_of(text, place):
+    """What is told at a place of a text, or None."""
+    offset, held, told = len(text[: offset_of(text, *place)].encode("utf-8")), blocks_with_lines(text), None
+    for block, line, start in held:
+        if start <= offset < start + len(block):
+            told = told_at(Meaning([each for each, _, _ in held]), block, offset - start)
+            if told is not None:
+                words, span = told
+                return {"contents": {"kind": "plaintext", "value": words}, "range": range_in(block, line, *span)}
+    return None

@@ -5,7 +5,7 @@ the life of the server, and the texts of the open documents as Python strings.
 import json
 import re
 
-from .answers import completion_of, definition_of, references_of, symbols_of
+from .answers import completion_of, definition_of, hover_of, references_of, symbols_of
 from .base import Meaning
 from .source import FAULTS
 from .texts import blocks_of, lines_of, offset_of, refused_line, width
@@ -153,6 +153,8 @@ def answer_of(method, text, uri, place, declared):
         return definition_of(text, uri, place)
     if method == "textDocument/references":
         return references_of(text, uri, place, declared)
+    if method == "textDocument/hover":
+        return hover_of(text, place)
     return symbols_of(text) if method == "textDocument/documentSymbol" else None
 
 

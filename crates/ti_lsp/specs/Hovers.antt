@@ -1,0 +1,56 @@
+-- What is told of what a place is on, as a value of the protocol (LSP 3.17, "Hover"); the sentences
+-- are own.
+use Rattle.std.specs.Prelude.{ℕ, List, ◌++◌, Option, None, Some, codes}
+use Rattle.std.specs.Fmt.{decimal}
+use Rattle.serde_json.specs.Data.{Data, null}
+use Rattle.ti_caps.specs.Tables.{Capability, name_of}
+use Rattle.ti_messages.specs.Shapes.{hover_data}
+use Rattle.ti_document.specs.Hovers.{AboutSeen, HoverSeen, about_item, about_name}
+use Rattle.ti_document.specs.declared.holdings.Entry.{Entry}
+use Rattle.ti_document.specs.declared.holdings.Holding.{Holding}
+use Rattle.ti_document.specs.declared.holdings.Entry.TheVariants.{Missing, Faulty, Held}
+use Rattle.ti_server.specs.Offers.{detail_of, documentation_of}
+
+-- how many bytes an entry takes
+abbrev pub size_told : ℕ → List ℕ
+size_told bytes = codes "an entry of " ++ decimal bytes ++ codes " bytes"
+
+-- how many there are of what a word says
+abbrev pub count_told : List ℕ → ℕ → List ℕ
+count_told word count = word ++ codes ": " ++ decimal count
+
+-- how many numbers and strings it has
+abbrev pub others_told : Holding → List ℕ
+others_told holding = count_told (codes "numbers") holding.numbers ++ codes ", " ++ count_told (codes "strings") holding.texts
+
+-- how many capabilities of each kind it has values of
+abbrev pub counts_told : Holding → List ℕ
+counts_told holding = count_told (codes "Booleans") holding.flags ++ codes ", " ++ others_told holding
+
+-- what an entry holds, or why there is none
+abbrev pub entry_told : Entry → List ℕ
+entry_told Missing = codes "no block has this name"
+entry_told Faulty = codes "its block has an error, or uses one that has"
+entry_told (Held holding) = size_told holding.bytes ++ codes "\n" ++ counts_told holding
+
+-- the name of a capability, and what it is
+abbrev pub head_told : Capability → List ℕ
+head_told c = name_of c ++ codes ": " ++ detail_of c
+
+-- what is said of it, and the item as it is written
+abbrev pub item_told : Capability → List ℕ → List ℕ
+item_told c text = documentation_of c ++ codes "\nWritten: " ++ text
+
+-- what a capability is, and the item as it is written
+abbrev pub capability_told : Capability → List ℕ → List ℕ
+capability_told c text = head_told c ++ codes "\n" ++ item_told c text
+
+-- what a place is on
+abbrev pub about_told : AboutSeen → List ℕ
+about_told (about_item c text) = capability_told c text
+about_told (about_name name entry) = name ++ codes ": " ++ entry_told entry
+
+-- what is told ("Hover"), or null
+abbrev pub hover_shown : Option HoverSeen → Data
+hover_shown None = null
+hover_shown (Some told) = hover_data (about_told told.about) told.range
