@@ -56,7 +56,7 @@ module _ (slots : Slots) (d : Dependents) (component_of order : List ℕ) (found
       (i.0, at_place i.0 h.0 i.1 ∙ ap (λ k. Some k) same)))
 
   pub planned : (plan : Plan) → plan.ids ≡ d.ids → AreAllSettled slots d plan.settled.items → IsPermutation d.positions.items plan.rebuilt.items → IsNonDecreasing plan.rebuilt.items
-      → plan.work ≡ 0 + work (blocks_of slots) (map (node_position d) order) → IsPlanOf slots d plan
+      → plan.work ≡ work (blocks_of slots) (map (node_position d) order) → IsPlanOf slots d plan
   planned plan ids all moved up spent = record {
     ids = ids;
     as_many = all.as_many;

@@ -1,5 +1,5 @@
 -- The steps of blocks that are settled one after another, and a bound on them.
-use Rattle.std.proofs.Common.{◌≡◌, ℕ, zero, suc, ◌+◌, ◌<◌, ◌≤◌, ◌^◌, true, false, cond, List, [], ◌∷◌, ◌++◌, length, get_or, set, take, sum_by, Option, Some, slice_get, refl, sym, ◌∙◌, ap, arith}
+use Rattle.std.proofs.Common.{◌≡◌, ℕ, zero, suc, ◌+◌, ◌-◌, ◌<◌, ◌≤◌, true, false, cond, List, [], ◌∷◌, ◌++◌, length, get_or, set, take, sum_by, Option, Some, slice_get, refl, sym, ◌∙◌, ap, arith}
 use Rattle.std.proofs.lemmas.List.{length-set}
 use Rattle.std.proofs.lemmas.List.Sums.{sum_by-append, sum_by-take-le, sum_by-cons, sum_by-set}
 use Rattle.std.proofs.lemmas.Option.{slice_get_within, get_or_from_slice_get}
@@ -63,27 +63,31 @@ row_items slots d h node at block p s =
 work_bound : (bs : List Reading) (b : Reading) → work_of bs (Some b) ≤ length b.items
 work_bound bs b = elim (resolves bs b) as (λ v. cond v (length b.items) 0 ≤ length b.items) [ true ↦ omega arith | false ↦ omega arith ]
 
--- there is room for the steps of the next block
-pub next_room : (slots : Slots) (d : Dependents) (order : List ℕ) (end node start steps at : ℕ) (block : Reading) → AreFoundIn slots d → ((i j u : ℕ) → slice_get order i ≡ Some u → slice_get order j ≡ Some u → i ≡ j) → ((i u : ℕ) → slice_get order i ≡ Some u → u < length d.uses)
+-- enough steps are left for the next block
+pub next_room : (slots : Slots) (d : Dependents) (order : List ℕ) (end node start left at : ℕ) (block : Reading) → AreFoundIn slots d → ((i j u : ℕ) → slice_get order i ≡ Some u → slice_get order j ≡ Some u → i ≡ j) → ((i u : ℕ) → slice_get order i ≡ Some u → u < length d.uses)
     → slice_get order end ≡ Some node → take (end + 1) order ≡ take end order ++ node ∷ [] → slice_get d.positions.items node ≡ Some at → slice_get (blocks_of slots) at ≡ Some block
-    → steps ≤ start + sum_by (row_length d.uses) (take end order) → start + sum_by length d.uses < 2 ^ 64 → steps + length block.items < 2 ^ 64
-next_room slots d order end node start steps at block h once within o t p s bound room =
+    → start ≤ left + sum_by (row_length d.uses) (take end order) → sum_by length d.uses ≤ start → length block.items ≤ left
+next_room slots d order end node start left at block h once within o t p s bound room =
     let all = edges_bound order d.uses once within in
     let front = sum_by-take-le (row_length d.uses) order (end + 1) in
     let more : sum_by (row_length d.uses) (take (end + 1) order) ≡ sum_by (row_length d.uses) (take end order) + row_length d.uses node = ap (sum_by (row_length d.uses)) t ∙ sum_one (row_length d.uses) (take end order) node in
     let row = row_items slots d h node at block p s in
     omega arith
 
-pub steps_more : (bs : List Reading) (places : List ℕ) (at start old new : ℕ) → old ≡ start + work bs places → new ≡ old + work_of bs (slice_get bs at) → new ≡ start + work bs (places ++ at ∷ [])
+-- the steps that are no longer left were made
+pub steps_made : (most left made : ℕ) → left + made ≡ most → most - left ≡ made
+steps_made most left made e = omega arith
+
+pub steps_more : (bs : List Reading) (places : List ℕ) (at start old new : ℕ) → old + work bs places ≡ start → new + work_of bs (slice_get bs at) ≡ old → new + work bs (places ++ at ∷ []) ≡ start
 steps_more bs places at start old new e f =
     let more = sum_one (λ p. work_of bs (slice_get bs p)) places at in
     omega arith
 
 pub bound_more : (slots : Slots) (d : Dependents) (nodes : List ℕ) (node at start old new : ℕ) (block : Reading) → AreFoundIn slots d → slice_get d.positions.items node ≡ Some at → slice_get (blocks_of slots) at ≡ Some block
-    → old ≤ start + sum_by (row_length d.uses) nodes → new ≡ old + work_of (blocks_of slots) (slice_get (blocks_of slots) at) → new ≤ start + sum_by (row_length d.uses) (nodes ++ node ∷ [])
+    → start ≤ old + sum_by (row_length d.uses) nodes → new + work_of (blocks_of slots) (slice_get (blocks_of slots) at) ≡ old → start ≤ new + sum_by (row_length d.uses) (nodes ++ node ∷ [])
 bound_more slots d nodes node at start old new block h p s bound e =
     let more = sum_one (row_length d.uses) nodes node in
     let row = row_items slots d h node at block p s in
     let one = work_bound (blocks_of slots) block in
-    let f : new ≡ old + work_of (blocks_of slots) (Some block) = e ∙ ap (λ o. old + work_of (blocks_of slots) o) s in
+    let f : new + work_of (blocks_of slots) (Some block) ≡ old = ap (λ o. new + work_of (blocks_of slots) o) (sym s) ∙ e in
     omega arith

@@ -1,5 +1,5 @@
 //! The plan of an edit, made: the blocks found settled along the closing order of their uses.
-ghost use Rattle.std.specs.Prelude.{ℕ, ◌≡◌, ◌+◌, ◌<◌, ◌^◌, length, map, Some, sum_by, All, IfOk, OnOk};
+ghost use Rattle.std.specs.Prelude.{ℕ, ◌≡◌, ◌+◌, ◌≤◌, length, map, Some, sum_by, All, IfOk, OnOk};
 ghost use Rattle.ti_components.specs.Components.{AreComponents, IsClosingOrder};
 ghost use Rattle.ti_meaning.specs.Dependents.{work};
 ghost use Rattle.std.specs.Rc.{rc_slice_items};
@@ -33,20 +33,21 @@ fn unsettled_nodes(alloc: Global, count: usize) -> Result<Vec<Settled>, AllocErr
 }
 
 // What is found out about each of the blocks, each after those of other components that it uses.
+// Each step is taken off those that are left.
 fn settle_all(
     alloc: Global,
     slots: &Slots,
     dependents: &Dependents,
     components: &Components,
     entry_out: Option<&BlockEntry>,
-    steps: &mut u64,
+    left: &mut u64,
 ) -> Result<Vec<Settled>, AllocError>
     requires found { AreFoundIn slots.now dependents.now }
     requires components { AreComponents dependents.now.uses components.now.component_of.items }
     requires order { IsClosingOrder dependents.now.uses components.now.component_of.items components.now.order.items }
-    requires room { steps.old + sum_by length dependents.now.uses < 2 ^ 64 }
+    requires room { sum_by length dependents.now.uses ≤ left.old }
     ensures settled { IfOk result (λ all. AreAllSettled slots.now dependents.now all.items) }
-    ensures work { OnOk result (steps.new ≡ steps.old + work (blocks_of slots.now) (map (node_position dependents.now) components.now.order.items)) }
+    ensures work { OnOk result (left.new + work (blocks_of slots.now) (map (node_position dependents.now) components.now.order.items) ≡ left.old) }
 {
     let mut settled = unsettled_nodes(alloc, dependents.ids.len())?;
     for node in &components.order {
@@ -57,7 +58,7 @@ fn settle_all(
             settled: &settled,
             entry_out,
         };
-        let one = settle(alloc, &known, *node, steps)?;
+        let one = settle(alloc, &known, *node, left)?;
         settled[*node] = one;
     }
     Ok(settled)
@@ -74,10 +75,10 @@ fn make_plan(
     ensures { IfOk result (λ plan. IsPlanOf slots.now dependents plan) }
 {
     let components = Components::find(alloc, &dependents.uses)?;
-    // Each step has an edge, so the number of steps fits because this one does.
-    let _edges = dependents.uses.edge_count();
-    let mut work = 0;
-    let settled = settle_all(alloc, slots, &dependents, &components, entry_out, &mut work)?;
+    // Each step has an edge of its own.
+    let steps_max = dependents.uses.edge_count() as u64;
+    let mut left = steps_max;
+    let settled = settle_all(alloc, slots, &dependents, &components, entry_out, &mut left)?;
     let Dependents {
         ids,
         positions: mut rebuilt,
@@ -88,7 +89,7 @@ fn make_plan(
         ids,
         settled,
         rebuilt,
-        work,
+        work: steps_max - left,
     })
 }
 

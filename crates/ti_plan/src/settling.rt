@@ -1,5 +1,5 @@
 //! What is found out about one block of a plan: what becomes of it, and its faults.
-ghost use Rattle.std.specs.Prelude.{ℕ, ◌≡◌, ◌+◌, ◌<◌, ◌^◌, map, length, slice_get, Some, IfOk, OnOk};
+ghost use Rattle.std.specs.Prelude.{ℕ, ◌≡◌, ◌+◌, ◌≤◌, map, length, slice_get, Some, IfOk, OnOk};
 ghost use Rattle.std.specs.Bool.{MatchBool};
 ghost use Rattle.std.specs.List.{list_any};
 ghost use Rattle.ti_source.specs.Code.{is_error};
@@ -47,44 +47,44 @@ fn find_state<'a>(
     node: usize,
     slot: &'a Slot,
     is_wrong: bool,
-    work: &mut u64,
+    left: &mut u64,
 ) -> Result<State, AllocError>
     ghost at: { ℕ }
     requires ready { CanSettle known.now node at }
     requires block { slice_get (blocks_known known.now) at ≡ Some (reading_of slot.now.block) }
     requires uses { MatchBool is_wrong (HasUseAtFault (blocks_known known.now) at (reading_of slot.now.block))
         (AreUsesSound (blocks_known known.now) at) }
-    requires room { work.old + length slot.now.block.items.items < 2 ^ 64 }
+    requires room { length slot.now.block.items.items ≤ left.old }
     ensures state { IfOk result (λ state. state_seen state ≡ state_of (blocks_known known.now) (reading_of slot.now.block)) }
     ensures table { IfOk result (λ state. HasTable contents (blocks_known known.now) (reading_of slot.now.block) (table_of state)) }
-    ensures work { OnOk result (work.new ≡ work.old + work_of (blocks_known known.now) (Some (reading_of slot.now.block))) }
+    ensures work { OnOk result (left.new + work_of (blocks_known known.now) (Some (reading_of slot.now.block)) ≡ left.old) }
 {
     if is_wrong || has_error(&slot.block.faults) {
         return Ok(State::Unresolved);
     }
-    compile(alloc, known, node, slot, work)
+    compile(alloc, known, node, slot, left)
 }
 
 /// What is found out about the block at a node: what becomes of it, and its faults but those of
-/// names that earlier blocks own. A step is counted for each of its items, if it resolves.
+/// names that earlier blocks own. Each of its items takes one of the steps left, if it resolves.
 pub(crate) fn settle(
     alloc: Global,
     known: &Known,
     node: usize,
-    work: &mut u64,
+    left: &mut u64,
 ) -> Result<Settled, AllocError>
     ghost at: { ℕ }
     requires ready { CanSettle known.now node at }
-    requires room { (block : Reading) → slice_get (blocks_known known.now) at ≡ Some block → work.old + length block.items < 2 ^ 64 }
+    requires room { (block : Reading) → slice_get (blocks_known known.now) at ≡ Some block → length block.items ≤ left.old }
     ensures settled { IfOk result (λ settled. (block : Reading) → slice_get (blocks_known known.now) at ≡ Some block
         → IsSettled (blocks_known known.now) at block settled) }
-    ensures work { OnOk result (work.new ≡ work.old + work_of (blocks_known known.now) (slice_get (blocks_known known.now) at)) }
+    ensures work { OnOk result (left.new + work_of (blocks_known known.now) (slice_get (blocks_known known.now) at) ≡ left.old) }
 {
     let slot = slot_of(known, node);
     let mut faults = Vec::new(alloc);
     add_locals(&slot.block.faults, true, &mut faults)?;
     let is_wrong = add_item_faults(known, node, &slot.block, &mut faults)?;
-    let state = find_state(alloc, known, node, slot, is_wrong, work)?;
+    let state = find_state(alloc, known, node, slot, is_wrong, left)?;
     add_entry_fault(&slot.block.names, &state, &mut faults)?;
     Ok(Settled { state, faults })
 }

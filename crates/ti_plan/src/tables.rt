@@ -1,6 +1,6 @@
 //! The values of a block and its entry: items are added to a table, the leftmost mention of a
 //! capability first, and the entry that the block had before is patched to have these values.
-ghost use Rattle.std.specs.Prelude.{ℕ, ◌≡◌, ◌+◌, ◌<◌, ◌^◌, ◌↔◌, length, false, List, Some, slice_get, IfOk, IsErrOf, OnOk};
+ghost use Rattle.std.specs.Prelude.{ℕ, ◌≡◌, ◌+◌, ◌<◌, ◌≤◌, ◌↔◌, length, false, List, Some, slice_get, IfOk, IsErrOf, OnOk};
 ghost use Rattle.ti_caps.specs.Tables.{Capability, IsCapability};
 ghost use Rattle.ti_source.specs.Reading.{reading_of, said_import, said_of};
 ghost use Rattle.ti_layout.specs.Image.{image, image_limit};
@@ -49,18 +49,18 @@ fn add_item(
     index: usize,
     what: &What,
     mentions: &mut Mentions,
-    work: &mut u64,
+    left: &mut u64,
 ) -> Result<(), AllocError>
     ghost at: { ℕ }
     requires ready { CanSettle known.now node at }
     requires item { IsItemAt (blocks_known known.now) at index (said_of what.now) }
     requires sets { SetsWell (said_of what.now) }
     requires sound { AreUsesSound (blocks_known known.now) at }
-    requires room { work.old + 1 < 2 ^ 64 }
+    requires room { 0 < left.old }
     ensures added { OnOk result (AddsSaid (blocks_known known.now) (said_of what.now) (contents mentions.old) (contents mentions.new)) }
-    ensures work { OnOk result (work.new ≡ work.old + 1) }
+    ensures work { OnOk result (left.new + 1 ≡ left.old) }
 {
-    *work += 1;
+    *left -= 1;
     // A value or a cancel of a capability that is there stays.
     match what {
         What::Flag(cap) => mentions.push(*cap, Value::True),
@@ -77,20 +77,20 @@ fn make_table(
     known: &Known,
     node: usize,
     block: &Parsed,
-    work: &mut u64,
+    left: &mut u64,
 ) -> Result<Table, AllocError>
     ghost at: { ℕ }
     requires ready { CanSettle known.now node at }
     requires block { slice_get (blocks_known known.now) at ≡ Some (reading_of block.now) }
     requires whole { is_broken (reading_of block.now) ≡ false }
     requires sound { AreUsesSound (blocks_known known.now) at }
-    requires room { work.old + length block.now.items.items < 2 ^ 64 }
+    requires room { length block.now.items.items ≤ left.old }
     ensures table { IfOk result (λ table. IsTableOf (blocks_known known.now) (reading_of block.now) (contents table)) }
-    ensures work { OnOk result (work.new ≡ work.old + length block.now.items.items) }
+    ensures work { OnOk result (left.new + length block.now.items.items ≡ left.old) }
 {
     let mut mentions = Mentions::new(alloc, block.items.len())?;
     for (index, item) in block.items.iter().enumerate() {
-        add_item(known, node, index, &item.what, &mut mentions, work)?;
+        add_item(known, node, index, &item.what, &mut mentions, left)?;
     }
     mentions.into_table()
 }
@@ -156,18 +156,18 @@ pub(crate) fn compile<'a>(
     known: &Known<'a>,
     node: usize,
     slot: &'a Slot,
-    work: &mut u64,
+    left: &mut u64,
 ) -> Result<State, AllocError>
     ghost at: { ℕ }
     requires ready { CanSettle known.now node at }
     requires block { slice_get (blocks_known known.now) at ≡ Some (reading_of slot.now.block) }
     requires whole { is_broken (reading_of slot.now.block) ≡ false }
     requires sound { AreUsesSound (blocks_known known.now) at }
-    requires room { work.old + length slot.now.block.items.items < 2 ^ 64 }
+    requires room { length slot.now.block.items.items ≤ left.old }
     ensures state { IfOk result (λ state. state_seen state ≡ state_of (blocks_known known.now) (reading_of slot.now.block)) }
     ensures table { IfOk result (λ state. HasTable contents (blocks_known known.now) (reading_of slot.now.block) (table_of state)) }
-    ensures work { OnOk result (work.new ≡ work.old + work_of (blocks_known known.now) (Some (reading_of slot.now.block))) }
+    ensures work { OnOk result (left.new + work_of (blocks_known known.now) (Some (reading_of slot.now.block)) ≡ left.old) }
 {
-    let table = make_table(alloc, known, node, &slot.block, work)?;
+    let table = make_table(alloc, known, node, &slot.block, left)?;
     make_state(alloc, slot, entry_before(known, slot), table)
 }

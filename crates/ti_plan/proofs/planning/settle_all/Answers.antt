@@ -8,7 +8,7 @@ use Rattle.ti_plan.proofs.Places.{block_of, node_of_place}
 use Rattle.ti_plan.proofs.Steps.{next_room, steps_more, bound_more}
 use Rattle.ti_plan.proofs.planning.settle_all.Goals as goal
 
-none_made : (n : ℕ) → n ≡ n + 0
+none_made : (n : ℕ) → n + 0 ≡ n
 none_made n = omega arith
 
 from_start : (n : ℕ) → n ≤ n + 0
@@ -26,7 +26,7 @@ settle-requires c =
     let more : take (end + 1) order ≡ take end order ++ node ∷ [] = rw c.deref-node-items.ensures.value (take_more order end 0 within) in
     let can = next_can slots d c.args.components.now.component_of.items order c.loop-node.settled.items end node c.requires.found c.requires.components c.requires.order c.loop-node.invariant.following listed in (
       rw (c.deref.ensures.value, c.deref-in-loop-node.ensures.value) can,
-      λ block s. next_room slots d order end node c.args.steps.now c.loop-node.steps (node_position d node) block c.requires.found c.requires.order.once c.requires.order.nodes listed more can.stands s c.loop-node.invariant.bound c.requires.room,
+      λ block s. next_room slots d order end node c.args.left.now c.loop-node.left (node_position d node) block c.requires.found c.requires.order.once c.requires.order.nodes listed more can.stands s c.loop-node.invariant.bound c.requires.room,
     )
 
 pub index_mut-requires : goal.index_mut-requires
@@ -57,8 +57,8 @@ loop-node-preserved c =
     record {
       following = following_more slots d order c.loop-node.settled.items end node c.in_ok-one.one h.following listed fits (right_at slots d node (node_position d node) c.in_ok-one.one stands c.in_ok-one.ensures.settled);
       steps = rw (more, map-append (node_position d) (take end order) (node ∷ []))
-          (steps_more (blocks_of slots) (map (node_position d) (take end order)) (node_position d node) c.args.steps.now c.loop-node.steps c.settle.new.work h.steps c.in_ok-one.ensures.work);
-      bound = rw more (bound_more slots d (take end order) node (node_position d node) c.args.steps.now c.loop-node.steps c.settle.new.work (block_of slots n.0) c.requires.found stands n.1.block h.bound c.in_ok-one.ensures.work);
+          (steps_more (blocks_of slots) (map (node_position d) (take end order)) (node_position d node) c.args.left.now c.loop-node.left c.settle.new.left h.steps c.in_ok-one.ensures.work);
+      bound = rw more (bound_more slots d (take end order) node (node_position d node) c.args.left.now c.loop-node.left c.settle.new.left (block_of slots n.0) c.requires.found stands n.1.block h.bound c.in_ok-one.ensures.work);
     }
 
 pub returns-clause-settled : goal.returns-clause-settled
@@ -73,6 +73,6 @@ loop-node-init c =
     let none : length all ≡ length c.args.dependents.now.ids.items = omega (arith, c.in_ok-settled.ensures, c.len.ensures, c.args.dependents.now.ids.ok.0) in
     record {
       following = following_begun c.args.slots.now c.args.dependents.now c.args.components.now.order.items all none;
-      steps = none_made c.args.steps.now;
-      bound = from_start c.args.steps.now;
+      steps = none_made c.args.left.now;
+      bound = from_start c.args.left.now;
     }

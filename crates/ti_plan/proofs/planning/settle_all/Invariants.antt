@@ -11,6 +11,6 @@ ghost-settle a = node_position a.known.now.dependents.now a.node
 abbrev pub invariant-loop-node : goal.invariant-loop-node
 invariant-loop-node l = record {
   following : IsFollowing l.slots l.dependents l.components.order.items l.settled.items l.node-index;
-  steps : l.steps ≡ l.fn.steps + work (blocks_of l.slots) (map (node_position l.dependents) (take l.node-index l.components.order.items));
-  bound : l.steps ≤ l.fn.steps + sum_by (λ node. length (slice_index_or l.dependents.uses node [])) (take l.node-index l.components.order.items);
+  steps : l.left + work (blocks_of l.slots) (map (node_position l.dependents) (take l.node-index l.components.order.items)) ≡ l.fn.left;
+  bound : l.fn.left ≤ l.left + sum_by (λ node. length (slice_index_or l.dependents.uses node [])) (take l.node-index l.components.order.items);
 }

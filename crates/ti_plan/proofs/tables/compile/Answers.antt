@@ -31,9 +31,9 @@ returns-clause-work g c =
     let block = reading_of c.args.slot.now.block in
     let items = c.args.slot.now.block.items.items in
     let table = has_table blocks g.at block c.in_ok-table.table c.requires.1.0 c.in_ok-table.ensures.table in
-    let steps : c.make_table.new.work ≡ c.args.work.now + length items = c.in_ok-table.ensures.work in
+    let steps : c.make_table.new.left + length items ≡ c.args.left.now = c.in_ok-table.ensures.work in
     let all : work_of blocks (Some block) ≡ length items = all_work blocks block table.0 table.1 ∙ length-map items item_of in
-    IfOk-weaker c.make_state.result _ _ (λ state is. steps ∙ ap (λ n. c.args.work.now + n) (sym all)) c.make_state.ensures.table
+    IfOk-weaker c.make_state.result _ _ (λ state is. ap (λ n. c.make_table.new.left + n) all ∙ steps) c.make_state.ensures.table
 
 pub make_state-requires-clause-usable : goal.make_state-requires-clause-usable
 make_state-requires-clause-usable g c =

@@ -11,5 +11,5 @@ ghost-add_item g a = g.at
 abbrev pub invariant-loop-index : goal.invariant-loop-index
 invariant-loop-index g l = record {
   added : IsTableOfItems (blocks_of l.known.slots.now) (map item_of (take l.index l.block.items.items)) (contents l.mentions);
-  steps : l.work ≡ l.fn.work + l.index;
+  steps : l.left + l.index ≡ l.fn.left;
 }
