@@ -80,7 +80,7 @@ class Editor:
         return {"line": line, "character": column}
 
     def place_in_use(self, text):
-        """A place behind a `use=` of a text, or any other."""
+        """A place after a `use=` of a text, or any other."""
         ends = [found.end() for found in re.finditer("use=", text)]
         if not ends:
             return self.place(text)

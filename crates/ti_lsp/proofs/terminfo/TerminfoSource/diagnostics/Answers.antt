@@ -10,5 +10,5 @@ use Rattle.ti_lsp.proofs.terminfo.TerminfoSource.diagnostics.Goals as goal
 pub returns : goal.returns
 returns c =
     let same = sym (map-map shown_data diagnostic_seen c.as_slice.result.now)
-        ∙ (ap (λ (all : List Diagnostic). map shown_data (map diagnostic_seen all)) c.as_slice.ensures.value ∙ ap (map shown_data) c.in_ok-all.ensures) in
+    ∙ (ap (λ (all : List Diagnostic). map shown_data (map diagnostic_seen all)) c.as_slice.ensures.value ∙ ap (map shown_data) c.in_ok-all.ensures) in
     IfOk-weaker c.values_of.result _ _ (λ values h. ap items_of (h ∙ same)) c.values_of.ensures
