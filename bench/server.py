@@ -21,6 +21,8 @@ QUESTIONS = {
     "definition": ("definition", "use="),
     "references": ("references", "use="),
     "outline": ("documentSymbol", ""),
+    "hover on a capability": ("hover", "\t"),
+    "hover on a name": ("hover", "use="),
 }
 SECONDS = 600
 

@@ -1,9 +1,12 @@
 //! Blocks come and go at run time: what the index then has, and the way back.
 
 use super::blocks::{Block, list_of};
+use std::alloc::Global;
 use std::rc::RcSlice;
 use std::test::*;
-use ti_slots::{Slots, copy_detail};
+use ti_compiled::{Image, Table};
+use ti_slots::{BlockEntry, KeptFault, Settled, Slots, State, copy_detail};
+use ti_source::Code;
 
 // Takes the slot at a position out, and puts it back without memory. Answers how many names it
 // has.
@@ -76,6 +79,54 @@ fn blocks_come_and_go(rt: HostRuntime) -> Result<(), Fail> {
     assert!(rt; shows(&slots, &BOTH));
     take(&mut slots, 0);
     assert!(rt; shows(&slots, &LAST_ALONE));
+    Ok(())
+}
+
+// A fault of a block.
+fn fault() -> KeptFault {
+    KeptFault {
+        line: 2,
+        code: Code::BadNumber,
+        detail: None,
+    }
+}
+
+// That a block has an entry, with no value, and a fault.
+fn compiled_with_a_fault(alloc: Global) -> Result<Settled, Fail> {
+    let table = Table::new(alloc);
+    let Ok(image) = Image::new(alloc, b"n", &table) else {
+        return Err(Fail::new("no entry"));
+    };
+    let mut faults = Vec::new(alloc);
+    faults.push(fault())?;
+    let state = State::Compiled(BlockEntry { table, image });
+    Ok(Settled { state, faults })
+}
+
+// Whether this says that a block has an entry, and so many faults.
+fn says(settled: &Settled, has_entry: bool, faults: usize) -> bool {
+    settled.state.entry().is_some() == has_entry && settled.faults.len() == faults
+}
+
+// Whether this is what was found out about the first block.
+fn first_says(slots: &Slots, has_entry: bool, faults: usize) -> bool {
+    match slots.ids().first() {
+        Some(id) => says(&slots.slot(*id).settled, has_entry, faults),
+        None => false,
+    }
+}
+
+#[test]
+fn what_is_found_out_is_exchanged(rt: HostRuntime) -> Result<(), Fail> {
+    let mut slots = list_of(rt.alloc(), &BLOCKS)?;
+    let Some(id) = slots.ids().first().copied() else {
+        return Err(Fail::new("no block"));
+    };
+    assert!(rt; first_says(&slots, false, 0));
+    let mut settled = compiled_with_a_fault(rt.alloc())?;
+    slots.settle(id, &mut settled);
+    assert!(rt; first_says(&slots, true, 1));
+    assert!(rt; says(&settled, false, 0));
     Ok(())
 }
 

@@ -10,12 +10,12 @@ const BLOCK: &[u8] =
 /// An offset of it, where the item is that it is on, the item's name, and the item's bytes.
 #[rattlefmt::skip]
 const ITEMS: [(usize, (usize, usize), &[u8], &[u8]); 10] = [
-    // White space behind an item is of its place, and not of its bytes.
+    // White space after an item is of its place, and not of its bytes.
     (6, (6, 9), b"am", b"am"),
     (9, (6, 9), b"am", b"am"),
     (11, (11, 18), b"cols", b"cols#80"),
     (18, (11, 18), b"cols", b"cols#80"),
-    // A comma behind a caret ends an item; the break within the string is spanned.
+    // A comma after a caret ends an item; the break within the string is spanned.
     (25, (21, 43), b"cup", b"cup=\\E[%i%p1%d^"),
     (43, (21, 43), b"cup", b"cup=\\E[%i%p1%d^"),
     (46, (44, 47), b"\\,", b"\\,="),
