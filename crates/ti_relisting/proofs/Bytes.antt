@@ -22,7 +22,8 @@ bytes-placed line (x ∷ xs) = ap (λ t. x ∷ t) (bytes-placed (cond (x == 10) 
 bytes-without_comments : (comment : Bool) (before : ℕ) (s : List PlacedByte) → bytes (without_comments comment before s) ≡ uncommented comment before (bytes s)
 bytes-without_comments comment before [] = refl
 bytes-without_comments comment before (x ∷ xs) =
-    elim (in_comment comment before x.0) as (λ b. bytes (cond b (without_comments true x.0 xs) (x ∷ without_comments false x.0 xs)) ≡ cond b (uncommented true x.0 (bytes xs)) (x.0 ∷ uncommented false x.0 (bytes xs))) [
+    elim (in_comment comment before x.0) as (λ b. bytes (cond b (without_comments true x.0 xs) (x ∷ without_comments false x.0 xs))
+    ≡ cond b (uncommented true x.0 (bytes xs)) (x.0 ∷ uncommented false x.0 (bytes xs))) [
       | true ↦ bytes-without_comments true x.0 xs
       | false ↦ ap (λ t. x.0 ∷ t) (bytes-without_comments false x.0 xs)
     ]
@@ -30,7 +31,8 @@ bytes-without_comments comment before (x ∷ xs) =
 bytes-joined : (joining : Bool) (s : List PlacedByte) → bytes (without_breaks joining s) ≡ unbroken joining (bytes s)
 bytes-joined joining [] = refl
 bytes-joined joining (x ∷ xs) =
-    elim (x.0 == 10 || (joining && is_white_space x.0)) as (λ b. bytes (cond b (without_breaks true xs) (x ∷ without_breaks false xs)) ≡ cond b (unbroken true (bytes xs)) (x.0 ∷ unbroken false (bytes xs))) [
+    elim (x.0 == 10 || (joining && is_white_space x.0)) as (λ b. bytes (cond b (without_breaks true xs) (x ∷ without_breaks false xs))
+    ≡ cond b (unbroken true (bytes xs)) (x.0 ∷ unbroken false (bytes xs))) [
       | true ↦ bytes-joined true xs
       | false ↦ ap (λ t. x.0 ∷ t) (bytes-joined false xs)
     ]

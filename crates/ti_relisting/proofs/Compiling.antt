@@ -37,7 +37,8 @@ abbrev pub used_at : (List ℕ → Option Reading) → ℕ → List ℕ → Opti
 used_at env depth name = option_and_then (expand env depth) (env name)
 
 -- a block without faults, that has these items, expands to their mentions
-expand-says : (env : List ℕ → Option Reading) (depth : ℕ) (block : Reading) (items : List Said) → block.faults ≡ [] → map (λ (item : ReadItem). item.said) block.items ≡ items
+expand-says : (env : List ℕ → Option Reading) (depth : ℕ) (block : Reading) (items : List Said) → block.faults ≡ []
+    → map (λ (item : ReadItem). item.said) block.items ≡ items
     → expand env (suc depth) block ≡ expand_says (used_at env depth) items
 expand-says env depth block items none says =
     let sound : is_broken block ≡ false = ap (λ faults. list_any (λ (fault : ReadFault). is_error fault.code) faults) none in
@@ -51,7 +52,8 @@ own-at env depth block table cs more none says =
 
 -- what the mentions of a block say has the values of the table, and the image is within the limit
 pub entry-is : ImagesAreOfValues → LimitsAreOfValues → (blocks : List Reading) (block : Reading) (field : List ℕ) (table : Contents) (ms : List Mention)
-    → expansion blocks block ≡ Some ms → block.field ≡ field → ((c : Capability) → IsCapability c → without_cancel (leftmost_content ms c) ≡ without_cancel (table c)) → ImageFits field table
+    → expansion blocks block ≡ Some ms → block.field ≡ field
+    → ((c : Capability) → IsCapability c → without_cancel (leftmost_content ms c) ≡ without_cancel (table c)) → ImageFits field table
     → entry blocks block ≡ Some (image field table)
 entry-is images limits blocks block field table ms expands is_field tells within =
     let same : (c : Capability) → IsCapability c → without_cancel (values ms c) ≡ without_cancel (table c) = λ c is. uncancelled-twice (leftmost_content ms c) ∙ tells c is in
@@ -66,21 +68,25 @@ option_or-nothing None = refl
 option_or-nothing (Some x) = refl
 
 -- a listing, as it is read
-pub listing-read : EachKindIsInOrder → PartsAreRead → (field : List ℕ) (names : List (List ℕ)) (table : Contents) (layout : Layout) → IsListable field names → CanHaveAll table
+pub listing-read : EachKindIsInOrder → PartsAreRead → (field : List ℕ) (names : List (List ℕ)) (table : Contents) (layout : Layout)
+    → IsListable field names → CanHaveAll table
     → IsReadAs field names (items_for table (all_in layout.order) ++ []) (reading_of_text (listing field table layout))
 listing-read ordered read field names table layout good has =
     read field names (items_for table (all_in layout.order) ++ []) (listing field table layout) good
     (all-can ordered table layout [] has (All-nil CanBeListed)) (listed-all field table layout [] (10 ∷ []) no_more)
 
 -- a listing expands to what its entry has, whatever is next to it
-pub listing-expands : EachKindIsInOrder → PartsAreRead → (env : List ℕ → Option Reading) (depth : ℕ) (field : List ℕ) (names : List (List ℕ)) (table : Contents) (layout : Layout) → IsListable field names
+pub listing-expands : EachKindIsInOrder → PartsAreRead
+    → (env : List ℕ → Option Reading) (depth : ℕ) (field : List ℕ) (names : List (List ℕ)) (table : Contents) (layout : Layout)
+    → IsListable field names
     → CanHaveAll table → expand env (suc depth) (reading_of_text (listing field table layout)) ≡ Some (mentions_for table (all_in layout.order))
 listing-expands ordered read env depth field names table layout good has =
     let is = listing-read ordered read field names table layout good has in
     own-at env depth (reading_of_text (listing field table layout)) table (all_in layout.order) [] is.none_wrong is.says
     ∙ ap (λ ms. Some ms) (append-nil (mentions_for table (all_in layout.order)))
 
-pub all-contents : EachKindIsInOrder → (table : Contents) (layout : Layout) (ms : List Mention) (c : Capability) → IsCapability c → leftmost_content (mentions_for table (all_in layout.order) ++ ms) c ≡ option_or (table c) (leftmost_content ms c)
+pub all-contents : EachKindIsInOrder → (table : Contents) (layout : Layout) (ms : List Mention) (c : Capability) → IsCapability c
+    → leftmost_content (mentions_for table (all_in layout.order) ++ ms) c ≡ option_or (table c) (leftmost_content ms c)
 all-contents ordered table layout ms c is = all-say table (all_in layout.order) ms c ((all_in-all ordered layout.order).complete c is)
 
 pub listings_compile : EachKindIsInOrder → PartsAreRead → ImagesAreOfValues → LimitsAreOfValues → ListingsCompile
@@ -94,4 +100,5 @@ listings_compile ordered read images limits field names table layout good has wi
     λ c cap. ap without_cancel (ap (λ l. leftmost_content l c) (sym (append-nil ms)) ∙ all-contents ordered table layout [] c cap ∙ option_or-nothing (table c)) in
     let read_there : slice_get blocks at ≡ Some (reading_of_text text) = slice_get-map reading_of_text texts at ∙ ap (option_map reading_of_text) stands in
     ap (option_and_then (entry blocks)) read_there
-    ∙ entry-is images limits blocks (reading_of_text text) field table ms (listing-expands ordered read (owner_block blocks) (length blocks) field names table layout good has) is.same_field tells within
+    ∙ entry-is images limits blocks (reading_of_text text) field table ms
+    (listing-expands ordered read (owner_block blocks) (length blocks) field names table layout good has) is.same_field tells within

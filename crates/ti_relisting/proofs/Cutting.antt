@@ -153,7 +153,8 @@ good_text percent edge b lt =
 percent-at : (after : ℕ) → is_percent (cond (is_percent after) 37 0) ≡ is_percent after
 percent-at after = elim (cases_Bool (is_percent after)) [ inl t ↦ rw t refl | inr f ↦ rw f refl ]
 
-pub written_from-clear : (first : Bool) (before after : ℕ) (v : List ℕ) → is_percent before ≡ is_percent after → AreBytes v → is_clear after (written_from first before v) ≡ true
+pub written_from-clear : (first : Bool) (before after : ℕ) (v : List ℕ) → is_percent before ≡ is_percent after → AreBytes v
+    → is_clear after (written_from first before v) ≡ true
 written_from-clear first before after [] e h = refl
 written_from-clear first before after (x ∷ xs) e h =
     let t = byte_text (is_percent before) (first || is_empty xs) x in

@@ -75,7 +75,8 @@ record IsParsedFrom (texts : List (List ℕ)) (at : ℕ) (block : Reading) : Typ
   pub stands : slice_get texts at ≡ Some text
   pub is : reading_of_text text ≡ block
 
-mapped : (o : Option (List ℕ)) (block : Reading) → option_map reading_of_text o ≡ Some block → (text : List ℕ) × (o ≡ Some text) × (reading_of_text text ≡ block)
+mapped : (o : Option (List ℕ)) (block : Reading) → option_map reading_of_text o ≡ Some block
+    → (text : List ℕ) × (o ≡ Some text) × (reading_of_text text ≡ block)
 mapped None block e = absurd (none-some block e)
 mapped (Some text) block e = (text, refl, same_Some (reading_of_text text) block e)
 
@@ -130,7 +131,8 @@ has-image known texts at bytes are is =
       listable = subst (λ b. IsListable b.field b.names) of_text.is (block-listable of_text.text text.0 (known.computed of_text.text) (ap is_broken of_text.is ∙ sound));
       some = subst (λ (b : Reading). b.field ≢ []) of_text.is named.some;
       no_nul = subst (λ (b : Reading). All (λ byte. byte ≢ 0) b.field) of_text.is named.no_nul;
-      fit = expand-fits (owner_block blocks) (λ name b e. owned-has BlockFits blocks name b fits e) (suc (length blocks)) block ms (subst BlockFits of_text.is (text-fits known of_text.text text)) expands.is;
+      fit = expand-fits (owner_block blocks) (λ name b e. owned-has BlockFits blocks name b fits e) (suc (length blocks)) block ms
+          (subst BlockFits of_text.is (text-fits known of_text.text text)) expands.is;
       is = image.is;
       within = image.within;
     }
@@ -169,7 +171,8 @@ is-shown known bytes shown entry =
       within = omega (arith, sizes, limit, is_within);
     }
 
-listing-stands : EachKindIsInOrder → PartsAreBlocks → (shown : Entry) (layout : Layout) → CanBeShown shown → OneBlock (listing shown.names shown.contents layout)
+listing-stands : EachKindIsInOrder → PartsAreBlocks → (shown : Entry) (layout : Layout) → CanBeShown shown
+    → OneBlock (listing shown.names shown.contents layout)
 listing-stands ordered stands shown layout can =
     stands shown.names can.names (items_for shown.contents (all_in layout.order) ++ []) (listing shown.names shown.contents layout) can.listable
     (all-can ordered shown.contents layout [] can.holds (All-nil CanBeListed)) (listed-all shown.names shown.contents layout [] (10 ∷ []) no_more)
@@ -225,7 +228,8 @@ listings-stand ordered stands (one ∷ listed) used =
     All-cons OneBlock (listing_of one) (map listing_of listed)
     (listing-stands ordered stands one.0 one.1 (All-head CanBeUsed one.0 (entries_of listed) used).shown) (listings-stand ordered stands listed (All-tail CanBeUsed one.0 (entries_of listed) used))
 
-relative-stands : EachKindIsInOrder → PartsAreBlocks → (entry : Entry) (layout : Layout) (listed : List Listed) → CanBeShown entry → All CanBeUsed (entries_of listed)
+relative-stands : EachKindIsInOrder → PartsAreBlocks → (entry : Entry) (layout : Layout) (listed : List Listed) → CanBeShown entry
+    → All CanBeUsed (entries_of listed)
     → All OneBlock (with_others entry layout listed)
 relative-stands ordered stands shown layout listed can used =
     let others = entries_of listed in

@@ -63,7 +63,8 @@ joined-some (Some xs) (Some ys) all e = record { first = xs; second = ys; is_fir
 one-fits : (m : Mention) (ms : List Mention) → MentionFits m → Some (m ∷ []) ≡ Some ms → All MentionFits ms
 one-fits m ms fits e = subst (λ l. All MentionFits l) (same_Some (m ∷ []) ms e) (All-cons MentionFits m [] fits (All-nil MentionFits))
 
-item-mentions-fit : (of_name : List ℕ → Option (List Mention)) → ((name : List ℕ) (ms : List Mention) → of_name name ≡ Some ms → All MentionFits ms) → (item : Said) (ms : List Mention)
+item-mentions-fit : (of_name : List ℕ → Option (List Mention)) → ((name : List ℕ) (ms : List Mention) → of_name name ≡ Some ms → All MentionFits ms)
+    → (item : Said) (ms : List Mention)
     → SaidFits item → mentions_of of_name item ≡ Some ms → All MentionFits ms
 item-mentions-fit of_name h (said_flag c) ms fits e = one-fits (record { capability = c; says = content_true }) ms fits e
 item-mentions-fit of_name h (said_number c n) ms fits e = one-fits (record { capability = c; says = content_number n }) ms fits e
@@ -71,7 +72,8 @@ item-mentions-fit of_name h (said_text c t) ms fits e = one-fits (record { capab
 item-mentions-fit of_name h (said_cancel c) ms fits e = one-fits (record { capability = c; says = content_cancelled }) ms (fits, tt) e
 item-mentions-fit of_name h (said_import name) ms fits e = h name ms e
 
-items-mentions-fit : (of_name : List ℕ → Option (List Mention)) → ((name : List ℕ) (ms : List Mention) → of_name name ≡ Some ms → All MentionFits ms) → (items : List ReadItem) (ms : List Mention)
+items-mentions-fit : (of_name : List ℕ → Option (List Mention)) → ((name : List ℕ) (ms : List Mention) → of_name name ≡ Some ms → All MentionFits ms)
+    → (items : List ReadItem) (ms : List Mention)
     → All ItemFits items → expand_items of_name items ≡ Some ms → All MentionFits ms
 items-mentions-fit of_name h [] ms fits e = subst (λ l. All MentionFits l) (same_Some [] ms e) (All-nil MentionFits)
 items-mentions-fit of_name h (item ∷ items) ms fits e =
@@ -81,7 +83,8 @@ items-mentions-fit of_name h (item ∷ items) ms fits e =
     (item-mentions-fit of_name h item.said parts.first (All-head ItemFits item items fits) parts.is_first)
     (items-mentions-fit of_name h items parts.second (All-tail ItemFits item items fits) parts.is_second))
 
-pub unbroken-expand : (env : List ℕ → Option Reading) (depth : ℕ) (block : Reading) (ms : List Mention) → expand env (suc depth) block ≡ Some ms → is_broken block ≡ false
+pub unbroken-expand : (env : List ℕ → Option Reading) (depth : ℕ) (block : Reading) (ms : List Mention) → expand env (suc depth) block ≡ Some ms
+    → is_broken block ≡ false
 unbroken-expand env depth block ms e =
     elim (cases_Bool (is_broken block)) [
       | inl t ↦ absurd (none-some ms (rw t at e))
@@ -98,7 +101,8 @@ pub follows : {X Y : Type 0} (f : X → Option Y) (o : Option X) (y : Y) → opt
 follows f None y e = absurd (none-some y e)
 follows f (Some x) y e = record { from = x; is = refl; gives = e }
 
-pub expand-fits : (env : List ℕ → Option Reading) → ((name : List ℕ) (block : Reading) → env name ≡ Some block → All ItemFits block.items) → (depth : ℕ) (block : Reading) (ms : List Mention)
+pub expand-fits : (env : List ℕ → Option Reading) → ((name : List ℕ) (block : Reading) → env name ≡ Some block → All ItemFits block.items)
+    → (depth : ℕ) (block : Reading) (ms : List Mention)
     → All ItemFits block.items → expand env depth block ≡ Some ms → All MentionFits ms
 expand-fits env good zero block ms fits e = absurd (none-some ms e)
 expand-fits env good (suc depth) block ms fits e =

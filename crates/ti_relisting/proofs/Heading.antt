@@ -1,5 +1,6 @@
 -- The names field of a block that has an entry can be listed, and its first name is a lookup name.
-use Rattle.std.proofs.Common.{◌≡◌, ◌≢◌, ℕ, suc, ◌+◌, ◌-◌, ◌≤◌, Bool, true, false, not, ◌==◌, ◌||◌, ◌&&◌, List, [], ◌∷◌, ◌++◌, length, take, nat_lt, Option, Some, None, refl, ap, sym, ◌∙◌, subst, inl, inr, arith}
+use Rattle.std.proofs.Common.{◌≡◌, ◌≢◌, ℕ, suc, ◌+◌, ◌-◌, ◌≤◌, Bool, true, false, not, ◌==◌, ◌||◌, ◌&&◌}
+use Rattle.std.proofs.Common.{List, [], ◌∷◌, ◌++◌, length, take, nat_lt, Option, Some, None, refl, ap, sym, ◌∙◌, subst, inl, inr, arith}
 use Rattle.std.specs.List.{list_all, list_any, All, Contains, before_first, join_with_byte, prefix_len}
 use Rattle.std.proofs.lemmas.Bool.{cases_Bool, ltb-false, and_parts, and_from, or_parts, not-true, not_from_false, ne_eqb, true≢false}
 use Rattle.std.proofs.lemmas.List.Elements.{All-head, All-from_get_or, All-weaker}
@@ -38,7 +39,8 @@ record IsGoodHeader (field : List ℕ) (names : List (List ℕ)) : Type 0 where
   pub header : HeaderNames field names
   pub short : length field ≤ names_max
 
-good-header : (field : List ℕ) (names : Option (List (List ℕ))) → ReadsNames field names → has_error (header_faults field names) ≡ false → IsGoodHeader field (names_found names)
+good-header : (field : List ℕ) (names : Option (List (List ℕ))) → ReadsNames field names → has_error (header_faults field names) ≡ false
+    → IsGoodHeader field (names_found names)
 good-header field None bad e = absurd (true≢false e)
 good-header field (Some names) header e =
     elim (cases_Bool (nat_lt names_max (length field))) [
@@ -98,7 +100,8 @@ folded-first (x ∷ xs) head =
     let hash = (or_parts (is_white_space x) (x == 35) none.0).1 in
     rw (bytes-folded (x ∷ xs), hash, none.1) hash
 
-pub block-listable : (text : List ℕ) → OneBlock text → Parses text (reading_of_text text) → is_broken (reading_of_text text) ≡ false → IsListable (reading_of_text text).field (reading_of_text text).names
+pub block-listable : (text : List ℕ) → OneBlock text → Parses text (reading_of_text text) → is_broken (reading_of_text text) ≡ false
+    → IsListable (reading_of_text text).field (reading_of_text text).names
 block-listable text one has sound =
     let header = header_faults (bytes has.field) has.names in
     let faults : has_error (header ++ faults_from 0 has.judged) ≡ false = ap (λ r. has_error r.faults) (sym has.is) ∙ sound in
@@ -139,7 +142,8 @@ apart-all w none =
     list_all-from_AllPass (λ b. not (b == 124)) w (All-weaker (λ b. b ≢ 124) (λ b. not (b == 124) ≡ true) (λ b ne. not_from_false (b == 124) (ne_eqb b 124 ne)) w others)
 
 -- in a field of several parts the first is a lookup name, if the lookup parts are lookup names
-first-part : (field : List ℕ) (parts : List (List ℕ)) → field ≡ join_with_byte 124 parts → parts ≢ [] → All (λ part. ¬ Contains part 124) parts → All IsLookupName (lookup_parts parts)
+first-part : (field : List ℕ) (parts : List (List ℕ)) → field ≡ join_with_byte 124 parts → parts ≢ [] → All (λ part. ¬ Contains part 124) parts
+    → All IsLookupName (lookup_parts parts)
     → IsLookupName (first_name field)
 first-part field [] whole some apart lookup = absurd (some refl)
 first-part field (p ∷ []) whole some apart lookup =

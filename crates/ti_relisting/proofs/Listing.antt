@@ -28,7 +28,8 @@ use Rattle.ti_relisting.proofs.Orders.{is_among, all_in, all_in-all}
 item-then : (item : Said) (later rest : List ℕ) → item_text item ++ 44 ∷ (later ++ rest) ≡ (item_text item ++ 44 ∷ later) ++ rest
 item-then item later rest = sym (append_assoc (item_text item) (44 ∷ later) rest)
 
-further-tail : (layout : Layout) (column : ℕ) (items more : List Said) (rest : List ℕ) → IsTail more rest → IsTail (items ++ more) (further_items layout column items ++ rest)
+further-tail : (layout : Layout) (column : ℕ) (items more : List Said) (rest : List ℕ) → IsTail more rest
+    → IsTail (items ++ more) (further_items layout column items ++ rest)
 further-tail layout column [] more rest laid = laid
 further-tail layout column (item ∷ items) more rest laid =
     let below = further_items layout (8 + size_of item) items in
@@ -61,7 +62,8 @@ entry_items-all layout table =
     sym (items_for-append table flags (numbers ++ texts) ∙ ap (λ l. items_for table flags ++ l) (items_for-append table numbers texts))
 
 -- a listing in any layout is one of the items of its entry, and then of those of the rest
-listed-is : (field : List ℕ) (table : Contents) (layout : Layout) (more : List Said) (rest : List ℕ) → IsTail more rest → IsListing field (entry_items layout table ++ more) (source_lines field table layout ++ rest)
+listed-is : (field : List ℕ) (table : Contents) (layout : Layout) (more : List Said) (rest : List ℕ) → IsTail more rest
+    → IsListing field (entry_items layout table ++ more) (source_lines field table layout ++ rest)
 listed-is field table layout more rest laid =
     let flags = kind_items layout table Flag in
     let numbers = kind_items layout table Number in
@@ -125,7 +127,8 @@ items-can table (c ∷ cs) valid has =
     let is : IsCapability c = All-head IsCapability c cs valid in
     All-append CanBeListed (item_for c (table c)) (items_for table cs) (item-can c (table c) is (has c is)) (items-can table cs (All-tail IsCapability c cs valid) has)
 
-pub all-can : EachKindIsInOrder → (table : Contents) (layout : Layout) (more : List Said) → CanHaveAll table → All CanBeListed more → All CanBeListed (items_for table (all_in layout.order) ++ more)
+pub all-can : EachKindIsInOrder → (table : Contents) (layout : Layout) (more : List Said) → CanHaveAll table → All CanBeListed more
+    → All CanBeListed (items_for table (all_in layout.order) ++ more)
 all-can ordered table layout more has can =
     All-append CanBeListed (items_for table (all_in layout.order)) more (items-can table (all_in layout.order) (all_in-all ordered layout.order).valid has) can
 
@@ -146,7 +149,8 @@ abbrev pub expand_says : (List ℕ → Option (List Mention)) → List Said → 
 expand_says of_name [] = Some []
 expand_says of_name (item ∷ items) = both_lists (mentions_of of_name item) (expand_says of_name items)
 
-pub expand_items-says : (of_name : List ℕ → Option (List Mention)) (items : List ReadItem) → expand_items of_name items ≡ expand_says of_name (map (λ (item : ReadItem). item.said) items)
+pub expand_items-says : (of_name : List ℕ → Option (List Mention)) (items : List ReadItem)
+    → expand_items of_name items ≡ expand_says of_name (map (λ (item : ReadItem). item.said) items)
 expand_items-says of_name [] = refl
 expand_items-says of_name (item ∷ items) = ap (both_lists (mentions_of of_name item.said)) (expand_items-says of_name items)
 
@@ -163,13 +167,22 @@ before-nil : (o : Option (List Mention)) → before [] o ≡ o
 before-nil None = refl
 before-nil (Some others) = refl
 
+-- one mention more, before those that the items give
+mention-first : (m : Mention) (ms : List Mention) (later given : Option (List Mention)) → given ≡ before ms later
+    → both_lists (Some (m ∷ [])) given ≡ before (m ∷ ms) later
+mention-first m ms later given e = ap (both_lists (Some (m ∷ []))) e ∙ joined-before m ms later
+
 item-expands : (of_name : List ℕ → Option (List Mention)) (c : Capability) (o : Option Content) (ms : List Mention) (items : List Said) (later : Option (List Mention))
     → expand_says of_name items ≡ before ms later → expand_says of_name (item_for c o ++ items) ≡ before (mention_for c o ++ ms) later
 item-expands of_name c None ms items later e = e
-item-expands of_name c (Some content_true) ms items later e = ap (both_lists (Some (record { capability = c; says = content_true } ∷ []))) e ∙ joined-before (record { capability = c; says = content_true }) ms later
-item-expands of_name c (Some (content_number n)) ms items later e = ap (both_lists (Some (record { capability = c; says = content_number n } ∷ []))) e ∙ joined-before (record { capability = c; says = content_number n }) ms later
-item-expands of_name c (Some (content_text t)) ms items later e = ap (both_lists (Some (record { capability = c; says = content_text t } ∷ []))) e ∙ joined-before (record { capability = c; says = content_text t }) ms later
-item-expands of_name c (Some content_cancelled) ms items later e = ap (both_lists (Some (record { capability = c; says = content_cancelled } ∷ []))) e ∙ joined-before (record { capability = c; says = content_cancelled }) ms later
+item-expands of_name c (Some content_true) ms items later e =
+    mention-first (record { capability = c; says = content_true }) ms later (expand_says of_name items) e
+item-expands of_name c (Some (content_number n)) ms items later e =
+    mention-first (record { capability = c; says = content_number n }) ms later (expand_says of_name items) e
+item-expands of_name c (Some (content_text t)) ms items later e =
+    mention-first (record { capability = c; says = content_text t }) ms later (expand_says of_name items) e
+item-expands of_name c (Some content_cancelled) ms items later e =
+    mention-first (record { capability = c; says = content_cancelled }) ms later (expand_says of_name items) e
 
 -- own items give own mentions, whatever follows them
 pub own-expands : (of_name : List ℕ → Option (List Mention)) (table : Contents) (cs : List Capability) (more : List Said)
@@ -190,12 +203,14 @@ mention-same d c None true ms later s e = e
 mention-same d c None false ms later s e = e
 mention-same d c (Some content) b ms later s e = rw s refl
 
-mention-other : (d c : Capability) (o : Option Content) (ms : List Mention) → same_capability d c ≡ false → leftmost_content (mention_for d o ++ ms) c ≡ leftmost_content ms c
+mention-other : (d c : Capability) (o : Option Content) (ms : List Mention) → same_capability d c ≡ false
+    → leftmost_content (mention_for d o ++ ms) c ≡ leftmost_content ms c
 unfolding contents
 mention-other d c None ms f = refl
 mention-other d c (Some content) ms f = rw f refl
 
-items-say : (table : Contents) (cs : List Capability) (ms : List Mention) (c : Capability) → leftmost_content (mentions_for table cs ++ ms) c ≡ option_or (told table cs c) (leftmost_content ms c)
+items-say : (table : Contents) (cs : List Capability) (ms : List Mention) (c : Capability)
+    → leftmost_content (mentions_for table cs ++ ms) c ≡ option_or (told table cs c) (leftmost_content ms c)
 unfolding contents
 items-say table [] ms c = refl
 items-say table (d ∷ cs) ms c =
@@ -209,5 +224,6 @@ items-say table (d ∷ cs) ms c =
     ]
 
 -- if each capability is among them, their mentions say what the table has, and then what follows
-pub all-say : (table : Contents) (cs : List Capability) (ms : List Mention) (c : Capability) → is_among cs c ≡ true → leftmost_content (mentions_for table cs ++ ms) c ≡ option_or (table c) (leftmost_content ms c)
+pub all-say : (table : Contents) (cs : List Capability) (ms : List Mention) (c : Capability) → is_among cs c ≡ true
+    → leftmost_content (mentions_for table cs ++ ms) c ≡ option_or (table c) (leftmost_content ms c)
 all-say table cs ms c t = items-say table cs ms c ∙ ap (λ b. option_or (cond b (table c) None) (leftmost_content ms c)) t

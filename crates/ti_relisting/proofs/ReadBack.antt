@@ -43,7 +43,8 @@ dark-front [] h = refl
 dark-front (x ∷ xs) h = rw (or_parts (x == 10) (is_white_space x) (not-true (x == 10 || is_white_space x) h)).1 refl
 
 -- the text after the first comma is read in its turn
-item-read : (item : Said) (items : List Said) (u w rest : List ℕ) (s : List PlacedByte) → bytes s ≡ u ++ 44 ∷ rest → is_whole 44 u ≡ true → without_white_front u ≡ w
+item-read : (item : Said) (items : List Said) (u w rest : List ℕ) (s : List PlacedByte) → bytes s ≡ u ++ 44 ∷ rest → is_whole 44 u ≡ true
+    → without_white_front u ≡ w
     → IsReadable w item → ((later : List PlacedByte) → bytes later ≡ rest → AreRead later items) → AreRead s (item ∷ items)
 item-read item items u w rest s e whole front readable more =
     let parts = split-bytes s u (44 ∷ rest) e in
@@ -92,11 +93,14 @@ tail-read found spells _ _ can (new_line item items tail laid) s e =
 tail-calm : EveryNameIsFound → WrittenSpells → (items : List Said) (tail : List ℕ) → All CanBeListed items → IsTail items tail → is_calm 44 tail ≡ true
 tail-calm found spells _ _ can no_more = refl
 tail-calm found spells _ _ can (same_line item items tail laid) =
-    calm-inline 32 (item_text item) tail refl (item-readable found spells item (All-head CanBeListed item items can)).inline (tail-calm found spells items tail (All-tail CanBeListed item items can) laid)
+    calm-inline 32 (item_text item) tail refl (item-readable found spells item (All-head CanBeListed item items can)).inline
+    (tail-calm found spells items tail (All-tail CanBeListed item items can) laid)
 tail-calm found spells _ _ can (new_line item items tail laid) =
-    calm-inline 9 (item_text item) tail refl (item-readable found spells item (All-head CanBeListed item items can)).inline (tail-calm found spells items tail (All-tail CanBeListed item items can) laid)
+    calm-inline 9 (item_text item) tail refl (item-readable found spells item (All-head CanBeListed item items can)).inline
+    (tail-calm found spells items tail (All-tail CanBeListed item items can) laid)
 
-text-calm : (field tail : List ℕ) → ((first : ℕ) (others : List ℕ) → field ≡ first ∷ others → (first == 35) ≡ false) → is_inline field ≡ true → is_calm 44 tail ≡ true → is_calm 10 (field ++ 44 ∷ tail) ≡ true
+text-calm : (field tail : List ℕ) → ((first : ℕ) (others : List ℕ) → field ≡ first ∷ others → (first == 35) ≡ false) → is_inline field ≡ true
+    → is_calm 44 tail ≡ true → is_calm 10 (field ++ 44 ∷ tail) ≡ true
 text-calm [] tail plain inline calm = calm
 text-calm (x ∷ xs) tail plain inline calm =
     let parts = and_parts (not (x == 10)) (is_inline xs) inline in
@@ -115,7 +119,8 @@ record HasListing (text : List ℕ) (field : List ℕ) (names : List (List ℕ))
   pub parses : Parses text reading
   pub is : IsReadAs field names items reading
 
-listing-parses : EveryNameIsFound → WrittenSpells → (field : List ℕ) (names : List (List ℕ)) (items : List Said) (text : List ℕ) → IsListable field names → All CanBeListed items
+listing-parses : EveryNameIsFound → WrittenSpells → (field : List ℕ) (names : List (List ℕ)) (items : List Said) (text : List ℕ)
+    → IsListable field names → All CanBeListed items
     → IsListing field items text → HasListing text field names items
 listing-parses found spells field names items text good can is =
     let calm = text-calm field is.tail good.plain good.inline (tail-calm found spells items is.tail can is.is_tail) in

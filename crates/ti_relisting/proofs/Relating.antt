@@ -15,7 +15,6 @@ use Rattle.ti_layout.specs.Values.{Content, content_true, content_number, conten
 use Rattle.ti_layout.specs.Laws.{without_cancel, ImagesAreOfValues, LimitsAreOfValues}
 use Rattle.ti_meaning.specs.Owner.{is_among, owner, owner_block, readings}
 use Rattle.ti_meaning.specs.Expansion.{Mention, leftmost_content, expand, expansion}
-use Rattle.ti_list.specs.declared.layout.Layout.{Layout}
 use Rattle.ti_list.specs.Items.{CanBeListed, IsReadAs}
 use Rattle.ti_list.specs.Listing.{listing}
 use Rattle.ti_layout.specs.View.{Entry}
@@ -92,7 +91,8 @@ uses-expand of_name (one ∷ listed) h =
     let first = h 0 one refl in
     rw (first, later) refl
 
-used-contents : EachKindIsInOrder → (listed : List Listed) (c : Capability) → IsCapability c → leftmost_content (used_mentions listed) c ≡ first_of (entries_of listed) c
+used-contents : EachKindIsInOrder → (listed : List Listed) (c : Capability) → IsCapability c
+    → leftmost_content (used_mentions listed) c ≡ first_of (entries_of listed) c
 unfolding contents
 used-contents ordered [] c is = refl
 used-contents ordered (one ∷ listed) c is =
@@ -100,7 +100,8 @@ used-contents ordered (one ∷ listed) c is =
 
 -- ---- the owners
 
-owned-some : (b : Reading) (bs : List Reading) (name : List ℕ) (o : Option ℕ) (i : ℕ) → owner bs name ≡ o → ((j : ℕ) → owner bs name ≡ Some j → owner_block bs name ≡ slice_get bs j)
+owned-some : (b : Reading) (bs : List Reading) (name : List ℕ) (o : Option ℕ) (i : ℕ) → owner bs name ≡ o
+    → ((j : ℕ) → owner bs name ≡ Some j → owner_block bs name ≡ slice_get bs j)
     → option_map (λ at. suc at) o ≡ Some i → owner_block bs name ≡ slice_get (b ∷ bs) i
 owned-some b bs name None i is later e = absurd (none-some i e)
 owned-some b bs name (Some j) i is later e =
@@ -138,7 +139,8 @@ relatives_compile ordered read images limits e layout listed shown used owns wit
     read e.names shown.names (own ++ uses_of others) text shown.listable
     (all-can ordered table layout (uses_of others) has (uses-can others used)) (relative-all e others layout) in
     let list_one : Listed → List ℕ = λ one. listing one.0.names one.0.contents one.1 in
-    let expands : (i : ℕ) (one : Listed) → slice_get listed i ≡ Some one → used_at (owner_block blocks) (length blocks) (first_name one.0.names) ≡ Some (mentions_for one.0.contents (all_in one.1.order)) =
+    let expands : (i : ℕ) (one : Listed) → slice_get listed i ≡ Some one
+    → used_at (owner_block blocks) (length blocks) (first_name one.0.names) ≡ Some (mentions_for one.0.contents (all_in one.1.order)) =
     λ i one at.
     let one_shown = (All-at CanBeUsed others i one.0 used (at-place (λ (o : Listed). o.0) listed i one at)).shown in
     let stands : slice_get blocks (suc i) ≡ Some (reading_of_text (list_one one)) = at-place reading_of_text (map list_one listed) i (list_one one) (at-place list_one listed i one at) in
@@ -149,5 +151,6 @@ relatives_compile ordered read images limits e layout listed shown used owns wit
     own-at (owner_block blocks) (length blocks) block table (all_in layout.order) (uses_of others) is.none_wrong is.says
     ∙ ap (before (mentions_for table (all_in layout.order))) (uses-expand (used_at (owner_block blocks) (length blocks)) listed expands) in
     let tells : (c : Capability) → IsCapability c → without_cancel (leftmost_content ms c) ≡ without_cancel (e.contents c) =
-    λ c cap. ap without_cancel (all-contents ordered table layout (used_mentions listed) c cap ∙ ap (option_or (table c)) (used-contents ordered listed c cap)) ∙ restores (e.contents c) (first_of others c) in
+    λ c cap. ap without_cancel (all-contents ordered table layout (used_mentions listed) c cap ∙ ap (option_or (table c)) (used-contents ordered listed c cap))
+    ∙ restores (e.contents c) (first_of others c) in
     entry-is images limits blocks block e.names e.contents ms expanded is.same_field tells within

@@ -14,7 +14,8 @@ use Rattle.ti_source.specs.WhiteSpace.{without_trailing_space}
 use Rattle.ti_source.specs.Cutting.{last_byte}
 use Rattle.ti_source.specs.Header.{IsNameByte, IsLookupName}
 use Rattle.ti_text.specs.Limits.{number_max}
-use Rattle.ti_source.specs.Items.{Statement, claims_flag, claims_number, claims_text, claims_cancel, is_mark, HasNoMark, IsEnabled, States, number_item, text_item, cancel_item, flag_item, without_outer_space}
+use Rattle.ti_source.specs.Items.{Statement, claims_flag, claims_number, claims_text, claims_cancel, is_mark, HasNoMark, IsEnabled}
+use Rattle.ti_source.specs.Items.{States, number_item, text_item, cancel_item, flag_item, without_outer_space}
 use Rattle.ti_source.specs.Reading.{Said, said_flag, said_number, said_text, said_cancel, said_import}
 use Rattle.ti_source.specs.Parsing.{accepted, Judges}
 use Rattle.ti_source.proofs.JudgingLaws.{judged_import, judged_flag, judged_cancel, judged_number, judged_text}
@@ -69,7 +70,8 @@ word-no_mark (x ∷ xs) h =
     let parts = and_parts (is_word_byte x) (is_word xs) h in
     (not-true (is_mark x) (word_byte-has (λ x. not (is_mark x)) refl x parts.0), word-no_mark xs parts.1)
 
-word-last : (P : ℕ → Bool) → agree_below (λ b. not (is_word_byte b) || P b) (λ b. true) 123 ≡ true → (before : ℕ) (w : List ℕ) → is_empty w ≡ false → is_word w ≡ true
+word-last : (P : ℕ → Bool) → agree_below (λ b. not (is_word_byte b) || P b) (λ b. true) 123 ≡ true → (before : ℕ) (w : List ℕ) → is_empty w ≡ false
+    → is_word w ≡ true
     → P (last_byte before w) ≡ true
 word-last P all before [] some h = cc
 word-last P all before (x ∷ []) some h = word_byte-has P all x (and_parts (is_word_byte x) true h).0
@@ -94,7 +96,8 @@ flag-readable found c is kind =
       judges = judged_flag name c (found c is) kind;
     }
 
-pub number-readable : EveryNameIsFound → (c : Capability) (n : ℕ) → IsCapability c → c.kind ≡ Number → n ≤ number_max → IsReadable (name_of c ++ 35 ∷ decimal n) (said_number c n)
+pub number-readable : EveryNameIsFound → (c : Capability) (n : ℕ) → IsCapability c → c.kind ≡ Number → n ≤ number_max
+    → IsReadable (name_of c ++ 35 ∷ decimal n) (said_number c n)
 number-readable found c n is kind small =
     let name = name_of c in
     let ds = decimal n in

@@ -11,11 +11,13 @@ use Rattle.ti_source.specs.declared.numbers.NumberError.TheVariants.{Bad, TooLar
 use Rattle.ti_text.specs.WhiteSpace.{is_white_space}
 use Rattle.ti_source.specs.Folding.{PlacedByte}
 use Rattle.ti_source.specs.inside.Folding.{in_comment, folding_of}
-use Rattle.ti_source.specs.Items.{bytes, Begins, all_field, field_and_rest, AreItems, last_item, item_ends, pair_of_bytes, single_byte, without_front, piece_of, Claim, claims_flag, claims_number, claims_text, claims_cancel, Statement, States, empty_item, disabled_item, number_item, text_item, cancel_item, flag_item}
+use Rattle.ti_source.specs.Items.{bytes, Begins, all_field, field_and_rest, AreItems, last_item, item_ends, pair_of_bytes, single_byte, without_front, piece_of}
+use Rattle.ti_source.specs.Items.{Claim, claims_flag, claims_number, claims_text, claims_cancel, Statement, States, empty_item, disabled_item, number_item, text_item, cancel_item, flag_item}
 use Rattle.ti_source.specs.Reading.{Said, said_flag, said_number, said_text, said_cancel, said_import, ReadItem}
 use Rattle.ti_source.specs.Parsing.{reading_of_text, HasReading}
 use Rattle.ti_source.specs.Judging.{Judged, item_ignored, item_judged, AreJudged, no_item, item_and_rest, items_from}
-use Rattle.ti_source.specs.Verdicts.{Verdict, accepted, accepted_odd, refused, is_import, ReadClaim, IsReadAs, flag_read, number_read_as, text_read_as, cancel_read, number_verdict, text_verdict, fitting_verdict, named_verdict, verdict_on, Judges, items_by}
+use Rattle.ti_source.specs.Verdicts.{Verdict, accepted, accepted_odd, refused, is_import, ReadClaim, IsReadAs}
+use Rattle.ti_source.specs.Verdicts.{flag_read, number_read_as, text_read_as, cancel_read, number_verdict, text_verdict, fitting_verdict, named_verdict, verdict_on, Judges, items_by}
 use Rattle.ti_source.proofs.FoldingLaws.{only_folded}
 use Rattle.ti_spelling.specs.declared.spelling.UnescapeError.{UnescapeError}
 use Rattle.ti_spelling.specs.Spelling.{AreBytes, SpellsAs, ValuesAreSound}
@@ -60,7 +62,8 @@ rest-bytes : (s field rest : List PlacedByte) → Begins s field rest → ArePla
 rest-bytes _ _ _ (all_field field none) h = tt
 rest-bytes _ _ _ (field_and_rest field rest line none) h = (behind-placed field ((44, line) ∷ rest) h).1
 
-items-bytes : (before : ℕ) (text : List PlacedByte) (items : List (List PlacedByte)) → AreItems before text items → ArePlacedBytes text → AllByRecursion ArePlacedBytes items
+items-bytes : (before : ℕ) (text : List PlacedByte) (items : List (List PlacedByte)) → AreItems before text items → ArePlacedBytes text
+    → AllByRecursion ArePlacedBytes items
 items-bytes _ _ _ (last_item before) h = (tt, tt)
 items-bytes _ _ _ (item_ends before line text items are) h = (tt, items-bytes 44 text items are h.1)
 items-bytes _ _ _ (pair_of_bytes before x y text item items t are) h =
@@ -112,12 +115,14 @@ number-bytes c (Ok n) = tt
 number-bytes c (Err Bad) = tt
 number-bytes c (Err TooLarge) = tt
 
-text-bytes : ValuesAreSound → (c : Capability) (value : List ℕ) (found : Result (List ℕ × Bool) UnescapeError) → SpellsAs value found → OfBytes value → VerdictBytes (text_verdict c found)
+text-bytes : ValuesAreSound → (c : Capability) (value : List ℕ) (found : Result (List ℕ × Bool) UnescapeError) → SpellsAs value found → OfBytes value
+    → VerdictBytes (text_verdict c found)
 text-bytes sound c value (Ok (text, true)) spells h = (sound value text true spells).bytes (All-from_recursion (λ b. b < 256) value h)
 text-bytes sound c value (Ok (text, false)) spells h = (sound value text false spells).bytes (All-from_recursion (λ b. b < 256) value h)
 text-bytes sound c value (Err cause) spells h = tt
 
-fitting-bytes : ValuesAreSound → (c : Capability) (claim : Claim) (read : ReadClaim) (k : Kind) → IsReadAs claim read → ClaimBytes claim → VerdictBytes (fitting_verdict c read k)
+fitting-bytes : ValuesAreSound → (c : Capability) (claim : Claim) (read : ReadClaim) (k : Kind) → IsReadAs claim read → ClaimBytes claim
+    → VerdictBytes (fitting_verdict c read k)
 fitting-bytes sound c _ _ kind.Flag flag_read h = tt
 fitting-bytes sound c _ _ kind.Number flag_read h = tt
 fitting-bytes sound c _ _ kind.Text flag_read h = tt
@@ -129,11 +134,13 @@ fitting-bytes sound c _ _ kind.Number (text_read_as spells) h = tt
 fitting-bytes sound c _ _ kind.Text (text_read_as {value = value} {found = found} spells) h = text-bytes sound c value found spells h
 fitting-bytes sound c _ _ k cancel_read h = tt
 
-named-bytes : ValuesAreSound → (claim : Claim) (read : ReadClaim) (o : Option Capability) → IsReadAs claim read → ClaimBytes claim → VerdictBytes (named_verdict read o)
+named-bytes : ValuesAreSound → (claim : Claim) (read : ReadClaim) (o : Option Capability) → IsReadAs claim read → ClaimBytes claim
+    → VerdictBytes (named_verdict read o)
 named-bytes sound claim read None reads h = tt
 named-bytes sound claim read (Some c) reads h = fitting-bytes sound c claim read c.kind reads h
 
-verdict-bytes : ValuesAreSound → (name : List ℕ) (claim : Claim) (read : ReadClaim) → IsReadAs claim read → ClaimBytes claim → VerdictBytes (verdict_on name claim read)
+verdict-bytes : ValuesAreSound → (name : List ℕ) (claim : Claim) (read : ReadClaim) → IsReadAs claim read → ClaimBytes claim
+    → VerdictBytes (verdict_on name claim read)
 verdict-bytes sound name claim read reads h =
     elim (cases_Bool (is_import name claim)) [
       | inl t ↦ rw t tt
@@ -146,7 +153,8 @@ judges-bytes sound name claim v j h = subst VerdictBytes (sym j.is) (verdict-byt
 abbrev pub ItemSaysBytes : ReadItem → Type 0
 ItemSaysBytes item = SaysBytes item.said
 
-verdict-items : (ordinal line : ℕ) (v : Verdict) (found : List ReadItem) → VerdictBytes v → All ItemSaysBytes found → All ItemSaysBytes (items_by ordinal line v ++ found)
+verdict-items : (ordinal line : ℕ) (v : Verdict) (found : List ReadItem) → VerdictBytes v → All ItemSaysBytes found
+    → All ItemSaysBytes (items_by ordinal line v ++ found)
 verdict-items ordinal line (accepted said) found h later = All-cons ItemSaysBytes (record { ordinal = ordinal; line = line; said = said }) found h later
 verdict-items ordinal line (accepted_odd said) found h later = All-cons ItemSaysBytes (record { ordinal = ordinal; line = line; said = said }) found h later
 verdict-items ordinal line (refused code) found h later = later
