@@ -1,8 +1,8 @@
 -- How a run of `tput -S` ends whose lines were answered as far as could be.
-use Rattle.std.proofs.Common.{◌≡◌, ℕ, List, [], ◌∷◌, ◌++◌, Ok, Err, refl, sym, ap, ◌∙◌, subst, append-nil, arith, inl, inr}
-use Rattle.std.specs.Io.KnownBytes.{Consumes}
+use Rattle.std.proofs.Common.{◌≡◌, ℕ, List, [], ◌∷◌, ◌++◌, Ok, Err, refl, ap, ◌∙◌, subst, arith, inl, inr}
+use Rattle.std.specs.Prelude.{⊤}
 use Rattle.ti_devices.proofs.Written.{Gives-none, TakesAll-none}
-use Rattle.ti_devices.specs.Answering.{AllAnswered, LinesEnd, LinesLead}
+use Rattle.ti_devices.specs.Answering.{AllAnswered, IsLongLine, IsOutOfMemory, IsReadFault, LinesEnd, LinesLead, StopsAtLine}
 use Rattle.ti_devices.specs.Counted.{Observed}
 use Rattle.ti_devices.specs.Lines.{with_last}
 use Rattle.ti_devices.specs.Writing.{TakesAll, TakesFront}
@@ -11,7 +11,7 @@ use Rattle.ti_devices.specs.declared.tool_error.ToolError.TheVariants.{Usage, No
 use Rattle.ti_devices.specs.declared.tool_error.ToolError.TheVariants.{LineTooLong, BlockTooLong, TooManyBlocks, Memory}
 use Rattle.ti_layout.specs.View.{Entry}
 use Rattle.ti_tput.specs.Runs.{LineStep, RunState, TakesLines, lines_start, no_lines, run_status, then_lines}
-use Rattle.ti_tput.specs.Streaming.{CommandsEnd, WantsMemory, command_line_max}
+use Rattle.ti_tput.specs.Streaming.{CommandsEnd, CommandsStopAtLine, command_line_max}
 use Rattle.ti_tput.specs.inside.Terminal.{TerminalState, line_leads, state_at}
 
 -- what lines lead to is what comes of them
@@ -31,6 +31,38 @@ taken entry rate (line ∷ lines) state end output (next, reply, later, leads, l
     )
 
 module _ (entry : Entry) (rate : ℕ) (given left before now : Observed) where
+  -- the run stopped at a line
+  stopped : (HasCause : List ℕ → List ℕ → Type 0) → StopsAtLine line_leads command_line_max (state_at entry rate lines_start) given left before now HasCause
+      → CommandsStopAtLine entry rate given left before now HasCause
+  stopped HasCause s =
+      let t = taken entry rate s.lines lines_start s.end s.output s.lead in record {
+        taken = s.taken;
+        rest = s.rest;
+        lines = s.lines;
+        line = s.line;
+        gives = s.gives;
+        has_lines = s.has_lines;
+        step = t.0;
+        takes = t.1;
+        written = subst (λ (b : List ℕ). TakesAll before now b) t.3 s.written;
+        cause = s.cause;
+      }
+
+  -- memory ran out before the first read
+  not_begun : CommandsStopAtLine entry rate given given before before (IsOutOfMemory ⊤ command_line_max given given)
+  not_begun = record {
+    taken = [];
+    rest = [];
+    lines = [];
+    line = [];
+    gives = (Gives-none given).bytes;
+    has_lines = record { split = record { whole = refl; each = tt; partial = tt }; short = tt };
+    step = record { after = lines_start; bytes = [] };
+    takes = no_lines;
+    written = TakesAll-none before;
+    cause = (refl, omega arith, tt);
+  }
+
   -- the lines could not be answered to the end
   pub CommandsEnd-stopped : (Holds : TerminalState → Type 0) (e : ToolError)
       → LinesEnd line_leads (Unit {0}) command_line_max (state_at entry rate lines_start) Holds given left before now (Err e)
@@ -38,19 +70,7 @@ module _ (entry : Entry) (rate : ℕ) (given left before now : Observed) where
   CommandsEnd-stopped Holds Usage end = absurd end
   CommandsEnd-stopped Holds NoTerminal end = absurd end
   CommandsEnd-stopped Holds (BadEntry why) end = absurd end
-  CommandsEnd-stopped Holds ReadFault s =
-      let t = taken entry rate s.lines lines_start s.end s.output s.lead in record {
-        taken = s.taken;
-        lines = s.lines;
-        line = s.line;
-        gives = subst (λ (b : List ℕ). Consumes given.bytes left.bytes b) (ap (λ (b : List ℕ). s.taken ++ b) s.cause.0 ∙ append-nil s.taken) s.gives;
-        has_lines = s.has_lines;
-        short = s.cause.1;
-        step = t.0;
-        takes = t.1;
-        written = subst (λ (b : List ℕ). TakesAll before now b) t.3 s.written;
-        cause = s.cause.2;
-      }
+  CommandsEnd-stopped Holds ReadFault s = stopped (IsReadFault command_line_max given left) s
   CommandsEnd-stopped Holds WriteFault s =
       let t = taken entry rate s.lines lines_start s.end s.output s.lead in record {
         taken = s.taken;
@@ -62,48 +82,11 @@ module _ (entry : Entry) (rate : ℕ) (given left before now : Observed) where
         takes = t.1;
         written = subst (λ (b : List ℕ). TakesFront before now b) t.3 s.written;
       }
-  CommandsEnd-stopped Holds LineTooLong s =
-      let t = taken entry rate s.lines lines_start s.end s.output s.lead in record {
-        taken = s.taken;
-        rest = s.rest;
-        lines = s.lines;
-        line = s.line;
-        gives = record { bytes = s.gives; failures = s.cause.0 };
-        has_lines = s.has_lines;
-        long = s.cause.1;
-        step = t.0;
-        takes = t.1;
-        written = subst (λ (b : List ℕ). TakesAll before now b) t.3 s.written;
-      }
+  CommandsEnd-stopped Holds LineTooLong s = stopped (IsLongLine command_line_max given left) s
   CommandsEnd-stopped Holds (BlockTooLong n) end = absurd end
   CommandsEnd-stopped Holds TooManyBlocks end = absurd end
-  CommandsEnd-stopped Holds Memory (inl (same, none)) =
-      subst (λ (w : Observed). WantsMemory entry rate given w before now) (sym same)
-      (subst (λ (w : Observed). WantsMemory entry rate given given before w) (sym none) (record {
-        taken = [];
-        rest = [];
-        lines = [];
-        line = [];
-        gives = Gives-none given;
-        has_lines = record { split = record { whole = refl; each = tt; partial = tt }; short = tt };
-        short = omega arith;
-        step = record { after = lines_start; bytes = [] };
-        takes = no_lines;
-        written = TakesAll-none before;
-      }))
-  CommandsEnd-stopped Holds Memory (inr s) =
-      let t = taken entry rate s.lines lines_start s.end s.output s.lead in record {
-        taken = s.taken;
-        rest = s.rest;
-        lines = s.lines;
-        line = s.line;
-        gives = record { bytes = s.gives; failures = s.cause.0 };
-        has_lines = s.has_lines;
-        short = s.cause.1;
-        step = t.0;
-        takes = t.1;
-        written = subst (λ (b : List ℕ). TakesAll before now b) t.3 s.written;
-      }
+  CommandsEnd-stopped Holds Memory (inl (same, none)) = rw (same, none) not_begun
+  CommandsEnd-stopped Holds Memory (inr s) = stopped (IsOutOfMemory ⊤ command_line_max given left) s
 
   -- all lines were answered
   pub CommandsEnd-complete : (Holds : TerminalState → Type 0)

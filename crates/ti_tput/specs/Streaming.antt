@@ -1,9 +1,9 @@
 -- How a run of `tput -S` over devices ends (own): what it has read, and what it has written.
-use Rattle.std.specs.Prelude.{◌≡◌, ℕ, ◌<◌, List, ◌++◌, length, Result, Ok, Err}
+use Rattle.std.specs.Prelude.{◌≡◌, ⊤, ℕ, List, ◌++◌, Result, Ok, Err}
 use Rattle.std.specs.Io.KnownBytes.{Consumes, IsAtEnd}
-use Rattle.ti_devices.specs.Answering.{AreBegun}
+use Rattle.ti_devices.specs.Answering.{AreBegun, IsLongLine, IsOutOfMemory, IsReadFault}
 use Rattle.ti_devices.specs.Counted.{Observed}
-use Rattle.ti_devices.specs.Reading.{CannotReadOn, Gives}
+use Rattle.ti_devices.specs.Reading.{Gives}
 use Rattle.ti_devices.specs.Lines.{HasLines, IsWithin, with_last}
 use Rattle.ti_devices.specs.Writing.{TakesAll, TakesFront}
 use Rattle.ti_devices.specs.declared.tool_error.ToolError.{ToolError}
@@ -34,46 +34,19 @@ pub record CommandsComplete (entry : Entry) (rate : ℕ) (given left before now 
   pub written : TakesAll before now step.bytes
   pub ends_with : status ≡ run_status step.after.bad
 
--- no more can be read: what the complete lines write was written
-pub record CommandsStopReading (entry : Entry) (rate : ℕ) (given left before now : Observed) : Type 0 where
-  pub taken : List ℕ
-  pub lines : List (List ℕ)
-  pub line : List ℕ
-  pub gives : Consumes given.bytes left.bytes taken
-  pub has_lines : HasLines command_line_max taken lines line
-  pub short : IsShortCommandLine line
-  pub step : LineStep
-  pub takes : TakesLines entry rate lines_start lines step
-  pub written : TakesAll before now step.bytes
-  pub cause : CannotReadOn given left
-
--- a line that has begun is over the limit: what the lines before it write was written, and some
--- bytes more were read
-pub record CommandsFindLongLine (entry : Entry) (rate : ℕ) (given left before now : Observed) : Type 0 where
+-- at a line that has begun the run stopped, for a cause that the bytes read after it and the line
+-- have: what the lines before it write was written
+pub record CommandsStopAtLine (entry : Entry) (rate : ℕ) (given left before now : Observed) (HasCause : List ℕ → List ℕ → Type 0) : Type 0 where
   pub taken : List ℕ
   pub rest : List ℕ
   pub lines : List (List ℕ)
   pub line : List ℕ
-  pub gives : Gives given left (taken ++ rest)
+  pub gives : Consumes given.bytes left.bytes (taken ++ rest)
   pub has_lines : HasLines command_line_max taken lines line
-  pub long : command_line_max < length line
   pub step : LineStep
   pub takes : TakesLines entry rate lines_start lines step
   pub written : TakesAll before now step.bytes
-
--- there was no memory for a line: what the lines before it write was written, and some bytes more
--- were read
-pub record WantsMemory (entry : Entry) (rate : ℕ) (given left before now : Observed) : Type 0 where
-  pub taken : List ℕ
-  pub rest : List ℕ
-  pub lines : List (List ℕ)
-  pub line : List ℕ
-  pub gives : Gives given left (taken ++ rest)
-  pub has_lines : HasLines command_line_max taken lines line
-  pub short : IsShortCommandLine line
-  pub step : LineStep
-  pub takes : TakesLines entry rate lines_start lines step
-  pub written : TakesAll before now step.bytes
+  pub cause : HasCause rest line
 
 -- the writer failed: what these lines write was written up to some byte, and some bytes more were
 -- read
@@ -87,11 +60,15 @@ pub record CommandsStopWriting (entry : Entry) (rate : ℕ) (given left before n
   pub takes : TakesLines entry rate lines_start lines step
   pub written : TakesFront before now step.bytes
 
--- how a run ends
+-- How a run ends. If memory runs out before the first read, the run stopped at the first line, of
+-- which nothing was read.
 abbrev pub CommandsEnd : Entry → ℕ → Observed → Observed → Observed → Observed → Result ℕ ToolError → Type 0
 CommandsEnd entry rate given left before now (Ok status) = CommandsComplete entry rate given left before now status
-CommandsEnd entry rate given left before now (Err ReadFault) = CommandsStopReading entry rate given left before now
-CommandsEnd entry rate given left before now (Err LineTooLong) = CommandsFindLongLine entry rate given left before now
+CommandsEnd entry rate given left before now (Err ReadFault) =
+    CommandsStopAtLine entry rate given left before now (IsReadFault command_line_max given left)
+CommandsEnd entry rate given left before now (Err LineTooLong) =
+    CommandsStopAtLine entry rate given left before now (IsLongLine command_line_max given left)
 CommandsEnd entry rate given left before now (Err WriteFault) = CommandsStopWriting entry rate given left before now
-CommandsEnd entry rate given left before now (Err Memory) = WantsMemory entry rate given left before now
+CommandsEnd entry rate given left before now (Err Memory) =
+    CommandsStopAtLine entry rate given left before now (IsOutOfMemory ⊤ command_line_max given left)
 CommandsEnd entry rate given left before now (Err _) = ⊥
