@@ -19,7 +19,7 @@ use crate::job_end::end_job;
 use std::process::ExitCode;
 use std::rt::{Clock, Env, Files};
 use std::{env, io};
-use ti_tools::{InfocmpOptions, Job, Refusal, ToolError, job_or_refusal};
+use ti_tools::{InfocmpOptions, Job, PROGRAM, Refusal, ToolError, job_or_refusal};
 
 fn main(rt: HostRuntime) -> ExitCode {
     ExitCode::from(run(&rt))
@@ -29,7 +29,7 @@ fn main(rt: HostRuntime) -> ExitCode {
 fn run<R: Clock + Env + Files + Input + Print + Eprint + AllocGlobal>(rt: &R) -> u8 {
     let words = match words(rt) {
         Ok(words) => words,
-        Err(failure) => return print_failure(rt, "ti", failure),
+        Err(failure) => return print_failure(rt, PROGRAM, failure),
     };
     match job_or_refusal(rt.alloc(), words.as_slice()) {
         Ok(job) => run_job(rt, &job),
@@ -104,14 +104,14 @@ fn print_failure<R: Eprint>(rt: &R, tool: &str, failure: Failure) -> u8 {
 // 2, even if standard error takes nothing.
 fn print_refusal<R: Print + Eprint>(rt: &R, refusal: &Refusal) -> u8 {
     match refusal {
-        Refusal::Memory => print_failure(rt, "ti", Failure::Tool(ToolError::Memory)),
+        Refusal::Memory => print_failure(rt, PROGRAM, Failure::Tool(ToolError::Memory)),
         Refusal::Usage(text) => {
             let _ = rt.eprint(text.as_str());
             2
         }
         Refusal::Help(text) => match rt.print(text.as_str()) {
             Ok(()) => 0,
-            Err(_) => print_failure(rt, "ti", Failure::Tool(ToolError::WriteFault)),
+            Err(_) => print_failure(rt, PROGRAM, Failure::Tool(ToolError::WriteFault)),
         },
     }
 }

@@ -1,5 +1,5 @@
 -- What the program's command line asks for, from what clap ensures of a parse.
-use Rattle.std.proofs.Common.{◌≡◌, ◌⊎◌, [], List, true, Err, None, Some, Ok, Option, Result, IfOk, IfErr, refl, sym, ◌∙◌, ap, subst, inl, inr}
+use Rattle.std.proofs.Common.{◌≡◌, [], List, true, Err, None, Some, Ok, Result, IfOk, IfErr, refl, sym, ◌∙◌, ap, subst, inl, inr}
 use Rattle.std.specs.Result.{result_ok}
 use Rattle.clap.specs.Faults.{fault_of, is_simple_and_free}
 use Rattle.clap.specs.Kinds.{FailsBy, IsAmong}

@@ -1,5 +1,5 @@
 -- The command of one tool alone reads the words after its name as the command of the program does.
-use Rattle.std.proofs.Common.{◌≡◌, ◌∙◌, Bool, Result, Ok, Err, IfSome, true, false, codes, refl, sym, ap, ap₂, subst, List, [], ◌∷◌, length, map}
+use Rattle.std.proofs.Common.{◌≡◌, ◌∙◌, Bool, Result, Ok, Err, IfSome, true, false, refl, sym, ap, ap₂, subst, List, [], ◌∷◌, length, map}
 use Rattle.std.proofs.Common.{get_or, nat_lt, Option, Some, None, fold, find, drop, take, ◌-◌, arith, is_some, if◌then◌else◌}
 use Rattle.std.specs.Prelude.{slice_get, option_map, unwrap_or}
 use Rattle.std.specs.Option.{option_map_or}
@@ -25,6 +25,7 @@ use Rattle.ti_commands.specs.declared.jobs.Job.{Job}
 use Rattle.ti_commands.specs.declared.mistakes.NoJob.{NoJob}
 use Rattle.ti_commands.specs.Commands.{session_app, ti_app, tic_app, tput_app}
 use Rattle.ti_commands.specs.InfocmpWords.{infocmp_app}
+use Rattle.ti_commands.specs.Names.{infocmp_name, session_name, tic_name, tput_name}
 use Rattle.ti_commands.specs.Rules.{Choices}
 
 -- the walk that met a name as its first word, with the words after it
@@ -83,21 +84,21 @@ is_tool_at program name tool simple free program_words tool_words enters passes 
   no_own_fault = no_own_fault;
 }
 
-is_tic : (orders : Choices) → IsTool (ti_app orders) (codes "tic") tic_app
+is_tic : (orders : Choices) → IsTool (ti_app orders) tic_name tic_app
 unfolding ti_app walked defaults_fault
-is_tic orders = is_tool_at (ti_app orders) (codes "tic") tic_app refl refl (λ words. refl) (λ words. refl) refl refl refl refl refl refl
+is_tic orders = is_tool_at (ti_app orders) tic_name tic_app refl refl (λ words. refl) (λ words. refl) refl refl refl refl refl refl
 
-is_tput : (orders : Choices) → IsTool (ti_app orders) (codes "tput") tput_app
+is_tput : (orders : Choices) → IsTool (ti_app orders) tput_name tput_app
 unfolding ti_app walked defaults_fault
-is_tput orders = is_tool_at (ti_app orders) (codes "tput") tput_app refl refl (λ words. refl) (λ words. refl) refl refl refl refl refl refl
+is_tput orders = is_tool_at (ti_app orders) tput_name tput_app refl refl (λ words. refl) (λ words. refl) refl refl refl refl refl refl
 
-is_session : (orders : Choices) → IsTool (ti_app orders) (codes "session") session_app
+is_session : (orders : Choices) → IsTool (ti_app orders) session_name session_app
 unfolding ti_app walked defaults_fault
-is_session orders = is_tool_at (ti_app orders) (codes "session") session_app refl refl (λ words. refl) (λ words. refl) refl refl refl refl refl refl
+is_session orders = is_tool_at (ti_app orders) session_name session_app refl refl (λ words. refl) (λ words. refl) refl refl refl refl refl refl
 
-is_infocmp : (orders : Choices) → IsTool (ti_app orders) (codes "infocmp") (infocmp_app orders)
+is_infocmp : (orders : Choices) → IsTool (ti_app orders) infocmp_name (infocmp_app orders)
 unfolding ti_app walked defaults_fault
-is_infocmp orders = is_tool_at (ti_app orders) (codes "infocmp") (infocmp_app orders) refl refl (λ words. refl) (λ words. refl) refl refl refl refl refl refl
+is_infocmp orders = is_tool_at (ti_app orders) infocmp_name (infocmp_app orders) refl refl (λ words. refl) (λ words. refl) refl refl refl refl refl refl
 
 same_tool : (orders : Choices) (name known : Text) (tool app : App) → bytes_eq name known ≡ true → Some tool ≡ Some app
     → IsTool (ti_app orders) known tool → IsTool (ti_app orders) name app
@@ -105,9 +106,9 @@ same_tool orders name known tool app eq is t =
     subst (λ (n : Text). IsTool (ti_app orders) n app) (sym ((bytes_eq-Decides name known).0 eq))
     (subst (λ (a : App). IsTool (ti_app orders) known a) (ap (λ (o : Option App). unwrap_or o tool) is) t)
 
-tool_of : (orders : Choices) (name : Text) (app : App) (tic tput session infocmp : Bool) → bytes_eq name (codes "tic") ≡ tic
-    → bytes_eq name (codes "tput") ≡ tput
-    → bytes_eq name (codes "session") ≡ session → bytes_eq name (codes "infocmp") ≡ infocmp
+tool_of : (orders : Choices) (name : Text) (app : App) (tic tput session infocmp : Bool) → bytes_eq name tic_name ≡ tic
+    → bytes_eq name tput_name ≡ tput
+    → bytes_eq name session_name ≡ session → bytes_eq name infocmp_name ≡ infocmp
     → (if tic then Some tic_app else if tput then Some tput_app else if session then Some session_app
     else if infocmp then Some (infocmp_app orders) else None) ≡ Some app
     → IsTool (ti_app orders) name app

@@ -13,6 +13,7 @@ use Rattle.clap.specs.Walk.{Row, Text, all_of, first_of}
 use Rattle.ti_text.specs.Limits.{parameters_max}
 use Rattle.ti_commands.specs.InfocmpWords.{infocmp_task}
 use Rattle.ti_commands.specs.Matches.{is_on}
+use Rattle.ti_commands.specs.Names.{infocmp_name, session_name, tic_name, tput_name}
 use Rattle.ti_commands.specs.Tasks.{Task, task_session, task_tic, task_tput}
 use Rattle.ti_commands.specs.declared.mistakes.Mistake.{Mistake}
 use Rattle.ti_commands.specs.declared.mistakes.Mistake.TheVariants as mistake
@@ -77,10 +78,10 @@ tput_task rows = tput_with rows (words_in rows)
 -- the job of a subcommand with these matches
 abbrev pub task_at : Text → List Row → Asked
 task_at name rows =
-    if bytes_eq name (codes "tic") then Ok (tic_task rows)
-    else if bytes_eq name (codes "tput") then tput_task rows
-    else if bytes_eq name (codes "session") then Ok task_session
-    else if bytes_eq name (codes "infocmp") then infocmp_task rows
+    if bytes_eq name tic_name then Ok (tic_task rows)
+    else if bytes_eq name tput_name then tput_task rows
+    else if bytes_eq name session_name then Ok task_session
+    else if bytes_eq name infocmp_name then infocmp_task rows
     else Err mistake.NoCommandLine
 
 -- the job of the subcommand that was used, with its matches

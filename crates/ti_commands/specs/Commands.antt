@@ -4,18 +4,19 @@ use Rattle.std.specs.Prelude.{ℕ, codes, true}
 use Rattle.ti_text.specs.Ascii.{byte_of}
 use Rattle.clap.specs.Simple.{App, new_app, on_top, with_rule, with_subcommand}
 use Rattle.ti_commands.specs.InfocmpWords.{IsOrders, infocmp_app}
+use Rattle.ti_commands.specs.Names.{program_name, session_name, tic_name, tput_name}
 use Rattle.ti_commands.specs.Rules.{Choices, flag_rule, long_number_rule, operand_rule, operands_rule, option_rule}
 
 -- `tic [-c] [-o DIR] [FILE]`
 abbrev pub tic_app : App
-tic_app = with_rule (with_rule (with_rule (new_app (codes "tic"))
+tic_app = with_rule (with_rule (with_rule (new_app tic_name)
     (flag_rule (codes "check") (byte_of "c")))
     (option_rule (codes "dir") (byte_of "o")))
     (operand_rule (codes "file"))
 
 -- `session`, which takes no words
 abbrev pub session_app : App
-session_app = new_app (codes "session")
+session_app = new_app session_name
 
 -- the greatest rate that may be asked for
 abbrev pub rate_max : ℕ
@@ -23,7 +24,7 @@ rate_max = 4294967295
 
 -- `tput [-T TYPE] [--rate N]`
 abbrev pub tput_options_app : App
-tput_options_app = with_rule (with_rule (new_app (codes "tput"))
+tput_options_app = with_rule (with_rule (new_app tput_name)
     (option_rule (codes "term") (byte_of "T")))
     (long_number_rule (codes "rate") 0 rate_max)
 
@@ -37,7 +38,7 @@ tput_app = with_rule (with_rule tput_options_app
 abbrev pub first_tools_app : Choices → App
 first_tools_app orders = with_subcommand
     (with_subcommand
-    (on_top (λ top. record top { subcommand_required = true }) (new_app (codes "ti")))
+    (on_top (λ top. record top { subcommand_required = true }) (new_app program_name))
     tic_app.top)
     (infocmp_app orders).top
 

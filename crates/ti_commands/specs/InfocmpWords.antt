@@ -1,5 +1,5 @@
 -- What the words after `infocmp` ask for (infocmp(1)).
-use Rattle.std.specs.Prelude.{◌≡◌, ℕ, Bool, true, false, not, ◌==◌, nat_le, nat_lt, if◌then◌else◌, List, [], ◌∷◌, filter, length, map, codes}
+use Rattle.std.specs.Prelude.{◌≡◌, ℕ, Bool, true, not, ◌==◌, nat_le, nat_lt, if◌then◌else◌, List, [], ◌∷◌, filter, length, map, codes}
 use Rattle.std.specs.Prelude.{Option, Some, None, Result, Ok, Err, unwrap_or}
 use Rattle.std.specs.Str.{bytes_eq}
 use Rattle.std.specs.Str.Parse.{digits_value, without_leading_plus}
@@ -10,6 +10,7 @@ use Rattle.clap.specs.Walk.{Row, Text, all_of, first_of}
 use Rattle.ti_list.specs.declared.layout.Order.{Order}
 use Rattle.ti_list.specs.declared.layout.Order.TheVariants as order
 use Rattle.ti_commands.specs.Matches.{is_on}
+use Rattle.ti_commands.specs.Names.{infocmp_name}
 use Rattle.ti_commands.specs.Rules.{Choices, choice_rule, flag_rule, number_rule, operands_rule, option_rule}
 use Rattle.ti_commands.specs.Tasks.{Task, task_infocmp}
 use Rattle.ti_commands.specs.declared.jobs.InfocmpMode.{InfocmpMode}
@@ -68,7 +69,7 @@ name_rules app = with_rule (with_rule (with_rule app
 
 -- `infocmp [-I|-d|-c|-n|-u] [-1] [-w N] [-s d|i] [-A DIR] [-B DIR] [NAME..]`
 abbrev pub infocmp_app : Choices → App
-infocmp_app orders = name_rules (layout_rules orders (other_mode_rules (first_mode_rules (new_app (codes "infocmp")))))
+infocmp_app orders = name_rules (layout_rules orders (other_mode_rules (first_mode_rules (new_app infocmp_name))))
 
 -- ---- what they ask for
 

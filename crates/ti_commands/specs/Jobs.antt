@@ -1,5 +1,5 @@
 -- The jobs of the program, and why words ask for none (own).
-use Rattle.std.specs.Prelude.{◌≡◌, ◌⊎◌, ⊤, ℕ, List, [], codes, Some, None, Option, Ok, Err, true, map, option_map}
+use Rattle.std.specs.Prelude.{◌≡◌, ◌⊎◌, ⊤, ℕ, List, [], Some, None, Option, Err, true, map, option_map}
 use Rattle.std.specs.String.{string_bytes}
 use Rattle.clap.specs.Kinds.{IsAmong, Kinds}
 use Rattle.clap.specs.declared.error.kind.ErrorKind.{ErrorKind}
@@ -11,6 +11,7 @@ use Rattle.clap.specs.Takes.{takes}
 use Rattle.ti_commands.specs.Arguments.{Asked, asked_of, job_of}
 use Rattle.ti_commands.specs.Commands.{OfProgram}
 use Rattle.ti_commands.specs.Mistakes.{usage_line}
+use Rattle.ti_commands.specs.Names.{infocmp_name, session_name, tic_name, tput_name}
 use Rattle.ti_commands.specs.Tasks.{Task, task_infocmp, task_session, task_tic, task_tput}
 use Rattle.ti_commands.specs.declared.arguments.UsageError.{UsageError}
 use Rattle.ti_commands.specs.declared.arguments.UsageError.TheVariants as usage
@@ -35,10 +36,10 @@ task_of (Infocmp mode names layout first_dir other_dir) = task_infocmp (record {
 
 -- the name of the tool that does the job
 abbrev pub tool_name : Job → List ℕ
-tool_name (Tic check dir file) = codes "tic"
-tool_name (Infocmp mode names layout first_dir other_dir) = codes "infocmp"
-tool_name (Tput lines term rate words) = codes "tput"
-tool_name Session = codes "session"
+tool_name (Tic check dir file) = tic_name
+tool_name (Infocmp mode names layout first_dir other_dir) = infocmp_name
+tool_name (Tput lines term rate words) = tput_name
+tool_name Session = session_name
 
 -- a refusal, without what is said
 abbrev pub cause_of : Refusal → UsageError

@@ -1,4 +1,5 @@
 -- The definitions that the contracts of this crate cite.
+pub mod Names
 pub mod Matches
 pub mod Rules
 pub mod inside

@@ -6,6 +6,7 @@ use Rattle.ti_commands.specs.declared.jobs.InfocmpMode.{InfocmpMode}
 use Rattle.ti_commands.specs.declared.jobs.InfocmpMode.TheVariants as mode
 use Rattle.ti_commands.specs.declared.mistakes.Mistake.{Mistake}
 use Rattle.ti_commands.specs.declared.mistakes.Mistake.TheVariants as mistake
+use Rattle.ti_commands.specs.Names.{program_name}
 
 -- the option that names a mode
 abbrev pub option_of : InfocmpMode → Text
@@ -28,4 +29,4 @@ mistake_text (mistake.TooFewNames named) = option_of named ++ codes " needs two 
 
 -- the line that standard error shows
 abbrev pub usage_line : Mistake → Text
-usage_line wrong = codes "ti: bad usage: " ++ mistake_text wrong ++ codes "\n"
+usage_line wrong = program_name ++ codes ": bad usage: " ++ mistake_text wrong ++ codes "\n"

@@ -14,6 +14,7 @@ use crate::infocmp_words::infocmp_job;
 use crate::jobs::Job;
 use crate::matches::{is_on, text, texts, value, values};
 use crate::mistakes::{Mistake, NoJob};
+use crate::names::{self, PROGRAM};
 use clap::ArgMatches;
 use clap::error::ErrorKind;
 use std::alloc::{AllocError, Global};
@@ -146,10 +147,10 @@ fn tool_job(alloc: Global, name: &str, matches: &ArgMatches<'_>) -> Result<Job, 
     ensures { Answers (task_at name.now (matched_rows matches.now)) result }
 {
     match name {
-        "tic" => Ok(tic_job(alloc, matches)?),
-        "tput" => tput_job(alloc, matches),
-        "session" => Ok(Job::Session),
-        "infocmp" => infocmp_job(alloc, matches),
+        names::TIC => Ok(tic_job(alloc, matches)?),
+        names::TPUT => tput_job(alloc, matches),
+        names::SESSION => Ok(Job::Session),
+        names::INFOCMP => infocmp_job(alloc, matches),
         _ => Err(NoJob::Wrong(Mistake::NoCommandLine)),
     }
 }
@@ -172,7 +173,7 @@ fn taken_job(alloc: Global, matches: &ArgMatches<'_>) -> Result<Job, Refusal>
         Ok(job) => Ok(job),
         Err(NoJob::Memory) => Err(Refusal::Memory),
         Err(NoJob::Wrong(mistake)) => {
-            let line = format!(in alloc; "ti: bad usage: {mistake}\n")?;
+            let line = format!(in alloc; "{PROGRAM}: bad usage: {mistake}\n")?;
             Err(Refusal::Usage(line))
         }
     }

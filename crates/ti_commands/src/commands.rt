@@ -9,6 +9,7 @@ ghost use Rattle.ti_commands.specs.Commands.{OfProgram, ti_app};
 ghost use Rattle.ti_commands.specs.InfocmpWords.{IsOrders};
 
 use crate::infocmp_words::INFOCMP;
+use crate::names::{self, PROGRAM};
 use crate::rules::{Argument, Form};
 use clap::Command;
 use std::alloc::{AllocError, Global};
@@ -44,7 +45,7 @@ static TOOLS: [Tool<'static>; 4] = [TIC, INFOCMP, TPUT, SESSION];
 
 // `tic [-c] [-o DIR] [FILE]`.
 const TIC: Tool<'static> = Tool {
-    name: "tic",
+    name: names::TIC,
     about: "Compile terminfo source into entries, one file for each name.",
     arguments: &[
         Argument {
@@ -82,7 +83,7 @@ const RATE_MAX: u64 = u32::MAX as u64;
 
 // `tput [-T TYPE] [--rate N] [-S] [WORD..]`.
 const TPUT: Tool<'static> = Tool {
-    name: "tput",
+    name: names::TPUT,
     about: "Write what drives a terminal: a capability of its entry.",
     arguments: &[
         Argument {
@@ -127,7 +128,7 @@ Examples:
 
 // `session`.
 const SESSION: Tool<'static> = Tool {
-    name: "session",
+    name: names::SESSION,
     about: "Edit a source by a script on standard input, and answer each line.",
     arguments: &[],
     notes: "\
@@ -209,7 +210,7 @@ fn program_of<'a>(alloc: Global, tools: &[Tool<'a>]) -> Result<Command<'a>, Allo
     ensures app { IfOk result (λ command. OfProgram (λ app. app_of command ≡ app)) }
     ensures local { IfOk result (λ command. (fields_of command).has_globals ≡ false) }
 {
-    let mut program = described(alloc, "ti", TI_ABOUT, TI_NOTES).subcommand_required(true);
+    let mut program = described(alloc, PROGRAM, TI_ABOUT, TI_NOTES).subcommand_required(true);
     for tool in tools {
         program = add_tool(alloc, program, tool)?;
     }
@@ -234,10 +235,10 @@ pub(crate) fn tool_named(name: &str) -> Option<Tool<'static>>
     ensures orders { IsOrders (choices_of result) }
 {
     match name {
-        "tic" => Some(TIC),
-        "infocmp" => Some(INFOCMP),
-        "tput" => Some(TPUT),
-        "session" => Some(SESSION),
+        names::TIC => Some(TIC),
+        names::INFOCMP => Some(INFOCMP),
+        names::TPUT => Some(TPUT),
+        names::SESSION => Some(SESSION),
         _ => None,
     }
 }

@@ -10,6 +10,7 @@ use crate::commands::Tool;
 use crate::jobs::{InfocmpMode, Job};
 use crate::matches::{is_on, text, texts, value, values};
 use crate::mistakes::{Mistake, NoJob};
+use crate::names;
 use crate::rules::{Argument, Form};
 use clap::ArgMatches;
 use std::alloc::{AllocError, Global};
@@ -26,7 +27,7 @@ const WIDTH_MAX: usize = 4096;
 
 /// `infocmp [-I|-d|-c|-n|-u] [-1] [-w N] [-s d|i] [-A DIR] [-B DIR] [NAME..]`.
 pub(crate) const INFOCMP: Tool<'static> = Tool {
-    name: "infocmp",
+    name: names::INFOCMP,
     about: "List and compare entries, as source or side by side.",
     arguments: &[
         Argument {

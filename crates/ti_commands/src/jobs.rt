@@ -1,6 +1,7 @@
 //! The jobs of the program.
 ghost use Rattle.std.specs.Prelude.{◌≡◌};
 
+use crate::names;
 use ti_list::Layout;
 
 /// What `infocmp` prints of its entries.
@@ -66,10 +67,10 @@ impl Job {
         ensures { result.now ≡ tool_name self.now }
     {
         match self {
-            Job::Tic { .. } => "tic",
-            Job::Infocmp { .. } => "infocmp",
-            Job::Tput { .. } => "tput",
-            Job::Session => "session",
+            Job::Tic { .. } => names::TIC,
+            Job::Infocmp { .. } => names::INFOCMP,
+            Job::Tput { .. } => names::TPUT,
+            Job::Session => names::SESSION,
         }
     }
 }

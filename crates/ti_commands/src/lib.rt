@@ -2,6 +2,7 @@
 //!
 //! - `arguments`: the job that the words ask for, or why they ask for none, and the message
 //! - `jobs`: the jobs of the program; `mistakes`: what is wrong with words that ask for none
+//! - `names`: those of the program and of its tools
 //! - `commands`: each tool's options, their help and examples, for clap; `rules` has the kinds of
 //!   options, and `infocmp_words` what follows `infocmp`
 //! - `matches`: what clap's matches say of an argument
@@ -13,10 +14,12 @@ mod infocmp_words;
 mod jobs;
 mod matches;
 mod mistakes;
+mod names;
 mod rules;
 
 pub use arguments::{Refusal, UsageError, job, job_or_refusal};
 pub use commands::command;
 pub use jobs::{InfocmpMode, Job};
 pub use mistakes::Mistake;
+pub use names::PROGRAM;
 pub use ti_list::{Layout, Order};

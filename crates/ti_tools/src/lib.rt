@@ -25,7 +25,7 @@ pub use compiling::tic;
 pub use listings::{InfocmpOptions, infocmp};
 pub use outcome::{TicOptions, TicOutcome};
 pub use stopping::{message, status};
-pub use ti_commands::{InfocmpMode, Job, Refusal, UsageError, job, job_or_refusal};
+pub use ti_commands::{InfocmpMode, Job, PROGRAM, Refusal, UsageError, job, job_or_refusal};
 pub use ti_devices::{
     Counted, File, MemTree, SYSTEM_DIRECTORY, Tally, ToolError, Tree, TreeFault, entry, locate,
     place, places,

@@ -1,7 +1,5 @@
 -- The modes that options name, as the code holds them (own).
-use Rattle.std.specs.Prelude.{Bool, true, false, List, [], ◌∷◌, codes}
-use Rattle.clap.specs.Walk.{Row}
-use Rattle.ti_commands.specs.Matches.{is_on}
+use Rattle.std.specs.Prelude.{Bool, true, false, List, [], ◌∷◌}
 use Rattle.ti_commands.specs.declared.infocmp_words.Choice.{Choice}
 use Rattle.ti_commands.specs.declared.infocmp_words.Choice.TheVariants as choice
 use Rattle.ti_commands.specs.declared.jobs.InfocmpMode.{InfocmpMode}

@@ -5,6 +5,7 @@ use Rattle.clap.specs.Simple.{App, new_app, on_top, with_rule, with_subcommand}
 use Rattle.clap.specs.Walk.{Text}
 use Rattle.ti_commands.specs.InfocmpWords.{infocmp_app}
 use Rattle.ti_commands.specs.Commands.{tic_app, session_app, tput_app}
+use Rattle.ti_commands.specs.Names.{infocmp_name, program_name, session_name, tic_name, tput_name}
 use Rattle.ti_commands.specs.Rules.{Choices}
 use Rattle.ti_commands.specs.inside.Rules.{rule_for}
 use Rattle.std.specs.List.{fold}
@@ -16,10 +17,10 @@ use Rattle.ti_commands.specs.declared.rules.Form.TheVariants.{Choice}
 -- the tool of that name, as a command line of its own
 abbrev pub tool_app : Choices → Text → Option App
 tool_app orders name =
-    if bytes_eq name (codes "tic") then Some tic_app
-    else if bytes_eq name (codes "tput") then Some tput_app
-    else if bytes_eq name (codes "session") then Some session_app
-    else if bytes_eq name (codes "infocmp") then Some (infocmp_app orders)
+    if bytes_eq name tic_name then Some tic_app
+    else if bytes_eq name tput_name then Some tput_app
+    else if bytes_eq name session_name then Some session_app
+    else if bytes_eq name infocmp_name then Some (infocmp_app orders)
     else None
 
 -- the command line with one more argument
@@ -62,4 +63,4 @@ choices_in (tool ∷ tools) = choices_among tool.arguments.now (choices_in tools
 
 -- the program without tools
 abbrev pub program_app : App
-program_app = on_top (λ top. record top { subcommand_required = true }) (new_app (codes "ti"))
+program_app = on_top (λ top. record top { subcommand_required = true }) (new_app program_name)
