@@ -2,7 +2,7 @@
 use crate::failure::Failure;
 use std::env::{self, VarError};
 use std::rt::Env;
-use ti_tools::{SYSTEM_DIRECTORY, ToolError, places};
+use ti_tools::{ToolError, output_directory, places};
 
 // What a variable of the environment is set to.
 fn variable<R: Env + AllocGlobal>(rt: &R, name: &'static str) -> Result<Option<String>, Failure> {
@@ -31,10 +31,8 @@ pub fn own_terminal<R: Env + AllocGlobal>(rt: &R) -> Result<String, Failure> {
 /// # Errors
 /// That it is not text; `Memory`.
 pub fn own_directory<R: Env + AllocGlobal>(rt: &R) -> Result<String, Failure> {
-    match variable(rt, "TERMINFO")? {
-        Some(dir) if !dir.is_empty() => Ok(dir),
-        _ => Ok(String::from_str(rt.alloc(), SYSTEM_DIRECTORY)?),
-    }
+    let terminfo = variable(rt, "TERMINFO")?;
+    Ok(String::from_str(rt.alloc(), output_directory(terminfo.as_deref()))?)
 }
 
 /// The directories in which entries are looked for, by `TERMINFO` and `TERMINFO_DIRS`.

@@ -1,6 +1,7 @@
 pub mod Answering
 pub mod CutLines
 pub mod LineSteps
+pub mod Listed
 pub mod Placed
 pub mod Searches
 pub mod Written

@@ -9,14 +9,16 @@
 //! - `interpreter`: the lines of an input answered one after another. `line_reader` reads them,
 //!   with a limit on their length and on the reads; `read_ahead` holds what was read and not used
 //!   yet. `laws`: bytes are cut into lines in only one way
-//! - `paths`: the paths of entries below a directory; `searching`: the directories in which an
-//!   entry is looked for, its file, and the entry in it
+//! - `directories`: those in which an entry is looked for, by the environment, and the one into
+//!   which entries are written; `paths`: the path of an entry below one; `searching`: the file of a
+//!   terminal's entry, and the entry in it
 //! - `tree`: what a tree of files is; `memory_tree` is one in memory, and `placing` writes files
 //!   into a tree
 #![tactic(auto)]
 
 mod buffer;
 mod counted;
+mod directories;
 mod interpreter;
 mod laws;
 mod line_reader;
@@ -33,13 +35,14 @@ mod writing;
 
 pub use buffer::Buffer;
 pub use counted::Counted;
+pub use directories::{directory_at, output_directory, places};
 pub use interpreter::{Interpreter, answer_lines};
 pub use laws::one_split;
 pub use line_reader::READS_MAX;
 pub use memory_tree::MemTree;
 pub use paths::entry_path;
 pub use placing::{File, place};
-pub use searching::{SYSTEM_DIRECTORY, entry, locate, places};
+pub use searching::{entry, locate};
 pub use tally::Tally;
 pub use tool_error::ToolError;
 pub use tree::{Tree, TreeFault};

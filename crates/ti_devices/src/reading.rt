@@ -1,7 +1,7 @@
 //! Bytes read from a counted device, as many as come at once.
 ghost use Rattle.std.specs.Prelude.{◌≡◌, ◌+◌, ◌<◌, length};
 ghost use Rattle.ti_devices.specs.Counted.{observation, reads_of};
-ghost use Rattle.ti_devices.specs.Reading.{ReadsOnce};
+ghost use Rattle.ti_devices.specs.inside.Reading.{ReadsOnce};
 
 use crate::counted::Counted;
 use crate::tool_error::ToolError;

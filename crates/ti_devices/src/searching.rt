@@ -1,92 +1,19 @@
-//! The directories in which a terminal's entry is looked for, its file, and the entry in it.
-ghost use Rattle.std.specs.Prelude.{◌≡◌, ◌+◌, ◌^◌, ◌<◌, ◌==◌, ◌++◌, ◌∷◌, ◌⊎◌, [], All, IfErr, IfOk, OnOk, Some, map, length, option_map, suc};
-ghost use Rattle.std.specs.List.{slice_split};
+//! The file of a terminal's entry, and the entry in it.
+ghost use Rattle.std.specs.Prelude.{◌≡◌, ◌+◌, ◌^◌, ◌<◌, ◌⊎◌, All, IfErr, IfOk, map, length, option_map, suc};
 ghost use Rattle.std.specs.String.{string_bytes};
 ghost use Rattle.ti_text.specs.Ascii as ascii;
 ghost use Rattle.ti_devices.specs.declared.tool_error.ToolError.TheVariants.{Memory, ReadFault};
-ghost use Rattle.ti_devices.specs.Searching.{Finds, Locates, Opens, file_bytes_max, listed_directories, directory_of_part, directories_of, search_failures};
+ghost use Rattle.ti_devices.specs.Searching.{Finds, Locates, Opens, file_bytes_max, search_failures};
 
 use crate::paths::entry_path;
 use crate::tool_error::ToolError;
 use crate::tree::{Tree, TreeFault};
-use std::alloc::{AllocError, Global};
+use std::alloc::Global;
 use ti_layout::{ReadError, View};
 use ti_source::is_lookup_name;
 
-/// The directory of the system's entries.
-pub const SYSTEM_DIRECTORY: &str = "/usr/share/terminfo";
-
 // The most bytes of a file that may be an entry.
 const FILE_MAX: usize = 65_536;
-
-// Adds a directory.
-fn add_directory(
-    alloc: Global,
-    directories: &mut Vec<String>,
-    directory: &str,
-) -> Result<(), AllocError>
-    ensures { OnOk result (map string_bytes directories.new.items ≡ map string_bytes directories.old.items ++ directory.now ∷ []) }
-{
-    directories.push(String::from_str(alloc, directory)?)?;
-    Ok(())
-}
-
-// Adds the directory that a part of TERMINFO_DIRS names; an empty part names the system's.
-fn add_part(alloc: Global, directories: &mut Vec<String>, part: &str) -> Result<(), AllocError>
-    ensures { OnOk result (map string_bytes directories.new.items ≡ map string_bytes directories.old.items ++ directory_of_part part.now ∷ []) }
-{
-    if part.is_empty() {
-        return add_directory(alloc, directories, SYSTEM_DIRECTORY);
-    }
-    add_directory(alloc, directories, part)
-}
-
-// The parts of TERMINFO_DIRS.
-fn parts(alloc: Global, dirs: &str) -> Result<Vec<&str>, AllocError>
-    ensures { IfOk result (λ parts. map (λ part. part.now) parts.items ≡ slice_split (λ byte. byte == ascii.colon) dirs.now) }
-{
-    dirs.split(':').collect(alloc)
-}
-
-// Adds the directories that TERMINFO_DIRS names.
-fn add_listed(alloc: Global, directories: &mut Vec<String>, dirs: &str) -> Result<(), AllocError>
-    ensures { OnOk result (map string_bytes directories.new.items
-        ≡ map string_bytes directories.old.items ++ listed_directories (Some dirs.now)) }
-{
-    let parts = parts(alloc, dirs)?;
-    for part in &parts {
-        add_part(alloc, directories, part)?;
-    }
-    Ok(())
-}
-
-/// The directories in which an entry is looked for, in order: `terminfo` (the value of TERMINFO) if
-/// it is not empty; the parts of `dirs` (the value of TERMINFO_DIRS) between colons, an empty part
-/// being `/usr/share/terminfo`; and `/usr/share/terminfo`. See term(5), "Storage location".
-///
-/// # Errors
-/// Out of memory.
-#[tactic(auto, unfolding(crate::specs::Searching::directories_of))]
-pub fn places(
-    alloc: Global,
-    terminfo: Option<&str>,
-    dirs: Option<&str>,
-) -> Result<Vec<String>, AllocError>
-    ensures { IfOk result (λ directories. map string_bytes directories.items
-        ≡ directories_of (option_map (λ t. t.now) terminfo.entry) (option_map (λ d. d.now) dirs.entry)) }
-{
-    let mut directories = Vec::new(alloc);
-    if let Some(terminfo) = terminfo {
-        if !terminfo.is_empty() {
-            add_directory(alloc, &mut directories, terminfo)?;
-        }
-    }
-    if let Some(dirs) = dirs {
-        add_listed(alloc, &mut directories, dirs)?;
-    }
-    add_directory(alloc, &mut directories, SYSTEM_DIRECTORY)?;
-    Ok(directories)
-}
 
 // The file of a name in the first of the directories that has it. Of a file over the limit it gives
 // the first `limit + 1` bytes.

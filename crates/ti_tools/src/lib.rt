@@ -27,7 +27,7 @@ pub use outcome::{TicOptions, TicOutcome};
 pub use stopping::{message, status};
 pub use ti_commands::{InfocmpMode, Job, PROGRAM, Refusal, UsageError, job, job_or_refusal};
 pub use ti_devices::{
-    Counted, File, MemTree, SYSTEM_DIRECTORY, Tally, ToolError, Tree, TreeFault, entry, locate,
+    Counted, File, MemTree, Tally, ToolError, Tree, TreeFault, entry, locate, output_directory,
     place, places,
 };
 pub use ti_list::{Layout, Order};

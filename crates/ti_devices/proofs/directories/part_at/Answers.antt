@@ -1,7 +1,7 @@
 use Rattle.std.proofs.Common.{◌==◌, rules, tests}
 use Rattle.std.proofs.lemmas.Iterator.Consumers.{nth_from_yields_List}
 use Rattle.std.proofs.lemmas.Iterator.Splits.{YieldsList-from_slice_split}
-use Rattle.ti_c.proofs.places.part_at.Goals as goal
+use Rattle.ti_devices.proofs.directories.part_at.Goals as goal
 
 pub returns : goal.returns
 returns c =

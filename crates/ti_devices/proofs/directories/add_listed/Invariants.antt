@@ -1,7 +1,7 @@
 use Rattle.std.proofs.Common.{◌≡◌, ◌++◌, take, map}
 use Rattle.std.specs.String.{string_bytes}
 use Rattle.ti_devices.specs.Searching.{directory_of_part}
-use Rattle.ti_devices.proofs.searching.add_listed.Given as goal
+use Rattle.ti_devices.proofs.directories.add_listed.Given as goal
 
 -- the directories of the parts before
 abbrev pub invariant-loop-part : goal.invariant-loop-part
