@@ -9,7 +9,7 @@ use Rattle.ti_meaning.specs.declared.edits.EditError.TheVariants.{Memory}
 use Rattle.ti_meaning.specs.declared.edits.Outcome.TheVariants.{Refused}
 use Rattle.ti_meaning.proofs.Causes.{one_cause}
 use Rattle.ti_sources.specs.Sources.{AreTaken}
-use Rattle.ti_document.specs.inside.Fitting.{IsShortBlock}
+use Rattle.ti_document.specs.Documents.{IsShortBlock}
 use Rattle.ti_document.proofs.TextLists.{text_of}
 
 -- a list at an item of it

@@ -67,8 +67,11 @@ pub struct Diagnostic {
     pub message: String,
 }
 
-/// A detail as a report shows it.
-pub(crate) fn shown_detail(alloc: Global, detail: &[u8]) -> Result<String, AllocError>
+/// A detail as a report shows it, in ASCII.
+///
+/// # Errors
+/// Out of memory.
+pub fn shown_detail(alloc: Global, detail: &[u8]) -> Result<String, AllocError>
     ensures { IfOk result (λ shown. string_bytes shown ≡ report.shown_detail detail.now) }
 {
     let mut shown = Vec::new(alloc);

@@ -1,29 +1,20 @@
 //! A text with a database of its blocks.
-ghost use Rattle.std.specs.Prelude.{◌≡◌, [], None, map, option_map, IfErr, IfOk, OnOk, OnErr};
+ghost use Rattle.std.specs.Prelude.{◌≡◌, [], None, map, IfErr, IfOk, OnOk, OnErr};
 ghost use Rattle.ti_text.specs.Ascii as ascii;
 ghost use Rattle.ti_source.specs.Cutting.{last_byte};
 ghost use Rattle.ti_meaning.specs.declared.edits.EditError.TheVariants.{Memory};
 ghost use Rattle.ti_sources.specs.Sources.{AreTaken, source_refusal, source_texts};
-ghost use Rattle.ti_document.specs.Documents.{held};
+ghost use Rattle.ti_document.specs.Documents.{HeldBlocksFit, held};
 ghost use Rattle.ti_document.specs.Exchanges.{AtBack, AtFront, Exchanged};
 ghost use Rattle.ti_document.specs.Diagnostics.{diagnostic_seen, diagnostics_of};
-ghost use Rattle.ti_document.specs.Completions.{completion_of, completion_seen};
-ghost use Rattle.ti_document.specs.Hovers.{hover_of, hover_seen};
-ghost use Rattle.ti_document.specs.Names.{definition_of, references_of};
-ghost use Rattle.ti_document.specs.Symbols.{symbol_seen, symbols_of};
 
-use crate::completions::{Completion, source_completion};
 use crate::cut::{common_back, common_front};
 use crate::diagnostics::{Diagnostic, source_diagnostics};
 use crate::exchanging::exchange;
-use crate::hovers::{Hover, source_hover};
-use crate::names::{source_definition, source_references};
-use crate::symbols::{Symbol, source_symbols};
 use std::alloc::{AllocError, Global};
 use std::marker::Model;
 use ti_base::{Database, EditError};
-use ti_messages::{Position, Range};
-use ti_source::blocks;
+use ti_source::{blocks, blocks_are_single, each_has_cut};
 use ti_sources::{check, database_of, ended_texts_end, is_ended, sources_have_one_refusal};
 
 // The most blocks that are exchanged one by one; of more the database is loaded anew.
@@ -240,68 +231,14 @@ impl Document {
     {
         source_diagnostics(alloc, self.text.as_slice(), &self.database)
     }
+}
 
-    /// Its blocks in order, as an outline shows them; none if the source is refused.
-    ///
-    /// # Errors
-    /// Out of memory.
-    pub fn symbols(&self, alloc: Global) -> Result<Vec<Symbol>, AllocError>
-        ensures { IfOk result (λ all. map symbol_seen all.items ≡ symbols_of self.now) }
-    {
-        source_symbols(alloc, self.text.as_slice(), &self.database)
-    }
-
-    /// The names field of the block that owns the name that a place is on, in a head or in an item
-    /// `use=`; `None` if the place is on no name, or no block has the name.
-    ///
-    /// # Errors
-    /// Out of memory.
-    pub fn definition(&self, alloc: Global, place: Position) -> Result<Option<Range>, AllocError>
-        ensures { IfOk result (λ found. found ≡ definition_of self.now place) }
-    {
-        source_definition(alloc, self.text.as_slice(), &self.database, place)
-    }
-
-    /// The names in items `use=` that belong to the owner of the name that a place is on, after
-    /// the owner's names field if that is asked for; none if no block owns the name.
-    ///
-    /// # Errors
-    /// Out of memory.
-    pub fn references(
-        &self,
-        alloc: Global,
-        place: Position,
-        with_declaration: bool,
-    ) -> Result<Vec<Range>, AllocError>
-        ensures { IfOk result (λ all. all.items ≡ references_of self.now place with_declaration) }
-    {
-        let text = self.text.as_slice();
-        source_references(alloc, text, &self.database, place, with_declaration)
-    }
-
-    /// What completes the word before a place: the name of an item, or the name that an item
-    /// `use=` gives; `None` in a comment, a names field and a value.
-    ///
-    /// # Errors
-    /// Out of memory.
-    pub fn completion(
-        &self,
-        alloc: Global,
-        place: Position,
-    ) -> Result<Option<Completion>, AllocError>
-        ensures { IfOk result (λ found. option_map completion_seen found ≡ completion_of self.now place) }
-    {
-        source_completion(alloc, self.text.as_slice(), &self.database, place)
-    }
-
-    /// What is told of what a place is on: an item whose name is that of a capability, a name in
-    /// a head, or a name that an item `use=` gives; `None` if it is on nothing of these.
-    ///
-    /// # Errors
-    /// Out of memory.
-    pub fn hover(&self, alloc: Global, place: Position) -> Result<Option<Hover>, AllocError>
-        ensures { IfOk result (λ told. option_map hover_seen told ≡ hover_of self.now place) }
-    {
-        source_hover(alloc, self.text.as_slice(), &self.database, place)
-    }
+/// A law, with no code: the blocks that a document holds are of at most 1,048,576 bytes each, and
+/// at most 65,535.
+pub fn held_blocks_fit()
+    ensures { HeldBlocksFit }
+{
+    each_has_cut();
+    blocks_are_single();
+    ended_texts_end();
 }

@@ -4,7 +4,7 @@ ghost use Rattle.ti_text.specs.Limits.{blocks_max};
 ghost use Rattle.ti_meaning.specs.declared.edits.EditError.TheVariants.{Memory};
 ghost use Rattle.ti_document.specs.Exchanges as spec;
 ghost use Rattle.ti_document.specs.Exchanges.{AtBack, AtFront, EditsLead};
-ghost use Rattle.ti_document.specs.inside.Fitting.{IsShortBlock};
+ghost use Rattle.ti_document.specs.Documents.{IsShortBlock};
 
 use ti_base::{Database, EditError};
 

@@ -4,24 +4,12 @@
 //! - `places`: offsets and places, and parts of a text exchanged
 //! - `documents`: a text that is exchanged, and how many edits that takes
 //! - `diagnostics`: what is wrong with a text, and where
-//! - `completions`: what completes the words of documents
-//! - `hovers`: what is told of what places of documents are on
-//! - `names`: where the names of documents lead
-//! - `outlines`: the blocks of documents as their outlines show them
 #![tactic(auto)]
 
-#[cfg(test)]
-mod completions;
 #[cfg(test)]
 mod diagnostics;
 #[cfg(test)]
 mod documents;
-#[cfg(test)]
-mod hovers;
-#[cfg(test)]
-mod names;
-#[cfg(test)]
-mod outlines;
 #[cfg(test)]
 mod places;
 #[cfg(test)]

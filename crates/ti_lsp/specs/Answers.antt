@@ -7,10 +7,10 @@ use Rattle.ti_messages.specs.declared.answers.ItemKind.TheVariants as items
 use Rattle.ti_messages.specs.declared.messages.Question.{Question}
 use Rattle.ti_messages.specs.declared.messages.Question.TheVariants.{Completion, Hover, Definition, References, Symbols}
 use Rattle.ti_messages.specs.declared.places.Range.{Range}
-use Rattle.ti_document.specs.Completions.{CompletionSeen, OffersSeen, completion_of, offers_capabilities, offers_names}
-use Rattle.ti_document.specs.Hovers.{hover_of}
-use Rattle.ti_document.specs.Names.{definition_of, references_of}
-use Rattle.ti_document.specs.Symbols.{SymbolSeen, symbols_of}
+use Rattle.ti_features.specs.Completions.{CompletionSeen, OffersSeen, completion_of, offers_capabilities, offers_names}
+use Rattle.ti_features.specs.Hovers.{hover_of}
+use Rattle.ti_features.specs.Names.{definition_of, references_of}
+use Rattle.ti_features.specs.Symbols.{SymbolSeen, symbols_of}
 use Rattle.ti_server.specs.Offers.{all_capabilities, capability_item}
 use Rattle.ti_server.specs.Sayings.{Sayings}
 use Rattle.ti_lsp.specs.Hovers.{hover_shown}

@@ -4,10 +4,10 @@ use Rattle.serde_json.specs.View.{items_of}
 use Rattle.serde_json.specs.Written.{has_float, items_have_float}
 use Rattle.ti_caps.specs.Tables.{Capability}
 use Rattle.ti_document.specs.Diagnostics.{Shown, diagnostics_of}
-use Rattle.ti_document.specs.Completions.{CompletionSeen, OffersSeen, completion_of, offers_capabilities, offers_names}
-use Rattle.ti_document.specs.Hovers.{HoverSeen, hover_of}
-use Rattle.ti_document.specs.Names.{definition_of, references_of}
-use Rattle.ti_document.specs.Symbols.{SymbolSeen, symbols_of}
+use Rattle.ti_features.specs.Completions.{CompletionSeen, OffersSeen, completion_of, offers_capabilities, offers_names}
+use Rattle.ti_features.specs.Hovers.{HoverSeen, hover_of}
+use Rattle.ti_features.specs.Names.{definition_of, references_of}
+use Rattle.ti_features.specs.Symbols.{SymbolSeen, symbols_of}
 use Rattle.ti_messages.specs.Shapes.{location_data}
 use Rattle.ti_messages.specs.declared.messages.Question.{Question}
 use Rattle.ti_messages.specs.declared.messages.Question.TheVariants.{Completion, Hover, Definition, References, Symbols}

@@ -5,10 +5,10 @@ use Rattle.std.specs.Fmt.{decimal}
 use Rattle.serde_json.specs.Data.{Data, null}
 use Rattle.ti_caps.specs.Tables.{Capability, name_of}
 use Rattle.ti_messages.specs.Shapes.{hover_data}
-use Rattle.ti_document.specs.Hovers.{AboutSeen, HoverSeen, about_item, about_name}
-use Rattle.ti_document.specs.declared.holdings.Entry.{Entry}
-use Rattle.ti_document.specs.declared.holdings.Holding.{Holding}
-use Rattle.ti_document.specs.declared.holdings.Entry.TheVariants.{Missing, Faulty, Held}
+use Rattle.ti_features.specs.Hovers.{AboutSeen, HoverSeen, about_item, about_name}
+use Rattle.ti_features.specs.declared.holdings.Entry.{Entry}
+use Rattle.ti_features.specs.declared.holdings.Holding.{Holding}
+use Rattle.ti_features.specs.declared.holdings.Entry.TheVariants.{Missing, Faulty, Held}
 use Rattle.ti_server.specs.Offers.{detail_of, documentation_of}
 
 -- how many bytes an entry takes

@@ -2,15 +2,16 @@
 ghost use Rattle.std.specs.Prelude.{◌≡◌, IfOk, map};
 ghost use Rattle.std.specs.String.{string_bytes};
 ghost use Rattle.serde_json.specs.View.{view};
-ghost use Rattle.ti_document.specs.Completions.{completion_of, offers_seen};
-ghost use Rattle.ti_document.specs.Names.{definition_of, references_of};
-ghost use Rattle.ti_document.specs.Symbols.{symbol_seen, symbols_of};
+ghost use Rattle.ti_features.specs.Completions.{completion_of, offers_seen};
+ghost use Rattle.ti_features.specs.Names.{definition_of, references_of};
+ghost use Rattle.ti_features.specs.Symbols.{symbol_seen, symbols_of};
 ghost use Rattle.ti_lsp.specs.Answers.{completion_data, definition_data, entry_item, offered_items, outline_data, references_data, symbol_shown};
 ghost use Rattle.ti_messages.specs.Shapes.{location_data};
 
 use serde_json::Value;
 use std::alloc::{AllocError, Global};
-use ti_document::{Document, Offers, Symbol};
+use ti_document::Document;
+use ti_features::{Offers, Symbol, completion_of, definition_of, references_of, symbols_of};
 use ti_messages::answers::{ItemKind, item_value, list_value, location_value, symbol_value};
 use ti_messages::{Position, Range};
 use ti_server::offers::capability_items;
@@ -37,7 +38,7 @@ fn symbol_values(alloc: Global, all: &[Symbol]) -> Result<Vec<Value>, AllocError
 fn blocks_of(alloc: Global, document: &Document) -> Result<Vec<Value>, AllocError>
     ensures { IfOk result (λ values. map view values.items ≡ map symbol_shown (symbols_of document.now)) }
 {
-    let all = document.symbols(alloc)?;
+    let all = symbols_of(alloc, document)?;
     symbol_values(alloc, all.as_slice())
 }
 
@@ -64,7 +65,7 @@ pub fn definition(
 ) -> Result<Value, AllocError>
     ensures { IfOk result (λ v. view v ≡ definition_data uri.now (definition_of document.now place)) }
 {
-    match document.definition(alloc, place)? {
+    match definition_of(alloc, document, place)? {
         None => Ok(Value::Null),
         Some(range) => location_value(alloc, uri, range),
     }
@@ -91,7 +92,7 @@ fn uses_of(
 ) -> Result<Vec<Value>, AllocError>
     ensures { IfOk result (λ values. map view values.items ≡ map (location_data uri.now) (references_of document.now place with_declaration)) }
 {
-    let ranges = document.references(alloc, place, with_declaration)?;
+    let ranges = references_of(alloc, document, place, with_declaration)?;
     location_values(alloc, uri, ranges.as_slice())
 }
 
@@ -141,7 +142,7 @@ fn offered_items(alloc: Global, offers: &Offers, range: Range) -> Result<Vec<Val
 pub fn completion(alloc: Global, document: &Document, place: Position) -> Result<Value, AllocError>
     ensures { IfOk result (λ v. view v ≡ completion_data (completion_of document.now place)) }
 {
-    match document.completion(alloc, place)? {
+    match completion_of(alloc, document, place)? {
         None => list_value(alloc, Vec::new(alloc)),
         Some(found) => list_value(alloc, offered_items(alloc, &found.offers, found.range)?),
     }

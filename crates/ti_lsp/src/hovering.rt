@@ -3,14 +3,15 @@ ghost use Rattle.std.specs.Prelude.{◌≡◌, ◌++◌, IfOk, codes};
 ghost use Rattle.std.specs.Fmt.{decimal};
 ghost use Rattle.std.specs.String.{string_bytes};
 ghost use Rattle.serde_json.specs.View.{view};
-ghost use Rattle.ti_document.specs.Hovers.{about_seen, hover_of};
-ghost use Rattle.ti_document.specs.declared.holdings.Entry.TheVariants.{Held};
+ghost use Rattle.ti_features.specs.Hovers.{about_seen, hover_of};
+ghost use Rattle.ti_features.specs.declared.holdings.Entry.TheVariants.{Held};
 ghost use Rattle.ti_lsp.specs.Hovers.{about_told, capability_told, count_told, counts_told, entry_told, head_told, hover_shown, item_told, others_told, size_told};
 
 use serde_json::Value;
 use std::alloc::{AllocError, Global};
 use ti_caps::{Cap, name};
-use ti_document::{About, Document, Entry, Holding};
+use ti_document::Document;
+use ti_features::{About, Entry, Holding, hover_of};
 use ti_messages::Position;
 use ti_messages::answers::hover_value;
 use ti_server::offers::{detail_of, documentation_of};
@@ -162,7 +163,7 @@ fn about_told(alloc: Global, about: &About) -> Result<String, AllocError>
 pub fn hover(alloc: Global, document: &Document, place: Position) -> Result<Value, AllocError>
     ensures { IfOk result (λ v. view v ≡ hover_shown (hover_of document.now place)) }
 {
-    match document.hover(alloc, place)? {
+    match hover_of(alloc, document, place)? {
         None => Ok(Value::Null),
         Some(told) => {
             let text = about_told(alloc, &told.about)?;

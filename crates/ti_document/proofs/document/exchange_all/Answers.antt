@@ -1,7 +1,7 @@
 use Rattle.std.proofs.Common.{ℕ, All, List, length, map, ap, subst, sym, ◌∙◌, arith}
 use Rattle.std.proofs.lemmas.List.{length-map}
 use Rattle.ti_sources.specs.Sources.{source_texts}
-use Rattle.ti_document.specs.inside.Fitting.{IsShortBlock}
+use Rattle.ti_document.specs.Documents.{IsShortBlock}
 use Rattle.ti_document.proofs.Fitting.{taken_few, taken_short}
 use Rattle.ti_document.proofs.TextLists.{text_of}
 use Rattle.ti_document.proofs.document.exchange_all.Goals as goal

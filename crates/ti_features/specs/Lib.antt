@@ -1,0 +1,8 @@
+-- The definitions that the contracts of this crate cite.
+pub mod Completions
+pub mod Holdings
+pub mod Hovers
+pub mod Names
+pub mod Spots
+pub mod Symbols
+pub mod inside

@@ -1,0 +1,149 @@
+//! What an editor tells of what a place is on.
+ghost use Rattle.std.specs.Prelude.{◌≡◌, ◌<◌, ◌+◌, ◌^◌, All, IfOk, length, option_map};
+ghost use Rattle.std.specs.Option.{option_or};
+ghost use Rattle.ti_spans.specs.Subjects.{subject_seen, touched_seen};
+ghost use Rattle.ti_spans.specs.Touching.{item_seen};
+ghost use Rattle.ti_features.specs.Hovers as spec;
+ghost use Rattle.ti_features.specs.Hovers.{hover_seen, item_told, name_told, told_at};
+ghost use Rattle.ti_features.specs.Names.{name_of};
+ghost use Rattle.ti_document.specs.Documents.{IsShortBlock};
+
+use crate::holdings::{Entry, entry_named};
+use crate::spots::{range_in, spot_at};
+use std::alloc::{AllocError, Global};
+use ti_base::Database;
+use ti_caps::{Cap, find};
+use ti_document::{Document, held_blocks_fit, shown_detail};
+use ti_messages::{Position, Range};
+use ti_spans::{Item, Subject, Touched, item_at, subject_at};
+
+/// What a place is on.
+#[derive(Debug, Drop)]
+pub enum About {
+    /// An item whose name is that of a capability, also a faulty one.
+    Item {
+        /// The capability.
+        capability: Cap,
+        /// The item as it is written, in ASCII.
+        text: String,
+    },
+    /// A name in a head, or one that an item `use=` gives.
+    Name {
+        /// The name, in ASCII.
+        name: String,
+        /// What became of it.
+        entry: Entry,
+    },
+}
+
+/// What is told of a part of a source.
+#[derive(Debug, Drop)]
+pub struct Hover {
+    /// The item or the name.
+    pub range: Range,
+    /// What it is.
+    pub about: About,
+}
+
+// The name that a subject is or uses.
+fn name_of(subject: &Subject) -> &[u8]
+    ensures { result.now ≡ name_of (subject_seen subject.now) }
+{
+    match subject {
+        Subject::OwnName(name) => name.as_slice(),
+        Subject::Used(name) => name.as_slice(),
+    }
+}
+
+// What is told of a name in a block that begins on that line.
+fn name_told(
+    alloc: Global,
+    database: &Database,
+    line: usize,
+    block: &[u8],
+    touched: &Touched,
+) -> Result<Hover, AllocError>
+    requires short { All IsShortBlock database.now }
+    requires room { line + length block.now < 2 ^ 64 }
+    ensures { IfOk result (λ told. hover_seen told ≡ name_told database.now line block.now (touched_seen touched.now)) }
+{
+    let name = name_of(&touched.subject);
+    let about = About::Name {
+        name: shown_detail(alloc, name)?,
+        entry: entry_named(database, name),
+    };
+    Ok(Hover {
+        range: range_in(line, block, touched.span),
+        about,
+    })
+}
+
+// What is told of an item in a block that begins on that line.
+fn item_told(
+    alloc: Global,
+    line: usize,
+    block: &[u8],
+    item: &Item,
+) -> Result<Option<Hover>, AllocError>
+    requires { line + length block.now < 2 ^ 64 }
+    ensures { IfOk result (λ told. option_map hover_seen told ≡ item_told line block.now (item_seen item.now)) }
+{
+    let Some(capability) = find(&item.name) else {
+        return Ok(None);
+    };
+    let about = About::Item {
+        capability,
+        text: shown_detail(alloc, &item.text)?,
+    };
+    Ok(Some(Hover {
+        range: range_in(line, block, item.span),
+        about,
+    }))
+}
+
+// What is told at an offset of a block that begins on that line.
+fn told_at(
+    alloc: Global,
+    database: &Database,
+    line: usize,
+    block: &[u8],
+    offset: usize,
+) -> Result<Option<Hover>, AllocError>
+    requires short { All IsShortBlock database.now }
+    requires room { line + length block.now < 2 ^ 64 }
+    ensures { IfOk result (λ told. option_map hover_seen told ≡ told_at database.now line block.now offset) }
+{
+    if let Some(touched) = subject_at(alloc, block, offset)? {
+        return Ok(Some(name_told(alloc, database, line, block, &touched)?));
+    }
+    match item_at(alloc, block, offset)? {
+        Some(item) => item_told(alloc, line, block, &item),
+        None => Ok(None),
+    }
+}
+
+/// What is told of what a place is on: an item whose name is that of a capability, a name in a
+/// head, or a name that an item `use=` gives; `None` if it is on nothing of these.
+///
+/// # Errors
+/// Out of memory.
+pub fn hover_of(
+    alloc: Global,
+    document: &Document,
+    place: Position,
+) -> Result<Option<Hover>, AllocError>
+    ensures { IfOk result (λ told. option_map hover_seen told ≡ spec.hover_of document.now place) }
+{
+    held_blocks_fit();
+    let Some(spot) = spot_at(document, place) else {
+        return Ok(None);
+    };
+    let database = document.database();
+    told_at(
+        alloc,
+        database,
+        spot.line,
+        database.text(spot.at),
+        spot.offset,
+    )
+}

@@ -1,0 +1,23 @@
+//! What an editor asks of a document at a place or as a whole: the language features of the
+//! Language Server Protocol 3.17, chapter "Language Features".
+//!
+//! - `spots`: where the blocks of a document are, and where in one a place is
+//! - `names`: where the names of a document lead
+//! - `holdings`: what the entry of a block holds
+//! - `hovers`: what an editor tells of what a place is on
+//! - `completions`: what an editor offers to complete a word with
+//! - `symbols`: the blocks of a document as its outline
+#![tactic(auto)]
+
+mod completions;
+mod holdings;
+mod hovers;
+mod names;
+mod spots;
+mod symbols;
+
+pub use completions::{Completion, Offers, completion_of, names_are_offered_once};
+pub use holdings::{Entry, Holding};
+pub use hovers::{About, Hover, hover_of};
+pub use names::{definition_of, references_of};
+pub use symbols::{Symbol, selections_are_inside, symbols_of};

@@ -1,0 +1,116 @@
+//! What is told of what places of documents are on.
+use std::alloc::{AllocError, Global};
+use std::process::Abort;
+use ti_caps::{Kind, name};
+use ti_document::Document;
+use ti_features::{About, Entry, Holding, Hover, hover_of};
+use ti_messages::{Position, Range};
+
+/// A document of these bytes.
+fn document_of(alloc: Global, bytes: &[u8]) -> Result<Document, AllocError> {
+    let mut text = Vec::new(alloc);
+    text.extend_from_slice(bytes)?;
+    Document::open(alloc, text)
+}
+
+/// A source after a preface: an entry with a letter of two units, faulty items, a cancel before a
+/// use, uses that lead nowhere and to an error.
+const SOURCE: &[u8] = b"# c
+a|b|one,
+\tam, cols#80, bel=\xF0\x9F\x98\x80, cup=\\E[%d;%dH,
+\tbel@ ,
+f,cols#8y, am=x, nosuch, .it#8, it,
+c,\tcols@, use=a, xon, lines#24,
+d,\tuse=x, use=f, use = a,
+";
+
+/// What is wanted of what a place is on: a capability by its name and kind, and the item; or a
+/// name, and what became of it.
+#[derive(Clone, Copy)]
+enum Wanted {
+    Item(&'static str, Kind, &'static str),
+    Name(&'static str, Entry),
+}
+
+/// What the entry of `a` holds: a boolean, a number, and strings of 4 and 8 bytes. Its size: a
+/// header of 12 bytes, names of 8 with their NUL, 2 booleans, 1 number, 11 offsets, and strings of
+/// 14 with their NULs.
+const A: Entry = Entry::Held(Holding {
+    flags: 1,
+    numbers: 1,
+    texts: 2,
+    bytes: 60,
+});
+
+/// The same of `c`: names of 2 bytes, 21 booleans, a byte between, 3 numbers, the offsets and
+/// strings of `a`.
+const C: Entry = Entry::Held(Holding {
+    flags: 2,
+    numbers: 1,
+    texts: 2,
+    bytes: 78,
+});
+
+#[rattlefmt::skip]
+const ROWS: [((usize, usize), (usize, usize), Wanted); 15] = [
+    ((1, 0), (0, 1), Wanted::Name("a", A)),
+    ((1, 3), (2, 3), Wanted::Name("b", A)),
+    ((2, 1), (1, 3), Wanted::Item("am", Kind::Flag, "am")),
+    ((2, 5), (5, 12), Wanted::Item("cols", Kind::Number, "cols#80")),
+    ((2, 20), (14, 20), Wanted::Item("bel", Kind::Text, "bel=????")),
+    ((2, 24), (22, 35), Wanted::Item("cup", Kind::Text, "cup=\\E[%d;%dH")),
+    ((3, 6), (1, 6), Wanted::Item("bel", Kind::Text, "bel@")),
+    ((4, 2), (2, 9), Wanted::Item("cols", Kind::Number, "cols#8y")),
+    ((4, 11), (11, 15), Wanted::Item("am", Kind::Flag, "am=x")),
+    ((4, 34), (32, 34), Wanted::Item("it", Kind::Number, "it")),
+    ((5, 0), (0, 1), Wanted::Name("c", C)),
+    ((5, 12), (10, 15), Wanted::Name("a", A)),
+    ((6, 0), (0, 1), Wanted::Name("d", Entry::Faulty)),
+    ((6, 8), (3, 8), Wanted::Name("x", Entry::Missing)),
+    ((6, 10), (10, 15), Wanted::Name("f", Entry::Faulty)),
+];
+
+/// Whether what is told is as it is wanted.
+fn is_wanted(told: &Hover, range: Range, wanted: Wanted) -> bool {
+    let same = match (&told.about, wanted) {
+        (About::Item { capability, text }, Wanted::Item(named, kind, written)) => name(*capability)
+            == named
+            && capability.kind() == kind
+            && text.as_str() == written,
+        (About::Name { name, entry }, Wanted::Name(named, found)) => name.as_str() == named
+            && *entry == found,
+        _ => false,
+    };
+    same && told.range == range
+}
+
+#[test]
+fn hovers(rt: HostRuntime) -> Result<(), AllocError> {
+    let document = document_of(rt.alloc(), SOURCE)?;
+    for ((line, column), (start, end), wanted) in ROWS {
+        let range = Range {
+            start: Position {
+                line,
+                column: start,
+            },
+            end: Position { line, column: end },
+        };
+        let told = hover_of(rt.alloc(), &document, Position { line, column })?;
+        assert!(rt; told.is_some_and(|told| is_wanted(&told, range, wanted)));
+    }
+    Ok(())
+}
+
+/// Places of which nothing is told: in the preface, in a description, between items, on an unknown
+/// name, on a disabled item, on a `use` in another form, past the end.
+const NOWHERE: [(usize, usize); 7] = [(0, 1), (1, 6), (2, 4), (4, 18), (4, 27), (6, 20), (9, 0)];
+
+#[test]
+fn nothing_is_told(rt: HostRuntime) -> Result<(), AllocError> {
+    let document = document_of(rt.alloc(), SOURCE)?;
+    for (line, column) in NOWHERE {
+        let told = hover_of(rt.alloc(), &document, Position { line, column })?;
+        assert!(rt; told.is_none());
+    }
+    Ok(())
+}

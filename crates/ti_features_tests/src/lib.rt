@@ -1,0 +1,16 @@
+//! The worked rows of what an editor asks of documents, as tests; no code of the product.
+//!
+//! - `completions`: what completes the words of documents
+//! - `hovers`: what is told of what places of documents are on
+//! - `names`: where the names of documents lead
+//! - `outlines`: the blocks of documents as their outlines show them
+#![tactic(auto)]
+
+#[cfg(test)]
+mod completions;
+#[cfg(test)]
+mod hovers;
+#[cfg(test)]
+mod names;
+#[cfg(test)]
+mod outlines;
