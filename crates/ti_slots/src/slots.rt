@@ -198,6 +198,6 @@ impl Slots {
         ensures { self.new ≡ settled_in self.old id settled.old }
     {
         let slot = self.slots[id as usize].as_mut().unwrap();
-        mem::swap(&mut slot.settled, settled); slot.settled.faults.clear();
+        mem::swap(&mut slot.settled, settled);
     }
 }
