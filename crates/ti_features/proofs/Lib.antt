@@ -4,5 +4,6 @@ pub mod EntryParts
 pub mod Naming
 pub mod OnceNamed
 pub mod Outlines
+pub mod Printing
 pub mod Selections
 pub mod Spotting

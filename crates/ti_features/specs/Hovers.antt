@@ -11,6 +11,7 @@ use Rattle.ti_messages.specs.declared.places.Range.{Range}
 use Rattle.ti_document.specs.Diagnostics.{text_at}
 use Rattle.ti_document.specs.Documents.{held}
 use Rattle.ti_features.specs.Holdings.{entry_named}
+use Rattle.ti_features.specs.Meanings.{MeaningSeen, meaning_at, meaning_seen}
 use Rattle.ti_features.specs.Names.{name_of}
 use Rattle.ti_features.specs.Spots.{range_in, spot_at}
 use Rattle.ti_features.specs.declared.holdings.Entry.{Entry}
@@ -19,10 +20,10 @@ use Rattle.ti_features.specs.declared.hovers.About.TheVariants as about
 use Rattle.ti_features.specs.declared.hovers.Hover.{Hover}
 use Rattle.ti_features.specs.declared.spots.Spot.{Spot}
 
--- what a place is on, as plain data: an item of a capability, with its text; or a name, with what
--- its owner's entry holds
+-- what a place is on, as plain data: an item of a capability, with its text and what it means; or a
+-- name, with what its owner's entry holds
 pub data AboutSeen : Type 0 where
-  about_item : Capability → List ℕ → AboutSeen
+  about_item : Capability → List ℕ → MeaningSeen → AboutSeen
   about_name : List ℕ → Entry → AboutSeen
 
 -- what is told of a part of a source, as plain data
@@ -32,7 +33,7 @@ pub record HoverSeen : Type 0 where
 
 -- what holds its texts in memory, as plain data
 abbrev pub about_seen : About → AboutSeen
-about_seen (about.Item capability text) = about_item capability (string_bytes text)
+about_seen (about.Item capability text meaning) = about_item capability (string_bytes text) (meaning_seen meaning)
 about_seen (about.Name name entry) = about_name (string_bytes name) entry
 
 abbrev pub hover_seen : Hover → HoverSeen
@@ -45,18 +46,21 @@ name_told blocks line block touched = record {
   about = about_name (shown_detail (name_of touched.subject)) (entry_named blocks (name_of touched.subject));
 }
 
--- what is told of an item of a capability
-abbrev pub capability_told : ℕ → List ℕ → ItemSeen → Capability → HoverSeen
-capability_told line block item c = record { range = range_in line block item.span; about = about_item c (shown_detail item.text) }
+-- what is told of an item of a capability, which that offset is on
+abbrev pub capability_told : ℕ → List ℕ → ℕ → ItemSeen → Capability → HoverSeen
+capability_told line block offset item c = record {
+  range = range_in line block item.span;
+  about = about_item c (shown_detail item.text) (meaning_at block offset);
+}
 
--- what is told of an item, if a capability has its name
-abbrev pub item_told : ℕ → List ℕ → ItemSeen → Option HoverSeen
-item_told line block item = option_map (capability_told line block item) (capability_named item.name)
+-- what is told of an item, which that offset is on, if a capability has its name
+abbrev pub item_told : ℕ → List ℕ → ℕ → ItemSeen → Option HoverSeen
+item_told line block offset item = option_map (capability_told line block offset item) (capability_named item.name)
 
 -- what is told at an offset of a block that begins on that line
 abbrev pub told_at : List (List ℕ) → ℕ → List ℕ → ℕ → Option HoverSeen
 told_at blocks line block offset =
-    option_or (option_map (name_told blocks line block) (subject_at block offset)) (option_and_then (item_told line block) (item_at block offset))
+    option_or (option_map (name_told blocks line block) (subject_at block offset)) (option_and_then (item_told line block offset) (item_at block offset))
 
 -- what is told at a place in a block
 abbrev pub told_in : List (List ℕ) → Spot → Option HoverSeen

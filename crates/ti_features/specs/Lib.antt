@@ -2,6 +2,7 @@
 pub mod Completions
 pub mod Holdings
 pub mod Hovers
+pub mod Meanings
 pub mod Names
 pub mod Spots
 pub mod Symbols

@@ -1,6 +1,7 @@
 //! What an editor tells of what a place is on.
 ghost use Rattle.std.specs.Prelude.{◌≡◌, ◌<◌, ◌+◌, ◌^◌, All, IfOk, length, option_map};
 ghost use Rattle.std.specs.Option.{option_or};
+ghost use Rattle.ti_source.specs.Cutting.{OneBlock};
 ghost use Rattle.ti_spans.specs.Subjects.{subject_seen, touched_seen};
 ghost use Rattle.ti_spans.specs.Touching.{item_seen};
 ghost use Rattle.ti_features.specs.Hovers as spec;
@@ -9,6 +10,7 @@ ghost use Rattle.ti_features.specs.Names.{name_of};
 ghost use Rattle.ti_document.specs.Documents.{IsShortBlock};
 
 use crate::holdings::{Entry, entry_named};
+use crate::meanings::{Meaning, meaning_at};
 use crate::spots::{range_in, spot_at};
 use std::alloc::{AllocError, Global};
 use ti_base::Database;
@@ -26,6 +28,8 @@ pub enum About {
         capability: Cap,
         /// The item as it is written, in ASCII.
         text: String,
+        /// What it says, as it is read.
+        meaning: Meaning,
     },
     /// A name in a head, or one that an item `use=` gives.
     Name {
@@ -78,15 +82,17 @@ fn name_told(
     })
 }
 
-// What is told of an item in a block that begins on that line.
+// What is told of an item, which that offset is on, in a block that begins on that line.
 fn item_told(
     alloc: Global,
     line: usize,
     block: &[u8],
+    offset: usize,
     item: &Item,
 ) -> Result<Option<Hover>, AllocError>
-    requires { line + length block.now < 2 ^ 64 }
-    ensures { IfOk result (λ told. option_map hover_seen told ≡ item_told line block.now (item_seen item.now)) }
+    requires one { OneBlock block.now }
+    requires room { line + length block.now < 2 ^ 64 }
+    ensures { IfOk result (λ told. option_map hover_seen told ≡ item_told line block.now offset (item_seen item.now)) }
 {
     let Some(capability) = find(&item.name) else {
         return Ok(None);
@@ -94,6 +100,7 @@ fn item_told(
     let about = About::Item {
         capability,
         text: shown_detail(alloc, &item.text)?,
+        meaning: meaning_at(alloc, block, offset)?,
     };
     Ok(Some(Hover {
         range: range_in(line, block, item.span),
@@ -110,6 +117,7 @@ fn told_at(
     offset: usize,
 ) -> Result<Option<Hover>, AllocError>
     requires short { All IsShortBlock database.now }
+    requires one { OneBlock block.now }
     requires room { line + length block.now < 2 ^ 64 }
     ensures { IfOk result (λ told. option_map hover_seen told ≡ told_at database.now line block.now offset) }
 {
@@ -117,7 +125,7 @@ fn told_at(
         return Ok(Some(name_told(alloc, database, line, block, &touched)?));
     }
     match item_at(alloc, block, offset)? {
-        Some(item) => item_told(alloc, line, block, &item),
+        Some(item) => item_told(alloc, line, block, offset, &item),
         None => Ok(None),
     }
 }

@@ -4,6 +4,7 @@
 //! - `spots`: where the blocks of a document are, and where in one a place is
 //! - `names`: where the names of a document lead
 //! - `holdings`: what the entry of a block holds
+//! - `meanings`: what an item says, as it is read
 //! - `hovers`: what an editor tells of what a place is on
 //! - `completions`: what an editor offers to complete a word with
 //! - `symbols`: the blocks of a document as its outline
@@ -12,6 +13,7 @@
 mod completions;
 mod holdings;
 mod hovers;
+mod meanings;
 mod names;
 mod spots;
 mod symbols;
@@ -19,5 +21,6 @@ mod symbols;
 pub use completions::{Completion, Offers, completion_of, names_are_offered_once};
 pub use holdings::{Entry, Holding};
 pub use hovers::{About, Hover, hover_of};
+pub use meanings::Meaning;
 pub use names::{definition_of, references_of};
 pub use symbols::{Symbol, selections_are_inside, symbols_of};

@@ -3,7 +3,7 @@ use std::alloc::{AllocError, Global};
 use std::process::Abort;
 use ti_caps::{Kind, name};
 use ti_document::Document;
-use ti_features::{About, Entry, Holding, Hover, hover_of};
+use ti_features::{About, Entry, Holding, Hover, Meaning, hover_of};
 use ti_messages::{Position, Range};
 
 /// A document of these bytes.
@@ -24,11 +24,21 @@ c,\tcols@, use=a, xon, lines#24,
 d,\tuse=x, use=f, use = a,
 ";
 
-/// What is wanted of what a place is on: a capability by its name and kind, and the item; or a
-/// name, and what became of it.
+/// How an item is read, as it is wanted.
+#[derive(Clone, Copy)]
+enum Reads {
+    Nothing,
+    Set,
+    Number(u32),
+    Text(&'static str),
+    Cancelled,
+}
+
+/// What is wanted of what a place is on: a capability by its name and kind, the item, and how it is
+/// read; or a name, and what became of it.
 #[derive(Clone, Copy)]
 enum Wanted {
-    Item(&'static str, Kind, &'static str),
+    Item(&'static str, Kind, &'static str, Reads),
     Name(&'static str, Entry),
 }
 
@@ -55,14 +65,14 @@ const C: Entry = Entry::Held(Holding {
 const ROWS: [((usize, usize), (usize, usize), Wanted); 15] = [
     ((1, 0), (0, 1), Wanted::Name("a", A)),
     ((1, 3), (2, 3), Wanted::Name("b", A)),
-    ((2, 1), (1, 3), Wanted::Item("am", Kind::Flag, "am")),
-    ((2, 5), (5, 12), Wanted::Item("cols", Kind::Number, "cols#80")),
-    ((2, 20), (14, 20), Wanted::Item("bel", Kind::Text, "bel=????")),
-    ((2, 24), (22, 35), Wanted::Item("cup", Kind::Text, "cup=\\E[%d;%dH")),
-    ((3, 6), (1, 6), Wanted::Item("bel", Kind::Text, "bel@")),
-    ((4, 2), (2, 9), Wanted::Item("cols", Kind::Number, "cols#8y")),
-    ((4, 11), (11, 15), Wanted::Item("am", Kind::Flag, "am=x")),
-    ((4, 34), (32, 34), Wanted::Item("it", Kind::Number, "it")),
+    ((2, 1), (1, 3), Wanted::Item("am", Kind::Flag, "am", Reads::Set)),
+    ((2, 5), (5, 12), Wanted::Item("cols", Kind::Number, "cols#80", Reads::Number(80))),
+    ((2, 20), (14, 20), Wanted::Item("bel", Kind::Text, "bel=????", Reads::Text("\\360\\237\\230\\200"))),
+    ((2, 24), (22, 35), Wanted::Item("cup", Kind::Text, "cup=\\E[%d;%dH", Reads::Text("\\E[%d;%dH"))),
+    ((3, 6), (1, 6), Wanted::Item("bel", Kind::Text, "bel@", Reads::Cancelled)),
+    ((4, 2), (2, 9), Wanted::Item("cols", Kind::Number, "cols#8y", Reads::Nothing)),
+    ((4, 11), (11, 15), Wanted::Item("am", Kind::Flag, "am=x", Reads::Nothing)),
+    ((4, 34), (32, 34), Wanted::Item("it", Kind::Number, "it", Reads::Nothing)),
     ((5, 0), (0, 1), Wanted::Name("c", C)),
     ((5, 12), (10, 15), Wanted::Name("a", A)),
     ((6, 0), (0, 1), Wanted::Name("d", Entry::Faulty)),
@@ -70,13 +80,32 @@ const ROWS: [((usize, usize), (usize, usize), Wanted); 15] = [
     ((6, 10), (10, 15), Wanted::Name("f", Entry::Faulty)),
 ];
 
+/// Whether a meaning is as it is wanted.
+fn is_read(meaning: &Meaning, wanted: Reads) -> bool {
+    match (meaning, wanted) {
+        (Meaning::Nothing, Reads::Nothing) => true,
+        (Meaning::Set, Reads::Set) => true,
+        (Meaning::Number(number), Reads::Number(other)) => *number == other,
+        (Meaning::Text(text), Reads::Text(other)) => text.as_str() == other,
+        (Meaning::Cancelled, Reads::Cancelled) => true,
+        _ => false,
+    }
+}
+
 /// Whether what is told is as it is wanted.
 fn is_wanted(told: &Hover, range: Range, wanted: Wanted) -> bool {
     let same = match (&told.about, wanted) {
-        (About::Item { capability, text }, Wanted::Item(named, kind, written)) => name(*capability)
-            == named
+        (
+            About::Item {
+                capability,
+                text,
+                meaning,
+            },
+            Wanted::Item(named, kind, written, reads),
+        ) => name(*capability) == named
             && capability.kind() == kind
-            && text.as_str() == written,
+            && text.as_str() == written
+            && is_read(meaning, reads),
         (About::Name { name, entry }, Wanted::Name(named, found)) => name.as_str() == named
             && *entry == found,
         _ => false,

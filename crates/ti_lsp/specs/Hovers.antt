@@ -6,6 +6,7 @@ use Rattle.serde_json.specs.Data.{Data, null}
 use Rattle.ti_caps.specs.Tables.{Capability, name_of}
 use Rattle.ti_messages.specs.Shapes.{hover_data}
 use Rattle.ti_features.specs.Hovers.{AboutSeen, HoverSeen, about_item, about_name}
+use Rattle.ti_features.specs.Meanings.{MeaningSeen, means_cancelled, means_nothing, means_number, means_set, means_text}
 use Rattle.ti_features.specs.declared.holdings.Entry.{Entry}
 use Rattle.ti_features.specs.declared.holdings.Holding.{Holding}
 use Rattle.ti_features.specs.declared.holdings.Entry.TheVariants.{Missing, Faulty, Held}
@@ -41,13 +42,29 @@ head_told c = name_of c ++ codes ": " ++ detail_of c
 abbrev pub item_told : Capability → List ℕ → List ℕ
 item_told c text = documentation_of c ++ codes "\nWritten: " ++ text
 
--- what a capability is, and the item as it is written
-abbrev pub capability_told : Capability → List ℕ → List ℕ
-capability_told c text = head_told c ++ codes "\n" ++ item_told c text
+-- what an item means
+abbrev pub meaning_told : MeaningSeen → List ℕ
+meaning_told means_nothing = codes "nothing, as the item is faulty"
+meaning_told means_set = codes "set"
+meaning_told (means_number number) = decimal number
+meaning_told (means_text text) = text
+meaning_told means_cancelled = codes "cancelled"
+
+-- the item as it is read
+abbrev pub read_told : MeaningSeen → List ℕ
+read_told meaning = codes "Read" ++ codes ": " ++ meaning_told meaning
+
+-- what is said of it, and the item as it is written and as it is read
+abbrev pub lines_told : Capability → List ℕ → MeaningSeen → List ℕ
+lines_told c text meaning = item_told c text ++ codes "\n" ++ read_told meaning
+
+-- what a capability is, and the item as it is written and as it is read
+abbrev pub capability_told : Capability → List ℕ → MeaningSeen → List ℕ
+capability_told c text meaning = head_told c ++ codes "\n" ++ lines_told c text meaning
 
 -- what a place is on
 abbrev pub about_told : AboutSeen → List ℕ
-about_told (about_item c text) = capability_told c text
+about_told (about_item c text meaning) = capability_told c text meaning
 about_told (about_name name entry) = name ++ codes ": " ++ entry_told entry
 
 -- what is told ("Hover"), or null

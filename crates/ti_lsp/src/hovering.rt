@@ -4,14 +4,15 @@ ghost use Rattle.std.specs.Fmt.{decimal};
 ghost use Rattle.std.specs.String.{string_bytes};
 ghost use Rattle.serde_json.specs.View.{view};
 ghost use Rattle.ti_features.specs.Hovers.{about_seen, hover_of};
+ghost use Rattle.ti_features.specs.Meanings.{meaning_seen};
 ghost use Rattle.ti_features.specs.declared.holdings.Entry.TheVariants.{Held};
-ghost use Rattle.ti_lsp.specs.Hovers.{about_told, capability_told, count_told, counts_told, entry_told, head_told, hover_shown, item_told, others_told, size_told};
+ghost use Rattle.ti_lsp.specs.Hovers.{about_told, capability_told, count_told, counts_told, entry_told, head_told, hover_shown, item_told, lines_told, meaning_told, others_told, read_told, size_told};
 
 use serde_json::Value;
 use std::alloc::{AllocError, Global};
 use ti_caps::{Cap, name};
 use ti_document::Document;
-use ti_features::{About, Entry, Holding, hover_of};
+use ti_features::{About, Entry, Holding, Meaning, hover_of};
 use ti_messages::Position;
 use ti_messages::answers::hover_value;
 use ti_server::offers::{detail_of, documentation_of};
@@ -129,13 +130,53 @@ fn item_told(alloc: Global, capability: Cap, text: &str) -> Result<String, Alloc
     with_item(alloc, documentation.as_str(), text)
 }
 
-// What a capability is, and the item as it is written.
-fn capability_told(alloc: Global, capability: Cap, text: &str) -> Result<String, AllocError>
-    ensures { IfOk result (λ told. string_bytes told ≡ capability_told capability text.now) }
+// What an item means.
+fn meaning_told(alloc: Global, meaning: &Meaning) -> Result<String, AllocError>
+    ensures { IfOk result (λ told. string_bytes told ≡ meaning_told (meaning_seen meaning.now)) }
+{
+    match meaning {
+        Meaning::Nothing => text_of(alloc, "nothing, as the item is faulty"),
+        Meaning::Set => text_of(alloc, "set"),
+        Meaning::Number(number) => digits(alloc, *number as usize),
+        Meaning::Text(text) => text_of(alloc, text.as_str()),
+        Meaning::Cancelled => text_of(alloc, "cancelled"),
+    }
+}
+
+// The item as it is read.
+fn read_told(alloc: Global, meaning: &Meaning) -> Result<String, AllocError>
+    ensures { IfOk result (λ told. string_bytes told ≡ read_told (meaning_seen meaning.now)) }
+{
+    let meaning = meaning_told(alloc, meaning)?;
+    said_of(alloc, "Read", meaning.as_str())
+}
+
+// What is said of a capability, and the item as it is written and as it is read.
+fn lines_told(
+    alloc: Global,
+    capability: Cap,
+    text: &str,
+    meaning: &Meaning,
+) -> Result<String, AllocError>
+    ensures { IfOk result (λ told. string_bytes told ≡ lines_told capability text.now (meaning_seen meaning.now)) }
+{
+    let item = item_told(alloc, capability, text)?;
+    let read = read_told(alloc, meaning)?;
+    joined(alloc, item.as_str(), read.as_str())
+}
+
+// What a capability is, and the item as it is written and as it is read.
+fn capability_told(
+    alloc: Global,
+    capability: Cap,
+    text: &str,
+    meaning: &Meaning,
+) -> Result<String, AllocError>
+    ensures { IfOk result (λ told. string_bytes told ≡ capability_told capability text.now (meaning_seen meaning.now)) }
 {
     let head = head_told(alloc, capability)?;
-    let item = item_told(alloc, capability, text)?;
-    joined(alloc, head.as_str(), item.as_str())
+    let lines = lines_told(alloc, capability, text, meaning)?;
+    joined(alloc, head.as_str(), lines.as_str())
 }
 
 // What became of a name.
@@ -151,7 +192,11 @@ fn about_told(alloc: Global, about: &About) -> Result<String, AllocError>
     ensures { IfOk result (λ told. string_bytes told ≡ about_told (about_seen about.now)) }
 {
     match about {
-        About::Item { capability, text } => capability_told(alloc, *capability, text.as_str()),
+        About::Item {
+            capability,
+            text,
+            meaning,
+        } => capability_told(alloc, *capability, text.as_str(), meaning),
         About::Name { name, entry } => name_told(alloc, name.as_str(), *entry),
     }
 }

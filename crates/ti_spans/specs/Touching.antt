@@ -1,12 +1,12 @@
 -- The item that an offset of a block is on, as it is written (own).
 use Rattle.ti_text.specs.Ascii as ascii
-use Rattle.std.specs.Prelude.{ℕ, ◌==◌, List, [], ◌∷◌, Option, None, Some, if◌then◌else◌}
+use Rattle.std.specs.Prelude.{ℕ, ◌+◌, ◌==◌, List, [], ◌∷◌, Option, None, Some, if◌then◌else◌}
 use Rattle.std.specs.Option.{option_map}
 use Rattle.ti_source.specs.Folding.{PlacedByte}
 use Rattle.ti_source.specs.Items.{bytes, is_mark}
 use Rattle.ti_spans.specs.Folding.{folded_of}
 use Rattle.ti_spans.specs.Parts.{spanned}
-use Rattle.ti_spans.specs.Subjects.{items_of, part_on, span_or_start, without_end}
+use Rattle.ti_spans.specs.Subjects.{is_on, items_of, part_on, span_or_start, without_end}
 use Rattle.ti_spans.specs.declared.parts.Part.{Part}
 use Rattle.ti_spans.specs.declared.touching.Item.{Item}
 
@@ -51,3 +51,13 @@ item_in text offset = option_map seen_of (part_on offset (items_of text))
 -- the item that an offset of a block is on
 abbrev pub item_at : List ℕ → ℕ → Option ItemSeen
 item_at block offset = item_in (folded_of block) offset
+
+-- the place among these parts of the first that an offset is on, if the first of them has that
+-- place
+abbrev pub ordinal_from : ℕ → ℕ → List (List PlacedByte) → Option ℕ
+ordinal_from ordinal offset [] = None
+ordinal_from ordinal offset (part ∷ parts) = if is_on offset part then Some ordinal else ordinal_from (ordinal + 1) offset parts
+
+-- the place among the items of a block, from 0, of the one that an offset is on
+abbrev pub ordinal_at : List ℕ → ℕ → Option ℕ
+ordinal_at block offset = ordinal_from 0 offset (items_of (folded_of block))

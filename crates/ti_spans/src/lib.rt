@@ -22,5 +22,5 @@ pub use heads::{Head, head_of};
 pub use items::{Use, uses_of};
 pub use parts::{Part, field_len, item_parts, name_parts, parts_are_computed, span_of};
 pub use subjects::{Subject, Touched, subject_at};
-pub use touching::{Item, item_at};
+pub use touching::{Item, item_at, ordinal_at};
 pub use words::{Word, word_before};

@@ -30,8 +30,8 @@ pub struct Touched {
     pub subject: Subject,
 }
 
-// Whether an offset is on a part: from its first byte to after its last.
-fn is_on(text: &[(u8, usize)], part: Part, offset: usize) -> bool
+/// Whether an offset is on a part: from its first byte to after its last.
+pub(crate) fn is_on(text: &[(u8, usize)], part: Part, offset: usize) -> bool
     requires within { IsWithin text.now part }
     requires offsets { All (λ x. x.1 < 2 ^ 63) text.now }
     ensures { result ≡ spec.is_on offset (part_of text.now part) }

@@ -1,16 +1,16 @@
 //! The item that an offset of a block is on, as it is written.
-ghost use Rattle.std.specs.Prelude.{◌≡◌, ◌^◌, ◌<◌, All, IfOk, IfSome, length};
+ghost use Rattle.std.specs.Prelude.{◌≡◌, ◌^◌, ◌<◌, All, IfOk, IfSome, length, map};
 ghost use Rattle.std.specs.Option.{option_map};
 ghost use Rattle.ti_source.specs.Items.{is_mark};
 ghost use Rattle.ti_spans.specs.Parts.{IsWithin, part_of};
 ghost use Rattle.ti_spans.specs.Touching as spec;
-ghost use Rattle.ti_spans.specs.Touching.{item_in, marked_name, name_of, seen_of, without_at};
+ghost use Rattle.ti_spans.specs.Touching.{item_in, marked_name, name_of, ordinal_from, seen_of, without_at};
 
 use crate::folding::folded;
 use crate::heads::span_or_start;
-use crate::items::without_end;
+use crate::items::{visible_items, without_end};
 use crate::parts::{Part, push_bytes, span_of};
-use crate::subjects::item_on;
+use crate::subjects::{is_on, item_on};
 use std::alloc::{AllocError, Global};
 
 /// An item as it is written.
@@ -116,4 +116,31 @@ pub fn item_at(alloc: Global, block: &[u8], offset: usize) -> Result<Option<Item
 {
     let text = folded(alloc, block)?;
     item_in(alloc, &text, offset)
+}
+
+// The place among parts of the first that an offset is on.
+fn ordinal_on(text: &[(u8, usize)], parts: &[Part], offset: usize) -> Option<usize>
+    requires within { All (IsWithin text.now) parts.now }
+    requires offsets { All (λ x. x.1 < 2 ^ 63) text.now }
+    ensures { result ≡ ordinal_from 0 offset (map (part_of text.now) parts.now) }
+{
+    for at in 0..parts.len() {
+        if is_on(text, parts[at], offset) {
+            return Some(at);
+        }
+    }
+    None
+}
+
+/// The place among the items of a block of the one that an offset is on, counted from 0. Empty and
+/// disabled items count.
+///
+/// # Errors
+/// Out of memory.
+pub fn ordinal_at(alloc: Global, block: &[u8], offset: usize) -> Result<Option<usize>, AllocError>
+    ensures { IfOk result (λ found. found ≡ spec.ordinal_at block.now offset) }
+{
+    let text = folded(alloc, block)?;
+    let items = visible_items(alloc, &text)?;
+    Ok(ordinal_on(&text, &items, offset))
 }

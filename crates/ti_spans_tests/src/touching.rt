@@ -1,7 +1,7 @@
 //! The items that offsets of blocks are on, as they are written.
 use std::alloc::{AllocError, Global};
 use std::process::Abort;
-use ti_spans::item_at;
+use ti_spans::{item_at, ordinal_at};
 
 /// A block with comments, broken lines, white space around items, and a disabled item.
 const BLOCK: &[u8] =
@@ -37,6 +37,17 @@ fn items(rt: HostRuntime) -> Result<(), AllocError> {
     Ok(())
 }
 
+/// Offsets of it, and the places among the items of those that they are on; the disabled one counts.
+const ORDINALS: [(usize, usize); 4] = [(9, 0), (18, 1), (46, 3), (63, 6)];
+
+#[test]
+fn ordinals(rt: HostRuntime) -> Result<(), AllocError> {
+    for (offset, ordinal) in ORDINALS {
+        assert!(rt; ordinal_at(rt.alloc(), BLOCK, offset)? == Some(ordinal));
+    }
+    Ok(())
+}
+
 /// Offsets that are on no item: in the head, at the start of a line, between items, after the end.
 const NOWHERE: [usize; 5] = [0, 3, 5, 10, 1000];
 
@@ -44,6 +55,7 @@ const NOWHERE: [usize; 5] = [0, 3, 5, 10, 1000];
 fn no_items(rt: HostRuntime) -> Result<(), AllocError> {
     for offset in NOWHERE {
         assert!(rt; item_at(rt.alloc(), BLOCK, offset)?.is_none());
+        assert!(rt; ordinal_at(rt.alloc(), BLOCK, offset)?.is_none());
     }
     Ok(())
 }

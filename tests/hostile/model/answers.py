@@ -4,6 +4,7 @@ import re
 
 from .base import Meaning
 from .caps import FIND, FLAG, KINDS, NAMES_OF, NUMBER, TEXT, described
+from .listing import written
 from .source import CANCEL, WHITE, ends_of_items, read
 from .texts import blocks_of, offset_of, refused_line, width
 
@@ -250,8 +251,17 @@ def name_told(meaning, name):
     return f"{shown(name)}: an entry of {len(image)} bytes\n{counts}"
 
 
-def item_told(text):
-    """What is told of an item, or None if no capability has its name."""
+def meaning_told(block, ordinal):
+    """How the item of that place in a block is read."""
+    for _, _, cap, value in (item for item in read(block).items if item.ordinal == ordinal):
+        if value is CANCEL or cap[0] == FLAG:
+            return "cancelled" if value is CANCEL else "set"
+        return f"{value}" if cap[0] == NUMBER else written(value).decode()
+    return "nothing, as the item is faulty"
+
+
+def item_told(text, meaning):
+    """What is told of an item that is read so, or None if no capability has its name."""
     text = text.rstrip(WHITE)
     marked = re.match(rb"[^#=]*(?=[#=])", text, re.S)
     name = text.removesuffix(b"@") if marked is None else marked[0]
@@ -259,7 +269,7 @@ def item_told(text):
     if cap is None:
         return None
     variable = described(cap[0], name)[0]
-    return f"{name.decode()}: {WORDS[cap[0]]}, {variable}\n{documented(cap[0], name)}\nWritten: {shown(text)}"
+    return f"{name.decode()}: {WORDS[cap[0]]}, {variable}\n{documented(cap[0], name)}\nWritten: {shown(text)}\nRead: {meaning}"
 
 
 def told_at(meaning, block, offset):
@@ -269,10 +279,11 @@ def told_at(meaning, block, offset):
         span = span_of(where, *part)
         if is_on(offset, span):
             return name_told(meaning, folded[slice(*part)]), span
-    for part in items_in(folded):
+    for ordinal, part in enumerate(items_in(folded)):
         span, name = span_of(where, *part), use_in(folded, *part)
         if is_on(offset, span):
-            words = item_told(folded[slice(*part)]) if name is None else name_told(meaning, folded[slice(*name)])
+            told = folded[slice(*part if name is None else name)]
+            words = item_told(told, meaning_told(block, ordinal)) if name is None else name_told(meaning, told)
             return None if words is None else (words, span)
     return None
 
