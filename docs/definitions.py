@@ -6,8 +6,8 @@ about and where it comes from; the comment above a definition says what it is. T
 lists those that public contracts cite, those that these name, and those that the latter name if
 the cited one is a record of them, by the section of the manual that they come from, each with its
 file and with the calls that cite it. With --check nothing is written, and the status is 1 if the
-page is out of date, or if the contract of a public call names a definition of specs/inside, which
-are for private contracts and proofs.
+page is out of date, if a definition that it lists has no sentence, or if the contract of a public
+call names a definition of specs/inside, which are for private contracts and proofs.
 """
 
 import os
@@ -245,6 +245,11 @@ def misplaced():
     return sorted(f"{call} names {at}.{word}" for call, (at, word) in found if ".inside." in at)
 
 
+def unsaid(text):
+    """The definitions of the page that say nothing."""
+    return re.findall(r"^\| `([^|]*)` \|  \|", text, re.M)
+
+
 def main():
     text = page()
     if "--check" in sys.argv[1:]:
@@ -255,7 +260,10 @@ def main():
         inside = misplaced()
         for definition in inside:
             print(f"specs/inside: {definition}")
-        is_good = is_current and not inside
+        silent = unsaid(text)
+        for definition in silent:
+            print(f"no comment says what {definition} is")
+        is_good = is_current and not inside and not silent
         print("docs: 1 passed, 0 failed" if is_good else "docs: 0 passed, 1 failed")
         return 0 if is_good else 1
     with open(PAGE, "w", encoding="utf-8") as file:

@@ -52,5 +52,6 @@ ti_app orders = with_subcommand (with_subcommand (first_tools_app orders) tput_a
 abbrev pub OfProgram : (App → Type 0) → Type 0
 OfProgram P = (orders : Choices) × IsOrders orders × P (ti_app orders)
 
+-- what holds of it wherever these names are
 abbrev pub OfEachProgram : (App → Type 0) → Type 0
 OfEachProgram P = (orders : Choices) → IsOrders orders → P (ti_app orders)

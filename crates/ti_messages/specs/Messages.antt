@@ -216,9 +216,11 @@ method_meaning d (Some method) = called_of method d
 abbrev pub response_or_fault : Data → Meaning
 response_or_fault d = if is_some (get (codes "result") d) || is_some (get (codes "error") d) then response else faulty (id_in d)
 
+-- what a message means whose method is this, if it has one
 abbrev pub meaning_by : Data → Option Data → Meaning
 meaning_by d None = response_or_fault d
 meaning_by d (Some method) = method_meaning d (as_str method)
 
+-- what a message means
 abbrev pub message_of : Data → Meaning
 message_of d = meaning_by d (get (codes "method") d)

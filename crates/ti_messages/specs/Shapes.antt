@@ -11,6 +11,7 @@ use Rattle.ti_messages.specs.declared.places.Range.{Range}
 use Rattle.ti_messages.specs.declared.writing.Severity.{Severity}
 use Rattle.ti_messages.specs.declared.writing.Severity.TheVariants.{Error, Warning}
 
+-- a natural number
 abbrev pub natural : ℕ → Data
 natural n = number (unsigned n)
 
@@ -156,6 +157,7 @@ server_data version =
     object (member (codes "name") (string (codes "ti-lsp"))
     (member (codes "version") (string version) no_members))
 
+-- "InitializeResult": what the server can do, and its name and version
 abbrev pub initialized_data : List ℕ → Data
 initialized_data version =
     object (member (codes "capabilities") capabilities_data

@@ -14,6 +14,7 @@ use Rattle.ti_messages.specs.declared.messages.Message.TheVariants.{Request, Not
 abbrev pub edit_view : Change → Edit
 edit_view change = record { range = change.range; text = change.text.now }
 
+-- what a request that is held in memory asks
 abbrev pub asked_view : Call → Asked
 asked_view call.Initialize = means.initialize
 asked_view call.Shutdown = means.shutdown
@@ -21,6 +22,7 @@ asked_view (call.Asked uri question) = means.about uri.now question
 asked_view call.Faulty = means.unreadable
 asked_view call.Unknown = means.unknown
 
+-- what a notification that is held in memory tells
 abbrev pub told_view : Notice → Told
 told_view Exited = means.exited
 told_view (Opened uri version text) = means.opened uri.now version text.now
@@ -28,6 +30,7 @@ told_view (Changed uri version changes) = means.changed uri.now version (map edi
 told_view (Closed uri) = means.closed uri.now
 told_view Nothing = means.nothing
 
+-- what a message that is held in memory means
 abbrev pub message_view : Message → Meaning
 message_view (Request id asked) = means.request (view id.now) (asked_view asked)
 message_view (Notification notice) = means.notification (told_view notice)

@@ -12,6 +12,7 @@ pub record Described : Type 0 where
   pub sentence : List ℕ
   pub parameters : List ℕ
 
+-- a description that is held in memory, as plain data
 abbrev pub description_seen : Description → Described
 description_seen said = record { variable = said.variable.now; sentence = said.sentence.now; parameters = said.parameters.now }
 

@@ -10,6 +10,7 @@ use Rattle.ti_messages.specs.declared.answers.ItemKind.TheVariants as items
 use Rattle.ti_messages.specs.declared.places.Range.{Range}
 use Rattle.ti_server.specs.Descriptions.{Described, described}
 
+-- what the manual calls the kind
 abbrev pub kind_word : Kind → List ℕ
 kind_word Flag = codes "boolean"
 kind_word Number = codes "number"
@@ -27,6 +28,7 @@ parameters_text (first ∷ rest) = codes "\nParameters: " ++ (first ∷ rest) ++
 abbrev pub documented : Described → List ℕ
 documented said = said.sentence ++ codes "." ++ parameters_text said.parameters
 
+-- what is said of a capability: its sentence and its parameters
 abbrev pub documentation_of : Capability → List ℕ
 documentation_of c = documented (described c)
 

@@ -15,9 +15,11 @@ use Rattle.ti_server.specs.declared.server.Server.{Server}
 abbrev pub open_view : {D : Type 0} → (D → List ℕ) → Opened D → Open
 open_view text_of document = record { uri = string_bytes document.uri; version = document.version; text = text_of document.source }
 
+-- the documents that are held in memory, as plain data
 abbrev pub documents_view : {D : Type 0} → (D → List ℕ) → List (Opened D) → List Open
 documents_view text_of documents = map (open_view text_of) documents
 
+-- the state of a server, as plain data
 abbrev pub state_of : {D : Type 0} → (D → List ℕ) → Server D → State
 state_of text_of server = record { phase = server.phase; documents = documents_view text_of server.documents.items }
 
@@ -28,6 +30,7 @@ phase_status Running = None
 phase_status Finished = None
 phase_status (Ended status) = Some status
 
+-- the status of the process in a state
 abbrev pub status_of : State → Option ℕ
 status_of state = phase_status state.phase
 

@@ -19,6 +19,7 @@ pub record Open : Type 0 where
   pub version : ℕ
   pub text : List ℕ
 
+-- where the server is in its life, and the documents that are open
 pub record State : Type 0 where
   pub phase : Phase
   pub documents : List Open
@@ -33,6 +34,7 @@ pub data Answer : Type 0 where
   shown : Open → Answer
   cleared : List ℕ → Answer
 
+-- the state before the first message: no document is open
 abbrev pub at_start : State
 at_start = record { phase = Fresh; documents = [] }
 
@@ -141,6 +143,7 @@ ended_by Running = Ended 1
 ended_by Finished = Ended 0
 ended_by (Ended status) = Ended status
 
+-- where the server is after it was told this
 abbrev pub phase_told : Phase → Told → Phase
 phase_told phase exited = ended_by phase
 phase_told phase (opened uri version text) = phase

@@ -65,8 +65,10 @@ items_after before (x ∷ y ∷ ys) =
 abbrev pub FieldsAreComputed : Type 0
 FieldsAreComputed = (text : List PlacedByte) → Begins text (field_of text) (rest_of text)
 
+-- the names that are computed are the parts of the field
 abbrev pub NamesAreComputed : Type 0
 NamesAreComputed = (field : List PlacedByte) → PartsOf (bytes field) (map bytes (names_of field))
 
+-- the items that are computed are those of the text
 abbrev pub ItemsAreComputed : Type 0
 ItemsAreComputed = (before : ℕ) (text : List PlacedByte) → AreItems before text (items_after before text)
