@@ -8,7 +8,9 @@ use Rattle.ti_layout.specs.Values.{Contents, HasNoNul}
 use Rattle.ti_layout.specs.declared.layout.Format.{Format}
 use Rattle.ti_layout.specs.declared.layout.Format.TheVariants.{Legacy, Extended}
 use Rattle.ti_layout.specs.Layout.{Sections, absent_mark, cancelled_mark, first_negative, number_section, width}
-use Rattle.ti_layout.specs.Reading.{AreSound, IsStoredNumber, IsOffset, Reads, contents_of, number_at, numbers_in, count_in, format_in, FailsToRead, HasReadFault, HasBadCount, HasBadNames, HasBadFlag, HasBadNumber, HasBadOffset, HasEnd, rank, names_section, flags_section, numbers_section, offsets_section, strings_section}
+use Rattle.ti_layout.specs.Reading.{AreSound, IsStoredNumber, IsOffset, Reads, contents_of, number_at, numbers_in, count_in, format_in, FailsToRead, HasReadFault}
+use Rattle.ti_layout.specs.Reading.{HasBadCount, HasBadNames, HasBadFlag, HasBadNumber, HasBadOffset, HasEnd, rank, names_section, flags_section, numbers_section}
+use Rattle.ti_layout.specs.Reading.{offsets_section, strings_section}
 use Rattle.ti_layout.proofs.Spelled.{numbers-again, number_read, length-spelled, counted}
 use Rattle.ti_layout.proofs.Parts.{Found, found}
 

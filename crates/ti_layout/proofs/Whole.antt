@@ -5,7 +5,9 @@ use Rattle.std.proofs.lemmas.Bool.{cases_lt}
 use Rattle.ti_layout.specs.declared.layout.Format.{Format}
 use Rattle.ti_layout.specs.declared.layout.Format.TheVariants.{Legacy}
 use Rattle.ti_layout.specs.Layout.{Sections, header, entry_bytes, magic, number_bytes, number_section, width}
-use Rattle.ti_layout.specs.Reading.{word_at, number_at, count_in, numbers_in, AreSound, IsStoredNumber, IsOffset, Reads, contents_of, format_in, names_size, flag_count, number_count, text_count, strings_size, flags_place, numbers_place, offsets_place, strings_place, end_place, names_section, flags_section, numbers_section, offsets_section, strings_section}
+use Rattle.ti_layout.specs.Reading.{word_at, number_at, count_in, numbers_in, AreSound, IsStoredNumber, IsOffset, Reads, contents_of, format_in, names_size, flag_count}
+use Rattle.ti_layout.specs.Reading.{number_count, text_count, strings_size, flags_place, numbers_place, offsets_place, strings_place, end_place, names_section}
+use Rattle.ti_layout.specs.Reading.{flags_section, numbers_section, offsets_section, strings_section}
 use Rattle.ti_layout.specs.inside.Sections.{AreNames, AreFlags, AreStoredNumbers, AreOffsets, EachNumber}
 use Rattle.ti_layout.specs.inside.View.{OffsetsEnd}
 use Rattle.ti_layout.proofs.Below.{length-below, get_or-below}

@@ -9,7 +9,9 @@ use Rattle.std.proofs.lemmas.List.{length-append, append-nil}
 use Rattle.ti_spelling.specs.declared.spelling.Piece.{Piece}
 use Rattle.ti_spelling.specs.declared.spelling.UnescapeError.{UnescapeError}
 use Rattle.ti_spelling.specs.declared.spelling.UnescapeError.TheVariants.{BadOctal, BadControl, BadByte}
-use Rattle.ti_spelling.specs.Spelling.{named_escape, is_octal_digit, octal_digits, octal_digits_up_to, octal_value, is_percent, not_nul, IsEscape, escape_named, escape_octal, escape_unknown, escape_missing, IsControl, control_delete, control_masked, IsPiece, piece_escape, piece_control, piece_caret, piece_plain, IsRefused, refused_octal, refused_control, refused_control_at_end, refused_nul, refused_escaped_nul}
+use Rattle.ti_spelling.specs.Spelling.{named_escape, is_octal_digit, octal_digits, octal_digits_up_to, octal_value, is_percent, not_nul, IsEscape, escape_named}
+use Rattle.ti_spelling.specs.Spelling.{escape_octal, escape_unknown, escape_missing, IsControl, control_delete, control_masked, IsPiece, piece_escape, piece_control}
+use Rattle.ti_spelling.specs.Spelling.{piece_caret, piece_plain, IsRefused, refused_octal, refused_control, refused_control_at_end, refused_nul, refused_escaped_nul}
 use Rattle.ti_spelling.specs.inside.Spelling.{octal_piece, unnamed_piece, named_piece, escape_piece, is_control_letter, control_piece, first_piece, is_literal, with_piece, then_later, unescaped_from, with_front}
 
 -- ---- octal digits
@@ -118,7 +120,13 @@ after_backslash before xs (Ok piece) found = record { text = 92 ∷ found.text; 
 after_backslash before xs (Err cause) refused = refused before
 
 after_caret : (before : ℕ) (xs : List ℕ) (r : Result Piece UnescapeError) → is_percent before ≡ false → MatchResult r (ControlFound xs) (IsRefused before (94 ∷ xs)) → FirstRight before (94 ∷ xs) r
-after_caret before xs (Ok piece) e found = record { text = 94 ∷ found.letter ∷ []; rest = found.rest; whole = ap (λ (ys : List ℕ). 94 ∷ ys) found.whole; size = sym found.size; is_piece = subst (λ (o : Bool). IsPiece before (94 ∷ found.letter ∷ []) found.rest piece.byte o) (sym found.even) (piece_control e found.is_control) }
+after_caret before xs (Ok piece) e found = record {
+  text = 94 ∷ found.letter ∷ [];
+  rest = found.rest;
+  whole = ap (λ (ys : List ℕ). 94 ∷ ys) found.whole;
+  size = sym found.size;
+  is_piece = subst (λ (o : Bool). IsPiece before (94 ∷ found.letter ∷ []) found.rest piece.byte o) (sym found.even) (piece_control e found.is_control);
+}
 after_caret before xs (Err cause) e refused = refused
 
 pub first_right : (before x : ℕ) (xs : List ℕ) → FirstRight before (x ∷ xs) (first_piece (is_percent before) (x ∷ xs))

@@ -7,7 +7,11 @@ use Rattle.std.proofs.lemmas.List.{length-append}
 use Rattle.ti_spelling.specs.declared.spelling.Piece.{Piece}
 use Rattle.ti_spelling.specs.declared.spelling.UnescapeError.{UnescapeError}
 use Rattle.ti_spelling.specs.declared.spelling.UnescapeError.TheVariants.{BadOctal, BadControl, BadByte, Memory}
-use Rattle.ti_spelling.specs.Spelling.{named_escape, is_octal_digit, octal_digits, octal_digits_up_to, octal_value, is_percent, last_byte, not_nul, IsEscape, escape_named, escape_octal, escape_unknown, escape_missing, IsControl, control_delete, control_masked, IsPiece, piece_escape, piece_control, piece_caret, piece_plain, IsRefused, refused_octal, refused_control, refused_control_at_end, refused_nul, refused_escaped_nul, SpellsAfter, spells_nothing, spells_piece, FailsAfter, fails_here, fails_later, Spells, Fails, CanBeSpelled, IsCauseOf, OneOutcome}
+use Rattle.ti_spelling.specs.Spelling.{named_escape, is_octal_digit, octal_digits, octal_digits_up_to, octal_value, is_percent, last_byte, not_nul, IsEscape}
+use Rattle.ti_spelling.specs.Spelling.{escape_named, escape_octal, escape_unknown, escape_missing, IsControl, control_delete, control_masked, IsPiece, piece_escape}
+use Rattle.ti_spelling.specs.Spelling.{piece_control, piece_caret, piece_plain, IsRefused, refused_octal, refused_control, refused_control_at_end, refused_nul}
+use Rattle.ti_spelling.specs.Spelling.{refused_escaped_nul, SpellsAfter, spells_nothing, spells_piece, FailsAfter, fails_here, fails_later, Spells, Fails, CanBeSpelled}
+use Rattle.ti_spelling.specs.Spelling.{IsCauseOf, OneOutcome}
 use Rattle.ti_spelling.specs.inside.Spelling.{octal_piece, unnamed_piece, named_piece, escape_piece, is_control_letter, control_piece, first_piece, with_piece, then_later, unescaped_from, unescape_result, UnescapedAgrees}
 use Rattle.ti_spelling.proofs.OctalDigits.{digit_bounds}
 use Rattle.ti_spelling.proofs.PieceLemmas.{is_letter, control_letter, Found, first_right, piece_some, refuses}

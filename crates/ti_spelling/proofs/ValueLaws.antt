@@ -6,7 +6,9 @@ use Rattle.std.proofs.lemmas.Bool.{eqb-false, ltb-true, and_parts, cond_both}
 use Rattle.std.proofs.lemmas.Nat.{and_le_r}
 use Rattle.std.proofs.lemmas.List.{length-append}
 use Rattle.std.proofs.lemmas.List.Elements.{All-nil, All-cons}
-use Rattle.ti_spelling.specs.Spelling.{named_escapes, named_escape, octal_value, not_nul, IsEscape, escape_named, escape_octal, escape_unknown, escape_missing, IsControl, control_delete, control_masked, IsPiece, piece_escape, piece_control, piece_caret, piece_plain, SpellsAfter, spells_nothing, spells_piece, HasNoNul, AreBytes, ValuesAreSound}
+use Rattle.ti_spelling.specs.Spelling.{named_escapes, named_escape, octal_value, not_nul, IsEscape, escape_named, escape_octal, escape_unknown, escape_missing}
+use Rattle.ti_spelling.specs.Spelling.{IsControl, control_delete, control_masked, IsPiece, piece_escape, piece_control, piece_caret, piece_plain, SpellsAfter}
+use Rattle.ti_spelling.specs.Spelling.{spells_nothing, spells_piece, HasNoNul, AreBytes, ValuesAreSound}
 use Rattle.ti_spelling.proofs.PieceLemmas.{piece_some}
 
 -- ---- the named escapes
