@@ -36,6 +36,7 @@ abbrev pub about_seen : About → AboutSeen
 about_seen (about.Item capability text meaning) = about_item capability (string_bytes text) (meaning_seen meaning)
 about_seen (about.Name name entry) = about_name (string_bytes name) entry
 
+-- what is told, if its texts are in memory, as plain data
 abbrev pub hover_seen : Hover → HoverSeen
 hover_seen hover = record { range = hover.range; about = about_seen hover.about }
 

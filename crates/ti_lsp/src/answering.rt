@@ -135,7 +135,7 @@ fn offered_items(alloc: Global, offers: &Offers, range: Range) -> Result<Vec<Val
     }
 }
 
-/// What completes the word before a place: nothing where no word is completed.
+/// What completes the word before a place: nothing if no word is completed.
 ///
 /// # Errors
 /// Out of memory.
