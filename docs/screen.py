@@ -1,5 +1,5 @@
 #!/usr/bin/env python3
-"""Draws docs/editor.svg: Neovim's screen with a faulty source and what `ti-lsp` shows and tells of it.
+"""Draws docs/editor.svg: Neovim's screen with a faulty source, and what `ti-lsp` tells of it.
 
     docs/screen.py
 
@@ -29,21 +29,21 @@ base|what mine begins with,
 	cr=\r, kf1=\q,
 mine|my terminal,
 	am, cols#8o, lines#24,
-	bel=^G, colour#8,
-	use=base, use=vt0, clear=\E[H\E[2J,
+	bel=^G, clear=\E[H\E[2J, colour#8,
+	use=base, use=vt0,
 """
-# The cursor goes to a capability, and what is told of it is shown; what is shown last.
+# The cursor goes to a name that an entry uses, and what is told of it is shown; what is shown last.
 SETTINGS = """
 vim.o.number, vim.o.background, vim.o.ruler, vim.o.showcmd = true, 'light', false, false
 vim.cmd('highlight NormalFloat ctermfg=16 ctermbg=255 | highlight FloatBorder ctermfg=8 ctermbg=255')
 vim.cmd('highlight SignColumn ctermbg=none')
 vim.o.fillchars, vim.o.showmode = 'eob: ', false
 vim.wait(20000, function() return #vim.diagnostic.get(0) == 4 end, 20)
-vim.api.nvim_win_set_cursor(0, { 7, 21 })
+vim.api.nvim_win_set_cursor(0, { 7, 6 })
 vim.lsp.handlers['textDocument/hover'] = vim.lsp.with(vim.lsp.handlers.hover, { border = 'single' })
 vim.lsp.buf.hover()
 """
-SHOWN_LAST = "clear_screen"
+SHOWN_LAST = "an entry of"
 # a cell, in pixels; a font of this size is about as wide
 WIDE, HIGH, FONT, EDGE = 8.4, 18, 14, 10
 PAPER, INK = "#ffffff", "#24292f"
@@ -135,7 +135,7 @@ def drawn(lines):
         f'<svg xmlns="http://www.w3.org/2000/svg" width="{width:.0f}" height="{height:.0f}" '
         f'viewBox="0 0 {width:.0f} {height:.0f}" font-family="ui-monospace, DejaVu Sans Mono, monospace" '
         f'font-size="{FONT}">',
-        "<title>Neovim with a terminfo source, its faults, and what a capability is, as ti-lsp tells</title>",
+        "<title>Neovim with a terminfo source, its faults, and what a used entry holds, as ti-lsp tells</title>",
         f'<rect width="100%" height="100%" rx="6" fill="{PAPER}" stroke="#d0d7de"/>',
     ]
     pen = Pen()
