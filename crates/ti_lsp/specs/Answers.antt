@@ -11,9 +11,9 @@ use Rattle.ti_features.specs.Completions.{CompletionSeen, OffersSeen, completion
 use Rattle.ti_features.specs.Hovers.{hover_of}
 use Rattle.ti_features.specs.Names.{definition_of, references_of}
 use Rattle.ti_features.specs.Symbols.{SymbolSeen, symbols_of}
-use Rattle.ti_server.specs.Offers.{all_capabilities, capability_item}
 use Rattle.ti_server.specs.Sayings.{Sayings}
 use Rattle.ti_lsp.specs.Hovers.{hover_shown}
+use Rattle.ti_lsp.specs.Offers.{all_capabilities, capability_item}
 use Rattle.ti_lsp.specs.Shown.{shown_of}
 
 -- a block in the outline

@@ -12,10 +12,10 @@ use Rattle.ti_messages.specs.Shapes.{location_data}
 use Rattle.ti_messages.specs.declared.messages.Question.{Question}
 use Rattle.ti_messages.specs.declared.messages.Question.TheVariants.{Completion, Hover, Definition, References, Symbols}
 use Rattle.ti_messages.specs.declared.places.Range.{Range}
-use Rattle.ti_server.specs.Offers.{all_capabilities, capability_item}
 use Rattle.ti_server.specs.Sayings.{HasNoFloats}
 use Rattle.ti_lsp.specs.Answers.{answer_of, completion_data, definition_data, entry_item, offered_items, sayings, symbol_shown}
 use Rattle.ti_lsp.specs.Hovers.{hover_shown}
+use Rattle.ti_lsp.specs.Offers.{all_capabilities, capability_item}
 use Rattle.ti_lsp.specs.Shown.{shown_data, shown_of}
 
 none_in : (all : List Shown) → items_have_float (items_of (map shown_data all)) ≡ false

@@ -10,7 +10,7 @@ use Rattle.ti_features.specs.Meanings.{MeaningSeen, means_cancelled, means_nothi
 use Rattle.ti_features.specs.declared.holdings.Entry.{Entry}
 use Rattle.ti_features.specs.declared.holdings.Holding.{Holding}
 use Rattle.ti_features.specs.declared.holdings.Entry.TheVariants.{Missing, Faulty, Held}
-use Rattle.ti_server.specs.Offers.{detail_of, documentation_of}
+use Rattle.ti_descriptions.specs.Words.{detail_of, documentation_of}
 
 -- how many bytes an entry takes
 abbrev pub size_told : ℕ → List ℕ

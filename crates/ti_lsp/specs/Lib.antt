@@ -3,4 +3,5 @@ pub mod Answers
 pub mod Command
 pub mod Floats
 pub mod Hovers
+pub mod Offers
 pub mod Shown

@@ -8,13 +8,13 @@ ghost use Rattle.ti_features.specs.Symbols.{symbol_seen, symbols_of};
 ghost use Rattle.ti_lsp.specs.Answers.{completion_data, definition_data, entry_item, offered_items, outline_data, references_data, symbol_shown};
 ghost use Rattle.ti_messages.specs.Shapes.{location_data};
 
+use crate::offers::capability_items;
 use serde_json::Value;
 use std::alloc::{AllocError, Global};
 use ti_document::Document;
 use ti_features::{Offers, Symbol, completion_of, definition_of, references_of, symbols_of};
 use ti_messages::answers::{ItemKind, item_value, list_value, location_value, symbol_value};
 use ti_messages::{Position, Range};
-use ti_server::offers::capability_items;
 
 // A block in the outline.
 fn symbol_of(alloc: Global, symbol: &Symbol) -> Result<Value, AllocError>

@@ -11,11 +11,11 @@ ghost use Rattle.ti_lsp.specs.Hovers.{about_told, capability_told, count_told, c
 use serde_json::Value;
 use std::alloc::{AllocError, Global};
 use ti_caps::{Cap, name};
+use ti_descriptions::{detail_of, documentation_of};
 use ti_document::Document;
 use ti_features::{About, Entry, Holding, Meaning, hover_of};
 use ti_messages::Position;
 use ti_messages::answers::hover_value;
-use ti_server::offers::{detail_of, documentation_of};
 
 // A text with memory of its own.
 fn text_of(alloc: Global, words: &str) -> Result<String, AllocError>

@@ -1,4 +1,3 @@
-pub mod Capabilities
 pub mod Floats
 pub mod Places
 pub mod Serves

@@ -1,6 +1,4 @@
 -- The definitions that the contracts of this crate cite.
-pub mod Descriptions
-pub mod Offers
 pub mod Sayings
 pub mod Steps
 pub mod Answers

@@ -1,21 +1,15 @@
-//! The language server's frames, messages and descriptions as tests, with bytes by hand from the
-//! protocol; no code of the product.
+//! The language server's frames and messages as tests, with bytes by hand from the protocol; no code
+//! of the product.
 //!
-//! - `descriptions`: each capability has one, and some are these; `offers`: what a completion has of
-//!   them
 //! - `frames`: headers and bodies, read and written
 //! - `values`: the values that are sent
 //! - `measured`: a source for tests; `sessions` has runs of frames over it, with what is written
 #![tactic(auto)]
 
 #[cfg(test)]
-mod descriptions;
-#[cfg(test)]
 mod frames;
 #[cfg(test)]
 mod measured;
-#[cfg(test)]
-mod offers;
 #[cfg(test)]
 mod sessions;
 #[cfg(test)]

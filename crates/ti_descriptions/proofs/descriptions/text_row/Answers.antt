@@ -1,6 +1,6 @@
 use Rattle.std.proofs.Common.{◌≡◌, ◌+◌, ◌%◌, arith}
-use Rattle.ti_server.proofs.Capabilities.{in_part_1, in_part_2, in_part_3, in_part_4, in_part_5, in_part_6}
-use Rattle.ti_server.proofs.descriptions.text_row.Goals as goal
+use Rattle.ti_descriptions.proofs.Rows.{in_part_1, in_part_2, in_part_3, in_part_4, in_part_5, in_part_6}
+use Rattle.ti_descriptions.proofs.descriptions.text_row.Goals as goal
 
 pub returns-in-0 : goal.returns-in-0
 returns-in-0 c = let at : c.args.index ≡ c.args.index % 69 = omega (arith, c.in-0.is) in in_part_1 c.args.index (c.args.index % 69) _ at c.row_at.ensures

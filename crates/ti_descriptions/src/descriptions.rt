@@ -7,7 +7,7 @@
 ghost use Rattle.std.specs.Prelude.{◌≡◌, ◌<◌, Some, length, map, slice_get};
 ghost use Rattle.ti_caps.specs.Tables.{count_of};
 ghost use Rattle.ti_caps.specs.declared.capability.Kind.TheVariants.{Text};
-ghost use Rattle.ti_server.specs.Descriptions.{described, description_seen, rows, told};
+ghost use Rattle.ti_descriptions.specs.Descriptions.{described, description_seen, rows, told};
 
 use ti_caps::{Cap, FLAG_COUNT, Kind, NUMBER_COUNT, TEXT_COUNT};
 

@@ -1,8 +1,8 @@
 use Rattle.std.proofs.Common.{ap, map}
 use Rattle.serde_json.specs.View.{view}
-use Rattle.ti_server.proofs.Capabilities.{items_of_all}
-use Rattle.ti_server.specs.Offers.{capability_item}
-use Rattle.ti_server.proofs.offers.capability_items.Goals as goal
+use Rattle.ti_lsp.proofs.Offers.{items_of_all}
+use Rattle.ti_lsp.specs.Offers.{capability_item}
+use Rattle.ti_lsp.proofs.offers.capability_items.Goals as goal
 
 pub returns : goal.returns
 returns c = items_of_all (capability_item c.args.range) _ _ _ _ (ap (map view) c.new-items.ensures.items) c.in_ok-push_items.ensures c.in_ok-push_items-2.ensures c.in_ok-push_items-3.ensures

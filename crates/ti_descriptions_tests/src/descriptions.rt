@@ -1,6 +1,6 @@
 //! The descriptions next to the capabilities that they describe.
 use ti_caps::{Cap, Kind, count, find, name};
-use ti_server::description_of;
+use ti_descriptions::description_of;
 
 // Whether a text is one of 1 to 70 bytes of ASCII, with no full stop at its end.
 fn is_sentence(text: &str) -> bool {

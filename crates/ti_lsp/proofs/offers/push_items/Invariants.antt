@@ -1,8 +1,8 @@
 use Rattle.std.proofs.Common.{◌≡◌, ◌++◌, map, take}
 use Rattle.serde_json.specs.View.{view}
 use Rattle.ti_caps.specs.NameOrder.{in_name_order}
-use Rattle.ti_server.specs.Offers.{capability_item}
-use Rattle.ti_server.proofs.offers.push_items.Given as goal
+use Rattle.ti_lsp.specs.Offers.{capability_item}
+use Rattle.ti_lsp.proofs.offers.push_items.Given as goal
 
 -- the items so far
 abbrev pub invariant-loop-place : goal.invariant-loop-place

@@ -1,7 +1,7 @@
 use Rattle.ti_caps.specs.declared.capability.Kind.TheVariants.{Flag, Number}
-use Rattle.ti_server.proofs.Capabilities.{said_of}
-use Rattle.ti_server.specs.Descriptions.{rows}
-use Rattle.ti_server.proofs.descriptions.description_of.Goals as goal
+use Rattle.ti_descriptions.proofs.Rows.{said_of}
+use Rattle.ti_descriptions.specs.Descriptions.{rows}
+use Rattle.ti_descriptions.proofs.descriptions.description_of.Goals as goal
 
 pub returns-in-Flag : goal.returns-in-Flag
 unfolding rows

@@ -3,8 +3,8 @@ use Rattle.std.specs.Prelude.{ℕ, List, [], ◌++◌, map, slice_get, unwrap_or
 use Rattle.ti_caps.specs.Tables.{Capability}
 use Rattle.ti_caps.specs.declared.capability.Kind.{Kind}
 use Rattle.ti_caps.specs.declared.capability.Kind.TheVariants.{Flag, Number, Text}
-use Rattle.ti_server.specs.declared.descriptions.Description.{Description}
-use Rattle.ti_server.specs.declared.descriptions.TheConstants.{FLAGS, NUMBERS, PART_1, PART_2, PART_3, PART_4, PART_5, PART_6}
+use Rattle.ti_descriptions.specs.declared.descriptions.Description.{Description}
+use Rattle.ti_descriptions.specs.declared.descriptions.TheConstants.{FLAGS, NUMBERS, PART_1, PART_2, PART_3, PART_4, PART_5, PART_6}
 
 -- the name of its variable, a sentence on it, and the parameters that a string takes
 pub record Described : Type 0 where

@@ -1,6 +1,6 @@
 use Rattle.std.proofs.Common.{◌∙◌, sym}
-use Rattle.ti_server.proofs.Capabilities.{named_at}
-use Rattle.ti_server.proofs.offers.cap_at.Goals as goal
+use Rattle.ti_lsp.proofs.Offers.{named_at}
+use Rattle.ti_lsp.proofs.offers.cap_at.Goals as goal
 
 pub unwrap-requires : goal.unwrap-requires
 unwrap-requires c = named_at _ _ _ c.by_name.ensures c.requires
