@@ -5,6 +5,8 @@ use Rattle.std.specs.Rc.{rc_slice_items}
 pub use Rattle.ti_text.specs.Texts.{HasNoNul}
 use Rattle.ti_caps.specs.Tables.{Capability, IsCapability, rank_in, same_capability}
 use Rattle.ti_caps.specs.declared.capability.Kind.TheVariants.{Flag, Number, Text}
+use Rattle.ti_layout.specs.declared.values.Content.{Content as Lent}
+use Rattle.ti_layout.specs.declared.values.Content.TheVariants as lent
 use Rattle.ti_layout.specs.declared.values.Value.{Value}
 use Rattle.ti_layout.specs.declared.values.Value.TheVariants.{True, Cancelled}
 use Rattle.ti_layout.specs.declared.values.Value.TheVariants as v
@@ -26,6 +28,13 @@ content_of True = content_true
 content_of (v.Number n) = content_number n
 content_of (v.Text t) = content_text (rc_slice_items t)
 content_of Cancelled = content_cancelled
+
+-- what a content says whose string is elsewhere, as plain data
+abbrev pub plain_content : Lent → Content
+plain_content lent.True = content_true
+plain_content (lent.Number n) = content_number n
+plain_content (lent.Text t) = content_text t.now
+plain_content lent.Cancelled = content_cancelled
 
 -- the capability may have the content: the kinds agree, a number is no greater than one may be, a
 -- string has no NUL

@@ -28,7 +28,7 @@ pub use laws::{images_are_of_values, images_are_read, one_reading};
 pub use layout::{Format, HEADER_SIZE, Header};
 pub use mentions::Mentions;
 pub use sections::{number, word};
-pub use values::{Table, Value};
+pub use values::{Content, Table, Value};
 pub use view::View;
 pub use view_parts::ViewParts;
 pub use writing::{WriteError, format_wanted, write};

@@ -24,6 +24,19 @@ pub enum Value {
     Cancelled,
 }
 
+/// What an entry has of a capability, with its string where it is.
+#[derive(Clone, Copy)]
+pub enum Content<'a> {
+    /// A boolean that is there.
+    True,
+    /// A number.
+    Number(u32),
+    /// A string.
+    Text(&'a [u8]),
+    /// Cancelled, as by `name@`, and so not there.
+    Cancelled,
+}
+
 /// The values of an entry: a finite map from capabilities to values.
 #[derive(Drop)]
 pub struct Table {

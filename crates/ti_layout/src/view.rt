@@ -1,19 +1,21 @@
 //! A compiled entry read where it is: each name and value is a slice of the caller's bytes.
-ghost use Rattle.std.specs.Prelude.{◌≡◌, ◌==◌, ◌<◌, length, IfOk, IfErr};
+ghost use Rattle.std.specs.Prelude.{◌≡◌, ◌==◌, ◌<◌, length, option_map, IfOk, IfErr};
 ghost use Rattle.std.specs.List.{before_first};
 ghost use Rattle.std.specs.Option.{option_copied};
 ghost use Rattle.ti_caps.specs.declared.capability.Kind.TheVariants.{Flag, Number, Text};
 ghost use Rattle.ti_layout.specs.Layout.{first_negative};
 ghost use Rattle.ti_layout.specs.declared.layout.Format.TheVariants.{Legacy};
 ghost use Rattle.ti_layout.specs.Reading.{Reads, FailsToRead};
+ghost use Rattle.ti_layout.specs.Values.{plain_content};
 ghost use Rattle.ti_layout.specs.inside.View.{OffsetsEnd};
 
 use crate::fault::ReadError;
 use crate::layout::Format;
 use crate::sections::{are_flags, are_names, are_numbers, are_offsets, cut, number, word};
+use crate::values::Content;
 use crate::view_parts::ViewParts;
 use memchr::memchr;
-use ti_caps::Cap;
+use ti_caps::{Cap, Kind};
 
 // The first offset that is negative as a signed number of 16 bits.
 const NEGATIVE: usize = 0x8000;
@@ -89,6 +91,18 @@ impl<'a> View<'a> {
         }
     }
 
+    /// What the entry has of a capability; `None` if it is absent or cancelled.
+    #[inline(always)]
+    pub fn get(&self, cap: Cap) -> Option<Content<'a>>
+        ensures { option_map plain_content result ≡ view_contents self.now cap }
+    {
+        match cap.kind() {
+            Kind::Flag => self.flag(cap).then_some(Content::True),
+            Kind::Number => Some(Content::Number(self.number(cap)?)),
+            Kind::Text => Some(Content::Text(self.text(cap)?)),
+        }
+    }
+
     /// Whether a boolean is set. An absent or cancelled boolean is not.
     pub fn flag(&self, cap: Cap) -> bool
         requires { cap.kind ≡ Flag }
@@ -132,6 +146,7 @@ impl<'a> View<'a> {
             None => Some(rest),
         }
     }
+
     /// The entry as its sections.
     pub fn parts(&self) -> ViewParts<'a>
         ensures names { result.names.now ≡ names_of self.now }
